@@ -1,0 +1,3 @@
+pub mod Hashing
+pub mod Sizes
+pub mod Options

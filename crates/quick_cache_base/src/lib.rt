@@ -1,6 +1,21 @@
 //! The vocabulary of the cache: what it asks of its keys, weigher and lifecycle, how it refuses, and what it is made of.
 #![tactic(auto)]
 
+pub mod equivalent;
+pub mod hash_builder;
+pub mod lifecycle;
+pub mod options;
+pub mod queue;
 pub mod refusal;
+pub mod sizes;
+pub mod stats;
+pub mod weighter;
 
+pub use equivalent::{Equivalent, ToKey};
+pub use hash_builder::{DefaultHashBuilder, hash_of};
+pub use lifecycle::Lifecycle;
+pub use options::{Options, OptionsBuilder};
+pub use queue::Queue;
 pub use refusal::Refusal;
+pub use stats::{ItemStats, MemoryUsed};
+pub use weighter::{UnitWeighter, Weighter};

@@ -1,0 +1,10 @@
+//! Tests of the crates together, and of what no contract says.
+#![tactic(auto)]
+
+pub mod halves;
+#[cfg(test)]
+mod options;
+#[cfg(test)]
+mod ration;
+#[cfg(test)]
+mod traits;
