@@ -3,6 +3,7 @@
 
 pub mod equivalent;
 pub mod hash_builder;
+pub mod laws;
 pub mod lifecycle;
 pub mod options;
 pub mod queue;

@@ -1,0 +1,12 @@
+-- Worked examples of the definitions, on small caches of numbers. Each says what one call does, in the words of specs/.
+pub mod Caches
+pub mod SmallCaches
+pub mod Victims
+pub mod Pinned
+pub mod Weightless
+pub mod Overwrites
+pub mod LoadingKeys
+pub mod Capacities
+pub mod Reads
+pub mod Telling
+pub mod Determined
