@@ -9,6 +9,10 @@ pub mod ExistenceLaws
 pub mod FindingLaws
 pub mod HookLaws
 pub mod KeyCounts
+pub mod LoadingLawLemmas
+pub mod LoadingRowLemmas
+pub mod LoadingRunLemmas
+pub mod LoadingTableLemmas
 pub mod LookupExistence
 pub mod LookupLaws
 pub mod LookupValidLaws
@@ -24,9 +28,11 @@ pub mod RemovalLaws
 pub mod RingLaws
 pub mod RoomLaws
 pub mod SharedLaws
+pub mod TestLemmas
 pub mod TicketLemmas
 pub mod TouchLaws
 pub mod ValidEdits
 pub mod ValidLaws
+pub mod WaitingLemmas
 pub mod WriteExistence
 pub mod WriteLaws

@@ -15,3 +15,10 @@ pub mod Options
 pub mod Capacity
 pub mod Refusals
 pub mod Laws
+pub mod Core
+pub mod Stage
+pub mod Waiting
+pub mod LoadingStep
+pub mod LoadingRow
+pub mod LoadingLaws
+pub mod LoadingRun

@@ -6,6 +6,7 @@ pub mod hash_builder;
 pub mod laws;
 pub mod lifecycle;
 pub mod options;
+pub mod protocol;
 pub mod queue;
 pub mod refusal;
 pub mod sizes;

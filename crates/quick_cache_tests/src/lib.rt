@@ -5,6 +5,8 @@ pub mod halves;
 #[cfg(test)]
 mod options;
 #[cfg(test)]
+mod protocol;
+#[cfg(test)]
 mod ration;
 #[cfg(test)]
 mod traits;
