@@ -22,3 +22,9 @@ pub mod LoadingStep
 pub mod LoadingRow
 pub mod LoadingLaws
 pub mod LoadingRun
+pub mod LinkedSlab
+pub mod Links
+pub mod Table
+pub mod SlabDrain
+pub mod SlabLends
+pub mod TableChains

@@ -3,10 +3,16 @@
 
 pub mod halves;
 #[cfg(test)]
+mod linked_slab;
+#[cfg(test)]
 mod options;
 #[cfg(test)]
 mod protocol;
 #[cfg(test)]
 mod ration;
+#[cfg(test)]
+mod refused_growths;
+#[cfg(test)]
+mod table;
 #[cfg(test)]
 mod traits;

@@ -1,0 +1,223 @@
+//! Tokens by hash: a set of pairs of a hash and a token, in chained buckets.
+ghost use Rattle.std.specs.Prelude.{◌≡◌, ◌⊎◌, ◌+◌, ◌-◌, ◌^◌, ◌<◌, ◌≤◌, ◌↔◌, [], min, IsTrue, IsOk, IfOk, IfErr, OnOk, OnErr, IfSome};
+ghost use Rattle.std.specs.Bool.{OnTrue, OnFalse};
+ghost use Rattle.std.specs.Int.NonZero.{non_zero_u32_get};
+ghost use Rattle.quick_cache_base.specs.Table.{HasPair, pair_count, AddsPair, RemovesPair, IsTokensOf, Finds, CallsKeep, FindsByAnswer};
+
+pub(crate) mod chains;
+pub(crate) mod tokens;
+
+use crate::Refusal;
+use crate::linked_slab::Token;
+use chains::{MOST_PLACES, Place};
+use std::alloc::{Allocator, Global};
+use std::marker::Model;
+pub use tokens::Tokens;
+
+// A table that holds anything has room for so many pairs.
+const FEWEST_PLACES: usize = 4;
+
+/// A set of pairs of a hash and a token.
+///
+/// Pairs of one hash may be many. A pair that goes gives its room back, and no call but `reserve`
+/// allocates. A look-up walks the pairs of a bucket, and there are about twice as many buckets as
+/// there is room for pairs, since a longer chain costs more than its heads.
+#[derive(Drop)]
+pub struct Table<A: Allocator = Global> {
+    // The links to the first place of each bucket, and last that to the first free place.
+    heads: Vec<u32, A>,
+    places: Vec<Place, A>,
+    // One less than how many buckets there are.
+    mask: usize,
+    // How many places are taken.
+    len: usize,
+}
+
+impl<A: Allocator> Model for Table<A> {
+    ghost use Rattle.std.specs.Prelude.{◌+◌, ◌*◌, count_by, vec_capacity};
+    ghost use Rattle.quick_cache_base.specs.Table.{Table as Pairs, table_code};
+
+    ghost Value = { Pairs };
+
+    ghost coded = { table_code };
+
+    ghost use Rattle.quick_cache_base.specs.TableChains.{pairs_of, is_free, IsSound};
+
+    ghost view = { λ t. record {
+      pairs = pairs_of t.places.items;
+      room = count_by is_free t.places.items;
+      allocated = 4 * vec_capacity t.heads + 16 * vec_capacity t.places;
+    } };
+
+    ghost invariant = { λ t. IsSound t.heads.items t.places.items t.mask t.len };
+}
+
+impl<A: Allocator> Table<A> {
+    /// An empty table, which allocates nothing until the first `reserve`.
+    ///
+    /// # Errors
+    ///
+    /// `Memory` where the allocator cannot be cloned.
+    pub fn new(alloc: A) -> Result<Self, Refusal>
+    where
+        A: Clone,
+        ensures empty { IfOk result (λ table. table.pairs ≡ []) }
+        ensures room { IfOk result (λ table. table.room ≡ 0) }
+        ensures allocated { IfOk result (λ table. table.allocated ≡ 0) }
+        ensures succeeds { A.is_infallible alloc → IsOk result }
+        ensures refused { OnErr result (result ≡ Err Refusal.Memory) }
+    {
+        let Ok(other) = alloc.clone() else {
+            return Err(Refusal::Memory);
+        };
+        Ok(Table {
+            heads: Vec::new(other),
+            places: Vec::new(alloc),
+            mask: 0,
+            len: 0,
+        })
+    }
+
+    /// How many pairs there are.
+    pub fn len(&self) -> usize
+        ensures { result ≡ pair_count self.now }
+    {
+        self.len
+    }
+
+    /// How many bytes the table holds, apart from its own.
+    pub fn allocation_size(&self) -> usize
+        ensures { result ≡ min self.now.allocated (2 ^ 64 - 1) }
+    {
+        let heads = self.heads.capacity().saturating_mul(size_of::<u32>());
+        let places = self.places.capacity().saturating_mul(size_of::<Place>());
+        heads.saturating_add(places)
+    }
+
+    /// Makes room for `additional` more pairs.
+    ///
+    /// A growth at least doubles the buckets, and puts each pair on its chain anew. A refused call
+    /// may keep memory that it got, and changes nothing else.
+    ///
+    /// # Errors
+    ///
+    /// `SlotsFull` where the table would have room for more than 4294967294 pairs, and `Memory`
+    /// where there is none.
+    pub fn reserve(&mut self, additional: usize) -> Result<(), Refusal>
+        ensures pairs { self.new.pairs ≡ self.old.pairs }
+        ensures room { OnOk result (additional ≤ self.new.room) }
+        ensures more { self.old.room ≤ self.new.room }
+        ensures had_room { additional ≤ self.old.room → self.new ≡ self.old }
+
+        // It is refused only where there was no room, and then nothing but the memory changes.
+        ensures succeeds { additional ≤ self.old.room → IsOk result }
+        ensures full { (result ≡ Err Refusal.SlotsFull)
+            ↔ (MOST_PLACES < pair_count self.old + additional) }
+        ensures errors { IfErr result (λ e. (e ≡ Refusal.Memory) ⊎ (e ≡ Refusal.SlotsFull)) }
+        ensures refused { OnErr result (self.new
+            ≡ record self.old { allocated = self.new.allocated }) }
+        ensures allocated { self.old.allocated ≤ self.new.allocated }
+    {
+        if additional <= self.places.len() - self.len {
+            return Ok(());
+        }
+        if additional > MOST_PLACES - self.len {
+            return Err(Refusal::SlotsFull);
+        }
+        let wanted = (self.len + additional).max(FEWEST_PLACES);
+        let buckets = (2 * wanted).next_power_of_two();
+        let count = (buckets / 2).min(MOST_PLACES);
+        chains::grow(&mut self.heads, &mut self.places, buckets, count)?;
+        self.mask = buckets - 1;
+        Ok(())
+    }
+
+    /// Puts the pair into the table.
+    pub fn insert_reserved(&mut self, hash: u64, token: Token)
+        requires room { 0 < self.old.room }
+        requires is_new { ¬ HasPair self.old hash (non_zero_u32_get token) }
+        ensures adds { AddsPair self.old self.new hash (non_zero_u32_get token) }
+        ensures room { self.new.room + 1 ≡ self.old.room }
+        ensures allocated { self.new.allocated ≡ self.old.allocated }
+    {
+        chains::take_place(
+            self.heads.as_mut_slice(),
+            self.places.as_mut_slice(),
+            self.mask,
+            hash,
+            token.get(),
+        );
+        self.len += 1;
+    }
+
+    /// Takes the pair out of the table, and says whether it was there.
+    pub fn remove(&mut self, hash: u64, token: Token) -> bool
+        ensures found { IsTrue result ↔ HasPair self.old hash (non_zero_u32_get token) }
+        ensures removes { OnTrue result (RemovesPair self.old self.new hash
+            (non_zero_u32_get token)) }
+        ensures missing { OnFalse result (self.new ≡ self.old) }
+        ensures room { OnTrue result (self.new.room ≡ self.old.room + 1) }
+        ensures allocated { self.new.allocated ≡ self.old.allocated }
+    {
+        let found = chains::position_of(
+            self.heads.as_slice(),
+            self.places.as_slice(),
+            self.mask,
+            hash,
+            token.get(),
+        );
+        let Some(position) = found else {
+            return false;
+        };
+        chains::leave_place(
+            self.heads.as_mut_slice(),
+            self.places.as_mut_slice(),
+            self.mask,
+            position,
+        );
+        self.len -= 1;
+        true
+    }
+
+    /// The tokens of that hash, each once, in no order that counts.
+    pub fn iter_hash(&self, hash: u64) -> Tokens<'_>
+        ensures { IsTokensOf self.now hash result }
+    {
+        let places = self.places.as_slice();
+        let link = chains::first_link(self.heads.as_slice(), hash, self.mask);
+        Tokens { places, hash, link }
+    }
+
+    /// A token of that hash for which `is_it` answers true. The tokens are shown to it in no order
+    /// that counts, each at most once, until it does.
+    pub fn find<F: FnMut(Token) -> bool>(&self, hash: u64, mut is_it: F) -> Option<Token>
+        requires { F.IsAlwaysCallable is_it }
+        ensures found { IfSome result (λ token. HasPair self.now hash (non_zero_u32_get token)) }
+        ensures searches { Finds F.step self.now hash is_it result }
+        ensures answers { CallsKeep F.step is_it → FindsByAnswer F.step self.now hash is_it result }
+    {
+        for token in self.iter_hash(hash) {
+            if is_it(token) {
+                return Some(token);
+            }
+        }
+        None
+    }
+
+    /// Removes every pair. The room and the memory stay.
+    pub fn clear(&mut self)
+        ensures pairs { self.new.pairs ≡ [] }
+        ensures room { self.new.room ≡ self.old.room + pair_count self.old }
+        ensures allocated { self.new.allocated ≡ self.old.allocated }
+    {
+        if self.len == 0 {
+            return;
+        }
+        chains::free_all(
+            self.heads.as_mut_slice(),
+            self.places.as_mut_slice(),
+            self.mask,
+        );
+        self.len = 0;
+    }
+}

@@ -1,0 +1,141 @@
+//! The slab's row, its iterators and its drain.
+ghost use Rattle.std.specs.Prelude.{◌≡◌};
+
+use quick_cache_base::linked_slab::{LinkedSlab, Token};
+use std::alloc::Global;
+use std::process::Abort;
+use std::test::Fail;
+
+type Slab = LinkedSlab<u32>;
+
+// Stores an item, and tells its token.
+fn store(slab: &mut Slab, item: u32) -> Result<u32, Fail> {
+    match slab.insert(item) {
+        Ok(token) => Ok(token.get()),
+        Err(_) => Err("refused")?,
+    }
+}
+
+// Puts a ring of one before a head, and tells the answer.
+fn join(slab: &mut Slab, token: u32, head: u32) -> Option<u32> {
+    let token = Token::new(token)?;
+    let head = Token::new(head)?;
+    slab.get(head)?;
+    let (_, next) = slab.get(token)?;
+    if next.get() != token.get() || head.get() == token.get() {
+        return None;
+    }
+    Some(slab.link(token, Some(head)).get())
+}
+
+// Takes an occupied token out of its ring, and tells the answer.
+fn part(slab: &mut Slab, token: u32) -> Option<Option<u32>> {
+    let token = Token::new(token)?;
+    slab.get(token)?;
+    Some(slab.unlink(token).map(|next| next.get()))
+}
+
+// The item at a token, and its successor.
+fn look(slab: &Slab, token: u32) -> Option<(u32, u32)> {
+    let (item, next) = slab.get(Token::new(token)?)?;
+    Some((*item, next.get()))
+}
+
+// Takes an item out, and tells it and the answer.
+fn take(slab: &mut Slab, token: u32) -> Option<(u32, Option<u32>)> {
+    let (item, next) = slab.remove(Token::new(token)?)?;
+    Some((item, next.map(|next| next.get())))
+}
+
+fn filled(rt: &impl Abort, alloc: Global) -> Result<Slab, Fail> {
+    let Ok(mut slab) = LinkedSlab::with_capacity(alloc, 3) else {
+        return Err("refused")?;
+    };
+    for (item, token) in [(10, 1), (20, 2), (30, 3)] {
+        assert_eq!(rt; store(&mut slab, item)?, token);
+    }
+    Ok(slab)
+}
+
+#[test]
+fn links_unlinks_and_removes(rt: HostRuntime) -> Result<(), Fail> {
+    let mut slab = filled(&rt, rt.alloc())?;
+    assert_eq!(rt; join(&mut slab, 2, 1), Some(1));
+    assert_eq!(rt; join(&mut slab, 3, 1), Some(1));
+    for (token, item, next) in [(1, 10, 2), (2, 20, 3), (3, 30, 1)] {
+        assert_eq!(rt;
+            look(&slab, token),
+            Some((item, next)),
+            "the ring at {token}"
+        );
+    }
+    assert_eq!(rt; part(&mut slab, 1), Some(Some(2)));
+    assert_eq!(rt; look(&slab, 1), Some((10, 1)));
+    assert_eq!(rt; take(&mut slab, 2), Some((20, Some(3))));
+    assert_eq!(rt; take(&mut slab, 3), Some((30, None)));
+    assert_eq!(rt; take(&mut slab, 9), None);
+    assert_eq!(rt; take(&mut slab, 3), None);
+    assert_eq!(rt; store(&mut slab, 40)?, 3);
+    assert_eq!(rt; store(&mut slab, 50)?, 2);
+    assert_eq!(rt; slab.next_free().get(), 4);
+    Ok(())
+}
+
+#[test]
+fn reads_and_writes(rt: HostRuntime) -> Result<(), Fail> {
+    let mut slab = filled(&rt, rt.alloc())?;
+    assert_eq!(rt; slab.reserve(100), Ok(()));
+    let two = Token::new(2).ok_or("zero")?;
+    if let Some(item) = slab.get_mut(two) {
+        *item = 21;
+    }
+    assert_eq!(rt; look(&slab, 2), Some((21, 2)));
+    if slab.get(two).is_some() {
+        let (item, next) = unsafe { slab.get_mut_unchecked(two) };
+        assert_eq!(rt; next.get(), 2);
+        *item = 22;
+    }
+    if slab.get(two).is_some() {
+        let (item, next) = unsafe { slab.get_unchecked(two) };
+        assert_eq!(rt; (*item, next.get()), (22, 2));
+        assert_eq!(rt; slab.link(two, None).get(), 2);
+    }
+    assert_eq!(rt; slab.len(), 3);
+    assert!(rt; slab.memory_used() > 0);
+    Ok(())
+}
+
+#[test]
+fn goes_by_ascending_token(rt: HostRuntime) -> Result<(), Fail> {
+    let mut slab = filled(&rt, rt.alloc())?;
+    assert_eq!(rt; take(&mut slab, 2), Some((20, None)));
+    let mut seen = Vec::new(rt.alloc());
+    for item in slab.iter() {
+        seen.push(*item)?;
+    }
+    for item in slab.iter_entries() {
+        seen.push(*item)?;
+    }
+    for (token, item) in slab.iter_from(Token::new(1)) {
+        seen.push(*item)?;
+        seen.push(token.get())?;
+    }
+    for (_, item) in slab.iter_from(None) {
+        seen.push(*item)?;
+    }
+    assert_eq!(rt; seen.as_slice(), [10, 30, 10, 30, 30, 3, 10, 30].as_slice());
+    Ok(())
+}
+
+#[test]
+fn a_drain_empties_the_slab(rt: HostRuntime) -> Result<(), Fail> {
+    let mut slab = filled(&rt, rt.alloc())?;
+    {
+        let mut drain = slab.drain();
+        assert_eq!(rt; drain.next(), Some(10));
+    }
+    assert_eq!(rt; slab.len(), 0);
+    assert_eq!(rt; slab.next_free().get(), 1);
+    assert_eq!(rt; store(&mut slab, 60)?, 1);
+    Ok(())
+}
