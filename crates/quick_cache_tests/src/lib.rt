@@ -13,6 +13,8 @@ mod ration;
 #[cfg(test)]
 mod refused_growths;
 #[cfg(test)]
+mod shard;
+#[cfg(test)]
 mod table;
 #[cfg(test)]
 mod traits;

@@ -1,0 +1,39 @@
+use Rattle.std.proofs.Common.{None, nat_eq, sym, ◌∙◌, subst}
+use Rattle.quick_cache_base.specs.Hashing.{hash_of}
+use Rattle.quick_cache_base.specs.Hooks.{Calls}
+use Rattle.quick_cache_base.specs.Writes.{Strategy, WritesAdmitted}
+use Rattle.quick_cache_shard.specs.Places.{IsFoundAt}
+use Rattle.quick_cache_shard.specs.Rings.{state_of, unit_rules}
+use Rattle.quick_cache_shard.specs.Shard.{hooks_by, strategy_of}
+use Rattle.quick_cache_shard.specs.Split.{IsFirst}
+use Rattle.quick_cache_shard.proofs.WriteLemmas.{insert-of, gives_back_calls}
+use Rattle.quick_cache_shard.proofs.insert.write_admitted.Goals as goal
+
+pub returns-then-not-makes_items-clause-writes : goal.returns-then-not-makes_items-clause-writes
+returns-then-not-makes_items-clause-writes g c =
+    let found = subst (IsFoundAt (g.K.PartialEq.eq c.args.key) c.args.hash (state_of c.args.rings.now)) c.in-AmongGhosts.is c.requires.found in
+    gives_back_calls (hooks_by g.L.Lifecycle c.args.lifecycle.now) _ (g.K.PartialEq.eq c.args.key) c.args.key c.args.value (strategy_of c.args.strategy) (state_of c.args.rings.now) c.args.state.now (sym c.makes_items.ensures ∙ c.if-not-makes_items.true) found.0.items
+
+pub insert_over_ghost-requires-clause-found : goal.insert_over_ghost-requires-clause-found
+insert_over_ghost-requires-clause-found g c =
+    let found = subst (IsFoundAt (g.K.PartialEq.eq c.args.key) c.args.hash (state_of c.args.rings.now)) c.in-AmongGhosts.is c.requires.found in
+    subst (λ hash. IsFirst (λ ghost_hash. nat_eq ghost_hash hash) c.args.rings.now.ghosts.items c.in-AmongGhosts.at) c.requires.hash_is found.1
+
+pub returns-then-not-makes_items-2-clause-writes : goal.returns-then-not-makes_items-2-clause-writes
+returns-then-not-makes_items-2-clause-writes g c =
+    let found = subst (IsFoundAt (g.K.PartialEq.eq c.args.key) c.args.hash (state_of c.args.rings.now)) c.in-Nowhere.is c.requires.found in
+    gives_back_calls (hooks_by g.L.Lifecycle c.args.lifecycle.now) _ (g.K.PartialEq.eq c.args.key) c.args.key c.args.value (strategy_of c.args.strategy) (state_of c.args.rings.now) c.args.state.now (sym c.makes_items-in-Nowhere.ensures ∙ c.if-not-makes_items-2.true) found.keys.items
+
+pub returns-else-not-makes_items-clause-writes : goal.returns-else-not-makes_items-clause-writes
+returns-else-not-makes_items-clause-writes g c =
+    let is = insert-of (strategy_of c.args.strategy) (sym c.makes_items.ensures ∙ c.if-not-makes_items.false) in
+    let rules = unit_rules g.P.Touch.Touches.may_count (λ k. hash_of g.B.BuildHasher g.B.Hasher.Hasher c.args.builder.now (g.K.Hash.hash_input k)) in
+    subst (λ (strategy : Strategy). Calls (hooks_by g.L.Lifecycle c.args.lifecycle.now) (λ calls. WritesAdmitted rules (g.K.PartialEq.eq c.args.key) c.args.key strategy (state_of c.args.rings.now) c.args.value calls None (state_of c.insert_over_ghost.new.rings)) c.args.state.now c.insert_over_ghost.new.state)
+    (sym is) c.insert_over_ghost.ensures.writes
+
+pub returns-else-not-makes_items-2-clause-writes : goal.returns-else-not-makes_items-2-clause-writes
+returns-else-not-makes_items-2-clause-writes g c =
+    let is = insert-of (strategy_of c.args.strategy) (sym c.makes_items-in-Nowhere.ensures ∙ c.if-not-makes_items-2.false) in
+    let rules = unit_rules g.P.Touch.Touches.may_count (λ k. hash_of g.B.BuildHasher g.B.Hasher.Hasher c.args.builder.now (g.K.Hash.hash_input k)) in
+    subst (λ (strategy : Strategy). Calls (hooks_by g.L.Lifecycle c.args.lifecycle.now) (λ calls. WritesAdmitted rules (g.K.PartialEq.eq c.args.key) c.args.key strategy (state_of c.args.rings.now) c.args.value calls None (state_of c.insert_new.new.rings)) c.args.state.now c.insert_new.new.state)
+    (sym is) c.insert_new.ensures.writes

@@ -1,0 +1,72 @@
+//! Copies.
+ghost use Rattle.std.specs.Prelude.{◌≡◌, ◌≤◌, IfOk, vec_len, vec_capacity};
+ghost use Rattle.quick_cache_shard.specs.Rings.{IsSound, state_of};
+ghost use Rattle.quick_cache_shard.specs.Shard.{ClonesExactly};
+
+use crate::placeholder::{SharedPlaceholder, Touches};
+use crate::resident::Resident;
+use crate::rings::Rings;
+use std::alloc::{AllocError, Allocator};
+use std::hash::Hash;
+
+/// A copy of a list of items, with room for so many.
+fn copy_items<K: Clone, V: Clone, T: Touches, A: Allocator + Clone>(
+    items: &Vec<Resident<K, V, T>, A>,
+    room: usize,
+) -> Result<Vec<Resident<K, V, T>, A>, AllocError>
+    requires fits { vec_len items.now ≤ room }
+    requires keys { ClonesExactly K.is_clone }
+    requires values { ClonesExactly V.is_clone }
+    ensures items { IfOk result (λ copy. copy.items ≡ items.now.items) }
+    ensures room { IfOk result (λ copy. room ≤ vec_capacity copy) }
+{
+    let mut copy = Vec::new(items.allocator().clone()?);
+    copy.reserve(room)?;
+    for i in 0..items.len() {
+        copy.push_reserved(items[i].try_copy()?);
+    }
+    Ok(copy)
+}
+
+/// A copy of a list of ghosts, with room for so many.
+fn copy_ghosts<A: Allocator + Clone>(
+    ghosts: &Vec<u64, A>,
+    room: usize,
+) -> Result<Vec<u64, A>, AllocError>
+    requires fits { vec_len ghosts.now ≤ room }
+    ensures items { IfOk result (λ copy. copy.items ≡ ghosts.now.items) }
+    ensures room { IfOk result (λ copy. room ≤ vec_capacity copy) }
+{
+    let mut copy = Vec::new(ghosts.allocator().clone()?);
+    copy.reserve(room)?;
+    for i in 0..ghosts.len() {
+        copy.push_reserved(ghosts[i]);
+    }
+    Ok(copy)
+}
+
+/// A copy of the lists, each with room for all entries.
+pub(crate) fn copy_rings<
+    K: Eq + Hash + Clone,
+    V: Clone,
+    P: SharedPlaceholder<K>,
+    A: Allocator + Clone,
+>(rings: &Rings<K, V, P, A>) -> Result<Rings<K, V, P, A>, AllocError>
+    requires sound { IsSound K.eq rings.now }
+    requires keys { ClonesExactly K.is_clone }
+    requires values { ClonesExactly V.is_clone }
+    ensures same { IfOk result (λ copy. state_of copy ≡ state_of rings.now) }
+    ensures sound { IfOk result (IsSound K.eq) }
+{
+    let room = rings.hot.len() + rings.cold.len() + rings.ghosts.len();
+    Ok(Rings {
+        hot: copy_items(&rings.hot, room)?,
+        cold: copy_items(&rings.cold, room)?,
+        ghosts: copy_ghosts(&rings.ghosts, room)?,
+        capacity: rings.capacity,
+        hot_target: rings.hot_target,
+        ghost_limit: rings.ghost_limit,
+        hits: rings.hits,
+        misses: rings.misses,
+    })
+}

@@ -1,0 +1,325 @@
+//! The shard: its calls, and what a contract sees of it.
+ghost use Rattle.std.specs.Prelude.{◌≡◌, IfOk, IfErr, MatchOption, option_copied};
+ghost use Rattle.std.specs.Bool.{OnTrue, OnFalse};
+ghost use Rattle.std.specs.Borrow.{sem};
+ghost use Rattle.std.specs.Option.{option_map};
+ghost use Rattle.std.specs.Map.Iter.{deref_pair};
+ghost use Rattle.quick_cache_base.specs.declared.refusal.Refusal.TheVariants.{Memory};
+ghost use Rattle.quick_cache_base.specs.CacheState.{empty_state};
+ghost use Rattle.quick_cache_base.specs.Finding.{HasNoItem};
+ghost use Rattle.quick_cache_base.specs.Hashing.{hash_of};
+ghost use Rattle.quick_cache_base.specs.Lookups.{LooksUp, Sees};
+ghost use Rattle.quick_cache_base.specs.Removal.{Removes, pair_of};
+ghost use Rattle.quick_cache_base.specs.Sizes.{hot_target_of, ghost_limit_of};
+ghost use Rattle.quick_cache_shard.specs.Places.{IsLookedUp, IsMissed, IsPlaced, IsKeyAt, IsValueAt};
+ghost use Rattle.quick_cache_shard.specs.Shard.{rules_of, hooks_of, strategy_of, Answers, UpToOrder, IsPlainCache, IsSoundShard, HasItem, ClonesExactly};
+
+use crate::copies::copy_rings;
+use crate::find::{Location, find};
+use crate::insert::{InsertStrategy, insert};
+use crate::lists::look_up_at;
+use crate::placeholder::SharedPlaceholder;
+use crate::remove::remove;
+use crate::rings::Rings;
+use quick_cache_base::sizes::{ghost_limit, hot_target};
+use quick_cache_base::{Equivalent, Lifecycle, Queue, Refusal, Weighter, hash_of};
+use std::alloc::{Allocator, Global};
+use std::hash::{BuildHasher, Hash};
+use std::marker::Model;
+
+/// One cache: the items of a hot and of a cold ring, and the hashes of what left the cold ring lately.
+#[derive(Drop)]
+pub struct CacheShard<K: Eq + Hash, V, We, B, L, P: SharedPlaceholder<K>, A: Allocator = Global> {
+    pub(crate) rings: Rings<K, V, P, A>,
+    weigher: We,
+    builder: B,
+    lifecycle: L,
+}
+
+impl<K: Eq + Hash, V, We, B, L, P: SharedPlaceholder<K>, A: Allocator> Model
+    for CacheShard<K, V, We, B, L, P, A> {
+    ghost use Rattle.quick_cache_shard.specs.Shard.{Shard};
+    ghost use Rattle.quick_cache_shard.specs.Rings.{IsSound, state_of};
+
+    ghost Value = { Shard K V We B L };
+
+    ghost view = { λ s. record {
+      state = state_of s.rings;
+      weigher = s.weigher;
+      builder = s.builder;
+      lifecycle = s.lifecycle;
+    } };
+
+    ghost invariant = { λ s. IsSound K.eq s.rings };
+}
+
+impl<K: Eq + Hash, V, We, B: BuildHasher, L, P: SharedPlaceholder<K>, A: Allocator> CacheShard<
+    K,
+    V,
+    We,
+    B,
+    L,
+    P,
+    A,
+> {
+    ghost use Rattle.quick_cache_shard.specs.Lent.{ends_so};
+
+    /// An empty cache for so many items and so much weight, with the hot and the ghost share in parts per million.
+    ///
+    /// It takes no memory; `Memory` is a refused clone of the allocator.
+    pub fn new(
+        alloc: A,
+        hot: u32,
+        ghosts: u32,
+        items: usize,
+        weight: u64,
+        weigher: We,
+        builder: B,
+        lifecycle: L,
+    ) -> Result<Self, Refusal>
+    where
+        A: Clone,
+        We: Drop,
+        B: Drop,
+        L: Drop,
+        ensures makes { IfOk result (λ shard. shard ≡ record {
+          state = empty_state weight (hot_target_of weight hot) (ghost_limit_of items ghosts);
+          weigher = weigher;
+          builder = builder;
+          lifecycle = lifecycle;
+        }) }
+        ensures refused { IfErr result (λ refusal. refusal ≡ Memory) }
+    {
+        let second: Result<_, _> = alloc.clone();
+        let third: Result<_, _> = alloc.clone();
+        let (Ok(second), Ok(third)) = (second, third) else {
+            return Err(Refusal::Memory);
+        };
+        Ok(CacheShard {
+            rings: Rings {
+                hot: Vec::new(alloc),
+                cold: Vec::new(second),
+                ghosts: Vec::new(third),
+                capacity: weight,
+                hot_target: hot_target(weight, hot),
+                ghost_limit: ghost_limit(items, ghosts),
+                hits: 0,
+                misses: 0,
+            },
+            weigher,
+            builder,
+            lifecycle,
+        })
+    }
+
+    /// A cache of the same contents, marks and counts, or `Memory`.
+    pub fn try_clone(&self) -> Result<Self, Refusal>
+    where
+        K: Clone,
+        V: Clone,
+        We: Clone,
+        B: Clone,
+        L: Clone,
+        A: Clone,
+        requires keys { ClonesExactly K.is_clone }
+        requires values { ClonesExactly V.is_clone }
+        requires weighers { ClonesExactly We.is_clone }
+        requires builders { ClonesExactly B.is_clone }
+        requires lifecycles { ClonesExactly L.is_clone }
+        ensures copies { IfOk result (λ copy. copy ≡ self.now) }
+        ensures refused { IfErr result (λ refusal. refusal ≡ Memory) }
+    {
+        let Ok(rings) = copy_rings(&self.rings) else {
+            return Err(Refusal::Memory);
+        };
+        let weigher: Result<_, _> = self.weigher.clone();
+        let builder: Result<_, _> = self.builder.clone();
+        let lifecycle: Result<_, _> = self.lifecycle.clone();
+        let (Ok(weigher), Ok(builder), Ok(lifecycle)) = (weigher, builder, lifecycle) else {
+            return Err(Refusal::Memory);
+        };
+        Ok(CacheShard {
+            rings,
+            weigher,
+            builder,
+            lifecycle,
+        })
+    }
+
+    /// The hash of a key or a query, as the calls below are handed it.
+    pub fn hash<Q: Hash>(&self, query: &Q) -> u64
+        ensures { result
+            ≡ hash_of B.BuildHasher B.Hasher.Hasher self.now.builder (Q.hash_input query.now) }
+    {
+        hash_of(&self.builder, query)
+    }
+
+    /// Writes a pair, whose hash is handed in, and makes room for it.
+    ///
+    /// Room is made first: with 4294967294 items, ghosts and placeholders, and where there is no memory, an insert of
+    /// what is not found gives the pair back with the refusal, and has changed nothing and called no hook. A pair that
+    /// comes back with no refusal was not admitted: only a replace gives one back so.
+    pub fn insert(
+        &mut self,
+        state: &mut L::RequestState,
+        hash: u64,
+        key: K,
+        value: V,
+        strategy: InsertStrategy,
+    ) -> Result<(), (K, V, Option<Refusal>)>
+    where
+        K: Drop,
+        V: Drop,
+        We: Weighter<K, V>,
+        L: Lifecycle<K, V>,
+        requires hash_is { hash
+            ≡ hash_of B.BuildHasher B.Hasher.Hasher self.old.builder (K.hash_input key) }
+        requires plain { IsPlainCache We.Weighter L.Lifecycle self.old }
+        ensures answers { Answers (hooks_of L.Lifecycle self.old)
+            (rules_of P.Touch.may_count K.Hash.hash_input We.Weighter B.BuildHasher
+            B.Hasher.Hasher L.Lifecycle self.old)
+            K.eq (strategy_of strategy) self.old.state state.old key value result
+            self.new.state state.new }
+        ensures same { self.new ≡ record self.old { state = self.new.state } }
+        ensures sound { IsSoundShard K.eq self.new }
+    {
+        insert(
+            &mut self.rings,
+            &self.builder,
+            &self.lifecycle,
+            state,
+            hash,
+            key,
+            value,
+            strategy,
+        )
+    }
+
+    /// The value under the query, which is handed in with its hash. A find counts a hit, marks the item and counts a
+    /// read of it; else a miss is counted.
+    pub fn get<Q: Equivalent<K>>(&mut self, hash: u64, query: &Q) -> Option<&V>
+        requires hash_is { hash ≡ hash_of B.BuildHasher B.Hasher.Hasher self.old.builder
+            (Q.hash_input query.now) }
+        ensures* looks_up { sem 𝓛 (ends_so K.row V.row We.row B.row L.row P.row A.row P.Touch.row
+            K.eq K.hash_input P.SharedPlaceholder P.Touch.is_default P.Touch.may_count
+            P.Touch.none_counted A.Allocator self.entry
+            (λ new. UpToOrder (LooksUp (Q.equivalent query.now) self.old.state (λ item. item.value)
+            (option_copied result)) new.state
+            × (new ≡ record self.old { state = new.state }))) }
+    {
+        let at = self.look_up(hash, query)?;
+        Some(self.value_at(at))
+    }
+
+    /// The pair under the query, as `get` finds its value.
+    pub fn get_key_value<Q: Equivalent<K>>(&mut self, hash: u64, query: &Q) -> Option<(&K, &V)>
+        requires hash_is { hash ≡ hash_of B.BuildHasher B.Hasher.Hasher self.old.builder
+            (Q.hash_input query.now) }
+        ensures* looks_up { sem 𝓛 (ends_so K.row V.row We.row B.row L.row P.row A.row P.Touch.row
+            K.eq K.hash_input P.SharedPlaceholder P.Touch.is_default P.Touch.may_count
+            P.Touch.none_counted A.Allocator self.entry
+            (λ new. UpToOrder (LooksUp (Q.equivalent query.now) self.old.state pair_of
+            (option_map deref_pair result)) new.state
+            × (new ≡ record self.old { state = new.state }))) }
+    {
+        let at = self.look_up(hash, query)?;
+        Some(self.pair_at(at))
+    }
+
+    /// The value under the query, which is handed in with its hash. Nothing changes: it is no use of the item.
+    pub fn peek<Q: Equivalent<K>>(&self, hash: u64, query: &Q) -> Option<&V>
+        requires hash_is { hash ≡ hash_of B.BuildHasher B.Hasher.Hasher self.now.builder
+            (Q.hash_input query.now) }
+        ensures sees { Sees (Q.equivalent query.now) self.now.state (λ item. item.value)
+            (option_copied result) }
+        ensures sound { IsSoundShard K.eq self.now }
+    {
+        match find(&self.rings, hash, query) {
+            Location::InHot(at) => Some(self.rings.hot[at].value()),
+            Location::InCold(at) => Some(self.rings.cold[at].value()),
+            Location::AmongGhosts(_) => None,
+            Location::Nowhere => None,
+        }
+    }
+
+    /// Whether there is an item under the query, which is handed in with its hash. Nothing changes.
+    pub fn contains<Q: Equivalent<K>>(&self, hash: u64, query: &Q) -> bool
+        requires hash_is { hash ≡ hash_of B.BuildHasher B.Hasher.Hasher self.now.builder
+            (Q.hash_input query.now) }
+        ensures there { OnTrue result (HasItem (Q.equivalent query.now) self.now.state) }
+        ensures absent { OnFalse result (HasNoItem (Q.equivalent query.now) self.now.state) }
+        ensures sound { IsSoundShard K.eq self.now }
+    {
+        match find(&self.rings, hash, query) {
+            Location::InHot(_) => true,
+            Location::InCold(_) => true,
+            Location::AmongGhosts(_) => false,
+            Location::Nowhere => false,
+        }
+    }
+
+    /// Takes the item under the query out and gives its pair, or takes out a ghost of its hash. No hook is called, and
+    /// no memory is asked for.
+    pub fn remove<Q: Equivalent<K>>(&mut self, hash: u64, query: &Q) -> Option<(K, V)>
+        requires hash_is { hash ≡ hash_of B.BuildHasher B.Hasher.Hasher self.old.builder
+            (Q.hash_input query.now) }
+        ensures removes { UpToOrder (Removes (Q.equivalent query.now) self.old.state hash result)
+            self.new.state }
+        ensures same { self.new ≡ record self.old { state = self.new.state } }
+        ensures sound { IsSoundShard K.eq self.new }
+    {
+        remove(&mut self.rings, hash, query)
+    }
+
+    /// Takes note of a look-up, and tells where the item is.
+    fn look_up<Q: Equivalent<K>>(&mut self, hash: u64, query: &Q) -> Option<(Queue, usize)>
+        ensures looks_up { MatchOption result
+            (IsMissed (Q.equivalent query.now) self.old.state self.new.state)
+            (λ at. IsLookedUp (Q.equivalent query.now) self.old.state at self.new.state) }
+        ensures same { self.new ≡ record self.old { state = self.new.state } }
+    {
+        match find(&self.rings, hash, query) {
+            Location::InHot(at) => {
+                look_up_at(&mut self.rings.hot, at);
+                self.rings.hits = self.rings.hits.saturating_add(1);
+                Some((Queue::Hot, at))
+            }
+            Location::InCold(at) => {
+                look_up_at(&mut self.rings.cold, at);
+                self.rings.hits = self.rings.hits.saturating_add(1);
+                Some((Queue::Cold, at))
+            }
+            Location::AmongGhosts(_) => {
+                self.rings.misses = self.rings.misses.saturating_add(1);
+                None
+            }
+            Location::Nowhere => {
+                self.rings.misses = self.rings.misses.saturating_add(1);
+                None
+            }
+        }
+    }
+
+    /// The value of the item at a place of a ring.
+    fn value_at(&self, at: (Queue, usize)) -> &V
+        requires { IsPlaced self.now.state at }
+        ensures { IsValueAt self.now.state at result.now }
+    {
+        match at.0 {
+            Queue::Hot => self.rings.hot[at.1].value(),
+            Queue::Cold => self.rings.cold[at.1].value(),
+        }
+    }
+
+    /// The pair of the item at a place of a ring.
+    fn pair_at(&self, at: (Queue, usize)) -> (&K, &V)
+        requires { IsPlaced self.now.state at }
+        ensures key { IsKeyAt self.now.state at result.0.now }
+        ensures value { IsValueAt self.now.state at result.1.now }
+    {
+        match at.0 {
+            Queue::Hot => self.rings.hot[at.1].pair(),
+            Queue::Cold => self.rings.cold[at.1].pair(),
+        }
+    }
+}

@@ -1,0 +1,461 @@
+//! One shard: what its calls leave, on rows that were worked out by hand.
+ghost use Rattle.std.specs.Prelude.{◌≡◌, ℕ, ◌+◌, ◌*◌, ◌%◌, ◌&&◌, ◌==◌, fold, IfOk};
+ghost use Rattle.std.specs.Int.NonZero.{non_zero_u32_get};
+ghost use Rattle.std.specs.Cmp.Rules.{comparing, hashing};
+ghost use Rattle.std.proofs.Common.{rules, refl};
+
+use quick_cache_base::{Equivalent, Lifecycle, Refusal, ToKey, UnitWeighter};
+use quick_cache_shard::{CacheShard, InsertStrategy, SharedPlaceholder, Token, Touches};
+use std::hash::{BuildHasher, Hash, Hasher};
+use std::test::Fail;
+
+/// Reads bytes as a number, the lowest first, and keeps what is left of it by a thousand.
+#[derive(Drop)]
+struct ByThousand {
+    sum: u64,
+    place: u64,
+}
+
+impl Hasher for ByThousand {
+    ghost write = { λ s bytes. fold (λ h b. record {
+      sum = (h.sum + b * h.place) % 1000;
+      place = (h.place * 256) % 1000;
+    }) s bytes };
+
+    ghost finish = { λ s. s.sum };
+
+    fn finish(&self) -> u64 {
+        self.sum
+    }
+
+    fn write(&mut self, bytes: &[u8]) {
+        for b in bytes {
+            self.sum = ((self.sum as u128 + *b as u128 * self.place as u128) % 1000) as u64;
+            self.place = (self.place as u128 * 256 % 1000) as u64;
+        }
+    }
+}
+
+/// Hashes a number to what is left of it by a thousand.
+#[derive(Clone, Drop)]
+struct Thousand;
+
+impl BuildHasher for Thousand {
+    type Hasher = ByThousand;
+
+    ghost build_hasher = { λ _. record { sum = 0; place = 1 } };
+
+    fn build_hasher(&self) -> ByThousand {
+        ByThousand { sum: 0, place: 1 }
+    }
+}
+
+/// Pins nothing, and counts what is told to each hook.
+#[derive(Clone, Drop)]
+struct Counting;
+
+/// How many calls there were of each hook.
+#[derive(Debug, Default, Clone, Copy, PartialEq, Eq)]
+struct Told {
+    before: u64,
+    hot: u64,
+    cold: u64,
+}
+
+impl<K: Eq + Drop, V: Drop> Lifecycle<K, V> for Counting {
+    type RequestState = Told;
+
+    ghost before_evict_gives = { λ _ _ _ value _ left. left ≡ value };
+
+    ghost on_evict_gives = { λ _ _ _ _ _. Unit {0} };
+
+    ghost on_evict_cold_gives = { λ _ _ _ _ _. Unit {0} };
+
+    ghost on_evict_hot_gives = { λ _ _ _ _ _. Unit {0} };
+
+    ghost keeps_fits = { λ _ _ _ _ _ _ _ fits. fits };
+
+    ghost same_fits = { λ _ _ _ _ fits. fits };
+
+    fn is_pinned(&self, _key: &K, _val: &V) -> bool {
+        false
+    }
+
+    fn before_evict(&self, state: &mut Told, _key: &K, _val: &mut V) {
+        state.before = state.before.wrapping_add(1);
+    }
+
+    fn on_evict(&self, _state: &mut Told, _key: K, _val: V) {}
+
+    fn on_evict_cold(&self, state: &mut Told, _key: K, _val: V) {
+        state.cold = state.cold.wrapping_add(1);
+    }
+
+    fn on_evict_hot(&self, state: &mut Told, _key: K, _val: V) {
+        state.hot = state.hot.wrapping_add(1);
+    }
+}
+
+/// No reader counts anything.
+#[derive(Default, Drop)]
+struct NoTouches;
+
+impl Touches for NoTouches {
+    ghost may_count = { λ n. n ≡ 0 };
+
+    ghost none_counted = { refl };
+
+    fn add(&self) {}
+
+    fn seen(&self) -> u64 {
+        0
+    }
+
+    fn take(&mut self) -> u64 {
+        0
+    }
+}
+
+/// A placeholder that is its three numbers.
+#[derive(Drop)]
+struct Placeholder {
+    hash: u64,
+    idx: Token,
+    ticket: u64,
+}
+
+impl<K: Eq + Hash> SharedPlaceholder<K> for Placeholder {
+    type Touch = NoTouches;
+
+    ghost hash_of = { λ placeholder. placeholder.hash };
+
+    ghost idx_of = { λ placeholder. non_zero_u32_get placeholder.idx };
+
+    ghost ticket_of = { λ placeholder. placeholder.ticket };
+
+    fn new<Q: ToKey<K>>(hash: u64, idx: Token, ticket: u64, _query: &Q) -> Result<Self, Refusal> {
+        Ok(Placeholder { hash, idx, ticket })
+    }
+
+    fn same_as(&self, other: &Self) -> bool {
+        self.ticket == other.ticket
+    }
+
+    fn hash(&self) -> u64 {
+        self.hash
+    }
+
+    fn idx(&self) -> Token {
+        self.idx
+    }
+
+    fn share(&self) -> Self {
+        Placeholder {
+            hash: self.hash,
+            idx: self.idx,
+            ticket: self.ticket,
+        }
+    }
+}
+
+/// A shard of unit weights.
+type Tested<K, V> = CacheShard<K, V, UnitWeighter, Thousand, Counting, Placeholder>;
+
+/// An empty shard for so many items, with the default shares.
+fn empty<K: Eq + Hash, V>(rt: &HostRuntime, capacity: usize) -> Result<Tested<K, V>, Refusal> {
+    CacheShard::new(
+        rt.alloc(),
+        970000,
+        500000,
+        capacity,
+        capacity as u64,
+        UnitWeighter,
+        Thousand,
+        Counting,
+    )
+}
+
+/// Inserts a pair, and counts what was told.
+fn put(shard: &mut Tested<u64, u64>, told: &mut Told, key: u64, value: u64) -> bool {
+    let hash = shard.hash(&key);
+    shard
+        .insert(told, hash, key, value, InsertStrategy::Insert)
+        .is_ok()
+}
+
+/// What `get` finds.
+fn got(shard: &mut Tested<u64, u64>, key: u64) -> Option<u64> {
+    let hash = shard.hash(&key);
+    shard.get(hash, &key).copied()
+}
+
+/// Whether a walk over a ring shows exactly these keys and marks.
+fn walks_hot(shard: &Tested<u64, u64>, want: &[(u64, u8)]) -> bool {
+    let mut at = 0;
+    for (key, _, mark) in shard.iter_hot() {
+        if at >= want.len() || want[at] != (*key, mark) {
+            return false;
+        }
+        at += 1;
+    }
+    at == want.len()
+}
+
+/// The same of the cold ring.
+fn walks_cold(shard: &Tested<u64, u64>, want: &[(u64, u8)]) -> bool {
+    let mut at = 0;
+    for (key, _, mark) in shard.iter_cold() {
+        if at >= want.len() || want[at] != (*key, mark) {
+            return false;
+        }
+        at += 1;
+    }
+    at == want.len()
+}
+
+/// The same of the ghosts.
+fn walks_ghosts(shard: &Tested<u64, u64>, want: &[u64]) -> bool {
+    let mut at = 0;
+    for hash in shard.iter_ghosts() {
+        if at >= want.len() || want[at] != hash {
+            return false;
+        }
+        at += 1;
+    }
+    at == want.len()
+}
+
+#[test]
+fn a_cache_of_one_holds_the_last_pair(rt: HostRuntime) -> Result<(), Fail> {
+    let mut shard = empty(&rt, 1)?;
+    let mut told = Told::default();
+    assert!(rt; put(&mut shard, &mut told, 1, 10));
+    assert_eq!(rt; got(&mut shard, 1), Some(10));
+    assert!(rt; put(&mut shard, &mut told, 2, 20));
+    assert_eq!(rt; got(&mut shard, 2), Some(20));
+    assert_eq!(rt; got(&mut shard, 1), None);
+    assert_eq!(rt; (shard.hits(), shard.misses(), shard.len()), (2, 1, 1));
+    Ok(())
+}
+
+#[test]
+fn a_cache_of_none_reports_each_pair(rt: HostRuntime) -> Result<(), Fail> {
+    let mut shard = empty(&rt, 0)?;
+    let mut told = Told::default();
+    assert!(rt; put(&mut shard, &mut told, 1, 10));
+    assert_eq!(rt;
+        told,
+        Told {
+            before: 1,
+            hot: 0,
+            cold: 1
+        }
+    );
+    assert_eq!(rt; got(&mut shard, 1), None);
+    Ok(())
+}
+
+#[test]
+fn equal_hashes_meet_one_ghost(rt: HostRuntime) -> Result<(), Fail> {
+    let mut shard = empty(&rt, 2)?;
+    let mut told = Told::default();
+    for key in [1, 5, 6, 1005] {
+        assert!(rt; put(&mut shard, &mut told, key, key));
+    }
+    assert!(rt; walks_hot(&shard, &[(1, 0), (1005, 0)]));
+    assert!(rt; walks_cold(&shard, &[]));
+    assert!(rt; walks_ghosts(&shard, &[6]));
+    assert_eq!(rt; got(&mut shard, 5), None);
+    Ok(())
+}
+
+#[test]
+fn a_key_that_left_returns_hot(rt: HostRuntime) -> Result<(), Fail> {
+    let mut shard = empty(&rt, 2)?;
+    let mut told = Told::default();
+    for key in [1, 2, 3, 2] {
+        assert!(rt; put(&mut shard, &mut told, key, key));
+    }
+    assert!(rt; walks_hot(&shard, &[(1, 0), (2, 0)]));
+    assert!(rt; walks_cold(&shard, &[]));
+    assert!(rt; walks_ghosts(&shard, &[3]));
+    Ok(())
+}
+
+#[test]
+fn a_used_cold_item_takes_the_place_of_a_hot_one(rt: HostRuntime) -> Result<(), Fail> {
+    let mut shard = empty(&rt, 2)?;
+    let mut told = Told::default();
+    assert!(rt; put(&mut shard, &mut told, 1, 10));
+    assert!(rt; put(&mut shard, &mut told, 2, 20));
+    assert_eq!(rt; got(&mut shard, 2), Some(20));
+    assert!(rt; put(&mut shard, &mut told, 3, 30));
+    assert!(rt; walks_hot(&shard, &[(2, 0)]));
+    assert!(rt; walks_cold(&shard, &[(3, 0)]));
+    assert!(rt; walks_ghosts(&shard, &[]));
+    assert_eq!(rt;
+        told,
+        Told {
+            before: 1,
+            hot: 1,
+            cold: 0
+        }
+    );
+    Ok(())
+}
+
+#[test]
+fn a_used_hot_item_outlives_a_promoted_one(rt: HostRuntime) -> Result<(), Fail> {
+    let mut shard = empty(&rt, 2)?;
+    let mut told = Told::default();
+    for key in [1, 2] {
+        assert!(rt; put(&mut shard, &mut told, key, key));
+        assert_eq!(rt; got(&mut shard, key), Some(key));
+    }
+    assert!(rt; put(&mut shard, &mut told, 3, 3));
+    assert!(rt; walks_hot(&shard, &[(1, 0)]));
+    assert!(rt; walks_cold(&shard, &[(3, 0)]));
+    Ok(())
+}
+
+/// Replaces a value, as a use of the item or not.
+fn replaced(
+    shard: &mut Tested<u64, u64>,
+    told: &mut Told,
+    key: u64,
+    value: u64,
+    soft: bool,
+) -> Result<(), (u64, u64, Option<Refusal>)> {
+    let hash = shard.hash(&key);
+    shard.insert(told, hash, key, value, InsertStrategy::Replace { soft })
+}
+
+/// What `peek` and `contains` tell.
+fn seen(shard: &Tested<u64, u64>, key: u64) -> (Option<u64>, bool) {
+    let hash = shard.hash(&key);
+    (shard.peek(hash, &key).copied(), shard.contains(hash, &key))
+}
+
+/// The value that `get_key_value` finds, where its key is the query.
+fn got_with_key(shard: &mut Tested<u64, u64>, key: u64) -> Option<u64> {
+    let hash = shard.hash(&key);
+    let (found, value) = shard.get_key_value(hash, &key)?;
+    if *found != key {
+        return None;
+    }
+    Some(*value)
+}
+
+/// What `remove` takes out.
+fn taken(shard: &mut Tested<u64, u64>, key: u64) -> Option<(u64, u64)> {
+    let hash = shard.hash(&key);
+    shard.remove(hash, &key)
+}
+
+#[test]
+fn a_soft_replace_is_no_use_of_the_item(rt: HostRuntime) -> Result<(), Fail> {
+    let mut shard = empty(&rt, 4)?;
+    let mut told = Told::default();
+    assert!(rt; put(&mut shard, &mut told, 1, 10));
+    for (soft, mark) in [(true, 0), (false, 1)] {
+        assert_eq!(rt; replaced(&mut shard, &mut told, 1, 11, soft), Ok(()));
+        assert!(rt; walks_hot(&shard, &[(1, mark)]), "soft: {soft}");
+    }
+    let back = replaced(&mut shard, &mut told, 2, 20, false);
+    assert_eq!(rt; back, Err((2, 20, None)));
+    assert_eq!(rt;
+        told,
+        Told {
+            before: 0,
+            hot: 2,
+            cold: 0
+        }
+    );
+    Ok(())
+}
+
+#[test]
+fn a_look_is_no_use_and_a_removal_gives_the_pair(rt: HostRuntime) -> Result<(), Fail> {
+    let mut shard = empty(&rt, 4)?;
+    let mut told = Told::default();
+    assert!(rt; put(&mut shard, &mut told, 1, 10));
+    assert_eq!(rt; seen(&shard, 1), (Some(10), true));
+    assert!(rt; walks_hot(&shard, &[(1, 0)]));
+    assert_eq!(rt; got_with_key(&mut shard, 1), Some(10));
+    assert_eq!(rt; taken(&mut shard, 1), Some((1, 10)));
+    assert_eq!(rt; taken(&mut shard, 1), None);
+    assert_eq!(rt; seen(&shard, 1), (None, false));
+    assert_eq!(rt; told, Told::default());
+    Ok(())
+}
+
+#[test]
+fn a_clone_keeps_marks_and_counts(rt: HostRuntime) -> Result<(), Fail> {
+    let mut shard = empty(&rt, 4)?;
+    let mut told = Told::default();
+    assert!(rt; put(&mut shard, &mut told, 1, 10));
+    assert_eq!(rt; got(&mut shard, 1), Some(10));
+    let copy = shard.try_clone()?;
+    assert_eq!(rt; taken(&mut shard, 1), Some((1, 10)));
+    assert!(rt; walks_hot(&copy, &[(1, 1)]));
+    assert_eq!(rt; (copy.weight(), copy.capacity(), copy.hits()), (1, 4, 1));
+    assert_eq!(rt; (copy.hot_target(), copy.ghost_limit()), (3, 2));
+    Ok(())
+}
+
+/// A key of two halves.
+#[derive(PartialEq, Eq, Hash, Drop)]
+struct Whole {
+    first: u64,
+    second: u64,
+}
+
+/// A query for it, of two borrowed halves.
+#[derive(PartialEq, Eq, Hash, Drop)]
+struct Halves<'a> {
+    first: &'a u64,
+    second: &'a u64,
+}
+
+impl<'a> Equivalent<Whole> for Halves<'a> {
+    ghost equivalent = { λ query key.
+        (query.first.now == key.first) && (query.second.now == key.second) };
+
+    ghost same_hash = { Prim.search (hashing, rules) };
+
+    ghost same_key = { Prim.search (comparing, rules) };
+
+    fn equivalent(&self, key: &Whole) -> bool {
+        *self.first == key.first && *self.second == key.second
+    }
+}
+
+#[test]
+fn two_borrowed_halves_find_a_whole(rt: HostRuntime) -> Result<(), Fail> {
+    let mut shard: Tested<Whole, u64> = empty(&rt, 4)?;
+    let mut told = Told::default();
+    let key = Whole {
+        first: 3,
+        second: 4,
+    };
+    let hash = shard.hash(&key);
+    assert!(rt;
+        shard
+            .insert(&mut told, hash, key, 12, InsertStrategy::Insert)
+            .is_ok()
+    );
+    let (three, four) = (3, 4);
+    let halves = Halves {
+        first: &three,
+        second: &four,
+    };
+    let hash = shard.hash(&halves);
+    assert_eq!(rt; shard.get(hash, &halves).copied(), Some(12));
+    let swapped = Halves {
+        first: &four,
+        second: &three,
+    };
+    let hash = shard.hash(&swapped);
+    assert_eq!(rt; shard.get(hash, &swapped).copied(), None);
+    Ok(())
+}
