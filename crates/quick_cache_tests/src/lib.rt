@@ -18,3 +18,5 @@ mod shard;
 mod table;
 #[cfg(test)]
 mod traits;
+#[cfg(test)]
+mod unsync;

@@ -1,0 +1,105 @@
+//! The cache for one thread: first examples, lists of calls, and refused growths.
+use quick_cache_base::{DefaultHashBuilder, Refusal, UnitWeighter};
+use quick_cache_unsync::{Cache, Call, DefaultLifecycle, Reply, run};
+use rationed::Rationed;
+use std::alloc::Global;
+use std::test::Fail;
+
+#[test]
+fn what_was_inserted_is_found(rt: HostRuntime) -> Result<(), Fail> {
+    let mut cache: Cache<&str, &str> = Cache::new(rt.alloc(), 5)?;
+    cache.insert("square", "blue")?;
+    cache.insert("circle", "black")?;
+    assert_eq!(rt; cache.get(&"square").copied(), Some("blue"));
+    assert_eq!(rt; cache.get(&"circle").copied(), Some("black"));
+    assert_eq!(rt; cache.get(&"triangle").copied(), None);
+    Ok(())
+}
+
+#[test]
+fn the_counts_and_the_clone_tell_what_is_there(rt: HostRuntime) -> Result<(), Fail> {
+    let mut cache: Cache<u64, u64> = Cache::new(rt.alloc(), 5)?;
+    assert!(rt; cache.is_empty());
+    cache.insert(1, 10)?;
+    cache.insert(2, 20)?;
+    assert_eq!(rt; cache.get(&1).copied(), Some(10));
+    assert_eq!(rt; cache.get(&3).copied(), None);
+    assert!(rt; cache.contains_key(&2));
+    let mut copy = cache.try_clone()?;
+    assert_eq!(rt; copy.remove(&2), Some((2, 20)));
+    assert!(rt; !copy.contains_key(&2));
+    assert_eq!(rt; (cache.len(), cache.weight(), cache.capacity()), (2, 2, 5));
+    assert_eq!(rt; (copy.len(), copy.hits(), copy.misses()), (1, 1, 1));
+    assert_eq!(rt; cache.shard().hot_target(), 4);
+    Ok(())
+}
+
+#[test]
+fn a_list_of_calls_is_made_in_order(rt: HostRuntime) -> Result<(), Fail> {
+    let mut cache: Cache<u64, u64> = Cache::new(rt.alloc(), 1)?;
+    let calls = vec![in rt.alloc();
+        Call::Insert(1, 10),
+        Call::Get(1),
+        Call::Insert(2, 20),
+        Call::Get(2),
+        Call::Get(1),
+        Call::Remove(2),
+    ]?;
+    let Ok(replies) = run(rt.alloc(), &mut cache, calls, &mut ()) else {
+        panic!(rt; "there is memory");
+    };
+    let wanted = [
+        Reply::Done,
+        Reply::Value(Some(10)),
+        Reply::Done,
+        Reply::Value(Some(20)),
+        Reply::Value(None),
+        Reply::Pair(Some((2, 20))),
+    ];
+    assert_eq!(rt; replies.as_slice(), wanted.as_slice());
+    Ok(())
+}
+
+#[test]
+fn calls_come_back_where_replies_have_no_room(rt: HostRuntime) -> Result<(), Fail> {
+    let ration = Rationed::new(rt.alloc(), 1);
+    let mut cache: Cache<u64, u64> = Cache::new(rt.alloc(), 5)?;
+    let calls = vec![in &ration; Call::Insert(1, 10), Call::Get(1)]?;
+    ration.allow(0);
+    let Err((replies, calls)) = run(&ration, &mut cache, calls, &mut ()) else {
+        panic!(rt; "there is no room");
+    };
+    assert_eq!(rt; replies.len(), 0);
+    assert_eq!(rt;
+        calls.as_slice(),
+        [Call::Insert(1, 10), Call::Get(1)].as_slice()
+    );
+    assert!(rt; cache.is_empty());
+    Ok(())
+}
+
+/// A cache whose growths can be refused.
+type RationedCache<'a> = Cache<
+    u64,
+    u64,
+    UnitWeighter,
+    DefaultHashBuilder,
+    DefaultLifecycle<u64, u64>,
+    &'a Rationed<Global>,
+>;
+
+#[test]
+fn a_refused_first_growth_changes_nothing(rt: HostRuntime) -> Result<(), Fail> {
+    let ration = Rationed::new(rt.alloc(), 0);
+    let mut cache: RationedCache<'_> = Cache::new(&ration, 5)?;
+    assert_eq!(rt; cache.insert(1, 1), Err((1, 1, Refusal::Memory)));
+    assert_eq!(rt; cache.len(), 0);
+    ration.allow(8);
+    assert_eq!(rt; cache.insert(1, 1), Ok(()));
+    assert_eq!(rt; cache.peek(&1).copied(), Some(1));
+    // With no memory, what is there can be written over.
+    ration.allow(0);
+    assert_eq!(rt; cache.insert(1, 2), Ok(()));
+    assert_eq!(rt; cache.remove(&1), Some((1, 2)));
+    Ok(())
+}

@@ -1,0 +1,3 @@
+pub mod InsertLemmas
+pub mod StepLemmas
+pub mod RunLemmas

@@ -1,0 +1,50 @@
+-- A run, and one call more.
+use Rattle.std.proofs.Common.{◌≡◌, Bool, List, [], ◌∷◌, ◌++◌, length, refl, sym, subst, ◌∙◌, append_assoc, arith}
+use Rattle.std.proofs.lemmas.List.{append-nil}
+use Rattle.quick_cache_base.specs.CacheState.{CacheState}
+use Rattle.quick_cache_base.specs.Hooks.{Rules, Hooks, HookCall, RunsHooks}
+use Rattle.quick_cache_base.proofs.HookLaws.{RunsHooks-append}
+use Rattle.quick_cache_unsync.specs.declared.calls.Call.{Call}
+use Rattle.quick_cache_unsync.specs.declared.calls.Reply.{Reply}
+use Rattle.quick_cache_unsync.specs.CacheStep.{CacheStep}
+use Rattle.quick_cache_unsync.specs.CacheRun.{CacheRun, IsRun}
+
+module _ {K V : Type 0} (rules : Rules K V) (equal : K → K → Bool) where
+  -- a step behind a run makes a longer one
+  pub CacheRun-append : {old mid : CacheState K V} {calls : List (Call K V)} {replies : List (Reply K V)} {hook_calls : List (HookCall K V)}
+      (new : CacheState K V) (call : Call K V) (reply : Reply K V) (more : List (HookCall K V))
+      → CacheRun rules equal old calls replies hook_calls mid → CacheStep rules equal mid call reply more new
+      → CacheRun rules equal old (calls ++ call ∷ []) (replies ++ reply ∷ []) (hook_calls ++ more) new
+  CacheRun-append new call reply more (CacheRun.ends state) step =
+      subst (λ hook_calls. CacheRun rules equal state (call ∷ []) (reply ∷ []) hook_calls new) (append-nil more)
+      (CacheRun.goes_on state new new call reply [] [] more [] step (CacheRun.ends new))
+  CacheRun-append new call reply more (CacheRun.goes_on old mid last head told calls replies first rest begins run) step =
+      subst (λ hook_calls. CacheRun rules equal old (head ∷ calls ++ call ∷ []) (told ∷ replies ++ reply ∷ []) hook_calls new)
+      (sym (append_assoc first rest more))
+      (CacheRun.goes_on old mid new head told (calls ++ call ∷ []) (replies ++ reply ∷ []) first (rest ++ more) begins
+      (CacheRun-append new call reply more run step))
+
+  pub IsRun-append : {S : Type 0} (hooks : Hooks K V S) (old : CacheState K V) (first : S) (calls : List (Call K V)) (replies : List (Reply K V))
+      (mid : CacheState K V) (between : S) → IsRun rules equal hooks old first calls replies mid between
+      → (call : Call K V) (reply : Reply K V) (more : List (HookCall K V)) (new : CacheState K V) (last : S)
+      → CacheStep rules equal mid call reply more new → RunsHooks hooks more between last
+      → IsRun rules equal hooks old first (calls ++ call ∷ []) (replies ++ reply ∷ []) new last
+  IsRun-append hooks old first calls replies mid between run call reply more new last step runs = record {
+    hook_calls = run.hook_calls ++ more;
+    steps = CacheRun-append new call reply more run.steps step;
+    runs = RunsHooks-append hooks run.hook_calls more first between last run.runs runs;
+  }
+
+  -- before the first call
+  pub no_calls : {S : Type 0} (hooks : Hooks K V S) (old : CacheState K V) (first : S) (replies : List (Reply K V)) → replies ≡ []
+      → IsRun rules equal hooks old first [] replies old first
+  no_calls hooks old first replies none = rw none (record { hook_calls = []; steps = CacheRun.ends old; runs = refl })
+
+-- one of the items that are left is taken
+pub took_one : {X : Type 0} (all taken rest less : List X) (x : X) → all ≡ taken ++ rest → rest ≡ x ∷ less → all ≡ (taken ++ x ∷ []) ++ less
+took_one all taken rest less x split first = split ∙ rw first (sym (append_assoc taken (x ∷ []) less))
+
+-- none is left
+pub took_all : {X : Type 0} (all taken rest : List X) → all ≡ taken ++ rest → length rest ≡ 0 → taken ≡ all
+took_all all taken [] split none = sym (split ∙ append-nil taken)
+took_all all taken (x ∷ xs) split none = absurd (omega (arith, none))

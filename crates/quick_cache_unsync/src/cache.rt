@@ -1,0 +1,300 @@
+//! The cache for one thread.
+ghost use Rattle.std.specs.Prelude.{◌≡◌, ◌^◌, ◌-◌, ◌↔◌, min, IsTrue, IfOk, IfErr, option_copied};
+ghost use Rattle.std.specs.Borrow.{sem};
+ghost use Rattle.quick_cache_base.specs.declared.refusal.Refusal.TheVariants.{Memory};
+ghost use Rattle.quick_cache_base.specs.CacheState.{empty_state, item_count, total_weight};
+ghost use Rattle.std.specs.Bool.{OnTrue, OnFalse};
+ghost use Rattle.quick_cache_base.specs.Finding.{HasNoItem};
+ghost use Rattle.quick_cache_base.specs.Hashing.{hash_of};
+ghost use Rattle.quick_cache_base.specs.Lookups.{Sees, LooksUp};
+ghost use Rattle.quick_cache_base.specs.Removal.{Removes};
+ghost use Rattle.quick_cache_base.specs.Sizes.{hot_target_of, ghost_limit_of, default_hot_share, default_ghost_share};
+ghost use Rattle.quick_cache_shard.specs.Shard.{rules_of, hooks_of, ClonesExactly, HasItem, IsPlainCache, IsSoundShard, UpToOrder};
+ghost use Rattle.quick_cache_unsync.specs.Inserts.{Inserts, InsertsAlone};
+ghost use Rattle.quick_cache_unsync.specs.Touches.{no_touches};
+
+use crate::lifecycle::DefaultLifecycle;
+use crate::placeholder::Placeholder;
+use quick_cache_base::options::{DEFAULT_GHOST_ALLOCATION, DEFAULT_HOT_ALLOCATION};
+use quick_cache_base::{
+    DefaultHashBuilder, Equivalent, Lifecycle, Refusal, UnitWeighter, Weighter,
+};
+use quick_cache_shard::{CacheShard, InsertStrategy};
+use std::alloc::{Allocator, Global};
+use std::fmt::{Debug, Formatter, Write};
+use std::hash::{BuildHasher, Hash};
+use std::marker::Model;
+
+/// A cache for one thread, of a bounded weight.
+#[derive(Drop)]
+pub struct Cache<
+    K: Eq + Hash,
+    V,
+    We = UnitWeighter,
+    B = DefaultHashBuilder,
+    L = DefaultLifecycle<K, V>,
+    A: Allocator = Global,
+> {
+    shard: CacheShard<K, V, We, B, L, Placeholder, A>,
+}
+
+impl<K: Eq + Hash, V, We, B, L, A: Allocator> Model for Cache<K, V, We, B, L, A> {
+    ghost use Rattle.quick_cache_shard.specs.Shard.{Shard};
+
+    ghost Value = { Shard K V We B L };
+
+    ghost view = { λ cache. cache.shard };
+}
+
+impl<K: Eq + Hash, V, A: Allocator> Cache<
+    K,
+    V,
+    UnitWeighter,
+    DefaultHashBuilder,
+    DefaultLifecycle<K, V>,
+    A,
+> {
+    /// An empty cache for so many items, each of weight 1, with all defaults. It allocates nothing.
+    ///
+    /// # Errors
+    ///
+    /// `Memory` where the allocator could not be cloned.
+    pub fn new(alloc: A, items: usize) -> Result<Self, Refusal>
+    where
+        A: Clone,
+        ensures makes { IfOk result (λ cache. cache.state ≡ empty_state items
+            (hot_target_of items default_hot_share) (ghost_limit_of items default_ghost_share)) }
+        ensures refused { IfErr result (λ refusal. refusal ≡ Memory) }
+    {
+        Cache::with(
+            alloc,
+            items,
+            items as u64,
+            UnitWeighter,
+            DefaultHashBuilder::new(),
+            DefaultLifecycle::new(),
+        )
+    }
+}
+
+impl<K: Eq + Hash, V, We, B: BuildHasher, L, A: Allocator> Cache<K, V, We, B, L, A> {
+    ghost use Rattle.quick_cache_unsync.specs.Lent.{ends_so};
+
+    /// An empty cache that is made for so many items and may hold so much weight, with the default shares.
+    /// It allocates nothing.
+    ///
+    /// # Errors
+    ///
+    /// `Memory` where the allocator could not be cloned.
+    pub fn with(
+        alloc: A,
+        items: usize,
+        weight: u64,
+        weigher: We,
+        builder: B,
+        lifecycle: L,
+    ) -> Result<Self, Refusal>
+    where
+        A: Clone,
+        We: Drop,
+        B: Drop,
+        L: Drop,
+        ensures makes { IfOk result (λ cache. cache ≡ record {
+          state = empty_state weight (hot_target_of weight default_hot_share)
+              (ghost_limit_of items default_ghost_share);
+          weigher = weigher;
+          builder = builder;
+          lifecycle = lifecycle;
+        }) }
+        ensures refused { IfErr result (λ refusal. refusal ≡ Memory) }
+    {
+        Ok(Cache {
+            shard: CacheShard::new(
+                alloc,
+                DEFAULT_HOT_ALLOCATION,
+                DEFAULT_GHOST_ALLOCATION,
+                items,
+                weight,
+                weigher,
+                builder,
+                lifecycle,
+            )?,
+        })
+    }
+
+    /// The same cache once more: contents, marks, order and counts.
+    ///
+    /// # Errors
+    ///
+    /// `Memory` where a clone or room for the entries was refused.
+    pub fn try_clone(&self) -> Result<Self, Refusal>
+    where
+        K: Clone,
+        V: Clone,
+        We: Clone,
+        B: Clone,
+        L: Clone,
+        A: Clone,
+        requires keys { ClonesExactly K.is_clone }
+        requires values { ClonesExactly V.is_clone }
+        requires weighers { ClonesExactly We.is_clone }
+        requires builders { ClonesExactly B.is_clone }
+        requires lifecycles { ClonesExactly L.is_clone }
+        ensures same { IfOk result (λ cache. cache ≡ self.now) }
+        ensures refused { IfErr result (λ refusal. refusal ≡ Memory) }
+    {
+        Ok(Cache {
+            shard: self.shard.try_clone()?,
+        })
+    }
+
+    /// The shard that holds all, for reading.
+    pub fn shard(&self) -> &CacheShard<K, V, We, B, L, Placeholder, A>
+        ensures { result.now ≡ self.now }
+    {
+        &self.shard
+    }
+
+    /// Looks the query's key up: the item is marked and read, and a hit or a miss is counted. It takes no memory.
+    pub fn get<Q: Equivalent<K>>(&mut self, query: &Q) -> Option<&V>
+        ensures* looks_up { sem 𝓛 (ends_so K.row V.row We.row B.row L.row A.row K.eq K.Hash.hash_input A.Allocator self.entry
+            (λ new. UpToOrder (LooksUp (Q.equivalent query.now) self.old.state
+            (λ item. item.value) (option_copied result)) new.state
+            × (new ≡ record self.old { state = new.state }))) }
+    {
+        let hash = self.shard.hash(query);
+        self.shard.get(hash, query)
+    }
+
+    /// Looks at the query's key, and changes nothing.
+    pub fn peek<Q: Equivalent<K>>(&self, query: &Q) -> Option<&V>
+        ensures sees { Sees (Q.equivalent query.now) self.now.state
+            (λ item. item.value) (option_copied result) }
+        ensures sound { IsSoundShard K.eq self.now }
+    {
+        let hash = self.shard.hash(query);
+        self.shard.peek(hash, query)
+    }
+
+    /// Whether an item stands under the query's key. Nothing changes.
+    pub fn contains_key<Q: Equivalent<K>>(&self, query: &Q) -> bool
+        ensures there { OnTrue result (HasItem (Q.equivalent query.now) self.now.state) }
+        ensures absent { OnFalse result (HasNoItem (Q.equivalent query.now) self.now.state) }
+    {
+        let hash = self.shard.hash(query);
+        self.shard.contains(hash, query)
+    }
+
+    /// Takes the item under the query's key out, or a ghost of its hash. No hook is called, and no memory taken.
+    pub fn remove<Q: Equivalent<K>>(&mut self, query: &Q) -> Option<(K, V)>
+        ensures removes { let hash = hash_of B.BuildHasher B.Hasher.Hasher self.old.builder (Q.hash_input query.now) in
+            UpToOrder (Removes (Q.equivalent query.now) self.old.state hash result) self.new.state }
+        ensures same { self.new ≡ record self.old { state = self.new.state } }
+    {
+        let hash = self.shard.hash(query);
+        self.shard.remove(hash, query)
+    }
+
+    /// Inserts a pair, and hands what leaves to the lifecycle, with a request state of its own.
+    ///
+    /// # Errors
+    ///
+    /// As `insert_with_lifecycle`.
+    pub fn insert(&mut self, key: K, value: V) -> Result<(), (K, V, Refusal)>
+    where
+        K: Drop,
+        V: Drop,
+        We: Weighter<K, V>,
+        L: Lifecycle<K, V>,
+        requires plain { IsPlainCache We.Weighter L.Lifecycle self.old }
+        ensures inserts { InsertsAlone (hooks_of L.Lifecycle self.old)
+            (rules_of no_touches K.Hash.hash_input We.Weighter B.BuildHasher B.Hasher.Hasher L.Lifecycle self.old)
+            K.eq self.old.state L.RequestState.is_default key value result self.new.state }
+        ensures same { self.new ≡ record self.old { state = self.new.state } }
+    {
+        let mut state = L::RequestState::default();
+        self.insert_with_lifecycle(key, value, &mut state)
+    }
+
+    /// Inserts a pair, and hands what leaves to the lifecycle, with this request state. A pair that is heavier than
+    /// the hot target is turned away and told to the cold hook, and the answer is `Ok`.
+    ///
+    /// # Errors
+    ///
+    /// The pair and why: `SlotsFull` or `Memory`, only where nothing stood under its key. Nothing changed then, and
+    /// no hook was called.
+    pub fn insert_with_lifecycle(
+        &mut self,
+        key: K,
+        value: V,
+        state: &mut L::RequestState,
+    ) -> Result<(), (K, V, Refusal)>
+    where
+        K: Drop,
+        V: Drop,
+        We: Weighter<K, V>,
+        L: Lifecycle<K, V>,
+        requires plain { IsPlainCache We.Weighter L.Lifecycle self.old }
+        ensures inserts { Inserts (hooks_of L.Lifecycle self.old)
+            (rules_of no_touches K.Hash.hash_input We.Weighter B.BuildHasher B.Hasher.Hasher L.Lifecycle self.old)
+            K.eq self.old.state state.old key value result self.new.state state.new }
+        ensures same { self.new ≡ record self.old { state = self.new.state } }
+    {
+        let hash = self.shard.hash(&key);
+        match self
+            .shard
+            .insert(state, hash, key, value, InsertStrategy::Insert)
+        {
+            Ok(()) => Ok(()),
+            Err((key, value, refusal)) => Err((key, value, refusal.unwrap())),
+        }
+    }
+
+    /// How many items there are.
+    pub fn len(&self) -> usize
+        ensures { result ≡ item_count self.now.state }
+    {
+        self.shard.len()
+    }
+
+    /// Whether there is no item.
+    pub fn is_empty(&self) -> bool
+        ensures { IsTrue result ↔ (item_count self.now.state ≡ 0) }
+    {
+        self.len() == 0
+    }
+
+    /// The weight of all items, at most the greatest `u64`.
+    pub fn weight(&self) -> u64
+        ensures { result ≡ min (total_weight self.now.state) (2 ^ 64 - 1) }
+    {
+        self.shard.weight()
+    }
+
+    /// The weight that the cache may hold.
+    pub fn capacity(&self) -> u64
+        ensures { result ≡ self.now.state.capacity }
+    {
+        self.shard.capacity()
+    }
+
+    /// How many look-ups found an item, at most the greatest `u64`.
+    pub fn hits(&self) -> u64
+        ensures { result ≡ self.now.state.hits }
+    {
+        self.shard.hits()
+    }
+
+    /// How many look-ups found none, at most the greatest `u64`.
+    pub fn misses(&self) -> u64
+        ensures { result ≡ self.now.state.misses }
+    {
+        self.shard.misses()
+    }
+}
+
+impl<K: Eq + Hash, V, We, B, L, A: Allocator> Debug for Cache<K, V, We, B, L, A> {
+    fn fmt<W: Write>(&self, f: &mut Formatter<W>) -> std::fmt::Result {
+        f.write_str("Cache { .. }")
+    }
+}

@@ -1,0 +1,11 @@
+//! The cache for one thread, and whole lists of its calls.
+#![tactic(auto)]
+
+mod cache;
+mod calls;
+mod lifecycle;
+mod placeholder;
+
+pub use cache::Cache;
+pub use calls::{Call, Reply, run};
+pub use lifecycle::DefaultLifecycle;

@@ -1,0 +1,71 @@
+//! The lifecycle that a cache for one thread has by default.
+ghost use Rattle.std.specs.Prelude.{◌≡◌};
+
+use quick_cache_base::Lifecycle;
+use std::fmt::{Debug, Formatter, Write};
+use std::marker::PhantomData;
+
+/// Pins nothing, and drops what leaves.
+#[derive(Drop)]
+pub struct DefaultLifecycle<K, V> {
+    pairs: PhantomData<(K, V)>,
+}
+
+impl<K, V> DefaultLifecycle<K, V> {
+    /// The lifecycle; each one is like any other.
+    pub fn new() -> Self {
+        DefaultLifecycle { pairs: PhantomData }
+    }
+}
+
+impl<K, V> Default for DefaultLifecycle<K, V> {
+    fn default() -> Self {
+        DefaultLifecycle::new()
+    }
+}
+
+impl<K, V> Clone for DefaultLifecycle<K, V> {
+    ghost is_clone = { λ old new. new ≡ old };
+
+    fn clone(&self) -> Result<Self, std::alloc::AllocError> {
+        Ok(DefaultLifecycle::new())
+    }
+}
+
+impl<K, V> Debug for DefaultLifecycle<K, V> {
+    fn fmt<W: Write>(&self, f: &mut Formatter<W>) -> std::fmt::Result {
+        f.write_str("DefaultLifecycle")
+    }
+}
+
+impl<K: Eq + Drop, V: Drop> Lifecycle<K, V> for DefaultLifecycle<K, V> {
+    type RequestState = ();
+
+    ghost before_evict_gives = { λ _ _ _ value _ left. left ≡ value };
+
+    ghost on_evict_gives = { λ _ _ _ _ _. Unit {0} };
+
+    ghost on_evict_cold_gives = { λ _ _ _ _ _. Unit {0} };
+
+    ghost on_evict_hot_gives = { λ _ _ _ _ _. Unit {0} };
+
+    ghost keeps_fits = { λ _ _ _ _ _ _ _ fits. fits };
+
+    ghost same_fits = { λ _ _ _ _ fits. fits };
+
+    fn is_pinned(&self, _key: &K, _val: &V) -> bool {
+        false
+    }
+
+    fn before_evict(&self, _state: &mut (), _key: &K, _val: &mut V) {}
+
+    fn on_evict(&self, _state: &mut (), _key: K, _val: V) {}
+
+    fn on_evict_cold(&self, state: &mut (), key: K, val: V) {
+        self.on_evict(state, key, val);
+    }
+
+    fn on_evict_hot(&self, state: &mut (), key: K, val: V) {
+        self.on_evict(state, key, val);
+    }
+}

@@ -1,0 +1,70 @@
+//! What stands at a key that is being loaded, and the count of touches, where a cache has one thread.
+ghost use Rattle.std.specs.Prelude.{◌≡◌, refl};
+ghost use Rattle.std.specs.Int.NonZero.{non_zero_u32_get};
+ghost use Rattle.quick_cache_unsync.specs.Touches.{no_touches};
+
+use quick_cache_base::{Refusal, ToKey};
+use quick_cache_shard::{SharedPlaceholder, Token, Touches};
+use std::hash::Hash;
+
+/// Counts nothing: no reader stands beside the one thread.
+#[derive(Default, Drop)]
+pub struct NoTouches;
+
+impl Touches for NoTouches {
+    ghost may_count = { no_touches };
+
+    ghost none_counted = { refl };
+
+    fn add(&self) {}
+
+    fn seen(&self) -> u64 {
+        0
+    }
+
+    fn take(&mut self) -> u64 {
+        0
+    }
+}
+
+/// The placeholder of a key.
+#[derive(Drop)]
+pub struct Placeholder {
+    hash: u64,
+    idx: Token,
+    ticket: u64,
+}
+
+impl<K: Eq + Hash> SharedPlaceholder<K> for Placeholder {
+    type Touch = NoTouches;
+
+    ghost hash_of = { λ placeholder. placeholder.hash };
+
+    ghost idx_of = { λ placeholder. non_zero_u32_get placeholder.idx };
+
+    ghost ticket_of = { λ placeholder. placeholder.ticket };
+
+    fn new<Q: ToKey<K>>(hash: u64, idx: Token, ticket: u64, _query: &Q) -> Result<Self, Refusal> {
+        Ok(Placeholder { hash, idx, ticket })
+    }
+
+    fn same_as(&self, other: &Self) -> bool {
+        self.ticket == other.ticket
+    }
+
+    fn hash(&self) -> u64 {
+        self.hash
+    }
+
+    fn idx(&self) -> Token {
+        self.idx
+    }
+
+    fn share(&self) -> Self {
+        Placeholder {
+            hash: self.hash,
+            idx: self.idx,
+            ticket: self.ticket,
+        }
+    }
+}
