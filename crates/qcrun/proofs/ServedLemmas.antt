@@ -1,0 +1,32 @@
+-- A run of one call serves it.
+use Rattle.std.proofs.Common.{◌≡◌, ◌+◌, Bool, List, [], ◌∷◌, ◌++◌, length, refl, sym, ap, subst, ◌∙◌, arith}
+use Rattle.std.proofs.lemmas.List.{length-append}
+use Rattle.quick_cache_base.specs.CacheState.{CacheState}
+use Rattle.quick_cache_base.specs.Hooks.{Rules, HookCall}
+use Rattle.quick_cache_unsync.specs.declared.calls.Call.{Call}
+use Rattle.quick_cache_unsync.specs.declared.calls.Reply.{Reply}
+use Rattle.quick_cache_unsync.specs.CacheStep.{CacheStep}
+use Rattle.quick_cache_unsync.specs.CacheRun.{CacheRun}
+use Rattle.qcrun.specs.Served.{Serves, first_reply}
+
+-- of a list of one item that is made of two parts, the first item is the one, and nothing stands behind it
+pub one-append : {X : Type 0} (x y : X) (ys back : List X) → x ∷ [] ≡ (y ∷ ys) ++ back → (y ≡ x) × (ys ≡ [])
+one-append x y [] back e = (cc, refl)
+one-append x y (z ∷ zs) back e = absurd (omega (arith, ap length e, length-append zs back))
+
+module _ {K V : Type 0} (rules : Rules K V) (equal : K → K → Bool) where
+  -- a run of no call changes nothing
+  pub CacheRun-none : {old : CacheState K V} {calls : List (Call K V)} {replies : List (Reply K V)} {hook_calls : List (HookCall K V)} {new : CacheState K V}
+      → CacheRun rules equal old calls replies hook_calls new → calls ≡ [] → new ≡ old
+  CacheRun-none (CacheRun.ends state) none = refl
+  CacheRun-none (CacheRun.goes_on old mid new call reply calls replies first rest step run) none = absurd (omega (arith, ap length none))
+
+  -- A run of some of one call's list serves the call.
+  pub CacheRun-one : {old : CacheState K V} {calls : List (Call K V)} {replies : List (Reply K V)} {hook_calls : List (HookCall K V)} {new : CacheState K V}
+      → CacheRun rules equal old calls replies hook_calls new → (call : Call K V) (back : List (Call K V)) → call ∷ [] ≡ calls ++ back
+      → Serves rules equal old call (first_reply replies) new
+  CacheRun-one (CacheRun.ends state) call back one = Serves.lacks_memory
+  CacheRun-one (CacheRun.goes_on old mid new head reply calls replies first rest step run) call back one =
+      let parts = one-append call head calls back one in
+      let made = Serves.makes reply first mid (subst (λ c. CacheStep rules equal old c reply first mid) parts.0 step) in
+      subst (λ last. Serves rules equal old call reply last) (sym (CacheRun-none run parts.1)) made

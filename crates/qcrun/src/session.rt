@@ -1,0 +1,156 @@
+//! The cache that stands, and what commands do to it.
+ghost use Rattle.std.specs.Prelude.{◌≡◌};
+ghost use Rattle.quick_cache_shard.specs.Shard.{rules_of, ClonesExactly, IsPlainCache};
+ghost use Rattle.quick_cache_unsync.specs.Touches.{no_touches};
+ghost use Rattle.qcrun.specs.Served.{Serves, first_reply};
+
+use crate::command::Command;
+use crate::hash::RemainderBuilder;
+use crate::reply::Answer;
+use quick_cache_base::{Lifecycle, Refusal, UnitWeighter, Weighter};
+use quick_cache_unsync::{Cache, Call, DefaultLifecycle, Reply, run};
+use std::alloc::Allocator;
+use std::hash::{BuildHasher, Hash};
+use std::io::{self, Write};
+
+/// A cache of numbers.
+pub type NumberCache<A> = Cache<
+    u64,
+    u64,
+    UnitWeighter,
+    RemainderBuilder,
+    DefaultLifecycle<u64, u64>,
+    A,
+>;
+
+/// The first reply, or that it was refused for want of memory.
+fn first_reply<K: Drop, V: Drop, M: Allocator>(replies: Vec<Reply<K, V>, M>) -> Reply<K, V>
+    ensures { result ≡ first_reply replies.items }
+{
+    match replies.into_iter().next() {
+        Some(reply) => reply,
+        None => Reply::Refused(Refusal::Memory),
+    }
+}
+
+/// Makes one call. Where there is no memory for it or for its reply, nothing changes.
+fn make_call<
+    K: Eq + Hash + Drop,
+    V: Clone + Drop,
+    We: Weighter<K, V> + Drop,
+    B: BuildHasher + Drop,
+    L: Lifecycle<K, V> + Drop,
+    A: Allocator,
+    M: Allocator + Copy,
+>(
+    alloc: M,
+    cache: &mut Cache<K, V, We, B, L, A>,
+    call: Call<K, V>,
+    state: &mut L::RequestState,
+) -> Reply<K, V>
+    requires clones { ClonesExactly V.is_clone }
+    requires plain { IsPlainCache We.Weighter L.Lifecycle cache.old }
+    ensures serves { Serves
+        (rules_of no_touches K.Hash.hash_input We.Weighter B.BuildHasher B.Hasher.Hasher L.Lifecycle cache.old)
+        K.eq cache.old.state call result cache.new.state }
+    ensures same { cache.new ≡ record cache.old { state = cache.new.state } }
+{
+    let mut calls = Vec::new(alloc);
+    let Ok(()) = calls.push(call) else {
+        return Reply::Refused(Refusal::Memory);
+    };
+    match run(alloc, cache, calls, state) {
+        Ok(replies) => first_reply(replies),
+        Err((replies, _)) => first_reply(replies),
+    }
+}
+
+/// What became of a command.
+#[derive(Debug, Clone, Copy, PartialEq, Eq)]
+pub enum Outcome {
+    /// It was served, and its reply written.
+    Served,
+    /// It asked for a cache, and none stands.
+    NoCache,
+}
+
+/// The cache that stands, if one was made.
+#[derive(Drop)]
+pub struct Session<A: Allocator> {
+    alloc: A,
+    cache: Option<NumberCache<A>>,
+}
+
+impl<A: Allocator + Copy> Session<A> {
+    /// A session in which no cache stands.
+    pub fn new(alloc: A) -> Self {
+        Session { alloc, cache: None }
+    }
+
+    /// Serves a command, and writes its reply.
+    ///
+    /// # Errors
+    ///
+    /// A write that failed.
+    pub fn serve<W: Write>(&mut self, command: Command, writer: &mut W) -> io::Result<Outcome> {
+        if let Command::Cache(items, weight) = command {
+            let answer = self.make_cache(items, weight);
+            writeln!(writer, "{answer}")?;
+            return Ok(Outcome::Served);
+        }
+        let Some(cache) = &mut self.cache else {
+            return Ok(Outcome::NoCache);
+        };
+        let call = match command {
+            Command::Insert(key, value) => Call::Insert(key, value),
+            Command::Get(key) => Call::Get(key),
+            Command::Remove(key) => Call::Remove(key),
+            Command::Cache(..) | Command::Show => {
+                show(cache, writer)?;
+                return Ok(Outcome::Served);
+            }
+        };
+        let answer = Answer::from(make_call(self.alloc, cache, call, &mut ()));
+        writeln!(writer, "{answer}")?;
+        Ok(Outcome::Served)
+    }
+
+    /// Puts an empty cache in the place of the one that stood, which stays where there is no memory.
+    fn make_cache(&mut self, items: usize, weight: u64) -> Answer {
+        let made = Cache::with(
+            self.alloc,
+            items,
+            weight,
+            UnitWeighter,
+            RemainderBuilder,
+            DefaultLifecycle::new(),
+        );
+        match made {
+            Ok(cache) => {
+                self.cache = Some(cache);
+                Answer::Done
+            }
+            Err(refusal) => Answer::Refused(refusal),
+        }
+    }
+}
+
+/// Writes what the cache holds: the rings from the head, the ghosts from the oldest, and the counts.
+fn show<A: Allocator, W: Write>(cache: &NumberCache<A>, writer: &mut W) -> io::Result<()> {
+    let shard = cache.shard();
+    write!(writer, "hot")?;
+    for (key, value, mark) in shard.iter_hot() {
+        write!(writer, " {key}:{value}:{mark}")?;
+    }
+    write!(writer, "\ncold")?;
+    for (key, value, mark) in shard.iter_cold() {
+        write!(writer, " {key}:{value}:{mark}")?;
+    }
+    write!(writer, "\nghosts")?;
+    for hash in shard.iter_ghosts() {
+        write!(writer, " {hash}")?;
+    }
+    let (len, weight) = (shard.len(), shard.weight());
+    let (target, limit) = (shard.hot_target(), shard.ghost_limit());
+    writeln!(writer, "\ncount {len} {weight} {target} {limit}")
+}

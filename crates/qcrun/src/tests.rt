@@ -1,0 +1,153 @@
+//! What is printed for whole scripts, and the status at the end.
+use crate::serve::serve;
+use std::alloc::Global;
+use std::io::{self, ErrorKind, Read, Write};
+use std::process::Abort;
+use std::test::Fail;
+
+/// Serves a script, and checks what is written and the status.
+fn check(rt: &impl Abort, alloc: Global, script: &[u8], wanted: &str, status: u8) {
+    let mut written = Vec::new(alloc);
+    let ended = serve(alloc, script, &mut written);
+    assert_eq!(rt; ended, status);
+    assert_eq!(rt; written.as_slice(), wanted.as_bytes());
+}
+
+#[test]
+fn scripts_print_their_replies(rt: HostRuntime) {
+    let scripts: [(&str, &str); 6] = [
+        ("", ""),
+        ("\n\ncache 1 1\n\nget 00000000000000000001", "ok\nnone\n"),
+        (
+            "cache 1 1\ninsert 1 1\nget 1\ninsert 2 401\nget 2\nget 1\nremove 2\nremove 2\n",
+            "ok\nok\nsome 1\nok\nsome 401\nnone\nsome 2 401\nnone\n",
+        ),
+        (
+            "cache 0 0\ninsert 1 1\nget 1\nshow\n",
+            "ok\nok\nnone\nhot\ncold\nghosts\ncount 0 0 0 0\n",
+        ),
+        (
+            "cache 2 2\ninsert 1 1\ninsert 5 1\ninsert 6 1\ninsert 1005 1\nshow\nget 5\n",
+            "ok\nok\nok\nok\nok\nhot 1:1:0 1005:1:0\ncold\nghosts 6\ncount 2 2 1 1\nnone\n",
+        ),
+        (
+            "cache 2 2\ninsert 1 1\nget 1\ninsert 2 1\nget 2\ninsert 3 1\nshow\n",
+            "ok\nok\nsome 1\nok\nsome 1\nok\nhot 1:1:0\ncold 3:1:0\nghosts\ncount 2 2 1 1\n",
+        ),
+    ];
+    for (script, wanted) in scripts {
+        check(&rt, rt.alloc(), script.as_bytes(), wanted, 0);
+    }
+}
+
+#[test]
+fn a_bad_line_ends_the_script(rt: HostRuntime) {
+    check(&rt, rt.alloc(), b"get 1\n", "bad line 1\n", 2);
+    let lines: [&str; 12] = [
+        "get  1",
+        "get 1 ",
+        " get 1",
+        "get",
+        "get +1",
+        "get -1",
+        "get 000000000000000000001",
+        "get 18446744073709551616",
+        "insert 1 2",
+        "insert 1 301",
+        "show all",
+        "cache 1 1 1 1",
+    ];
+    for line in lines {
+        let mut script = Vec::new(rt.alloc());
+        let made = write!(script, "cache 1 1\n\n{line}\nget 1\n");
+        assert!(rt; made.is_ok());
+        check(&rt, rt.alloc(), script.as_slice(), "ok\nbad line 3\n", 2);
+    }
+    check(
+        &rt,
+        rt.alloc(),
+        b"cache 1 1\nget \xff\n",
+        "ok\nbad line 2\n",
+        2,
+    );
+}
+
+#[test]
+fn a_long_line_is_bad_however_long(rt: HostRuntime) -> Result<(), Fail> {
+    for length in [200, 201, 100000] {
+        let mut script = Vec::new(rt.alloc());
+        write!(script, "cache 1 1\n")?;
+        for _ in 0..length {
+            script.push(b'1')?;
+        }
+        write!(script, "\nget 1\n")?;
+        check(&rt, rt.alloc(), script.as_slice(), "ok\nbad line 2\n", 2);
+    }
+    Ok(())
+}
+
+/// Gives a text once, and fails after that.
+#[derive(Drop)]
+struct BrokenReader {
+    text: &'static [u8],
+    is_read: bool,
+}
+
+impl Read for BrokenReader {
+    fn read(&mut self, buf: &mut [u8]) -> io::Result<usize> {
+        if self.is_read {
+            return Err(io::Error::from(ErrorKind::BrokenPipe));
+        }
+        self.is_read = true;
+        let mut text = self.text;
+        text.read(buf)
+    }
+}
+
+#[test]
+fn a_failed_read_ends_it(rt: HostRuntime) {
+    let mut written = Vec::new(rt.alloc());
+    let reader = BrokenReader {
+        text: b"cache 1 1\nget 1\nget",
+        is_read: false,
+    };
+    let status = serve(rt.alloc(), reader, &mut written);
+    assert_eq!(rt; status, 1);
+    assert_eq!(rt; written.as_slice(), b"ok\nnone\n".as_slice());
+}
+
+/// Takes what is first written, and counts the writes.
+#[derive(Drop)]
+struct BrokenWriter {
+    written: Vec<u8>,
+    writes: u64,
+}
+
+impl Write for BrokenWriter {
+    fn write(&mut self, buf: &[u8]) -> io::Result<usize> {
+        self.writes = self.writes.saturating_add(1);
+        if self.writes > 1 {
+            return Err(io::Error::from(ErrorKind::BrokenPipe));
+        }
+        self.written.write(buf)
+    }
+
+    fn flush(&mut self) -> io::Result<()> {
+        Ok(())
+    }
+}
+
+#[test]
+fn a_failed_write_ends_it(rt: HostRuntime) {
+    let mut writer = BrokenWriter {
+        written: Vec::new(rt.alloc()),
+        writes: 0,
+    };
+    let status = serve(
+        rt.alloc(),
+        b"cache 1 1\nget 1\nget x\n".as_slice(),
+        &mut writer,
+    );
+    assert_eq!(rt; status, 1);
+    assert_eq!(rt; writer.writes, 2);
+}
