@@ -1,5 +1,5 @@
 //! The cache for one thread.
-ghost use Rattle.std.specs.Prelude.{◌≡◌, ◌^◌, ◌-◌, ◌↔◌, min, IsTrue, IfOk, IfErr, option_copied};
+ghost use Rattle.std.specs.Prelude.{◌≡◌, ◌^◌, ◌-◌, ◌↔◌, min, IsTrue, IfOk, IfErr, IsOk, option_copied};
 ghost use Rattle.std.specs.Borrow.{sem};
 ghost use Rattle.quick_cache_base.specs.declared.refusal.Refusal.TheVariants.{Memory};
 ghost use Rattle.quick_cache_base.specs.CacheState.{empty_state, item_count, total_weight};
@@ -64,6 +64,7 @@ impl<K: Eq + Hash, V, A: Allocator> Cache<
         A: Clone,
         ensures makes { IfOk result (λ cache. cache.state ≡ empty_state items
             (hot_target_of items default_hot_share) (ghost_limit_of items default_ghost_share)) }
+        ensures succeeds { A.is_infallible alloc → IsOk result }
         ensures refused { IfErr result (λ refusal. refusal ≡ Memory) }
     {
         Cache::with(
@@ -106,6 +107,7 @@ impl<K: Eq + Hash, V, We, B: BuildHasher, L, A: Allocator> Cache<K, V, We, B, L,
           builder = builder;
           lifecycle = lifecycle;
         }) }
+        ensures succeeds { A.is_infallible alloc → IsOk result }
         ensures refused { IfErr result (λ refusal. refusal ≡ Memory) }
     {
         Ok(Cache {
