@@ -1,2 +1,2 @@
-mod Bodies
-mod Refusing
+mod Calling
+mod PassedOn

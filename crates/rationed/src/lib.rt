@@ -30,6 +30,13 @@ impl<B: Allocator> Rationed<B> {
     pub fn left(&self) -> u64 {
         self.left.get()
     }
+
+    /// Whether no block is left of the ration; else one of them is spent.
+    fn refuses(&self) -> bool {
+        let blocks = self.left.get();
+        self.left.set(blocks.saturating_sub(1));
+        blocks == 0
+    }
 }
 
 impl<B: Allocator> Drop for Rationed<B> {
@@ -38,19 +45,12 @@ impl<B: Allocator> Drop for Rationed<B> {
     }
 }
 
-/// Whether no block is left of the ration; else one of them is spent.
-fn refuses(left: &Cell<u64>) -> bool {
-    let blocks = left.get();
-    left.set(blocks.saturating_sub(1));
-    blocks == 0
-}
-
 unsafe impl<B: Allocator> Allocator for Rationed<B> {
     ghost dealloc_token = { λ heap ty ptr. B.dealloc_token heap.inner ty ptr };
 
     /// Spends a block of the ration, also where the inner allocator then refuses.
     fn allocate(&self, size: usize, align: usize) -> Result<*mut u8, AllocError> {
-        if refuses(&self.left) {
+        if self.refuses() {
             return Err(AllocError);
         }
         self.inner.allocate(size, align)

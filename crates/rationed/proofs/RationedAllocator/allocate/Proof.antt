@@ -1,149 +1,94 @@
--- `allocate` refuses where no block is left, and else answers what the inner allocator answers.
-use Rattle.std.proofs.Common.{◌≡◌, ℕ, ◌+◌, ◌^◌, ◌<◌, true, false, List, [], ◌∷◌, Ok, Err, refl, w64, Bor}
-use seplogic.Ra.Ura.{Ura}
-use mir.Syntax.{Ty, Args, Fn, a_type, dnil, dcons}
-use mathlib.Core.Bool.{Bool}
-use mir.Val.{Val, vbool, vint, vptr}
+-- `allocate` answers an error where the ration refuses, and is else the inner allocator's.
+use mathlib.Core.List.{[], ◌∷◌}
+use mathlib.Core.Path.{ap, refl}
 use mir.MapTy.{inst_fn}
-use base.Logic.{SProp, ent, sep, id⊢}
-use base.Fml.{Lft, Share, ftrue, flft}
-use prog.Memory.{Memory, size, align, capped, up}
-use prog.Routine.{Routine}
-use prog.Wp.{Env, WpFn, Tables}
-use types.Logic.{Logic, sem}
-use contract.BorrowLft.{◌⊑◌, ⊑_trans}
-use contract.Monad.{Fun, fact}
-use contract.Running.{tables, tables_of}
-use sound.WpLaws.{fm_of, WpFn-mono}
-use types.Run.{stop, fld, lit, addr, no_more, and_then, first, skips, branches, exec, returns, returns_within, enter}
+use mir.Val.{Val}
+use base.Logic.{emp, ent, fst∗, guard_i, id⊢, sep}
+use contract.BorrowLft.{◌⊑◌}
+use contract.Monad.{fact, fact_i, fact_use}
+use contract.Running.{tables}
+use types.Logic.{sem}
+use types.Kit.{at_ret, by, done, fjoin, fjoin3, given, join, keep, learn, move, qed, raw, show, split, use0, use1, use2, ‵, ◌⊛◌, ◌$◌, ◌∵◌, ! }
 use types.Part.{agg}
-use Rattle.rationed.proofs.Bodies.{after}
-use denote.Exit.{yes}
+use types.Run.{addr, and_then, branches, enter, exec, first, fld, lit, no_more, returns, returns_within, skips, stop}
+use types.ByLocal.{alloc_all, env, free_all, get, lands_as, look_at, pass_all, sets, through}
+use borrow.Table.RawPtr.{ptr_laws}
+use denote.Builtin.{RawPtr}
+use denote.Laws.{valss}
+use denote.Param.Laws.{Laws}
 use denote.RattleType.{owns}
 use denote.Ref.{shr_vals}
-use denote.Opens.{unhide}
-use denote.Param.{bounded, param}
-use denote.Plain.{uint_vals, uint_Tells}
-use denote.Signature.{Slot, plain, types_at}
-use denote.Steps.{heard, nothing}
-use denote.Triple.Clauses.{Ended, Clauses}
+use denote.Signature.{types_at}
+use denote.Steps.{nothing, only}
+use denote.Triple.Clauses.{Ended, Lasts, lasts}
 use denote.Triple.Spec.{triple_of}
-use denote.Triple.Statement.{Triple}
-use denote.Triple.Table.{entered, cited}
-use denote.Triple.Walked.{Stays, stay_dropped, walk_of, ends_at, walked, Goes-dropped, walk_Meets}
-use types.Kit.{‵, raw, ◌⊛◌, some, later, given, pick, at_ret, learn, ◌$◌, ◌∵◌, !, qed, by, move, keep, use0, use1, use2, split, join, fsplit, fjoin, suffices, await, done}
-use types.ByLocal.{alloc_all, pass_all, free_all, look_at, get, through, sets, lands_as, env}
-use denote.RawPtr.{block_ptr}
-use denote.Builtin.{usize, RefOf}
-use denote.Triple.Call.{calls_at}
-use Rattle.std.proofs.alloc.Calls.{Al, α, seen, Answer, answer_val, Answer-typed, Answer-Ok, Answer-err, takes_key, Takes, at_takes, Answered, Takes-goes, Takes-gives, answers}
-use Rattle.rationed.proofs.Refusing.{Refuses, at_refuses, Refuses-goes, Refuses-gives}
-use Rattle.rationed.proofs.refuses.Symbol as refuses_symbol
-use Rattle.rationed.proofs.refuses.Met as refuses_met
-use Rattle.rationed.specs.contracts.Rationed as wrapper
-use Rattle.rationed.specs.contracts.RationedAllocator.allocate as F
-use Rattle.rationed.specs.contracts.RationedAllocator.allocate.Key as key
-use Rattle.rationed.proofs.RationedAllocator.allocate.Statement as stated
+use Rattle.std.proofs.Common.{Err, false}
+use Rattle.std.proofs.alloc.AllocError.TheLaws.{the_row_laws as error_laws}
+use Rattle.std.proofs.alloc.Calls.{Answer-err, Answer-typed, answer_val}
+use Rattle.std.proofs.result.Result.TheLaws.{the_row_laws as result_laws}
+use Rattle.std.specs.Allocator.{HasLayout, alloc_error}
+use Rattle.std.specs.contracts.alloc.AllocError.{the_row as AllocError}
+use Rattle.std.specs.contracts.alloc.Allocator.allocate as passed
+use Rattle.std.specs.contracts.result.Result.{the_row as result}
+use Rattle.rationed.proofs.Calling.{Owned, Promise, Tokens, calls, gives}
+use Rattle.rationed.proofs.PassedOn.{Ration, inner, lent, over, passed_on, sizes, sizes_tell, stored}
+use Rattle.rationed.proofs.Rationed.refuses.Met.{met as refuses_met}
 use Rattle.rationed.proofs.RationedAllocator.allocate.Code as code
+use Rattle.rationed.proofs.RationedAllocator.allocate.Statement.{statement}
+use Rattle.rationed.specs.contracts.Rationed.refuses as refuses
 
--- the function at this inner allocator, and what its contract is about
-module _ (Z : Al) where
-  abbrev args : Args
-  args = bounded (a_type ∷ []) (Z.row, tt) (dcons Z.d (dcons Z.drops dnil))
+abbrev Answer-laws : Laws (result RawPtr AllocError)
+Answer-laws = result_laws RawPtr AllocError ptr_laws error_laws
 
-  abbrev here : Fn
-  here = inst_fn args code.function
-
-  abbrev self : Slot 2
-  self = RefOf (0 ∷ []) tt (plain (λ _. wrapper.the_row (param 0 Z.row))) (λ _. tt)
-
-  abbrev ended : Ended
-  ended = F.ended Z.row Z.g Z.d Z.drops
-
-  abbrev stayed : Stays ended.signature.params ended.kept
-  stayed = (stay_dropped self yes, (stay_dropped (plain (λ _. usize)) yes, (stay_dropped (plain (λ _. usize)) yes, tt)))
-
--- the walk through the body, over the contracts of `refuses` and of the inner `allocate`
-module _ (Z : Al) {M : Type 1} {𝓤 : Ura M} (𝓛 : Logic 𝓤) (at_mem : Memory → SProp 𝓤) (run : Routine → Fun 𝓤)
-    (𝓣 : Tables 𝓤 𝓛.H) (takes : Triple 𝓤 (𝓣.C (takes_key Z)) (Takes Z 𝓛 at_mem run))
-    (refuses : Triple 𝓤 (𝓣.C refuses_symbol.name) (Refuses 𝓛 at_mem run)) where
-  open 𝓛 use {H, A}
-
-  abbrev held : Clauses 𝓤 (ended Z)
-  held = F.clauses Z.row Z.g Z.d Z.drops 𝓛 at_mem run
-
-  module _ (κ₁ κ₂ : Lft) (q₁ q₂ : Share) (inn : κ₁ ⊑ κ₂) (r : Bor (wrapper.the_row Z.row).Denot) (n a : ℕ) (τ : Ty) where
-    -- the values and lifetimes that the call is given
-    abbrev bound : (walk_of 𝓛 (ended Z) (stayed Z) held).Ghost
-    bound = (((κ₁, (κ₂, tt)), (q₁, (q₂, tt)), (inn, tt), (r, (n, (a, tt))), (shr_vals r, (vint w64 n ∷ [], (vint w64 a ∷ [], tt)))), τ)
-
-    abbrev vs : List Val
-    vs = vptr r.ref_ptr.0 r.ref_ptr.1 ∷ vint w64 n ∷ vint w64 a ∷ []
-
-    abbrev Post : Val → SProp 𝓤
-    Post = (walk_of 𝓛 (ended Z) (stayed Z) held).post bound
-
-    -- a refusal meets the contract where both lifetimes are back
-    refusal_ends : ent 𝓤 (sep 𝓤 (A.lft κ₁ q₁) (sep 𝓤 (A.lft κ₂ q₂) (sem 𝓛 ftrue))) (Post (answer_val false 0 0))
-    refusal_ends =
-        qed 𝓛 (‵ (flft κ₁ q₁) ∷ (‵ (flft κ₂ q₂) ⊛ ‵ ftrue) ∷ []) ∵ nothing ! $
-        suffices ! _ (ends_at 𝓛 (ended Z) (stayed Z) held bound (answer_val false 0 0) (Err (record {})) (tt, (tt, (tt, tt))) (tt, (tt, (tt, tt)))) $
-        use0 𝓛 (‵ (Answer.own_val (Err (record {})) (answer_val false 0 0 ∷ []))) (Answer-err 𝓛) $
-        nothing ! $ nothing ! $ fjoin ! $ nothing ! $ fjoin ! $ nothing ! $ fjoin ! $ join ! $
-        move ! (2 ∷ 3 ∷ []) $ join ! $ join ! $ done !
-
-    walk : n < 2 ^ 64 → a < 2 ^ 64 →
-        ent 𝓤 ((walk_of 𝓛 (ended Z) (stayed Z) held).pre bound) (WpFn 𝓤 H 𝓣.C 𝓣.Λ (here Z) vs Post)
-    walk fn fa =
-        let h : Z.row.Denot = r.now.inner in
-        let p : ℕ × ℕ = (r.ref_ptr.0, r.ref_ptr.1 + up (align (α Z)) 0) in
-        let c : ℕ × ℕ = (r.ref_ptr.0, r.ref_ptr.1 + up 8 (up (align (α Z)) 0 + size (α Z))) in
-        let y : (Takes Z 𝓛 at_mem run).Ghost = at_takes Z 𝓛 at_mem run κ₁ q₁ p h n a τ in
-        let Said : Type 0 = (capped (size τ) ≡ n) × (capped (align τ) ≡ a) in
-        -- what the call is given: the lifetimes, the inner allocator and the cell
-        qed 𝓛 (((‵ (flft κ₁ q₁) ⊛ ‵ (flft κ₂ q₂) ⊛ ‵ ftrue) ⊛ ‵ (owns (types_at (ended Z).signature.params bound.0.0) bound.0.3 bound.0.4)) ∷ (raw (fact 𝓤 (κ₂ ⊑ Z.row.lives)) ⊛ raw (fact 𝓤 Said)) ∷ []) ∵
-        move ! (1 ∷ []) $ split ! $ heard ! (κ₂ ⊑ Z.row.lives) (λ le. heard ! Said (λ said.
-        split ! $ split ! $ move ! (2 ∷ []) $ fsplit ! $ fsplit ! $ move ! (1 ∷ []) $ unhide ! $ fsplit ! $ fsplit ! $
-        use1 𝓛 (‵ (seen Z κ₁ p h)) (id⊢ 𝓤 _) $ move ! (1 ∷ []) $ fsplit ! $ keep ! (0 ∷ 6 ∷ 2 ∷ 7 ∷ []) $
-        enter ! 𝓣.C 𝓣.Λ (here Z) vs _ $ alloc_all ! (λ l. pass_all ! refl ((tt, tt), ((tt, record { fits = fn }), ((tt, record { fits = fa }), tt))) $
-        -- the cell is lent to `refuses`
-        sets ! (addr ! (through ! refl (fld ! refl (stop !)))) refl (tt, tt) $
-        use2 𝓛 (raw ((Refuses 𝓛 at_mem run).pre (at_refuses 𝓛 at_mem run κ₁ q₁ c))) (Refuses-goes 𝓛 at_mem run κ₁ q₁ c) $
-        calls_at ! (fm_of 𝓤 H 𝓛.laws 𝓣) (Refuses 𝓛 at_mem run) refuses (at_refuses 𝓛 at_mem run κ₁ q₁ c) (and_then ! (get ! refl) (no_more !)) (λ u.
-        use1 𝓛 (later (some (λ (refused : Bool). given (u ≡ vbool refused) (‵ (flft κ₁ q₁))))) (Refuses-gives 𝓛 at_mem run κ₁ q₁ c u) $
-        await ! tt $ pick ! (λ refused. learn ! (λ eu. lands_as ! eu refl (tt, tt) $
-        let En : Env 𝓤 H = env (here Z).locals l in
-        first ! $ branches ! (get ! refl)
-        -- it refuses: the error is answered
-        (λ t. sets ! (agg ! (no_more !)) refl (tt, tt) $
-        sets ! (agg ! (and_then ! (lit ! tt) (and_then ! (get ! refl) (no_more !)))) refl (Answer-typed false 0 0) $
-        returns_within ! Post refl (look_at ! 0 refl) $ free_all ! refl $ keep ! (0 ∷ 2 ∷ []) $ by ! refusal_ends)
-        -- a block was left: the inner allocator answers
-        (λ t. skips ! $ exec ! 𝓣.C 𝓣.Λ En (after 3 (here Z).body) (at_ret En Post) $
-        move ! (1 ∷ []) $
-        sets ! (addr ! (through ! refl (fld ! refl (stop !)))) refl (tt, tt) $
-        use2 𝓛 (raw ((Takes Z 𝓛 at_mem run).pre y))
-        (Takes-goes Z 𝓛 at_mem run κ₁ q₁ p h (⊑_trans κ₁ κ₂ Z.row.lives inn le) n a τ said.0 said.1 fn fa) $
-        calls_at ! (fm_of 𝓤 H 𝓛.laws 𝓣) (Takes Z 𝓛 at_mem run) takes y
-        (and_then ! (get ! refl) (and_then ! (get ! refl) (and_then ! (get ! refl) (no_more !)))) (λ v.
-        use1 𝓛 (later (raw (Answered Z 𝓛 at_mem run h τ v) ⊛ ‵ (flft κ₁ q₁))) (Takes-gives Z 𝓛 at_mem run κ₁ q₁ p h n a τ v) $
-        await ! tt $ split ! $
-        answers Z ! at_mem run h τ v
-        (λ b o e. fjoin ! $ lands_as ! e refl (Answer-typed true b o) $ returns ! (look_at ! 0 refl) $ free_all ! refl $
-        suffices ! _ (ends_at 𝓛 (ended Z) (stayed Z) held bound (answer_val true b o) (Ok (block_ptr b o)) (tt, (tt, (tt, tt))) (tt, (tt, (tt, tt)))) $
-        use0 𝓛 (‵ (Answer.own_val (Ok (block_ptr b o)) (answer_val true b o ∷ []))) (Answer-Ok 𝓛 b o) $
-        nothing ! $ nothing ! $ fjoin ! $ nothing ! $ fjoin ! $ nothing ! $ fjoin ! $ join ! $
-        move ! (2 ∷ 3 ∷ []) $ join ! $ join ! $ done !)
-        (λ e. lands_as ! e refl (Answer-typed false 0 0) $ returns ! (look_at ! 0 refl) $ free_all ! refl $ by ! refusal_ends)))))))))
-
-pub allocate_spec : {M : Type 1} → stated.statement M
-unfolding tables_of
-allocate_spec 𝓤 𝓛 𝓜 𝓡 wired Y L g d d' met _ =
-    let Z : Al = record { row = Y; laws = L; g = g; d = d; drops = d' } in
-    let A = 𝓛.A in
-    let 𝓣 : Tables 𝓤 𝓛.H = tables_of 𝓤 𝓛.H 𝓜 (tables 𝓤 𝓛.H 𝓜 𝓡 𝓡.env) in
-    let c = F.clauses Y g d d' 𝓛 𝓜.mem 𝓡.returns in
-    entered 𝓤 𝓛.H (triple_of 𝓛 (F.signature Y) (F.spec Y g d d' 𝓛 𝓜.mem 𝓡.returns)) 𝓣.C 𝓣.Λ (key.name (args Z)) (here Z) (code.unfolded 𝓤 𝓛.H 𝓜 𝓡 wired (Y, tt) d d')
-    (walk_Meets 𝓛 (ended Z) (stayed Z) (Goes-dropped 𝓛 2 (self Z) yes (λ κs x f. refl), (Goes-dropped 𝓛 2 (plain (λ _. usize)) yes (λ κs x f. refl), (Goes-dropped 𝓛 2 (plain (λ _. usize)) yes (λ κs x f. refl), tt))) c (WpFn 𝓤 𝓛.H 𝓣.C 𝓣.Λ (here Z)) (WpFn-mono 𝓤 𝓛.H 𝓛.laws 𝓣 (here Z))
-    (walked 𝓛 (ended Z) (stayed Z) c (WpFn 𝓤 𝓛.H 𝓣.C 𝓣.Λ (here Z)) (λ κs. (shr_vals, (uint_vals w64, (uint_vals w64, tt)))) (λ κs. ((λ r vs s. s.0), (uint_Tells w64, (uint_Tells w64, tt))))
-    (λ κs qs bounds a τ are. walk Z 𝓛 𝓜.mem 𝓡.returns 𝓣 (met.allocate d') (cited 𝓤 𝓛.H _ 𝓜 𝓡 𝓡.env refuses_symbol.name (𝓡.env refuses_symbol.name) refl (refuses_met.met 𝓤 𝓛 𝓜 𝓡 (code.calls-rationed::refuses 𝓡.env wired))) κs.0 κs.1.0 qs.0 qs.1.0 bounds.0 a.0 a.1.0 a.1.1.0 τ are.1.0.1 are.1.1.0.1)))
+pub allocate_spec : {M : Type 1} → statement M
+allocate_spec 𝓤 𝓛 𝓜 𝓡 wired B laws ghosts methods drops met glue =
+    let S = passed.signature B in
+    let c = passed.spec B ghosts methods drops 𝓛 𝓜.mem 𝓡.returns in
+    let Inner = triple_of 𝓛 S c in
+    let test = refuses.spec B ghosts methods drops 𝓛 𝓜.mem 𝓡.returns in
+    let Test = triple_of 𝓛 (refuses.signature B) test in
+    let tested = refuses_met 𝓤 𝓛 𝓜 𝓡 (code.calls-rationed::Rationed::refuses 𝓡.env wired) B laws ghosts methods drops met glue in
+    let 𝓣 = tables 𝓤 𝓛.H 𝓜 𝓡 𝓡.env in
+    let body = inst_fn (over B methods drops) code.function in
+    let after_test = inst_fn (over B methods drops) (record code.function { body = code.Mir.t-3 }) in
+    passed_on B 𝓛 sizes S.result c stored 𝓜 𝓡 body
+    laws sizes_tell (code.unfolded 𝓤 𝓛.H 𝓜 𝓡 wired (B, tt) methods drops)
+    (λ κs qs bounds r a are ty.
+    let x : Inner.Ghost = ((κs, qs, bounds, (inner B r, a), (shr_vals (inner B r), valss (types_at sizes κs) (stored κs) a)), ty) in
+    let t : Test.Ghost = ((κs, qs, bounds, (r, tt), (shr_vals r, tt)), tt) in
+    let Held = Tokens 𝓛 S c x in
+    let Asked = (c κs x.0.3).requires ty in
+    let Lent = lent (Ration B) κs.0 r in
+    let Within = κs.1.0 ⊑ B.lives in
+    -- the ration is asked by its own loan
+    let asks : Within → ent 𝓤 (sep 𝓤 Held (sem 𝓛 Lent)) (Test.pre t) = λ within.
+    qed 𝓛 (raw Held ∷ ‵ Lent ∷ []) ∵ nothing ! $ move ! (2 ∷ 0 ∷ []) $ fjoin ! $ move ! (1 ∷ 0 ∷ []) $ join ! $
+    nothing ! $ use0 𝓛 (raw (fact 𝓤 Within)) (fact_i 𝓤 Within (emp 𝓤) within) $ join ! $ move ! (1 ∷ 0 ∷ []) $ done ! in
+    -- with an error nothing is promised
+    let error : Val = answer_val false 0 0 in
+    let E : Ended = passed.ended B ghosts methods drops in
+    let refused : ent 𝓤 Held (Inner.post x error) =
+    qed 𝓛 (raw Held ∷ []) ∵ use0 𝓛 (raw (Promise 𝓛 S c x (Err alloc_error)))
+    (qed 𝓛 [] ∵ show ! (λ (ws : Lasts E κs x.0.3). sep 𝓤 (sem 𝓛 (lasts E κs x.0.3 ws)) (emp 𝓤)) (tt, (tt, (tt, tt))) $
+    nothing ! $ nothing ! $ nothing ! $ nothing ! $ fjoin3 ! $ nothing ! $ fjoin ! $ done !) $
+    use0 𝓛 (‵ (Owned 𝓛 S c x (Err alloc_error) error)) (Answer-err 𝓛) $
+    move ! (2 ∷ 0 ∷ []) $ by ! (gives 𝓛 S c x (Err alloc_error) error) in
+    qed 𝓛 (‵ Lent ∷ ((raw Held ⊛ ‵ (owns (types_at S.params κs) x.0.3 x.0.4)) ⊛ raw Asked) ∷ []) ∵
+    move ! (1 ∷ []) $ split ! $ move ! (1 ∷ []) $
+    use1 𝓛 (given Within (raw Asked)) (fact_use 𝓤 Within (fst∗ 𝓤 (fact 𝓤 Within) (fact 𝓤 (HasLayout ty a.0 a.1.0)))
+    (λ within. guard_i 𝓤 Within Asked within)) $ learn ! (λ within. enter ! _ _ _ _ _ $ alloc_all ! (λ l.
+    pass_all ! refl ((tt, tt), ((tt, record { fits = are.0.1 }), ((tt, record { fits = are.1.0.1 }), tt))) $
+    -- [what the inner call asks; its tokens and arguments; the ration's loan]
+    move ! (1 ∷ []) $ split ! $ move ! (0 ∷ 3 ∷ []) $ use2 𝓛 (raw (Test.pre t)) (asks within) $
+    calls 𝓛 (refuses.signature B) test 𝓜 𝓡 ! tested t (and_then ! (get ! refl) (no_more !)) (λ v refusal is.
+    lands_as ! (ap only is) refl (tt, tt) $ first ! $ branches ! (get ! refl)
+    (λ _. sets ! (agg ! (no_more !)) refl (tt, tt) $
+    sets ! (agg ! (and_then ! (lit ! tt) (and_then ! (get ! refl) (no_more !)))) refl (Answer-typed false 0 0) $
+    returns_within ! (Inner.post x) refl (look_at ! 0 refl) $ free_all ! refl $ keep ! (0 ∷ []) $ by ! refused)
+    -- [the tokens; the test's answer and promise; the inner call's arguments; what it asks]
+    (λ _. skips ! $ exec ! 𝓣.C 𝓣.Λ (env body.locals l) after_test.body (at_ret (env body.locals l) (Inner.post x)) $
+    move ! (0 ∷ 3 ∷ []) $ join ! $ move ! (0 ∷ 3 ∷ []) $ join ! $ use1 𝓛 (raw (Inner.pre x)) (id⊢ 𝓤 _) $
+    sets ! (addr ! (through ! refl (fld ! refl (stop !)))) refl (tt, tt) $
+    calls 𝓛 S c 𝓜 𝓡 ! (met.allocate drops) x (and_then ! (get ! refl) (and_then ! (get ! refl) (and_then ! (get ! refl) (no_more !))))
+    (λ v answer is. lands_as ! refl refl ((Answer-laws.lawful 𝓛).typed answer (v ∷ []) is).0 $
+    returns ! (look_at ! 0 refl) $ free_all ! refl $ keep ! (0 ∷ 1 ∷ 2 ∷ []) $ by ! (gives 𝓛 S c x answer v)))))))
