@@ -7,6 +7,7 @@ use std::cell::Cell;
 /// An allocator that hands out a ration of blocks of another one, and then refuses. A `&Rationed` is
 /// an allocator that may be copied, so that a test can go on changing the ration. A collection that
 /// grows takes a new block.
+#[derive(Drop)]
 pub struct Rationed<B: Allocator> {
     inner: B,
     left: Cell<u64>,
@@ -33,15 +34,13 @@ impl<B: Allocator> Rationed<B> {
 
     /// Whether no block is left of the ration; else one of them is spent.
     fn refuses(&self) -> bool {
-        let blocks = self.left.get();
-        self.left.set(blocks.saturating_sub(1));
-        blocks == 0
-    }
-}
-
-impl<B: Allocator> Drop for Rationed<B> {
-    fn drop(self) {
-        let Rationed { inner: _, left: _ } = self;
+        match self.left.get().checked_sub(1) {
+            Some(rest) => {
+                self.left.set(rest);
+                false
+            }
+            None => true,
+        }
     }
 }
 
