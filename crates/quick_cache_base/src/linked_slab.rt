@@ -1,17 +1,18 @@
 //! A slab: items in slots that tokens name, the occupied ones linked into rings, the free ones into a list.
 ghost use Rattle.std.specs.Prelude.{◌≡◌, ◌≢◌, ◌⊎◌, ◌↔◌, ◌+◌, ◌-◌, ◌<◌, ◌≤◌, min, [], ◌∷◌, ◌++◌, length, count_by, is_some, IsOk, IsNone, IfOk, IfErr, OnOk, OnErr, IfSome, OnSome, IfNone, MatchOption, Some, vec_len, vec_capacity};
-ghost use Rattle.std.specs.Option.{option_copied_mut};
 ghost use Rattle.std.specs.Int.NonZero.{non_zero_u32_get as number};
 ghost use Rattle.quick_cache_base.specs.LinkedSlab.{item_at, IsOccupied, ring_from, successor, next_token, IsFull, room_taken, placed, linked, unlinked, removed, IsNextOf, IsAlone, IsAloneIf, JoinsEnd, IsParted, items, entries_after, emptied, times};
 
 mod counts;
 mod drain;
+mod item;
 mod iter;
 mod links;
 mod unchecked;
 
 use crate::Refusal;
 pub use drain::Drain;
+pub use item::ItemMut;
 pub use iter::{Iter, IterFrom};
 pub use links::Token;
 use links::{Node, fill, is_occupied, link, unlink, vacate};
@@ -70,7 +71,7 @@ fn make_room<T, A: Allocator>(nodes: &mut Vec<Node<T>, A>) -> Result<(), AllocEr
 
 impl<T, A: Allocator> LinkedSlab<T, A> {
     ghost use Rattle.std.specs.Borrow.{sem};
-    ghost use Rattle.quick_cache_base.specs.SlabLends.{lends_item, lends_found};
+    ghost use Rattle.quick_cache_base.specs.SlabLends.{held_lender, held_slab, held_token, IsHeld, lends_item, rests_if_free};
     ghost use Rattle.quick_cache_base.specs.SlabDrain.{drain_rest, drain_room, drain_lender, DrainCanStep, DrainKeepsAlong};
 
     /// An empty slab with room for so many items, of the 4294967294 that a slab can have.
@@ -172,15 +173,24 @@ impl<T, A: Allocator> LinkedSlab<T, A> {
         links::get(self.nodes.as_slice(), token)
     }
 
-    /// The item of a token, for writing, or nothing at a free or unknown token. `get` tells the token behind it.
+    /// The item of a token, for writing, and the token behind it in its ring, or nothing at a free or unknown token.
     #[inline]
-    pub fn get_mut(&mut self, token: Token) -> Option<&mut T>
-        ensures* writes_back { sem 𝓛 (lends_found T.row A.row A.Allocator self.entry (number token)
-            result) }
-        ensures item { option_copied_mut result ≡ item_at self.old (number token) }
+    pub fn get_mut(&mut self, token: Token) -> Option<ItemMut<'_, T, A>>
+        ensures* unchanged { sem 𝓛 (rests_if_free T.row A.row A.Allocator self.entry result) }
+        ensures absent { IfNone result (item_at self.old (number token) ≡ None) }
+
+        // It holds this slab as it is, at this token.
+        ensures same_reference { IfSome result (λ held. held_lender held
+            ≡ self.entry.ghost_name) }
+        ensures slab { IfSome result (λ held. held_slab held ≡ self.old) }
+        ensures token { IfSome result (λ held. held_token held ≡ number token) }
+        ensures occupied { IfSome result (λ held. IsHeld held) }
     {
         if self.contains(token) {
-            Some(self.item_mut(token))
+            Some(ItemMut {
+                slab: self,
+                place: token.get(),
+            })
         } else {
             None
         }

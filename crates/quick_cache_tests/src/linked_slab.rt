@@ -1,5 +1,7 @@
 //! The slab's row, its iterators and its drain.
-ghost use Rattle.std.specs.Prelude.{◌≡◌};
+ghost use Rattle.std.specs.Prelude.{◌≡◌, OnSome, IfSome, IfNone};
+ghost use Rattle.std.specs.Int.NonZero.{non_zero_u32_get as number};
+ghost use Rattle.quick_cache_base.specs.LinkedSlab.{successor, with_item};
 
 use quick_cache_base::linked_slab::{LinkedSlab, Token};
 use std::alloc::Global;
@@ -47,6 +49,18 @@ fn take(slab: &mut Slab, token: u32) -> Option<(u32, Option<u32>)> {
     Some((item, next.map(|next| next.get())))
 }
 
+// Writes over an item, and tells the token behind it.
+fn write(slab: &mut Slab, token: Token, item: u32) -> Option<Token>
+    ensures absent { IfNone result (slab.new ≡ slab.old) }
+    ensures written { OnSome result (slab.new ≡ with_item slab.old (number token) item) }
+    ensures next { IfSome result (λ next. number next ≡ successor slab.old (number token)) }
+{
+    let held = slab.get_mut(token)?;
+    let next = held.next_token();
+    *held.into_mut() = item;
+    Some(next)
+}
+
 fn filled(rt: &impl Abort, alloc: Global) -> Result<Slab, Fail> {
     let Ok(mut slab) = LinkedSlab::with_capacity(alloc, 3) else {
         return Err("refused")?;
@@ -86,10 +100,12 @@ fn reads_and_writes(rt: HostRuntime) -> Result<(), Fail> {
     let mut slab = filled(&rt, rt.alloc())?;
     assert_eq!(rt; slab.reserve(100), Ok(()));
     let two = Token::new(2).ok_or("zero")?;
-    if let Some(item) = slab.get_mut(two) {
-        *item = 21;
-    }
+    assert_eq!(rt; write(&mut slab, two, 21).map(|next| next.get()), Some(2));
     assert_eq!(rt; look(&slab, 2), Some((21, 2)));
+    assert_eq!(rt; join(&mut slab, 2, 1), Some(1));
+    assert_eq!(rt; write(&mut slab, two, 20).map(|next| next.get()), Some(1));
+    assert_eq!(rt; part(&mut slab, 2), Some(Some(1)));
+    assert!(rt; write(&mut slab, Token::new(9).ok_or("zero")?, 90).is_none());
     if slab.get(two).is_some() {
         let (item, next) = unsafe { slab.get_mut_unchecked(two) };
         assert_eq!(rt; next.get(), 2);
