@@ -61,6 +61,44 @@ fn write(slab: &mut Slab, token: Token, item: u32) -> Option<Token>
     Some(next)
 }
 
+// Walks a ring until it closes, and notes its tokens, which were in no ring before.
+fn walk(rt: &impl Abort, slab: &Slab, start: Token, seen: &mut Vec<u32>) -> Result<(), Fail> {
+    let mut token = start;
+    for _ in 0..slab.len() {
+        assert!(rt;
+            !seen.contains(&token.get()),
+            "{} is in two rings",
+            token.get()
+        );
+        seen.push(token.get())?;
+        let (_, next) = slab.get(token).ok_or("a ring has a free token")?;
+        if next.get() == start.get() {
+            return Ok(());
+        }
+        token = next;
+    }
+    Err("a ring that does not close")?
+}
+
+// Each ring closes, each item is in one ring, `len` counts them, and the next free token has none.
+fn validate(rt: &impl Abort, alloc: Global, slab: &Slab) -> Result<(), Fail> {
+    let mut items = Vec::new(alloc);
+    for item in slab.iter_entries() {
+        items.push(*item)?;
+    }
+    assert_eq!(rt; items.len(), slab.len());
+    let mut seen = Vec::new(alloc);
+    for (token, item) in slab.iter_from(None) {
+        assert_eq!(rt; look(slab, token.get()).map(|found| found.0), Some(*item));
+        if !seen.contains(&token.get()) {
+            walk(rt, slab, token, &mut seen)?;
+        }
+    }
+    assert_eq!(rt; seen.len(), slab.len());
+    assert!(rt; slab.get(slab.next_free()).is_none());
+    Ok(())
+}
+
 fn filled(rt: &impl Abort, alloc: Global) -> Result<Slab, Fail> {
     let Ok(mut slab) = LinkedSlab::with_capacity(alloc, 3) else {
         return Err("refused")?;
@@ -74,8 +112,11 @@ fn filled(rt: &impl Abort, alloc: Global) -> Result<Slab, Fail> {
 #[test]
 fn links_unlinks_and_removes(rt: HostRuntime) -> Result<(), Fail> {
     let mut slab = filled(&rt, rt.alloc())?;
+    validate(&rt, rt.alloc(), &slab)?;
     assert_eq!(rt; join(&mut slab, 2, 1), Some(1));
+    validate(&rt, rt.alloc(), &slab)?;
     assert_eq!(rt; join(&mut slab, 3, 1), Some(1));
+    validate(&rt, rt.alloc(), &slab)?;
     for (token, item, next) in [(1, 10, 2), (2, 20, 3), (3, 30, 1)] {
         assert_eq!(rt;
             look(&slab, token),
@@ -84,13 +125,20 @@ fn links_unlinks_and_removes(rt: HostRuntime) -> Result<(), Fail> {
         );
     }
     assert_eq!(rt; part(&mut slab, 1), Some(Some(2)));
+    validate(&rt, rt.alloc(), &slab)?;
     assert_eq!(rt; look(&slab, 1), Some((10, 1)));
     assert_eq!(rt; take(&mut slab, 2), Some((20, Some(3))));
+    validate(&rt, rt.alloc(), &slab)?;
     assert_eq!(rt; take(&mut slab, 3), Some((30, None)));
+    validate(&rt, rt.alloc(), &slab)?;
     assert_eq!(rt; take(&mut slab, 9), None);
+    validate(&rt, rt.alloc(), &slab)?;
     assert_eq!(rt; take(&mut slab, 3), None);
+    validate(&rt, rt.alloc(), &slab)?;
     assert_eq!(rt; store(&mut slab, 40)?, 3);
+    validate(&rt, rt.alloc(), &slab)?;
     assert_eq!(rt; store(&mut slab, 50)?, 2);
+    validate(&rt, rt.alloc(), &slab)?;
     assert_eq!(rt; slab.next_free().get(), 4);
     Ok(())
 }
@@ -106,6 +154,7 @@ fn reads_and_writes(rt: HostRuntime) -> Result<(), Fail> {
     assert_eq!(rt; write(&mut slab, two, 20).map(|next| next.get()), Some(1));
     assert_eq!(rt; part(&mut slab, 2), Some(Some(1)));
     assert!(rt; write(&mut slab, Token::new(9).ok_or("zero")?, 90).is_none());
+    validate(&rt, rt.alloc(), &slab)?;
     if slab.get(two).is_some() {
         let (item, next) = unsafe { slab.get_mut_unchecked(two) };
         assert_eq!(rt; next.get(), 2);
@@ -125,6 +174,7 @@ fn reads_and_writes(rt: HostRuntime) -> Result<(), Fail> {
 fn goes_by_ascending_token(rt: HostRuntime) -> Result<(), Fail> {
     let mut slab = filled(&rt, rt.alloc())?;
     assert_eq!(rt; take(&mut slab, 2), Some((20, None)));
+    validate(&rt, rt.alloc(), &slab)?;
     let mut seen = Vec::new(rt.alloc());
     for item in slab.iter() {
         seen.push(*item)?;
@@ -150,8 +200,10 @@ fn a_drain_empties_the_slab(rt: HostRuntime) -> Result<(), Fail> {
         let mut drain = slab.drain();
         assert_eq!(rt; drain.next(), Some(10));
     }
+    validate(&rt, rt.alloc(), &slab)?;
     assert_eq!(rt; slab.len(), 0);
     assert_eq!(rt; slab.next_free().get(), 1);
     assert_eq!(rt; store(&mut slab, 60)?, 1);
+    validate(&rt, rt.alloc(), &slab)?;
     Ok(())
 }
