@@ -1,10 +1,11 @@
 -- What the calls do to the list of free tokens.
-use Rattle.std.proofs.Common.{◌≡◌, ◌≢◌, ◌⊎◌, ℕ, zero, suc, ◌+◌, ◌<◌, ◌≤◌, Bool, true, false, true≢false, cond, eqb, List, [], ◌∷◌, ◌++◌, length, Option, Some, None, is_some, refl, sym, ap, subst, ◌∙◌, inl, inr, arith}
+use Rattle.std.proofs.Common.{◌≡◌, ◌≢◌, ℕ, ◌+◌, ◌<◌, ◌≤◌, true, false, true≢false, cond, eqb, List, [], ◌∷◌, ◌++◌, length, Option, Some, None, is_some, refl, sym, ap, subst, ◌∙◌, inl, inr, arith}
 use Rattle.std.proofs.lemmas.Bool.{cases_eq, eq-eqb, ne_eqb, lt-ltb, le-ltb}
 use Rattle.std.proofs.lemmas.List.{length_push}
-use Rattle.quick_cache_base.specs.LinkedSlab.{at_token, with_token, first_or, times}
+use Rattle.quick_cache_base.specs.LinkedSlab.{with_token, first_or, times}
 use Rattle.quick_cache_base.specs.Links.{LeadsFree, link_of, free_of, is_taken, AreFree}
-use Rattle.quick_cache_base.proofs.RingLemmas.{zero_from_none, times-here, times-other, length_once, walk_free_list}
+use Rattle.quick_cache_base.proofs.TimesLemmas.{zero_from_none, times-here, times-other, length_once}
+use Rattle.quick_cache_base.proofs.RingLemmas.{walk_free_list}
 use Rattle.quick_cache_base.proofs.SlotLemmas.{length-with_token, at_token-with_same, at_token-with_other, at_token-push_same, at_token-push_other, taken_within}
 
 LeadsFree-frame : (next next' : ℕ → ℕ) (xs : List ℕ) → ((t : ℕ) → 0 < times t xs → next' t ≡ next t) → LeadsFree next xs → LeadsFree next' xs

@@ -32,6 +32,7 @@ pub mod PlaceholderLaws
 pub mod PowersOfTwo
 pub mod QueryLaws
 pub mod RemovalLaws
+pub mod RingChangeLemmas
 pub mod RingLaws
 pub mod RingLemmas
 pub mod RoomLaws
@@ -42,6 +43,7 @@ pub mod SlotLemmas
 pub mod TableLemmas
 pub mod TestLemmas
 pub mod TicketLemmas
+pub mod TimesLemmas
 pub mod TokenLemmas
 pub mod TouchLaws
 pub mod ValidEdits

@@ -1,10 +1,11 @@
 -- What a link, an insert and a removal do to the slots and their links, seen as rings.
-use Rattle.std.proofs.Common.{◌≡◌, ◌≢◌, ◌⊎◌, ℕ, zero, suc, ◌+◌, ◌-◌, ◌<◌, ◌≤◌, Bool, true, false, true≢false, cond, eqb, List, [], ◌∷◌, ◌++◌, length, map, Option, Some, None, is_some, refl, sym, ap, subst, ◌∙◌, inl, inr, arith}
+use Rattle.std.proofs.Common.{◌≡◌, ◌≢◌, ℕ, ◌+◌, ◌<◌, ◌≤◌, true, false, true≢false, cond, eqb, List, [], ◌∷◌, ◌++◌, length, map, Option, Some, None, is_some, refl, sym, ap, subst, ◌∙◌, inl, inr, arith}
 use Rattle.std.proofs.lemmas.Bool.{cases_eq, cases_Bool, eq-eqb, ne_eqb}
 use Rattle.std.proofs.lemmas.List.{length-map, length_push}
-use Rattle.quick_cache_base.specs.LinkedSlab.{at_token, with_token, joined, before_head}
-use Rattle.quick_cache_base.specs.Links.{IsRing, AreRings, link_of, is_taken, ring_at, rings_of, AreLinked, Links}
-use Rattle.quick_cache_base.proofs.RingLemmas.{held-next, before, only_itself, out_of_ring, IsRing-alone, IsRing-joined, IsRing-of_joined, IsLinkedIn, AreRings-linked, IsPlaced, IsRing-placed, AreRings-placed, IsVacated, IsRing-vacated, AreRings-vacated}
+use Rattle.quick_cache_base.specs.LinkedSlab.{at_token, with_token, joined}
+use Rattle.quick_cache_base.specs.Links.{link_of, is_taken, ring_at, rings_of, AreLinked, Links}
+use Rattle.quick_cache_base.proofs.RingLemmas.{out_of_ring, IsRing-alone, IsRing-joined, IsRing-of_joined}
+use Rattle.quick_cache_base.proofs.RingChangeLemmas.{before, only_itself, IsLinkedIn, AreRings-linked, IsPlaced, IsRing-placed, AreRings-placed, IsVacated, IsRing-vacated, AreRings-vacated}
 use Rattle.quick_cache_base.proofs.SlotLemmas.{length-with_token, at_token-with_same, at_token-with_other, at_token-map, at_token-push_same, at_token-push_other, at_token-past, taken_within, ring_at-is, ring_at-free, length-rings_of, at_token-rings_of, rings_of-is}
 
 module _ {T : Type 0} where

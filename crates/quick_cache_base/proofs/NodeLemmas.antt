@@ -1,11 +1,11 @@
 -- What reads and writes of nodes are to their items and links.
-use Rattle.std.proofs.Common.{◌≡◌, ℕ, ◌+◌, ◌<◌, ◌≤◌, true, List, [], ◌∷◌, ◌++◌, length, map, get_or, set, None, sym, ap, ◌∙◌, arith}
+use Rattle.std.proofs.Common.{◌≡◌, ℕ, ◌+◌, ◌≤◌, true, List, [], ◌∷◌, ◌++◌, length, map, get_or, set, None, sym, ap, ◌∙◌, arith}
 use Rattle.std.proofs.lemmas.List.{map-set, set-get_or, get_or-map, length-map, map_push}
 use Rattle.std.specs.Int.NonZero.{non_zero_u32_get}
 use Rattle.quick_cache_base.specs.LinkedSlab.{at_token, with_token}
 use Rattle.quick_cache_base.specs.Links.{link_of, is_taken, AreLinked, slots_of, nexts_of, prevs_of}
 use Rattle.quick_cache_base.specs.declared.linked_slab.links.Node.{Node}
-use Rattle.quick_cache_base.proofs.RingLemmas.{before, held-next}
+use Rattle.quick_cache_base.proofs.RingChangeLemmas.{before, held-next}
 use Rattle.quick_cache_base.proofs.SlotLemmas.{with_token-suc, at_token-suc, get_or-map_all, taken_within}
 
 map-set_kept : {X Y : Type 0} (f : X → Y) (xs : List X) (i : ℕ) (x d : X) → f x ≡ f (get_or xs i d) → map f (set xs i x) ≡ map f xs

@@ -1,11 +1,11 @@
 -- The rings of a sound slab part its occupied tokens.
-use Rattle.std.proofs.Common.{◌≡◌, ◌≢◌, ◌⊎◌, ◌↔◌, ℕ, suc, ◌+◌, ◌<◌, ◌≤◌, Bool, true, false, cond, eqb, List, [], ◌∷◌, ◌++◌, length, map, Option, Some, None, is_some, IfSome, true≢false, refl, sym, ap, subst, ◌∙◌, inl, inr, arith, append-nil}
-use Rattle.std.proofs.lemmas.Bool.{cases_Bool, eqb-false, eq-eqb, ne_eqb}
+use Rattle.std.proofs.Common.{◌≡◌, ◌≢◌, ◌↔◌, ℕ, ◌<◌, ◌≤◌, Bool, true, false, eqb, List, [], ◌∷◌, ◌++◌, map, Option, Some, None, is_some, IfSome, true≢false, refl, sym, ap, subst, ◌∙◌, inl, inr, arith, append-nil}
+use Rattle.std.proofs.lemmas.Bool.{cases_Bool, eq-eqb}
 use Rattle.std.specs.Int.NonZero.{non_zero_u32_get}
 use Rattle.std.specs.declared.num.NonZeroU32.{NonZeroU32 as Token}
-use Rattle.quick_cache_base.specs.LinkedSlab.{at_token, with_token, first_or, times, before_head, joined, without, ring_from, linked, unlinked, IsParted}
+use Rattle.quick_cache_base.specs.LinkedSlab.{at_token, first_or, times, before_head, joined, without, ring_from, linked, unlinked, IsParted}
 use Rattle.quick_cache_base.specs.Links.{Leads, IsRing, link_of, is_taken, ring_at, rings_of, view_of, AreLinked, IsSound}
-use Rattle.quick_cache_base.proofs.RingLemmas.{times-here, times-append}
+use Rattle.quick_cache_base.proofs.TimesLemmas.{times-here, times-append}
 use Rattle.quick_cache_base.proofs.SlotLemmas.{at_token-with_same, at_token-with_other, at_token-map, taken_within, ring_at-is, ring_at-free, length-rings_of, at_token-rings_of}
 use Rattle.quick_cache_base.proofs.SlabLemmas.{free_is, alone-to_link, alone-from_link}
 use Rattle.std.proofs.lemmas.List.{length-map}

@@ -4,9 +4,10 @@ use Rattle.std.proofs.lemmas.Bool.{cases_eq, eq-eqb, ne_eqb}
 use Rattle.std.proofs.lemmas.List.{set-set, length_push}
 use Rattle.std.specs.Int.NonZero.{non_zero_u32_get}
 use Rattle.std.specs.declared.num.NonZeroU32.{NonZeroU32 as Token}
-use Rattle.quick_cache_base.specs.LinkedSlab.{LinkedSlab, at_token, with_token, first_or, times, without, joined, room_taken, placed, linked, unlinked, removed, with_item, next_token, IsFull, successor, ring_from, IsNextOf}
+use Rattle.quick_cache_base.specs.LinkedSlab.{at_token, with_token, first_or, times, without, joined, room_taken, placed, linked, unlinked, removed, with_item, next_token, IsFull, successor, ring_from, IsNextOf}
 use Rattle.quick_cache_base.specs.Links.{link_of, free_of, is_taken, ring_at, rings_of, view_of, AreRings, AreLinked, AreFree, IsSound, Unlinks, Links}
-use Rattle.quick_cache_base.proofs.RingLemmas.{times-here, IsRing-frame}
+use Rattle.quick_cache_base.proofs.TimesLemmas.{times-here}
+use Rattle.quick_cache_base.proofs.RingLemmas.{IsRing-frame}
 use Rattle.quick_cache_base.proofs.SlotLemmas.{length-with_token, at_token-with_same, at_token-with_other, at_token-push_same, taken_within, rings_of-is, length-rings_of, ring_at-is, at_token-rings_of, successor-is}
 use Rattle.quick_cache_base.proofs.LinkLemmas.{Reuses-written, Grows-written, Vacates-written}
 use Rattle.quick_cache_base.proofs.FreeLemmas.{free_of-is, begins_after, AreFree-kept, AreFree-reuse, AreFree-grow, AreFree-vacate}

@@ -1,12 +1,13 @@
 -- What the calls do to the slots and their links, seen as rings and free tokens.
-use Rattle.std.proofs.Common.{◌≡◌, ◌≢◌, ◌⊎◌, ℕ, zero, suc, ◌+◌, ◌-◌, ◌<◌, ◌≤◌, Bool, true, false, true≢false, cond, eqb, ltb, List, [], ◌∷◌, ◌++◌, length, map, get_or, set, Option, Some, None, is_some, refl, sym, ap, subst, ◌∙◌, inl, inr, arith, length-set, length-append}
-use Rattle.std.proofs.lemmas.Bool.{cases_eq, cases_lt, cases_Bool, eqb-true, eqb-false, eq-eqb, ne_eqb, lt-ltb, le-ltb}
+use Rattle.std.proofs.Common.{◌≡◌, ◌≢◌, ◌⊎◌, ℕ, zero, suc, ◌+◌, ◌<◌, ◌≤◌, true, false, true≢false, cond, eqb, List, [], ◌∷◌, ◌++◌, length, map, get_or, set, Option, None, is_some, refl, sym, ap, subst, ◌∙◌, inl, inr, arith, length-set}
+use Rattle.std.proofs.lemmas.Bool.{cases_eq, cases_lt, cases_Bool, eq-eqb, ne_eqb}
 use Rattle.std.proofs.lemmas.List.{length-map, get_or-set_same, get_or-set_other, get_or_past, get_or_push, get_or_append_left, ext_get_or, length_push}
 use Rattle.std.proofs.lemmas.List.FromFn.{length-map-range_with_len, get_or-map-range_with_len}
-use Rattle.std.specs.List.{range_with_len}
-use Rattle.quick_cache_base.specs.LinkedSlab.{at_token, with_token, first_or, times, without, before_head, joined}
-use Rattle.quick_cache_base.specs.Links.{Leads, LeadsFree, IsRing, AreRings, walk, walk_free, link_of, free_of, is_taken, ring_at, rings_of, AreLinked, Unlinks}
-use Rattle.quick_cache_base.proofs.RingLemmas.{times-here, times-other, length_once, without_none, walk_ring, walk_free_list, held-next, before, IsRing-alone, IsRing-without, IsUnlinked, AreRings-unlinked, IsLinkedIn, AreRings-linked, IsPlaced, IsRing-placed, AreRings-placed, IsVacated, IsRing-vacated, AreRings-vacated}
+use Rattle.quick_cache_base.specs.LinkedSlab.{at_token, with_token, first_or, times, without}
+use Rattle.quick_cache_base.specs.Links.{IsRing, link_of, is_taken, ring_at, rings_of, AreLinked, Unlinks}
+use Rattle.quick_cache_base.proofs.TimesLemmas.{times-here, length_once, without_none}
+use Rattle.quick_cache_base.proofs.RingLemmas.{walk_ring, IsRing-alone, IsRing-without}
+use Rattle.quick_cache_base.proofs.RingChangeLemmas.{held-next, before, IsUnlinked, AreRings-unlinked}
 
 -- ---- what stands at a token
 

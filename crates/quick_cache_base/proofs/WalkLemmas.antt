@@ -1,13 +1,13 @@
 -- The items of a list of slots, as iterators come to them.
-use Rattle.std.proofs.Common.{◌≡◌, ◌⊎◌, ℕ, zero, suc, ◌+◌, ◌-◌, ◌<◌, ◌≤◌, min, List, [], ◌∷◌, length, get_or, set, map, take, drop, filter_map, Option, Some, None, refl, sym, ap, subst, ◌∙◌, inl, inr, arith}
+use Rattle.std.proofs.Common.{◌≡◌, ℕ, zero, suc, ◌+◌, ◌-◌, ◌<◌, ◌≤◌, min, List, [], ◌∷◌, length, get_or, set, take, drop, filter_map, Option, Some, None, refl, sym, ap, subst, ◌∙◌, inl, inr, arith}
 use Rattle.std.proofs.lemmas.Bool.{cases_lt, cases_eq}
 use Rattle.std.proofs.lemmas.List.{take_rest, drop-map, drop_all, get_or_past, length-map}
-use Rattle.quick_cache_base.specs.LinkedSlab.{at_token, with_token, entries_past, items}
+use Rattle.quick_cache_base.specs.LinkedSlab.{at_token, with_token, entries_past}
 use Rattle.quick_cache_base.specs.Links.{slots_of}
 use Rattle.quick_cache_base.specs.SlabDrain.{DrainKeeps, DrainKeepsAlong}
 use Rattle.quick_cache_base.specs.declared.linked_slab.links.Node.{Node}
 use Rattle.quick_cache_base.specs.declared.linked_slab.drain.Drain.{Drain}
-use Rattle.quick_cache_base.proofs.SlotLemmas.{length-with_token, at_token-suc, with_token-suc, at_token-with_same, at_token-with_other}
+use Rattle.quick_cache_base.proofs.SlotLemmas.{at_token-suc, with_token-suc, at_token-with_same, at_token-with_other}
 
 module _ {T : Type 0} where
   -- the entries past a place beyond the end are none

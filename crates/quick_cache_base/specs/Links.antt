@@ -1,5 +1,5 @@
 -- How a `LinkedSlab` lays out its slots. No public clause cites this module.
-use Rattle.std.specs.Prelude.{◌≡◌, ◌↔◌, ℕ, zero, suc, ◌+◌, ◌<◌, ◌≤◌, Bool, true, false, cond, eqb, ltb, List, [], ◌∷◌, length, map, Option, Some, None, is_some}
+use Rattle.std.specs.Prelude.{◌≡◌, ℕ, zero, suc, ◌+◌, ◌<◌, ◌≤◌, Bool, true, false, cond, eqb, ltb, List, [], ◌∷◌, length, map, Option, None, is_some}
 use Rattle.std.specs.List.{range_with_len}
 use Rattle.quick_cache_base.specs.LinkedSlab.{LinkedSlab, at_token, with_token, first_or, times, without, joined}
 use Rattle.std.specs.Int.NonZero.{non_zero_u32_get}

@@ -1,4 +1,4 @@
-use Rattle.std.proofs.Common.{◌-◌, Some, is_some, refl, sym, ap, ◌∙◌, vec_len, vec_capacity, arith}
+use Rattle.std.proofs.Common.{◌-◌, Some, is_some, refl, sym, ap, ◌∙◌, vec_len, vec_capacity}
 use Rattle.quick_cache_base.specs.declared.linked_slab.links.Node.{Node}
 use Rattle.quick_cache_base.proofs.NodeLemmas.{slots_of-with, nexts_of-set_kept, prevs_of-set_kept, item_read, next_read, taken_in_nodes}
 use Rattle.quick_cache_base.proofs.SlabLemmas.{successor-view, IsSound-rewritten, view-rewritten}

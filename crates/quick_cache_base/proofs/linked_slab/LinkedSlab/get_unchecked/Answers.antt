@@ -1,4 +1,4 @@
-use Rattle.std.proofs.Common.{◌-◌, is_some, true≢false, sym, ap, ◌∙◌, vec_len, vec_capacity, arith}
+use Rattle.std.proofs.Common.{◌-◌, is_some, true≢false, sym, ap, ◌∙◌, vec_len, vec_capacity}
 use Rattle.quick_cache_base.proofs.NodeLemmas.{item_read, next_read, taken_in_nodes}
 use Rattle.quick_cache_base.proofs.SlabLemmas.{successor-view}
 use Rattle.quick_cache_base.proofs.linked_slab.LinkedSlab.get_unchecked.Goals as goal

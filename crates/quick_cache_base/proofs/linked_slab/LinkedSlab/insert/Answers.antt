@@ -1,6 +1,6 @@
-use Rattle.std.proofs.Common.{◌≡◌, ◌≢◌, ◌⊎◌, ◌+◌, ◌-◌, ◌<◌, ◌≤◌, [], length, inl, inr, refl, sym, ◌∙◌, vec_len, vec_capacity, arith}
+use Rattle.std.proofs.Common.{◌≡◌, ◌≢◌, ◌⊎◌, ◌+◌, ◌-◌, [], length, inl, inr, refl, vec_len, vec_capacity, arith}
 use Rattle.std.proofs.lemmas.List.{with_items_is}
-use Rattle.quick_cache_base.specs.Links.{slots_of, nexts_of, link_of}
+use Rattle.quick_cache_base.specs.Links.{slots_of}
 use Rattle.quick_cache_base.proofs.NodeLemmas.{length-slots_of, slots_of-push, nexts_of-push, prevs_of-push}
 use Rattle.quick_cache_base.proofs.SlabLemmas.{none_free, some_free, next_after, room_after, Reused-at, Grown-at}
 use Rattle.quick_cache_base.proofs.linked_slab.LinkedSlab.insert.Goals as goal

@@ -1,6 +1,6 @@
-use Rattle.std.proofs.Common.{◌≡◌, ◌⊎◌, ◌-◌, ◌<◌, ◌≤◌, true, length, inl, inr, sym, ◌∙◌, vec_len, vec_capacity, arith}
+use Rattle.std.proofs.Common.{◌≡◌, ◌⊎◌, ◌-◌, ◌<◌, ◌≤◌, length, inl, inr, sym, ◌∙◌, vec_len, vec_capacity, arith}
 use Rattle.std.proofs.lemmas.List.{with_items_is}
-use Rattle.quick_cache_base.specs.Links.{slots_of, is_taken}
+use Rattle.quick_cache_base.specs.Links.{slots_of}
 use Rattle.quick_cache_base.proofs.NodeLemmas.{length-slots_of}
 use Rattle.quick_cache_base.proofs.SlabLemmas.{IsNextOf-is, Removes-by}
 use Rattle.quick_cache_base.proofs.linked_slab.LinkedSlab.remove.Goals as goal

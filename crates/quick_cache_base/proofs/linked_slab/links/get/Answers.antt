@@ -1,5 +1,4 @@
-use Rattle.std.proofs.Common.{None, sym, ap, ◌∙◌, arith}
-use Rattle.std.proofs.lemmas.List.{get_or_read}
+use Rattle.std.proofs.Common.{sym, ap, ◌∙◌, arith}
 use Rattle.quick_cache_base.proofs.NodeLemmas.{item_read, next_read}
 use Rattle.quick_cache_base.proofs.linked_slab.links.get.Goals as goal
 

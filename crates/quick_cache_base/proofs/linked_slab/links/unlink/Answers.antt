@@ -1,6 +1,6 @@
 use Rattle.std.proofs.Common.{◌≡◌, ◌≢◌, sym, ◌∙◌, arith}
 use Rattle.quick_cache_base.specs.Links.{link_of, nexts_of}
-use Rattle.quick_cache_base.proofs.NodeLemmas.{taken_in_nodes, next_in_nodes, prev_in_nodes}
+use Rattle.quick_cache_base.proofs.NodeLemmas.{taken_in_nodes, prev_in_nodes}
 use Rattle.quick_cache_base.proofs.SlotLemmas.{Unlinks-alone, Unlinks-written}
 use Rattle.quick_cache_base.proofs.linked_slab.links.unlink.Goals as goal
 

@@ -1,6 +1,5 @@
-use Rattle.std.proofs.Common.{◌≡◌, ℕ, suc, ◌+◌, ◌≤◌, None, length, refl, sym, ap, ◌∙◌, arith}
+use Rattle.std.proofs.Common.{◌≡◌, ℕ, suc, ◌+◌, ◌≤◌, None, length, refl, ap, arith}
 use Rattle.quick_cache_base.specs.LinkedSlab.{item_at, items}
-use Rattle.quick_cache_base.specs.SlabDrain.{DrainCanStep}
 use Rattle.quick_cache_base.proofs.SlotLemmas.{length-with_token}
 use Rattle.quick_cache_base.proofs.WalkLemmas.{first_left, none_left_past, none_passed_more}
 use Rattle.quick_cache_base.proofs.linked_slab.drain.DrainIterator.next.Goals as goal
