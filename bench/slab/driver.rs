@@ -1,4 +1,8 @@
 //! Times the proved slab, as a static library, against the slab of the Rust crate, and compares each answer.
+//!
+//! Each is linked at four places, 16 bytes apart, and the best of them counts: where a jump stands in its
+//! line of 32 bytes changes the time of such a short loop by a tenth and more.
+use std::arch::asm;
 use std::time::Instant;
 
 #[path = "rust_slab.rs"]
@@ -6,14 +10,30 @@ use std::time::Instant;
 mod rust_slab;
 use rust_slab::{LinkedSlab, Token};
 
-unsafe extern "C" {
-    fn slab_run(
-        kinds: *const u8, kinds_len: usize,
-        tokens: *const u32, tokens_len: usize,
-        heads: *const u32, heads_len: usize,
-        answers: *mut u64, answers_len: usize,
-    ) -> u64;
+type Run = unsafe extern "C" fn(
+    kinds: *const u8, kinds_len: usize,
+    tokens: *const u32, tokens_len: usize,
+    heads: *const u32, heads_len: usize,
+    answers: *mut u64, answers_len: usize,
+) -> u64;
+
+macro_rules! placed {
+    ($($name:ident),*) => {
+        unsafe extern "C" {
+            $(fn $name(
+                kinds: *const u8, kinds_len: usize,
+                tokens: *const u32, tokens_len: usize,
+                heads: *const u32, heads_len: usize,
+                answers: *mut u64, answers_len: usize,
+            ) -> u64;)*
+        }
+        const OURS: [Run; 4] = [$($name),*];
+    };
 }
+placed!(slab_run_0, slab_run_16, slab_run_32, slab_run_48);
+
+type RustRun = fn(&[u8], &[u32], &[u32], &mut [u64]) -> u64;
+const THEIRS: [RustRun; 4] = [rust_run::<0>, rust_run::<16>, rust_run::<32>, rust_run::<48>];
 
 #[derive(Clone, Copy)]
 struct Payload([u64; 8]);
@@ -21,7 +41,8 @@ struct Payload([u64; 8]);
 const REFUSED: u64 = u64::MAX;
 
 #[inline(never)]
-fn rust_run(kinds: &[u8], tokens: &[u32], heads: &[u32], answers: &mut [u64]) -> u64 {
+fn rust_run<const PLACE: usize>(kinds: &[u8], tokens: &[u32], heads: &[u32], answers: &mut [u64]) -> u64 {
+    unsafe { asm!(".balign 64", ".skip {place}, 0x90", place = const PLACE) };
     let mut slab: LinkedSlab<Payload> = LinkedSlab::with_capacity(0);
     for i in 0..kinds.len().min(tokens.len()).min(heads.len()).min(answers.len()) {
         let token = Token::new(tokens[i]).unwrap();
@@ -54,27 +75,41 @@ impl Calls {
     }
 }
 
-// The best time of several runs of each, in turn, in nanoseconds.
-fn times(calls: &Calls) -> (f64, f64) {
+// The best time of so many runs of each at each place, in turn, in nanoseconds.
+fn times(calls: &Calls, runs: usize) -> ([f64; 4], [f64; 4]) {
     let n = calls.kinds.len();
     let (mut ours, mut theirs) = (vec![0u64; n], vec![0u64; n]);
-    let (mut best_ours, mut best_theirs) = (f64::MAX, f64::MAX);
-    for _ in 0..9 {
-        let start = Instant::now();
-        let done = unsafe {
-            slab_run(calls.kinds.as_ptr(), n, calls.tokens.as_ptr(), n, calls.heads.as_ptr(), n, ours.as_mut_ptr(), n)
-        };
-        best_ours = best_ours.min(start.elapsed().as_nanos() as f64);
-        assert_eq!(done, n as u64);
-        let start = Instant::now();
-        rust_run(&calls.kinds, &calls.tokens, &calls.heads, &mut theirs);
-        best_theirs = best_theirs.min(start.elapsed().as_nanos() as f64);
-        assert!(ours == theirs, "the answers differ");
+    let (mut best_ours, mut best_theirs) = ([f64::MAX; 4], [f64::MAX; 4]);
+    for _ in 0..runs {
+        for place in 0..4 {
+            let start = Instant::now();
+            let done = unsafe {
+                OURS[place](
+                    calls.kinds.as_ptr(), n, calls.tokens.as_ptr(), n, calls.heads.as_ptr(), n, ours.as_mut_ptr(), n,
+                )
+            };
+            best_ours[place] = best_ours[place].min(start.elapsed().as_nanos() as f64);
+            assert_eq!(done, n as u64);
+            let start = Instant::now();
+            THEIRS[place](&calls.kinds, &calls.tokens, &calls.heads, &mut theirs);
+            best_theirs[place] = best_theirs[place].min(start.elapsed().as_nanos() as f64);
+            assert!(ours == theirs, "the answers differ");
+        }
     }
     (best_ours, best_theirs)
 }
 
+// The nanoseconds of each of a million operations, at each place, less the time of filling the slab.
+fn each(whole: [f64; 4], filling: [f64; 4]) -> [f64; 4] {
+    std::array::from_fn(|place| (whole[place] - filling[place]) / 1e6)
+}
+
+fn least(times: [f64; 4]) -> f64 {
+    times.into_iter().fold(f64::MAX, f64::min)
+}
+
 fn main() {
+    let runs = std::env::args().nth(1).map_or(9, |runs| runs.parse().expect("a number of runs"));
     for slots in [1_000u32, 100_000] {
         let mut seed = 88172645463325252u64;
         let mut random = move || {
@@ -93,7 +128,7 @@ fn main() {
             }
             calls
         };
-        let base = times(&setup());
+        let filling = times(&setup(), runs);
         for (name, kind) in [("get", 0u8), ("unlink and link", 3), ("remove and insert", 2)] {
             let mut calls = setup();
             for _ in 0..1_000_000 {
@@ -103,9 +138,11 @@ fn main() {
                     calls.add(1, token, 1);
                 }
             }
-            let (ours, theirs) = times(&calls);
-            let (ours, theirs) = (ours - base.0, theirs - base.1);
-            println!("{slots:>7} slots  {name:<18} {:>6.2} ns  Rust {:>6.2} ns  ratio {:.2}", ours / 1e6, theirs / 1e6, ours / theirs);
+            let (ours, theirs) = times(&calls, runs);
+            let (ours, theirs) = (each(ours, filling.0), each(theirs, filling.1));
+            let (best, rust) = (least(ours), least(theirs));
+            println!("{slots:>7} slots  {name:<18} {best:>6.2} ns  Rust {rust:>6.2} ns  ratio {:.2}", best / rust);
+            println!("    at each place {ours:.2?}  Rust {theirs:.2?}");
         }
     }
 }

@@ -23,7 +23,7 @@ pub(crate) struct Node<T> {
 pub(crate) fn place(token: Token) -> usize
     ensures { result + 1 ≡ number token }
 {
-    token.get() as usize - 1
+    (token.get() - 1) as usize
 }
 
 #[inline(always)]
