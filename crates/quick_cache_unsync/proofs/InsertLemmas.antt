@@ -1,6 +1,6 @@
 -- An insert that gives its pair back was refused: an insert that was made gives nothing back.
-use Rattle.std.proofs.Common.{◌≡◌, Bool, true, false, List, Option, Some, None, refl, ap, subst}
-use Rattle.std.specs.Prelude.{IsSome, is_some}
+use Rattle.std.proofs.Common.{◌≡◌, Bool, List, Option, Some, None, refl}
+use Rattle.std.specs.Prelude.{IsSome}
 use Rattle.quick_cache_base.specs.declared.refusal.Refusal.{Refusal}
 use Rattle.quick_cache_base.specs.CacheState.{CacheState}
 use Rattle.quick_cache_base.specs.Hooks.{Rules, Hooks, HookCall}

@@ -1,5 +1,5 @@
 -- A run, and one call more.
-use Rattle.std.proofs.Common.{◌≡◌, Bool, List, [], ◌∷◌, ◌++◌, length, refl, sym, subst, ◌∙◌, append_assoc, arith}
+use Rattle.std.proofs.Common.{◌≡◌, ◌<◌, ◌≤◌, Bool, List, [], ◌∷◌, ◌++◌, length, Vec, vec_len, vec_capacity, refl, sym, subst, ◌∙◌, append_assoc, arith}
 use Rattle.std.proofs.lemmas.List.{append-nil}
 use Rattle.quick_cache_base.specs.CacheState.{CacheState}
 use Rattle.quick_cache_base.specs.Hooks.{Rules, Hooks, HookCall, RunsHooks}
@@ -7,7 +7,12 @@ use Rattle.quick_cache_base.proofs.HookLaws.{RunsHooks-append}
 use Rattle.quick_cache_unsync.specs.declared.calls.Call.{Call}
 use Rattle.quick_cache_unsync.specs.declared.calls.Reply.{Reply}
 use Rattle.quick_cache_unsync.specs.CacheStep.{CacheStep}
-use Rattle.quick_cache_unsync.specs.CacheRun.{CacheRun, IsRun}
+use Rattle.quick_cache_unsync.specs.CacheRun.{CacheRun, IsRun, StopsWhereFull}
+
+-- what is not empty has a first item
+pub has_first : {X : Type 0} (xs : List X) → 0 < length xs → (x : X) × (behind : List X) × xs ≡ x ∷ behind
+has_first [] some = absurd (omega (arith, some))
+has_first (x ∷ xs) some = (x, xs, refl)
 
 module _ {K V : Type 0} (rules : Rules K V) (equal : K → K → Bool) where
   -- a step behind a run makes a longer one
@@ -39,6 +44,22 @@ module _ {K V : Type 0} (rules : Rules K V) (equal : K → K → Bool) where
   pub no_calls : {S : Type 0} (hooks : Hooks K V S) (old : CacheState K V) (first : S) (replies : List (Reply K V)) → replies ≡ []
       → IsRun rules equal hooks old first [] replies old first
   no_calls hooks old first replies none = rw none (record { hook_calls = []; steps = CacheRun.ends old; runs = refl })
+
+  -- no room for the reply to the first call
+  pub stops_at_first : {S M : Type 0} (hooks : Hooks K V S) (old : CacheState K V) (first : S) (replies : Vec (Reply K V) M)
+      (calls : Vec (Call K V) M) → replies.items ≡ [] → 0 < length calls.items → vec_capacity replies ≤ vec_len replies
+      → StopsWhereFull rules equal hooks old first calls.items replies calls old first
+  stops_at_first hooks old first replies calls none some full =
+      let head = has_first calls.items some in
+      record {
+        made = [];
+        unmade = head.0;
+        behind = head.1;
+        parts = head.2;
+        comes_back = head.2;
+        runs = no_calls hooks old first replies.items none;
+        is_full = full;
+      }
 
 -- one of the items that are left is taken
 pub took_one : {X : Type 0} (all taken rest less : List X) (x : X) → all ≡ taken ++ rest → rest ≡ x ∷ less → all ≡ (taken ++ x ∷ []) ++ less

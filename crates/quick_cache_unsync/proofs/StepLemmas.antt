@@ -1,5 +1,5 @@
 -- Steps of single calls.
-use Rattle.std.proofs.Common.{◌≡◌, ◌≤◌, Bool, true, false, List, [], Option, Some, None, sym, subst}
+use Rattle.std.proofs.Common.{◌≤◌, Bool, List, [], Option, None, sym, subst}
 use Rattle.std.specs.Prelude.{IsSome}
 use Rattle.quick_cache_base.specs.declared.refusal.Refusal.{Refusal}
 use Rattle.quick_cache_base.specs.declared.refusal.Refusal.TheVariants.{Memory}

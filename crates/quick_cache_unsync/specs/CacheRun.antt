@@ -1,5 +1,5 @@
 -- Runs: lists of calls, each a step from the state that the one before it left.
-use Rattle.std.specs.Prelude.{◌≡◌, Bool, List, [], ◌∷◌, ◌++◌, Result, Ok, Err, Vec}
+use Rattle.std.specs.Prelude.{◌≡◌, ◌≤◌, Bool, List, [], ◌∷◌, ◌++◌, Result, Ok, Err, Vec, vec_len, vec_capacity}
 use Rattle.quick_cache_base.specs.CacheState.{CacheState}
 use Rattle.quick_cache_base.specs.Hooks.{Rules, Hooks, HookCall, RunsHooks}
 use Rattle.quick_cache_unsync.specs.declared.calls.Call.{Call}
@@ -21,9 +21,20 @@ module _ {K V : Type 0} (rules : Rules K V) (equal : K → K → Bool) where
     pub steps : CacheRun old calls replies hook_calls new
     pub runs : RunsHooks hooks hook_calls first last
 
-  -- All calls were made, or those before the ones that come back, in their order.
+  -- The list of replies was full before it had the reply to one of the calls: those before that one were made, and it
+  -- comes back with those behind it.
+  pub record StopsWhereFull {S M : Type 0} (hooks : Hooks K V S) (old : CacheState K V) (first : S) (calls : List (Call K V))
+      (replies : Vec (Reply K V) M) (back : Vec (Call K V) M) (new : CacheState K V) (last : S) : Type 0 where
+    pub made : List (Call K V)
+    pub unmade : Call K V
+    pub behind : List (Call K V)
+    pub parts : calls ≡ made ++ unmade ∷ behind
+    pub comes_back : back.items ≡ unmade ∷ behind
+    pub runs : IsRun hooks old first made replies.items new last
+    pub is_full : vec_capacity replies ≤ vec_len replies
+
+  -- All calls were made, or those before the first for whose reply there was no room.
   abbrev pub RunsCalls : {S M : Type 0} → Hooks K V S → CacheState K V → S → List (Call K V)
       → Result (Vec (Reply K V) M) (Vec (Reply K V) M × Vec (Call K V) M) → CacheState K V → S → Type 0
   RunsCalls hooks old first calls (Ok replies) new last = IsRun hooks old first calls replies.items new last
-  RunsCalls hooks old first calls (Err back) new last =
-      (made : List (Call K V)) × (calls ≡ made ++ back.1.items) × IsRun hooks old first made back.0.items new last
+  RunsCalls hooks old first calls (Err back) new last = StopsWhereFull hooks old first calls back.0 back.1 new last

@@ -1,5 +1,5 @@
 -- The answers of an insert.
-use Rattle.std.specs.Prelude.{◌≡◌, Bool, Result, Ok, Err, None}
+use Rattle.std.specs.Prelude.{Bool, Result, Ok, Err, None}
 use Rattle.quick_cache_base.specs.declared.refusal.Refusal.{Refusal}
 use Rattle.quick_cache_base.specs.CacheState.{CacheState}
 use Rattle.quick_cache_base.specs.Hooks.{Rules, Hooks}

@@ -1,4 +1,4 @@
-use Rattle.std.proofs.Common.{◌≡◌, Some, None, refl, sym, subst}
+use Rattle.std.proofs.Common.{Some, None, refl, sym, subst}
 use Rattle.quick_cache_base.specs.CacheState.{Item}
 use Rattle.quick_cache_base.specs.Lookups.{Sees}
 use Rattle.quick_cache_unsync.specs.CacheStep.{CacheStep}

@@ -1,21 +1,19 @@
-use Rattle.std.proofs.Common.{◌≡◌, ◌<◌, ◌++◌, [], ◌∷◌, List, refl, sym, ap, subst, ◌∙◌, arith, length, append_assoc}
-use Rattle.std.specs.Vec.Iter.{into_iter_items, into_iter_len}
+use Rattle.std.proofs.Common.{refl, sym, ap, subst, ◌∙◌, arith, length}
 use Rattle.quick_cache_base.specs.Hooks.{RunsHooks}
 use Rattle.quick_cache_shard.specs.Shard.{Shard, rules_of, hooks_of, IsPlainCache}
-use Rattle.quick_cache_unsync.specs.CacheRun.{CacheRun, IsRun}
+use Rattle.quick_cache_unsync.specs.CacheRun.{IsRun}
 use Rattle.quick_cache_unsync.specs.CacheStep.{CacheStep}
 use Rattle.quick_cache_unsync.specs.Touches.{no_touches}
-use Rattle.quick_cache_unsync.proofs.RunLemmas.{IsRun-append, no_calls, took_one, took_all}
+use Rattle.quick_cache_unsync.proofs.RunLemmas.{IsRun-append, no_calls, stops_at_first, took_one, took_all}
 use Rattle.quick_cache_unsync.proofs.calls.run.Goals as goal
 
--- no call was made: all come back
+-- there was no room for the reply to the first call, so all come back
 pub returns-in_default-clause-runs : goal.returns-in_default-clause-runs
-returns-in_default-clause-runs g c = (
-  [],
-  refl,
-  no_calls _ g.K.PartialEq.eq (hooks_of g.L.Lifecycle c.args.cache.now) c.args.cache.now.state c.args.state.now
-      c.reserve.new.self.items (c.reserve.ensures.items ∙ c.new-replies.ensures.items),
-)
+returns-in_default-clause-runs g c =
+    stops_at_first _ g.K.PartialEq.eq (hooks_of g.L.Lifecycle c.args.cache.now) c.args.cache.now.state c.args.state.now
+    c.reserve.new.self c.args.calls (c.reserve.ensures.items ∙ c.new-replies.ensures.items)
+    (omega (arith, c.len.ensures, c.args.calls.ok, c.in_default.ensures.full, c.new-replies.ensures.len))
+    (omega (arith, c.in_default.ensures.err, c.new-replies.ensures.capacity))
 
 -- before the first call, and with room for all replies
 pub loop-call-init : goal.loop-call-init
