@@ -1,9 +1,10 @@
 -- A run of one call serves it.
-use Rattle.std.proofs.Common.{◌≡◌, ◌+◌, Bool, List, [], ◌∷◌, ◌++◌, length, refl, sym, ap, subst, ◌∙◌, arith}
+use Rattle.std.proofs.Common.{◌≡◌, Bool, List, [], ◌∷◌, ◌++◌, length, refl, sym, ap, subst, arith}
 use Rattle.std.proofs.lemmas.List.{length-append}
 use Rattle.quick_cache_base.specs.CacheState.{CacheState}
 use Rattle.quick_cache_base.specs.Hooks.{Rules, HookCall}
 use Rattle.quick_cache_unsync.specs.declared.calls.Call.{Call}
+use Rattle.quick_cache_unsync.specs.declared.calls.Call.TheVariants.{Insert}
 use Rattle.quick_cache_unsync.specs.declared.calls.Reply.{Reply}
 use Rattle.quick_cache_unsync.specs.CacheStep.{CacheStep}
 use Rattle.quick_cache_unsync.specs.CacheRun.{CacheRun}
@@ -21,12 +22,12 @@ module _ {K V : Type 0} (rules : Rules K V) (equal : K → K → Bool) where
   CacheRun-none (CacheRun.ends state) none = refl
   CacheRun-none (CacheRun.goes_on old mid new call reply calls replies first rest step run) none = absurd (omega (arith, ap length none))
 
-  -- A run of some of one call's list serves the call.
+  -- A run of some of the list of one insert serves it.
   pub CacheRun-one : {old : CacheState K V} {calls : List (Call K V)} {replies : List (Reply K V)} {hook_calls : List (HookCall K V)} {new : CacheState K V}
-      → CacheRun rules equal old calls replies hook_calls new → (call : Call K V) (back : List (Call K V)) → call ∷ [] ≡ calls ++ back
-      → Serves rules equal old call (first_reply replies) new
-  CacheRun-one (CacheRun.ends state) call back one = Serves.lacks_memory
-  CacheRun-one (CacheRun.goes_on old mid new head reply calls replies first rest step run) call back one =
-      let parts = one-append call head calls back one in
-      let made = Serves.makes reply first mid (subst (λ c. CacheStep rules equal old c reply first mid) parts.0 step) in
-      subst (λ last. Serves rules equal old call reply last) (sym (CacheRun-none run parts.1)) made
+      → CacheRun rules equal old calls replies hook_calls new → (key : K) (value : V) (back : List (Call K V)) → Insert key value ∷ [] ≡ calls ++ back
+      → Serves rules equal old (Insert key value) (first_reply replies) new
+  CacheRun-one (CacheRun.ends state) key value back one = Serves.lacks_memory key value
+  CacheRun-one (CacheRun.goes_on old mid new head reply calls replies first rest step run) key value back one =
+      let parts = one-append (Insert key value) head calls back one in
+      let made = Serves.inserts key value reply first mid (subst (λ c. CacheStep rules equal old c reply first mid) parts.0 step) in
+      subst (λ last. Serves rules equal old (Insert key value) reply last) (sym (CacheRun-none run parts.1)) made

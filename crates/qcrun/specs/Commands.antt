@@ -1,5 +1,5 @@
 -- The lines that are commands.
-use Rattle.std.specs.Prelude.{◌≡◌, ℕ, ◌*◌, ◌/◌, ◌%◌, ◌^◌, ◌<◌, ◌≤◌, List, [], ◌∷◌, ◌++◌, length, codes}
+use Rattle.std.specs.Prelude.{◌≡◌, ◌↔◌, Result, Ok, ℕ, ◌/◌, ◌%◌, ◌^◌, ◌<◌, ◌≤◌, List, ◌∷◌, ◌++◌, length, codes}
 use Rattle.std.specs.Str.Parse.{IsNumeral, digits_value}
 use Rattle.qcrun.specs.declared.command.Command.{Command}
 use Rattle.qcrun.specs.declared.command.Command.TheVariants.{Cache, Insert, Get, Remove, Show}
@@ -7,6 +7,10 @@ use Rattle.qcrun.specs.declared.command.Command.TheVariants.{Cache, Insert, Get,
 -- one to twenty decimal digits, of at most the greatest u64
 abbrev pub IsNumeralInRange : List ℕ → Type 0
 IsNumeralInRange word = IsNumeral 10 word × (length word ≤ 20) × (digits_value 10 word < 2 ^ 64)
+
+-- The answer is Ok of a value exactly where P holds of that value. So it is Err exactly where P holds of none.
+abbrev pub IsOkExactly : {X E : Type 0} → Result X E → (X → Type 0) → Type 0
+IsOkExactly {X} answer P = (value : X) → P value ↔ (answer ≡ Ok value)
 
 -- the word writes this number
 abbrev pub IsNumber : List ℕ → ℕ → Type 0

@@ -1,8 +1,8 @@
 //! Commands, and the lines that they are read from.
-ghost use Rattle.std.specs.Prelude.{◌↔◌, IsTrue, IfOk};
+ghost use Rattle.std.specs.Prelude.{◌↔◌, IsTrue};
 ghost use Rattle.std.specs.Result.{OkIff};
 ghost use Rattle.std.specs.Str.Parse.{digits_value};
-ghost use Rattle.qcrun.specs.Commands.{AreNumbers, IsNumeralInRange, IsPlainValue};
+ghost use Rattle.qcrun.specs.Commands.{AreNumbers, IsNumeralInRange, IsOkExactly, IsPlainValue};
 
 use std::fmt::{self, Display, Formatter, Write};
 use std::str::FromStr;
@@ -52,7 +52,7 @@ fn number(word: &str) -> Result<u64, NotACommand>
 
 /// The numbers of two words with a space between.
 fn numbers(words: &str) -> Result<(u64, u64), NotACommand>
-    ensures { IfOk result (AreNumbers words.now) }
+    ensures { IsOkExactly result (AreNumbers words.now) }
 {
     let Some((first, second)) = words.split_once(' ') else {
         return Err(NotACommand);
@@ -72,9 +72,9 @@ fn is_plain(value: u64) -> bool
 impl FromStr for Command {
     type Err = NotACommand;
 
-    ghost use Rattle.qcrun.specs.Commands.{IsLineOf};
+    ghost use Rattle.qcrun.specs.Commands.{IsLineOf, IsOkExactly};
 
-    ghost from_str_gives = { λ line answer. IfOk answer (IsLineOf line) };
+    ghost from_str_gives = { λ line answer. IsOkExactly answer (IsLineOf line) };
 
     fn from_str(line: &str) -> Result<Command, NotACommand> {
         let Some((name, words)) = line.split_once(' ') else {

@@ -1,4 +1,6 @@
 //! What is printed for a reply.
+ghost use Rattle.std.specs.Prelude.{◌≡◌, Some};
+ghost use Rattle.qcrun.specs.Answers.{answer_of, text_of};
 
 use quick_cache_base::Refusal;
 use quick_cache_unsync::Reply;
@@ -20,6 +22,8 @@ pub enum Answer {
 }
 
 impl From<Reply<u64, u64>> for Answer {
+    ghost from_gives = { λ reply answer. answer ≡ answer_of reply };
+
     fn from(reply: Reply<u64, u64>) -> Answer {
         match reply {
             Reply::Done => Answer::Done,
@@ -33,6 +37,8 @@ impl From<Reply<u64, u64>> for Answer {
 }
 
 impl Display for Answer {
+    ghost output = { λ answer. Some (text_of answer) };
+
     fn fmt<W: Write>(&self, f: &mut Formatter<W>) -> fmt::Result {
         match self {
             Answer::Done => f.write_str("ok"),

@@ -33,10 +33,43 @@ fn first_reply<K: Drop, V: Drop, M: Allocator>(replies: Vec<Reply<K, V>, M>) -> 
     }
 }
 
-/// Makes one call. Where there is no memory for it or for its reply, nothing changes.
-fn make_call<
+/// Inserts a pair, by a run of one call. Where there is no memory for the call or for its reply, nothing changes.
+fn insert<
     K: Eq + Hash + Drop,
     V: Clone + Drop,
+    We: Weighter<K, V> + Drop,
+    B: BuildHasher + Drop,
+    L: Lifecycle<K, V> + Drop,
+    A: Allocator,
+    M: Allocator + Copy,
+>(
+    alloc: M,
+    cache: &mut Cache<K, V, We, B, L, A>,
+    key: K,
+    value: V,
+    state: &mut L::RequestState,
+) -> Reply<K, V>
+    requires clones { ClonesExactly V.is_clone }
+    requires plain { IsPlainCache We.Weighter L.Lifecycle cache.old }
+    ensures serves { Serves
+        (rules_of no_touches K.Hash.hash_input We.Weighter B.BuildHasher B.Hasher.Hasher L.Lifecycle cache.old)
+        K.eq cache.old.state (Call.Insert key value) result cache.new.state }
+    ensures same { cache.new ≡ record cache.old { state = cache.new.state } }
+{
+    let mut calls = Vec::new(alloc);
+    let Ok(()) = calls.push(Call::Insert(key, value)) else {
+        return Reply::Refused(Refusal::Memory);
+    };
+    match run(alloc, cache, calls, state) {
+        Ok(replies) => first_reply(replies),
+        Err((replies, _)) => first_reply(replies),
+    }
+}
+
+/// Makes one call. A look-up and a removal take no memory, so they are always made.
+fn make_call<
+    K: Eq + Hash + Drop,
+    V: Copy + Drop,
     We: Weighter<K, V> + Drop,
     B: BuildHasher + Drop,
     L: Lifecycle<K, V> + Drop,
@@ -55,13 +88,10 @@ fn make_call<
         K.eq cache.old.state call result cache.new.state }
     ensures same { cache.new ≡ record cache.old { state = cache.new.state } }
 {
-    let mut calls = Vec::new(alloc);
-    let Ok(()) = calls.push(call) else {
-        return Reply::Refused(Refusal::Memory);
-    };
-    match run(alloc, cache, calls, state) {
-        Ok(replies) => first_reply(replies),
-        Err((replies, _)) => first_reply(replies),
+    match call {
+        Call::Insert(key, value) => insert(alloc, cache, key, value, state),
+        Call::Get(key) => Reply::Value(cache.get(&key).copied()),
+        Call::Remove(key) => Reply::Pair(cache.remove(&key)),
     }
 }
 

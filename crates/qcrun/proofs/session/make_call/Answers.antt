@@ -1,24 +1,20 @@
-use Rattle.std.proofs.Common.{◌≡◌, [], ◌∷◌, ◌++◌, sym, ap, ◌∙◌, subst}
-use Rattle.std.proofs.lemmas.List.{append-nil}
-use Rattle.quick_cache_unsync.specs.declared.calls.Reply.{Reply}
-use Rattle.qcrun.specs.Served.{Serves, first_reply}
-use Rattle.qcrun.proofs.ServedLemmas.{CacheRun-one}
+use Rattle.std.proofs.Common.{Option, sym, subst}
+use Rattle.quick_cache_base.specs.CacheState.{Item}
+use Rattle.quick_cache_base.specs.Lookups.{LooksUp}
+use Rattle.quick_cache_shard.specs.Shard.{UpToOrder}
+use Rattle.quick_cache_unsync.specs.CacheStep.{CacheStep}
+use Rattle.qcrun.specs.Served.{Serves}
 use Rattle.qcrun.proofs.session.make_call.Goals as goal
 
-pub returns-in_default-clause-serves : goal.returns-in_default-clause-serves
-returns-in_default-clause-serves g c = Serves.lacks_memory
+-- the reply is a copy of what the look-up shows
+pub returns-in-Get-clause-serves : goal.returns-in-Get-clause-serves
+returns-in-Get-clause-serves g c =
+    let of : Item g.row.K.Denot g.row.V.Denot → g.row.V.Denot = λ item. item.value in
+    let looks = subst (λ (answer : Option g.row.V.Denot).
+    UpToOrder (LooksUp (g.K.PartialEq.eq c.in-Get.key) c.args.cache.now.state of answer) c.get.follows.lender-at-none.state)
+    (sym c.copied.ensures) c.get.follows.holds-at-none.0 in
+    rw c.in-Get.is (Serves.gets c.in-Get.key c.copied.result _ (CacheStep.gets c.in-Get.key c.copied.result _ looks))
 
--- all calls were made, and the list has the one
-pub returns-in-Ok-run-clause-serves : goal.returns-in-Ok-run-clause-serves
-returns-in-Ok-run-clause-serves g c =
-    let one : c.args.call ∷ [] ≡ c.push.new.self.items ++ [] =
-    sym (append-nil c.push.new.self.items ∙ (c.in-Ok.ensures.items ∙ ap (λ xs. xs ++ c.args.call ∷ []) c.new-calls.ensures.items)) in
-    rw c.first_reply.ensures (CacheRun-one _ g.K.PartialEq.eq c.in-Ok-run.ensures.runs.steps c.args.call [] one)
-
--- the calls that were made and those that come back are the list of the one
-pub returns-clause-serves : goal.returns-clause-serves
-returns-clause-serves g c =
-    let back = c.in-Err.ensures.runs in
-    let one : c.args.call ∷ [] ≡ back.0 ++ c.in-Err.field-0-1.items =
-    sym (c.in-Ok.ensures.items ∙ ap (λ xs. xs ++ c.args.call ∷ []) c.new-calls.ensures.items) ∙ back.1 in
-    rw c.first_reply-in-Err.ensures (CacheRun-one _ g.K.PartialEq.eq back.2.steps c.args.call c.in-Err.field-0-1.items one)
+pub returns-in-Remove-clause-serves : goal.returns-in-Remove-clause-serves
+returns-in-Remove-clause-serves g c =
+    rw c.in-Remove.is (Serves.removes c.in-Remove.key c.remove.result _ (CacheStep.removes c.in-Remove.key c.remove.result _ c.remove.ensures.removes))

@@ -1,0 +1,25 @@
+use Rattle.std.proofs.Common.{◌≡◌, [], ◌∷◌, ◌++◌, sym, ap, ◌∙◌}
+use Rattle.std.proofs.lemmas.List.{append-nil}
+use Rattle.quick_cache_unsync.specs.declared.calls.Call.TheVariants.{Insert}
+use Rattle.qcrun.specs.Served.{Serves}
+use Rattle.qcrun.proofs.ServedLemmas.{CacheRun-one}
+use Rattle.qcrun.proofs.session.insert.Goals as goal
+
+pub returns-in_default-clause-serves : goal.returns-in_default-clause-serves
+returns-in_default-clause-serves g c = Serves.lacks_memory c.args.key c.args.value
+
+-- all calls were made, and the list has the one
+pub returns-in-Ok-run-clause-serves : goal.returns-in-Ok-run-clause-serves
+returns-in-Ok-run-clause-serves g c =
+    let one : Insert c.args.key c.args.value ∷ [] ≡ c.push.new.self.items ++ [] =
+    sym (append-nil c.push.new.self.items ∙ (c.in-Ok.ensures.items ∙ ap (λ xs. xs ++ Insert c.args.key c.args.value ∷ []) c.new-calls.ensures.items)) in
+    rw c.first_reply.ensures (CacheRun-one _ g.K.PartialEq.eq c.in-Ok-run.ensures.runs.steps c.args.key c.args.value [] one)
+
+-- the calls that were made and those that come back are the list of the one
+pub returns-clause-serves : goal.returns-clause-serves
+returns-clause-serves g c =
+    let back = c.in-Err.ensures.runs in
+    let one : Insert c.args.key c.args.value ∷ [] ≡ back.made ++ c.in-Err.field-0-1.items =
+    sym (c.in-Ok.ensures.items ∙ ap (λ xs. xs ++ Insert c.args.key c.args.value ∷ []) c.new-calls.ensures.items)
+    ∙ (back.parts ∙ ap (λ xs. back.made ++ xs) (sym back.comes_back)) in
+    rw c.first_reply-in-Err.ensures (CacheRun-one _ g.K.PartialEq.eq back.runs.steps c.args.key c.args.value c.in-Err.field-0-1.items one)
