@@ -3,14 +3,15 @@ ghost use Rattle.std.specs.Prelude.{◌≡◌};
 ghost use Rattle.quick_cache_shard.specs.Shard.{rules_of, ClonesExactly, IsPlainCache};
 ghost use Rattle.quick_cache_unsync.specs.Touches.{no_touches};
 ghost use Rattle.qcrun.specs.Served.{Serves, first_reply};
+ghost use Rattle.qcrun.specs.Sessions.{IsServed, MakesCache};
 
 use crate::command::Command;
-use crate::hash::RemainderBuilder;
+use crate::hash::{RemainderBuilder, RemainderHasher};
 use crate::reply::Answer;
 use quick_cache_base::{Lifecycle, Refusal, UnitWeighter, Weighter};
 use quick_cache_unsync::{Cache, Call, DefaultLifecycle, Reply, run};
 use std::alloc::Allocator;
-use std::hash::{BuildHasher, Hash};
+use std::hash::{BuildHasher, Hash, Hasher};
 use std::io::{self, Write};
 
 /// A cache of numbers.
@@ -122,7 +123,13 @@ impl<A: Allocator + Copy> Session<A> {
     /// # Errors
     ///
     /// A write that failed.
-    pub fn serve<W: Write>(&mut self, command: Command, writer: &mut W) -> io::Result<Outcome> {
+    pub fn serve<W: Write>(&mut self, command: Command, writer: &mut W) -> io::Result<Outcome>
+        ensures { IsServed
+            (rules_of no_touches ⟦<u64 as Hash>⟧.hash_input ⟦<UnitWeighter as Weighter<u64, u64>>⟧
+            ⟦<RemainderBuilder as BuildHasher>⟧ ⟦<RemainderHasher as Hasher>⟧
+            ⟦<DefaultLifecycle<u64, u64> as Lifecycle<u64, u64>>⟧)
+            self.old.cache command result self.new.cache (W.contents writer.old) (W.contents writer.new) }
+    {
         if let Command::Cache(items, weight) = command {
             let answer = self.make_cache(items, weight);
             writeln!(writer, "{answer}")?;
@@ -146,7 +153,9 @@ impl<A: Allocator + Copy> Session<A> {
     }
 
     /// Puts an empty cache in the place of the one that stood, which stays where there is no memory.
-    fn make_cache(&mut self, items: usize, weight: u64) -> Answer {
+    fn make_cache(&mut self, items: usize, weight: u64) -> Answer
+        ensures makes { MakesCache items weight self.old.cache result self.new.cache }
+    {
         let made = Cache::with(
             self.alloc,
             items,
