@@ -1,3 +1,4 @@
+pub mod Answered
 pub mod Touches
 pub mod Inserts
 pub mod Lent

@@ -1,7 +1,8 @@
 //! Lists of calls, made one after another.
-ghost use Rattle.std.specs.Prelude.{◌≡◌, [], List};
+ghost use Rattle.std.specs.Prelude.{◌≡◌, [], List, All};
 ghost use Rattle.quick_cache_base.specs.Hooks.{HookCall, RunsHooks};
 ghost use Rattle.quick_cache_shard.specs.Shard.{rules_of, hooks_of, ClonesExactly, IsPlainCache};
+ghost use Rattle.quick_cache_unsync.specs.Answered.{AlwaysClones, IsAnswered, replies_of};
 ghost use Rattle.quick_cache_unsync.specs.CacheRun.{RunsCalls};
 ghost use Rattle.quick_cache_unsync.specs.CacheStep.{CacheStep};
 ghost use Rattle.quick_cache_unsync.specs.Touches.{no_touches};
@@ -51,6 +52,8 @@ fn get<
         (rules_of no_touches K.Hash.hash_input We.Weighter B.BuildHasher B.Hasher.Hasher L.Lifecycle cache.old)
         K.eq cache.old.state (Call.Get key) result [] cache.new.state }
     ensures same { cache.new ≡ record cache.old { state = cache.new.state } }
+    // A look-up is refused only where a clone fails.
+    ensures answered { AlwaysClones V.is_infallible → IsAnswered result }
 {
     match cache.peek(&key) {
         None => {
@@ -88,6 +91,8 @@ fn act<
         K.eq cache.old.state call result calls cache.new.state
         × RunsHooks (hooks_of L.Lifecycle cache.old) calls state.old state.new }
     ensures same { cache.new ≡ record cache.old { state = cache.new.state } }
+    // A look-up is refused only where a clone fails.
+    ensures answered { AlwaysClones V.is_infallible → IsAnswered result }
 {
     match call {
         Call::Insert(key, value) => match cache.insert_with_lifecycle(key, value, state) {
@@ -127,6 +132,8 @@ pub fn run<
         K.eq (hooks_of L.Lifecycle cache.old)
         cache.old.state state.old calls.items result cache.new.state state.new }
     ensures same { cache.new ≡ record cache.old { state = cache.new.state } }
+    // A look-up is refused only where a clone fails.
+    ensures answered { AlwaysClones V.is_infallible → All IsAnswered (replies_of result) }
 {
     let mut replies = Vec::new(alloc);
     let Ok(()) = replies.reserve(calls.len()) else {

@@ -1,6 +1,9 @@
 use Rattle.std.proofs.Common.{refl, sym, ap, subst, ◌∙◌, arith, length}
 use Rattle.quick_cache_base.specs.Hooks.{RunsHooks}
 use Rattle.quick_cache_shard.specs.Shard.{Shard, rules_of, hooks_of, IsPlainCache}
+use Rattle.std.specs.Prelude.{All}
+use Rattle.std.proofs.lemmas.List.Elements.{All-nil, All-push}
+use Rattle.quick_cache_unsync.specs.Answered.{IsAnswered}
 use Rattle.quick_cache_unsync.specs.CacheRun.{IsRun}
 use Rattle.quick_cache_unsync.specs.CacheStep.{CacheStep}
 use Rattle.quick_cache_unsync.specs.Touches.{no_touches}
@@ -15,6 +18,11 @@ returns-in_default-clause-runs g c =
     (omega (arith, c.len.ensures, c.args.calls.ok, c.in_default.ensures.full, c.new-replies.ensures.len))
     (omega (arith, c.in_default.ensures.err, c.new-replies.ensures.capacity))
 
+-- there is no reply yet
+pub returns-in_default-clause-answered : goal.returns-in_default-clause-answered
+returns-in_default-clause-answered g c = λ always.
+    subst (All IsAnswered) (sym (c.reserve.ensures.items ∙ c.new-replies.ensures.items)) (All-nil IsAnswered)
+
 -- before the first call, and with room for all replies
 pub loop-call-init : goal.loop-call-init
 loop-call-init g c = record {
@@ -23,6 +31,7 @@ loop-call-init g c = record {
       c.reserve.new.self.items (c.reserve.ensures.items ∙ c.new-replies.ensures.items);
   same = refl;
   left = omega (arith, c.into_iter-call-iterator.ensures.into_iter_gives.1, ap length c.into_iter-call-iterator.ensures.into_iter_gives.0);
+  answered = λ always. subst (All IsAnswered) (sym (c.reserve.ensures.items ∙ c.new-replies.ensures.items)) (All-nil IsAnswered);
   room = omega (arith, c.in-Ok.ensures.ok, c.into_iter-call-iterator.ensures.into_iter_gives.1);
 }
 
@@ -51,6 +60,8 @@ loop-call-preserved g c =
       same = c.act.ensures.same ∙ ap (λ (x : Shard g.row.K.Denot g.row.V.Denot g.row.We.Denot g.row.B.Denot g.row.L.Denot).
           record x { state = c.act.new.cache.state }) i.same;
       left = omega (arith, i.left, ap length c.in-Some.ensures.steps.0, c.in-Some.ensures.steps.1);
+      answered = λ always. subst (All IsAnswered) (sym c.push_reserved.ensures.items)
+          (All-push IsAnswered c.loop-call.replies.items c.act.result (i.answered always) (c.act.ensures.answered always));
       room = omega (arith, i.room, c.in-Some.ensures.steps.1, c.push_reserved.ensures.len, c.push_reserved.ensures.capacity);
     }
 
@@ -62,3 +73,6 @@ returns-clause-runs g c =
     g.K.PartialEq.eq (hooks_of g.L.Lifecycle c.args.cache.now) c.args.cache.now.state c.args.state.now made c.loop-call.replies.items
     c.loop-call.cache.state c.loop-call.state)
     (took_all c.args.calls.items c.loop-call.yielded _ i.split (sym i.left ∙ c.in-None.ensures.steps.0)) i.run
+
+pub returns-clause-answered : goal.returns-clause-answered
+returns-clause-answered g c = c.loop-call.invariant.answered

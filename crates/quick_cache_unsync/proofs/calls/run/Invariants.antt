@@ -1,6 +1,8 @@
 use Rattle.std.proofs.Common.{◌≡◌, ◌++◌, ◌+◌, ◌≤◌, length, vec_len, vec_capacity}
 use Rattle.std.specs.Vec.Iter.{into_iter_items, into_iter_len}
 use Rattle.quick_cache_shard.specs.Shard.{rules_of, hooks_of}
+use Rattle.std.specs.Prelude.{All}
+use Rattle.quick_cache_unsync.specs.Answered.{AlwaysClones, IsAnswered}
 use Rattle.quick_cache_unsync.specs.CacheRun.{IsRun}
 use Rattle.quick_cache_unsync.specs.Touches.{no_touches}
 use Rattle.quick_cache_unsync.proofs.calls.run.Given as goal
@@ -13,5 +15,6 @@ invariant-loop-call g l = record {
       g.K.PartialEq.eq (hooks_of g.L.Lifecycle l.fn.cache) l.fn.cache.state l.fn.state l.yielded l.replies.items l.cache.state l.state;
   same : l.cache ≡ record l.fn.cache { state = l.cache.state };
   left : into_iter_len l.call-iterator ≡ length (into_iter_items l.call-iterator);
+  answered : AlwaysClones g.V.Clone.is_infallible → All IsAnswered l.replies.items;
   room : vec_len l.replies + into_iter_len l.call-iterator ≤ vec_capacity l.replies;
 }
