@@ -1,5 +1,5 @@
 //! Commands, and the lines that they are read from.
-ghost use Rattle.std.specs.Prelude.{◌↔◌, IsTrue};
+ghost use Rattle.std.specs.Prelude.{◌↔◌, Some, codes, IsTrue};
 ghost use Rattle.std.specs.Result.{OkIff};
 ghost use Rattle.std.specs.Str.Parse.{digits_value};
 ghost use Rattle.qcrun.specs.Commands.{AreNumbers, IsNumeralInRange, IsOkExactly, IsPlainValue};
@@ -27,6 +27,8 @@ pub enum Command {
 pub struct NotACommand;
 
 impl Display for NotACommand {
+    ghost output = { λ _. Some (codes "not a command") };
+
     fn fmt<W: Write>(&self, f: &mut Formatter<W>) -> fmt::Result {
         f.write_str("not a command")
     }

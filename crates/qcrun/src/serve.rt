@@ -1,4 +1,5 @@
 //! Serves the commands that a reader gives, to a writer.
+ghost use Rattle.qcrun.specs.Commands.{IsLineOf, IsOkExactly};
 
 use crate::command::{Command, NotACommand};
 use crate::lines::{Line, read_line};
@@ -65,7 +66,9 @@ fn serve_lines<A: Allocator + Copy, R: Read + Drop, W: Write>(
 }
 
 /// The command of a line, which is text.
-fn command_of(line: &[u8]) -> Result<Command, NotACommand> {
+fn command_of(line: &[u8]) -> Result<Command, NotACommand>
+    ensures { IsOkExactly result (IsLineOf line.now) }
+{
     match from_utf8(line) {
         Ok(text) => text.parse(),
         Err(_) => Err(NotACommand),

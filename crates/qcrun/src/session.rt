@@ -1,5 +1,5 @@
 //! The cache that stands, and what commands do to it.
-ghost use Rattle.std.specs.Prelude.{◌≡◌};
+ghost use Rattle.std.specs.Prelude.{◌≡◌, None};
 ghost use Rattle.quick_cache_shard.specs.Shard.{rules_of, ClonesExactly, IsPlainCache};
 ghost use Rattle.quick_cache_unsync.specs.Touches.{no_touches};
 ghost use Rattle.qcrun.specs.Served.{Serves, first_reply};
@@ -114,7 +114,9 @@ pub struct Session<A: Allocator> {
 
 impl<A: Allocator + Copy> Session<A> {
     /// A session in which no cache stands.
-    pub fn new(alloc: A) -> Self {
+    pub fn new(alloc: A) -> Self
+        ensures { result.cache ≡ None }
+    {
         Session { alloc, cache: None }
     }
 
