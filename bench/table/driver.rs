@@ -1,7 +1,6 @@
 //! Times the table beside a probe table and std's `HashMap`, in one run.
 use std::collections::HashMap;
 use std::hash::{BuildHasherDefault, Hasher};
-use std::time::Instant;
 
 unsafe extern "C" {
     fn table_bench(
@@ -13,6 +12,22 @@ unsafe extern "C" {
         moves: bool,
         rounds: u64,
     ) -> u64;
+    fn table_bytes(room: usize) -> usize;
+    fn clock_gettime(clock: i32, time: *mut Time) -> i32;
+}
+
+#[repr(C)]
+struct Time {
+    seconds: i64,
+    nanoseconds: i64,
+}
+
+/// The seconds that this thread has had a processor, by Linux's clock for that: what else the
+/// machine does counts only by what it leaves in the caches.
+fn processor_time() -> f64 {
+    let mut time = Time { seconds: 0, nanoseconds: 0 };
+    assert!(unsafe { clock_gettime(3, &mut time) } == 0);
+    time.seconds as f64 + time.nanoseconds as f64 * 1e-9
 }
 
 /// A hash is its own hash.
@@ -40,8 +55,9 @@ struct Probe {
 }
 
 impl Probe {
-    fn new(buckets: usize) -> Self {
-        Probe { places: vec![(0, 0); buckets], mask: buckets - 1 }
+    fn new(room: usize) -> Self {
+        let places = room.next_power_of_two();
+        Probe { places: vec![(0, 0); places], mask: places - 1 }
     }
 
     #[inline]
@@ -85,8 +101,8 @@ impl Probe {
     }
 }
 
-fn probe_run(hashes: &[u64], buckets: usize, looked: &[u64], moves: bool, rounds: u64) -> u64 {
-    let mut table = Probe::new(buckets);
+fn probe_run(hashes: &[u64], room: usize, looked: &[u64], moves: bool, rounds: u64) -> u64 {
+    let mut table = Probe::new(room);
     for (index, hash) in hashes.iter().enumerate() {
         table.insert(*hash, index as u32 + 1);
     }
@@ -106,8 +122,8 @@ fn probe_run(hashes: &[u64], buckets: usize, looked: &[u64], moves: bool, rounds
     sum
 }
 
-fn map_run(hashes: &[u64], looked: &[u64], moves: bool, rounds: u64) -> u64 {
-    let mut table = Map::with_capacity_and_hasher(hashes.len(), Default::default());
+fn map_run(hashes: &[u64], room: usize, looked: &[u64], moves: bool, rounds: u64) -> u64 {
+    let mut table = Map::with_capacity_and_hasher(room, Default::default());
     for (index, hash) in hashes.iter().enumerate() {
         table.insert(*hash, index as u32 + 1);
     }
@@ -138,49 +154,70 @@ fn next(state: &mut u64) -> u64 {
     z ^ (z >> 31)
 }
 
-/// Nanoseconds an operation, the best of five, without the filling; and the sum.
-fn timed(run: impl Fn(u64) -> u64, count: usize, rounds: u64) -> (f64, u64) {
-    let mut filled = f64::MAX;
-    let mut all = f64::MAX;
-    let mut sum = 0;
-    for _ in 0..5 {
-        let start = Instant::now();
-        run(0);
-        filled = filled.min(start.elapsed().as_secs_f64());
-        let start = Instant::now();
-        sum = run(rounds);
-        all = all.min(start.elapsed().as_secs_f64());
-    }
-    ((all - filled) * 1e9 / (count as f64 * rounds as f64), sum)
+type Run = fn(&[u64], usize, &[u64], bool, u64) -> u64;
+
+const RUNS: [Run; 3] = [table_run, probe_run, map_run];
+
+fn seconds(run: impl FnOnce() -> u64) -> (f64, u64) {
+    let start = processor_time();
+    let sum = run();
+    (processor_time() - start, sum)
 }
 
+/// Nanoseconds an operation of each of the three, the best of all turns, without the filling.
+fn timed(hashes: &[u64], room: usize, looked: &[u64], moves: bool, rounds: u64) -> [f64; 3] {
+    let mut filled = [f64::MAX; 3];
+    let mut all = [f64::MAX; 3];
+    // The three take turns, so that what slows the machine down slows all of them.
+    let turns = (4_000_000 / hashes.len()).clamp(9, 40);
+    for _ in 0..turns {
+        let mut sums = [0; 3];
+        for (index, run) in RUNS.iter().enumerate() {
+            let (time, _) = seconds(|| run(hashes, room, looked, moves, 0));
+            filled[index] = filled[index].min(time);
+            let (time, sum) = seconds(|| run(hashes, room, looked, moves, rounds));
+            all[index] = all[index].min(time);
+            sums[index] = sum;
+        }
+        assert!(sums[0] == sums[1] && sums[1] == sums[2], "the answers differ");
+    }
+    let count = looked.len() as f64 * rounds as f64;
+    [0, 1, 2].map(|index| (all[index] - filled[index]) * 1e9 / count)
+}
+
+fn measure(count: usize, load: usize) {
+    let room = count * 100 / load;
+    let mut state = 7;
+    let hashes: Vec<u64> = (0..count).map(|_| next(&mut state)).collect();
+    let mut hits = hashes.clone();
+    for i in (1..hits.len()).rev() {
+        hits.swap(i, next(&mut state) as usize % (i + 1));
+    }
+    let misses: Vec<u64> = (0..count).map(|_| next(&mut state)).collect();
+    let bytes = unsafe { table_bytes(room) } / count;
+    let rounds = (1_500_000 / count as u64).max(3);
+    for (name, looked, moves) in
+        [("find hit", &hits, false), ("find miss", &misses, false), ("find, remove, insert", &hits, true)]
+    {
+        let [ours, probe, map] = timed(&hashes, room, looked, moves, rounds);
+        println!(
+            "| {count} | {room} | {bytes} | {name} | {ours:.1} ns | {probe:.1} ns | {map:.1} ns | {:.2} |",
+            ours / map
+        );
+    }
+}
+
+/// The arguments are numbers of pairs; with none, these three.
 fn main() {
-    println!("| pairs | load | operation | table ns | of a probe table | of `HashMap` |");
-    println!("|---|---|---|---|---|---|");
-    for buckets in [1usize << 10, 1 << 17, 1 << 20] {
-        for load in [50usize, 95] {
-            let count = buckets * load / 100;
-            let mut state = 7;
-            let hashes: Vec<u64> = (0..count).map(|_| next(&mut state)).collect();
-            let mut hits = hashes.clone();
-            for i in (1..hits.len()).rev() {
-                hits.swap(i, next(&mut state) as usize % (i + 1));
-            }
-            let misses: Vec<u64> = (0..count).map(|_| next(&mut state)).collect();
-            let rounds = (1_500_000 / count as u64).max(4);
-            for (name, looked, moves) in
-                [("find hit", &hits, false), ("find miss", &misses, false), ("find, remove, insert", &hits, true)]
-            {
-                let (ours, a) = timed(|r| table_run(&hashes, buckets, looked, moves, r), count, rounds);
-                let (probe, b) = timed(|r| probe_run(&hashes, buckets, looked, moves, r), count, rounds);
-                let (map, c) = timed(|r| map_run(&hashes, looked, moves, r), count, rounds);
-                assert!(a == b && b == c, "the answers differ");
-                println!(
-                    "| {count} | 0.{load} | {name} | {ours:.1} | {:.2} | {:.2} |",
-                    ours / probe,
-                    ours / map
-                );
-            }
+    let mut counts: Vec<usize> = std::env::args().skip(1).map(|word| word.parse().unwrap()).collect();
+    if counts.is_empty() {
+        counts = vec![1_000, 100_000, 1_000_000];
+    }
+    println!("| Pairs | Room | Bytes a pair | Operation | Table | Probe table | `HashMap` | Of `HashMap` |");
+    println!("|---|---|---|---|---|---|---|---|");
+    for count in counts {
+        for load in [50, 95] {
+            measure(count, load);
         }
     }
 }

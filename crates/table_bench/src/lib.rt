@@ -73,3 +73,12 @@ pub extern "C" fn table_bench(
     }
     sum
 }
+
+/// The bytes of a table with that room, or 0 where it gets none.
+#[unsafe(no_mangle)]
+pub extern "C" fn table_bytes(alloc: Global, room: usize) -> usize {
+    match filled(alloc, &[], room) {
+        Ok(table) => table.allocation_size(),
+        Err(_) => 0,
+    }
+}

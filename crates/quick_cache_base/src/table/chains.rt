@@ -170,12 +170,13 @@ pub(crate) fn position_of(
 
 // The link from which the chain of a hash goes on.
 pub(crate) fn first_link(heads: &[u32], hash: u64, mask: usize) -> u32
+    requires sized { 0 < length heads.now → length heads.now ≡ mask + 2 }
     ensures { result ≡ slice_index heads.now (bit_and hash mask) }
 {
-    match heads.get(hash as usize & mask) {
-        Some(link) => *link,
-        None => 0,
+    if heads.is_empty() {
+        return 0;
     }
+    heads[hash as usize & mask]
 }
 
 // Frees a place: the first place of the chain hands it its pair and is freed in its stead.
