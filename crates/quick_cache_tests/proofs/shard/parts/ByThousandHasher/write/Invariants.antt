@@ -1,5 +1,5 @@
 use Rattle.std.proofs.Common.{◌≡◌, ◌+◌, ◌*◌, ◌%◌, take, fold}
-use Rattle.quick_cache_tests.proofs.shard.ByThousandHasher.write.Given as goal
+use Rattle.quick_cache_tests.proofs.shard.parts.ByThousandHasher.write.Given as goal
 
 -- the bytes so far were taken in
 abbrev pub invariant-loop-b : goal.invariant-loop-b
