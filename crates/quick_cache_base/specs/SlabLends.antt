@@ -2,7 +2,7 @@
 use Rattle.std.specs.Prelude.{◌≡◌, ℕ, Option}
 use Rattle.std.specs.Borrow.{Lends, RestsIfNone, Fml, GName, RattleType, MutBor}
 use Rattle.std.specs.declared.alloc.Allocator.{Ghosts}
-use Rattle.quick_cache_base.specs.LinkedSlab.{LinkedSlab, IsOccupied, with_item}
+use Rattle.quick_cache_base.specs.LinkedSlab.{LinkedSlab, with_item}
 use Rattle.quick_cache_base.specs.declared.linked_slab.item.ItemMut.{ItemMut}
 use Rattle.quick_cache_base.specs.contracts.linked_slab.LinkedSlab.{the_row}
 
@@ -18,10 +18,6 @@ module _ {T A : Type 0} where
   -- the token of the item
   abbrev pub held_token : ItemMut T A → ℕ
   held_token held = held.place
-
-  -- there is an item at that token
-  abbrev pub IsHeld : ItemMut T A → Type 0
-  IsHeld held = IsOccupied (held_slab held) (held_token held)
 
 module _ (T A : RattleType) (alloc : Ghosts A.Denot) where
   -- once the borrow ends, the token has the last item written through it

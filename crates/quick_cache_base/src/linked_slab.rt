@@ -71,7 +71,7 @@ fn make_room<T, A: Allocator>(nodes: &mut Vec<Node<T>, A>) -> Result<(), AllocEr
 
 impl<T, A: Allocator> LinkedSlab<T, A> {
     ghost use Rattle.std.specs.Borrow.{sem};
-    ghost use Rattle.quick_cache_base.specs.SlabLends.{held_lender, held_slab, held_token, IsHeld, lends_item, rests_if_free};
+    ghost use Rattle.quick_cache_base.specs.SlabLends.{held_lender, held_slab, held_token, lends_item, rests_if_free};
     ghost use Rattle.quick_cache_base.specs.SlabDrain.{drain_rest, drain_room, drain_lender, DrainCanStep, DrainKeepsAlong};
 
     /// An empty slab with room for so many items, of the 4294967294 that a slab can have.
@@ -178,13 +178,13 @@ impl<T, A: Allocator> LinkedSlab<T, A> {
     pub fn get_mut(&mut self, token: Token) -> Option<ItemMut<'_, T, A>>
         ensures* unchanged { sem 𝓛 (rests_if_free T.row A.row A.Allocator self.entry result) }
         ensures absent { IfNone result (item_at self.old (number token) ≡ None) }
+        ensures occupied { OnSome result (IsOccupied self.old (number token)) }
 
         // It holds this slab as it is, at this token.
         ensures same_reference { IfSome result (λ held. held_lender held
             ≡ self.entry.ghost_name) }
         ensures slab { IfSome result (λ held. held_slab held ≡ self.old) }
         ensures token { IfSome result (λ held. held_token held ≡ number token) }
-        ensures occupied { IfSome result (λ held. IsHeld held) }
     {
         if self.contains(token) {
             Some(ItemMut {
