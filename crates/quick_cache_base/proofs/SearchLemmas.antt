@@ -2,10 +2,11 @@
 use Rattle.std.proofs.Common.{◌≡◌, ℕ, ◌<◌, Bool, true, false, eqb, List, [], ◌∷◌, Option, Some, None, refl, sym, ap, ◌∙◌, subst, inl, inr, arith, count_by}
 use Rattle.std.specs.declared.num.NonZeroU32.{NonZeroU32}
 use Rattle.std.specs.Int.NonZero.{non_zero_u32_get}
+use Rattle.std.proofs.lemmas.Bool.{eq-eqb}
 use Rattle.std.proofs.lemmas.Bool.Decides.{eqb_tells}
 use Rattle.std.proofs.lemmas.List.Sums.{sum_by-cons}
-use Rattle.quick_cache_base.specs.Table.{Table, SearchesAlong, CallsKeep, Answers, Finds, FindsByAnswer}
-use Rattle.quick_cache_base.proofs.ChainCounts.{bit}
+use Rattle.quick_cache_base.specs.Table.{Table, HasPair, has_pair, SearchesAlong, CallsKeep, Answers, Finds, FindsByAnswer}
+use Rattle.quick_cache_base.proofs.PlaceLemmas.{bool_tells, bit}
 
 some-injective : (x y : NonZeroU32) → Some x ≡ Some y → x ≡ y
 some-injective x y e = cc
@@ -56,3 +57,20 @@ module _ {F : Type 0} (step : F → NonZeroU32 → Bool → F → Type 0) where
       λ token has. SearchesAlong-missed f tokens keeps along token (omega (arith, are token, ap bit has))
   FindsByAnswer-from_Finds table hash f (Some token) keeps (tokens, are, along) =
       SearchesAlong-found f tokens token keeps along
+
+  -- a token that a search ended at is one of those that it was led along
+  SearchesAlong-has : (f : F) (tokens : List ℕ) (token : NonZeroU32) → SearchesAlong step f tokens (Some token) → 0 < count_by (λ k. eqb k (non_zero_u32_get token)) tokens
+  SearchesAlong-has f [] token search_along = absurd (cc)
+  SearchesAlong-has f (first ∷ rest) token (shown, true, next, at, called, ended) =
+      let here : first ≡ non_zero_u32_get token = sym at ∙ ap non_zero_u32_get (some-injective shown token (sym ended)) in
+      omega (arith, sum_by-cons (λ k. bit (eqb k (non_zero_u32_get token))) first rest, ap bit (eq-eqb first (non_zero_u32_get token) here))
+  SearchesAlong-has f (first ∷ rest) token (shown, false, next, at, called, later) =
+      omega (arith, SearchesAlong-has next rest token later, sum_by-cons (λ k. bit (eqb k (non_zero_u32_get token))) first rest)
+
+  -- what a search of a hash finds is a token of that hash
+  pub HasPair-from_Finds : (table : Table) (hash : ℕ) (f : F) (token : NonZeroU32) → Finds step table hash f (Some token) → HasPair table hash (non_zero_u32_get token)
+  HasPair-from_Finds table hash f token (tokens, are, along) =
+      elim (bool_tells (has_pair table hash (non_zero_u32_get token))) [
+        | inl holds ↦ holds
+        | inr fails ↦ absurd (omega (arith, SearchesAlong-has f tokens token along, are (non_zero_u32_get token), ap bit fails))
+      ]

@@ -27,4 +27,4 @@ pub mod Links
 pub mod Table
 pub mod SlabDrain
 pub mod SlabLends
-pub mod TableChains
+pub mod TableGroups

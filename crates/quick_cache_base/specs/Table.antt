@@ -1,5 +1,5 @@
 -- What a contract sees of a `Table`: a set of pairs of a hash and a token.
-use Rattle.std.specs.Prelude.{◌≡◌, ℕ, ◌+◌, Bool, true, false, ◌&&◌, ◌==◌, if◌then◌else◌, IsTrue, List, [], ◌∷◌, length, count_by, Option, Some, None, refl}
+use Rattle.std.specs.Prelude.{◌≡◌, ℕ, ◌+◌, Bool, true, false, ◌&&◌, ◌||◌, ◌==◌, nat_lt, if◌then◌else◌, IsTrue, List, [], ◌∷◌, length, count_by, Option, Some, None, refl}
 use Rattle.std.specs.Bool.{MatchBool}
 use Rattle.std.specs.List.{list_any}
 use Rattle.std.specs.Option.{MatchOption}
@@ -7,8 +7,8 @@ use Rattle.std.specs.Coded.{Coded, code_by, coded×, coded_ℕ, coded_list}
 use Rattle.std.specs.Int.NonZero.{non_zero_u32_get}
 use Rattle.std.specs.declared.num.NonZeroU32.{NonZeroU32}
 
--- the pairs, each once and in no order that counts, how many more fit with no allocation, and how
--- many bytes are held
+-- the pairs, each once and in ascending order, how many more fit with no allocation, and how many
+-- bytes are held
 pub record Table : Type 0 where
   pub pairs : List (ℕ × ℕ)
   pub room : ℕ
@@ -23,6 +23,21 @@ table_code =
     (λ t. (t.pairs, (t.room, t.allocated)))
     (λ p. record { pairs = p.0; room = p.1.0; allocated = p.1.1 })
     (λ _. refl)
+
+-- the first pair is the lesser: by its hash, or by its token where the hashes are equal
+abbrev pub is_less : ℕ × ℕ → ℕ × ℕ → Bool
+is_less a b = nat_lt a.0 b.0 || ((a.0 == b.0) && nat_lt a.1 b.1)
+
+-- the pair put behind those that are less
+abbrev pub put_in : ℕ × ℕ → List (ℕ × ℕ) → List (ℕ × ℕ)
+put_in pair [] = pair ∷ []
+put_in pair (first ∷ rest) =
+    if is_less first pair then first ∷ put_in pair rest else pair ∷ first ∷ rest
+
+-- these pairs, in ascending order
+abbrev pub in_order : List (ℕ × ℕ) → List (ℕ × ℕ)
+in_order [] = []
+in_order (pair ∷ rest) = put_in pair (in_order rest)
 
 -- this is the pair of that hash and that token
 abbrev pub is_pair : ℕ → ℕ → ℕ × ℕ → Bool

@@ -1,55 +1,57 @@
-//! Tokens by hash: a set of pairs of a hash and a token, in chained buckets.
+//! Tokens by hash: a set of pairs of a hash and a token, in groups of sixteen places.
 ghost use Rattle.std.specs.Prelude.{◌≡◌, ◌⊎◌, ◌+◌, ◌-◌, ◌^◌, ◌<◌, ◌≤◌, ◌↔◌, [], min, IsTrue, IsOk, IfOk, IfErr, OnOk, OnErr, IfSome};
 ghost use Rattle.std.specs.Bool.{OnTrue, OnFalse};
 ghost use Rattle.std.specs.Int.NonZero.{non_zero_u32_get};
 ghost use Rattle.quick_cache_base.specs.Table.{HasPair, pair_count, AddsPair, RemovesPair, IsTokensOf, Finds, CallsKeep, FindsByAnswer};
 
-pub(crate) mod chains;
+pub(crate) mod groups;
 pub(crate) mod tokens;
+pub(crate) mod walk;
 
 use crate::Refusal;
 use crate::linked_slab::Token;
-use chains::{MOST_PLACES, Place};
+use groups::{MOST_PAIRS, Place, capacity, groups_for};
 use std::alloc::{Allocator, Global};
 use std::marker::Model;
 pub use tokens::Tokens;
-
-// A table that holds anything has room for so many pairs.
-const FEWEST_PLACES: usize = 4;
+use walk::{Walk, position_of};
 
 /// A set of pairs of a hash and a token.
 ///
 /// Pairs of one hash may be many. A pair that goes gives its room back, and no call but `reserve`
-/// allocates. A look-up walks the pairs of a bucket, and there are about twice as many buckets as
-/// there is room for pairs, since a longer chain costs more than its heads.
+/// allocates. A place has a tag of one byte from its hash, and a look-up compares the sixteen tags
+/// of a group at once before it reads a place, as Rust's own hash map does (SwissTable). It reads
+/// no group past the farthest that has a pair of its own, so that a removal leaves nothing behind.
 #[derive(Drop)]
 pub struct Table<A: Allocator = Global> {
-    // The links to the first place of each bucket, and last that to the first free place.
-    heads: Vec<u32, A>,
+    // The tag of each place, or 0 where it is free.
+    tags: Vec<u8, A>,
     places: Vec<Place, A>,
-    // One less than how many buckets there are.
+    // For each group, how far from it the pairs are whose home it is.
+    reaches: Vec<u32, A>,
+    // One less than how many groups there are.
     mask: usize,
     // How many places are taken.
     len: usize,
 }
 
 impl<A: Allocator> Model for Table<A> {
-    ghost use Rattle.std.specs.Prelude.{◌+◌, ◌*◌, count_by, vec_capacity};
-    ghost use Rattle.quick_cache_base.specs.Table.{Table as Pairs, table_code};
+    ghost use Rattle.std.specs.Prelude.{◌+◌, ◌-◌, ◌*◌, length, vec_capacity};
+    ghost use Rattle.quick_cache_base.specs.Table.{Table as Pairs, table_code, in_order};
 
     ghost Value = { Pairs };
 
     ghost coded = { table_code };
 
-    ghost use Rattle.quick_cache_base.specs.TableChains.{pairs_of, is_free, IsSound};
+    ghost use Rattle.quick_cache_base.specs.TableGroups.{pairs_of, capacity_of, IsSound};
 
     ghost view = { λ t. record {
-      pairs = pairs_of t.places.items;
-      room = count_by is_free t.places.items;
-      allocated = 4 * vec_capacity t.heads + 16 * vec_capacity t.places;
+      pairs = in_order (pairs_of t.places.items);
+      room = capacity_of (length t.reaches.items) - length (pairs_of t.places.items);
+      allocated = vec_capacity t.tags + 12 * vec_capacity t.places + 4 * vec_capacity t.reaches;
     } };
 
-    ghost invariant = { λ t. IsSound t.heads.items t.places.items t.mask t.len };
+    ghost invariant = { λ t. IsSound t.tags.items t.places.items t.reaches.items t.mask t.len };
 }
 
 impl<A: Allocator> Table<A> {
@@ -67,12 +69,16 @@ impl<A: Allocator> Table<A> {
         ensures succeeds { A.is_infallible alloc → IsOk result }
         ensures refused { OnErr result (result ≡ Err Refusal.Memory) }
     {
-        let Ok(other) = alloc.clone() else {
+        let Ok(for_tags) = alloc.clone() else {
+            return Err(Refusal::Memory);
+        };
+        let Ok(for_reaches) = alloc.clone() else {
             return Err(Refusal::Memory);
         };
         Ok(Table {
-            heads: Vec::new(other),
+            tags: Vec::new(for_tags),
             places: Vec::new(alloc),
+            reaches: Vec::new(for_reaches),
             mask: 0,
             len: 0,
         })
@@ -89,14 +95,15 @@ impl<A: Allocator> Table<A> {
     pub fn allocation_size(&self) -> usize
         ensures { result ≡ min self.now.allocated (2 ^ 64 - 1) }
     {
-        let heads = self.heads.capacity().saturating_mul(size_of::<u32>());
+        let tags = self.tags.capacity();
         let places = self.places.capacity().saturating_mul(size_of::<Place>());
-        heads.saturating_add(places)
+        let reaches = self.reaches.capacity().saturating_mul(size_of::<u32>());
+        tags.saturating_add(places).saturating_add(reaches)
     }
 
     /// Makes room for `additional` more pairs.
     ///
-    /// A growth at least doubles the buckets, and puts each pair on its chain anew. A refused call
+    /// A growth at least doubles the groups, and puts each pair into its group anew. A refused call
     /// may keep memory that it got, and changes nothing else.
     ///
     /// # Errors
@@ -112,23 +119,21 @@ impl<A: Allocator> Table<A> {
         // It is refused only where there was no room, and then nothing but the memory changes.
         ensures succeeds { additional ≤ self.old.room → IsOk result }
         ensures full { (result ≡ Err Refusal.SlotsFull)
-            ↔ (MOST_PLACES < pair_count self.old + additional) }
+            ↔ (MOST_PAIRS < pair_count self.old + additional) }
         ensures errors { IfErr result (λ e. (e ≡ Refusal.Memory) ⊎ (e ≡ Refusal.SlotsFull)) }
         ensures refused { OnErr result (self.new
             ≡ record self.old { allocated = self.new.allocated }) }
         ensures allocated { self.old.allocated ≤ self.new.allocated }
     {
-        if additional <= self.places.len() - self.len {
+        if additional <= capacity(self.reaches.len()) - self.len {
             return Ok(());
         }
-        if additional > MOST_PLACES - self.len {
+        if additional > MOST_PAIRS - self.len {
             return Err(Refusal::SlotsFull);
         }
-        let wanted = (self.len + additional).max(FEWEST_PLACES);
-        let buckets = (2 * wanted).next_power_of_two();
-        let count = (buckets / 2).min(MOST_PLACES);
-        chains::grow(&mut self.heads, &mut self.places, buckets, count)?;
-        self.mask = buckets - 1;
+        let count = groups_for(self.len + additional);
+        groups::grow(&mut self.tags, &mut self.places, &mut self.reaches, count)?;
+        self.mask = count - 1;
         Ok(())
     }
 
@@ -140,9 +145,10 @@ impl<A: Allocator> Table<A> {
         ensures room { self.new.room + 1 ≡ self.old.room }
         ensures allocated { self.new.allocated ≡ self.old.allocated }
     {
-        chains::take_place(
-            self.heads.as_mut_slice(),
+        groups::take_place(
+            self.tags.as_mut_slice(),
             self.places.as_mut_slice(),
+            self.reaches.as_mut_slice(),
             self.mask,
             hash,
             token.get(),
@@ -159,19 +165,20 @@ impl<A: Allocator> Table<A> {
         ensures room { OnTrue result (self.new.room ≡ self.old.room + 1) }
         ensures allocated { self.new.allocated ≡ self.old.allocated }
     {
-        let found = chains::position_of(
-            self.heads.as_slice(),
+        let walk = Walk::new(
+            self.tags.as_slice(),
             self.places.as_slice(),
+            self.reaches.as_slice(),
             self.mask,
             hash,
-            token.get(),
         );
-        let Some(position) = found else {
+        let Some(position) = position_of(walk, token.get()) else {
             return false;
         };
-        chains::leave_place(
-            self.heads.as_mut_slice(),
+        groups::leave_place(
+            self.tags.as_mut_slice(),
             self.places.as_mut_slice(),
+            self.reaches.as_mut_slice(),
             self.mask,
             position,
         );
@@ -183,9 +190,14 @@ impl<A: Allocator> Table<A> {
     pub fn iter_hash(&self, hash: u64) -> Tokens<'_>
         ensures { IsTokensOf self.now hash result }
     {
-        let places = self.places.as_slice();
-        let link = chains::first_link(self.heads.as_slice(), hash, self.mask);
-        Tokens { places, hash, link }
+        let walk = Walk::new(
+            self.tags.as_slice(),
+            self.places.as_slice(),
+            self.reaches.as_slice(),
+            self.mask,
+            hash,
+        );
+        Tokens { walk }
     }
 
     /// A token of that hash for which `is_it` answers true. The tokens are shown to it in no order
@@ -196,6 +208,9 @@ impl<A: Allocator> Table<A> {
         ensures searches { Finds F.step self.now hash is_it result }
         ensures answers { CallsKeep F.step is_it → FindsByAnswer F.step self.now hash is_it result }
     {
+        if self.reaches.is_empty() {
+            return None;
+        }
         for token in self.iter_hash(hash) {
             if is_it(token) {
                 return Some(token);
@@ -213,9 +228,10 @@ impl<A: Allocator> Table<A> {
         if self.len == 0 {
             return;
         }
-        chains::free_all(
-            self.heads.as_mut_slice(),
+        groups::free_all(
+            self.tags.as_mut_slice(),
             self.places.as_mut_slice(),
+            self.reaches.as_mut_slice(),
             self.mask,
         );
         self.len = 0;

@@ -4,17 +4,14 @@ ghost use Rattle.std.specs.Iterator.{YieldsFirstBy, item_count};
 ghost use Rattle.std.specs.Int.NonZero.{non_zero_u32_get};
 
 use super::Token;
-use super::chains::Place;
+use super::walk::Walk;
 use std::iter::FusedIterator;
 use std::marker::Model;
 
 /// The tokens of one hash, seen as the list of those that are left.
 #[derive(Drop)]
 pub struct Tokens<'a> {
-    pub(crate) places: &'a [Place],
-    pub(crate) hash: u64,
-    // The link to the next place to look at.
-    pub(crate) link: u32,
+    pub(crate) walk: Walk<'a>,
 }
 
 impl<'a> Model for Tokens<'a> {
@@ -22,11 +19,11 @@ impl<'a> Model for Tokens<'a> {
 
     ghost Value = { List ℕ };
 
-    ghost use Rattle.quick_cache_base.specs.TableChains.{IsPath, positions_after, tokens_at};
+    ghost use Rattle.quick_cache_base.specs.TableGroups.{IsWalk, tokens_left};
 
-    ghost view = { λ it. tokens_at it.places.now it.hash (positions_after it.places.now it.link) };
+    ghost view = { λ it. tokens_left it.walk };
 
-    ghost invariant = { λ it. IsPath it.places.now it.link (positions_after it.places.now it.link) };
+    ghost invariant = { λ it. IsWalk it.walk };
 }
 
 impl<'a> Iterator for Tokens<'a> {
@@ -37,16 +34,8 @@ impl<'a> Iterator for Tokens<'a> {
     ghost remaining = { item_count (λ rest. rest) };
 
     fn next(&mut self) -> Option<Token> {
-        while self.link != 0 {
-            let place = self.places[(self.link - 1) as usize];
-            self.link = place.next;
-            if place.hash == self.hash {
-                if let Some(token) = Token::new(place.token) {
-                    return Some(token);
-                }
-            }
-        }
-        None
+        let position = self.walk.next_position()?;
+        Some(unsafe { Token::new_unchecked(self.walk.places[position].token) })
     }
 }
 

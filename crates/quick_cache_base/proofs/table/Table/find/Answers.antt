@@ -1,6 +1,9 @@
-use Rattle.std.proofs.Common.{of_calls, sym, subst, List, ℕ, Some, None, refl}
-use Rattle.quick_cache_base.specs.Table.{IsTokensOf, SearchesAlong}
-use Rattle.quick_cache_base.proofs.SearchLemmas.{SearchesAlong-on, SearchesAlong-ends, FindsByAnswer-from_Finds}
+use Rattle.std.proofs.Common.{◌≡◌, of_calls, sym, subst, ap, arith, length, List, [], ℕ, Some, None, refl}
+use Rattle.quick_cache_base.specs.Table.{Table, IsTokensOf, SearchesAlong}
+use Rattle.std.specs.Vec.{vec_len}
+use Rattle.std.proofs.lemmas.Bool.{eqb-true}
+use Rattle.quick_cache_base.proofs.TableLemmas.{IsTokensOf-none}
+use Rattle.quick_cache_base.proofs.SearchLemmas.{SearchesAlong-on, SearchesAlong-ends, FindsByAnswer-from_Finds, HasPair-from_Finds}
 use Rattle.quick_cache_base.proofs.table.Table.find.Given as given
 use Rattle.quick_cache_base.proofs.table.Table.find.Goals as goal
 
@@ -21,6 +24,10 @@ returns-then-is_it-clause-searches g c =
     let P : List ℕ → Type 0 = λ tokens. IsTokensOf c.args.self.now c.args.hash tokens in
     (c.into_iter-token-iterator.result, subst P (sym c.into_iter-token-iterator.ensures.into_iter_gives) c.iter_hash-token-items.ensures, all)
 
+pub returns-then-is_it-clause-found : goal.returns-then-is_it-clause-found
+returns-then-is_it-clause-found g c =
+    HasPair-from_Finds (given.F-step g) c.args.self.now c.args.hash c.args.is_it c.in-Some.token (returns-then-is_it-clause-searches g c)
+
 pub returns-then-is_it-clause-answers : goal.returns-then-is_it-clause-answers
 returns-then-is_it-clause-answers g c = λ keeps.
     FindsByAnswer-from_Finds (given.F-step g) c.args.self.now c.args.hash c.args.is_it (Some c.in-Some.token) keeps (returns-then-is_it-clause-searches g c)
@@ -36,3 +43,15 @@ returns-clause-searches g c =
 pub returns-clause-answers : goal.returns-clause-answers
 returns-clause-answers g c = λ keeps.
     FindsByAnswer-from_Finds (given.F-step g) c.args.self.now c.args.hash c.args.is_it None keeps (returns-clause-searches g c)
+
+-- a table without a group has nothing to show
+pub returns-then-is_empty-clause-searches : goal.returns-then-is_empty-clause-searches
+returns-then-is_empty-clause-searches g c =
+    let shows = sym (ap (λ (t : Table). t.pairs) c.self.view_is) in
+    let empty = eqb-true (vec_len c.self.inside.reaches) 0 (sym c.if-is_empty.ensures) in
+    let none : length c.self.inside.reaches.items ≡ 0 = omega (arith, empty) in
+    ([], IsTokensOf-none c.args.self.now c.self.inside.tags.items c.self.inside.places.items c.self.inside.reaches.items c.self.inside.mask c.args.hash shows c.self.invariant.whole none, refl)
+
+pub returns-then-is_empty-clause-answers : goal.returns-then-is_empty-clause-answers
+returns-then-is_empty-clause-answers g c = λ keeps.
+    FindsByAnswer-from_Finds (given.F-step g) c.args.self.now c.args.hash c.args.is_it None keeps (returns-then-is_empty-clause-searches g c)
