@@ -1,7 +1,7 @@
 //! Times the proved slab, as a static library, against the slab of the Rust crate, and compares each answer.
 //!
-//! Each is linked at four places, 16 bytes apart, and the best of them counts: where a jump stands in its
-//! line of 32 bytes changes the time of such a short loop by a tenth and more.
+//! Each is linked at four places, 16 bytes apart, and the mean of the four counts: where a jump stands in its
+//! line of 32 bytes changes the time of such a short loop by a tenth and more, and no caller chooses it.
 use std::arch::asm;
 use std::time::Instant;
 
@@ -104,8 +104,8 @@ fn each(whole: [f64; 4], filling: [f64; 4]) -> [f64; 4] {
     std::array::from_fn(|place| (whole[place] - filling[place]) / 1e6)
 }
 
-fn least(times: [f64; 4]) -> f64 {
-    times.into_iter().fold(f64::MAX, f64::min)
+fn mean(times: [f64; 4]) -> f64 {
+    times.into_iter().sum::<f64>() / 4.0
 }
 
 fn main() {
@@ -140,8 +140,8 @@ fn main() {
             }
             let (ours, theirs) = times(&calls, runs);
             let (ours, theirs) = (each(ours, filling.0), each(theirs, filling.1));
-            let (best, rust) = (least(ours), least(theirs));
-            println!("{slots:>7} slots  {name:<18} {best:>6.2} ns  Rust {rust:>6.2} ns  ratio {:.2}", best / rust);
+            let (our_mean, rust_mean) = (mean(ours), mean(theirs));
+            println!("{slots:>7} slots  {name:<18} {our_mean:>6.2} ns  Rust {rust_mean:>6.2} ns  ratio {:.2}", our_mean / rust_mean);
             println!("    at each place {ours:.2?}  Rust {theirs:.2?}");
         }
     }
