@@ -180,7 +180,7 @@ fn house(tags: &mut [u8], places: &mut [Place], reaches: &mut [u32], mask: usize
     }
 }
 
-// Houses every pair. No place has a tag.
+// Houses every pair that has no tag.
 fn house_all(tags: &mut [u8], places: &mut [Place], reaches: &mut [u32], mask: usize)
     requires housed { IsHoused tags.old places.old reaches.old mask }
     ensures whole { IsWhole tags.new places.new reaches.new mask }

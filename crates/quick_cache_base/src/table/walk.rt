@@ -9,8 +9,8 @@ use super::groups::{LANES, Place, home_of, lanes_of, tag_of};
 pub(crate) struct Walk<'a> {
     pub(crate) tags: &'a [u8],
     pub(crate) places: &'a [Place],
-    pub(crate) hash: u64,
     pub(crate) reaches: &'a [u32],
+    pub(crate) hash: u64,
     pub(crate) home: usize,
     // The distance of the group that is being read.
     pub(crate) step: usize,
@@ -35,8 +35,8 @@ impl<'a> Walk<'a> {
         let mut walk = Walk {
             tags,
             places,
-            hash,
             reaches,
+            hash,
             home: 0,
             step: 0,
             lanes: 0,
@@ -60,6 +60,9 @@ impl<'a> Walk<'a> {
     }
 
     // The position of the next pair of the hash in the group that is being read.
+    //
+    // A lane is left behind once its place was compared, and not before: a look-up that ends there
+    // does not need the rest.
     #[inline(always)]
     fn next_in_group(&mut self) -> Option<usize>
         requires { IsWalk self.old }
