@@ -58,21 +58,31 @@ abbrev pub AreTagged : List ℕ → ℕ → ℕ → Type 0
 AreTagged tags home step =
     (s : ℕ) → s < step → (lane : ℕ) → lane < 16 → get_or tags (16 * bit_xor home s + lane) 0 ≢ 0
 
+-- a place without a tag is no nearer than a group that was not read
+pub AreTagged-near : (tags : List ℕ) (home step position : ℕ) → AreTagged tags home step → get_or tags position 0 ≡ 0 → step ≤ bit_xor home (position / 16)
+AreTagged-near tags home step position tagged free =
+    let s = bit_xor home (position / 16) in
+    elim (leb_tells step s) [
+      | inl t ↦ t.1
+      | inr t ↦
+          let here : 16 * bit_xor home s + position % 16 ≡ position = omega (arith, xor-back home (position / 16)) in
+          absurd (tagged s (omega (arith, t.1)) (position % 16) (omega arith) (ap (λ n. get_or tags n 0) here ∙ free))
+    ]
+
 -- some group is left where a place has no tag
 pub AreTagged-step : (tags : List ℕ) (mask home step : ℕ) → length tags ≡ 16 * (mask + 1) → IsPowerOfTwo (mask + 1) → home ≤ mask → 0 < count_by (λ t. eqb t 0) tags → AreTagged tags home step → step ≤ mask
 AreTagged-step tags mask home step sized power inside some tagged =
     let free = position_of_some (λ t. eqb t 0) tags 0 some in
-    let p = free.0 in
-    let s = bit_xor home (p / 16) in
-    let near = xor-within mask home (p / 16) power inside (omega (arith, sized, free.1)) in
-    elim (leb_tells step s) [
-      | inl t ↦ omega (arith, t.1, near)
-      | inr t ↦
-          let here : 16 * bit_xor home s + p % 16 ≡ p = omega (arith, xor-back home (p / 16)) in
-          absurd (tagged s (omega (arith, t.1)) (p % 16) (omega arith) (ap (λ n. get_or tags n 0) here ∙ eqb-true _ 0 free.2))
-    ]
+    let near = xor-within mask home (free.0 / 16) power inside (omega (arith, sized, free.1)) in
+    omega (arith, near, AreTagged-near tags home step free.0 tagged (eqb-true _ 0 free.2))
 
--- and it is one that there is
+-- the distance of a place in the group at a distance
+pub distance-lane : (home step lane : ℕ) → lane < 16 → bit_xor home ((16 * bit_xor home step + lane) / 16) ≡ step
+distance-lane home step lane within =
+    let group : (16 * bit_xor home step + lane) / 16 ≡ bit_xor home step = omega (arith, within) in
+    ap (bit_xor home) group ∙ xor-back home step
+
+-- the group that is left is one that there is
 pub AreTagged-group : (tags : List ℕ) (mask home step : ℕ) → length tags ≡ 16 * (mask + 1) → IsPowerOfTwo (mask + 1) → home ≤ mask → 0 < count_by (λ t. eqb t 0) tags → AreTagged tags home step → 16 * bit_xor home step + 16 ≤ length tags
 AreTagged-group tags mask home step sized power inside some tagged =
     omega (arith, sized, xor-within mask home step power inside (AreTagged-step tags mask home step sized power inside some tagged))

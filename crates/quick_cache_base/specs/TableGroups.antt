@@ -106,6 +106,13 @@ pub record HasSamePairs (old new : List Place) : Type 0 where
   pub pairs : (h k : ℕ) → count_by (holds_pair h k) new ≡ count_by (holds_pair h k) old
   pub taken : length (pairs_of new) ≡ length (pairs_of old)
 
+-- a pair of that home is in the group
+abbrev pub HasPairOf : List Place → ℕ → ℕ → ℕ → Type 0
+HasPairOf places mask home group =
+    (lane : ℕ) × (lane < 16)
+    × let place = place_at places (16 * group + lane) in
+    (0 < place.token) × (home_of mask (hash_at place) ≡ home)
+
 -- no reach got shorter
 abbrev pub ReachesGrow : List ℕ → List ℕ → Type 0
 ReachesGrow old new =

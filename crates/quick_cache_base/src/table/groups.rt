@@ -4,10 +4,10 @@
 //! groups at distance 1, 2 and so on, up to the home's reach. The group at a distance is the one
 //! whose number differs from the home's in the bits of that distance, so that the next few lie in
 //! the same line of the cache, and each group is met once.
-ghost use Rattle.std.specs.Prelude.{◌≡◌, ◌≢◌, ℕ, ◌+◌, ◌-◌, ◌*◌, ◌^◌, ◌<◌, ◌≤◌, ◌==◌, ◌&&◌, false, length, count_by, map, replicate, IsFalse, OnOk, OnErr, IfErr, slice_index, slice_set, vec_len, vec_capacity};
+ghost use Rattle.std.specs.Prelude.{◌≡◌, ◌≢◌, ℕ, ◌+◌, ◌-◌, ◌*◌, ◌^◌, ◌<◌, ◌≤◌, ◌==◌, ◌&&◌, false, length, count_by, map, replicate, IsTrue, IsFalse, OnOk, OnErr, IfErr, bit_xor, slice_index, slice_set, vec_len, vec_capacity};
 ghost use Rattle.std.specs.Simd.Lanes.{chunk, mask_l};
 ghost use Rattle.std.specs.Int.{IsPowerOfTwo};
-ghost use Rattle.quick_cache_base.specs.TableGroups.{hash_at, is_free, place_at, tag_of as tag_number, home_of as home_number, distance, IsReached, IsSized, IsHoused, IsBareBelow, IsWhole, capacity_of, HasOneMore, HasSamePairs, ReachesGrow, empty_place};
+ghost use Rattle.quick_cache_base.specs.TableGroups.{hash_at, is_free, place_at, tag_of as tag_number, home_of as home_number, distance, IsReached, IsSized, IsHoused, IsBareBelow, IsWhole, capacity_of, HasOneMore, HasSamePairs, HasPairOf, ReachesGrow, empty_place};
 
 use crate::Refusal;
 use std::alloc::Allocator;
@@ -107,6 +107,8 @@ fn untagged(tags: &[u8], mask: usize, home: usize) -> usize
     requires some { 0 < count_by (λ t. t == 0) tags.now }
     ensures within { result < length tags.now }
     ensures untagged { slice_index tags.now result ≡ 0 }
+    ensures nearest { (position : ℕ) → position < length tags.now
+        → slice_index tags.now position ≡ 0 → distance home result ≤ distance home position }
 {
     let mut step = 0;
     loop {
@@ -255,7 +257,8 @@ pub(crate) fn free_all(tags: &mut [u8], places: &mut [Place], reaches: &mut [u32
 // Whether a pair of that home is in the group.
 fn is_home_of(places: &[Place], mask: usize, home: usize, group: usize) -> bool
     requires { 16 * group + 16 ≤ length places.now }
-    ensures { IsFalse result → (lane : ℕ) → lane < 16
+    ensures found { IsTrue result → HasPairOf places.now mask home group }
+    ensures none { IsFalse result → (lane : ℕ) → lane < 16
         → let place = place_at places.now (16 * group + lane) in
         0 < place.token → home_number mask (hash_at place) ≢ home }
 {
@@ -282,6 +285,10 @@ fn shorten(places: &[Place], reaches: &mut [u32], mask: usize, home: usize)
         → let place = place_at places.now position in
         0 < place.token → IsReached reaches.old mask (hash_at place) position
         → IsReached reaches.new mask (hash_at place) position }
+    ensures tight { 0 < slice_index reaches.new home
+        → HasPairOf places.now mask home (bit_xor home (slice_index reaches.new home)) }
+    ensures others { (group : ℕ) → group ≢ home
+        → slice_index reaches.new group ≡ slice_index reaches.old group }
 {
     let mut step = reaches[home];
     while step != 0 && !is_home_of(places, mask, home, home ^ step as usize) {

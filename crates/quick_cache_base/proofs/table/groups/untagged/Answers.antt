@@ -1,7 +1,7 @@
 -- A place without a tag stands at a distance of at most `mask`, so no group past it is read.
 use Rattle.std.proofs.Common.{◌*◌, sym, ◌∙◌, arith}
 use Rattle.std.specs.Int.Bits.{bit_xor}
-use Rattle.quick_cache_base.proofs.GroupLemmas.{lane_of_mask, AreTagged-step, AreTagged-group, AreTagged-more}
+use Rattle.quick_cache_base.proofs.GroupLemmas.{lane_of_mask, AreTagged-near, AreTagged-step, AreTagged-group, AreTagged-more, distance-lane}
 use Rattle.quick_cache_base.proofs.table.groups.untagged.Goals as goal
 
 pub loop-mask-init : goal.loop-mask-init
@@ -32,6 +32,14 @@ returns-then-lanes-ne0-clause-untagged c =
     let group = AreTagged-group c.args.tags.now c.args.mask c.args.home c.loop-mask.step asked.sized asked.power asked.home asked.some c.loop-mask.invariant in
     let lane = lane_of_mask c.args.tags.now (16 * bit_xor c.args.home c.loop-mask.step) 0 c.lanes_of-lanes.result group c.lanes_of-lanes.ensures c.if-lanes-ne0.true in
     lane.1
+
+-- every group nearer has been read
+pub returns-then-lanes-ne0-clause-nearest : goal.returns-then-lanes-ne0-clause-nearest
+returns-then-lanes-ne0-clause-nearest c = λ position inside free.
+    let asked = c.requires in
+    let group = AreTagged-group c.args.tags.now c.args.mask c.args.home c.loop-mask.step asked.sized asked.power asked.home asked.some c.loop-mask.invariant in
+    let lane = lane_of_mask c.args.tags.now (16 * bit_xor c.args.home c.loop-mask.step) 0 c.lanes_of-lanes.result group c.lanes_of-lanes.ensures c.if-lanes-ne0.true in
+    omega (arith, distance-lane c.args.home c.loop-mask.step _ lane.0, AreTagged-near c.args.tags.now c.args.home c.loop-mask.step position c.loop-mask.invariant free)
 
 pub overflow_add-step : goal.overflow_add-step
 overflow_add-step c =
