@@ -1,21 +1,21 @@
 -- Groups along a search, and what a change of tags, places or reaches leaves.
-use Rattle.std.proofs.Common.{◌≡◌, ◌≢◌, ℕ, zero, suc, ◌+◌, ◌-◌, ◌*◌, ◌/◌, ◌%◌, ◌^◌, ◌<◌, ◌≤◌, Bool, true, false, cond, eqb, List, [], ◌∷◌, ◌++◌, length, replicate, take, map, get_or, set, count_by, refl, sym, ap, subst, ◌∙◌, inl, inr, arith, w64}
-use Rattle.std.specs.Int.{IsPowerOfTwo, trailing_zeros}
+use Rattle.std.proofs.Common.{◌≡◌, ◌≢◌, ℕ, suc, ◌+◌, ◌-◌, ◌*◌, ◌/◌, ◌%◌, ◌^◌, ◌<◌, ◌≤◌, Bool, true, false, cond, eqb, List, [], ◌∷◌, ◌++◌, length, replicate, take, map, get_or, set, count_by, refl, sym, ap, subst, ◌∙◌, inl, inr, arith, w64}
+use Rattle.std.specs.Int.{IsPowerOfTwo, bit_at, trailing_zeros, w64}
 use Rattle.std.specs.Int.Bits.{bit_and, bit_xor}
 use Rattle.std.specs.List.{swap}
 use Rattle.std.specs.Simd.Lanes.{chunk, mask_l}
 use Rattle.std.proofs.lemmas.Bool.{eqb-true, eqb-false, eq-eqb}
 use Rattle.std.proofs.lemmas.Bool.Decides.{leb_tells}
-use Rattle.std.proofs.lemmas.List.{length-map, length-set, length-append, length-replicate, get_or_past, take_all, get_or-set_same, get_or-set_other}
+use Rattle.std.proofs.lemmas.List.{length-set, length-append, length-replicate, get_or_past, take_all, get_or-set_same, get_or-set_other}
 use Rattle.std.proofs.lemmas.List.Edits.{length-swap, swapped_from_swap}
 use Rattle.std.proofs.lemmas.List.Folds.{sum_by-replicate}
 use Rattle.std.proofs.lemmas.List.Sorted.{IsPermutation-swap, sum_by-IsPermutation}
-use Rattle.std.proofs.lemmas.List.Sums.{sum_by-cons, sum_by-append}
-use Rattle.std.proofs.lemmas.Nat.Bits.{bit_at_above, bit_at-trailing_zeros}
-use Rattle.std.proofs.lemmas.Simd.{length-chunk, mask_l-lt, trailing_mask_l, run_in_chunk_stops, none_from_empty_mask}
+use Rattle.std.proofs.lemmas.List.Sums.{get_or-le-sum_by, sum_by-cons, sum_by-append}
+use Rattle.std.proofs.lemmas.Simd.{none_from_empty_mask}
 use Rattle.quick_cache_base.specs.declared.table.groups.Place.{Place}
 use Rattle.quick_cache_base.specs.TableGroups.{hash_at, is_free, tag_of, holds_pair, place_at, empty_place, IsReached, IsHoused, IsHousedAt, IsBareBelow, HasSamePairs, ReachesGrow}
 use Rattle.quick_cache_base.proofs.Distances.{xor-back, xor-within}
+use Rattle.quick_cache_base.proofs.LaneLemmas.{lanes-few, lit-tag, trailing_zeros-IsLowestBit, trailing_zeros-lt}
 use Rattle.quick_cache_base.proofs.PowersOfTwo.{IsPowerOfTwo-pos}
 use Rattle.quick_cache_base.proofs.PlaceLemmas.{bit, bool_tells, equal_or_not, length-pairs_of}
 
@@ -30,28 +30,13 @@ position_of_some p (x ∷ xs) d some =
           (suc later.0, omega (arith, later.1), later.2)
     ]
 
--- and where one passes it, some do
-pub some_at : {X : Type 0} (p : X → Bool) (xs : List X) (i : ℕ) (d : X) → i < length xs → p (get_or xs i d) ≡ true → 0 < count_by p xs
-some_at p [] i d inside holds = absurd (omega arith)
-some_at p (x ∷ xs) zero d inside holds =
-    omega (arith, sum_by-cons (λ y. bit (p y)) x xs, ap bit holds)
-some_at p (x ∷ xs) (suc i) d inside holds =
-    omega (arith, sum_by-cons (λ y. bit (p y)) x xs, some_at p xs i d (omega arith) holds)
-
 -- the lowest bit of a mask is a lane that has the tag
-pub lane_of_mask : (tags : List ℕ) (from tag lanes : ℕ) → from + 16 ≤ length tags → lanes ≡ mask_l (map (λ t. eqb t tag) (chunk from 16 tags)) → lanes ≢ 0 → (trailing_zeros w64 lanes < 16) × (get_or tags (from + trailing_zeros w64 lanes) 0 ≡ tag)
-lane_of_mask tags from tag lanes inside is some =
-    let group = chunk from 16 tags in
-    let has = λ (t : ℕ). eqb t tag in
-    let long = length-chunk from 16 tags inside in
-    let few : lanes < 2 ^ 16 = subst (λ n. n < 2 ^ 16) (sym is) (subst (λ n. mask_l (map has group) < 2 ^ n) (length-map group has ∙ long) (mask_l-lt (map has group))) in
-    let set = bit_at-trailing_zeros w64 lanes (omega (arith, some)) (omega (arith, few)) in
-    let within : trailing_zeros w64 lanes < 16 = elim (leb_tells 16 (trailing_zeros w64 lanes)) [
-      | inl t ↦ absurd (omega (arith, set.1, bit_at_above lanes 16 (trailing_zeros w64 lanes) few t.1))
-      | inr t ↦ omega (arith, t.1)
-    ] in
-    let first = ap (trailing_zeros w64) is ∙ trailing_mask_l has 64 group (omega (arith, long)) (omega (arith, is, some)) in
-    (within, eqb-true _ tag (run_in_chunk_stops has tags from 16 (trailing_zeros w64 lanes) 0 inside first within))
+pub lane_of_mask : (tags : List ℕ) (group tag lanes : ℕ) → 16 * group + 16 ≤ length tags → lanes ≡ mask_l (map (λ t. eqb t tag) (chunk (16 * group) 16 tags)) → lanes ≢ 0 → (trailing_zeros w64 lanes < 16) × (get_or tags (16 * group + trailing_zeros w64 lanes) 0 ≡ tag)
+lane_of_mask tags group tag lanes inside is some =
+    let few : lanes < 2 ^ 16 = subst (λ n. n < 2 ^ 16) (sym is) (lanes-few tags group tag inside) in
+    let lowest = trailing_zeros-IsLowestBit lanes (omega (arith, some)) (omega (arith, few)) in
+    let set = ap (λ n. bit_at n (trailing_zeros w64 lanes)) (sym is) ∙ lowest.set in
+    (trailing_zeros-lt lanes (omega (arith, some)) few, lit-tag tags group tag inside (trailing_zeros w64 lanes) set)
 
 -- the groups nearer than this have no place without a tag
 abbrev pub AreTagged : List ℕ → ℕ → ℕ → Type 0
@@ -108,7 +93,9 @@ untagged_some tags places reaches mask housed room =
       | inl t ↦
           let here = housed.housed p free.1 t.1 in
           absurd (omega (arith, here.taken, eqb-true _ 0 free.2))
-      | inr t ↦ some_at (λ x. eqb x 0) tags p 0 (omega (arith, housed.sized.tagged, free.1)) (eq-eqb _ 0 (omega (arith, t.1)))
+      | inr t ↦
+          let bare = ap bit (eq-eqb (get_or tags p 0) 0 (omega (arith, t.1))) in
+          omega (arith, bare, get_or-le-sum_by (λ x. bit (eqb x 0)) tags p 0 (omega (arith, housed.sized.tagged, free.1)))
     ]
 
 -- a place with a token has a pair

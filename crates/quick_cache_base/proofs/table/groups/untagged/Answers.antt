@@ -1,5 +1,5 @@
 -- A place without a tag stands at a distance of at most `mask`, so no group past it is read.
-use Rattle.std.proofs.Common.{◌*◌, sym, ◌∙◌, arith}
+use Rattle.std.proofs.Common.{sym, ◌∙◌, arith}
 use Rattle.std.specs.Int.Bits.{bit_xor}
 use Rattle.quick_cache_base.proofs.GroupLemmas.{lane_of_mask, AreTagged-near, AreTagged-step, AreTagged-group, AreTagged-more, distance-lane}
 use Rattle.quick_cache_base.proofs.table.groups.untagged.Goals as goal
@@ -16,21 +16,21 @@ pub overflow_add-result : goal.overflow_add-result
 overflow_add-result c =
     let asked = c.requires in
     let group = AreTagged-group c.args.tags.now c.args.mask c.args.home c.loop-mask.step asked.sized asked.power asked.home asked.some c.loop-mask.invariant in
-    let lane = lane_of_mask c.args.tags.now (16 * bit_xor c.args.home c.loop-mask.step) 0 c.lanes_of-lanes.result group c.lanes_of-lanes.ensures c.if-lanes-ne0.true in
+    let lane = lane_of_mask c.args.tags.now (bit_xor c.args.home c.loop-mask.step) 0 c.lanes_of-lanes.result group c.lanes_of-lanes.ensures c.if-lanes-ne0.true in
     record { fits = omega (arith, asked.sized, asked.few, group, lane.0) }
 
 pub returns-then-lanes-ne0-clause-within : goal.returns-then-lanes-ne0-clause-within
 returns-then-lanes-ne0-clause-within c =
     let asked = c.requires in
     let group = AreTagged-group c.args.tags.now c.args.mask c.args.home c.loop-mask.step asked.sized asked.power asked.home asked.some c.loop-mask.invariant in
-    let lane = lane_of_mask c.args.tags.now (16 * bit_xor c.args.home c.loop-mask.step) 0 c.lanes_of-lanes.result group c.lanes_of-lanes.ensures c.if-lanes-ne0.true in
+    let lane = lane_of_mask c.args.tags.now (bit_xor c.args.home c.loop-mask.step) 0 c.lanes_of-lanes.result group c.lanes_of-lanes.ensures c.if-lanes-ne0.true in
     omega (arith, group, lane.0)
 
 pub returns-then-lanes-ne0-clause-untagged : goal.returns-then-lanes-ne0-clause-untagged
 returns-then-lanes-ne0-clause-untagged c =
     let asked = c.requires in
     let group = AreTagged-group c.args.tags.now c.args.mask c.args.home c.loop-mask.step asked.sized asked.power asked.home asked.some c.loop-mask.invariant in
-    let lane = lane_of_mask c.args.tags.now (16 * bit_xor c.args.home c.loop-mask.step) 0 c.lanes_of-lanes.result group c.lanes_of-lanes.ensures c.if-lanes-ne0.true in
+    let lane = lane_of_mask c.args.tags.now (bit_xor c.args.home c.loop-mask.step) 0 c.lanes_of-lanes.result group c.lanes_of-lanes.ensures c.if-lanes-ne0.true in
     lane.1
 
 -- every group nearer has been read
@@ -38,7 +38,7 @@ pub returns-then-lanes-ne0-clause-nearest : goal.returns-then-lanes-ne0-clause-n
 returns-then-lanes-ne0-clause-nearest c = λ position inside free.
     let asked = c.requires in
     let group = AreTagged-group c.args.tags.now c.args.mask c.args.home c.loop-mask.step asked.sized asked.power asked.home asked.some c.loop-mask.invariant in
-    let lane = lane_of_mask c.args.tags.now (16 * bit_xor c.args.home c.loop-mask.step) 0 c.lanes_of-lanes.result group c.lanes_of-lanes.ensures c.if-lanes-ne0.true in
+    let lane = lane_of_mask c.args.tags.now (bit_xor c.args.home c.loop-mask.step) 0 c.lanes_of-lanes.result group c.lanes_of-lanes.ensures c.if-lanes-ne0.true in
     omega (arith, distance-lane c.args.home c.loop-mask.step _ lane.0, AreTagged-near c.args.tags.now c.args.home c.loop-mask.step position c.loop-mask.invariant free)
 
 pub overflow_add-step : goal.overflow_add-step
