@@ -56,3 +56,4 @@ pub mod WaitingLemmas
 pub mod WalkLemmas
 pub mod WriteExistence
 pub mod WriteLaws
+pub mod LoadingShownLemmas

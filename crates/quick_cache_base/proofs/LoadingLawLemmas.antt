@@ -1,8 +1,8 @@
 -- What each row of the table keeps: guards, values, ends of lives, and waiters.
-use Rattle.std.proofs.Common.{◌≡◌, ℕ, ◌+◌, ◌≤◌, Bool, true, false, [], refl, sym, ◌∙◌, ap, not, ◌&&◌, Option, Some, IfSome, lit≤, if◌then◌else◌}
+use Rattle.std.proofs.Common.{◌≡◌, ℕ, ◌+◌, ◌≤◌, Bool, true, false, [], refl, sym, ◌∙◌, ap, not, ◌&&◌, Option, IfSome, lit≤, if◌then◌else◌}
 use Rattle.quick_cache_base.proofs.TestLemmas.{or-false, same-number}
 use Rattle.quick_cache_base.specs.Core.{Life, Loading, Filled, GivenUp, CoreState, new_core, held_by, held_in, held_count, handed_by, handed_in, handed_count, value_of, is_given_up, is_loading, waits, waiters_of}
-use Rattle.quick_cache_base.specs.LoadingLaws.{applies, can_join, can_show, is_not_now, only_tells, given_by, taken_by, most_given, shown_by, value_after, given_up_after, lets_go}
+use Rattle.quick_cache_base.specs.LoadingLaws.{applies, can_join, can_show, is_not_now, only_tells, given_by, taken_by, most_given, shown_by, MayShow, value_after, given_up_after, lets_go}
 use Rattle.quick_cache_base.specs.LoadingRow.{LoadingRow, no_case_applies, creates, joins, lacks_room, shows_the_value, lacks_a_clone, fills, hands_on, gives_up, receives, waits_on, withdraws, cancels_in_vain, leaves, abandoning, cancelling, taking, timing_out, by_time, by_cancel}
 use Rattle.quick_cache_base.proofs.WaitingLemmas.{has-handed, has-left, has-joined}
 use Rattle.quick_cache_base.specs.declared.refusal.Refusal.{Refusal}
@@ -58,13 +58,13 @@ module _ {V : Type 0} where
   shown-guards Leave old a can = absurd (cc)
 
   -- what is held afterwards and was taken back is what was held and is given
-  pub row-guards : {e : Event V} {old : CoreState V} {a : Answer V} {new : CoreState V} → LoadingRow e old a new
+  pub row-guards : {shows : V → V → Type 0} {e : Event V} {old : CoreState V} {a : Answer V} {new : CoreState V} → LoadingRow shows e old a new
       → held_count new + taken_by e a ≡ held_count old + given_by a
   row-guards (no_case_applies e old none) = none-guards e old
   row-guards (creates old is) = rw is
   row-guards (joins old h ws n is inside other absent) = rw is
   row-guards (lacks_room old h ws n is inside other absent) = refl
-  row-guards (shows_the_value e old v is can) = shown-guards e old (answer.Value v) can
+  row-guards (shows_the_value e old v w is can same) = shown-guards e old (answer.Value w) can
   row-guards (lacks_a_clone e old v is can) = shown-guards e old (answer.Refused Memory) can
   row-guards (fills old ws v is) = rw is
   row-guards (hands_on _ old _ before m after abandoning is) = rw is
@@ -90,12 +90,12 @@ module _ {V : Type 0} where
   some-given (Cancel n) = lit≤ tt
   some-given Leave = lit≤ tt
 
-  pub row-most_given : {e : Event V} {old : CoreState V} {a : Answer V} {new : CoreState V} → LoadingRow e old a new → given_by a ≤ most_given e
+  pub row-most_given : {shows : V → V → Type 0} {e : Event V} {old : CoreState V} {a : Answer V} {new : CoreState V} → LoadingRow shows e old a new → given_by a ≤ most_given e
   row-most_given (no_case_applies e old none) = some-given e
   row-most_given (creates old is) = lit≤ tt
   row-most_given (joins old h ws n is inside other absent) = lit≤ tt
   row-most_given (lacks_room old h ws n is inside other absent) = lit≤ tt
-  row-most_given (shows_the_value e old v is can) = some-given e
+  row-most_given (shows_the_value e old v w is can same) = some-given e
   row-most_given (lacks_a_clone e old v is can) = some-given e
   row-most_given (fills old ws v is) = lit≤ tt
   row-most_given (hands_on e old _ before m after by is) = some-given e
@@ -120,12 +120,12 @@ module _ {V : Type 0} where
   shown-applies Leave old v is can = absurd (cc)
 
   -- `NotNow` is answered exactly where no case applies
-  pub row-applies : {e : Event V} {old : CoreState V} {a : Answer V} {new : CoreState V} → LoadingRow e old a new → applies e old ≡ not (is_not_now a)
+  pub row-applies : {shows : V → V → Type 0} {e : Event V} {old : CoreState V} {a : Answer V} {new : CoreState V} → LoadingRow shows e old a new → applies e old ≡ not (is_not_now a)
   row-applies (no_case_applies e old none) = none
   row-applies (creates old is) = rw is
   row-applies (joins old h ws n is inside other absent) = rw (is, inside, other, absent) refl
   row-applies (lacks_room old h ws n is inside other absent) = rw (is, inside, other, absent) refl
-  row-applies (shows_the_value e old v is can) = shown-applies e old v is can
+  row-applies (shows_the_value e old v w is can same) = shown-applies e old v is can
   row-applies (lacks_a_clone e old v is can) = shown-applies e old v is can
   row-applies (fills old ws v is) = rw is
   row-applies (hands_on _ old _ before m after abandoning is) = rw is
@@ -141,10 +141,10 @@ module _ {V : Type 0} where
   row-applies (leaves old inside) = inside
 
   -- an answer that only tells changes nothing
-  pub row-only_tells : {e : Event V} {old : CoreState V} {a : Answer V} {new : CoreState V} → LoadingRow e old a new → only_tells a ≡ true → new ≡ old
+  pub row-only_tells : {shows : V → V → Type 0} {e : Event V} {old : CoreState V} {a : Answer V} {new : CoreState V} → LoadingRow shows e old a new → only_tells a ≡ true → new ≡ old
   row-only_tells (no_case_applies e old none) tells = refl
   row-only_tells (lacks_room old h ws n is inside other absent) tells = refl
-  row-only_tells (shows_the_value e old v is can) tells = refl
+  row-only_tells (shows_the_value e old v w is can same) tells = refl
   row-only_tells (lacks_a_clone e old v is can) tells = refl
   row-only_tells (waits_on old h ws n is other waiting) tells = refl
   row-only_tells (withdraws _ old h ws _ _ (by_time n) is other waiting) tells = absurd (cc)
@@ -152,7 +152,7 @@ module _ {V : Type 0} where
   row-only_tells _ tells = absurd (cc)
 
   -- only memory is refused
-  pub row-refused : {e : Event V} {old : CoreState V} {a : Answer V} {new : CoreState V} → LoadingRow e old a new
+  pub row-refused : {shows : V → V → Type 0} {e : Event V} {old : CoreState V} {a : Answer V} {new : CoreState V} → LoadingRow shows e old a new
       → (why : Refusal) → a ≡ answer.Refused why → why ≡ Memory
   row-refused (lacks_room old h ws n is inside other absent) why eq = cc
   row-refused (lacks_a_clone e old v is can) why eq = cc
@@ -160,10 +160,10 @@ module _ {V : Type 0} where
   row-refused (withdraws _ old h ws _ _ (by_cancel n) is other waiting) why eq = cc
   row-refused _ why eq = cc
 
-  -- a value that is shown is the one that the life is filled with
-  pub row-shown : {e : Event V} {old : CoreState V} {a : Answer V} {new : CoreState V} → LoadingRow e old a new
-      → IfSome (shown_by a) (λ v. value_of old.life ≡ Some v)
-  row-shown (shows_the_value e old v is can) = rw is
+  -- a value that is shown stands for the one that the life is filled with
+  pub row-shown : {shows : V → V → Type 0} {e : Event V} {old : CoreState V} {a : Answer V} {new : CoreState V} → LoadingRow shows e old a new
+      → IfSome (shown_by a) (MayShow shows (value_of old.life))
+  row-shown (shows_the_value e old v w is can same) = rw is same
   row-shown (withdraws _ old h ws _ _ (by_time n) is other waiting) = tt
   row-shown (withdraws _ old h ws _ _ (by_cancel n) is other waiting) = tt
   row-shown _ = tt
@@ -199,13 +199,13 @@ module _ {V : Type 0} where
   refused-value Leave old known can = absurd (cc)
 
   -- a fill gives the value, a new life has none, and nothing else changes it
-  pub row-value : {e : Event V} {old : CoreState V} {a : Answer V} {new : CoreState V} → LoadingRow e old a new
+  pub row-value : {shows : V → V → Type 0} {e : Event V} {old : CoreState V} {a : Answer V} {new : CoreState V} → LoadingRow shows e old a new
       → value_of new.life ≡ value_after (value_of old.life) e a
   row-value (no_case_applies e old none) = none-value e _
   row-value (creates old is) = refl
   row-value (joins old h ws n is inside other absent) = rw is
   row-value (lacks_room old h ws n is inside other absent) = refl
-  row-value (shows_the_value e old v is can) = shown-value e old _ v can
+  row-value (shows_the_value e old v w is can same) = shown-value e old _ w can
   row-value (lacks_a_clone e old v is can) = refused-value e old _ can
   row-value (fills old ws v is) = refl
   row-value (hands_on _ old _ before m after abandoning is) = rw is
@@ -221,13 +221,13 @@ module _ {V : Type 0} where
   row-value (leaves old inside) = refl
 
   -- a life is given up by the answer `GivenUp` alone, until a new one is created
-  pub row-given_up : {e : Event V} {old : CoreState V} {a : Answer V} {new : CoreState V} → LoadingRow e old a new
+  pub row-given_up : {shows : V → V → Type 0} {e : Event V} {old : CoreState V} {a : Answer V} {new : CoreState V} → LoadingRow shows e old a new
       → is_given_up new.life ≡ given_up_after (is_given_up old.life) a
   row-given_up (no_case_applies e old none) = refl
   row-given_up (creates old is) = refl
   row-given_up (joins old h ws n is inside other absent) = rw is
   row-given_up (lacks_room old h ws n is inside other absent) = refl
-  row-given_up (shows_the_value e old v is can) = refl
+  row-given_up (shows_the_value e old v w is can same) = refl
   row-given_up (lacks_a_clone e old v is can) = refl
   row-given_up (fills old ws v is) = rw is
   row-given_up (hands_on e old _ before m after by is) = rw is
@@ -240,14 +240,14 @@ module _ {V : Type 0} where
   row-given_up (leaves old inside) = refl
 
   -- a life is given up only where nobody waits, and the core is then as a new one
-  pub row-alone : {e : Event V} {old : CoreState V} {a : Answer V} {new : CoreState V} → LoadingRow e old a new
+  pub row-alone : {shows : V → V → Type 0} {e : Event V} {old : CoreState V} {a : Answer V} {new : CoreState V} → LoadingRow shows e old a new
       → a ≡ answer.GivenUp → waiters_of old.life ≡ []
   row-alone (gives_up e old h by is) eq = rw is
   row-alone (withdraws _ old h ws _ _ (by_time n) is other waiting) eq = absurd (cc)
   row-alone (withdraws _ old h ws _ _ (by_cancel n) is other waiting) eq = absurd (cc)
   row-alone _ eq = absurd (cc)
 
-  pub row-new_core : {e : Event V} {old : CoreState V} {a : Answer V} {new : CoreState V} → LoadingRow e old a new
+  pub row-new_core : {shows : V → V → Type 0} {e : Event V} {old : CoreState V} {a : Answer V} {new : CoreState V} → LoadingRow shows e old a new
       → a ≡ answer.GivenUp → new ≡ new_core
   row-new_core (gives_up e old h by is) eq = refl
   row-new_core (withdraws _ old h ws _ _ (by_time n) is other waiting) eq = absurd (cc)
@@ -255,7 +255,7 @@ module _ {V : Type 0} where
   row-new_core _ eq = absurd (cc)
 
   -- a waiter joins a loading life alone
-  pub row-joined : {e : Event V} {old : CoreState V} {a : Answer V} {new : CoreState V} → LoadingRow e old a new
+  pub row-joined : {shows : V → V → Type 0} {e : Event V} {old : CoreState V} {a : Answer V} {new : CoreState V} → LoadingRow shows e old a new
       → a ≡ answer.Joined → is_given_up old.life ≡ false
   row-joined (joins old h ws n is inside other absent) eq = rw is
   row-joined (withdraws _ old h ws _ _ (by_time n) is other waiting) eq = absurd (cc)
@@ -263,13 +263,13 @@ module _ {V : Type 0} where
   row-joined _ eq = absurd (cc)
 
   -- who waits goes on waiting until it is let go
-  pub row-stays : {e : Event V} {old : CoreState V} {a : Answer V} {new : CoreState V} → LoadingRow e old a new
+  pub row-stays : {shows : V → V → Type 0} {e : Event V} {old : CoreState V} {a : Answer V} {new : CoreState V} → LoadingRow shows e old a new
       → (n : ℕ) → waits n old ≡ true → lets_go n e a ≡ false → waits n new ≡ true
   row-stays (no_case_applies e old none) k waiting kept = waiting
   row-stays (creates old is) k waiting kept = let none : false ≡ true = rw is at waiting in absurd (cc)
   row-stays (joins old h ws n is inside other absent) k waiting kept = has-joined k n ws (rw is at waiting)
   row-stays (lacks_room old h ws n is inside other absent) k waiting kept = waiting
-  row-stays (shows_the_value e old v is can) k waiting kept = waiting
+  row-stays (shows_the_value e old v w is can same) k waiting kept = waiting
   row-stays (lacks_a_clone e old v is can) k waiting kept = waiting
   row-stays (fills old ws v is) k waiting kept = absurd (cc)
   row-stays (hands_on _ old _ before m after abandoning is) k waiting kept = has-handed k m before after (rw is at waiting) kept
@@ -283,9 +283,9 @@ module _ {V : Type 0} where
   row-stays (leaves old inside) k waiting kept = waiting
 
   -- who would join a life that was given up is answered `NotNow`
-  pub row-none_joins : {e : Event V} {old : CoreState V} {a : Answer V} {new : CoreState V} → LoadingRow e old a new
+  pub row-none_joins : {shows : V → V → Type 0} {e : Event V} {old : CoreState V} {a : Answer V} {new : CoreState V} → LoadingRow shows e old a new
       → (n : ℕ) → e ≡ Join n → is_given_up old.life ≡ true → a ≡ answer.NotNow
-  row-none_joins {e} {old} {a} row n is ended =
+  row-none_joins {shows} {e} {old} {a} row n is ended =
       let cannot : applies (Join n) old ≡ false = closed old.life ended old.in_shard in
       let told : not (is_not_now a) ≡ false = sym (row-applies row) ∙ ap (λ d. applies d old) is ∙ cannot in
       only a told where

@@ -80,6 +80,15 @@ abbrev pub shown_by : {V : Type 0} → Answer V → Option V
 shown_by (Value v) = Some v
 shown_by _ = None
 
+-- a value is known, and this one may be shown for it
+abbrev pub MayShow : {V : Type 0} → (V → V → Type 0) → Option V → V → Type 0
+MayShow shows None shown = ⊥
+MayShow shows (Some value) shown = shows value shown
+
+-- of no value is another shown
+abbrev pub ShowsNothing : {V : Type 0} → V → V → Type 0
+ShowsNothing value shown = ⊥
+
 -- the value of the life after an event: a fill gives it, a new life has none, and nothing else changes it
 abbrev pub value_after : {V : Type 0} → Option V → Event V → Answer V → Option V
 value_after known (Fill v) Done = Some v

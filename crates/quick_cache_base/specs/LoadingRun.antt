@@ -1,18 +1,18 @@
 -- Schedules: the events of all parties, one at a time.
-use Rattle.std.specs.Prelude.{◌≡◌, ℕ, ◌+◌, Bool, true, false, ◌||◌, List, [], ◌∷◌, Option, Some, IfSome}
+use Rattle.std.specs.Prelude.{◌≡◌, ℕ, ◌+◌, Bool, true, false, ◌||◌, List, [], ◌∷◌, Option, IfSome}
 use Rattle.quick_cache_base.specs.Core.{CoreState}
 use Rattle.quick_cache_base.specs.LoadingStep.{LoadingStep}
-use Rattle.quick_cache_base.specs.LoadingLaws.{given_by, taken_by, shown_by, value_after, given_up_after, lets_go}
+use Rattle.quick_cache_base.specs.LoadingLaws.{given_by, taken_by, shown_by, MayShow, value_after, given_up_after, lets_go}
 use Rattle.quick_cache_base.specs.declared.protocol.events.Event.{Event}
 use Rattle.quick_cache_base.specs.declared.protocol.events.Answer.{Answer}
 use Rattle.quick_cache_base.specs.declared.protocol.events.Answer.TheVariants.{Joined, GivenUp}
 
 -- A schedule: each event is a step, and has its own answer.
-abbrev pub LoadingRun : {V : Type 0} → CoreState V → List (Event V) → List (Answer V) → CoreState V → Type 0
-LoadingRun old [] [] new = new ≡ old
-LoadingRun old [] (a ∷ answers) new = ⊥
-LoadingRun old (e ∷ events) [] new = ⊥
-LoadingRun {V} old (e ∷ events) (a ∷ answers) new = (mid : CoreState V) × LoadingStep old e a mid × LoadingRun mid events answers new
+abbrev pub LoadingRun : {V : Type 0} → (V → V → Type 0) → CoreState V → List (Event V) → List (Answer V) → CoreState V → Type 0
+LoadingRun shows old [] [] new = new ≡ old
+LoadingRun shows old [] (a ∷ answers) new = ⊥
+LoadingRun shows old (e ∷ events) [] new = ⊥
+LoadingRun {V} shows old (e ∷ events) (a ∷ answers) new = (mid : CoreState V) × LoadingStep shows old e a mid × LoadingRun shows mid events answers new
 
 -- the guards that a schedule's answers give: one by each Created and each Guard
 abbrev pub guards_given : {V : Type 0} → List (Answer V) → ℕ
@@ -25,11 +25,11 @@ guards_taken [] answers = 0
 guards_taken (e ∷ events) [] = 0
 guards_taken (e ∷ events) (a ∷ answers) = taken_by e a + guards_taken events answers
 
--- each value that is shown is what the life's one fill gave, or what the core began filled with
-abbrev pub ShowsTheFill : {V : Type 0} → Option V → List (Event V) → List (Answer V) → Type 0
-ShowsTheFill known (e ∷ events) (a ∷ answers) =
-    IfSome (shown_by a) (λ v. known ≡ Some v) × ShowsTheFill (value_after known e a) events answers
-ShowsTheFill known _ _ = Unit {0}
+-- each value that is shown stands for what the life's one fill gave, or for what the core began filled with
+abbrev pub ShowsTheFill : {V : Type 0} → (V → V → Type 0) → Option V → List (Event V) → List (Answer V) → Type 0
+ShowsTheFill shows known (e ∷ events) (a ∷ answers) =
+    IfSome (shown_by a) (MayShow shows known) × ShowsTheFill shows (value_after known e a) events answers
+ShowsTheFill shows known _ _ = Unit {0}
 
 -- none joins a life that was given up, until a new one is created
 abbrev pub NoneJoinsGivenUp : {V : Type 0} → Bool → List (Answer V) → Type 0

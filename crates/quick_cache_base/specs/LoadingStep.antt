@@ -14,9 +14,10 @@ use Rattle.quick_cache_base.specs.declared.protocol.events.Answer.TheVariants as
 abbrev pub NotNowOf : {V : Type 0} → CoreState V → Answer V → CoreState V → Type 0
 NotNowOf old a new = (a ≡ answer.NotNow) × (new ≡ old)
 
--- a clone of the value is answered, or its memory was refused; nothing changes
-abbrev pub Shows : {V : Type 0} → V → CoreState V → Answer V → CoreState V → Type 0
-Shows v old a new = ((a ≡ answer.Value v) ⊎ (a ≡ answer.Refused Memory)) × (new ≡ old)
+-- Values are shown by others: the second of `shows` may be answered for the first, as a clone is.
+-- one that may be shown for the value is answered, or its memory was refused; nothing changes
+abbrev pub Shows : {V : Type 0} → (V → V → Type 0) → V → CoreState V → Answer V → CoreState V → Type 0
+Shows {V} shows v old a new = (((w : V) × shows v w × (a ≡ answer.Value w)) ⊎ (a ≡ answer.Refused Memory)) × (new ≡ old)
 
 -- a given-up life begins anew: loading, held, with no waiters, in the shard
 abbrev pub Creates : {V : Type 0} → Life V → CoreState V → Answer V → CoreState V → Type 0
@@ -31,11 +32,11 @@ Adds holder waiters n old a new =
     ⊎ ((a ≡ answer.Refused Memory) × (new ≡ old))
 
 -- in the shard: one who neither waits nor was handed the guard is added; a filled life shows its value
-abbrev pub Joins : {V : Type 0} → Life V → ℕ → CoreState V → Answer V → CoreState V → Type 0
-Joins (Loading holder waiters) n old a new =
+abbrev pub Joins : {V : Type 0} → (V → V → Type 0) → Life V → ℕ → CoreState V → Answer V → CoreState V → Type 0
+Joins shows (Loading holder waiters) n old a new =
     MatchBool (old.in_shard && not (is_handed_to holder n || has n waiters)) (Adds holder waiters n old a new) (NotNowOf old a new)
-Joins (Filled v) n old a new = MatchBool old.in_shard (Shows v old a new) (NotNowOf old a new)
-Joins GivenUp n old a new = NotNowOf old a new
+Joins shows (Filled v) n old a new = MatchBool old.in_shard (Shows shows v old a new) (NotNowOf old a new)
+Joins shows GivenUp n old a new = NotNowOf old a new
 
 -- a held guard fills the life, and all waiters are done
 abbrev pub FillsBy : {V : Type 0} → Holder → V → CoreState V → Answer V → CoreState V → Type 0
@@ -75,11 +76,11 @@ abbrev pub Remains : {V : Type 0} → List ℕ → ℕ → CoreState V → Answe
 Remains waiters n old a new = MatchBool (has n waiters) ((a ≡ answer.Waiting) × (new ≡ old)) (NotNowOf old a new)
 
 -- the guard that was handed to the waiter reaches it; else it goes on waiting; a filled life shows its value
-abbrev pub Takes : {V : Type 0} → Life V → ℕ → CoreState V → Answer V → CoreState V → Type 0
-Takes (Loading holder waiters) n old a new =
+abbrev pub Takes : {V : Type 0} → (V → V → Type 0) → Life V → ℕ → CoreState V → Answer V → CoreState V → Type 0
+Takes shows (Loading holder waiters) n old a new =
     MatchBool (is_handed_to holder n) (Receives waiters old a new) (Remains waiters n old a new)
-Takes (Filled v) n old a new = Shows v old a new
-Takes GivenUp n old a new = NotNowOf old a new
+Takes shows (Filled v) n old a new = Shows shows v old a new
+Takes shows GivenUp n old a new = NotNowOf old a new
 
 -- one who waits leaves the list, with this answer
 abbrev pub Withdraws : {V : Type 0} → Answer V → Holder → List ℕ → ℕ → CoreState V → Answer V → CoreState V → Type 0
@@ -87,11 +88,11 @@ Withdraws given holder waiters n old a new =
     MatchBool (has n waiters) ((a ≡ given) × (new ≡ core_state (Loading holder (without n waiters)) old.in_shard)) (NotNowOf old a new)
 
 -- the guard that was handed to the waiter reaches it; else it no longer waits; a filled life shows its value
-abbrev pub TimesOut : {V : Type 0} → Life V → ℕ → CoreState V → Answer V → CoreState V → Type 0
-TimesOut (Loading holder waiters) n old a new =
+abbrev pub TimesOut : {V : Type 0} → (V → V → Type 0) → Life V → ℕ → CoreState V → Answer V → CoreState V → Type 0
+TimesOut shows (Loading holder waiters) n old a new =
     MatchBool (is_handed_to holder n) (Receives waiters old a new) (Withdraws answer.TimedOut holder waiters n old a new)
-TimesOut (Filled v) n old a new = Shows v old a new
-TimesOut GivenUp n old a new = NotNowOf old a new
+TimesOut shows (Filled v) n old a new = Shows shows v old a new
+TimesOut shows GivenUp n old a new = NotNowOf old a new
 
 -- the guard that was handed to the waiter is passed on; else it no longer waits; a filled life stays
 abbrev pub Cancels : {V : Type 0} → Life V → ℕ → CoreState V → Answer V → CoreState V → Type 0
@@ -105,12 +106,12 @@ abbrev pub Leaves : {V : Type 0} → CoreState V → Answer V → CoreState V �
 Leaves old a new = MatchBool old.in_shard ((a ≡ answer.Done) × (new ≡ core_state old.life false)) (NotNowOf old a new)
 
 -- One event: the core before it, the event, its answer, and the core after it.
-abbrev pub LoadingStep : {V : Type 0} → CoreState V → Event V → Answer V → CoreState V → Type 0
-LoadingStep old Create a new = Creates old.life old a new
-LoadingStep old (Join n) a new = Joins old.life n old a new
-LoadingStep old (Fill v) a new = Fills old.life v old a new
-LoadingStep old Abandon a new = Abandons old.life old a new
-LoadingStep old (Take n) a new = Takes old.life n old a new
-LoadingStep old (TimeOut n) a new = TimesOut old.life n old a new
-LoadingStep old (Cancel n) a new = Cancels old.life n old a new
-LoadingStep old Leave a new = Leaves old a new
+abbrev pub LoadingStep : {V : Type 0} → (V → V → Type 0) → CoreState V → Event V → Answer V → CoreState V → Type 0
+LoadingStep shows old Create a new = Creates old.life old a new
+LoadingStep shows old (Join n) a new = Joins shows old.life n old a new
+LoadingStep shows old (Fill v) a new = Fills old.life v old a new
+LoadingStep shows old Abandon a new = Abandons old.life old a new
+LoadingStep shows old (Take n) a new = Takes shows old.life n old a new
+LoadingStep shows old (TimeOut n) a new = TimesOut shows old.life n old a new
+LoadingStep shows old (Cancel n) a new = Cancels old.life n old a new
+LoadingStep shows old Leave a new = Leaves old a new

@@ -1,9 +1,9 @@
 //! Loading as a pure machine: the life of a placeholder, one event at a time.
-ghost use Rattle.std.specs.Prelude.{◌≡◌, ℕ, ◌+◌, ◌≤◌, [], ◌∷◌, ◌++◌, true, false, not, if◌then◌else◌, Some, IfSome, IfOk, IfErr, OnErr, vec_len};
+ghost use Rattle.std.specs.Prelude.{◌≡◌, ℕ, ◌+◌, ◌≤◌, [], ◌∷◌, ◌++◌, true, false, not, if◌then◌else◌, IfSome, IfOk, IfErr, OnErr, vec_len};
 ghost use Rattle.quick_cache_base.specs.Core.{new_core, held_count, handed_count, is_loading, is_given_up, value_of, waiters_of, waits};
 ghost use Rattle.quick_cache_base.specs.LoadingStep.{LoadingStep};
 ghost use Rattle.quick_cache_base.specs.LoadingRow.{LoadingRow};
-ghost use Rattle.quick_cache_base.specs.LoadingLaws.{applies, is_not_now, only_tells, given_by, most_given, taken_by, done_by, shown_by, value_after, given_up_after, lets_go};
+ghost use Rattle.quick_cache_base.specs.LoadingLaws.{applies, is_not_now, only_tells, given_by, most_given, taken_by, done_by, shown_by, MayShow, ShowsNothing, value_after, given_up_after, lets_go};
 ghost use Rattle.quick_cache_base.specs.LoadingRun.{LoadingRun, guards_given, guards_taken, ShowsTheFill, NoneJoinsGivenUp, NoGiveUpWhileWaiting, is_let_go};
 
 mod events;
@@ -22,11 +22,9 @@ use std::alloc::Allocator;
 /// A Join may allocate, and an answer `Value` holds a clone: where memory is refused, the answer
 /// is `Refused` and nothing has changed.
 pub fn step<V: Clone, A: Allocator>(core: &mut Core<V, A>, event: Event<V>) -> Answer<V>
-    requires clones { (v : V) (w : V) → V.is_clone v w → w ≡ v }
-
     // The table, by cases and by rows.
-    ensures step { LoadingStep core.old event result core.new }
-    ensures row { LoadingRow event core.old result core.new }
+    ensures step { LoadingStep V.is_clone core.old event result core.new }
+    ensures row { LoadingRow V.is_clone event core.old result core.new }
     // The guard goes to the waiter that was added last.
     ensures last { (m : ℕ) → result ≡ Answer.HandedTo m
         → waiters_of core.old.life ≡ waiters_of core.new.life ++ m ∷ [] }
@@ -45,8 +43,8 @@ pub fn step<V: Clone, A: Allocator>(core: &mut Core<V, A>, event: Event<V>) -> A
     ensures unchanged { only_tells result ≡ true → core.new ≡ core.old }
     ensures refused { (why : Refusal) → result ≡ Answer.Refused why → why ≡ Refusal.Memory }
 
-    // The value of a life is what its one fill gave.
-    ensures shown { IfSome (shown_by result) (λ v. value_of core.old.life ≡ Some v) }
+    // The value of a life is what its one fill gave, and a clone of it is shown.
+    ensures shown { IfSome (shown_by result) (MayShow V.is_clone (value_of core.old.life)) }
     ensures value { value_of core.new.life ≡ value_after (value_of core.old.life) event result }
 
     // A life ends only where nobody waits, and none joins it afterwards.
@@ -66,8 +64,7 @@ pub fn step<V: Clone, A: Allocator>(core: &mut Core<V, A>, event: Event<V>) -> A
 
 /// The event's own call.
 fn make_happen<V: Clone, A: Allocator>(core: &mut Core<V, A>, event: Event<V>) -> Answer<V>
-    requires clones { (v : V) (w : V) → V.is_clone v w → w ≡ v }
-    ensures step { LoadingStep core.old event result core.new }
+    ensures step { LoadingStep V.is_clone core.old event result core.new }
     ensures last { (m : ℕ) → result ≡ Answer.HandedTo m
         → waiters_of core.old.life ≡ waiters_of core.new.life ++ m ∷ [] }
 {
@@ -88,8 +85,8 @@ fn make_happen<V: Clone, A: Allocator>(core: &mut Core<V, A>, event: Event<V>) -
 /// The guard goes to the waiter that was added last; with none the life is given up. It takes no
 /// memory.
 pub fn abandon<V: Drop, A: Allocator>(core: &mut Core<V, A>) -> Answer<V>
-    ensures step { LoadingStep core.old Event.Abandon result core.new }
-    ensures row { LoadingRow Event.Abandon core.old result core.new }
+    ensures step { LoadingStep ShowsNothing core.old Event.Abandon result core.new }
+    ensures row { LoadingRow ShowsNothing Event.Abandon core.old result core.new }
     // The guard goes to the waiter that was added last.
     ensures last { (m : ℕ) → result ≡ Answer.HandedTo m
         → waiters_of core.old.life ≡ waiters_of core.new.life ++ m ∷ [] }
@@ -120,8 +117,8 @@ pub fn abandon<V: Drop, A: Allocator>(core: &mut Core<V, A>) -> Answer<V>
 /// A guard that was on its way to it goes to the waiter that was added last; with none the life is
 /// given up. It takes no memory.
 pub fn cancel<V: Drop, A: Allocator>(core: &mut Core<V, A>, waiter: u64) -> Answer<V>
-    ensures step { LoadingStep core.old (Event.Cancel waiter) result core.new }
-    ensures row { LoadingRow (Event.Cancel waiter) core.old result core.new }
+    ensures step { LoadingStep ShowsNothing core.old (Event.Cancel waiter) result core.new }
+    ensures row { LoadingRow ShowsNothing (Event.Cancel waiter) core.old result core.new }
     // The guard goes to the waiter that was added last.
     ensures last { (m : ℕ) → result ≡ Answer.HandedTo m
         → waiters_of core.old.life ≡ waiters_of core.new.life ++ m ∷ [] }
@@ -155,10 +152,8 @@ pub fn run<V: Clone, A: Allocator + Clone>(
     core: &mut Core<V, A>,
     events: Vec<Event<V>, A>,
 ) -> Result<Vec<Answer<V>, A>, Refusal>
-    requires clones { (v : V) (w : V) → V.is_clone v w → w ≡ v }
-
     ensures run { IfOk result (λ answers.
-        LoadingRun core.old events.items answers.items core.new) }
+        LoadingRun V.is_clone core.old events.items answers.items core.new) }
     ensures answered { IfOk result (λ answers. vec_len answers ≡ vec_len events) }
 
     // Over every schedule, from any core: the guards held after it are those held before it and
@@ -171,7 +166,7 @@ pub fn run<V: Clone, A: Allocator + Clone>(
     ensures at_most_one { held_count core.new ≤ 1 }
 
     ensures shows { IfOk result (λ answers.
-        ShowsTheFill (value_of core.old.life) events.items answers.items) }
+        ShowsTheFill V.is_clone (value_of core.old.life) events.items answers.items) }
     ensures none_joins { IfOk result (λ answers.
         NoneJoinsGivenUp (is_given_up core.old.life) answers.items) }
     ensures alone { IfOk result (λ answers. (n : ℕ) → waits n core.old ≡ true

@@ -1,7 +1,8 @@
 //! Copies.
 ghost use Rattle.std.specs.Prelude.{◌≡◌, ◌≤◌, IfOk, vec_len, vec_capacity};
+ghost use Rattle.std.specs.List.{AllZip};
 ghost use Rattle.quick_cache_shard.specs.Rings.{IsSound, state_of};
-ghost use Rattle.quick_cache_shard.specs.Shard.{ClonesExactly};
+ghost use Rattle.quick_cache_shard.specs.Copies.{ClonesAreEqual, IsItemCopy, IsCopyOf};
 
 use crate::placeholder::{SharedPlaceholder, Touches};
 use crate::resident::Resident;
@@ -15,9 +16,9 @@ fn copy_items<K: Clone, V: Clone, T: Touches, A: Allocator + Clone>(
     room: usize,
 ) -> Result<Vec<Resident<K, V, T>, A>, AllocError>
     requires fits { vec_len items.now ≤ room }
-    requires keys { ClonesExactly K.is_clone }
-    requires values { ClonesExactly V.is_clone }
-    ensures items { IfOk result (λ copy. copy.items ≡ items.now.items) }
+    ensures items { IfOk result (λ copy.
+        AllZip (IsItemCopy K.is_clone V.is_clone) items.now.items copy.items) }
+    ensures len { IfOk result (λ copy. vec_len copy ≡ vec_len items.now) }
     ensures room { IfOk result (λ copy. room ≤ vec_capacity copy) }
 {
     let mut copy = Vec::new(items.allocator().clone()?);
@@ -53,9 +54,9 @@ pub(crate) fn copy_rings<
     A: Allocator + Clone,
 >(rings: &Rings<K, V, P, A>) -> Result<Rings<K, V, P, A>, AllocError>
     requires sound { IsSound K.eq rings.now }
-    requires keys { ClonesExactly K.is_clone }
-    requires values { ClonesExactly V.is_clone }
-    ensures same { IfOk result (λ copy. state_of copy ≡ state_of rings.now) }
+    requires keys { ClonesAreEqual K.eq K.is_clone }
+    ensures copies { IfOk result (λ copy.
+        IsCopyOf K.is_clone V.is_clone (state_of rings.now) (state_of copy)) }
     ensures sound { IfOk result (IsSound K.eq) }
 {
     let room = rings.hot.len() + rings.cold.len() + rings.ghosts.len();

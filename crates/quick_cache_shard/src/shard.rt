@@ -11,8 +11,9 @@ ghost use Rattle.quick_cache_base.specs.Hashing.{hash_of};
 ghost use Rattle.quick_cache_base.specs.Lookups.{LooksUp, Sees};
 ghost use Rattle.quick_cache_base.specs.Removal.{Removes, pair_of};
 ghost use Rattle.quick_cache_base.specs.Sizes.{hot_target_of, ghost_limit_of};
+ghost use Rattle.quick_cache_shard.specs.Copies.{ClonesAreEqual, IsCopyOf};
 ghost use Rattle.quick_cache_shard.specs.Places.{IsLookedUp, IsMissed, IsPlaced, IsKeyAt, IsValueAt};
-ghost use Rattle.quick_cache_shard.specs.Shard.{rules_of, hooks_of, strategy_of, Answers, UpToOrder, IsPlainCache, IsSoundShard, HasItem, ClonesExactly};
+ghost use Rattle.quick_cache_shard.specs.Shard.{rules_of, hooks_of, strategy_of, Answers, UpToOrder, IsPlainCache, IsSoundShard, HasItem};
 
 use crate::copies::copy_rings;
 use crate::find::{Location, find};
@@ -113,7 +114,7 @@ impl<K: Eq + Hash, V, We, B: BuildHasher, L, P: SharedPlaceholder<K>, A: Allocat
         })
     }
 
-    /// A cache of the same contents, marks and counts, or `Memory`.
+    /// A cache of clones of the keys and values, with the same marks, order and counts, or `Memory`.
     pub fn try_clone(&self) -> Result<Self, Refusal>
     where
         K: Clone,
@@ -122,12 +123,12 @@ impl<K: Eq + Hash, V, We, B: BuildHasher, L, P: SharedPlaceholder<K>, A: Allocat
         B: Clone,
         L: Clone,
         A: Clone,
-        requires keys { ClonesExactly K.is_clone }
-        requires values { ClonesExactly V.is_clone }
-        requires weighers { ClonesExactly We.is_clone }
-        requires builders { ClonesExactly B.is_clone }
-        requires lifecycles { ClonesExactly L.is_clone }
-        ensures copies { IfOk result (λ copy. copy ≡ self.now) }
+        requires keys { ClonesAreEqual K.eq K.is_clone }
+        ensures copies { IfOk result (λ copy.
+            IsCopyOf K.is_clone V.is_clone self.now.state copy.state) }
+        ensures weigher { IfOk result (λ copy. We.is_clone self.now.weigher copy.weigher) }
+        ensures builder { IfOk result (λ copy. B.is_clone self.now.builder copy.builder) }
+        ensures lifecycle { IfOk result (λ copy. L.is_clone self.now.lifecycle copy.lifecycle) }
         ensures refused { IfErr result (λ refusal. refusal ≡ Memory) }
     {
         let Ok(rings) = copy_rings(&self.rings) else {

@@ -1,3 +1,4 @@
 pub mod InsertLemmas
 pub mod StepLemmas
 pub mod RunLemmas
+pub mod ShownLemmas

@@ -14,26 +14,26 @@ pub has_first : {X : Type 0} (xs : List X) → 0 < length xs → (x : X) × (beh
 has_first [] some = absurd (omega (arith, some))
 has_first (x ∷ xs) some = (x, xs, refl)
 
-module _ {K V : Type 0} (rules : Rules K V) (equal : K → K → Bool) where
+module _ {K V : Type 0} (rules : Rules K V) (equal : K → K → Bool) (shows : V → V → Type 0) where
   -- a step behind a run makes a longer one
   pub CacheRun-append : {old mid : CacheState K V} {calls : List (Call K V)} {replies : List (Reply K V)} {hook_calls : List (HookCall K V)}
       (new : CacheState K V) (call : Call K V) (reply : Reply K V) (more : List (HookCall K V))
-      → CacheRun rules equal old calls replies hook_calls mid → CacheStep rules equal mid call reply more new
-      → CacheRun rules equal old (calls ++ call ∷ []) (replies ++ reply ∷ []) (hook_calls ++ more) new
+      → CacheRun rules equal shows old calls replies hook_calls mid → CacheStep rules equal shows mid call reply more new
+      → CacheRun rules equal shows old (calls ++ call ∷ []) (replies ++ reply ∷ []) (hook_calls ++ more) new
   CacheRun-append new call reply more (CacheRun.ends state) step =
-      subst (λ hook_calls. CacheRun rules equal state (call ∷ []) (reply ∷ []) hook_calls new) (append-nil more)
+      subst (λ hook_calls. CacheRun rules equal shows state (call ∷ []) (reply ∷ []) hook_calls new) (append-nil more)
       (CacheRun.goes_on state new new call reply [] [] more [] step (CacheRun.ends new))
   CacheRun-append new call reply more (CacheRun.goes_on old mid last head told calls replies first rest begins run) step =
-      subst (λ hook_calls. CacheRun rules equal old (head ∷ calls ++ call ∷ []) (told ∷ replies ++ reply ∷ []) hook_calls new)
+      subst (λ hook_calls. CacheRun rules equal shows old (head ∷ calls ++ call ∷ []) (told ∷ replies ++ reply ∷ []) hook_calls new)
       (sym (append_assoc first rest more))
       (CacheRun.goes_on old mid new head told (calls ++ call ∷ []) (replies ++ reply ∷ []) first (rest ++ more) begins
       (CacheRun-append new call reply more run step))
 
   pub IsRun-append : {S : Type 0} (hooks : Hooks K V S) (old : CacheState K V) (first : S) (calls : List (Call K V)) (replies : List (Reply K V))
-      (mid : CacheState K V) (between : S) → IsRun rules equal hooks old first calls replies mid between
+      (mid : CacheState K V) (between : S) → IsRun rules equal shows hooks old first calls replies mid between
       → (call : Call K V) (reply : Reply K V) (more : List (HookCall K V)) (new : CacheState K V) (last : S)
-      → CacheStep rules equal mid call reply more new → RunsHooks hooks more between last
-      → IsRun rules equal hooks old first (calls ++ call ∷ []) (replies ++ reply ∷ []) new last
+      → CacheStep rules equal shows mid call reply more new → RunsHooks hooks more between last
+      → IsRun rules equal shows hooks old first (calls ++ call ∷ []) (replies ++ reply ∷ []) new last
   IsRun-append hooks old first calls replies mid between run call reply more new last step runs = record {
     hook_calls = run.hook_calls ++ more;
     steps = CacheRun-append new call reply more run.steps step;
@@ -42,13 +42,13 @@ module _ {K V : Type 0} (rules : Rules K V) (equal : K → K → Bool) where
 
   -- before the first call
   pub no_calls : {S : Type 0} (hooks : Hooks K V S) (old : CacheState K V) (first : S) (replies : List (Reply K V)) → replies ≡ []
-      → IsRun rules equal hooks old first [] replies old first
+      → IsRun rules equal shows hooks old first [] replies old first
   no_calls hooks old first replies none = rw none (record { hook_calls = []; steps = CacheRun.ends old; runs = refl })
 
   -- no room for the reply to the first call
   pub stops_at_first : {S M : Type 0} (hooks : Hooks K V S) (old : CacheState K V) (first : S) (replies : Vec (Reply K V) M)
       (calls : Vec (Call K V) M) → replies.items ≡ [] → 0 < length calls.items → vec_capacity replies ≤ vec_len replies
-      → StopsWhereFull rules equal hooks old first calls.items replies calls old first
+      → StopsWhereFull rules equal shows hooks old first calls.items replies calls old first
   stops_at_first hooks old first replies calls none some full =
       let head = has_first calls.items some in
       record {

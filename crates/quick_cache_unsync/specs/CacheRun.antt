@@ -6,12 +6,12 @@ use Rattle.quick_cache_unsync.specs.declared.calls.Call.{Call}
 use Rattle.quick_cache_unsync.specs.declared.calls.Reply.{Reply}
 use Rattle.quick_cache_unsync.specs.CacheStep.{CacheStep}
 
-module _ {K V : Type 0} (rules : Rules K V) (equal : K → K → Bool) where
+module _ {K V : Type 0} (rules : Rules K V) (equal : K → K → Bool) (shows : V → V → Type 0) where
   -- from a state, by these calls with these replies, which call these hooks, to a state
   pub data CacheRun : CacheState K V → List (Call K V) → List (Reply K V) → List (HookCall K V) → CacheState K V → Type 0 where
     ends : (state : CacheState K V) → CacheRun state [] [] [] state
     goes_on : (old mid new : CacheState K V) (call : Call K V) (reply : Reply K V) (calls : List (Call K V)) (replies : List (Reply K V))
-        (first rest : List (HookCall K V)) → CacheStep rules equal old call reply first mid → CacheRun mid calls replies rest new
+        (first rest : List (HookCall K V)) → CacheStep rules equal shows old call reply first mid → CacheRun mid calls replies rest new
         → CacheRun old (call ∷ calls) (reply ∷ replies) (first ++ rest) new
 
   -- a run of these calls with these replies, whose hooks lead the request state from the first to the last

@@ -9,7 +9,8 @@ ghost use Rattle.quick_cache_base.specs.Hashing.{hash_of};
 ghost use Rattle.quick_cache_base.specs.Lookups.{Sees, LooksUp};
 ghost use Rattle.quick_cache_base.specs.Removal.{Removes};
 ghost use Rattle.quick_cache_base.specs.Sizes.{hot_target_of, ghost_limit_of, default_hot_share, default_ghost_share};
-ghost use Rattle.quick_cache_shard.specs.Shard.{rules_of, hooks_of, ClonesExactly, HasItem, IsPlainCache, IsSoundShard, UpToOrder};
+ghost use Rattle.quick_cache_shard.specs.Copies.{ClonesAreEqual, IsCopyOf};
+ghost use Rattle.quick_cache_shard.specs.Shard.{rules_of, hooks_of, HasItem, IsPlainCache, IsSoundShard, UpToOrder};
 ghost use Rattle.quick_cache_unsync.specs.Inserts.{Inserts, InsertsAlone};
 ghost use Rattle.quick_cache_unsync.specs.Touches.{no_touches};
 
@@ -124,7 +125,7 @@ impl<K: Eq + Hash, V, We, B: BuildHasher, L, A: Allocator> Cache<K, V, We, B, L,
         })
     }
 
-    /// The same cache once more: contents, marks, order and counts.
+    /// A copy: clones of the keys and values, with the same marks, order and counts.
     ///
     /// # Errors
     ///
@@ -137,12 +138,12 @@ impl<K: Eq + Hash, V, We, B: BuildHasher, L, A: Allocator> Cache<K, V, We, B, L,
         B: Clone,
         L: Clone,
         A: Clone,
-        requires keys { ClonesExactly K.is_clone }
-        requires values { ClonesExactly V.is_clone }
-        requires weighers { ClonesExactly We.is_clone }
-        requires builders { ClonesExactly B.is_clone }
-        requires lifecycles { ClonesExactly L.is_clone }
-        ensures same { IfOk result (λ cache. cache ≡ self.now) }
+        requires keys { ClonesAreEqual K.eq K.is_clone }
+        ensures copies { IfOk result (λ copy.
+            IsCopyOf K.is_clone V.is_clone self.now.state copy.state) }
+        ensures weigher { IfOk result (λ copy. We.is_clone self.now.weigher copy.weigher) }
+        ensures builder { IfOk result (λ copy. B.is_clone self.now.builder copy.builder) }
+        ensures lifecycle { IfOk result (λ copy. L.is_clone self.now.lifecycle copy.lifecycle) }
         ensures refused { IfErr result (λ refusal. refusal ≡ Memory) }
     {
         Ok(Cache {

@@ -1,7 +1,7 @@
 //! Lists of calls, made one after another.
 ghost use Rattle.std.specs.Prelude.{◌≡◌, [], List, All};
 ghost use Rattle.quick_cache_base.specs.Hooks.{HookCall, RunsHooks};
-ghost use Rattle.quick_cache_shard.specs.Shard.{rules_of, hooks_of, ClonesExactly, IsPlainCache};
+ghost use Rattle.quick_cache_shard.specs.Shard.{rules_of, hooks_of, IsPlainCache};
 ghost use Rattle.quick_cache_unsync.specs.Answered.{AlwaysClones, IsAnswered, replies_of};
 ghost use Rattle.quick_cache_unsync.specs.CacheRun.{RunsCalls};
 ghost use Rattle.quick_cache_unsync.specs.CacheStep.{CacheStep};
@@ -47,10 +47,9 @@ fn get<
     L: Lifecycle<K, V> + Drop,
     A: Allocator,
 >(cache: &mut Cache<K, V, We, B, L, A>, key: K) -> Reply<K, V>
-    requires { ClonesExactly V.is_clone }
     ensures step { CacheStep
         (rules_of no_touches K.Hash.hash_input We.Weighter B.BuildHasher B.Hasher.Hasher L.Lifecycle cache.old)
-        K.eq cache.old.state (Call.Get key) result [] cache.new.state }
+        K.eq V.is_clone cache.old.state (Call.Get key) result [] cache.new.state }
     ensures same { cache.new ≡ record cache.old { state = cache.new.state } }
     // A look-up is refused only where a clone fails.
     ensures answered { AlwaysClones V.is_infallible → IsAnswered result }
@@ -83,12 +82,11 @@ fn act<
     call: Call<K, V>,
     state: &mut L::RequestState,
 ) -> Reply<K, V>
-    requires clones { ClonesExactly V.is_clone }
     requires plain { IsPlainCache We.Weighter L.Lifecycle cache.old }
     ensures step { (calls : List (HookCall K V))
         × CacheStep
         (rules_of no_touches K.Hash.hash_input We.Weighter B.BuildHasher B.Hasher.Hasher L.Lifecycle cache.old)
-        K.eq cache.old.state call result calls cache.new.state
+        K.eq V.is_clone cache.old.state call result calls cache.new.state
         × RunsHooks (hooks_of L.Lifecycle cache.old) calls state.old state.new }
     ensures same { cache.new ≡ record cache.old { state = cache.new.state } }
     // A look-up is refused only where a clone fails.
@@ -125,11 +123,10 @@ pub fn run<
     calls: Vec<Call<K, V>, M>,
     state: &mut L::RequestState,
 ) -> Result<Vec<Reply<K, V>, M>, (Vec<Reply<K, V>, M>, Vec<Call<K, V>, M>)>
-    requires clones { ClonesExactly V.is_clone }
     requires plain { IsPlainCache We.Weighter L.Lifecycle cache.old }
     ensures runs { RunsCalls
         (rules_of no_touches K.Hash.hash_input We.Weighter B.BuildHasher B.Hasher.Hasher L.Lifecycle cache.old)
-        K.eq (hooks_of L.Lifecycle cache.old)
+        K.eq V.is_clone (hooks_of L.Lifecycle cache.old)
         cache.old.state state.old calls.items result cache.new.state state.new }
     ensures same { cache.new ≡ record cache.old { state = cache.new.state } }
     // A look-up is refused only where a clone fails.

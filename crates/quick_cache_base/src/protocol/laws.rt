@@ -2,6 +2,6 @@
 ghost use Rattle.quick_cache_base.specs.LoadingRow.{TablesAgree};
 
 /// The table of the core by rows and the table by cases are one.
-pub fn tables_agree<V>()
-    ensures { TablesAgree V }
+pub fn tables_agree<V: Clone>()
+    ensures { TablesAgree V.is_clone }
 {}

@@ -181,8 +181,7 @@ impl<V: Drop, A: Allocator> Core<V, A> {
 
 impl<V: Clone, A: Allocator> Core<V, A> {
     pub(crate) fn join(&mut self, waiter: u64) -> Answer<V>
-        requires clones { (v : V) (w : V) → V.is_clone v w → w ≡ v }
-        ensures { Joins self.old.life waiter self.old result self.new }
+        ensures { Joins V.is_clone self.old.life waiter self.old result self.new }
     {
         if !self.in_shard {
             return Answer::NotNow;
@@ -203,8 +202,7 @@ impl<V: Clone, A: Allocator> Core<V, A> {
     }
 
     pub(crate) fn take(&mut self, waiter: u64) -> Answer<V>
-        requires clones { (v : V) (w : V) → V.is_clone v w → w ≡ v }
-        ensures { Takes self.old.life waiter self.old result self.new }
+        ensures { Takes V.is_clone self.old.life waiter self.old result self.new }
     {
         match &self.stage {
             Stage::Loading(holder) => {
@@ -224,8 +222,7 @@ impl<V: Clone, A: Allocator> Core<V, A> {
     }
 
     pub(crate) fn time_out(&mut self, waiter: u64) -> Answer<V>
-        requires clones { (v : V) (w : V) → V.is_clone v w → w ≡ v }
-        ensures { TimesOut self.old.life waiter self.old result self.new }
+        ensures { TimesOut V.is_clone self.old.life waiter self.old result self.new }
     {
         match &self.stage {
             Stage::Loading(holder) => {
@@ -247,8 +244,8 @@ impl<V: Clone, A: Allocator> Core<V, A> {
 
 /// A clone of the value, or that its memory was refused.
 fn shown<V: Clone>(value: &V) -> Answer<V>
-    requires clones { (v : V) (w : V) → V.is_clone v w → w ≡ v }
-    ensures { (result ≡ Answer.Value value.now) ⊎ (result ≡ Answer.Refused Refusal.Memory) }
+    ensures { ((w : V) × V.is_clone value.now w × (result ≡ Answer.Value w))
+        ⊎ (result ≡ Answer.Refused Refusal.Memory) }
 {
     match value.clone() {
         Ok(value) => Answer::Value(value),

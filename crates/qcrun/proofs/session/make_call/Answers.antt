@@ -3,6 +3,7 @@ use Rattle.quick_cache_base.specs.CacheState.{Item}
 use Rattle.quick_cache_base.specs.Lookups.{LooksUp}
 use Rattle.quick_cache_shard.specs.Shard.{UpToOrder}
 use Rattle.quick_cache_unsync.specs.CacheStep.{CacheStep}
+use Rattle.quick_cache_unsync.proofs.ShownLemmas.{IsShown-itself}
 use Rattle.qcrun.specs.Served.{Serves}
 use Rattle.qcrun.proofs.session.make_call.Goals as goal
 
@@ -13,7 +14,8 @@ returns-in-Get-clause-serves g c =
     let looks = subst (λ (answer : Option g.row.V.Denot).
     UpToOrder (LooksUp (g.K.PartialEq.eq c.in-Get.key) c.args.cache.now.state of answer) c.get.follows.lender-at-none.state)
     (sym c.copied.ensures) c.get.follows.holds-at-none.0 in
-    rw c.in-Get.is (Serves.gets c.in-Get.key c.copied.result _ (CacheStep.gets c.in-Get.key c.copied.result _ looks))
+    rw c.in-Get.is (Serves.gets c.in-Get.key c.copied.result _ (CacheStep.gets c.in-Get.key c.copied.result c.copied.result _ looks
+    (IsShown-itself c.copied.result)))
 
 pub returns-in-Remove-clause-serves : goal.returns-in-Remove-clause-serves
 returns-in-Remove-clause-serves g c =

@@ -1,13 +1,14 @@
 use Rattle.std.proofs.Common.{arith}
 use Rattle.quick_cache_base.proofs.LoadingRowLemmas.{row_of_step}
 use Rattle.quick_cache_base.proofs.LoadingLawLemmas.{one_guard, at_most_one, row-only_tells, row-value, row-given_up, row-alone, row-new_core, row-stays, row-guards, row-most_given, row-applies}
+use Rattle.quick_cache_base.specs.LoadingLaws.{ShowsNothing}
 use Rattle.quick_cache_base.specs.declared.protocol.events.Event.TheVariants.{Abandon}
 use Rattle.quick_cache_base.proofs.protocol.abandon.Goals as goal
 
 -- The step is a row of the table, and each law holds of each row.
 pub returns : goal.returns
 returns g c =
-    let row = row_of_step Abandon c.args.core.now c.abandon.result c.abandon.new.self c.abandon.ensures.step in
+    let row = row_of_step ShowsNothing Abandon c.args.core.now c.abandon.result c.abandon.new.self c.abandon.ensures.step in
     record {
       step = c.abandon.ensures.step;
       row = row;

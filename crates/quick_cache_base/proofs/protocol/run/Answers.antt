@@ -9,7 +9,7 @@ use Rattle.quick_cache_base.proofs.protocol.run.Goals as goal
 -- One more event is one more step of the schedule.
 pub loop-event-preserved : goal.loop-event-preserved
 loop-event-preserved g c = record {
-  steps = rw c.push_reserved.ensures.items (LoadingRun-push _ _ _ _ _ _ _ c.loop-event.invariant.steps c.step.ensures.step);
+  steps = rw c.push_reserved.ensures.items (LoadingRun-push g.V.Clone.is_clone _ _ _ _ _ _ _ c.loop-event.invariant.steps c.step.ensures.step);
   count = grind (arith, common_steps);
   room = grind (arith, common_steps);
 }
@@ -23,13 +23,13 @@ returns g c =
     record {
       run = steps;
       answered = search rules;
-      guards = LoadingRun-guards _ _ _ _ steps;
+      guards = LoadingRun-guards g.V.Clone.is_clone _ _ _ _ steps;
       one_guard = one_guard c.loop-event.core;
       at_most_one = at_most_one c.loop-event.core;
-      shows = LoadingRun-shows _ _ _ _ steps;
-      none_joins = LoadingRun-none_joins _ _ _ _ steps;
-      alone = LoadingRun-alone _ _ _ _ steps;
-      stays = LoadingRun-stays _ _ _ _ steps;
+      shows = LoadingRun-shows g.V.Clone.is_clone _ _ _ _ steps;
+      none_joins = LoadingRun-none_joins g.V.Clone.is_clone _ _ _ _ steps;
+      alone = LoadingRun-alone g.V.Clone.is_clone _ _ _ _ steps;
+      stays = LoadingRun-stays g.V.Clone.is_clone _ _ _ _ steps;
       unchanged = tt;
       refused = tt;
     }

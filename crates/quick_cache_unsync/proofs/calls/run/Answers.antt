@@ -13,7 +13,7 @@ use Rattle.quick_cache_unsync.proofs.calls.run.Goals as goal
 -- there was no room for the reply to the first call, so all come back
 pub returns-in_default-clause-runs : goal.returns-in_default-clause-runs
 returns-in_default-clause-runs g c =
-    stops_at_first _ g.K.PartialEq.eq (hooks_of g.L.Lifecycle c.args.cache.now) c.args.cache.now.state c.args.state.now
+    stops_at_first _ g.K.PartialEq.eq g.V.Clone.is_clone (hooks_of g.L.Lifecycle c.args.cache.now) c.args.cache.now.state c.args.state.now
     c.reserve.new.self c.args.calls (c.reserve.ensures.items ∙ c.new-replies.ensures.items)
     (omega (arith, c.len.ensures, c.args.calls.ok, c.in_default.ensures.full, c.new-replies.ensures.len))
     (omega (arith, c.in_default.ensures.err, c.new-replies.ensures.capacity))
@@ -27,7 +27,7 @@ returns-in_default-clause-answered g c = λ always.
 pub loop-call-init : goal.loop-call-init
 loop-call-init g c = record {
   split = sym c.into_iter-call-iterator.ensures.into_iter_gives.0;
-  run = no_calls _ g.K.PartialEq.eq (hooks_of g.L.Lifecycle c.args.cache.now) c.args.cache.now.state c.args.state.now
+  run = no_calls _ g.K.PartialEq.eq g.V.Clone.is_clone (hooks_of g.L.Lifecycle c.args.cache.now) c.args.cache.now.state c.args.state.now
       c.reserve.new.self.items (c.reserve.ensures.items ∙ c.new-replies.ensures.items);
   same = refl;
   left = omega (arith, c.into_iter-call-iterator.ensures.into_iter_gives.1, ap length c.into_iter-call-iterator.ensures.into_iter_gives.0);
@@ -36,10 +36,12 @@ loop-call-init g c = record {
 }
 
 -- the weigher and the lifecycle stay, so the cache is as plain as it was
-pub act-requires-clause-plain : goal.act-requires-clause-plain
-act-requires-clause-plain g c =
-    subst (λ (x : Shard g.row.K.Denot g.row.V.Denot g.row.We.Denot g.row.B.Denot g.row.L.Denot). IsPlainCache g.We.Weighter g.L.Lifecycle x)
-    (sym c.loop-call.invariant.same) (record { unit = c.requires.plain.unit; unpinned = c.requires.plain.unpinned; steady = c.requires.plain.steady })
+pub act-requires : goal.act-requires
+act-requires g c = record {
+  plain =
+      subst (λ (x : Shard g.row.K.Denot g.row.V.Denot g.row.We.Denot g.row.B.Denot g.row.L.Denot). IsPlainCache g.We.Weighter g.L.Lifecycle x)
+      (sym c.loop-call.invariant.same) (record { unit = c.requires.plain.unit; unpinned = c.requires.plain.unpinned; steady = c.requires.plain.steady });
+}
 
 -- one call more
 pub loop-call-preserved : goal.loop-call-preserved
@@ -49,12 +51,12 @@ loop-call-preserved g c =
     let call = c.in-Some.call in
     let rules = λ (x : Shard g.row.K.Denot g.row.V.Denot g.row.We.Denot g.row.B.Denot g.row.L.Denot).
     rules_of no_touches g.K.Hash.hash_input g.We.Weighter g.B.BuildHasher g.B.Hasher.Hasher g.L.Lifecycle x in
-    let stepped = subst (λ r. CacheStep r g.K.PartialEq.eq c.loop-call.cache.state call c.act.result step.0 c.act.new.cache.state) (ap rules i.same) step.1 in
+    let stepped = subst (λ r. CacheStep r g.K.PartialEq.eq g.V.Clone.is_clone c.loop-call.cache.state call c.act.result step.0 c.act.new.cache.state) (ap rules i.same) step.1 in
     let ran = subst (λ (x : Shard g.row.K.Denot g.row.V.Denot g.row.We.Denot g.row.B.Denot g.row.L.Denot).
     RunsHooks (hooks_of g.L.Lifecycle x) step.0 c.loop-call.state c.act.new.state) i.same step.2 in
     record {
       split = took_one c.args.calls.items c.loop-call.yielded _ _ call i.split c.in-Some.ensures.steps.0;
-      run = rw c.push_reserved.ensures.items (IsRun-append (rules c.args.cache.now) g.K.PartialEq.eq (hooks_of g.L.Lifecycle c.args.cache.now)
+      run = rw c.push_reserved.ensures.items (IsRun-append (rules c.args.cache.now) g.K.PartialEq.eq g.V.Clone.is_clone (hooks_of g.L.Lifecycle c.args.cache.now)
           c.args.cache.now.state c.args.state.now c.loop-call.yielded c.loop-call.replies.items c.loop-call.cache.state c.loop-call.state i.run
           call c.act.result step.0 c.act.new.cache.state c.act.new.state stepped ran);
       same = c.act.ensures.same ∙ ap (λ (x : Shard g.row.K.Denot g.row.V.Denot g.row.We.Denot g.row.B.Denot g.row.L.Denot).
@@ -70,7 +72,7 @@ pub returns-clause-runs : goal.returns-clause-runs
 returns-clause-runs g c =
     let i = c.loop-call.invariant in
     subst (λ made. IsRun (rules_of no_touches g.K.Hash.hash_input g.We.Weighter g.B.BuildHasher g.B.Hasher.Hasher g.L.Lifecycle c.args.cache.now)
-    g.K.PartialEq.eq (hooks_of g.L.Lifecycle c.args.cache.now) c.args.cache.now.state c.args.state.now made c.loop-call.replies.items
+    g.K.PartialEq.eq g.V.Clone.is_clone (hooks_of g.L.Lifecycle c.args.cache.now) c.args.cache.now.state c.args.state.now made c.loop-call.replies.items
     c.loop-call.cache.state c.loop-call.state)
     (took_all c.args.calls.items c.loop-call.yielded _ i.split (sym i.left ∙ c.in-None.ensures.steps.0)) i.run
 
