@@ -1,8 +1,8 @@
 -- A run of one call serves it.
 use Rattle.std.proofs.Common.{◌≡◌, Bool, List, [], ◌∷◌, ◌++◌, length, refl, sym, ap, subst, arith}
 use Rattle.std.proofs.lemmas.List.{length-append}
-use Rattle.quick_cache_base.specs.CacheState.{CacheState}
-use Rattle.quick_cache_base.specs.Hooks.{Rules, HookCall}
+use Rattle.quick_cache_model.specs.CacheState.{CacheState}
+use Rattle.quick_cache_model.specs.Hooks.{Rules, HookCall}
 use Rattle.quick_cache_unsync.specs.declared.calls.Call.{Call}
 use Rattle.quick_cache_unsync.specs.declared.calls.Call.TheVariants.{Insert}
 use Rattle.quick_cache_unsync.specs.declared.calls.Reply.{Reply}

@@ -1,8 +1,8 @@
 -- The answers that are printed, and their texts.
 use Rattle.std.specs.Prelude.{ℕ, List, ◌++◌, Some, None, codes}
 use Rattle.std.specs.Fmt.{decimal}
-use Rattle.quick_cache_base.specs.declared.refusal.Refusal.{Refusal}
-use Rattle.quick_cache_base.specs.declared.refusal.Refusal.TheVariants.{Memory, SlotsFull, TicketsSpent, Finished}
+use Rattle.quick_cache_model.specs.declared.refusal.Refusal.{Refusal}
+use Rattle.quick_cache_model.specs.declared.refusal.Refusal.TheVariants.{Memory, SlotsFull, TicketsSpent, Finished}
 use Rattle.quick_cache_unsync.specs.declared.calls.Reply.{Reply}
 use Rattle.quick_cache_unsync.specs.declared.calls.Reply.TheVariants as reply
 use Rattle.qcrun.specs.declared.reply.Answer.{Answer}

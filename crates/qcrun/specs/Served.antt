@@ -1,8 +1,8 @@
 -- What a command does to the cache.
 use Rattle.std.specs.Prelude.{Bool, List, [], ◌∷◌, Option}
-use Rattle.quick_cache_base.specs.declared.refusal.Refusal.TheVariants.{Memory}
-use Rattle.quick_cache_base.specs.CacheState.{CacheState}
-use Rattle.quick_cache_base.specs.Hooks.{Rules, HookCall}
+use Rattle.quick_cache_model.specs.declared.refusal.Refusal.TheVariants.{Memory}
+use Rattle.quick_cache_model.specs.CacheState.{CacheState}
+use Rattle.quick_cache_model.specs.Hooks.{Rules, HookCall}
 use Rattle.quick_cache_unsync.specs.declared.calls.Call.{Call}
 use Rattle.quick_cache_unsync.specs.declared.calls.Call.TheVariants.{Insert, Get, Remove}
 use Rattle.quick_cache_unsync.specs.declared.calls.Reply.{Reply}

@@ -1,10 +1,10 @@
 -- What a command does to the cache that stands, and what is printed for it.
 use Rattle.std.specs.Prelude.{◌≡◌, ℕ, List, [], ◌∷◌, ◌++◌, Option, Some, None, Result, nat_eq, IfOk, OnOk, IfSome}
 use Rattle.std.specs.Io.KnownBytes.{Appends}
-use Rattle.quick_cache_base.specs.declared.refusal.Refusal.TheVariants.{Memory}
-use Rattle.quick_cache_base.specs.CacheState.{CacheState, empty_state}
-use Rattle.quick_cache_base.specs.Hooks.{Rules}
-use Rattle.quick_cache_base.specs.Sizes.{hot_target_of, ghost_limit_of, default_hot_share, default_ghost_share}
+use Rattle.quick_cache_model.specs.declared.refusal.Refusal.TheVariants.{Memory}
+use Rattle.quick_cache_model.specs.CacheState.{CacheState, empty_state}
+use Rattle.quick_cache_model.specs.Hooks.{Rules}
+use Rattle.quick_cache_model.specs.Sizes.{hot_target_of, ghost_limit_of, default_hot_share, default_ghost_share}
 use Rattle.quick_cache_shard.specs.Shard.{Shard}
 use Rattle.quick_cache_unsync.specs.declared.calls.Call.{Call}
 use Rattle.quick_cache_unsync.specs.declared.calls.Call.TheVariants as call

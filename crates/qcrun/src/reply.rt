@@ -2,7 +2,7 @@
 ghost use Rattle.std.specs.Prelude.{◌≡◌, Some};
 ghost use Rattle.qcrun.specs.Answers.{answer_of, text_of};
 
-use quick_cache_base::Refusal;
+use quick_cache_model::Refusal;
 use quick_cache_unsync::Reply;
 use std::fmt::{self, Display, Formatter, Write};
 

@@ -8,7 +8,7 @@ ghost use Rattle.qcrun.specs.Sessions.{IsServed, MakesCache};
 use crate::command::Command;
 use crate::hash::{RemainderBuilder, RemainderHasher};
 use crate::reply::Answer;
-use quick_cache_base::{Lifecycle, Refusal, UnitWeighter, Weighter};
+use quick_cache_model::{Lifecycle, Refusal, UnitWeighter, Weighter};
 use quick_cache_unsync::{Cache, Call, DefaultLifecycle, Reply, run};
 use std::alloc::Allocator;
 use std::hash::{BuildHasher, Hash, Hasher};

@@ -1,7 +1,7 @@
 -- What a cache is made with, and what is wrong with the numbers that were set.
 use Rattle.std.specs.Prelude.{ℕ, ◌^◌, ◌≤◌, List, [], ◌∷◌, Option, None, Bool, is_none, unwrap_or, nat_lt, codes, find}
 use Rattle.std.specs.Option.{option_map}
-use Rattle.quick_cache_base.specs.Sizes.{default_hot_share, default_ghost_share}
+use Rattle.quick_cache_model.specs.Sizes.{default_hot_share, default_ghost_share}
 
 -- the numbers that were set on a builder
 pub record Choices : Type 0 where

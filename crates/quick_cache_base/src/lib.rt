@@ -1,27 +1,16 @@
-//! The vocabulary of the cache: what it asks of its keys, weigher and lifecycle, how it refuses, and what it is made of.
+//! Options and sizes of a cache, beside all that it is made of, under one name.
 #![tactic(auto)]
 
-pub mod equivalent;
-pub mod hash_builder;
-pub mod laws;
-pub mod lifecycle;
-pub mod linked_slab;
 pub mod options;
-pub mod protocol;
-pub mod queue;
-pub mod refusal;
 pub mod sizes;
-pub mod stats;
-pub mod table;
-pub mod weighter;
 
-pub use equivalent::{Equivalent, ToKey};
-pub use hash_builder::{DefaultHashBuilder, hash_of};
-pub use lifecycle::Lifecycle;
-pub use linked_slab::{LinkedSlab, Token};
 pub use options::{Options, OptionsBuilder};
-pub use queue::Queue;
-pub use refusal::Refusal;
-pub use stats::{ItemStats, MemoryUsed};
-pub use table::Table;
-pub use weighter::{UnitWeighter, Weighter};
+pub use quick_cache_laws::laws;
+pub use quick_cache_loading::protocol;
+pub use quick_cache_model::{
+    DefaultHashBuilder, Equivalent, ItemStats, Lifecycle, MemoryUsed, Queue, Refusal, ToKey, Token, UnitWeighter,
+    Weighter, hash_of,
+};
+pub use quick_cache_model::{equivalent, hash_builder, lifecycle, queue, refusal, stats, weighter};
+pub use quick_cache_slab::{LinkedSlab, linked_slab};
+pub use quick_cache_table::{Table, table};

@@ -3,9 +3,9 @@ use lib.Pointwise.{pointwise}
 use Rattle.std.proofs.Common.{◌≡◌, ℕ, ◌≤◌, Bool, true, nat_eq, cond, List, [], ◌∷◌, refl, sym, ap, subst, ◌∙◌, arith}
 use Rattle.std.specs.Cmp.{IsEquivalence, nat_eq_equiv}
 use Rattle.std.specs.List.{AllZip}
-use Rattle.quick_cache_base.specs.declared.queue.Queue.{Queue}
-use Rattle.quick_cache_base.specs.declared.queue.Queue.TheVariants.{Hot, Cold}
-use Rattle.quick_cache_base.specs.CacheState.{CacheState, Item, mark_cut}
+use Rattle.quick_cache_model.specs.declared.queue.Queue.{Queue}
+use Rattle.quick_cache_model.specs.declared.queue.Queue.TheVariants.{Hot, Cold}
+use Rattle.quick_cache_model.specs.CacheState.{CacheState, Item, mark_cut}
 use Rattle.quick_cache_shard.specs.Copies.{ClonesAreEqual, IsItemCopy, IsCopyOf}
 use Rattle.quick_cache_shard.specs.Rings.{IsUnitItem, AllUnit, IsPlain, plain_state}
 use Rattle.quick_cache_shard.specs.Shard.{ClonesExactly}

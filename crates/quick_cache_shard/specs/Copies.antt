@@ -1,7 +1,7 @@
 -- Copies of what a shard holds: clones stand in for keys and values.
 use Rattle.std.specs.Prelude.{◌≡◌, Bool, true}
 use Rattle.std.specs.List.{AllZip}
-use Rattle.quick_cache_base.specs.CacheState.{CacheState, Item}
+use Rattle.quick_cache_model.specs.CacheState.{CacheState, Item}
 
 -- a clone of a key is equal to it, as the keys' own test says
 abbrev pub ClonesAreEqual : {K : Type 0} → (K → K → Bool) → (K → K → Type 0) → Type 0

@@ -1,7 +1,7 @@
 //! A pair that is too heavy.
 ghost use Rattle.std.specs.Prelude.{◌≡◌, ℕ};
-ghost use Rattle.quick_cache_base.specs.Hooks.{Calls};
-ghost use Rattle.quick_cache_base.specs.Writes.{TakesOutItem, Writes};
+ghost use Rattle.quick_cache_model.specs.Hooks.{Calls};
+ghost use Rattle.quick_cache_model.specs.Writes.{TakesOutItem, Writes};
 ghost use Rattle.quick_cache_shard.specs.Places.{IsFoundAt};
 ghost use Rattle.quick_cache_shard.specs.Rings.{IsSound, state_of, unit_rules};
 ghost use Rattle.quick_cache_shard.specs.Shard.{hooks_by, strategy_of};
@@ -12,7 +12,7 @@ use crate::lists::take_out;
 use crate::overwrite::report;
 use crate::placeholder::SharedPlaceholder;
 use crate::rings::Rings;
-use quick_cache_base::Lifecycle;
+use quick_cache_model::Lifecycle;
 use std::alloc::Allocator;
 use std::hash::Hash;
 

@@ -1,8 +1,8 @@
 //! How room is made: victims, promotions and ghosts.
 ghost use Rattle.std.specs.Prelude.{◌≡◌, ℕ, ◌+◌, ◌*◌, ◌<◌, ◌≤◌, [], ◌++◌, ◌∷◌, map, take, drop, vec_len, vec_capacity, MatchOption, IsTrue, if◌then◌else◌};
-ghost use Rattle.quick_cache_base.specs.Eviction.{AdvancesHot, EvictsToTarget, AdvancesCold, EvictsToCapacity, lowered, newest};
-ghost use Rattle.quick_cache_base.specs.Hashing.{hash_of};
-ghost use Rattle.quick_cache_base.specs.Hooks.{Calls};
+ghost use Rattle.quick_cache_model.specs.Eviction.{AdvancesHot, EvictsToTarget, AdvancesCold, EvictsToCapacity, lowered, newest};
+ghost use Rattle.quick_cache_model.specs.Hashing.{hash_of};
+ghost use Rattle.quick_cache_model.specs.Hooks.{Calls};
 ghost use Rattle.quick_cache_shard.specs.Rings.{IsLeast, LeavesHot, LeavesCold, HasRoom, IsSound, state_of, unit_rules};
 ghost use Rattle.quick_cache_shard.specs.Shard.{hooks_by};
 
@@ -10,7 +10,7 @@ use crate::lists::{restart, take_all_touches};
 use crate::placeholder::SharedPlaceholder;
 use crate::resident::Resident;
 use crate::rings::Rings;
-use quick_cache_base::{Lifecycle, hash_of};
+use quick_cache_model::{Lifecycle, hash_of};
 use std::alloc::Allocator;
 use std::hash::{BuildHasher, Hash};
 

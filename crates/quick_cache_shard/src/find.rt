@@ -1,6 +1,6 @@
 //! What stands under a query.
 ghost use Rattle.std.specs.Prelude.{◌≡◌, ◌<◌, nat_eq};
-ghost use Rattle.quick_cache_base.specs.CacheState.{Item};
+ghost use Rattle.quick_cache_model.specs.CacheState.{Item};
 ghost use Rattle.quick_cache_shard.specs.Places.{IsFoundAt};
 ghost use Rattle.quick_cache_shard.specs.Rings.{state_of};
 ghost use Rattle.quick_cache_shard.specs.Split.{FindsFirst};
@@ -8,7 +8,7 @@ ghost use Rattle.quick_cache_shard.specs.Split.{FindsFirst};
 use crate::placeholder::SharedPlaceholder;
 use crate::resident::Resident;
 use crate::rings::Rings;
-use quick_cache_base::Equivalent;
+use quick_cache_model::Equivalent;
 use std::alloc::Allocator;
 use std::hash::Hash;
 

@@ -1,11 +1,11 @@
 //! Writes: inserts and replaces.
 ghost use Rattle.std.specs.Prelude.{◌≡◌, ℕ, ◌<◌, List, [], ◌∷◌, None, nat_eq, vec_len, vec_capacity};
-ghost use Rattle.quick_cache_base.specs.CacheState.{Item};
-ghost use Rattle.quick_cache_base.specs.Finding.{HasNoKey, HasNothing};
-ghost use Rattle.quick_cache_base.specs.Hashing.{hash_of};
-ghost use Rattle.quick_cache_base.specs.Hooks.{Calls, RunsHooks, evicted};
-ghost use Rattle.quick_cache_base.specs.Refusals.{slots_taken};
-ghost use Rattle.quick_cache_base.specs.Writes.{WritesAdmitted, Writes, TakesOutItem, Insert, mark_after};
+ghost use Rattle.quick_cache_model.specs.CacheState.{Item};
+ghost use Rattle.quick_cache_model.specs.Finding.{HasNoKey, HasNothing};
+ghost use Rattle.quick_cache_model.specs.Hashing.{hash_of};
+ghost use Rattle.quick_cache_model.specs.Hooks.{Calls, RunsHooks, evicted};
+ghost use Rattle.quick_cache_model.specs.Refusals.{slots_taken};
+ghost use Rattle.quick_cache_model.specs.Writes.{WritesAdmitted, Writes, TakesOutItem, Insert, mark_after};
 ghost use Rattle.quick_cache_shard.specs.Changes.{WritesOverAt, is_insert, IsReady, Provides};
 ghost use Rattle.quick_cache_shard.specs.Places.{IsFoundAt};
 ghost use Rattle.quick_cache_shard.specs.Rings.{HasRoom, IsSound, state_of, unit_rules};
@@ -20,7 +20,7 @@ use crate::overwrite::{overwrite_cold, overwrite_hot};
 use crate::placeholder::SharedPlaceholder;
 use crate::resident::Resident;
 use crate::rings::{Rings, SLOT_COUNT, grow};
-use quick_cache_base::{Lifecycle, Queue, Refusal};
+use quick_cache_model::{Lifecycle, Queue, Refusal};
 use std::alloc::Allocator;
 use std::hash::{BuildHasher, Hash};
 

@@ -19,6 +19,6 @@ mod shard;
 pub use insert::InsertStrategy;
 pub use iter::{GhostIter, RingIter};
 pub use placeholder::{SharedPlaceholder, Touches};
-pub use quick_cache_base::Token;
+pub use quick_cache_model::Token;
 pub use resident::Resident;
 pub use shard::CacheShard;

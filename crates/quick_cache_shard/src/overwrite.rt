@@ -1,9 +1,9 @@
 //! A pair over an item, and what its hook is told.
 ghost use Rattle.std.specs.Prelude.{◌≡◌, ◌<◌, List, [], ◌∷◌, None, vec_len, vec_capacity};
-ghost use Rattle.quick_cache_base.specs.CacheState.{Item};
-ghost use Rattle.quick_cache_base.specs.Hashing.{hash_of};
-ghost use Rattle.quick_cache_base.specs.Hooks.{Calls, RunsHooks, evicted};
-ghost use Rattle.quick_cache_base.specs.Writes.{WritesAdmitted};
+ghost use Rattle.quick_cache_model.specs.CacheState.{Item};
+ghost use Rattle.quick_cache_model.specs.Hashing.{hash_of};
+ghost use Rattle.quick_cache_model.specs.Hooks.{Calls, RunsHooks, evicted};
+ghost use Rattle.quick_cache_model.specs.Writes.{WritesAdmitted};
 ghost use Rattle.quick_cache_shard.specs.Changes.{WritesOverAt};
 ghost use Rattle.quick_cache_shard.specs.Rings.{IsSound, state_of, unit_rules};
 ghost use Rattle.quick_cache_shard.specs.Shard.{hooks_by, strategy_of};
@@ -14,7 +14,7 @@ use crate::insert::InsertStrategy;
 use crate::placeholder::{SharedPlaceholder, Touches};
 use crate::resident::Resident;
 use crate::rings::Rings;
-use quick_cache_base::{Lifecycle, Queue};
+use quick_cache_model::{Lifecycle, Queue};
 use std::alloc::Allocator;
 use std::hash::{BuildHasher, Hash};
 

@@ -1,6 +1,6 @@
 //! Taking out.
 ghost use Rattle.std.specs.Prelude.{◌≡◌};
-ghost use Rattle.quick_cache_base.specs.Removal.{Removes};
+ghost use Rattle.quick_cache_model.specs.Removal.{Removes};
 ghost use Rattle.quick_cache_shard.specs.Rings.{IsSound, state_of};
 ghost use Rattle.quick_cache_shard.specs.Shard.{UpToOrder};
 
@@ -8,7 +8,7 @@ use crate::find::{Location, find};
 use crate::lists::take_out;
 use crate::placeholder::SharedPlaceholder;
 use crate::rings::Rings;
-use quick_cache_base::Equivalent;
+use quick_cache_model::Equivalent;
 use std::alloc::Allocator;
 use std::hash::Hash;
 

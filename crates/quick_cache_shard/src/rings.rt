@@ -2,7 +2,7 @@
 ghost use Rattle.std.specs.Prelude.{◌≡◌, ◌<◌};
 ghost use Rattle.std.specs.Bool.{OnTrue};
 ghost use Rattle.quick_cache_shard.specs.Rings.{HasRoom, state_of, entries};
-ghost use Rattle.quick_cache_base.specs.Refusals.{slot_count};
+ghost use Rattle.quick_cache_model.specs.Refusals.{slot_count};
 
 use crate::placeholder::SharedPlaceholder;
 use crate::resident::Resident;

@@ -1,7 +1,7 @@
 //! The slab's row, its iterators and its drain.
 ghost use Rattle.std.specs.Prelude.{◌≡◌, OnSome, IfSome, IfNone};
 ghost use Rattle.std.specs.Int.NonZero.{non_zero_u32_get as number};
-ghost use Rattle.quick_cache_base.specs.LinkedSlab.{successor, with_item};
+ghost use Rattle.quick_cache_slab.specs.LinkedSlab.{successor, with_item};
 
 use quick_cache_base::linked_slab::{LinkedSlab, Token};
 use std::alloc::Global;

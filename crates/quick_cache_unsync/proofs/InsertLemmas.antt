@@ -1,10 +1,10 @@
 -- An insert that gives its pair back was refused: an insert that was made gives nothing back.
 use Rattle.std.proofs.Common.{◌≡◌, Bool, List, Option, Some, None, refl}
 use Rattle.std.specs.Prelude.{IsSome}
-use Rattle.quick_cache_base.specs.declared.refusal.Refusal.{Refusal}
-use Rattle.quick_cache_base.specs.CacheState.{CacheState}
-use Rattle.quick_cache_base.specs.Hooks.{Rules, Hooks, HookCall}
-use Rattle.quick_cache_base.specs.Writes.{Insert, Writes, WritesAdmitted, RejectsTooHeavy}
+use Rattle.quick_cache_model.specs.declared.refusal.Refusal.{Refusal}
+use Rattle.quick_cache_model.specs.CacheState.{CacheState}
+use Rattle.quick_cache_model.specs.Hooks.{Rules, Hooks, HookCall}
+use Rattle.quick_cache_model.specs.Writes.{Insert, Writes, WritesAdmitted, RejectsTooHeavy}
 use Rattle.quick_cache_shard.specs.Shard.{GivesBack}
 
 pub some_is_not_none : {X : Type 0} (x : X) → Some x ≡ None → ⊥

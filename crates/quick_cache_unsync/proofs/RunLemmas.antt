@@ -1,9 +1,9 @@
 -- A run, and one call more.
 use Rattle.std.proofs.Common.{◌≡◌, ◌<◌, ◌≤◌, Bool, List, [], ◌∷◌, ◌++◌, length, Vec, vec_len, vec_capacity, refl, sym, subst, ◌∙◌, append_assoc, arith}
 use Rattle.std.proofs.lemmas.List.{append-nil}
-use Rattle.quick_cache_base.specs.CacheState.{CacheState}
-use Rattle.quick_cache_base.specs.Hooks.{Rules, Hooks, HookCall, RunsHooks}
-use Rattle.quick_cache_base.proofs.HookLaws.{RunsHooks-append}
+use Rattle.quick_cache_model.specs.CacheState.{CacheState}
+use Rattle.quick_cache_model.specs.Hooks.{Rules, Hooks, HookCall, RunsHooks}
+use Rattle.quick_cache_model.proofs.HookLaws.{RunsHooks-append}
 use Rattle.quick_cache_unsync.specs.declared.calls.Call.{Call}
 use Rattle.quick_cache_unsync.specs.declared.calls.Reply.{Reply}
 use Rattle.quick_cache_unsync.specs.CacheStep.{CacheStep}

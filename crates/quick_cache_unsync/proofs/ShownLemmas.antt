@@ -1,9 +1,9 @@
 -- What may be shown for a value is what the relation says, and more may be shown by a wider one. So where a clone is
 -- the very value, a look-up shows the value that it finds.
 use Rattle.std.proofs.Common.{◌≡◌, Bool, List, Option, Some, None, Result, Ok, Err, Vec, refl, sym, subst}
-use Rattle.quick_cache_base.specs.CacheState.{CacheState}
-use Rattle.quick_cache_base.specs.Hooks.{Rules, Hooks, HookCall}
-use Rattle.quick_cache_base.specs.Lookups.{LooksUp}
+use Rattle.quick_cache_model.specs.CacheState.{CacheState}
+use Rattle.quick_cache_model.specs.Hooks.{Rules, Hooks, HookCall}
+use Rattle.quick_cache_model.specs.Lookups.{LooksUp}
 use Rattle.quick_cache_shard.specs.Shard.{UpToOrder}
 use Rattle.quick_cache_unsync.specs.declared.calls.Call.{Call}
 use Rattle.quick_cache_unsync.specs.declared.calls.Call.TheVariants.{Get}

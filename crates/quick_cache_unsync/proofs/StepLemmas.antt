@@ -1,15 +1,15 @@
 -- Steps of single calls.
 use Rattle.std.proofs.Common.{◌≤◌, Bool, List, [], Option, None, sym, subst}
 use Rattle.std.specs.Prelude.{IsSome}
-use Rattle.quick_cache_base.specs.declared.refusal.Refusal.{Refusal}
-use Rattle.quick_cache_base.specs.declared.refusal.Refusal.TheVariants.{Memory}
-use Rattle.quick_cache_base.specs.CacheState.{CacheState, Item, keys_by}
-use Rattle.quick_cache_base.specs.Hooks.{Rules, Hooks, HookCall, RunsHooks}
-use Rattle.quick_cache_base.specs.Lookups.{Sees, LooksUp}
-use Rattle.quick_cache_base.specs.Refusals.{MayRefuse, IsProvided}
-use Rattle.quick_cache_base.proofs.LookupLaws.{Sees-LooksUp}
+use Rattle.quick_cache_model.specs.declared.refusal.Refusal.{Refusal}
+use Rattle.quick_cache_model.specs.declared.refusal.Refusal.TheVariants.{Memory}
+use Rattle.quick_cache_model.specs.CacheState.{CacheState, Item, keys_by}
+use Rattle.quick_cache_model.specs.Hooks.{Rules, Hooks, HookCall, RunsHooks}
+use Rattle.quick_cache_model.specs.Lookups.{Sees, LooksUp}
+use Rattle.quick_cache_model.specs.Refusals.{MayRefuse, IsProvided}
+use Rattle.quick_cache_model.proofs.LookupLaws.{Sees-LooksUp}
 use Rattle.quick_cache_shard.specs.Shard.{UpToOrder, Wrote, RefusesWrite}
-use Rattle.quick_cache_base.specs.Writes.{Insert as insertion}
+use Rattle.quick_cache_model.specs.Writes.{Insert as insertion}
 use Rattle.quick_cache_unsync.specs.declared.calls.Call.TheVariants.{Insert, Get}
 use Rattle.quick_cache_unsync.specs.declared.calls.Reply.TheVariants.{Done, RefusedPair, Refused}
 use Rattle.quick_cache_unsync.specs.CacheStep.{CacheStep}

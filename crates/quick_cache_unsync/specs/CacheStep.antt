@@ -1,13 +1,13 @@
 -- One call of a cache for one thread, with its reply: when it succeeds, and when it is refused.
 use Rattle.std.specs.Prelude.{◌≡◌, Bool, List, [], Option, Some, None}
-use Rattle.quick_cache_base.specs.declared.refusal.Refusal.{Refusal}
-use Rattle.quick_cache_base.specs.CacheState.{CacheState, Item, Place}
-use Rattle.quick_cache_base.specs.Finding.{IsItemAt}
-use Rattle.quick_cache_base.specs.Hooks.{Rules, HookCall}
-use Rattle.quick_cache_base.specs.Lookups.{LooksUp}
-use Rattle.quick_cache_base.specs.Refusals.{IsProvided, MayRefuse, needs_of_insert, needs_of_clone}
-use Rattle.quick_cache_base.specs.Removal.{Removes}
-use Rattle.quick_cache_base.specs.Writes.{Writes, Insert as insertion}
+use Rattle.quick_cache_model.specs.declared.refusal.Refusal.{Refusal}
+use Rattle.quick_cache_model.specs.CacheState.{CacheState, Item, Place}
+use Rattle.quick_cache_model.specs.Finding.{IsItemAt}
+use Rattle.quick_cache_model.specs.Hooks.{Rules, HookCall}
+use Rattle.quick_cache_model.specs.Lookups.{LooksUp}
+use Rattle.quick_cache_model.specs.Refusals.{IsProvided, MayRefuse, needs_of_insert, needs_of_clone}
+use Rattle.quick_cache_model.specs.Removal.{Removes}
+use Rattle.quick_cache_model.specs.Writes.{Writes, Insert as insertion}
 use Rattle.quick_cache_shard.specs.Shard.{UpToOrder}
 use Rattle.quick_cache_unsync.specs.declared.calls.Call.{Call}
 use Rattle.quick_cache_unsync.specs.declared.calls.Call.TheVariants.{Insert, Get, Remove}

@@ -1,9 +1,9 @@
 -- The answers of an insert.
 use Rattle.std.specs.Prelude.{Bool, Result, Ok, Err, None}
-use Rattle.quick_cache_base.specs.declared.refusal.Refusal.{Refusal}
-use Rattle.quick_cache_base.specs.CacheState.{CacheState}
-use Rattle.quick_cache_base.specs.Hooks.{Rules, Hooks}
-use Rattle.quick_cache_base.specs.Writes.{Insert}
+use Rattle.quick_cache_model.specs.declared.refusal.Refusal.{Refusal}
+use Rattle.quick_cache_model.specs.CacheState.{CacheState}
+use Rattle.quick_cache_model.specs.Hooks.{Rules, Hooks}
+use Rattle.quick_cache_model.specs.Writes.{Insert}
 use Rattle.quick_cache_shard.specs.Shard.{Wrote, RefusesWrite}
 
 module _ {K V S : Type 0} (hooks : Hooks K V S) (rules : Rules K V) (equal : K → K → Bool) (old : CacheState K V) where

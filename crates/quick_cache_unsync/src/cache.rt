@@ -1,14 +1,14 @@
 //! The cache for one thread.
 ghost use Rattle.std.specs.Prelude.{◌≡◌, ◌^◌, ◌-◌, ◌↔◌, min, IsTrue, IfOk, IfErr, IsOk, option_copied};
 ghost use Rattle.std.specs.Borrow.{sem};
-ghost use Rattle.quick_cache_base.specs.declared.refusal.Refusal.TheVariants.{Memory};
-ghost use Rattle.quick_cache_base.specs.CacheState.{empty_state, item_count, total_weight};
+ghost use Rattle.quick_cache_model.specs.declared.refusal.Refusal.TheVariants.{Memory};
+ghost use Rattle.quick_cache_model.specs.CacheState.{empty_state, item_count, total_weight};
 ghost use Rattle.std.specs.Bool.{OnTrue, OnFalse};
-ghost use Rattle.quick_cache_base.specs.Finding.{HasNoItem};
-ghost use Rattle.quick_cache_base.specs.Hashing.{hash_of};
-ghost use Rattle.quick_cache_base.specs.Lookups.{Sees, LooksUp};
-ghost use Rattle.quick_cache_base.specs.Removal.{Removes};
-ghost use Rattle.quick_cache_base.specs.Sizes.{hot_target_of, ghost_limit_of, default_hot_share, default_ghost_share};
+ghost use Rattle.quick_cache_model.specs.Finding.{HasNoItem};
+ghost use Rattle.quick_cache_model.specs.Hashing.{hash_of};
+ghost use Rattle.quick_cache_model.specs.Lookups.{Sees, LooksUp};
+ghost use Rattle.quick_cache_model.specs.Removal.{Removes};
+ghost use Rattle.quick_cache_model.specs.Sizes.{hot_target_of, ghost_limit_of, default_hot_share, default_ghost_share};
 ghost use Rattle.quick_cache_shard.specs.Copies.{ClonesAreEqual, IsCopyOf};
 ghost use Rattle.quick_cache_shard.specs.Shard.{rules_of, hooks_of, HasItem, IsPlainCache, IsSoundShard, UpToOrder};
 ghost use Rattle.quick_cache_unsync.specs.Inserts.{Inserts, InsertsAlone};
@@ -17,7 +17,7 @@ ghost use Rattle.quick_cache_unsync.specs.Touches.{no_touches};
 use crate::lifecycle::DefaultLifecycle;
 use crate::placeholder::Placeholder;
 use quick_cache_base::options::{DEFAULT_GHOST_ALLOCATION, DEFAULT_HOT_ALLOCATION};
-use quick_cache_base::{
+use quick_cache_model::{
     DefaultHashBuilder, Equivalent, Lifecycle, Refusal, UnitWeighter, Weighter,
 };
 use quick_cache_shard::{CacheShard, InsertStrategy};

@@ -1,6 +1,6 @@
 //! Lists of calls, made one after another.
 ghost use Rattle.std.specs.Prelude.{◌≡◌, [], List, All};
-ghost use Rattle.quick_cache_base.specs.Hooks.{HookCall, RunsHooks};
+ghost use Rattle.quick_cache_model.specs.Hooks.{HookCall, RunsHooks};
 ghost use Rattle.quick_cache_shard.specs.Shard.{rules_of, hooks_of, IsPlainCache};
 ghost use Rattle.quick_cache_unsync.specs.Answered.{AlwaysClones, IsAnswered, replies_of};
 ghost use Rattle.quick_cache_unsync.specs.CacheRun.{RunsCalls};
@@ -8,7 +8,7 @@ ghost use Rattle.quick_cache_unsync.specs.CacheStep.{CacheStep};
 ghost use Rattle.quick_cache_unsync.specs.Touches.{no_touches};
 
 use crate::cache::Cache;
-use quick_cache_base::{Lifecycle, Refusal, Weighter};
+use quick_cache_model::{Lifecycle, Refusal, Weighter};
 use std::alloc::Allocator;
 use std::hash::{BuildHasher, Hash};
 

@@ -1,7 +1,7 @@
 //! The lifecycle that a cache for one thread has by default.
 ghost use Rattle.std.specs.Prelude.{◌≡◌};
 
-use quick_cache_base::Lifecycle;
+use quick_cache_model::Lifecycle;
 use std::fmt::{Debug, Formatter, Write};
 use std::marker::PhantomData;
 

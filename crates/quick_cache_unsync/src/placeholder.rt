@@ -3,7 +3,7 @@ ghost use Rattle.std.specs.Prelude.{◌≡◌, refl};
 ghost use Rattle.std.specs.Int.NonZero.{non_zero_u32_get};
 ghost use Rattle.quick_cache_unsync.specs.Touches.{no_touches};
 
-use quick_cache_base::{Refusal, ToKey};
+use quick_cache_model::{Refusal, ToKey};
 use quick_cache_shard::{SharedPlaceholder, Token, Touches};
 use std::hash::Hash;
 

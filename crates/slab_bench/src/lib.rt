@@ -1,7 +1,7 @@
 //! The slab as a static library: one call runs a list of operations on a new slab, and writes each answer.
 #![tactic(auto)]
 
-use quick_cache_base::linked_slab::{LinkedSlab, Token};
+use quick_cache_slab::linked_slab::{LinkedSlab, Token};
 use std::alloc::Global;
 
 /// What each slot holds, about as large as a cache's entry.

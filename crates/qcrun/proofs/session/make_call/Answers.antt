@@ -1,6 +1,6 @@
 use Rattle.std.proofs.Common.{Option, sym, subst}
-use Rattle.quick_cache_base.specs.CacheState.{Item}
-use Rattle.quick_cache_base.specs.Lookups.{LooksUp}
+use Rattle.quick_cache_model.specs.CacheState.{Item}
+use Rattle.quick_cache_model.specs.Lookups.{LooksUp}
 use Rattle.quick_cache_shard.specs.Shard.{UpToOrder}
 use Rattle.quick_cache_unsync.specs.CacheStep.{CacheStep}
 use Rattle.quick_cache_unsync.proofs.ShownLemmas.{IsShown-itself}

@@ -1,7 +1,7 @@
 use Rattle.std.proofs.Common.{ℕ, ◌<◌, ◌≤◌, arith, inl, inr, subst}
 use Rattle.std.proofs.Math.Nat.{eq-or-lt_of_le}
-use Rattle.quick_cache_base.specs.Sizes.{shard_part}
-use Rattle.quick_cache_base.proofs.PowersOfTwo.{IsPowerOfTwo-pos, half-IsPowerOfTwo, half-double, IsPowerOfTwo-double}
+use Rattle.quick_cache_model.specs.Sizes.{shard_part}
+use Rattle.quick_cache_table.proofs.PowersOfTwo.{IsPowerOfTwo-pos, half-IsPowerOfTwo, half-double, IsPowerOfTwo-double}
 use Rattle.quick_cache_base.proofs.sizes.shard_count.Goals as goal
 
 -- a greater power of two is at least the double, so it is not within the number asked for

@@ -1,6 +1,6 @@
 use Rattle.std.proofs.Common.{ℕ, ◌<◌}
 use Rattle.std.specs.Int.{IsPowerOfTwo}
-use Rattle.quick_cache_base.specs.Sizes.{shard_part, IsWithinAsked}
+use Rattle.quick_cache_model.specs.Sizes.{shard_part, IsWithinAsked}
 use Rattle.quick_cache_base.proofs.sizes.shard_count.Given as goal
 
 -- each greater count that was asked for leaves a shard too few items

@@ -1,5 +1,5 @@
 use Rattle.std.proofs.Common.{[], ◌∷◌, ◌++◌, refl, sym, ◌∙◌}
-use Rattle.quick_cache_base.specs.Hooks.{BeforeEvict, EvictCold}
+use Rattle.quick_cache_model.specs.Hooks.{BeforeEvict, EvictCold}
 use Rattle.quick_cache_shard.specs.Rings.{state_of}
 use Rattle.quick_cache_shard.specs.Shard.{hooks_by, strategy_of}
 use Rattle.quick_cache_shard.proofs.HookCalls.{runs-append}

@@ -1,9 +1,9 @@
 use Rattle.std.proofs.Common.{[], ◌∷◌, ap, refl, ◌∙◌, subst, arith}
-use Rattle.quick_cache_base.specs.declared.queue.Queue.{Queue}
-use Rattle.quick_cache_base.specs.declared.queue.Queue.TheVariants.{Hot, Cold}
-use Rattle.quick_cache_base.specs.CacheState.{Item}
-use Rattle.quick_cache_base.specs.Hooks.{RunsHooks, evicted}
-use Rattle.quick_cache_base.specs.Writes.{was_absent}
+use Rattle.quick_cache_model.specs.declared.queue.Queue.{Queue}
+use Rattle.quick_cache_model.specs.declared.queue.Queue.TheVariants.{Hot, Cold}
+use Rattle.quick_cache_model.specs.CacheState.{Item}
+use Rattle.quick_cache_model.specs.Hooks.{RunsHooks, evicted}
+use Rattle.quick_cache_model.specs.Writes.{was_absent}
 use Rattle.quick_cache_shard.specs.Places.{IsFoundAt}
 use Rattle.quick_cache_shard.specs.Rings.{state_of}
 use Rattle.quick_cache_shard.specs.Shard.{hooks_by}

@@ -1,9 +1,9 @@
 use Rattle.std.proofs.Common.{◌≡◌, ◌<◌, ◌∙◌, [], ◌∷◌, ◌++◌, ap, sym, subst, refl, arith, length}
-use Rattle.quick_cache_base.specs.declared.queue.Queue.TheVariants.{Hot, Cold}
-use Rattle.quick_cache_base.specs.CacheState.{Item}
-use Rattle.quick_cache_base.specs.Hashing.{hash_of}
-use Rattle.quick_cache_base.specs.Hooks.{BeforeEvict, EvictCold}
-use Rattle.quick_cache_base.specs.Touches.{TakesTouches}
+use Rattle.quick_cache_model.specs.declared.queue.Queue.TheVariants.{Hot, Cold}
+use Rattle.quick_cache_model.specs.CacheState.{Item}
+use Rattle.quick_cache_model.specs.Hashing.{hash_of}
+use Rattle.quick_cache_model.specs.Hooks.{BeforeEvict, EvictCold}
+use Rattle.quick_cache_model.specs.Touches.{TakesTouches}
 use Rattle.quick_cache_shard.specs.Rings.{IsUnitItem, AllUnit, state_of}
 use Rattle.quick_cache_shard.proofs.TouchLemmas.{same_but_counts, unit-touched}
 use Rattle.quick_cache_shard.proofs.ColdRing.{begins, first_split, is_empty, plain-moved, plain-left, cold_promotes, cold_evicts, cold_passes}

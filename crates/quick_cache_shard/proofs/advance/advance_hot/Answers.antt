@@ -1,7 +1,7 @@
 use Rattle.std.proofs.Common.{[], ◌∷◌, refl, subst, ap, ◌∙◌, ◌≡◌, arith, length}
-use Rattle.quick_cache_base.specs.declared.queue.Queue.TheVariants.{Hot}
-use Rattle.quick_cache_base.specs.CacheState.{Item}
-use Rattle.quick_cache_base.specs.Hooks.{BeforeEvict, EvictHot, RunsHooks}
+use Rattle.quick_cache_model.specs.declared.queue.Queue.TheVariants.{Hot}
+use Rattle.quick_cache_model.specs.CacheState.{Item}
+use Rattle.quick_cache_model.specs.Hooks.{BeforeEvict, EvictHot, RunsHooks}
 use Rattle.quick_cache_shard.specs.Rings.{state_of}
 use Rattle.quick_cache_shard.specs.Shard.{hooks_by}
 use Rattle.quick_cache_shard.proofs.ListLemmas.{get_or-split}

@@ -1,9 +1,9 @@
 use Rattle.std.proofs.Common.{◌<◌, ◌≤◌, ◌+◌, ◌∙◌, ap, arith}
-use Rattle.quick_cache_base.specs.Hashing.{hash_of}
-use Rattle.quick_cache_base.specs.CacheState.{total_weight}
+use Rattle.quick_cache_model.specs.Hashing.{hash_of}
+use Rattle.quick_cache_model.specs.CacheState.{total_weight}
 use Rattle.quick_cache_shard.specs.declared.rings.Rings.{Rings}
 use Rattle.quick_cache_shard.specs.Shard.{hooks_by}
-use Rattle.quick_cache_base.specs.declared.queue.Queue.TheVariants.{Hot, Cold}
+use Rattle.quick_cache_model.specs.declared.queue.Queue.TheVariants.{Hot, Cold}
 use Rattle.quick_cache_shard.specs.Rings.{state_of, unit_rules}
 use Rattle.quick_cache_shard.proofs.HookCalls.{capacity-steps, capacity-stops, capacity-ends}
 use Rattle.quick_cache_shard.proofs.UnitItems.{weight_of-unit}

@@ -1,8 +1,8 @@
 use Rattle.std.proofs.Common.{◌≡◌, ℕ, ◌+◌, ◌*◌, vec_len}
-use Rattle.quick_cache_base.specs.Hashing.{hash_of}
+use Rattle.quick_cache_model.specs.Hashing.{hash_of}
 use Rattle.quick_cache_shard.specs.Shard.{hooks_by}
 use Rattle.quick_cache_shard.specs.Rings.{HasRoom, IsSound, state_of, unit_rules}
-use Rattle.quick_cache_base.specs.Hooks.{Calls}
+use Rattle.quick_cache_model.specs.Hooks.{Calls}
 use Rattle.quick_cache_shard.proofs.HookCalls.{GoesToCapacity}
 use Rattle.quick_cache_shard.proofs.advance.evict_to_capacity.Given as goal
 

@@ -1,8 +1,8 @@
 use Rattle.std.proofs.Common.{◌<◌, ◌≤◌, ◌∙◌, ap, arith}
-use Rattle.quick_cache_base.specs.CacheState.{weight_of}
+use Rattle.quick_cache_model.specs.CacheState.{weight_of}
 use Rattle.quick_cache_shard.specs.declared.rings.Rings.{Rings}
 use Rattle.quick_cache_shard.specs.Shard.{hooks_by}
-use Rattle.quick_cache_base.specs.declared.queue.Queue.TheVariants.{Hot}
+use Rattle.quick_cache_model.specs.declared.queue.Queue.TheVariants.{Hot}
 use Rattle.quick_cache_shard.specs.Rings.{state_of, unit_rules}
 use Rattle.quick_cache_shard.proofs.HookCalls.{target-steps, target-stops, target-ends}
 use Rattle.quick_cache_shard.proofs.UnitItems.{weight_of-unit}

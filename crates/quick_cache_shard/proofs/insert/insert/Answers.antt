@@ -1,5 +1,5 @@
 use Rattle.std.proofs.Common.{Some, None, subst}
-use Rattle.quick_cache_base.specs.Hashing.{hash_of}
+use Rattle.quick_cache_model.specs.Hashing.{hash_of}
 use Rattle.quick_cache_shard.specs.Places.{IsFoundAt}
 use Rattle.quick_cache_shard.specs.Rings.{HasRoom, state_of, unit_rules}
 use Rattle.quick_cache_shard.specs.Shard.{hooks_by, strategy_of}

@@ -1,7 +1,7 @@
 use Rattle.std.proofs.Common.{◌<◌, ◌≤◌, ◌++◌, ◌∷◌, [], ap, refl, ◌∙◌, arith}
-use Rattle.quick_cache_base.specs.declared.queue.Queue.TheVariants.{Hot, Cold}
-use Rattle.quick_cache_base.specs.CacheState.{hot_weight}
-use Rattle.quick_cache_base.specs.Hashing.{hash_of}
+use Rattle.quick_cache_model.specs.declared.queue.Queue.TheVariants.{Hot, Cold}
+use Rattle.quick_cache_model.specs.CacheState.{hot_weight}
+use Rattle.quick_cache_model.specs.Hashing.{hash_of}
 use Rattle.quick_cache_shard.specs.Rings.{state_of}
 use Rattle.quick_cache_shard.proofs.KeyCounts.{capacity-fewer}
 use Rattle.quick_cache_shard.proofs.UnitItems.{weight_of-unit, keys_of-none}

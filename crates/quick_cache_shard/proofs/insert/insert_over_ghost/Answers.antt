@@ -1,6 +1,6 @@
 use Rattle.std.proofs.Common.{[], ◌∷◌, ◌++◌, ap, refl, ◌∙◌, arith}
-use Rattle.quick_cache_base.specs.declared.queue.Queue.TheVariants.{Hot}
-use Rattle.quick_cache_base.specs.Hashing.{hash_of}
+use Rattle.quick_cache_model.specs.declared.queue.Queue.TheVariants.{Hot}
+use Rattle.quick_cache_model.specs.Hashing.{hash_of}
 use Rattle.quick_cache_shard.specs.Rings.{state_of}
 use Rattle.quick_cache_shard.proofs.UnitItems.{plain-ghosts, keys_of-none}
 use Rattle.quick_cache_shard.proofs.WriteLemmas.{plain-pushed_hot, inserts_ghost}

@@ -1,5 +1,5 @@
 use Rattle.std.proofs.Common.{◌<◌, arith}
-use Rattle.quick_cache_base.specs.Hashing.{hash_of}
+use Rattle.quick_cache_model.specs.Hashing.{hash_of}
 use Rattle.quick_cache_shard.specs.Rings.{state_of}
 use Rattle.quick_cache_shard.specs.Shard.{strategy_of}
 use Rattle.quick_cache_shard.proofs.WriteLemmas.{admits_light}

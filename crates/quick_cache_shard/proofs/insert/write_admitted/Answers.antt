@@ -1,7 +1,7 @@
 use Rattle.std.proofs.Common.{None, nat_eq, sym, ◌∙◌, subst}
-use Rattle.quick_cache_base.specs.Hashing.{hash_of}
-use Rattle.quick_cache_base.specs.Hooks.{Calls}
-use Rattle.quick_cache_base.specs.Writes.{Strategy, WritesAdmitted}
+use Rattle.quick_cache_model.specs.Hashing.{hash_of}
+use Rattle.quick_cache_model.specs.Hooks.{Calls}
+use Rattle.quick_cache_model.specs.Writes.{Strategy, WritesAdmitted}
 use Rattle.quick_cache_shard.specs.Places.{IsFoundAt}
 use Rattle.quick_cache_shard.specs.Rings.{state_of, unit_rules}
 use Rattle.quick_cache_shard.specs.Shard.{hooks_by, strategy_of}

@@ -1,8 +1,8 @@
 use Rattle.std.proofs.Common.{[], ◌∷◌, subst, arith}
-use Rattle.quick_cache_base.specs.declared.queue.Queue.{Queue}
-use Rattle.quick_cache_base.specs.declared.queue.Queue.TheVariants.{Cold}
-use Rattle.quick_cache_base.specs.Hashing.{hash_of}
-use Rattle.quick_cache_base.specs.Hooks.{RunsHooks, evicted}
+use Rattle.quick_cache_model.specs.declared.queue.Queue.{Queue}
+use Rattle.quick_cache_model.specs.declared.queue.Queue.TheVariants.{Cold}
+use Rattle.quick_cache_model.specs.Hashing.{hash_of}
+use Rattle.quick_cache_model.specs.Hooks.{RunsHooks, evicted}
 use Rattle.quick_cache_shard.specs.Rings.{state_of}
 use Rattle.quick_cache_shard.specs.Shard.{hooks_by, strategy_of}
 use Rattle.quick_cache_shard.proofs.HookCalls.{runs-append}

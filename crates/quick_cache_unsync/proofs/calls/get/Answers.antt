@@ -1,5 +1,5 @@
 use Rattle.std.proofs.Common.{Some, None, refl}
-use Rattle.quick_cache_base.specs.CacheState.{Item}
+use Rattle.quick_cache_model.specs.CacheState.{Item}
 use Rattle.quick_cache_unsync.specs.CacheStep.{CacheStep}
 use Rattle.quick_cache_unsync.proofs.StepLemmas.{LooksUp-seen, refused_clone}
 use Rattle.quick_cache_unsync.proofs.calls.get.Goals as goal

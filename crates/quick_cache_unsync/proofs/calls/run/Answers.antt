@@ -1,5 +1,5 @@
 use Rattle.std.proofs.Common.{refl, sym, ap, subst, ◌∙◌, arith, length}
-use Rattle.quick_cache_base.specs.Hooks.{RunsHooks}
+use Rattle.quick_cache_model.specs.Hooks.{RunsHooks}
 use Rattle.quick_cache_shard.specs.Shard.{Shard, rules_of, hooks_of, IsPlainCache}
 use Rattle.std.specs.Prelude.{All}
 use Rattle.std.proofs.lemmas.List.Elements.{All-nil, All-push}

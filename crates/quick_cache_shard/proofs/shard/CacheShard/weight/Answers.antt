@@ -1,6 +1,6 @@
 use Rattle.std.proofs.Common.{◌≡◌, ◌+◌, ◌-◌, ◌^◌, min, arith, ap, ◌∙◌, length}
-use Rattle.quick_cache_base.specs.declared.queue.Queue.TheVariants.{Hot, Cold}
-use Rattle.quick_cache_base.specs.CacheState.{total_weight}
+use Rattle.quick_cache_model.specs.declared.queue.Queue.TheVariants.{Hot, Cold}
+use Rattle.quick_cache_model.specs.CacheState.{total_weight}
 use Rattle.quick_cache_shard.specs.Rings.{state_of}
 use Rattle.quick_cache_shard.specs.Shard.{Shard}
 use Rattle.quick_cache_shard.proofs.UnitItems.{weight_of-unit}

@@ -1,5 +1,0 @@
-use Rattle.quick_cache_base.proofs.FindingLaws.{Finds-some}
-use Rattle.quick_cache_base.proofs.laws.finding_law.Goals as goal
-
-pub returns : goal.returns
-returns g c = λ stands_for hash state. Finds-some stands_for hash state

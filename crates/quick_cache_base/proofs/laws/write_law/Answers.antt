@@ -1,6 +1,0 @@
-use Rattle.quick_cache_base.proofs.RoomLaws.{WritesAdmitted-within}
-use Rattle.quick_cache_base.proofs.laws.write_law.Goals as goal
-
-pub returns : goal.returns
-returns g c = λ hash weight pinned may_count key strategy old value new calls writes.
-    WritesAdmitted-within _ _ key (g.met.K.Eq.laws.refl key) strategy old value new calls writes

@@ -1,0 +1,98 @@
+//! Laws of the definitions: each function does nothing, and its contract is a theorem about words of `specs/`.
+ghost use Rattle.quick_cache_laws.specs.Laws.{AdvancesLowerTheMeasure, CapacitiesCanBeSet};
+ghost use Rattle.quick_cache_laws.specs.Laws.{CapacitiesStayValid, EmptiedCachesAreValid};
+ghost use Rattle.quick_cache_laws.specs.Laws.{EntriesCanBeActedOn, EntriesStayValid};
+ghost use Rattle.quick_cache_laws.specs.Laws.{EvictionBringsNoKey, EvictionEnds};
+ghost use Rattle.quick_cache_laws.specs.Laws.{EvictionIsDetermined, EvictionMakesRoom};
+ghost use Rattle.quick_cache_laws.specs.Laws.{FillsStayValid, GiveUpsStayValid};
+ghost use Rattle.quick_cache_laws.specs.Laws.{LoneCapacitiesAreShared, LoneFillsAreShared};
+ghost use Rattle.quick_cache_laws.specs.Laws.{LoneWritesAreShared, LooksShowTheSame};
+ghost use Rattle.quick_cache_laws.specs.Laws.{LookupsCanBeMade, LookupsStayValid};
+ghost use Rattle.quick_cache_laws.specs.Laws.{MeetingsStayValid, NewCachesAreValid};
+ghost use Rattle.quick_cache_laws.specs.Laws.{OtherOrdersAreValid, PinnedPairsStay};
+ghost use Rattle.quick_cache_laws.specs.Laws.{PlaceholdersCanBeFilled, PlaceholdersCanBeTaken};
+ghost use Rattle.quick_cache_laws.specs.Laws.{PlaceholdersStayValid, PresentCapacityChangesNothing};
+ghost use Rattle.quick_cache_laws.specs.Laws.{PresentCapacityKeepsSizes, QueriesFindSomething};
+ghost use Rattle.quick_cache_laws.specs.Laws.{QueriesHaveOneEntry, RemovalsByTestStayValid};
+ghost use Rattle.quick_cache_laws.specs.Laws.{RemovalsCanBeMade, RemovalsStayValid};
+ghost use Rattle.quick_cache_laws.specs.Laws.{RetainsStayValid, SecondRemovalsFindNothing};
+ghost use Rattle.quick_cache_laws.specs.Laws.{SecondRetainsRemoveNothing, WeightlessItemsStay};
+ghost use Rattle.quick_cache_laws.specs.Laws.{WritesCanBeMade, WritesStayValid};
+ghost use Rattle.quick_cache_laws.specs.Laws.{WritesStayWithinCapacity};
+
+/// Making room makes it unless each item of the rings is pinned. It brings no key, takes out no item without weight and
+/// no pinned pair, and ends; for one thread it is determined.
+pub fn eviction_law<K, V>()
+    ensures makes_room { EvictionMakesRoom K V }
+    ensures brings_no_key { EvictionBringsNoKey K V }
+    ensures weightless_stay { WeightlessItemsStay K V }
+    ensures pinned_stay { PinnedPairsStay K V }
+    // Each advance that answers yes lowers a number, so room is made in finitely many.
+    ensures measure { AdvancesLowerTheMeasure K V }
+    ensures ends { EvictionEnds K V }
+    ensures determined { EvictionIsDetermined K V }
+{}
+
+/// A write that takes its pair leaves the items within the capacity, unless all others in the rings are pinned.
+pub fn write_law<K: Eq, V>()
+    ensures { WritesStayWithinCapacity K V K.eq }
+{}
+
+/// What was removed is not there to be removed again.
+pub fn removal_law<K: Eq, V>()
+    ensures again { SecondRemovalsFindNothing K V K.eq }
+    ensures retains_again { SecondRetainsRemoveNothing K V }
+{}
+
+/// Setting the capacity to the present one changes no size, and nothing at all where there is room.
+pub fn capacity_law<K, V>()
+    ensures sizes { PresentCapacityKeepsSizes K V }
+    ensures nothing { PresentCapacityChangesNothing K V }
+{}
+
+/// Each call can be made in every state, so that none of their definitions asks for what cannot be.
+pub fn call_law<K, V>()
+    ensures writes { WritesCanBeMade K V }
+    ensures makes_or_meets { PlaceholdersCanBeTaken K V }
+    ensures fills { PlaceholdersCanBeFilled K V }
+    ensures looks_up { LookupsCanBeMade K V }
+    ensures removes { RemovalsCanBeMade K V }
+    ensures acts { EntriesCanBeActedOn K V }
+    ensures sets_capacity { CapacitiesCanBeSet K V }
+{}
+
+/// What a cache of one thread may do, a cache whose readers share it may do.
+pub fn shared_law<K, V>()
+    ensures writes { LoneWritesAreShared K V }
+    ensures fills { LoneFillsAreShared K V }
+    ensures sets_capacity { LoneCapacitiesAreShared K V }
+{}
+
+/// A query finds something in each state, be it nothing.
+pub fn finding_law<K, V>()
+    ensures { QueriesFindSomething K V }
+{}
+
+/// A query has at most one entry in a valid state, so a look at a key and a look-up show the same.
+pub fn query_law<K: Eq, V>()
+    ensures one_entry { QueriesHaveOneEntry K V K.eq }
+    ensures same { LooksShowTheSame K V K.eq }
+{}
+
+/// Each call leads from a valid state to a valid one.
+pub fn valid_law<K: Eq, V>()
+    ensures starts { NewCachesAreValid K V K.eq }
+    ensures orders { OtherOrdersAreValid K V K.eq }
+    ensures writes { WritesStayValid K V K.eq }
+    ensures makes { PlaceholdersStayValid K V K.eq }
+    ensures meets { MeetingsStayValid K V K.eq }
+    ensures fills { FillsStayValid K V K.eq }
+    ensures gives_up { GiveUpsStayValid K V K.eq }
+    ensures looks_up { LookupsStayValid K V K.eq }
+    ensures removes { RemovalsStayValid K V K.eq }
+    ensures removes_if { RemovalsByTestStayValid K V K.eq }
+    ensures retains { RetainsStayValid K V K.eq }
+    ensures empties { EmptiedCachesAreValid K V K.eq }
+    ensures acts { EntriesStayValid K V K.eq }
+    ensures sets_capacity { CapacitiesStayValid K V K.eq }
+{}

@@ -1,0 +1,4 @@
+//! Laws of the cache, each a theorem about the definitions alone, and worked examples of them.
+#![tactic(auto)]
+
+pub mod laws;

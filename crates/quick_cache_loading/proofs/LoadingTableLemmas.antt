@@ -1,0 +1,102 @@
+-- Each row of the table is a step by cases, so the two tables are one.
+use Rattle.std.proofs.Common.{◌≡◌, ℕ, ◌==◌, Bool, true, false, ◌&&◌, ◌⊎◌, inl, inr, refl, MatchBool}
+use Rattle.quick_cache_loading.specs.Waiting.{has}
+use Rattle.quick_cache_loading.specs.Core.{Life, Loading, Filled, GivenUp, CoreState, is_handed_to, is_given_up, held_in}
+use Rattle.quick_cache_loading.specs.LoadingStep.{LoadingStep, Shows, Creates, Joins, Fills, Abandons, Takes, TimesOut, Cancels}
+use Rattle.quick_cache_loading.specs.LoadingLaws.{applies, can_join, can_show, concerns}
+use Rattle.quick_cache_loading.specs.LoadingRow.{LoadingRow, no_case_applies, creates, joins, lacks_room, shows_the_value, lacks_a_clone, fills, hands_on, gives_up, receives, waits_on, withdraws, cancels_in_vain, leaves, abandoning, cancelling, taking, timing_out, by_time, by_cancel, TablesAgree}
+use Rattle.quick_cache_loading.proofs.TestLemmas.{both-false, same-number}
+use Rattle.quick_cache_loading.proofs.LoadingRowLemmas.{row_of_step}
+use Rattle.quick_cache_model.specs.declared.refusal.Refusal.TheVariants.{Memory}
+use Rattle.quick_cache_loading.specs.declared.protocol.life.Holder.TheVariants.{Held, HandedTo}
+use Rattle.quick_cache_loading.specs.declared.protocol.events.Event.{Event}
+use Rattle.quick_cache_loading.specs.declared.protocol.events.Event.TheVariants.{Create, Join, Fill, Abandon, Take, TimeOut, Cancel, Leave}
+use Rattle.quick_cache_loading.specs.declared.protocol.events.Answer.{Answer}
+use Rattle.quick_cache_loading.specs.declared.protocol.events.Answer.TheVariants as answer
+
+module _ {V : Type 0} (shows : V → V → Type 0) where
+  idle_create : (l : Life V) (old : CoreState V) → is_given_up l ≡ false → Creates l old answer.NotNow old
+  idle_create (Loading h ws) old none = (refl, refl)
+  idle_create (Filled v) old none = (refl, refl)
+  idle_create GivenUp old none = absurd (cc)
+
+  idle_join : (l : Life V) (n : ℕ) (old : CoreState V) → (old.in_shard && can_join n l) ≡ false → Joins shows l n old answer.NotNow old
+  idle_join (Loading h ws) n old none = rw none (refl, refl)
+  idle_join (Filled v) n old none = by_flag old.in_shard none where
+    by_flag : (b : Bool) → (b && true) ≡ false → MatchBool b (Shows shows v old answer.NotNow old) ((◌≡◌ {A = Answer V} answer.NotNow answer.NotNow) × (old ≡ old))
+    by_flag false e = (refl, refl)
+    by_flag true e = absurd (cc)
+  idle_join GivenUp n old none = (refl, refl)
+
+  idle_fill : (l : Life V) (v : V) (old : CoreState V) → (held_in l == 1) ≡ false → Fills l v old answer.NotNow old
+  idle_fill (Loading Held ws) v old none = absurd (cc)
+  idle_fill (Loading (HandedTo m) ws) v old none = (refl, refl)
+  idle_fill (Filled w) v old none = (refl, refl)
+  idle_fill GivenUp v old none = (refl, refl)
+
+  idle_abandon : (l : Life V) (old : CoreState V) → (held_in l == 1) ≡ false → Abandons l old answer.NotNow old
+  idle_abandon (Loading Held ws) old none = absurd (cc)
+  idle_abandon (Loading (HandedTo m) ws) old none = (refl, refl)
+  idle_abandon (Filled w) old none = (refl, refl)
+  idle_abandon GivenUp old none = (refl, refl)
+
+  idle_take : (l : Life V) (n : ℕ) (old : CoreState V) → concerns n l ≡ false → Takes shows l n old answer.NotNow old
+  idle_take (Loading h ws) n old none = let parts = both-false (is_handed_to h n) (has n ws) none in rw (parts.0, parts.1) (refl, refl)
+  idle_take (Filled v) n old none = absurd (cc)
+  idle_take GivenUp n old none = (refl, refl)
+
+  idle_time_out : (l : Life V) (n : ℕ) (old : CoreState V) → concerns n l ≡ false → TimesOut shows l n old answer.NotNow old
+  idle_time_out (Loading h ws) n old none = let parts = both-false (is_handed_to h n) (has n ws) none in rw (parts.0, parts.1) (refl, refl)
+  idle_time_out (Filled v) n old none = absurd (cc)
+  idle_time_out GivenUp n old none = (refl, refl)
+
+  idle_cancel : (l : Life V) (n : ℕ) (old : CoreState V) → concerns n l ≡ false → Cancels l n old answer.NotNow old
+  idle_cancel (Loading h ws) n old none = let parts = both-false (is_handed_to h n) (has n ws) none in rw (parts.0, parts.1) (refl, refl)
+  idle_cancel (Filled v) n old none = absurd (cc)
+  idle_cancel GivenUp n old none = (refl, refl)
+
+  -- where no case applies, the step by cases is idle
+  idle_step : (e : Event V) (old : CoreState V) → applies e old ≡ false → LoadingStep shows old e answer.NotNow old
+  idle_step Create old none = idle_create old.life old none
+  idle_step (Join n) old none = idle_join old.life n old none
+  idle_step (Fill v) old none = idle_fill old.life v old none
+  idle_step Abandon old none = idle_abandon old.life old none
+  idle_step (Take n) old none = idle_take old.life n old none
+  idle_step (TimeOut n) old none = idle_time_out old.life n old none
+  idle_step (Cancel n) old none = idle_cancel old.life n old none
+  idle_step Leave old none = rw none (refl, refl)
+
+  shows_step : (e : Event V) (old : CoreState V) (v : V) (a : Answer V) → ((w : V) × shows v w × (a ≡ answer.Value w)) ⊎ (a ≡ answer.Refused Memory)
+      → old.life ≡ Filled v → can_show e old ≡ true → LoadingStep shows old e a old
+  shows_step (Join n) old v a told is can = rw (is, can) (told, refl)
+  shows_step (Take n) old v a told is can = rw is (told, refl)
+  shows_step (TimeOut n) old v a told is can = rw is (told, refl)
+  shows_step Create old v a told is can = absurd (cc)
+  shows_step (Fill w) old v a told is can = absurd (cc)
+  shows_step Abandon old v a told is can = absurd (cc)
+  shows_step (Cancel n) old v a told is can = absurd (cc)
+  shows_step Leave old v a told is can = absurd (cc)
+
+  step_of_row : {e : Event V} {old : CoreState V} {a : Answer V} {new : CoreState V} → LoadingRow shows e old a new → LoadingStep shows old e a new
+  step_of_row (no_case_applies e old none) = idle_step e old none
+  step_of_row (creates old is) = rw is (refl, refl)
+  step_of_row (joins old h ws n is inside other absent) = rw (is, inside, other, absent) (inl (refl, refl))
+  step_of_row (lacks_room old h ws n is inside other absent) = rw (is, inside, other, absent) (inr (refl, refl))
+  step_of_row (shows_the_value e old v w is can same) = shows_step e old v (answer.Value w) (inl (w, same, refl)) is can
+  step_of_row (lacks_a_clone e old v is can) = shows_step e old v (answer.Refused Memory) (inr refl) is can
+  step_of_row (fills old ws v is) = rw is (refl, refl)
+  step_of_row (hands_on _ old _ before m after abandoning is) = rw is (inr (m, before, after, refl, refl, refl))
+  step_of_row (hands_on _ old _ before m after (cancelling n) is) = rw (is, same-number n) (inr (m, before, after, refl, refl, refl))
+  step_of_row (gives_up _ old _ abandoning is) = rw is (inl (refl, refl, refl))
+  step_of_row (gives_up _ old _ (cancelling n) is) = rw (is, same-number n) (inl (refl, refl, refl))
+  step_of_row (receives _ old _ ws (taking n) is) = rw (is, same-number n) (refl, refl)
+  step_of_row (receives _ old _ ws (timing_out n) is) = rw (is, same-number n) (refl, refl)
+  step_of_row (waits_on old h ws n is other waiting) = rw (is, other, waiting) (refl, refl)
+  step_of_row (withdraws _ old h ws _ _ (by_time n) is other waiting) = rw (is, other, waiting) (refl, refl)
+  step_of_row (withdraws _ old h ws _ _ (by_cancel n) is other waiting) = rw (is, other, waiting) (refl, refl)
+  step_of_row (cancels_in_vain old v n is) = rw is (refl, refl)
+  step_of_row (leaves old inside) = rw inside (refl, refl)
+
+-- the table by rows is the table by cases
+pub tables_agree : {V : Type 0} (shows : V → V → Type 0) → TablesAgree shows
+tables_agree shows = λ e old a new. (λ row. step_of_row shows row, λ step. row_of_step shows e old a new step)

@@ -1,0 +1,121 @@
+-- Lists of distinct waiters, through the changes that the core makes to them.
+use Rattle.std.proofs.Common.{◌≡◌, ℕ, ◌==◌, Bool, true, false, not, ◌&&◌, ◌||◌, List, [], ◌∷◌, ◌++◌, refl, sym, ◌∙◌, cond, arith}
+use Rattle.std.proofs.lemmas.Bool.Decides.{nat_tests}
+use Rattle.quick_cache_loading.proofs.TestLemmas.{both, not-true, same-test}
+use Rattle.quick_cache_loading.specs.Waiting.{has, without, is_distinct}
+use Rattle.quick_cache_loading.specs.Core.{is_handed_to, is_apart, is_loading, is_sound, waiters_of}
+use Rattle.quick_cache_loading.specs.Stage.{life_of}
+use Rattle.quick_cache_loading.specs.declared.protocol.life.Holder.{Holder}
+use Rattle.quick_cache_loading.specs.declared.protocol.life.Holder.TheVariants.{Held, HandedTo}
+use Rattle.quick_cache_loading.specs.declared.protocol.life.Stage.{Stage}
+use Rattle.quick_cache_loading.specs.declared.protocol.life.Stage.TheVariants.{Loading, Filled, GivenUp}
+
+-- one more waiter at the end
+pub has-push : (n : ℕ) (ws : List ℕ) (m : ℕ) → has n (ws ++ m ∷ []) ≡ (has n ws || (m == n))
+has-push n [] m = by_cases (m == n) where
+  by_cases : (b : Bool) → (b || false) ≡ (false || b)
+  by_cases true = refl
+  by_cases false = refl
+has-push n (w ∷ ws) m = rw (has-push n ws m) (by_cases (w == n) (has n ws) (m == n)) where
+  by_cases : (a b c : Bool) → (a || (b || c)) ≡ ((a || b) || c)
+  by_cases true b c = refl
+  by_cases false b c = refl
+
+is_distinct-push : (ws : List ℕ) (m : ℕ) → is_distinct (ws ++ m ∷ []) ≡ (not (has m ws) && is_distinct ws)
+is_distinct-push [] m = refl
+is_distinct-push (w ∷ ws) m =
+    rw (has-push w ws m, is_distinct-push ws m, same-test m w) (by_cases (w == m) (has w ws) (has m ws) (is_distinct ws)) where
+      by_cases : (a b c d : Bool) → (not (b || a) && (not c && d)) ≡ (not (a || c) && (not b && d))
+      by_cases true true c d = refl
+      by_cases true false c d = refl
+      by_cases false true true d = refl
+      by_cases false true false d = refl
+      by_cases false false c d = refl
+
+-- who is not in a list is not in it once another is taken out
+has-without : (m n : ℕ) (ws : List ℕ) → has m ws ≡ false → has m (without n ws) ≡ false
+has-without m n [] absent = refl
+has-without m n (w ∷ ws) absent = by_cases (w == m) (not (w == n)) refl absent (has-without m n ws) where
+  by_cases : (a b : Bool) → (w == m) ≡ a → (a || has m ws) ≡ false → (has m ws ≡ false → has m (without n ws) ≡ false)
+      → has m (cond b (w ∷ without n ws) (without n ws)) ≡ false
+  by_cases true b e h rest = absurd (cc)
+  by_cases false true e h rest = rw e (rest h)
+  by_cases false false e h rest = rest h
+
+is_distinct-without : (n : ℕ) (ws : List ℕ) → is_distinct ws ≡ true → is_distinct (without n ws) ≡ true
+is_distinct-without n [] distinct = refl
+is_distinct-without n (w ∷ ws) distinct = by_cases (has w ws) (not (w == n)) refl distinct (is_distinct-without n ws) where
+  by_cases : (a b : Bool) → has w ws ≡ a → (not a && is_distinct ws) ≡ true → (is_distinct ws ≡ true → is_distinct (without n ws) ≡ true)
+      → is_distinct (cond b (w ∷ without n ws) (without n ws)) ≡ true
+  by_cases true b e h rest = absurd (cc)
+  by_cases false true e h rest = rw (has-without w n ws e) (rest h)
+  by_cases false false e h rest = rest h
+
+distinct_of : (h : Holder) (ws : List ℕ) → is_apart h ws ≡ true → is_distinct ws ≡ true
+distinct_of Held ws apart = apart
+distinct_of (HandedTo m) ws apart = (both (not (has m ws)) (is_distinct ws) apart).1
+
+-- a new waiter leaves holder and waiters apart
+pub is_apart-push : (h : Holder) (ws : List ℕ) (n : ℕ) → is_apart h ws ≡ true → is_handed_to h n ≡ false → has n ws ≡ false
+    → is_apart h (ws ++ n ∷ []) ≡ true
+is_apart-push Held ws n apart other absent = rw (is_distinct-push ws n, absent) apart
+is_apart-push (HandedTo m) ws n apart other absent =
+    let parts = both (not (has m ws)) (is_distinct ws) apart in
+    rw (has-push m ws n, not-true (has m ws) parts.0, is_distinct-push ws n, absent, same-test n m, other) parts.1
+
+-- a waiter that leaves does too
+pub is_apart-without : (h : Holder) (ws : List ℕ) (n : ℕ) → is_apart h ws ≡ true → is_apart h (without n ws) ≡ true
+is_apart-without Held ws n apart = is_distinct-without n ws apart
+is_apart-without (HandedTo m) ws n apart =
+    let parts = both (not (has m ws)) (is_distinct ws) apart in
+    rw (has-without m n ws (not-true (has m ws) parts.0)) (is_distinct-without n ws parts.1)
+
+-- and so does one that is taken from the end and handed the guard
+is_apart-pop : (h : Holder) (ws rest : List ℕ) (m : ℕ) → is_apart h ws ≡ true → ws ≡ rest ++ m ∷ [] → is_apart (HandedTo m) rest ≡ true
+is_apart-pop h ws rest m apart is = sym (is_distinct-push rest m) ∙ rw is at (distinct_of h ws apart)
+
+module _ {V : Type 0} where
+  -- the same of what is stored, while it is loading
+  pub pass_on_sound : (s : Stage V) (ws rest : List ℕ) (m : ℕ) → is_sound (life_of s ws) ≡ true → is_loading (life_of s ws) ≡ true
+      → ws ≡ rest ++ m ∷ [] → is_apart (HandedTo m) rest ≡ true
+  pass_on_sound (Loading h) ws rest m sound loading is = is_apart-pop h ws rest m sound is
+  pass_on_sound (Filled v) ws rest m sound loading is = absurd (cc)
+  pass_on_sound GivenUp ws rest m sound loading is = absurd (cc)
+
+  -- while it is loading, the stored waiters are those who wait
+  pub waiters_of-loading : (s : Stage V) (ws : List ℕ) → is_loading (life_of s ws) ≡ true → waiters_of (life_of s ws) ≡ ws
+  waiters_of-loading (Loading h) ws loading = refl
+  waiters_of-loading (Filled v) ws loading = absurd (cc)
+  waiters_of-loading GivenUp ws loading = absurd (cc)
+
+-- who is in two lists, one after the other
+has-append : (n : ℕ) (xs ys : List ℕ) → has n (xs ++ ys) ≡ (has n xs || has n ys)
+has-append n [] ys = refl
+has-append n (x ∷ xs) ys = rw (has-append n xs ys) (by_cases (x == n) (has n xs) (has n ys)) where
+  by_cases : (a b c : Bool) → (a || (b || c)) ≡ ((a || b) || c)
+  by_cases true b c = refl
+  by_cases false b c = refl
+
+-- who waits still waits once another was handed the guard
+pub has-handed : (n m : ℕ) (before after : List ℕ) → has n (before ++ m ∷ after) ≡ true → (m == n) ≡ false → has n (before ++ after) ≡ true
+has-handed n m before after waiting other =
+    rw has-append (by_cases (has n before) (m == n) (has n after) (rw has-append at waiting) other) where
+      by_cases : (a b c : Bool) → (a || (b || c)) ≡ true → b ≡ false → (a || c) ≡ true
+      by_cases true b c e f = refl
+      by_cases false true c e f = absurd (cc)
+      by_cases false false c e f = e
+
+-- who waits still waits once another left
+pub has-left : (n m : ℕ) (ws : List ℕ) → has n ws ≡ true → (m == n) ≡ false → has n (without m ws) ≡ true
+has-left n m [] waiting other = waiting
+has-left n m (w ∷ ws) waiting other = by_cases (w == n) (w == m) refl refl waiting (has-left n m ws) where
+  by_cases : (a b : Bool) → (w == n) ≡ a → (w == m) ≡ b → (a || has n ws) ≡ true → (has n ws ≡ true → (m == n) ≡ false → has n (without m ws) ≡ true)
+      → has n (cond (not b) (w ∷ without m ws) (without m ws)) ≡ true
+  by_cases true true e f h rest = let clash : true ≡ false = grind (arith, nat_tests) in absurd (cc)
+  by_cases true false e f h rest = rw e refl
+  by_cases false true e f h rest = rest h other
+  by_cases false false e f h rest = rw e (rest h other)
+
+-- who waits still waits once another came
+pub has-joined : (n m : ℕ) (ws : List ℕ) → has n ws ≡ true → has n (ws ++ m ∷ []) ≡ true
+has-joined n m ws waiting = rw (has-push n ws m, waiting) refl

@@ -1,0 +1,76 @@
+-- The table of the loading core again, a constructor for each row: the event, the core before it, its answer, the core after it.
+use Rattle.std.specs.Prelude.{◌≡◌, ◌↔◌, ℕ, true, false, List, [], ◌∷◌, ◌++◌}
+use Rattle.quick_cache_loading.specs.Waiting.{has, without}
+use Rattle.quick_cache_loading.specs.Core.{Loading, Filled, GivenUp, CoreState, core_state, new_core, is_handed_to}
+use Rattle.quick_cache_loading.specs.LoadingLaws.{applies, can_show}
+use Rattle.quick_cache_loading.specs.LoadingStep.{LoadingStep}
+use Rattle.quick_cache_model.specs.declared.refusal.Refusal.TheVariants.{Memory}
+use Rattle.quick_cache_loading.specs.declared.protocol.life.Holder.{Holder}
+use Rattle.quick_cache_loading.specs.declared.protocol.life.Holder.TheVariants.{Held, HandedTo}
+use Rattle.quick_cache_loading.specs.declared.protocol.events.Event.{Event}
+use Rattle.quick_cache_loading.specs.declared.protocol.events.Event.TheVariants.{Create, Join, Fill, Abandon, Take, TimeOut, Cancel, Leave}
+use Rattle.quick_cache_loading.specs.declared.protocol.events.Answer.{Answer}
+use Rattle.quick_cache_loading.specs.declared.protocol.events.Answer.TheVariants as answer
+
+-- the event lets go of the guard, where this is its holder
+pub data Releases {V : Type 0} : Event V → Holder → Type 0 where
+  abandoning : Releases Abandon Held
+  cancelling : (n : ℕ) → Releases (Cancel n) (HandedTo n)
+
+-- the event collects the guard that was handed to this waiter
+pub data Collects {V : Type 0} : Event V → ℕ → Type 0 where
+  taking : (n : ℕ) → Collects (Take n) n
+  timing_out : (n : ℕ) → Collects (TimeOut n) n
+
+-- the event withdraws this waiter, with this answer
+pub data Retires {V : Type 0} : Event V → ℕ → Answer V → Type 0 where
+  by_time : (n : ℕ) → Retires (TimeOut n) n answer.TimedOut
+  by_cancel : (n : ℕ) → Retires (Cancel n) n answer.Done
+
+module _ {V : Type 0} (shows : V → V → Type 0) where
+  -- One event as a row of the table.
+  pub data LoadingRow : Event V → CoreState V → Answer V → CoreState V → Type 0 where
+    -- no case applies, and nothing changes
+    no_case_applies : (e : Event V) (old : CoreState V) → applies e old ≡ false → LoadingRow e old answer.NotNow old
+    -- a given-up life begins anew
+    creates : (old : CoreState V) → old.life ≡ GivenUp → LoadingRow Create old answer.Created (core_state (Loading Held []) true)
+    -- one who neither waits nor was handed the guard comes last into the list
+    joins : (old : CoreState V) (h : Holder) (waiters : List ℕ) (n : ℕ) → old.life ≡ Loading h waiters → old.in_shard ≡ true
+        → is_handed_to h n ≡ false → has n waiters ≡ false
+        → LoadingRow (Join n) old answer.Joined (core_state (Loading h (waiters ++ n ∷ [])) old.in_shard)
+    -- or there is no memory for it
+    lacks_room : (old : CoreState V) (h : Holder) (waiters : List ℕ) (n : ℕ) → old.life ≡ Loading h waiters → old.in_shard ≡ true
+        → is_handed_to h n ≡ false → has n waiters ≡ false → LoadingRow (Join n) old (answer.Refused Memory) old
+    -- a filled life shows one for its value
+    shows_the_value : (e : Event V) (old : CoreState V) (v w : V) → old.life ≡ Filled v → can_show e old ≡ true → shows v w
+        → LoadingRow e old (answer.Value w) old
+    -- or there is no memory for the clone
+    lacks_a_clone : (e : Event V) (old : CoreState V) (v : V) → old.life ≡ Filled v → can_show e old ≡ true → LoadingRow e old (answer.Refused Memory) old
+    -- a held guard fills the life
+    fills : (old : CoreState V) (waiters : List ℕ) (v : V) → old.life ≡ Loading Held waiters
+        → LoadingRow (Fill v) old answer.Done (core_state (Filled v) old.in_shard)
+    -- a guard that is let go is on its way to some waiter
+    hands_on : (e : Event V) (old : CoreState V) (h : Holder) (before : List ℕ) (m : ℕ) (after : List ℕ) → Releases e h
+        → old.life ≡ Loading h (before ++ m ∷ after)
+        → LoadingRow e old (answer.HandedTo m) (core_state (Loading (HandedTo m) (before ++ after)) old.in_shard)
+    -- or, where nobody waits, the life is given up
+    gives_up : (e : Event V) (old : CoreState V) (h : Holder) → Releases e h → old.life ≡ Loading h [] → LoadingRow e old answer.GivenUp new_core
+    -- the guard reaches the waiter to whom it was handed
+    receives : (e : Event V) (old : CoreState V) (n : ℕ) (waiters : List ℕ) → Collects e n → old.life ≡ Loading (HandedTo n) waiters
+        → LoadingRow e old answer.Guard (core_state (Loading Held waiters) old.in_shard)
+    -- one who waits goes on waiting
+    waits_on : (old : CoreState V) (h : Holder) (waiters : List ℕ) (n : ℕ) → old.life ≡ Loading h waiters → is_handed_to h n ≡ false
+        → has n waiters ≡ true → LoadingRow (Take n) old answer.Waiting old
+    -- one who waits leaves the list
+    withdraws : (e : Event V) (old : CoreState V) (h : Holder) (waiters : List ℕ) (n : ℕ) (a : Answer V) → Retires e n a
+        → old.life ≡ Loading h waiters → is_handed_to h n ≡ false → has n waiters ≡ true
+        → LoadingRow e old a (core_state (Loading h (without n waiters)) old.in_shard)
+    -- a filled life stays as it is
+    cancels_in_vain : (old : CoreState V) (v : V) (n : ℕ) → old.life ≡ Filled v → LoadingRow (Cancel n) old answer.Done old
+    -- the placeholder leaves the shard
+    leaves : (old : CoreState V) → old.in_shard ≡ true → LoadingRow Leave old answer.Done (core_state old.life false)
+
+-- The table by rows is the table by cases.
+abbrev pub TablesAgree : {V : Type 0} → (V → V → Type 0) → Type 0
+TablesAgree {V} shows =
+    (e : Event V) (old : CoreState V) (a : Answer V) (new : CoreState V) → LoadingRow shows e old a new ↔ LoadingStep shows old e a new

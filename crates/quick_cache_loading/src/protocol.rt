@@ -1,0 +1,192 @@
+//! Loading as a pure machine: the life of a placeholder, one event at a time.
+ghost use Rattle.std.specs.Prelude.{◌≡◌, ℕ, ◌+◌, ◌≤◌, [], ◌∷◌, ◌++◌, true, false, not, if◌then◌else◌, IfSome, IfOk, IfErr, OnErr, vec_len};
+ghost use Rattle.quick_cache_loading.specs.Core.{new_core, held_count, handed_count, is_loading, is_given_up, value_of, waiters_of, waits};
+ghost use Rattle.quick_cache_loading.specs.LoadingStep.{LoadingStep};
+ghost use Rattle.quick_cache_loading.specs.LoadingRow.{LoadingRow};
+ghost use Rattle.quick_cache_loading.specs.LoadingLaws.{applies, is_not_now, only_tells, given_by, most_given, taken_by, done_by, shown_by, MayShow, ShowsNothing, value_after, given_up_after, lets_go};
+ghost use Rattle.quick_cache_loading.specs.LoadingRun.{LoadingRun, guards_given, guards_taken, ShowsTheFill, NoneJoinsGivenUp, NoGiveUpWhileWaiting, is_let_go};
+
+mod events;
+mod laws;
+mod life;
+mod waiters;
+
+use quick_cache_model::Refusal;
+pub use events::{Answer, Event};
+pub use laws::tables_agree;
+pub use life::{Core, Holder};
+use std::alloc::Allocator;
+
+/// Makes one event happen, and says what it is answered.
+///
+/// A Join may allocate, and an answer `Value` holds a clone: where memory is refused, the answer
+/// is `Refused` and nothing has changed.
+pub fn step<V: Clone, A: Allocator>(core: &mut Core<V, A>, event: Event<V>) -> Answer<V>
+    // The table, by cases and by rows.
+    ensures step { LoadingStep V.is_clone core.old event result core.new }
+    ensures row { LoadingRow V.is_clone event core.old result core.new }
+    // The guard goes to the waiter that was added last.
+    ensures last { (m : ℕ) → result ≡ Answer.HandedTo m
+        → waiters_of core.old.life ≡ waiters_of core.new.life ++ m ∷ [] }
+
+    // Guards: what is held and was taken back is what was held and is given.
+    ensures guards { held_count core.new + taken_by event result
+        ≡ held_count core.old + given_by result }
+    // Join, Fill, Abandon, Cancel and Leave give no guard.
+    ensures no_guard { given_by result ≤ most_given event }
+    ensures one_guard { held_count core.new + handed_count core.new
+        ≡ (if is_loading core.new.life then 1 else 0) }
+    ensures at_most_one { held_count core.new ≤ 1 }
+
+    // The answers that change nothing, and when they come.
+    ensures not_now { applies event core.old ≡ not (is_not_now result) }
+    ensures unchanged { only_tells result ≡ true → core.new ≡ core.old }
+    ensures refused { (why : Refusal) → result ≡ Answer.Refused why → why ≡ Refusal.Memory }
+
+    // The value of a life is what its one fill gave, and a clone of it is shown.
+    ensures shown { IfSome (shown_by result) (MayShow V.is_clone (value_of core.old.life)) }
+    ensures value { value_of core.new.life ≡ value_after (value_of core.old.life) event result }
+
+    // A life ends only where nobody waits, and none joins it afterwards.
+    ensures given_up { is_given_up core.new.life
+        ≡ given_up_after (is_given_up core.old.life) result }
+    ensures alone { result ≡ Answer.GivenUp → waiters_of core.old.life ≡ [] }
+    ensures ended { result ≡ Answer.GivenUp → core.new ≡ new_core }
+    ensures none_joins { (n : ℕ) → event ≡ Event.Join n → is_given_up core.old.life ≡ true
+        → result ≡ Answer.NotNow }
+
+    // Who waits goes on waiting until it is let go.
+    ensures stays { (n : ℕ) → waits n core.old ≡ true → lets_go n event result ≡ false
+        → waits n core.new ≡ true }
+{
+    make_happen(core, event)
+}
+
+/// The event's own call.
+fn make_happen<V: Clone, A: Allocator>(core: &mut Core<V, A>, event: Event<V>) -> Answer<V>
+    ensures step { LoadingStep V.is_clone core.old event result core.new }
+    ensures last { (m : ℕ) → result ≡ Answer.HandedTo m
+        → waiters_of core.old.life ≡ waiters_of core.new.life ++ m ∷ [] }
+{
+    match event {
+        Event::Create => core.create(),
+        Event::Join(waiter) => core.join(waiter),
+        Event::Fill(value) => core.fill(value),
+        Event::Abandon => core.abandon(),
+        Event::Take(waiter) => core.take(waiter),
+        Event::TimeOut(waiter) => core.time_out(waiter),
+        Event::Cancel(waiter) => core.cancel(waiter),
+        Event::Leave => core.leave(),
+    }
+}
+
+/// Gives the guard up, as the event `Abandon` does. It makes no clone, so a drop can call it.
+///
+/// The guard goes to the waiter that was added last; with none the life is given up. It takes no
+/// memory.
+pub fn abandon<V: Drop, A: Allocator>(core: &mut Core<V, A>) -> Answer<V>
+    ensures step { LoadingStep ShowsNothing core.old Event.Abandon result core.new }
+    ensures row { LoadingRow ShowsNothing Event.Abandon core.old result core.new }
+    // The guard goes to the waiter that was added last.
+    ensures last { (m : ℕ) → result ≡ Answer.HandedTo m
+        → waiters_of core.old.life ≡ waiters_of core.new.life ++ m ∷ [] }
+
+    // It takes back the guard that was held, and gives none.
+    ensures guards { held_count core.new + done_by result ≡ held_count core.old }
+    ensures no_guard { given_by result ≡ 0 }
+    ensures one_guard { held_count core.new + handed_count core.new
+        ≡ (if is_loading core.new.life then 1 else 0) }
+    ensures at_most_one { held_count core.new ≤ 1 }
+
+    ensures not_now { applies Event.Abandon core.old ≡ not (is_not_now result) }
+    ensures unchanged { only_tells result ≡ true → core.new ≡ core.old }
+    ensures value { value_of core.new.life ≡ value_of core.old.life }
+
+    ensures given_up { is_given_up core.new.life
+        ≡ given_up_after (is_given_up core.old.life) result }
+    ensures alone { result ≡ Answer.GivenUp → waiters_of core.old.life ≡ [] }
+    ensures ended { result ≡ Answer.GivenUp → core.new ≡ new_core }
+    ensures stays { (n : ℕ) → waits n core.old ≡ true → lets_go n Event.Abandon result ≡ false
+        → waits n core.new ≡ true }
+{
+    core.abandon()
+}
+
+/// Withdraws a waiter, as the event `Cancel` does. It makes no clone, so a drop can call it.
+///
+/// A guard that was on its way to it goes to the waiter that was added last; with none the life is
+/// given up. It takes no memory.
+pub fn cancel<V: Drop, A: Allocator>(core: &mut Core<V, A>, waiter: u64) -> Answer<V>
+    ensures step { LoadingStep ShowsNothing core.old (Event.Cancel waiter) result core.new }
+    ensures row { LoadingRow ShowsNothing (Event.Cancel waiter) core.old result core.new }
+    // The guard goes to the waiter that was added last.
+    ensures last { (m : ℕ) → result ≡ Answer.HandedTo m
+        → waiters_of core.old.life ≡ waiters_of core.new.life ++ m ∷ [] }
+
+    // It gives no guard, and no guard is held afterwards that was not before.
+    ensures guards { held_count core.new ≡ held_count core.old }
+    ensures no_guard { given_by result ≡ 0 }
+    ensures one_guard { held_count core.new + handed_count core.new
+        ≡ (if is_loading core.new.life then 1 else 0) }
+    ensures at_most_one { held_count core.new ≤ 1 }
+
+    ensures not_now { applies (Event.Cancel waiter) core.old ≡ not (is_not_now result) }
+    ensures unchanged { only_tells result ≡ true → core.new ≡ core.old }
+    ensures value { value_of core.new.life ≡ value_of core.old.life }
+
+    ensures given_up { is_given_up core.new.life
+        ≡ given_up_after (is_given_up core.old.life) result }
+    ensures alone { result ≡ Answer.GivenUp → waiters_of core.old.life ≡ [] }
+    ensures ended { result ≡ Answer.GivenUp → core.new ≡ new_core }
+    ensures stays { (n : ℕ) → waits n core.old ≡ true
+        → lets_go n (Event.Cancel waiter) result ≡ false → waits n core.new ≡ true }
+{
+    core.cancel(waiter)
+}
+
+/// Makes the events happen in turn, and gives their answers.
+///
+/// Room for the answers is made first: where that is refused, no event happens and the core is
+/// unchanged. The answers lie where the events lay, in a clone of their allocator.
+pub fn run<V: Clone, A: Allocator + Clone>(
+    core: &mut Core<V, A>,
+    events: Vec<Event<V>, A>,
+) -> Result<Vec<Answer<V>, A>, Refusal>
+    ensures run { IfOk result (λ answers.
+        LoadingRun V.is_clone core.old events.items answers.items core.new) }
+    ensures answered { IfOk result (λ answers. vec_len answers ≡ vec_len events) }
+
+    // Over every schedule, from any core: the guards held after it are those held before it and
+    // the guards out, which are those given less those taken back.
+    ensures guards { IfOk result (λ answers.
+        held_count core.new + guards_taken events.items answers.items
+        ≡ held_count core.old + guards_given answers.items) }
+    ensures one_guard { held_count core.new + handed_count core.new
+        ≡ (if is_loading core.new.life then 1 else 0) }
+    ensures at_most_one { held_count core.new ≤ 1 }
+
+    ensures shows { IfOk result (λ answers.
+        ShowsTheFill V.is_clone (value_of core.old.life) events.items answers.items) }
+    ensures none_joins { IfOk result (λ answers.
+        NoneJoinsGivenUp (is_given_up core.old.life) answers.items) }
+    ensures alone { IfOk result (λ answers. (n : ℕ) → waits n core.old ≡ true
+        → NoGiveUpWhileWaiting n events.items answers.items) }
+    ensures stays { IfOk result (λ answers. (n : ℕ) → waits n core.old ≡ true
+        → is_let_go n events.items answers.items ≡ false → waits n core.new ≡ true) }
+
+    // Refused, no event has happened.
+    ensures unchanged { OnErr result (core.new ≡ core.old) }
+    ensures refused { IfErr result (λ refusal. refusal ≡ Refusal.Memory) }
+{
+    let Ok(alloc) = events.allocator().clone() else {
+        return Err(Refusal::Memory);
+    };
+    let mut answers = Vec::new(alloc);
+    if answers.reserve(events.len()).is_err() {
+        return Err(Refusal::Memory);
+    }
+    for event in events {
+        answers.push_reserved(step(core, event));
+    }
+    Ok(answers)
+}

@@ -1,0 +1,4 @@
+pub mod HookLaws
+pub mod KeyCounts
+pub mod LookupLaws
+pub mod TouchLaws

@@ -1,0 +1,15 @@
+pub mod Hashing
+pub mod CacheState
+pub mod Hooks
+pub mod Finding
+pub mod Touches
+pub mod Eviction
+pub mod Admission
+pub mod Writes
+pub mod Placeholders
+pub mod Lookups
+pub mod Removal
+pub mod Entries
+pub mod Sizes
+pub mod Capacity
+pub mod Refusals

@@ -1,0 +1,62 @@
+//! Queries that stand for keys.
+ghost use Rattle.std.specs.Prelude.{◌≡◌, Bool, IsTrue, IfOk, IfErr};
+ghost use Rattle.quick_cache_model.specs.declared.refusal.Refusal.TheVariants.{Memory};
+
+use crate::refusal::Refusal;
+use std::hash::Hash;
+
+/// A query that stands for a key, as two borrowed halves stand for a pair.
+///
+/// Each `K: Eq + Hash` stands for the keys that it is equal to.
+pub trait Equivalent<K: Eq + Hash>: Hash {
+    /// Whether the query stands for the key.
+    ghost equivalent: { Self → K → Bool };
+
+    /// Whether the query stands for the key.
+    fn equivalent(&self, key: &K) -> bool
+        ensures { result ≡ equivalent self.now key.now };
+
+    /// A query and a key that it stands for have equal hashes: they write the same to a hasher.
+    ghost same_hash: { (query : Self) (key : K) → IsTrue (equivalent query key)
+        → Self.hash_input query ≡ K.hash_input key };
+
+    /// Two keys that one query stands for are equal, and it stands for each key that is equal to one of them.
+    ghost same_key: { (query : Self) (first second : K) → IsTrue (equivalent query first)
+        → equivalent query second ≡ K.eq first second };
+}
+
+impl<K: Eq + Hash> Equivalent<K> for K {
+    ghost equivalent = { K.eq };
+
+    ghost same_hash = { K.respects_eq };
+
+    ghost same_key = { K.Eq.laws.congr };
+
+    fn equivalent(&self, key: &K) -> bool {
+        self == key
+    }
+}
+
+/// A query of which a key can be made.
+///
+/// Each `K: Eq + Hash + Clone` gives its clone.
+pub trait ToKey<K: Eq + Hash>: Equivalent<K> {
+    /// The keys that the query may give. A call that takes one asks that the query stands for each of them.
+    ghost to_key_gives: { Self → K → Type 0 };
+
+    /// A key of its own, or `Memory` where there is none for it.
+    fn to_key(&self) -> Result<K, Refusal>
+        ensures gives { IfOk result (to_key_gives self.now) }
+        ensures refused { IfErr result (λ refusal. refusal ≡ Memory) };
+}
+
+impl<K: Eq + Hash + Clone> ToKey<K> for K {
+    ghost to_key_gives = { K.is_clone };
+
+    fn to_key(&self) -> Result<K, Refusal> {
+        match self.clone() {
+            Ok(key) => Ok(key),
+            Err(_) => Err(Refusal::Memory),
+        }
+    }
+}

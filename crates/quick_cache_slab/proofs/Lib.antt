@@ -1,0 +1,10 @@
+pub mod FreeLemmas
+pub mod LinkLemmas
+pub mod NodeLemmas
+pub mod PartLemmas
+pub mod RingChangeLemmas
+pub mod RingLemmas
+pub mod SlabLemmas
+pub mod SlotLemmas
+pub mod TimesLemmas
+pub mod WalkLemmas

@@ -1,0 +1,42 @@
+use Rattle.std.proofs.Common.{◌-◌, ap, ◌∙◌, vec_len, vec_capacity, arith}
+use Rattle.std.proofs.lemmas.List.{with_items_is}
+use Rattle.quick_cache_slab.proofs.SlabLemmas.{alone-to_link, IsSound-linked, view-linked}
+use Rattle.quick_cache_slab.specs.LinkedSlab.{ring_from}
+use Rattle.quick_cache_slab.proofs.PartLemmas.{ring_from-linked}
+use Rattle.quick_cache_slab.proofs.linked_slab.LinkedSlab.link.Goals as goal
+
+pub link-requires-clause-linked : goal.link-requires-clause-linked
+link-requires-clause-linked g c = rw c.as_mut_slice.ensures.value c.self.invariant.linked
+
+pub link-requires-clause-alone : goal.link-requires-clause-alone
+link-requires-clause-alone g c =
+    let nodes = c.self.inside.nodes in
+    let taken = rw (← c.self.view_is) at c.requires.occupied in
+    let alone = rw (← c.self.view_is) at c.requires.alone in
+    rw c.as_mut_slice.ensures.value (alone-to_link _ _ _ c.self.inside.next_free.value (vec_capacity nodes - vec_len nodes) c.args.token.value c.self.invariant.linked taken alone)
+
+pub invariant_of-self : goal.invariant_of-self
+invariant_of-self g c =
+    let items = with_items_is c.self.inside.nodes c.link.new.nodes (omega arith) in
+    let done = rw c.as_mut_slice.ensures.value at c.link.ensures.links in
+    let slots = rw c.as_mut_slice.ensures.value at c.link.ensures.slots in
+    rw (items, slots) (IsSound-linked _ _ _ _ c.args.token.value c.in-Some.head.value _ _ c.self.invariant done)
+
+pub returns-clause-linked : goal.returns-clause-linked
+returns-clause-linked g c =
+    let nodes = c.self.inside.nodes in
+    let items = with_items_is nodes c.link.new.nodes (omega arith) in
+    let done = rw c.as_mut_slice.ensures.value at c.link.ensures.links in
+    let slots = rw c.as_mut_slice.ensures.value at c.link.ensures.slots in
+    rw (c.in-Some.is, ← c.self.view_is, items, slots) (view-linked _ _ _ _ (vec_capacity nodes - vec_len nodes) c.args.token.value c.in-Some.head.value _ _ c.self.invariant done)
+
+pub returns-clause-ring : goal.returns-clause-ring
+returns-clause-ring g c =
+    let nodes = c.self.inside.nodes in
+    let items = with_items_is nodes c.link.new.nodes (omega arith) in
+    let done = rw c.as_mut_slice.ensures.value at c.link.ensures.links in
+    let slots = rw c.as_mut_slice.ensures.value at c.link.ensures.slots in
+    let view = view-linked _ _ _ _ (vec_capacity nodes - vec_len nodes) c.args.token.value c.in-Some.head.value _ _ c.self.invariant done in
+    let taken = rw (c.in-Some.is, ← c.self.view_is) at c.requires.head in
+    let apart = rw c.in-Some.is at c.requires.apart in
+    rw (c.in-Some.is, ← c.self.view_is, items, slots) (ap (λ s. ring_from s c.in-Some.head.value) view ∙ ring_from-linked _ _ _ _ (vec_capacity nodes - vec_len nodes) c.args.token.value c.in-Some.head.value c.self.invariant taken apart)

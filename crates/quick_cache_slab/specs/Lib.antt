@@ -1,0 +1,4 @@
+pub mod LinkedSlab
+pub mod Links
+pub mod SlabDrain
+pub mod SlabLends

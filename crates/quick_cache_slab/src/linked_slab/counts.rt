@@ -1,0 +1,31 @@
+//! What a `LinkedSlab` tells of itself.
+ghost use Rattle.std.specs.Prelude.{◌≡◌, ◌↔◌, count_by, is_some};
+ghost use Rattle.std.specs.Int.NonZero.{non_zero_u32_get as number};
+ghost use Rattle.quick_cache_slab.specs.LinkedSlab.{next_token, IsFull};
+
+use quick_cache_model::Token;
+use crate::linked_slab::{LinkedSlab, links};
+use std::alloc::Allocator;
+use std::mem;
+
+impl<T, A: Allocator> LinkedSlab<T, A> {
+    /// The token that the next `insert` gives out: 4294967295 where the slab is full.
+    pub fn next_free(&self) -> Token
+        ensures token { number result ≡ next_token self.now }
+        ensures full { (number result ≡ 4294967295) ↔ IsFull self.now }
+    {
+        self.next_free
+    }
+
+    /// How many items there are. It looks at each slot.
+    pub fn len(&self) -> usize
+        ensures { result ≡ count_by is_some self.now.slots }
+    {
+        links::occupied_count(self.nodes.as_slice())
+    }
+
+    /// The bytes of the slots, whether occupied or free.
+    pub fn memory_used(&self) -> usize {
+        mem::size_of_val(self.nodes.as_slice())
+    }
+}

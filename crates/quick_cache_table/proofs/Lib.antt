@@ -1,0 +1,11 @@
+pub mod Distances
+pub mod GroupCounts
+pub mod GroupLemmas
+pub mod LaneLemmas
+pub mod LeaveLemmas
+pub mod PairOrder
+pub mod PlaceLemmas
+pub mod PowersOfTwo
+pub mod SearchLemmas
+pub mod TableLemmas
+pub mod TableWalkLemmas
