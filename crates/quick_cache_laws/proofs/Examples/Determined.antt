@@ -5,7 +5,7 @@ use Rattle.quick_cache_model.specs.Hooks.{HookCall, BeforeEvict, EvictHot}
 use Rattle.quick_cache_model.specs.Finding.{Finds, FoundGhost}
 use Rattle.quick_cache_model.specs.Eviction.{EvictsToCapacity, AdvancesHot, AdvancesCold, EvictsVictim}
 use Rattle.quick_cache_model.specs.Lookups.{LooksUp}
-use Rattle.quick_cache_laws.proofs.OneOutcome.{LeaveSo, one_eviction_to_capacity}
+use Rattle.quick_cache_laws.proofs.Eviction.OneOutcome.{LeaveSo, one_eviction_to_capacity}
 use Rattle.quick_cache_laws.proofs.Examples.Caches.{unit_rules, is, hot_item, cold_item, untouched}
 use Rattle.quick_cache_laws.proofs.Examples.LoadingKeys.{cold_entry}
 

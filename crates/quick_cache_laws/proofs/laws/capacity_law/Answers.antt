@@ -1,4 +1,4 @@
-use Rattle.quick_cache_laws.proofs.CapacityLaws.{SetsCapacity-sizes, SetsCapacity-same}
+use Rattle.quick_cache_laws.proofs.Calls.Capacities.{SetsCapacity-sizes, SetsCapacity-same}
 use Rattle.quick_cache_laws.proofs.laws.capacity_law.Goals as goal
 
 pub returns-clause-sizes : goal.returns-clause-sizes

@@ -1,9 +1,9 @@
-use Rattle.quick_cache_laws.proofs.OneOutcome.{one_eviction_to_capacity}
-use Rattle.quick_cache_laws.proofs.EvictionLaws.{EvictsToCapacity-keys}
-use Rattle.quick_cache_laws.proofs.PinnedLaws.{EvictsToCapacity-still, EvictsToCapacity-pairs}
-use Rattle.quick_cache_laws.proofs.MeasureLaws.{AdvancesCold-measure}
-use Rattle.quick_cache_laws.proofs.ExistenceLaws.{EvictsToCapacity-ends}
-use Rattle.quick_cache_laws.proofs.RoomLaws.{EvictsToCapacity-makes_room}
+use Rattle.quick_cache_laws.proofs.Eviction.OneOutcome.{one_eviction_to_capacity}
+use Rattle.quick_cache_laws.proofs.Eviction.Keys.{EvictsToCapacity-keys}
+use Rattle.quick_cache_laws.proofs.Eviction.PinnedPairs.{EvictsToCapacity-still, EvictsToCapacity-pairs}
+use Rattle.quick_cache_laws.proofs.Eviction.Measure.{AdvancesCold-measure}
+use Rattle.quick_cache_laws.proofs.CanBeMade.Evictions.{EvictsToCapacity-ends}
+use Rattle.quick_cache_laws.proofs.Eviction.Room.{EvictsToCapacity-makes_room}
 use Rattle.quick_cache_laws.proofs.laws.eviction_law.Goals as goal
 
 pub returns-clause-brings_no_key : goal.returns-clause-brings_no_key

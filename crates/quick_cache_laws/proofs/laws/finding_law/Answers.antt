@@ -1,4 +1,4 @@
-use Rattle.quick_cache_laws.proofs.FindingLaws.{Finds-some}
+use Rattle.quick_cache_laws.proofs.CanBeMade.Finding.{Finds-some}
 use Rattle.quick_cache_laws.proofs.laws.finding_law.Goals as goal
 
 pub returns : goal.returns

@@ -1,4 +1,4 @@
-use Rattle.quick_cache_laws.proofs.QueryLaws.{keys_by-query, Sees-LooksUp-query}
+use Rattle.quick_cache_laws.proofs.Calls.Queries.{keys_by-query, Sees-LooksUp-query}
 use Rattle.quick_cache_laws.proofs.laws.query_law.Goals as goal
 
 pub returns-clause-one_entry : goal.returns-clause-one_entry

@@ -1,4 +1,4 @@
-use Rattle.quick_cache_laws.proofs.RemovalLaws.{Removes-second, Retains-second}
+use Rattle.quick_cache_laws.proofs.Calls.SecondRemovals.{Removes-second, Retains-second}
 use Rattle.quick_cache_laws.proofs.laws.removal_law.Goals as goal
 
 pub returns-clause-again : goal.returns-clause-again

@@ -1,9 +1,9 @@
-use Rattle.quick_cache_laws.proofs.OrderLaws.{SameButOrder-valid}
-use Rattle.quick_cache_laws.proofs.ValidLaws.{empty_state-valid, SetsCapacity-valid}
-use Rattle.quick_cache_laws.proofs.ValidEdits.{emptied-valid}
-use Rattle.quick_cache_laws.proofs.WriteLaws.{Writes-valid}
-use Rattle.quick_cache_laws.proofs.PlaceholderLaws.{MakesPlaceholder-valid, MeetsPlaceholder-valid, FillsPlaceholder-valid, GivesUpPlaceholder-valid}
-use Rattle.quick_cache_laws.proofs.LookupValidLaws.{LooksUp-valid, Removes-valid, RemovesIf-valid, Retains-valid, ActsOnEntry-valid}
+use Rattle.quick_cache_laws.proofs.Valid.Orders.{SameButOrder-valid}
+use Rattle.quick_cache_laws.proofs.Valid.States.{empty_state-valid, SetsCapacity-valid}
+use Rattle.quick_cache_laws.proofs.Valid.Edits.{emptied-valid}
+use Rattle.quick_cache_laws.proofs.Valid.Writes.{Writes-valid}
+use Rattle.quick_cache_laws.proofs.Valid.Placeholders.{MakesPlaceholder-valid, MeetsPlaceholder-valid, FillsPlaceholder-valid, GivesUpPlaceholder-valid}
+use Rattle.quick_cache_laws.proofs.Valid.Lookups.{LooksUp-valid, Removes-valid, RemovesIf-valid, Retains-valid, ActsOnEntry-valid}
 use Rattle.quick_cache_laws.proofs.laws.valid_law.Goals as goal
 
 pub returns-clause-writes : goal.returns-clause-writes

@@ -1,4 +1,4 @@
-use Rattle.quick_cache_laws.proofs.RoomLaws.{WritesAdmitted-within}
+use Rattle.quick_cache_laws.proofs.Eviction.Room.{WritesAdmitted-within}
 use Rattle.quick_cache_laws.proofs.laws.write_law.Goals as goal
 
 pub returns : goal.returns

@@ -8,13 +8,13 @@ use Rattle.quick_cache_model.specs.CacheState.{CacheState, Item, LoadingEntry, P
 use Rattle.quick_cache_model.specs.Lookups.{after_hit, after_miss}
 use Rattle.quick_cache_model.specs.Placeholders.{with_placeholder}
 use Rattle.quick_cache_model.specs.Removal.{emptied, retained}
-use Rattle.quick_cache_laws.proofs.AllLemmas.{all-middle, all-instead, all-filter}
+use Rattle.quick_cache_laws.proofs.EachElement.{all-middle, all-instead, all-filter}
 use Rattle.quick_cache_model.proofs.KeyCounts.{one, one_if, keys, keys-cons, loading_keys, loading_keys-cons, loading_keys-append, loading_keys-split}
-use Rattle.quick_cache_laws.proofs.RingLaws.{IsInPlace}
-use Rattle.quick_cache_laws.proofs.EntryLemmas.{with_items-same, entered-same, rewritten-same, keys_by-without, keys_by-instead, keys_by-entered, keys_by-rewritten, without-in_place, entered-in_place, rewritten-in_place}
-use Rattle.quick_cache_laws.proofs.EqualKeys.{one-equal, keys_by-new}
-use Rattle.quick_cache_laws.proofs.TicketLemmas.{AreTickets, AreTickets-without, AreTickets-push}
-use Rattle.quick_cache_laws.proofs.ValidLaws.{IsValid-parts, IsValid-tickets, IsValid-in_place, IsValid-items}
+use Rattle.quick_cache_laws.proofs.Eviction.InPlace.{IsInPlace}
+use Rattle.quick_cache_laws.proofs.Valid.Places.{with_items-same, entered-same, rewritten-same, keys_by-without, keys_by-instead, keys_by-entered, keys_by-rewritten, without-in_place, entered-in_place, rewritten-in_place}
+use Rattle.quick_cache_laws.proofs.Calls.EqualKeys.{one-equal, keys_by-new}
+use Rattle.quick_cache_laws.proofs.Valid.Tickets.{AreTickets, AreTickets-without, AreTickets-push}
+use Rattle.quick_cache_laws.proofs.Valid.States.{IsValid-parts, IsValid-tickets, IsValid-in_place, IsValid-items}
 
 module _ {K V : Type 0} where
   -- an item in the place of another, with its queue and its weight

@@ -7,8 +7,8 @@ use Rattle.quick_cache_model.specs.Finding.{Found, FoundItem, FoundLoading, Foun
 use Rattle.quick_cache_model.specs.Placeholders.{with_placeholder, MakesPlaceholder, MeetsPlaceholder, GivesUpPlaceholder}
 use Rattle.quick_cache_model.specs.Lookups.{looked_up, after_hit, after_miss, Sees, LooksUp}
 use Rattle.quick_cache_model.specs.Removal.{Removes, RemovesIf}
-use Rattle.quick_cache_laws.proofs.AllLemmas.{all-weaker}
-use Rattle.quick_cache_laws.proofs.FindingLaws.{Searched, is_there, is_absent, search_list, Finds-some}
+use Rattle.quick_cache_laws.proofs.EachElement.{all-weaker}
+use Rattle.quick_cache_laws.proofs.CanBeMade.Finding.{Searched, is_there, is_absent, search_list, Finds-some}
 
 -- an item for which the query stands, or that there is none
 pub data ItemFound {K V : Type 0} (stands_for : K → Bool) (state : CacheState K V) : Type 0 where

@@ -10,7 +10,7 @@ use Rattle.quick_cache_model.specs.Touches.{RaisesMarks, with_touches}
 use Rattle.quick_cache_model.specs.Eviction.{EvictsVictim, AdvancesHot, EvictsToTarget, AdvancesCold, EvictsToCapacity, IsPassed, lowered, pinned, promoted, ghosts_with, newest}
 use Rattle.quick_cache_model.specs.Admission.{Admission, Admitted, TooHeavy, ChecksAdmission}
 use Rattle.quick_cache_model.specs.Capacity.{SetsCapacity, resized}
-use Rattle.quick_cache_laws.proofs.OneVictim.{the_first_victim_is_one, the_first_taken_is_one, holds_between}
+use Rattle.quick_cache_laws.proofs.Eviction.OneVictim.{the_first_victim_is_one, the_first_taken_is_one, holds_between}
 
 module _ {K V : Type 0} (rules : Rules K V) (leaves : K → V → V) where
   -- `before_evict` left what the function says

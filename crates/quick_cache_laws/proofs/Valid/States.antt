@@ -7,10 +7,10 @@ use Rattle.quick_cache_model.specs.Hooks.{Rules, HookCall}
 use Rattle.quick_cache_model.specs.Eviction.{EvictsVictim, AdvancesHot, EvictsToTarget, AdvancesCold, EvictsToCapacity}
 use Rattle.quick_cache_model.specs.Capacity.{resized, SetsCapacity}
 use Rattle.quick_cache_model.proofs.KeyCounts.{one}
-use Rattle.quick_cache_laws.proofs.EvictionLaws.{EvictsVictim-keys, AdvancesHot-keys, EvictsToTarget-keys, AdvancesCold-keys, EvictsToCapacity-keys}
-use Rattle.quick_cache_laws.proofs.RingLaws.{newest-within, IsInPlace, IsSameBeside, EvictsVictim-in_place, EvictsVictim-beside, AdvancesHot-in_place, AdvancesHot-beside, EvictsToTarget-in_place, EvictsToTarget-beside, AdvancesCold-in_place, AdvancesCold-beside, EvictsToCapacity-in_place, EvictsToCapacity-beside}
-use Rattle.quick_cache_laws.proofs.EntryLemmas.{IsSameButItems}
-use Rattle.quick_cache_laws.proofs.TicketLemmas.{AreTickets}
+use Rattle.quick_cache_laws.proofs.Eviction.Keys.{EvictsVictim-keys, AdvancesHot-keys, EvictsToTarget-keys, AdvancesCold-keys, EvictsToCapacity-keys}
+use Rattle.quick_cache_laws.proofs.Eviction.InPlace.{newest-within, IsInPlace, IsSameBeside, EvictsVictim-in_place, EvictsVictim-beside, AdvancesHot-in_place, AdvancesHot-beside, EvictsToTarget-in_place, EvictsToTarget-beside, AdvancesCold-in_place, AdvancesCold-beside, EvictsToCapacity-in_place, EvictsToCapacity-beside}
+use Rattle.quick_cache_laws.proofs.Valid.Places.{IsSameButItems}
+use Rattle.quick_cache_laws.proofs.Valid.Tickets.{AreTickets}
 
 module _ {K V : Type 0} (equal : K → K → Bool) where
   -- the parts of which a valid state is made

@@ -10,7 +10,7 @@ use Rattle.quick_cache_model.specs.Eviction.{lowered, pinned, ghosts_with, IsFir
 use Rattle.quick_cache_laws.specs.Laws.{ring_measure, CanCallHooks}
 use Rattle.quick_cache_model.proofs.TouchLaws.{RaisesMarks-same}
 use Rattle.quick_cache_model.proofs.HookLaws.{RunsHooks-append}
-use Rattle.quick_cache_laws.proofs.MeasureLaws.{AdvancesHot-measure, AdvancesCold-measure}
+use Rattle.quick_cache_laws.proofs.Eviction.Measure.{AdvancesHot-measure, AdvancesCold-measure}
 
 module _ {K V : Type 0} (rules : Rules K V) where
   -- the first victim of a ring, or that each item is pinned

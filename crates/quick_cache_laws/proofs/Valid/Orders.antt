@@ -4,7 +4,7 @@ use Rattle.std.specs.List.{AllByRecursion, count_by}
 use Rattle.std.proofs.lemmas.List.Elements.{All-from_recursion, recursion_from_All}
 use Rattle.std.proofs.lemmas.List.Sorted.{IsPermutation-refl, IsPermutation-sym, IsPermutation-trans, All-permutation, sum_by-IsPermutation}
 use Rattle.quick_cache_model.specs.CacheState.{CacheState, Item, LoadingEntry, keys_by, total_weight, IsStillItem, IsValid, SameButOrder}
-use Rattle.quick_cache_laws.proofs.ValidLaws.{IsValid-parts}
+use Rattle.quick_cache_laws.proofs.Valid.States.{IsValid-parts}
 
 -- what holds of each element does so in another order
 pub all-permutation : {X : Type 0} (P : X → Type 0) (xs ys : List X) → IsPermutation xs ys → AllByRecursion P xs → AllByRecursion P ys

@@ -12,11 +12,11 @@ use Rattle.quick_cache_model.specs.Writes.{Strategy, Insert, Replace, SoftReplac
 use Rattle.quick_cache_model.specs.Placeholders.{IsLoadingTicket, MakesRoomFor, FillsPlaceholder}
 use Rattle.quick_cache_model.specs.Capacity.{resized, SetsCapacity}
 use Rattle.quick_cache_laws.specs.Laws.{CanCallHooks}
-use Rattle.quick_cache_laws.proofs.AllLemmas.{all-weaker}
-use Rattle.quick_cache_laws.proofs.FindingLaws.{Searched, is_there, is_absent, search_list, Finds-some}
+use Rattle.quick_cache_laws.proofs.EachElement.{all-weaker}
+use Rattle.quick_cache_laws.proofs.CanBeMade.Finding.{Searched, is_there, is_absent, search_list, Finds-some}
 use Rattle.quick_cache_model.proofs.HookLaws.{RunsHooks-append}
-use Rattle.quick_cache_laws.proofs.ExistenceLaws.{Leads, Answers, told, EvictsToCapacity-exists, idle_hooks, can_call_idle_hooks}
-use Rattle.quick_cache_laws.proofs.LookupExistence.{ItemFound, item_there, no_item, find_item}
+use Rattle.quick_cache_laws.proofs.CanBeMade.Evictions.{Leads, Answers, told, EvictsToCapacity-exists, idle_hooks, can_call_idle_hooks}
+use Rattle.quick_cache_laws.proofs.CanBeMade.Lookups.{ItemFound, item_there, no_item, find_item}
 
 -- an admission check, with the calls of hooks that it makes
 pub record Checks {K V S : Type 0} (hooks : Hooks K V S) (rules : Rules K V) (hot_target : ℕ) (key : K) (value : V) (first : S) : Type 0 where

@@ -7,10 +7,10 @@ use Rattle.quick_cache_model.specs.Hooks.{Rules, HookCall}
 use Rattle.quick_cache_model.specs.Touches.{TakesTouches}
 use Rattle.quick_cache_model.specs.Writes.{Strategy, Insert, Replace, SoftReplace, mark_after, new_item, queue_for, WritesAdmitted, TakesOutItem, RejectsTooHeavy, Writes}
 use Rattle.quick_cache_model.proofs.TouchLaws.{with_touches-mark}
-use Rattle.quick_cache_laws.proofs.EvictionLaws.{EvictsToCapacity-keys, keys_by-none}
-use Rattle.quick_cache_laws.proofs.EntryLemmas.{IsInPlace-marked}
-use Rattle.quick_cache_laws.proofs.ValidLaws.{IsValid-in_place, EvictsToCapacity-valid}
-use Rattle.quick_cache_laws.proofs.ValidEdits.{entered-valid, rewritten-valid, without-valid, without_ghost-valid, unloaded-valid, keys_by-unloaded, keys_by-taken}
+use Rattle.quick_cache_laws.proofs.Eviction.Keys.{EvictsToCapacity-keys, keys_by-none}
+use Rattle.quick_cache_laws.proofs.Valid.Places.{IsInPlace-marked}
+use Rattle.quick_cache_laws.proofs.Valid.States.{IsValid-in_place, EvictsToCapacity-valid}
+use Rattle.quick_cache_laws.proofs.Valid.Edits.{entered-valid, rewritten-valid, without-valid, without_ghost-valid, unloaded-valid, keys_by-unloaded, keys_by-taken}
 
 -- a write keeps the mark up to the greatest
 pub mark_after-le : (strategy : Strategy) (mark : ℕ) → mark ≤ mark_cut → mark_after strategy mark ≤ mark_cut

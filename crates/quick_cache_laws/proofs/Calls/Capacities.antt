@@ -8,7 +8,7 @@ use Rattle.quick_cache_model.specs.Sizes.{default_hot_share, clamped_target, hot
 use Rattle.quick_cache_model.specs.Eviction.{newest, EvictsToCapacity}
 use Rattle.quick_cache_model.specs.Capacity.{resized, SetsCapacity}
 use Rattle.quick_cache_laws.specs.Laws.{IsSized}
-use Rattle.quick_cache_laws.proofs.RingLaws.{EvictsToCapacity-beside}
+use Rattle.quick_cache_laws.proofs.Eviction.InPlace.{EvictsToCapacity-beside}
 
 -- a clamped target is at most the capacity, and at least 1 unless the capacity is 0
 pub clamped_target-le : (capacity wish : ℕ) → clamped_target capacity wish ≤ capacity

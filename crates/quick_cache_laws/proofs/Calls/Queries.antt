@@ -4,9 +4,9 @@ use Rattle.quick_cache_model.specs.CacheState.{CacheState, Item, keys_by, IsVali
 use Rattle.quick_cache_model.specs.Finding.{Found, FoundItem, FoundLoading, FoundGhost, FoundNothing, Finds}
 use Rattle.quick_cache_model.specs.Lookups.{Sees, LooksUp}
 use Rattle.quick_cache_laws.specs.Laws.{IsQuery}
-use Rattle.quick_cache_laws.proofs.EvictionLaws.{keys_by-none}
-use Rattle.quick_cache_laws.proofs.EqualKeys.{keys_by-agree}
-use Rattle.quick_cache_laws.proofs.FindingLaws.{Finds-some}
+use Rattle.quick_cache_laws.proofs.Eviction.Keys.{keys_by-none}
+use Rattle.quick_cache_laws.proofs.Calls.EqualKeys.{keys_by-agree}
+use Rattle.quick_cache_laws.proofs.CanBeMade.Finding.{Finds-some}
 use Rattle.quick_cache_model.proofs.LookupLaws.{Sees-LooksUp}
 
 module _ {K V : Type 0} (equal : K → K → Bool) (stands_for : K → Bool) (query : IsQuery equal stands_for) where

@@ -5,9 +5,9 @@ use Rattle.std.specs.List.{AllByRecursion}
 use Rattle.quick_cache_model.specs.declared.queue.Queue.{Queue}
 use Rattle.quick_cache_model.specs.declared.queue.Queue.TheVariants.{Hot, Cold}
 use Rattle.quick_cache_model.specs.CacheState.{CacheState, Item, Place, InHot, InCold, InStill, ring_place, items_at, with_items, place_of_item, entered, restarted_behind, rewritten, keys_by, IsRingItem, IsStillItem, mark_cut}
-use Rattle.quick_cache_laws.proofs.AllLemmas.{all-middle, all-without, all-instead, all-restarted, all-push}
+use Rattle.quick_cache_laws.proofs.EachElement.{all-middle, all-without, all-instead, all-restarted, all-push}
 use Rattle.quick_cache_model.proofs.KeyCounts.{one, keys, keys-cons, keys-append, keys-split}
-use Rattle.quick_cache_laws.proofs.RingLaws.{IsInPlace}
+use Rattle.quick_cache_laws.proofs.Eviction.InPlace.{IsInPlace}
 
 module _ {K V : Type 0} where
   -- two states differ in their items at most

@@ -9,7 +9,7 @@ use Rattle.quick_cache_model.specs.Hooks.{Rules, HookCall}
 use Rattle.quick_cache_model.specs.Touches.{TakesTouches, RaisesMarks}
 use Rattle.quick_cache_model.specs.Eviction.{newest, lowered, EvictsVictim, AdvancesHot, EvictsToTarget, AdvancesCold, EvictsToCapacity}
 use Rattle.quick_cache_model.proofs.TouchLaws.{with_touches-weight, with_touches-queue, with_touches-mark}
-use Rattle.quick_cache_laws.proofs.AllLemmas.{all-append, all-left, all-right, all-middle, all-restarted, all-push}
+use Rattle.quick_cache_laws.proofs.EachElement.{all-append, all-left, all-right, all-middle, all-restarted, all-push}
 
 -- the newest ghosts are within the limit
 pub newest-within : (n : ℕ) (ghosts : List ℕ) → length (newest n ghosts) ≤ n

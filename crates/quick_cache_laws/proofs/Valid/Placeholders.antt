@@ -7,9 +7,9 @@ use Rattle.quick_cache_model.specs.Hooks.{Rules, HookCall}
 use Rattle.quick_cache_model.specs.Lookups.{after_miss}
 use Rattle.quick_cache_model.specs.Writes.{new_item, queue_for}
 use Rattle.quick_cache_model.specs.Placeholders.{MakesPlaceholder, MeetsPlaceholder, GivesUpPlaceholder, MakesRoomFor, FillsPlaceholder}
-use Rattle.quick_cache_laws.proofs.EqualKeys.{keys_by-absent}
-use Rattle.quick_cache_laws.proofs.ValidLaws.{EvictsToCapacity-valid}
-use Rattle.quick_cache_laws.proofs.ValidEdits.{after_hit-valid, after_miss-valid, without_ghost-valid, unloaded-valid, entered-valid, with_placeholder-valid, keys_by-unloaded, keys_by-taken}
+use Rattle.quick_cache_laws.proofs.Calls.EqualKeys.{keys_by-absent}
+use Rattle.quick_cache_laws.proofs.Valid.States.{EvictsToCapacity-valid}
+use Rattle.quick_cache_laws.proofs.Valid.Edits.{after_hit-valid, after_miss-valid, without_ghost-valid, unloaded-valid, entered-valid, with_placeholder-valid, keys_by-unloaded, keys_by-taken}
 
 module _ {K V : Type 0} (equal : K → K → Bool) (laws : IsEquivalence equal) where
   -- a placeholder is made under a key that the query stands for: it stands for the keys that are equal to that one

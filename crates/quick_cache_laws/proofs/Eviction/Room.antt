@@ -10,8 +10,8 @@ use Rattle.quick_cache_model.specs.Hooks.{Rules, HookCall}
 use Rattle.quick_cache_model.specs.Eviction.{lowered, pinned, IsPassed, AdvancesHot, AdvancesCold, EvictsToCapacity}
 use Rattle.quick_cache_model.specs.Writes.{Strategy, new_item, queue_for, WritesAdmitted}
 use Rattle.quick_cache_laws.specs.Laws.{AreOthersPinned}
-use Rattle.quick_cache_laws.proofs.AllLemmas.{all-weaker, all-push}
-use Rattle.quick_cache_laws.proofs.EntryLemmas.{put}
+use Rattle.quick_cache_laws.proofs.EachElement.{all-weaker, all-push}
+use Rattle.quick_cache_laws.proofs.Valid.Places.{put}
 
 module _ {K V : Type 0} where
   -- the weight of a list and one item more

@@ -1,0 +1,6 @@
+-- Each call can be made in every state.
+pub mod Evictions
+pub mod Writes
+pub mod Lookups
+pub mod EntryCalls
+pub mod Finding

@@ -1,0 +1,8 @@
+-- What eviction keeps and what it ends in.
+pub mod Keys
+pub mod InPlace
+pub mod PinnedPairs
+pub mod Measure
+pub mod OneVictim
+pub mod OneOutcome
+pub mod Room
