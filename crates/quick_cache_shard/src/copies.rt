@@ -46,28 +46,30 @@ fn copy_ghosts<A: Allocator + Clone>(
     Ok(copy)
 }
 
-/// A copy of the lists, each with room for all entries.
-pub(crate) fn copy_rings<
-    K: Eq + Hash + Clone,
-    V: Clone,
-    P: SharedPlaceholder<K>,
-    A: Allocator + Clone,
->(rings: &Rings<K, V, P, A>) -> Result<Rings<K, V, P, A>, AllocError>
-    requires sound { IsSound K.eq rings.now }
-    requires keys { ClonesAreEqual K.eq K.is_clone }
-    ensures copies { IfOk result (λ copy.
-        IsCopyOf K.is_clone V.is_clone (state_of rings.now) (state_of copy)) }
-    ensures sound { IfOk result (IsSound K.eq) }
-{
-    let room = rings.hot.len() + rings.cold.len() + rings.ghosts.len();
-    Ok(Rings {
-        hot: copy_items(&rings.hot, room)?,
-        cold: copy_items(&rings.cold, room)?,
-        ghosts: copy_ghosts(&rings.ghosts, room)?,
-        capacity: rings.capacity,
-        hot_target: rings.hot_target,
-        ghost_limit: rings.ghost_limit,
-        hits: rings.hits,
-        misses: rings.misses,
-    })
+impl<K: Eq + Hash + Clone, V: Clone, P: SharedPlaceholder<K>, A: Allocator + Clone> Rings<
+    K,
+    V,
+    P,
+    A,
+> {
+    /// A copy of the lists, each with room for all entries.
+    pub(crate) fn try_copy(&self) -> Result<Self, AllocError>
+        requires sound { IsSound K.eq self.now }
+        requires keys { ClonesAreEqual K.eq K.is_clone }
+        ensures copies { IfOk result (λ copy.
+            IsCopyOf K.is_clone V.is_clone (state_of self.now) (state_of copy)) }
+        ensures sound { IfOk result (IsSound K.eq) }
+    {
+        let room = self.hot.len() + self.cold.len() + self.ghosts.len();
+        Ok(Rings {
+            hot: copy_items(&self.hot, room)?,
+            cold: copy_items(&self.cold, room)?,
+            ghosts: copy_ghosts(&self.ghosts, room)?,
+            capacity: self.capacity,
+            hot_target: self.hot_target,
+            ghost_limit: self.ghost_limit,
+            hits: self.hits,
+            misses: self.misses,
+        })
+    }
 }

@@ -48,22 +48,20 @@ fn ghost_position<A: Allocator>(ghosts: &Vec<u64, A>, hash: u64) -> Option<usize
     None
 }
 
-/// Where the item stands that the query stands for; else where a ghost of its hash stands.
-pub(crate) fn find<K: Eq + Hash, V, Q: Equivalent<K>, P: SharedPlaceholder<K>, A: Allocator>(
-    rings: &Rings<K, V, P, A>,
-    hash: u64,
-    query: &Q,
-) -> Location
-    ensures { IsFoundAt (Q.equivalent query.now) hash (state_of rings.now) result }
-{
-    if let Some(at) = position(&rings.hot, query) {
-        return Location::InHot(at);
+impl<K: Eq + Hash, V, P: SharedPlaceholder<K>, A: Allocator> Rings<K, V, P, A> {
+    /// Where the item stands that the query stands for; else where a ghost of its hash stands.
+    pub(crate) fn find<Q: Equivalent<K>>(&self, hash: u64, query: &Q) -> Location
+        ensures { IsFoundAt (Q.equivalent query.now) hash (state_of self.now) result }
+    {
+        if let Some(at) = position(&self.hot, query) {
+            return Location::InHot(at);
+        }
+        if let Some(at) = position(&self.cold, query) {
+            return Location::InCold(at);
+        }
+        if let Some(at) = ghost_position(&self.ghosts, hash) {
+            return Location::AmongGhosts(at);
+        }
+        Location::Nowhere
     }
-    if let Some(at) = position(&rings.cold, query) {
-        return Location::InCold(at);
-    }
-    if let Some(at) = ghost_position(&rings.ghosts, hash) {
-        return Location::AmongGhosts(at);
-    }
-    Location::Nowhere
 }

@@ -10,6 +10,7 @@ mod iter;
 mod lists;
 mod overwrite;
 mod placeholder;
+mod policy;
 mod readers;
 mod remove;
 mod resident;

@@ -1,37 +1,35 @@
 //! A pair over an item, and what its hook is told.
 ghost use Rattle.std.specs.Prelude.{◌≡◌, ◌<◌, List, [], ◌∷◌, None, vec_len, vec_capacity};
 ghost use Rattle.quick_cache_model.specs.CacheState.{Item};
-ghost use Rattle.quick_cache_model.specs.Hashing.{hash_of};
 ghost use Rattle.quick_cache_model.specs.Hooks.{Calls, RunsHooks, evicted};
 ghost use Rattle.quick_cache_model.specs.Writes.{WritesAdmitted};
 ghost use Rattle.quick_cache_shard.specs.Changes.{WritesOverAt};
 ghost use Rattle.quick_cache_shard.specs.Rings.{IsSound, state_of, unit_rules};
-ghost use Rattle.quick_cache_shard.specs.Shard.{hooks_by, strategy_of};
+ghost use Rattle.quick_cache_shard.specs.Shard.{strategy_of};
 ghost use Rattle.quick_cache_shard.specs.Split.{IsFirst, IsSplit};
 
-use crate::advance::evict_to_capacity;
 use crate::insert::InsertStrategy;
 use crate::placeholder::{SharedPlaceholder, Touches};
+use crate::policy::Policy;
 use crate::resident::Resident;
 use crate::rings::Rings;
-use quick_cache_model::{Lifecycle, Queue};
+use quick_cache_base::Queue;
 use std::alloc::Allocator;
-use std::hash::{BuildHasher, Hash};
+use std::hash::Hash;
 
 /// Tells a pair that leaves to the hook of its ring.
-pub(crate) fn report<K: Eq + Hash + Drop, V: Drop, L: Lifecycle<K, V>>(
+pub(crate) fn report<K, V, M: Policy<K, V>>(
     queue: Queue,
-    lifecycle: &L,
-    state: &mut L::RequestState,
+    terms: &M,
+    state: &mut M::RequestState,
     key: K,
     value: V,
 )
-    ensures { RunsHooks (hooks_by L.Lifecycle lifecycle.now) (evicted queue key value ∷ [])
-        state.old state.new }
+    ensures { RunsHooks (M.hooks terms.now) (evicted queue key value ∷ []) state.old state.new }
 {
     match queue {
-        Queue::Hot => lifecycle.on_evict_hot(state, key, value),
-        Queue::Cold => lifecycle.on_evict_cold(state, key, value),
+        Queue::Hot => terms.on_evict_hot(state, key, value),
+        Queue::Cold => terms.on_evict_cold(state, key, value),
     }
 }
 
@@ -55,66 +53,52 @@ fn write_over_at<K, V, T: Touches, A: Allocator>(
     item.write_over(key, value, strategy)
 }
 
-/// Writes a pair over an item of the hot ring.
-pub(crate) fn overwrite_hot<
-    K: Eq + Hash + Drop,
-    V: Drop,
-    B: BuildHasher,
-    L: Lifecycle<K, V>,
-    P: SharedPlaceholder<K>,
-    A: Allocator,
->(
-    rings: &mut Rings<K, V, P, A>,
-    at: usize,
-    builder: &B,
-    lifecycle: &L,
-    state: &mut L::RequestState,
-    key: K,
-    value: V,
-    strategy: InsertStrategy,
-)
-    requires sound { IsSound K.eq rings.old }
-    requires found { IsFirst (λ item. K.eq key item.key) rings.old.hot.items at }
-    ensures writes { Calls (hooks_by L.Lifecycle lifecycle.now)
-        (λ calls. WritesAdmitted (unit_rules P.Touch.may_count
-        (λ k. hash_of B.BuildHasher B.Hasher.Hasher builder.now (K.hash_input k)))
-        (K.eq key) key (strategy_of strategy) (state_of rings.old) value calls None (state_of rings.new))
-        state.old state.new }
-    ensures sound { IsSound K.eq rings.new }
-{
-    let (queue, (old_key, old_value)) = write_over_at(&mut rings.hot, at, key, value, strategy);
-    report(queue, lifecycle, state, old_key, old_value);
-    evict_to_capacity(rings, 0, builder, lifecycle, state);
-}
+impl<K: Eq + Hash + Drop, V: Drop, P: SharedPlaceholder<K>, A: Allocator> Rings<K, V, P, A> {
+    /// Writes a pair over an item of the hot ring.
+    pub(crate) fn overwrite_hot<M: Policy<K, V>>(
+        &mut self,
+        at: usize,
+        terms: &M,
+        state: &mut M::RequestState,
+        key: K,
+        value: V,
+        strategy: InsertStrategy,
+    )
+        requires sound { IsSound K.eq self.old }
+        requires found { IsFirst (λ item. K.eq key item.key) self.old.hot.items at }
+        ensures writes { Calls (M.hooks terms.now)
+            (λ calls. WritesAdmitted (unit_rules P.Touch.may_count (M.hashed terms.now))
+            (K.eq key) key (strategy_of strategy) (state_of self.old) value calls None
+            (state_of self.new))
+            state.old state.new }
+        ensures sound { IsSound K.eq self.new }
+    {
+        let (queue, (old_key, old_value)) = write_over_at(&mut self.hot, at, key, value, strategy);
+        report(queue, terms, state, old_key, old_value);
+        self.evict_to_capacity(0, terms, state);
+    }
 
-/// Writes a pair over an item of the cold ring.
-pub(crate) fn overwrite_cold<
-    K: Eq + Hash + Drop,
-    V: Drop,
-    B: BuildHasher,
-    L: Lifecycle<K, V>,
-    P: SharedPlaceholder<K>,
-    A: Allocator,
->(
-    rings: &mut Rings<K, V, P, A>,
-    at: usize,
-    builder: &B,
-    lifecycle: &L,
-    state: &mut L::RequestState,
-    key: K,
-    value: V,
-    strategy: InsertStrategy,
-)
-    requires sound { IsSound K.eq rings.old }
-    requires found { IsFirst (λ item. K.eq key item.key) rings.old.cold.items at }
-    ensures writes { Calls (hooks_by L.Lifecycle lifecycle.now)
-        (λ calls. WritesAdmitted (unit_rules P.Touch.may_count
-        (λ k. hash_of B.BuildHasher B.Hasher.Hasher builder.now (K.hash_input k)))
-        (K.eq key) key (strategy_of strategy) (state_of rings.old) value calls None (state_of rings.new))
-        state.old state.new }
-    ensures sound { IsSound K.eq rings.new }
-{
-    let (queue, (old_key, old_value)) = write_over_at(&mut rings.cold, at, key, value, strategy);
-    report(queue, lifecycle, state, old_key, old_value);
-    evict_to_capacity(rings, 0, builder, lifecycle, state);
+    /// Writes a pair over an item of the cold ring.
+    pub(crate) fn overwrite_cold<M: Policy<K, V>>(
+        &mut self,
+        at: usize,
+        terms: &M,
+        state: &mut M::RequestState,
+        key: K,
+        value: V,
+        strategy: InsertStrategy,
+    )
+        requires sound { IsSound K.eq self.old }
+        requires found { IsFirst (λ item. K.eq key item.key) self.old.cold.items at }
+        ensures writes { Calls (M.hooks terms.now)
+            (λ calls. WritesAdmitted (unit_rules P.Touch.may_count (M.hashed terms.now))
+            (K.eq key) key (strategy_of strategy) (state_of self.old) value calls None
+            (state_of self.new))
+            state.old state.new }
+        ensures sound { IsSound K.eq self.new }
+    {
+        let (queue, (old_key, old_value)) = write_over_at(&mut self.cold, at, key, value, strategy);
+        report(queue, terms, state, old_key, old_value);
+        self.evict_to_capacity(0, terms, state);
+    }
 }

@@ -14,7 +14,7 @@ pub(crate) const SLOT_COUNT: usize = 4_294_967_294;
 
 /// The lists, each with room for all entries, so that an entry can go from one to another; the sizes and the counts.
 #[derive(Drop)]
-pub struct Rings<K: Eq + Hash, V, P: SharedPlaceholder<K>, A: Allocator> {
+pub(crate) struct Rings<K: Eq + Hash, V, P: SharedPlaceholder<K>, A: Allocator> {
     pub(crate) hot: Vec<Resident<K, V, P::Touch>, A>,
     pub(crate) cold: Vec<Resident<K, V, P::Touch>, A>,
     pub(crate) ghosts: Vec<u64, A>,
@@ -25,18 +25,18 @@ pub struct Rings<K: Eq + Hash, V, P: SharedPlaceholder<K>, A: Allocator> {
     pub(crate) misses: u64,
 }
 
-/// Makes room for one more entry in each list, or answers that there is no memory for it.
-pub(crate) fn grow<K: Eq + Hash, V, P: SharedPlaceholder<K>, A: Allocator>(
-    rings: &mut Rings<K, V, P, A>,
-) -> bool
-    requires room { HasRoom 0 rings.old }
-    requires slot { entries rings.old < slot_count }
-    ensures grown { OnTrue result (HasRoom 1 rings.new) }
-    ensures room { HasRoom 0 rings.new }
-    ensures same { state_of rings.new ≡ state_of rings.old }
-{
-    let (hot, cold, ghosts) = (rings.hot.len(), rings.cold.len(), rings.ghosts.len());
-    rings.hot.reserve(cold + ghosts + 1).is_ok()
-        && rings.cold.reserve(hot + ghosts + 1).is_ok()
-        && rings.ghosts.reserve(hot + cold + 1).is_ok()
+impl<K: Eq + Hash, V, P: SharedPlaceholder<K>, A: Allocator> Rings<K, V, P, A> {
+    /// Makes room for one more entry in each list, or answers that there is no memory for it.
+    pub(crate) fn grow(&mut self) -> bool
+        requires room { HasRoom 0 self.old }
+        requires slot { entries self.old < slot_count }
+        ensures grown { OnTrue result (HasRoom 1 self.new) }
+        ensures room { HasRoom 0 self.new }
+        ensures same { state_of self.new ≡ state_of self.old }
+    {
+        let (hot, cold, ghosts) = (self.hot.len(), self.cold.len(), self.ghosts.len());
+        self.hot.reserve(cold + ghosts + 1).is_ok()
+            && self.cold.reserve(hot + ghosts + 1).is_ok()
+            && self.ghosts.reserve(hot + cold + 1).is_ok()
+    }
 }

@@ -15,12 +15,11 @@ ghost use Rattle.quick_cache_shard.specs.Copies.{ClonesAreEqual, IsCopyOf};
 ghost use Rattle.quick_cache_shard.specs.Places.{IsLookedUp, IsMissed, IsPlaced, IsKeyAt, IsValueAt};
 ghost use Rattle.quick_cache_shard.specs.Shard.{rules_of, hooks_of, strategy_of, Answers, UpToOrder, IsPlainCache, IsSoundShard, HasItem};
 
-use crate::copies::copy_rings;
-use crate::find::{Location, find};
-use crate::insert::{InsertStrategy, insert};
+use crate::find::Location;
+use crate::insert::InsertStrategy;
 use crate::lists::look_up_at;
 use crate::placeholder::SharedPlaceholder;
-use crate::remove::remove;
+use crate::policy::Terms;
 use crate::rings::Rings;
 use quick_cache_base::sizes::{ghost_limit, hot_target};
 use quick_cache_model::{Equivalent, Lifecycle, Queue, Refusal, Weighter, hash_of};
@@ -32,9 +31,7 @@ use std::marker::Model;
 #[derive(Drop)]
 pub struct CacheShard<K: Eq + Hash, V, We, B, L, P: SharedPlaceholder<K>, A: Allocator = Global> {
     pub(crate) rings: Rings<K, V, P, A>,
-    weigher: We,
-    builder: B,
-    lifecycle: L,
+    terms: Terms<We, B, L>,
 }
 
 impl<K: Eq + Hash, V, We, B, L, P: SharedPlaceholder<K>, A: Allocator> Model
@@ -46,9 +43,9 @@ impl<K: Eq + Hash, V, We, B, L, P: SharedPlaceholder<K>, A: Allocator> Model
 
     ghost view = { λ s. record {
       state = state_of s.rings;
-      weigher = s.weigher;
-      builder = s.builder;
-      lifecycle = s.lifecycle;
+      weigher = s.terms.weigher;
+      builder = s.terms.builder;
+      lifecycle = s.terms.lifecycle;
     } };
 
     ghost invariant = { λ s. IsSound K.eq s.rings };
@@ -108,9 +105,11 @@ impl<K: Eq + Hash, V, We, B: BuildHasher, L, P: SharedPlaceholder<K>, A: Allocat
                 hits: 0,
                 misses: 0,
             },
-            weigher,
-            builder,
-            lifecycle,
+            terms: Terms {
+                weigher,
+                builder,
+                lifecycle,
+            },
         })
     }
 
@@ -131,20 +130,22 @@ impl<K: Eq + Hash, V, We, B: BuildHasher, L, P: SharedPlaceholder<K>, A: Allocat
         ensures lifecycle { IfOk result (λ copy. L.is_clone self.now.lifecycle copy.lifecycle) }
         ensures refused { IfErr result (λ refusal. refusal ≡ Memory) }
     {
-        let Ok(rings) = copy_rings(&self.rings) else {
+        let Ok(rings) = self.rings.try_copy() else {
             return Err(Refusal::Memory);
         };
-        let weigher: Result<_, _> = self.weigher.clone();
-        let builder: Result<_, _> = self.builder.clone();
-        let lifecycle: Result<_, _> = self.lifecycle.clone();
+        let weigher: Result<_, _> = self.terms.weigher.clone();
+        let builder: Result<_, _> = self.terms.builder.clone();
+        let lifecycle: Result<_, _> = self.terms.lifecycle.clone();
         let (Ok(weigher), Ok(builder), Ok(lifecycle)) = (weigher, builder, lifecycle) else {
             return Err(Refusal::Memory);
         };
         Ok(CacheShard {
             rings,
-            weigher,
-            builder,
-            lifecycle,
+            terms: Terms {
+                weigher,
+                builder,
+                lifecycle,
+            },
         })
     }
 
@@ -153,7 +154,7 @@ impl<K: Eq + Hash, V, We, B: BuildHasher, L, P: SharedPlaceholder<K>, A: Allocat
         ensures { result
             ≡ hash_of B.BuildHasher B.Hasher.Hasher self.now.builder (Q.hash_input query.now) }
     {
-        hash_of(&self.builder, query)
+        hash_of(&self.terms.builder, query)
     }
 
     /// Writes a pair, whose hash is handed in, and makes room for it.
@@ -185,16 +186,8 @@ impl<K: Eq + Hash, V, We, B: BuildHasher, L, P: SharedPlaceholder<K>, A: Allocat
         ensures same { self.new ≡ record self.old { state = self.new.state } }
         ensures sound { IsSoundShard K.eq self.new }
     {
-        insert(
-            &mut self.rings,
-            &self.builder,
-            &self.lifecycle,
-            state,
-            hash,
-            key,
-            value,
-            strategy,
-        )
+        self.rings
+            .insert(&self.terms, state, hash, key, value, strategy)
     }
 
     /// The value under the query, which is handed in with its hash. A find counts a hit, marks the item and counts a
@@ -236,7 +229,7 @@ impl<K: Eq + Hash, V, We, B: BuildHasher, L, P: SharedPlaceholder<K>, A: Allocat
             (option_copied result) }
         ensures sound { IsSoundShard K.eq self.now }
     {
-        match find(&self.rings, hash, query) {
+        match self.rings.find(hash, query) {
             Location::InHot(at) => Some(self.rings.hot[at].value()),
             Location::InCold(at) => Some(self.rings.cold[at].value()),
             Location::AmongGhosts(_) => None,
@@ -252,7 +245,7 @@ impl<K: Eq + Hash, V, We, B: BuildHasher, L, P: SharedPlaceholder<K>, A: Allocat
         ensures absent { OnFalse result (HasNoItem (Q.equivalent query.now) self.now.state) }
         ensures sound { IsSoundShard K.eq self.now }
     {
-        match find(&self.rings, hash, query) {
+        match self.rings.find(hash, query) {
             Location::InHot(_) => true,
             Location::InCold(_) => true,
             Location::AmongGhosts(_) => false,
@@ -270,7 +263,7 @@ impl<K: Eq + Hash, V, We, B: BuildHasher, L, P: SharedPlaceholder<K>, A: Allocat
         ensures same { self.new ≡ record self.old { state = self.new.state } }
         ensures sound { IsSoundShard K.eq self.new }
     {
-        remove(&mut self.rings, hash, query)
+        self.rings.remove(hash, query)
     }
 
     /// Takes note of a look-up, and tells where the item is.
@@ -280,7 +273,7 @@ impl<K: Eq + Hash, V, We, B: BuildHasher, L, P: SharedPlaceholder<K>, A: Allocat
             (λ at. IsLookedUp (Q.equivalent query.now) self.old.state at self.new.state) }
         ensures same { self.new ≡ record self.old { state = self.new.state } }
     {
-        match find(&self.rings, hash, query) {
+        match self.rings.find(hash, query) {
             Location::InHot(at) => {
                 look_up_at(&mut self.rings.hot, at);
                 self.rings.hits = self.rings.hits.saturating_add(1);
