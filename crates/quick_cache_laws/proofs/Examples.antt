@@ -1,4 +1,5 @@
--- Worked examples of the definitions, on small caches of numbers. Each says what one call does, in the words of specs/.
+-- Worked examples of the definitions, on small caches of numbers. Each says what one call does, in
+-- the words of specs/.
 pub mod Caches
 pub mod SmallCaches
 pub mod Victims

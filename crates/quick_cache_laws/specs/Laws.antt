@@ -1,23 +1,27 @@
 -- Laws of the definitions, and the words in which they are stated.
-use Rattle.std.specs.Prelude.{◌≡◌, ℕ, ◌+◌, ◌*◌, ◌^◌, ◌<◌, ◌≤◌, ◌⊎◌, Bool, true, false, IsTrue, List, [], ◌++◌, Option, None, length, min, count_by}
+use Rattle.std.specs.Prelude.{◌≡◌, ℕ, ◌+◌, ◌*◌, ◌^◌, ◌<◌, ◌≤◌, ◌⊎◌, Bool, true, false, IsTrue, List}
+use Rattle.std.specs.Prelude.{[], ◌++◌, Option, None, length, min, count_by}
 use Rattle.std.specs.List.{AllByRecursion}
-use Rattle.quick_cache_model.specs.CacheState.{CacheState, Item, Place, empty_state, keys_by, total_weight, IsValid, SameButOrder}
+use Rattle.quick_cache_model.specs.CacheState.{CacheState, Item, Place, empty_state, keys_by}
+use Rattle.quick_cache_model.specs.CacheState.{total_weight, IsValid, SameButOrder}
 use Rattle.quick_cache_model.specs.Hooks.{Rules, HookCall, BeforeEvict, EvictHot, EvictCold, Hooks}
 use Rattle.quick_cache_model.specs.Finding.{Found, IsItemAt, HasNoItem, Finds}
 use Rattle.quick_cache_model.specs.Eviction.{AdvancesCold, EvictsToCapacity}
 use Rattle.quick_cache_model.specs.Writes.{Strategy, WritesAdmitted, Writes}
-use Rattle.quick_cache_model.specs.Placeholders.{MakesPlaceholder, MeetsPlaceholder, FillsPlaceholder, GivesUpPlaceholder}
+use Rattle.quick_cache_model.specs.Placeholders.{MakesPlaceholder, MeetsPlaceholder}
+use Rattle.quick_cache_model.specs.Placeholders.{FillsPlaceholder, GivesUpPlaceholder}
 use Rattle.quick_cache_model.specs.Lookups.{Sees, LooksUp}
 use Rattle.quick_cache_model.specs.Removal.{Removes, RemovesIf, Retains, emptied}
 use Rattle.quick_cache_model.specs.Entries.{EntryChoice, ActsOnEntry}
 use Rattle.quick_cache_model.specs.Capacity.{SetsCapacity}
 
--- what each advance that answers yes lowers: an item of the cold ring can become one of the hot ring, and then leave
+-- what each advance that answers yes lowers: an item of the cold ring can become one of the hot
+-- ring, and then leave
 abbrev pub ring_measure : {K V : Type 0} → CacheState K V → ℕ
 ring_measure state = length state.hot + 2 * length state.cold
 
--- The sizes of a cache as its options and each new capacity make them: the hot target is at most the capacity, and at
--- least 1 unless the capacity is 0; the ghost limit is what a count holds.
+-- The sizes of a cache as its options and each new capacity make them: the hot target is at most
+-- the capacity, and at least 1 unless the capacity is 0; the ghost limit is what a count holds.
 pub record IsSized {K V : Type 0} (state : CacheState K V) : Type 0 where
   pub target_within : state.hot_target ≤ state.capacity
   pub target_above : min state.capacity 1 ≤ state.hot_target
@@ -26,23 +30,32 @@ pub record IsSized {K V : Type 0} (state : CacheState K V) : Type 0 where
 -- how many items have a pair that passes the test
 abbrev pub pairs_by : {K V : Type 0} → (K → V → Bool) → CacheState K V → ℕ
 pairs_by test state =
-    count_by (λ item. test item.key item.value) state.hot + count_by (λ item. test item.key item.value) state.cold
+    count_by (λ item. test item.key item.value) state.hot + count_by
+    (λ item. test item.key item.value) state.cold
     + count_by (λ item. test item.key item.value) state.still
 
 -- a test that none but pinned pairs pass
 abbrev pub IsPinnedTest : {K V : Type 0} → Rules K V → (K → V → Bool) → Type 0
-IsPinnedTest {K} {V} rules test = (key : K) (value : V) → test key value ≡ true → rules.pinned key value ≡ true
+IsPinnedTest {K} {V} rules test = (key : K) (value : V) → test key value ≡ true
+    → rules.pinned key value ≡ true
 
 -- each item of the rings whose key does not pass the test is pinned
-pub record AreOthersPinned {K V : Type 0} (rules : Rules K V) (spared : K → Bool) (state : CacheState K V) : Type 0 where
-  pub hot : AllByRecursion (λ item. spared item.key ≡ false → rules.pinned item.key item.value ≡ true) state.hot
-  pub cold : AllByRecursion (λ item. spared item.key ≡ false → rules.pinned item.key item.value ≡ true) state.cold
+pub record AreOthersPinned {K V : Type 0} (rules : Rules K V) (spared : K → Bool)
+    (state : CacheState K V) : Type 0 where
+  pub hot : AllByRecursion (λ item. spared item.key ≡ false
+      → rules.pinned item.key item.value ≡ true) state.hot
+  pub cold : AllByRecursion (λ item. spared item.key ≡ false
+      → rules.pinned item.key item.value ≡ true) state.cold
 
--- Each hook can be called from any request state, with any pair: its relation leads somewhere, and leaves some value.
+-- Each hook can be called from any request state, with any pair: its relation leads somewhere, and
+-- leaves some value.
 pub record CanCallHooks {K V S : Type 0} (hooks : Hooks K V S) : Type 0 where
-  pub before_evict : (first : S) (key : K) (value : V) → (last : S) × (left : V) × hooks.before_evict first key value last left
-  pub evict_hot : (first : S) (key : K) (value : V) → (last : S) × hooks.evict_hot first key value last
-  pub evict_cold : (first : S) (key : K) (value : V) → (last : S) × hooks.evict_cold first key value last
+  pub before_evict : (first : S) (key : K) (value : V) → (last : S) × (left : V)
+      × hooks.before_evict first key value last left
+  pub evict_hot : (first : S) (key : K) (value : V) → (last : S)
+      × hooks.evict_hot first key value last
+  pub evict_cold : (first : S) (key : K) (value : V) → (last : S)
+      × hooks.evict_cold first key value last
 
 -- `before_evict` left the value that this function says
 abbrev pub LeavesSo : {K V : Type 0} → (K → V → V) → HookCall K V → Type 0
@@ -56,207 +69,270 @@ LeavesBy leaves calls = AllByRecursion (LeavesSo leaves) calls
 
 -- a query stands for the keys that are equal to one for which it stands
 abbrev pub IsQuery : {K : Type 0} → (equal : K → K → Bool) (stands_for : K → Bool) → Type 0
-IsQuery {K} equal stands_for = (first second : K) → stands_for first ≡ true → stands_for second ≡ equal first second
+IsQuery {K} equal stands_for = (first second : K) → stands_for first ≡ true
+    → stands_for second ≡ equal first second
 
 module _ (K V : Type 0) where
   -- whatever the rules, where a test says which counts of touches may be
   abbrev pub WhateverRules : (Rules K V → Type 0) → Type 0
   WhateverRules P =
       (hash : K → ℕ) (weight : K → V → ℕ) (pinned : K → V → Bool) (may_count : ℕ → Bool)
-      → P (record { hash = hash; weight = weight; pinned = pinned; may_count = λ n. IsTrue (may_count n) })
+      → P (record {
+        hash = hash;
+        weight = weight;
+        pinned = pinned;
+        may_count =
+            λ n. IsTrue (may_count n);
+      })
 
-  -- Whatever the rules, where more counts of touches may be than in another cache: what that one may do, this one may do.
+  -- Whatever the rules, where more counts of touches may be than in another cache: what that one
+  -- may do, this one may do.
   abbrev pub WhateverTouches : (Rules K V → Rules K V → Type 0) → Type 0
   WhateverTouches P =
-      (hash : K → ℕ) (weight : K → V → ℕ) (pinned : K → V → Bool) (few many : ℕ → Bool) → ((n : ℕ) → IsTrue (few n) → IsTrue (many n))
-      → P (record { hash = hash; weight = weight; pinned = pinned; may_count = λ n. IsTrue (few n) })
+      (hash : K → ℕ) (weight : K → V → ℕ) (pinned : K → V → Bool) (few many : ℕ → Bool)
+      → ((n : ℕ) → IsTrue (few n) → IsTrue (many n))
+      → P (record {
+        hash = hash;
+        weight = weight;
+        pinned = pinned;
+        may_count =
+            λ n. IsTrue (few n);
+      })
       (record { hash = hash; weight = weight; pinned = pinned; may_count = λ n. IsTrue (many n) })
 
   -- a write that a cache of one thread may make is one that a shared cache may make
   abbrev pub LoneWritesAreShared : Type 0
   LoneWritesAreShared =
-      WhateverTouches (λ lone shared. (equal_to : K → Bool) (key : K) (strategy : Strategy) (old : CacheState K V) (value : V) (calls : List (HookCall K V))
-      (answer : Option (K × V)) (new : CacheState K V) → Writes lone equal_to key strategy old value calls answer new → Writes shared equal_to key strategy old value calls answer new)
+      WhateverTouches (λ lone shared. (equal_to : K → Bool) (key : K) (strategy : Strategy)
+      (old : CacheState K V) (value : V) (calls : List (HookCall K V))
+      (answer : Option (K × V)) (new : CacheState K V)
+      → Writes lone equal_to key strategy old value calls answer new
+      → Writes shared equal_to key strategy old value calls answer new)
 
   -- so is a placeholder that is filled
   abbrev pub LoneFillsAreShared : Type 0
   LoneFillsAreShared =
-      WhateverTouches (λ lone shared. (ticket : ℕ) (marked : Bool) (old : CacheState K V) (value : V) (calls : List (HookCall K V)) (answer : Option V)
-      (new : CacheState K V) → FillsPlaceholder ticket old lone marked value calls answer new → FillsPlaceholder ticket old shared marked value calls answer new)
+      WhateverTouches (λ lone shared. (ticket : ℕ) (marked : Bool) (old : CacheState K V)
+      (value : V) (calls : List (HookCall K V)) (answer : Option V)
+      (new : CacheState K V) → FillsPlaceholder ticket old lone marked value calls answer new
+      → FillsPlaceholder ticket old shared marked value calls answer new)
 
   -- and a capacity that is set
   abbrev pub LoneCapacitiesAreShared : Type 0
   LoneCapacitiesAreShared =
-      WhateverTouches (λ lone shared. (capacity : ℕ) (old : CacheState K V) (calls : List (HookCall K V)) (new : CacheState K V)
+      WhateverTouches (λ lone shared. (capacity : ℕ) (old : CacheState K V)
+      (calls : List (HookCall K V)) (new : CacheState K V)
       → SetsCapacity lone capacity old calls new → SetsCapacity shared capacity old calls new)
 
   -- making room brings no key
   abbrev pub EvictionBringsNoKey : Type 0
   EvictionBringsNoKey =
-      WhateverRules (λ rules. (need : ℕ) (old new : CacheState K V) (calls : List (HookCall K V)) → EvictsToCapacity rules need old calls new
+      WhateverRules (λ rules. (need : ℕ) (old new : CacheState K V) (calls : List (HookCall K V))
+      → EvictsToCapacity rules need old calls new
       → (test : K → Bool) → keys_by test new ≤ keys_by test old)
 
-  -- where there can be no touches, and `before_evict` leaves a value by the pair alone, room is made in one way
+  -- where there can be no touches, and `before_evict` leaves a value by the pair alone, room is
+  -- made in one way
   abbrev pub EvictionIsDetermined : Type 0
   EvictionIsDetermined =
-      WhateverRules (λ rules. ((n : ℕ) → rules.may_count n → n ≡ 0) → (leaves : K → V → V) (need : ℕ) (old : CacheState K V) (one two : List (HookCall K V))
-      (new other : CacheState K V) → EvictsToCapacity rules need old one new → EvictsToCapacity rules need old two other
+      WhateverRules (λ rules. ((n : ℕ) → rules.may_count n → n ≡ 0)
+      → (leaves : K → V → V) (need : ℕ) (old : CacheState K V) (one two : List (HookCall K V))
+      (new other : CacheState K V) → EvictsToCapacity rules need old one new
+      → EvictsToCapacity rules need old two other
       → LeavesBy leaves one → LeavesBy leaves two → (one ≡ two) × (new ≡ other))
 
   -- an item without weight stays where it is when room is made
   abbrev pub WeightlessItemsStay : Type 0
   WeightlessItemsStay =
-      WhateverRules (λ rules. (need : ℕ) (old new : CacheState K V) (calls : List (HookCall K V)) → EvictsToCapacity rules need old calls new
+      WhateverRules (λ rules. (need : ℕ) (old new : CacheState K V) (calls : List (HookCall K V))
+      → EvictsToCapacity rules need old calls new
       → (more : List (Item K V)) × (new.still ≡ old.still ++ more))
 
   -- a pinned pair does not leave when room is made
   abbrev pub PinnedPairsStay : Type 0
   PinnedPairsStay =
-      WhateverRules (λ rules. (need : ℕ) (old new : CacheState K V) (calls : List (HookCall K V)) → EvictsToCapacity rules need old calls new
+      WhateverRules (λ rules. (need : ℕ) (old new : CacheState K V) (calls : List (HookCall K V))
+      → EvictsToCapacity rules need old calls new
       → (test : K → V → Bool) → IsPinnedTest rules test → pairs_by test old ≤ pairs_by test new)
 
   -- an advance that answers yes lowers the measure of the rings
   abbrev pub AdvancesLowerTheMeasure : Type 0
   AdvancesLowerTheMeasure =
-      WhateverRules (λ rules. (old new : CacheState K V) (calls : List (HookCall K V)) → AdvancesCold rules old true calls new
+      WhateverRules (λ rules. (old new : CacheState K V) (calls : List (HookCall K V))
+      → AdvancesCold rules old true calls new
       → ring_measure new < ring_measure old)
 
   -- room was made, or each item of the rings is pinned
   abbrev pub EvictionMakesRoom : Type 0
   EvictionMakesRoom =
-      WhateverRules (λ rules. (need : ℕ) (old new : CacheState K V) (calls : List (HookCall K V)) → EvictsToCapacity rules need old calls new
+      WhateverRules (λ rules. (need : ℕ) (old new : CacheState K V) (calls : List (HookCall K V))
+      → EvictsToCapacity rules need old calls new
       → (total_weight new + need ≤ new.capacity) ⊎ AreOthersPinned rules (λ _. false) new)
 
   -- room can be made in every state, where there may be no touches
   abbrev pub EvictionEnds : Type 0
   EvictionEnds =
       WhateverRules (λ rules. rules.may_count 0 → (need : ℕ) (old : CacheState K V)
-      → (calls : List (HookCall K V)) × (new : CacheState K V) × EvictsToCapacity rules need old calls new)
+      → (calls : List (HookCall K V)) × (new : CacheState K V)
+      × EvictsToCapacity rules need old calls new)
 
   -- the present capacity changes no size
   abbrev pub PresentCapacityKeepsSizes : Type 0
   PresentCapacityKeepsSizes =
-      WhateverRules (λ rules. (old new : CacheState K V) (calls : List (HookCall K V)) → SetsCapacity rules old.capacity old calls new → IsSized old
-      → (new.capacity ≡ old.capacity) × (new.hot_target ≡ old.hot_target) × (new.ghost_limit ≡ old.ghost_limit))
+      WhateverRules (λ rules. (old new : CacheState K V) (calls : List (HookCall K V))
+      → SetsCapacity rules old.capacity old calls new → IsSized old
+      → (new.capacity ≡ old.capacity) × (new.hot_target ≡ old.hot_target)
+      × (new.ghost_limit ≡ old.ghost_limit))
 
   -- and nothing at all where the items have room and the ghosts are within their limit
   abbrev pub PresentCapacityChangesNothing : Type 0
   PresentCapacityChangesNothing =
-      WhateverRules (λ rules. (old new : CacheState K V) (calls : List (HookCall K V)) → SetsCapacity rules old.capacity old calls new → IsSized old
-      → total_weight old ≤ old.capacity → length old.ghosts ≤ old.ghost_limit → (new ≡ old) × (calls ≡ []))
+      WhateverRules (λ rules. (old new : CacheState K V) (calls : List (HookCall K V))
+      → SetsCapacity rules old.capacity old calls new → IsSized old
+      → total_weight old ≤ old.capacity → length old.ghosts ≤ old.ghost_limit → (new ≡ old)
+      × (calls ≡ []))
 
   -- a write can be made in every state, where there may be no touches
   abbrev pub WritesCanBeMade : Type 0
   WritesCanBeMade =
-      WhateverRules (λ rules. rules.may_count 0 → (equal_to : K → Bool) (key : K) (strategy : Strategy) (old : CacheState K V) (value : V)
-      → (calls : List (HookCall K V)) × (answer : Option (K × V)) × (new : CacheState K V) × Writes rules equal_to key strategy old value calls answer new)
+      WhateverRules (λ rules. rules.may_count 0
+      → (equal_to : K → Bool) (key : K) (strategy : Strategy) (old : CacheState K V) (value : V)
+      → (calls : List (HookCall K V)) × (answer : Option (K × V)) × (new : CacheState K V)
+      × Writes rules equal_to key strategy old value calls answer new)
 
   -- a placeholder can be filled, be it there or gone
   abbrev pub PlaceholdersCanBeFilled : Type 0
   PlaceholdersCanBeFilled =
-      WhateverRules (λ rules. rules.may_count 0 → (ticket : ℕ) (marked : Bool) (old : CacheState K V) (value : V)
-      → (calls : List (HookCall K V)) × (answer : Option V) × (new : CacheState K V) × FillsPlaceholder ticket old rules marked value calls answer new)
+      WhateverRules (λ rules. rules.may_count 0
+      → (ticket : ℕ) (marked : Bool) (old : CacheState K V) (value : V)
+      → (calls : List (HookCall K V)) × (answer : Option V) × (new : CacheState K V)
+      × FillsPlaceholder ticket old rules marked value calls answer new)
 
   -- where a query finds no item, a placeholder can be made or met
   abbrev pub PlaceholdersCanBeTaken : Type 0
   PlaceholdersCanBeTaken =
       (stands_for : K → Bool) (hash : ℕ) (key : K) (old : CacheState K V) → HasNoItem stands_for old
-      → ((new : CacheState K V) × MakesPlaceholder stands_for old hash key new) ⊎ ((ticket : ℕ) × (new : CacheState K V) × MeetsPlaceholder stands_for old ticket new)
+      → ((new : CacheState K V) × MakesPlaceholder stands_for old hash key new)
+      ⊎ ((ticket : ℕ) × (new : CacheState K V) × MeetsPlaceholder stands_for old ticket new)
 
   -- a look-up can be made
   abbrev pub LookupsCanBeMade : Type 0
   LookupsCanBeMade =
-      (stands_for : K → Bool) (old : CacheState K V) → (shown : Option V) × (new : CacheState K V) × LooksUp stands_for old (λ item. item.value) shown new
+      (stands_for : K → Bool) (old : CacheState K V) → (shown : Option V) × (new : CacheState K V)
+      × LooksUp stands_for old (λ item. item.value) shown new
 
   -- a removal can be made
   abbrev pub RemovalsCanBeMade : Type 0
   RemovalsCanBeMade =
-      (stands_for : K → Bool) (hash : ℕ) (old : CacheState K V) → (answer : Option (K × V)) × (new : CacheState K V) × Removes stands_for old hash answer new
+      (stands_for : K → Bool) (hash : ℕ) (old : CacheState K V) → (answer : Option (K × V))
+      × (new : CacheState K V) × Removes stands_for old hash answer new
 
   -- an item that is there can be acted on, whatever the callback leaves and chooses
   abbrev pub EntriesCanBeActedOn : Type 0
   EntriesCanBeActedOn =
-      WhateverRules (λ rules. (stands_for : K → Bool) (old : CacheState K V) (place : Place) (before : List (Item K V)) (item : Item K V) (after : List (Item K V))
-      → IsItemAt stands_for old place before item after → (left : V) (choice : EntryChoice) → (new : CacheState K V) × ActsOnEntry rules stands_for old item left choice new)
+      WhateverRules (λ rules. (stands_for : K → Bool) (old : CacheState K V) (place : Place)
+      (before : List (Item K V)) (item : Item K V) (after : List (Item K V))
+      → IsItemAt stands_for old place before item after → (left : V) (choice : EntryChoice)
+      → (new : CacheState K V) × ActsOnEntry rules stands_for old item left choice new)
 
   -- the capacity can be set in every state, where there may be no touches
   abbrev pub CapacitiesCanBeSet : Type 0
   CapacitiesCanBeSet =
       WhateverRules (λ rules. rules.may_count 0 → (capacity : ℕ) (old : CacheState K V)
-      → (calls : List (HookCall K V)) × (new : CacheState K V) × SetsCapacity rules capacity old calls new)
+      → (calls : List (HookCall K V)) × (new : CacheState K V)
+      × SetsCapacity rules capacity old calls new)
 
   -- every query finds an item, a placeholder, a ghost or nothing
   abbrev pub QueriesFindSomething : Type 0
-  QueriesFindSomething = (stands_for : K → Bool) (hash : ℕ) (state : CacheState K V) → (found : Found K V) × Finds stands_for hash state found
+  QueriesFindSomething = (stands_for : K → Bool) (hash : ℕ) (state : CacheState K V)
+      → (found : Found K V) × Finds stands_for hash state found
 
   -- a second retain by the same test removes nothing
   abbrev pub SecondRetainsRemoveNothing : Type 0
-  SecondRetainsRemoveNothing = (keeps : K → V → Bool) (old mid new : CacheState K V) → Retains keeps old mid → Retains keeps mid new → new ≡ mid
+  SecondRetainsRemoveNothing = (keeps : K → V → Bool) (old mid new : CacheState K V)
+      → Retains keeps old mid → Retains keeps mid new → new ≡ mid
 
   module _ (equal : K → K → Bool) where
     -- a query has at most one entry in a valid state
     abbrev pub QueriesHaveOneEntry : Type 0
-    QueriesHaveOneEntry = (stands_for : K → Bool) (state : CacheState K V) → IsQuery equal stands_for → IsValid equal state → keys_by stands_for state ≤ 1
+    QueriesHaveOneEntry = (stands_for : K → Bool) (state : CacheState K V)
+        → IsQuery equal stands_for → IsValid equal state → keys_by stands_for state ≤ 1
 
     -- a look at a key and a look-up show the same value
     abbrev pub LooksShowTheSame : Type 0
     LooksShowTheSame =
-        (stands_for : K → Bool) (old new : CacheState K V) (seen shown : Option V) → IsQuery equal stands_for → IsValid equal old
-        → Sees stands_for old (λ item. item.value) seen → LooksUp stands_for old (λ item. item.value) shown new → seen ≡ shown
+        (stands_for : K → Bool) (old new : CacheState K V) (seen shown : Option V)
+        → IsQuery equal stands_for → IsValid equal old
+        → Sees stands_for old (λ item. item.value) seen
+        → LooksUp stands_for old (λ item. item.value) shown new → seen ≡ shown
 
-    -- where a pair was taken, the items weigh at most the capacity, or each of another key that stands in a ring is pinned
+    -- where a pair was taken, the items weigh at most the capacity, or each of another key that
+    -- stands in a ring is pinned
     abbrev pub WritesStayWithinCapacity : Type 0
     WritesStayWithinCapacity =
-        WhateverRules (λ rules. (key : K) (strategy : Strategy) (old : CacheState K V) (value : V) (new : CacheState K V) (calls : List (HookCall K V))
+        WhateverRules (λ rules. (key : K) (strategy : Strategy) (old : CacheState K V) (value : V)
+        (new : CacheState K V) (calls : List (HookCall K V))
         → WritesAdmitted rules (equal key) key strategy old value calls None new
         → (total_weight new ≤ new.capacity) ⊎ AreOthersPinned rules (equal key) new)
 
     -- a key that was removed is not there to be removed again
     abbrev pub SecondRemovalsFindNothing : Type 0
     SecondRemovalsFindNothing =
-        (stands_for : K → Bool) (hash : ℕ) (old mid new : CacheState K V) (first second : Option (K × V)) → IsQuery equal stands_for → IsValid equal old
-        → Removes stands_for old hash first mid → Removes stands_for mid hash second new → second ≡ None
+        (stands_for : K → Bool) (hash : ℕ) (old mid new : CacheState K V)
+        (first second : Option (K × V)) → IsQuery equal stands_for → IsValid equal old
+        → Removes stands_for old hash first mid → Removes stands_for mid hash second new
+        → second ≡ None
 
     -- each call leads from a valid state to a valid one: a write
     abbrev pub WritesStayValid : Type 0
     WritesStayValid =
-        WhateverRules (λ rules. (key : K) (strategy : Strategy) (old : CacheState K V) (value : V) (new : CacheState K V) (calls : List (HookCall K V)) (answer : Option (K × V))
-        → Writes rules (equal key) key strategy old value calls answer new → IsValid equal old → IsValid equal new)
+        WhateverRules (λ rules. (key : K) (strategy : Strategy) (old : CacheState K V) (value : V)
+        (new : CacheState K V) (calls : List (HookCall K V)) (answer : Option (K × V))
+        → Writes rules (equal key) key strategy old value calls answer new → IsValid equal old
+        → IsValid equal new)
 
     -- a cache that nothing was put into
     abbrev pub NewCachesAreValid : Type 0
-    NewCachesAreValid = (capacity hot_target ghost_limit : ℕ) → IsValid equal (empty_state {K = K} {V = V} capacity hot_target ghost_limit)
+    NewCachesAreValid = (capacity hot_target ghost_limit : ℕ)
+        → IsValid equal (empty_state {K = K} {V = V} capacity hot_target ghost_limit)
 
     -- a state that is the same but for the order of what has none
     abbrev pub OtherOrdersAreValid : Type 0
-    OtherOrdersAreValid = (old new : CacheState K V) → SameButOrder old new → IsValid equal old → IsValid equal new
+    OtherOrdersAreValid = (old new : CacheState K V) → SameButOrder old new → IsValid equal old
+        → IsValid equal new
 
     -- a placeholder that is made
     abbrev pub PlaceholdersStayValid : Type 0
     PlaceholdersStayValid =
-        (stands_for : K → Bool) (hash : ℕ) (key : K) (old new : CacheState K V) → IsQuery equal stands_for → stands_for key ≡ true
+        (stands_for : K → Bool) (hash : ℕ) (key : K) (old new : CacheState K V)
+        → IsQuery equal stands_for → stands_for key ≡ true
         → MakesPlaceholder stands_for old hash key new → IsValid equal old → IsValid equal new
 
     -- one that is met
     abbrev pub MeetingsStayValid : Type 0
     MeetingsStayValid =
-        (stands_for : K → Bool) (ticket : ℕ) (old new : CacheState K V) → MeetsPlaceholder stands_for old ticket new → IsValid equal old → IsValid equal new
+        (stands_for : K → Bool) (ticket : ℕ) (old new : CacheState K V)
+        → MeetsPlaceholder stands_for old ticket new → IsValid equal old → IsValid equal new
 
     -- one that is filled
     abbrev pub FillsStayValid : Type 0
     FillsStayValid =
-        WhateverRules (λ rules. (ticket : ℕ) (marked : Bool) (old new : CacheState K V) (value : V) (calls : List (HookCall K V)) (answer : Option V)
-        → FillsPlaceholder ticket old rules marked value calls answer new → IsValid equal old → IsValid equal new)
+        WhateverRules (λ rules. (ticket : ℕ) (marked : Bool) (old new : CacheState K V) (value : V)
+        (calls : List (HookCall K V)) (answer : Option V)
+        → FillsPlaceholder ticket old rules marked value calls answer new → IsValid equal old
+        → IsValid equal new)
 
     -- one that is given up
     abbrev pub GiveUpsStayValid : Type 0
-    GiveUpsStayValid = (ticket : ℕ) (old new : CacheState K V) → GivesUpPlaceholder ticket old new → IsValid equal old → IsValid equal new
+    GiveUpsStayValid = (ticket : ℕ) (old new : CacheState K V) → GivesUpPlaceholder ticket old new
+        → IsValid equal old → IsValid equal new
 
     -- a look-up
     abbrev pub LookupsStayValid : Type 0
     LookupsStayValid =
         (stands_for : K → Bool) (old new : CacheState K V) (shown : Option V)
-        → LooksUp stands_for old (λ item. item.value) shown new → IsValid equal old → IsValid equal new
+        → LooksUp stands_for old (λ item. item.value) shown new → IsValid equal old
+        → IsValid equal new
 
     -- a removal
     abbrev pub RemovalsStayValid : Type 0
@@ -267,7 +343,8 @@ module _ (K V : Type 0) where
     -- a removal by a test
     abbrev pub RemovalsByTestStayValid : Type 0
     RemovalsByTestStayValid =
-        (stands_for : K → Bool) (passes : V → Bool) (old new : CacheState K V) (answer : Option (K × V))
+        (stands_for : K → Bool) (passes : V → Bool) (old new : CacheState K V)
+        (answer : Option (K × V))
         → RemovesIf stands_for old passes answer new → IsValid equal old → IsValid equal new
 
     -- a clear or a drain
@@ -276,16 +353,20 @@ module _ (K V : Type 0) where
 
     -- a retain
     abbrev pub RetainsStayValid : Type 0
-    RetainsStayValid = (keeps : K → V → Bool) (old new : CacheState K V) → Retains keeps old new → IsValid equal old → IsValid equal new
+    RetainsStayValid = (keeps : K → V → Bool) (old new : CacheState K V) → Retains keeps old new
+        → IsValid equal old → IsValid equal new
 
     -- an entry call
     abbrev pub EntriesStayValid : Type 0
     EntriesStayValid =
-        WhateverRules (λ rules. (stands_for : K → Bool) (old : CacheState K V) (item : Item K V) (left : V) (choice : EntryChoice) (new : CacheState K V)
-        → ActsOnEntry rules stands_for old item left choice new → IsValid equal old → IsValid equal new)
+        WhateverRules (λ rules. (stands_for : K → Bool) (old : CacheState K V) (item : Item K V)
+        (left : V) (choice : EntryChoice) (new : CacheState K V)
+        → ActsOnEntry rules stands_for old item left choice new → IsValid equal old
+        → IsValid equal new)
 
     -- a new capacity
     abbrev pub CapacitiesStayValid : Type 0
     CapacitiesStayValid =
-        WhateverRules (λ rules. (capacity : ℕ) (old new : CacheState K V) (calls : List (HookCall K V))
+        WhateverRules (λ rules. (capacity : ℕ) (old new : CacheState K V)
+        (calls : List (HookCall K V))
         → SetsCapacity rules capacity old calls new → IsValid equal old → IsValid equal new)

@@ -1,7 +1,9 @@
 -- Laws of removals: a second one finds nothing to remove.
-use Rattle.std.proofs.Common.{◌≡◌, ℕ, Bool, true, false, cond, List, [], ◌∷◌, Option, None, refl, sym, ap, ◌∙◌, arith}
+use Rattle.std.proofs.Common.{◌≡◌, ℕ, Bool, true, false, cond, List, [], ◌∷◌, Option, None, refl}
+use Rattle.std.proofs.Common.{sym, ap, ◌∙◌, arith}
 use Rattle.std.specs.List.{filter}
-use Rattle.quick_cache_model.specs.CacheState.{CacheState, Item, Place, InHot, InCold, InStill, keys_by, IsValid}
+use Rattle.quick_cache_model.specs.CacheState.{CacheState, Item, Place, InHot, InCold, InStill}
+use Rattle.quick_cache_model.specs.CacheState.{keys_by, IsValid}
 use Rattle.quick_cache_model.specs.Finding.{IsItemAt}
 use Rattle.quick_cache_model.specs.Removal.{Removes, Retains, retained}
 use Rattle.quick_cache_laws.specs.Laws.{IsQuery}
@@ -12,33 +14,69 @@ use Rattle.quick_cache_model.proofs.LookupLaws.{at_least}
 use Rattle.quick_cache_laws.proofs.Calls.Queries.{keys_by-query}
 use Rattle.quick_cache_laws.proofs.Valid.Edits.{keys_by-unloaded}
 
-module _ {K V : Type 0} (equal : K → K → Bool) (stands_for : K → Bool) (query : IsQuery equal stands_for) where
+module _ {K V : Type 0} (equal : K → K → Bool) (stands_for : K → Bool)
+    (query : IsQuery equal stands_for) where
   -- a removal leaves no key for which the query stands
-  pub Removes-keys : (hash : ℕ) (old new : CacheState K V) (answer : Option (K × V)) → Removes stands_for old hash answer new → IsValid equal old
+  pub Removes-keys : (hash : ℕ) (old new : CacheState K V) (answer : Option (K × V))
+      → Removes stands_for old hash answer new → IsValid equal old
       → keys_by stands_for new ≡ 0
   Removes-keys hash old _ _ (Removes.of_item place before item after there) valid =
-      omega (arith, keys_by-query equal stands_for query old valid, keys_by-without stands_for place before item after old there.split, ap one_if there.passes)
+      omega (
+        arith,
+        keys_by-query equal stands_for query old valid,
+        keys_by-without stands_for place
+            before item after old there.split,
+        ap one_if there.passes,
+      )
   Removes-keys hash old _ _ (Removes.of_loading before entry after there) valid =
-      omega (arith, keys_by-query equal stands_for query old valid, keys_by-unloaded stands_for before entry after old there.split, ap one_if there.passes)
-  Removes-keys hash old _ _ (Removes.of_ghost before after none split) valid = omega (arith, keys_by-none stands_for old none)
-  Removes-keys hash old _ _ (Removes.of_nothing nothing) valid = keys_by-none stands_for old nothing.keys
+      omega (
+        arith,
+        keys_by-query equal stands_for query old valid,
+        keys_by-unloaded stands_for
+            before entry after old there.split,
+        ap one_if there.passes,
+      )
+  Removes-keys hash old _ _ (Removes.of_ghost before after none split) valid =
+      omega (arith, keys_by-none stands_for old none)
+  Removes-keys hash old _ _ (Removes.of_nothing nothing) valid =
+      keys_by-none stands_for old nothing.keys
 
   -- where there is none, a removal gives nothing
-  none_to_give : (hash : ℕ) (old new : CacheState K V) (answer : Option (K × V)) → keys_by stands_for old ≡ 0 → Removes stands_for old hash answer new → answer ≡ None
-  none_to_give hash old _ _ none (Removes.of_item place before item after there) = absurd (counted place there)
+  none_to_give : (hash : ℕ) (old new : CacheState K V) (answer : Option (K × V))
+      → keys_by stands_for old ≡ 0 → Removes stands_for old hash answer new → answer ≡ None
+  none_to_give hash old _ _ none (Removes.of_item place before item after there) =
+      absurd (counted place there)
     where
       counted : (p : Place) → IsItemAt stands_for old p before item after → ⊥
-      counted InHot at = omega (arith, none, at_least stands_for old (omega (arith, none)) InHot before item after at)
-      counted InCold at = omega (arith, none, at_least stands_for old (omega (arith, none)) InCold before item after at)
-      counted InStill at = omega (arith, none, at_least stands_for old (omega (arith, none)) InStill before item after at)
+      counted InHot at = omega (
+        arith,
+        none,
+        at_least stands_for old (omega (arith, none))
+            InHot before item after at,
+      )
+      counted InCold at = omega (
+        arith,
+        none,
+        at_least stands_for old (omega (arith, none))
+            InCold before item after at,
+      )
+      counted InStill at = omega (
+        arith,
+        none,
+        at_least stands_for old (omega (arith, none))
+            InStill before item after at,
+      )
   none_to_give hash old _ _ none (Removes.of_loading before entry after there) = refl
   none_to_give hash old _ _ none (Removes.of_ghost before after no_key split) = refl
   none_to_give hash old _ _ none (Removes.of_nothing nothing) = refl
 
   -- so a second removal gives nothing
-  pub Removes-second : (hash : ℕ) (old mid new : CacheState K V) (first second : Option (K × V)) → IsValid equal old
-      → Removes stands_for old hash first mid → Removes stands_for mid hash second new → second ≡ None
-  Removes-second hash old mid new first second valid removes again = none_to_give hash mid new second (Removes-keys hash old mid first removes valid) again
+  pub Removes-second : (hash : ℕ) (old mid new : CacheState K V) (first second : Option (K × V))
+      → IsValid equal old
+      → Removes stands_for old hash first mid → Removes stands_for mid hash second new
+      → second ≡ None
+  Removes-second hash old mid new first second valid removes again =
+      none_to_give hash mid new second (Removes-keys hash old mid first removes valid) again
 
 module _ {X : Type 0} (test : X → Bool) where
   -- what passes a test passes it again
@@ -51,15 +89,27 @@ module _ {X : Type 0} (test : X → Bool) where
   filter-filter (x ∷ xs) = go (test x) refl (filter-filter xs)
     where
       go : (b : Bool) → test x ≡ b → filter test (filter test xs) ≡ filter test xs
-          → filter test (cond b (x ∷ filter test xs) (filter test xs)) ≡ cond b (x ∷ filter test xs) (filter test xs)
+          → filter test (cond b (x ∷ filter test xs) (filter test xs)) ≡ cond b (x ∷ filter test xs)
+          (filter test xs)
       go true passes same = filter-pass x (filter test xs) passes ∙ ap (λ l. x ∷ l) same
       go false fails same = same
 
 -- a second retain by the same test removes nothing
-pub Retains-second : {K V : Type 0} (keeps : K → V → Bool) (old mid new : CacheState K V) → Retains keeps old mid → Retains keeps mid new → new ≡ mid
+pub Retains-second : {K V : Type 0} (keeps : K → V → Bool) (old mid new : CacheState K V)
+    → Retains keeps old mid → Retains keeps mid new → new ≡ mid
 Retains-second {K} {V} keeps old mid new first second =
     let test : Item K V → Bool = λ item. keeps item.key item.value in
     second
-    ∙ ap (λ (s : CacheState K V). record s { hot = retained keeps s.hot; cold = retained keeps s.cold; still = retained keeps s.still }) first
-    ∙ (λ i. record old { hot = filter-filter test old.hot i; cold = filter-filter test old.cold i; still = filter-filter test old.still i })
+    ∙ ap (λ (s : CacheState K V). record s {
+      hot = retained keeps s.hot;
+      cold =
+          retained keeps s.cold;
+      still = retained keeps s.still;
+    }) first
+    ∙ (λ i. record old {
+      hot = filter-filter test old.hot i;
+      cold =
+          filter-filter test old.cold i;
+      still = filter-filter test old.still i;
+    })
     ∙ sym first

@@ -1,12 +1,18 @@
--- Laws of existence: each eviction ends, whatever the state, where a count of touches may be 0 and each hook may be called.
-use Rattle.std.proofs.Common.{◌≡◌, ℕ, zero, suc, ◌+◌, ◌<◌, ◌≤◌, ◌⊎◌, inl, inr, Bool, true, false, true≢false, List, [], ◌∷◌, ◌++◌, map, refl, sym, ap, subst, ◌∙◌, arith}
+-- Laws of existence: each eviction ends, whatever the state, where a count of touches may be 0 and
+-- each hook may be called.
+use Rattle.std.proofs.Common.{◌≡◌, ℕ, zero, suc, ◌+◌, ◌<◌, ◌≤◌, ◌⊎◌, inl, inr, Bool, true, false}
+use Rattle.std.proofs.Common.{true≢false, List, [], ◌∷◌, ◌++◌, map, refl, sym, ap, subst, ◌∙◌}
+use Rattle.std.proofs.Common.{arith}
 use Rattle.std.proofs.lemmas.Bool.{cases_lt}
 use Rattle.std.specs.List.{AllByRecursion}
 use Rattle.quick_cache_model.specs.declared.queue.Queue.{Queue}
 use Rattle.quick_cache_model.specs.declared.queue.Queue.TheVariants.{Hot, Cold}
-use Rattle.quick_cache_model.specs.CacheState.{CacheState, Item, restarted_behind, entered, hot_weight, total_weight}
+use Rattle.quick_cache_model.specs.CacheState.{CacheState, Item, restarted_behind, entered}
+use Rattle.quick_cache_model.specs.CacheState.{hot_weight, total_weight}
 use Rattle.quick_cache_model.specs.Hooks.{Rules, HookCall, BeforeEvict, evicted, Hooks, RunsHooks}
-use Rattle.quick_cache_model.specs.Eviction.{lowered, pinned, ghosts_with, IsFirstVictim, IsPassed, promoted, EvictsVictim, AdvancesHot, EvictsToTarget, AdvancesCold, EvictsToCapacity}
+use Rattle.quick_cache_model.specs.Eviction.{lowered, pinned, ghosts_with, IsFirstVictim, IsPassed}
+use Rattle.quick_cache_model.specs.Eviction.{promoted, EvictsVictim, AdvancesHot, EvictsToTarget}
+use Rattle.quick_cache_model.specs.Eviction.{AdvancesCold, EvictsToCapacity}
 use Rattle.quick_cache_laws.specs.Laws.{ring_measure, CanCallHooks}
 use Rattle.quick_cache_model.proofs.TouchLaws.{RaisesMarks-same}
 use Rattle.quick_cache_model.proofs.HookLaws.{RunsHooks-append}
@@ -15,59 +21,98 @@ use Rattle.quick_cache_laws.proofs.Eviction.Measure.{AdvancesHot-measure, Advanc
 module _ {K V : Type 0} (rules : Rules K V) where
   -- the first victim of a ring, or that each item is pinned
   pub data Victim (items : List (Item K V)) : Type 0 where
-    is_there : (before : List (Item K V)) (item : Item K V) (after : List (Item K V)) → items ≡ before ++ item ∷ after
+    is_there : (before : List (Item K V)) (item : Item K V) (after : List (Item K V))
+        → items ≡ before ++ item ∷ after
         → IsFirstVictim rules before item after → Victim items
     is_absent : AllByRecursion (λ item. pinned rules item ≡ true) items → Victim items
 
   -- what is asked of the unpinned alone holds of pinned items
-  all_pinned_are : (P : Item K V → Type 0) (items : List (Item K V)) → AllByRecursion (λ item. pinned rules item ≡ true) items
+  all_pinned_are : (P : Item K V → Type 0) (items : List (Item K V))
+      → AllByRecursion (λ item. pinned rules item ≡ true) items
       → AllByRecursion (λ item. pinned rules item ≡ false → P item) items
   all_pinned_are P [] all = tt
-  all_pinned_are P (x ∷ xs) all = ((λ unpinned. absurd (true≢false (sym all.0 ∙ unpinned))), all_pinned_are P xs all.1)
+  all_pinned_are P (x ∷ xs) all = (
+    (λ unpinned. absurd (true≢false (sym all.0 ∙ unpinned))),
+    all_pinned_are P xs all.1,
+  )
 
   -- a bound on marks holds below a lesser one
-  all_above : (low high : ℕ) → low ≤ high → (items : List (Item K V)) → AllByRecursion (λ other. pinned rules other ≡ false → high ≤ other.mark) items
+  all_above : (low high : ℕ) → low ≤ high → (items : List (Item K V))
+      → AllByRecursion (λ other. pinned rules other ≡ false → high ≤ other.mark) items
       → AllByRecursion (λ other. pinned rules other ≡ false → low ≤ other.mark) items
   all_above low high less [] all = tt
-  all_above low high less (x ∷ xs) all = ((λ unpinned. let h = all.0 unpinned in omega (arith, h, less)), all_above low high less xs all.1)
+  all_above low high less (x ∷ xs) all = (
+    (λ unpinned. let h =
+        all.0 unpinned in omega (arith, h, less)),
+    all_above low high less xs all.1,
+  )
 
   -- so does a strict one
-  all_strictly_above : (low high : ℕ) → low ≤ high → (items : List (Item K V)) → AllByRecursion (λ other. pinned rules other ≡ false → high < other.mark) items
+  all_strictly_above : (low high : ℕ) → low ≤ high → (items : List (Item K V))
+      → AllByRecursion (λ other. pinned rules other ≡ false → high < other.mark) items
       → AllByRecursion (λ other. pinned rules other ≡ false → low ≤ other.mark) items
   all_strictly_above low high less [] all = tt
-  all_strictly_above low high less (x ∷ xs) all = ((λ unpinned. let h = all.0 unpinned in omega (arith, h, less)), all_strictly_above low high less xs all.1)
+  all_strictly_above low high less (x ∷ xs) all = (
+    (λ unpinned. let h = all.0 unpinned in omega (arith, h, less)),
+    all_strictly_above low high
+        less xs all.1,
+  )
 
   -- what holds before, at and behind an item holds in the whole list
-  all_joined : (P : Item K V → Type 0) (before : List (Item K V)) (item : Item K V) (after : List (Item K V)) → AllByRecursion P before → P item → AllByRecursion P after
+  all_joined : (P : Item K V → Type 0) (before : List (Item K V)) (item : Item K V)
+      (after : List (Item K V)) → AllByRecursion P before → P item → AllByRecursion P after
       → AllByRecursion P (before ++ item ∷ after)
   all_joined P [] item after a h b = (h, b)
   all_joined P (x ∷ before) item after a h b = (a.0, all_joined P before item after a.1 h b)
 
   -- one more item in front of a ring
-  victim_unpinned : (x : Item K V) (xs : List (Item K V)) → pinned rules x ≡ false → Victim xs → Victim (x ∷ xs)
+  victim_unpinned : (x : Item K V) (xs : List (Item K V)) → pinned rules x ≡ false → Victim xs
+      → Victim (x ∷ xs)
   victim_unpinned x xs unpinned (is_absent all) =
-      is_there [] x xs refl (record { unpinned = unpinned; earlier = tt; later = all_pinned_are (λ other. x.mark ≤ other.mark) xs all })
-  victim_unpinned x xs unpinned (is_there before item after split first) = go (cases_lt item.mark x.mark)
+      is_there [] x xs refl (record {
+        unpinned = unpinned;
+        earlier = tt;
+        later =
+            all_pinned_are (λ other. x.mark ≤ other.mark) xs all;
+      })
+  victim_unpinned x xs unpinned (is_there before item after split first) =
+      go (cases_lt item.mark x.mark)
     where
       go : (item.mark < x.mark) ⊎ (x.mark ≤ item.mark) → Victim (x ∷ xs)
       go (inl less) =
-          is_there (x ∷ before) item after (ap (λ l. x ∷ l) split) (record { unpinned = first.unpinned; earlier = ((λ _. less), first.earlier); later = first.later })
+          is_there (x ∷ before) item after (ap (λ l. x ∷ l) split)
+          (record {
+            unpinned = first.unpinned;
+            earlier = ((λ _. less), first.earlier);
+            later =
+                first.later;
+          })
       go (inr least) =
           is_there [] x xs refl (record {
             unpinned = unpinned;
             earlier = tt;
-            later = subst (λ l. AllByRecursion (λ (other : Item K V). pinned rules other ≡ false → x.mark ≤ other.mark) l) (sym split)
-                (all_joined (λ other. pinned rules other ≡ false → x.mark ≤ other.mark) before item after
+            later = subst (λ l. AllByRecursion
+                (λ (other : Item K V). pinned rules other ≡ false → x.mark ≤ other.mark) l)
+                (sym split)
+                (all_joined (λ other. pinned rules other ≡ false → x.mark ≤ other.mark)
+                before item after
                 (all_strictly_above x.mark item.mark least before first.earlier) (λ _. least)
                 (all_above x.mark item.mark least after first.later));
           })
 
   -- a pinned item in front of a ring changes no victim
-  victim_pinned : (x : Item K V) (xs : List (Item K V)) → pinned rules x ≡ true → Victim xs → Victim (x ∷ xs)
+  victim_pinned : (x : Item K V) (xs : List (Item K V)) → pinned rules x ≡ true → Victim xs
+      → Victim (x ∷ xs)
   victim_pinned x xs is (is_absent all) = is_absent (is, all)
   victim_pinned x xs is (is_there before item after split first) =
       is_there (x ∷ before) item after (ap (λ l. x ∷ l) split)
-      (record { unpinned = first.unpinned; earlier = ((λ unpinned. absurd (true≢false (sym is ∙ unpinned))), first.earlier); later = first.later })
+      (record {
+        unpinned = first.unpinned;
+        earlier =
+            ((λ unpinned. absurd (true≢false (sym is ∙ unpinned))), first.earlier);
+        later =
+            first.later;
+      })
 
   -- in each ring there is a first victim, or each item is pinned
   pub first_victim : (items : List (Item K V)) → Victim items
@@ -80,15 +125,20 @@ module _ {K V : Type 0} (rules : Rules K V) where
 
   -- the first candidate of the cold ring, or that each item is passed by
   pub data Candidate (items : List (Item K V)) : Type 0 where
-    is_marked : (before : List (Item K V)) (item : Item K V) (after : List (Item K V)) → items ≡ before ++ item ∷ after
+    is_marked : (before : List (Item K V)) (item : Item K V) (after : List (Item K V))
+        → items ≡ before ++ item ∷ after
         → AllByRecursion (IsPassed rules) before → 0 < item.mark → Candidate items
-    is_victim : (before : List (Item K V)) (item : Item K V) (after : List (Item K V)) → items ≡ before ++ item ∷ after
-        → AllByRecursion (IsPassed rules) before → item.mark ≡ 0 → pinned rules item ≡ false → Candidate items
+    is_victim : (before : List (Item K V)) (item : Item K V) (after : List (Item K V))
+        → items ≡ before ++ item ∷ after
+        → AllByRecursion (IsPassed rules) before → item.mark ≡ 0 → pinned rules item ≡ false
+        → Candidate items
     are_passed : AllByRecursion (IsPassed rules) items → Candidate items
 
   -- an item that is passed by, in front of a ring, changes no candidate
-  candidate_behind : (x : Item K V) (xs : List (Item K V)) → IsPassed rules x → Candidate xs → Candidate (x ∷ xs)
-  candidate_behind x xs passed (is_marked before item after split all marked) = is_marked (x ∷ before) item after (ap (λ l. x ∷ l) split) (passed, all) marked
+  candidate_behind : (x : Item K V) (xs : List (Item K V)) → IsPassed rules x → Candidate xs
+      → Candidate (x ∷ xs)
+  candidate_behind x xs passed (is_marked before item after split all marked) =
+      is_marked (x ∷ before) item after (ap (λ l. x ∷ l) split) (passed, all) marked
   candidate_behind x xs passed (is_victim before item after split all unmarked unpinned) =
       is_victim (x ∷ before) item after (ap (λ l. x ∷ l) split) (passed, all) unmarked unpinned
   candidate_behind x xs passed (are_passed all) = are_passed (passed, all)
@@ -107,7 +157,8 @@ module _ {K V : Type 0} (rules : Rules K V) where
       by_mark (inr unmarked) rest = by_pin (pinned rules x) refl (omega (arith, unmarked)) rest
 
 -- calls and a state for which a relation holds, and a request state to which the hooks lead
-pub record Leads {K V S : Type 0} (hooks : Hooks K V S) (R : List (HookCall K V) → CacheState K V → Type 0) (first : S) : Type 0 where
+pub record Leads {K V S : Type 0} (hooks : Hooks K V S)
+    (R : List (HookCall K V) → CacheState K V → Type 0) (first : S) : Type 0 where
   pub calls : List (HookCall K V)
   pub new : CacheState K V
   pub last : S
@@ -115,7 +166,8 @@ pub record Leads {K V S : Type 0} (hooks : Hooks K V S) (R : List (HookCall K V)
   pub runs : RunsHooks hooks calls first last
 
 -- the same, with an answer
-pub record Answers {K V S X : Type 0} (hooks : Hooks K V S) (R : X → List (HookCall K V) → CacheState K V → Type 0) (first : S) : Type 0 where
+pub record Answers {K V S X : Type 0} (hooks : Hooks K V S)
+    (R : X → List (HookCall K V) → CacheState K V → Type 0) (first : S) : Type 0 where
   pub answer : X
   pub calls : List (HookCall K V)
   pub new : CacheState K V
@@ -123,20 +175,27 @@ pub record Answers {K V S X : Type 0} (hooks : Hooks K V S) (R : X → List (Hoo
   pub holds : R answer calls new
   pub runs : RunsHooks hooks calls first last
 
-module _ {K V S : Type 0} (rules : Rules K V) (may : rules.may_count 0) (hooks : Hooks K V S) (can : CanCallHooks hooks) where
+module _ {K V S : Type 0} (rules : Rules K V) (may : rules.may_count 0) (hooks : Hooks K V S)
+    (can : CanCallHooks hooks) where
   -- the hook of a queue can be told a pair
-  pub told : (queue : Queue) (first : S) (key : K) (value : V) → (last : S) × RunsHooks hooks (evicted queue key value ∷ []) first last
-  told Hot first key value = let step = can.evict_hot first key value in (step.0, (step.0, step.1, refl))
-  told Cold first key value = let step = can.evict_cold first key value in (step.0, (step.0, step.1, refl))
+  pub told : (queue : Queue) (first : S) (key : K) (value : V) → (last : S)
+      × RunsHooks hooks (evicted queue key value ∷ []) first last
+  told Hot first key value = let step = can.evict_hot first key value in
+      (step.0, (step.0, step.1, refl))
+  told Cold first key value = let step = can.evict_cold first key value in
+      (step.0, (step.0, step.1, refl))
 
   -- each victim has a fate
-  pub EvictsVictim-exists : (queue : Queue) (old : CacheState K V) (item : Item K V) (first : S) → Leads hooks (EvictsVictim rules queue old item) first
-  EvictsVictim-exists queue old item first = go (cases_lt 0 (rules.weight item.key (can.before_evict first item.key item.value).1))
+  pub EvictsVictim-exists : (queue : Queue) (old : CacheState K V) (item : Item K V) (first : S)
+      → Leads hooks (EvictsVictim rules queue old item) first
+  EvictsVictim-exists queue old item first = go
+      (cases_lt 0 (rules.weight item.key (can.before_evict first item.key item.value).1))
     where
       step : (last : S) × (left : V) × hooks.before_evict first item.key item.value last left
       step = can.before_evict first item.key item.value
 
-      go : (0 < rules.weight item.key step.1) ⊎ (rules.weight item.key step.1 ≤ 0) → Leads hooks (EvictsVictim rules queue old item) first
+      go : (0 < rules.weight item.key step.1) ⊎ (rules.weight item.key step.1 ≤ 0)
+          → Leads hooks (EvictsVictim rules queue old item) first
       go (inl heavy) =
           let told_so = told queue step.0 item.key step.1 in
           record {
@@ -155,7 +214,8 @@ module _ {K V S : Type 0} (rules : Rules K V) (may : rules.may_count 0) (hooks :
       }
 
   -- each hot advance ends
-  pub AdvancesHot-exists : (old : CacheState K V) (first : S) → Answers hooks (AdvancesHot rules old) first
+  pub AdvancesHot-exists : (old : CacheState K V) (first : S)
+      → Answers hooks (AdvancesHot rules old) first
   AdvancesHot-exists old first = go (first_victim rules old.hot)
     where
       go : Victim rules old.hot → Answers hooks (AdvancesHot rules old) first
@@ -169,7 +229,10 @@ module _ {K V S : Type 0} (rules : Rules K V) (may : rules.may_count 0) (hooks :
       }
       go (is_there before item after split is) =
           let fate = EvictsVictim-exists Hot
-          (record old { hot = restarted_behind (map (lowered (item.mark + 1)) before) (map (lowered item.mark) after) })
+          (record old {
+            hot = restarted_behind (map (lowered (item.mark + 1)) before)
+                (map (lowered item.mark) after);
+          })
           (lowered item.mark item) first
           in
           record {
@@ -177,14 +240,18 @@ module _ {K V S : Type 0} (rules : Rules K V) (may : rules.may_count 0) (hooks :
             calls = fate.calls;
             new = fate.new;
             last = fate.last;
-            holds = AdvancesHot.evicts old.hot before item after fate.calls fate.new (RaisesMarks-same rules.may_count may old.hot) split is fate.holds;
+            holds = AdvancesHot.evicts old.hot before item after fate.calls fate.new
+                (RaisesMarks-same rules.may_count may old.hot) split is fate.holds;
             runs = fate.runs;
           }
 
-  -- one step of eviction down to the target, given the rest of it from each state of a lesser measure
-  to_target_by_answer : (old : CacheState K V) (first : S) → old.hot_target < hot_weight old → (answer : Bool) (calls : List (HookCall K V)) (new : CacheState K V) (last : S)
+  -- one step of eviction down to the target, given the rest of it from each state of a lesser
+  -- measure
+  to_target_by_answer : (old : CacheState K V) (first : S) → old.hot_target < hot_weight old
+      → (answer : Bool) (calls : List (HookCall K V)) (new : CacheState K V) (last : S)
       → AdvancesHot rules old answer calls new → RunsHooks hooks calls first last
-      → ((mid : CacheState K V) → ring_measure mid < ring_measure old → (s : S) → Leads hooks (EvictsToTarget rules mid) s) → Leads hooks (EvictsToTarget rules old) first
+      → ((mid : CacheState K V) → ring_measure mid < ring_measure old → (s : S)
+      → Leads hooks (EvictsToTarget rules mid) s) → Leads hooks (EvictsToTarget rules old) first
   to_target_by_answer old first above false calls new last advances runs go_on = record {
     calls = calls;
     new = new;
@@ -204,26 +271,41 @@ module _ {K V S : Type 0} (rules : Rules K V) (may : rules.may_count 0) (hooks :
 
   -- one step, with the advance that is made
   to_target : (old : CacheState K V) (first : S)
-      → ((mid : CacheState K V) → ring_measure mid < ring_measure old → (s : S) → Leads hooks (EvictsToTarget rules mid) s) → Leads hooks (EvictsToTarget rules old) first
+      → ((mid : CacheState K V) → ring_measure mid < ring_measure old → (s : S)
+      → Leads hooks (EvictsToTarget rules mid) s) → Leads hooks (EvictsToTarget rules old) first
   to_target old first go_on = go (cases_lt old.hot_target (hot_weight old))
     where
-      go : (old.hot_target < hot_weight old) ⊎ (hot_weight old ≤ old.hot_target) → Leads hooks (EvictsToTarget rules old) first
+      go : (old.hot_target < hot_weight old) ⊎ (hot_weight old ≤ old.hot_target)
+          → Leads hooks (EvictsToTarget rules old) first
       go (inl above) =
           let step = AdvancesHot-exists old first in
-          to_target_by_answer old first above step.answer step.calls step.new step.last step.holds step.runs go_on
-      go (inr fits) = record { calls = []; new = old; last = first; holds = EvictsToTarget.has_room old fits; runs = refl }
+          to_target_by_answer old first above step.answer step.calls step.new step.last step.holds
+          step.runs go_on
+      go (inr fits) = record {
+        calls = [];
+        new = old;
+        last = first;
+        holds =
+            EvictsToTarget.has_room old fits;
+        runs = refl;
+      }
 
   -- eviction down to the target ends, within as many advances as the measure of the rings
-  to_target_within : (fuel : ℕ) (old : CacheState K V) (first : S) → ring_measure old ≤ fuel → Leads hooks (EvictsToTarget rules old) first
-  to_target_within zero old first within = to_target old first (λ mid less s. absurd (omega (arith, within, less)))
-  to_target_within (suc fuel) old first within = to_target old first (λ mid less s. to_target_within fuel mid s (omega (arith, within, less)))
+  to_target_within : (fuel : ℕ) (old : CacheState K V) (first : S) → ring_measure old ≤ fuel
+      → Leads hooks (EvictsToTarget rules old) first
+  to_target_within zero old first within = to_target old first
+      (λ mid less s. absurd (omega (arith, within, less)))
+  to_target_within (suc fuel) old first within =
+      to_target old first (λ mid less s. to_target_within fuel mid s (omega (arith, within, less)))
 
   -- so the hot ring can be brought to its target
-  pub EvictsToTarget-exists : (old : CacheState K V) (first : S) → Leads hooks (EvictsToTarget rules old) first
+  pub EvictsToTarget-exists : (old : CacheState K V) (first : S)
+      → Leads hooks (EvictsToTarget rules old) first
   EvictsToTarget-exists old first = to_target_within (ring_measure old) old first (omega arith)
 
   -- each cold advance ends
-  pub AdvancesCold-exists : (old : CacheState K V) (first : S) → Answers hooks (AdvancesCold rules old) first
+  pub AdvancesCold-exists : (old : CacheState K V) (first : S)
+      → Answers hooks (AdvancesCold rules old) first
   AdvancesCold-exists old first = go (first_candidate rules old.cold)
     where
       go : Candidate rules old.cold → Answers hooks (AdvancesCold rules old) first
@@ -234,17 +316,21 @@ module _ {K V S : Type 0} (rules : Rules K V) (may : rules.may_count 0) (hooks :
             calls = rest.calls;
             new = rest.new;
             last = rest.last;
-            holds = AdvancesCold.promotes old.cold before item after rest.calls rest.new (RaisesMarks-same rules.may_count may old.cold) split passed marked rest.holds;
+            holds = AdvancesCold.promotes old.cold before item after rest.calls rest.new
+                (RaisesMarks-same rules.may_count may old.cold) split passed marked rest.holds;
             runs = rest.runs;
           }
       go (is_victim before item after split passed unmarked unpinned) =
-          let fate = EvictsVictim-exists Cold (record old { cold = restarted_behind before after }) item first in
+          let fate = EvictsVictim-exists Cold (record old { cold = restarted_behind before after })
+          item first in
           record {
             answer = true;
             calls = fate.calls;
             new = fate.new;
             last = fate.last;
-            holds = AdvancesCold.evicts old.cold before item after fate.calls fate.new (RaisesMarks-same rules.may_count may old.cold) split passed unmarked unpinned fate.holds;
+            holds = AdvancesCold.evicts old.cold before item after fate.calls fate.new
+                (RaisesMarks-same rules.may_count may old.cold)
+                split passed unmarked unpinned fate.holds;
             runs = fate.runs;
           }
       go (are_passed all) =
@@ -254,15 +340,18 @@ module _ {K V S : Type 0} (rules : Rules K V) (may : rules.may_count 0) (hooks :
             calls = step.calls;
             new = step.new;
             last = step.last;
-            holds = AdvancesCold.passes_all old.cold step.answer step.calls step.new (RaisesMarks-same rules.may_count may old.cold) all step.holds;
+            holds = AdvancesCold.passes_all old.cold step.answer step.calls step.new
+                (RaisesMarks-same rules.may_count may old.cold) all step.holds;
             runs = step.runs;
           }
 
   -- one step of eviction down to the capacity
-  to_capacity_by_answer : (need : ℕ) (old : CacheState K V) (first : S) → old.capacity < total_weight old + need
+  to_capacity_by_answer : (need : ℕ) (old : CacheState K V) (first : S)
+      → old.capacity < total_weight old + need
       → (answer : Bool) (calls : List (HookCall K V)) (new : CacheState K V) (last : S)
       → AdvancesCold rules old answer calls new → RunsHooks hooks calls first last
-      → ((mid : CacheState K V) → ring_measure mid < ring_measure old → (s : S) → Leads hooks (EvictsToCapacity rules need mid) s)
+      → ((mid : CacheState K V) → ring_measure mid < ring_measure old → (s : S)
+      → Leads hooks (EvictsToCapacity rules need mid) s)
       → Leads hooks (EvictsToCapacity rules need old) first
   to_capacity_by_answer need old first above false calls new last advances runs go_on = record {
     calls = calls;
@@ -277,31 +366,47 @@ module _ {K V S : Type 0} (rules : Rules K V) (may : rules.may_count 0) (hooks :
         calls = calls ++ rest.calls;
         new = rest.new;
         last = rest.last;
-        holds = EvictsToCapacity.goes_on old new rest.new calls rest.calls above advances rest.holds;
+        holds = EvictsToCapacity.goes_on old new rest.new calls rest.calls above advances
+            rest.holds;
         runs = RunsHooks-append hooks calls rest.calls first last rest.last runs rest.runs;
       }
 
   -- one step, with the advance that is made
   to_capacity : (need : ℕ) (old : CacheState K V) (first : S)
-      → ((mid : CacheState K V) → ring_measure mid < ring_measure old → (s : S) → Leads hooks (EvictsToCapacity rules need mid) s)
+      → ((mid : CacheState K V) → ring_measure mid < ring_measure old → (s : S)
+      → Leads hooks (EvictsToCapacity rules need mid) s)
       → Leads hooks (EvictsToCapacity rules need old) first
   to_capacity need old first go_on = go (cases_lt old.capacity (total_weight old + need))
     where
-      go : (old.capacity < total_weight old + need) ⊎ (total_weight old + need ≤ old.capacity) → Leads hooks (EvictsToCapacity rules need old) first
+      go : (old.capacity < total_weight old + need) ⊎ (total_weight old + need ≤ old.capacity)
+          → Leads hooks (EvictsToCapacity rules need old) first
       go (inl above) =
           let step = AdvancesCold-exists old first in
-          to_capacity_by_answer need old first above step.answer step.calls step.new step.last step.holds step.runs go_on
-      go (inr fits) = record { calls = []; new = old; last = first; holds = EvictsToCapacity.has_room old fits; runs = refl }
+          to_capacity_by_answer need old first above step.answer step.calls step.new step.last
+          step.holds step.runs go_on
+      go (inr fits) = record {
+        calls = [];
+        new = old;
+        last = first;
+        holds =
+            EvictsToCapacity.has_room old fits;
+        runs = refl;
+      }
 
   -- eviction down to the capacity ends, within as many advances as the measure of the rings
-  to_capacity_within : (fuel need : ℕ) (old : CacheState K V) (first : S) → ring_measure old ≤ fuel → Leads hooks (EvictsToCapacity rules need old) first
-  to_capacity_within zero need old first within = to_capacity need old first (λ mid less s. absurd (omega (arith, within, less)))
+  to_capacity_within : (fuel need : ℕ) (old : CacheState K V) (first : S) → ring_measure old ≤ fuel
+      → Leads hooks (EvictsToCapacity rules need old) first
+  to_capacity_within zero need old first within =
+      to_capacity need old first (λ mid less s. absurd (omega (arith, within, less)))
   to_capacity_within (suc fuel) need old first within =
-      to_capacity need old first (λ mid less s. to_capacity_within fuel need mid s (omega (arith, within, less)))
+      to_capacity need old first (λ mid less s. to_capacity_within fuel need mid s
+      (omega (arith, within, less)))
 
   -- eviction down to the capacity ends
-  pub EvictsToCapacity-exists : (need : ℕ) (old : CacheState K V) (first : S) → Leads hooks (EvictsToCapacity rules need old) first
-  EvictsToCapacity-exists need old first = to_capacity_within (ring_measure old) need old first (omega arith)
+  pub EvictsToCapacity-exists : (need : ℕ) (old : CacheState K V) (first : S)
+      → Leads hooks (EvictsToCapacity rules need old) first
+  EvictsToCapacity-exists need old first = to_capacity_within (ring_measure old) need old first
+      (omega arith)
 
 -- hooks that may do nothing: each leaves the request state and the value as they are
 pub idle_hooks : {K V : Type 0} → Hooks K V (Unit {0})
@@ -322,18 +427,26 @@ can_call_idle_hooks = record {
 
 module _ {K V : Type 0} (rules : Rules K V) (may : rules.may_count 0) where
   -- whatever the hooks may be: a hot advance can be made in each state
-  pub AdvancesHot-ends : (old : CacheState K V) → (answer : Bool) × (calls : List (HookCall K V)) × (new : CacheState K V) × AdvancesHot rules old answer calls new
-  AdvancesHot-ends old = let step = AdvancesHot-exists rules may idle_hooks can_call_idle_hooks old tt in (step.answer, step.calls, step.new, step.holds)
+  pub AdvancesHot-ends : (old : CacheState K V) → (answer : Bool) × (calls : List (HookCall K V))
+      × (new : CacheState K V) × AdvancesHot rules old answer calls new
+  AdvancesHot-ends old = let step = AdvancesHot-exists rules may idle_hooks can_call_idle_hooks old
+      tt in (step.answer, step.calls, step.new, step.holds)
 
   -- and a cold one
-  pub AdvancesCold-ends : (old : CacheState K V) → (answer : Bool) × (calls : List (HookCall K V)) × (new : CacheState K V) × AdvancesCold rules old answer calls new
-  AdvancesCold-ends old = let step = AdvancesCold-exists rules may idle_hooks can_call_idle_hooks old tt in (step.answer, step.calls, step.new, step.holds)
+  pub AdvancesCold-ends : (old : CacheState K V) → (answer : Bool) × (calls : List (HookCall K V))
+      × (new : CacheState K V) × AdvancesCold rules old answer calls new
+  AdvancesCold-ends old = let step = AdvancesCold-exists rules may idle_hooks can_call_idle_hooks
+      old tt in (step.answer, step.calls, step.new, step.holds)
 
   -- the hot ring can be brought to its target
-  pub EvictsToTarget-ends : (old : CacheState K V) → (calls : List (HookCall K V)) × (new : CacheState K V) × EvictsToTarget rules old calls new
-  EvictsToTarget-ends old = let all = EvictsToTarget-exists rules may idle_hooks can_call_idle_hooks old tt in (all.calls, all.new, all.holds)
+  pub EvictsToTarget-ends : (old : CacheState K V) → (calls : List (HookCall K V))
+      × (new : CacheState K V) × EvictsToTarget rules old calls new
+  EvictsToTarget-ends old = let all = EvictsToTarget-exists rules may idle_hooks can_call_idle_hooks
+      old tt in (all.calls, all.new, all.holds)
 
   -- and room can be made
-  pub EvictsToCapacity-ends : (need : ℕ) (old : CacheState K V) → (calls : List (HookCall K V)) × (new : CacheState K V) × EvictsToCapacity rules need old calls new
+  pub EvictsToCapacity-ends : (need : ℕ) (old : CacheState K V) → (calls : List (HookCall K V))
+      × (new : CacheState K V) × EvictsToCapacity rules need old calls new
   EvictsToCapacity-ends need old =
-      let all = EvictsToCapacity-exists rules may idle_hooks can_call_idle_hooks need old tt in (all.calls, all.new, all.holds)
+      let all = EvictsToCapacity-exists rules may idle_hooks can_call_idle_hooks need old tt in
+      (all.calls, all.new, all.holds)

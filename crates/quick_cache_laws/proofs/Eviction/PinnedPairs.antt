@@ -1,5 +1,7 @@
--- Laws of items that are never victims: one without weight stays where it is, and no pinned pair leaves the cache.
-use Rattle.std.proofs.Common.{◌≡◌, ℕ, ◌+◌, ◌-◌, ◌≤◌, Bool, true, false, true≢false, cond, List, [], ◌∷◌, ◌++◌, map, refl, sym, ap, ap₂, ◌∙◌, arith}
+-- Laws of items that are never victims: one without weight stays where it is, and no pinned pair
+-- leaves the cache.
+use Rattle.std.proofs.Common.{◌≡◌, ℕ, ◌+◌, ◌-◌, ◌≤◌, Bool, true, false, true≢false, cond, List, []}
+use Rattle.std.proofs.Common.{◌∷◌, ◌++◌, map, refl, sym, ap, ap₂, ◌∙◌, arith}
 use Rattle.std.specs.List.{count_by}
 use Rattle.std.proofs.lemmas.List.Sums.{sum_by-append, sum_by-cons}
 use Rattle.quick_cache_model.specs.declared.queue.Queue.{Queue}
@@ -7,16 +9,20 @@ use Rattle.quick_cache_model.specs.declared.queue.Queue.TheVariants.{Hot, Cold}
 use Rattle.quick_cache_model.specs.CacheState.{CacheState, Item}
 use Rattle.quick_cache_model.specs.Hooks.{Rules, HookCall}
 use Rattle.quick_cache_model.specs.Touches.{RaisesMarks}
-use Rattle.quick_cache_model.specs.Eviction.{lowered, EvictsVictim, AdvancesHot, EvictsToTarget, AdvancesCold, EvictsToCapacity}
+use Rattle.quick_cache_model.specs.Eviction.{lowered, EvictsVictim, AdvancesHot, EvictsToTarget}
+use Rattle.quick_cache_model.specs.Eviction.{AdvancesCold, EvictsToCapacity}
 use Rattle.quick_cache_laws.specs.Laws.{pairs_by, IsPinnedTest}
 use Rattle.quick_cache_model.proofs.KeyCounts.{one_if}
 use Rattle.quick_cache_model.proofs.TouchLaws.{with_touches-key, with_touches-value}
 use Rattle.quick_cache_laws.proofs.Eviction.InPlace.{EvictsToCapacity-beside}
 
 -- an item without weight is where it was, once room was made
-pub EvictsToCapacity-still : {K V : Type 0} (rules : Rules K V) (need : ℕ) (old new : CacheState K V) (calls : List (HookCall K V))
-    → EvictsToCapacity rules need old calls new → (more : List (Item K V)) × (new.still ≡ old.still ++ more)
-EvictsToCapacity-still rules need old new calls evicts = (EvictsToCapacity-beside rules need old new calls evicts).still
+pub EvictsToCapacity-still : {K V : Type 0} (rules : Rules K V) (need : ℕ)
+    (old new : CacheState K V) (calls : List (HookCall K V))
+    → EvictsToCapacity rules need old calls new → (more : List (Item K V))
+    × (new.still ≡ old.still ++ more)
+EvictsToCapacity-still rules need old new calls evicts =
+    (EvictsToCapacity-beside rules need old new calls evicts).still
 
 module _ {K V : Type 0} (test : K → V → Bool) where
   -- how many items have a pair that passes
@@ -24,7 +30,8 @@ module _ {K V : Type 0} (test : K → V → Bool) where
   pairs items = count_by (λ item. test item.key item.value) items
 
   -- the first item counts where its pair passes
-  pub pairs-cons : (item : Item K V) (items : List (Item K V)) → pairs (item ∷ items) ≡ one_if (test item.key item.value) + pairs items
+  pub pairs-cons : (item : Item K V) (items : List (Item K V))
+      → pairs (item ∷ items) ≡ one_if (test item.key item.value) + pairs items
   pairs-cons item items = sum_by-cons (λ (x : Item K V). cond (test x.key x.value) 1 0) item items
 
   -- two lists, one behind the other
@@ -33,27 +40,52 @@ module _ {K V : Type 0} (test : K → V → Bool) where
 
   -- an item between two lists
   pub pairs-split : (before : List (Item K V)) (item : Item K V) (after : List (Item K V))
-      → pairs (before ++ item ∷ after) ≡ pairs before + (one_if (test item.key item.value) + pairs after)
-  pairs-split before item after = omega (arith, pairs-append before (item ∷ after), pairs-cons item after)
+      → pairs (before ++ item ∷ after) ≡ pairs before +
+      (one_if (test item.key item.value) + pairs after)
+  pairs-split before item after = omega (
+    arith,
+    pairs-append before
+        (item ∷ after),
+    pairs-cons item after,
+  )
 
   -- lowered marks change no pair, and touches none
-  pub pairs-lowered : (n : ℕ) (items : List (Item K V)) → pairs (map (lowered n) items) ≡ pairs items
+  pub pairs-lowered : (n : ℕ) (items : List (Item K V))
+      → pairs (map (lowered n) items) ≡ pairs items
   pairs-lowered n [] = refl
-  pairs-lowered n (x ∷ xs) = omega (arith, pairs-cons (lowered n x) (map (lowered n) xs), pairs-cons x xs, pairs-lowered n xs)
+  pairs-lowered n (x ∷ xs) = omega (
+    arith,
+    pairs-cons (lowered n x)
+        (map (lowered n) xs),
+    pairs-cons x xs,
+    pairs-lowered n xs,
+  )
 
   -- touches change no pair
-  pub pairs-raised : (may_count : ℕ → Type 0) (old new : List (Item K V)) → RaisesMarks may_count old new → pairs new ≡ pairs old
+  pub pairs-raised : (may_count : ℕ → Type 0) (old new : List (Item K V))
+      → RaisesMarks may_count old new → pairs new ≡ pairs old
   pairs-raised may_count [] [] raised = refl
   pairs-raised may_count [] (y ∷ ys) raised = absurd raised
   pairs-raised may_count (x ∷ xs) [] raised = absurd raised
   pairs-raised may_count (x ∷ xs) (y ∷ ys) raised =
-      let key : y.key ≡ x.key = ap (λ (i : Item K V). i.key) raised.0.2 ∙ with_touches-key raised.0.0 x in
-      let value : y.value ≡ x.value = ap (λ (i : Item K V). i.value) raised.0.2 ∙ with_touches-value raised.0.0 x in
-      omega (arith, pairs-cons x xs, pairs-cons y ys, ap₂ (λ k v. one_if (test k v)) key value, pairs-raised may_count xs ys raised.1)
+      let key : y.key ≡ x.key = ap (λ (i : Item K V). i.key)
+      raised.0.2 ∙ with_touches-key raised.0.0 x in
+      let value : y.value ≡ x.value = ap (λ (i : Item K V). i.value)
+      raised.0.2 ∙ with_touches-value raised.0.0 x in
+      omega (
+        arith,
+        pairs-cons x xs,
+        pairs-cons y ys,
+        ap₂ (λ k v. one_if (test k v))
+            key value,
+        pairs-raised may_count xs ys raised.1,
+      )
 
-module _ {K V : Type 0} (rules : Rules K V) (test : K → V → Bool) (only_pinned : IsPinnedTest rules test) where
+module _ {K V : Type 0} (rules : Rules K V) (test : K → V → Bool)
+    (only_pinned : IsPinnedTest rules test) where
   -- an unpinned pair does not pass
-  unpinned_fails : (key : K) (value : V) → rules.pinned key value ≡ false → one_if (test key value) ≡ 0
+  unpinned_fails : (key : K) (value : V) → rules.pinned key value ≡ false
+      → one_if (test key value) ≡ 0
   unpinned_fails key value unpinned = go (test key value) refl
     where
       go : (b : Bool) → test key value ≡ b → one_if b ≡ 0
@@ -61,7 +93,8 @@ module _ {K V : Type 0} (rules : Rules K V) (test : K → V → Bool) (only_pinn
       go false is = refl
 
   -- the fate of a victim takes no pair away that stands elsewhere
-  pub EvictsVictim-pairs : (queue : Queue) (old new : CacheState K V) (item : Item K V) (calls : List (HookCall K V))
+  pub EvictsVictim-pairs : (queue : Queue) (old new : CacheState K V) (item : Item K V)
+      (calls : List (HookCall K V))
       → EvictsVictim rules queue old item calls new → pairs_by test old ≤ pairs_by test new
   EvictsVictim-pairs queue old _ item _ (EvictsVictim.stays left light) =
       omega (arith, pairs-append test old.still (record item { value = left; weight = 0 } ∷ []))
@@ -73,7 +106,8 @@ module _ {K V : Type 0} (rules : Rules K V) (test : K → V → Bool) (only_pinn
       → AdvancesHot rules old answer calls new → pairs_by test old ≤ pairs_by test new
   AdvancesHot-pairs old _ _ _ (AdvancesHot.all_pinned hot raised pinned) =
       omega (arith, pairs-lowered test 1 hot, pairs-raised test rules.may_count old.hot hot raised)
-  AdvancesHot-pairs old _ _ _ (AdvancesHot.evicts hot before item after calls new raised split first evicts) =
+  AdvancesHot-pairs old _ _ _ (AdvancesHot.evicts hot before item after calls new raised split first
+      evicts) =
       omega (
         arith,
         pairs-raised test rules.may_count old.hot hot raised,
@@ -90,14 +124,21 @@ module _ {K V : Type 0} (rules : Rules K V) (test : K → V → Bool) (only_pinn
   pub EvictsToTarget-pairs : (old new : CacheState K V) (calls : List (HookCall K V))
       → EvictsToTarget rules old calls new → pairs_by test old ≤ pairs_by test new
   EvictsToTarget-pairs _ _ _ (EvictsToTarget.has_room old fits) = omega arith
-  EvictsToTarget-pairs _ _ _ (EvictsToTarget.gives_up old new calls above advances) = AdvancesHot-pairs old new false calls advances
+  EvictsToTarget-pairs _ _ _ (EvictsToTarget.gives_up old new calls above advances) =
+      AdvancesHot-pairs old new false calls advances
   EvictsToTarget-pairs _ _ _ (EvictsToTarget.goes_on old mid new first rest above advances goes) =
-      omega (arith, AdvancesHot-pairs old mid true first advances, EvictsToTarget-pairs mid new rest goes)
+      omega (
+        arith,
+        AdvancesHot-pairs old mid true first advances,
+        EvictsToTarget-pairs mid new rest
+            goes,
+      )
 
   -- nor by a cold one
   pub AdvancesCold-pairs : (old new : CacheState K V) (answer : Bool) (calls : List (HookCall K V))
       → AdvancesCold rules old answer calls new → pairs_by test old ≤ pairs_by test new
-  AdvancesCold-pairs old _ _ _ (AdvancesCold.promotes cold before item after calls new raised split passed marked goes) =
+  AdvancesCold-pairs old _ _ _ (AdvancesCold.promotes cold before item after calls new raised split
+      passed marked goes) =
       let moved = record item { mark = item.mark - 1; queue = Hot } in
       omega (
         arith,
@@ -109,7 +150,8 @@ module _ {K V : Type 0} (rules : Rules K V) (test : K → V → Bool) (only_pinn
         pairs-append test old.hot (moved ∷ []),
         pairs-cons test moved [],
       )
-  AdvancesCold-pairs old _ _ _ (AdvancesCold.evicts cold before item after calls new raised split passed unmarked unpinned evicts) =
+  AdvancesCold-pairs old _ _ _ (AdvancesCold.evicts cold before item after calls new raised split
+      passed unmarked unpinned evicts) =
       omega (
         arith,
         pairs-raised test rules.may_count old.cold cold raised,
@@ -119,13 +161,27 @@ module _ {K V : Type 0} (rules : Rules K V) (test : K → V → Bool) (only_pinn
         EvictsVictim-pairs Cold _ new item calls evicts,
         pairs-append test after before,
       )
-  AdvancesCold-pairs old _ _ _ (AdvancesCold.passes_all cold answer calls new raised passed advances) =
-      omega (arith, pairs-raised test rules.may_count old.cold cold raised, AdvancesHot-pairs _ new answer calls advances)
+  AdvancesCold-pairs old _ _ _ (AdvancesCold.passes_all cold answer calls new raised passed
+      advances) =
+      omega (
+        arith,
+        pairs-raised test rules.may_count old.cold cold raised,
+        AdvancesHot-pairs _ new
+            answer calls advances,
+      )
 
-  -- nor by eviction down to the capacity: of the pinned pairs that pass a test there are no fewer than before
+  -- nor by eviction down to the capacity: of the pinned pairs that pass a test there are no fewer
+  -- than before
   pub EvictsToCapacity-pairs : (need : ℕ) (old new : CacheState K V) (calls : List (HookCall K V))
       → EvictsToCapacity rules need old calls new → pairs_by test old ≤ pairs_by test new
   EvictsToCapacity-pairs need _ _ _ (EvictsToCapacity.has_room old fits) = omega arith
-  EvictsToCapacity-pairs need _ _ _ (EvictsToCapacity.gives_up old new calls above advances) = AdvancesCold-pairs old new false calls advances
-  EvictsToCapacity-pairs need _ _ _ (EvictsToCapacity.goes_on old mid new first rest above advances goes) =
-      omega (arith, AdvancesCold-pairs old mid true first advances, EvictsToCapacity-pairs need mid new rest goes)
+  EvictsToCapacity-pairs need _ _ _ (EvictsToCapacity.gives_up old new calls above advances) =
+      AdvancesCold-pairs old new false calls advances
+  EvictsToCapacity-pairs need _ _ _ (EvictsToCapacity.goes_on old mid new first rest above advances
+      goes) =
+      omega (
+        arith,
+        AdvancesCold-pairs old mid true first advances,
+        EvictsToCapacity-pairs need mid
+            new rest goes,
+      )

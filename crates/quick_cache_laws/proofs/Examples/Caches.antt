@@ -18,8 +18,8 @@ unit_rules = record {
   may_count = no_touches;
 }
 
--- The last two digits of a value are its weight, and values from 100 to 199 are pinned. Keys that differ by a thousand
--- have equal hashes.
+-- The last two digits of a value are its weight, and values from 100 to 199 are pinned. Keys that
+-- differ by a thousand have equal hashes.
 abbrev pub digit_rules : Rules ℕ ℕ
 digit_rules = record {
   hash = λ key. key % 1000;

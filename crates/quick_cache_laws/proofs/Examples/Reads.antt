@@ -7,66 +7,98 @@ use Rattle.quick_cache_model.specs.Eviction.{AdvancesHot, EvictsVictim}
 use Rattle.quick_cache_model.specs.Lookups.{LooksUp, Sees}
 use Rattle.quick_cache_model.specs.Removal.{Removes}
 use Rattle.quick_cache_model.specs.Entries.{ActsOnEntry, Remove, ReplaceWithGuard, Retain}
-use Rattle.quick_cache_laws.proofs.Examples.Caches.{unit_rules, digit_rules, is, hot_item, cold_item}
+use Rattle.quick_cache_laws.proofs.Examples.Caches.{unit_rules, digit_rules, is, hot_item}
+use Rattle.quick_cache_laws.proofs.Examples.Caches.{cold_item}
 use Rattle.quick_cache_laws.proofs.Examples.LoadingKeys.{hot_entry}
 
 -- a look-up marks its item, counts a read of it, and a hit
 pub a_lookup_marks_and_counts
-    : LooksUp (is 2) (record (empty_state 5 4 2) { cold = cold_item 1 10 1 0 ∷ cold_item 2 20 1 1 ∷ [] })
+    : LooksUp (is 2) (record (empty_state 5 4 2)
+    { cold = cold_item 1 10 1 0 ∷ cold_item 2 20 1 1 ∷ [] })
     (λ item. item.value) (Some 20)
-    (record (empty_state 5 4 2) { cold = cold_item 1 10 1 0 ∷ record (cold_item 2 20 1 2) { reads = 1 } ∷ []; hits = 1 })
+    (record (empty_state 5 4 2) {
+      cold = cold_item 1 10 1 0 ∷ record (cold_item 2 20 1 2)
+          { reads = 1 } ∷ [];
+      hits = 1;
+    })
 a_lookup_marks_and_counts =
-    LooksUp.hit InCold (cold_item 1 10 1 0 ∷ []) (cold_item 2 20 1 1) [] (record { split = refl; passes = refl })
+    LooksUp.hit InCold (cold_item 1 10 1 0 ∷ []) (cold_item 2 20 1 1) []
+    (record { split = refl; passes = refl })
 
 -- a mark that is the greatest stays
 pub the_greatest_mark_stays
-    : LooksUp (is 1) (record (empty_state 5 4 2) { hot = hot_item 1 10 1 2 ∷ [] }) (λ item. item.value) (Some 10)
+    : LooksUp (is 1) (record (empty_state 5 4 2) { hot = hot_item 1 10 1 2 ∷ [] })
+    (λ item. item.value) (Some 10)
     (record (empty_state 5 4 2) { hot = record (hot_item 1 10 1 2) { reads = 1 } ∷ []; hits = 1 })
-the_greatest_mark_stays = LooksUp.hit InHot [] (hot_item 1 10 1 2) [] (record { split = refl; passes = refl })
+the_greatest_mark_stays = LooksUp.hit InHot [] (hot_item 1 10 1 2) []
+    (record { split = refl; passes = refl })
 
 -- what is shown of an item's reads, as after three look-ups
 pub an_item_shows_its_reads
-    : Sees (is 1) (record (empty_state 5 4 2) { hot = record (hot_item 1 10 1 2) { reads = 3 } ∷ []; hits = 3 })
+    : Sees (is 1) (record (empty_state 5 4 2)
+    { hot = record (hot_item 1 10 1 2) { reads = 3 } ∷ []; hits = 3 })
     (λ item. item.reads) (Some 3)
 an_item_shows_its_reads =
-    Sees.is_there InHot [] (record (hot_item 1 10 1 2) { reads = 3 }) [] (record { split = refl; passes = refl })
+    Sees.is_there InHot [] (record (hot_item 1 10 1 2) { reads = 3 }) []
+    (record { split = refl; passes = refl })
 
 -- a removal of a key of which only the ghost is left gives nothing, and the ghost goes
 pub a_removal_takes_the_ghost
     : Removes (is 4) (record (empty_state {V = ℕ} 5 4 2) { ghosts = 3 ∷ 4 ∷ [] }) 4 None
     (record (empty_state 5 4 2) { ghosts = 3 ∷ [] })
 a_removal_takes_the_ghost =
-    Removes.of_ghost (3 ∷ []) [] (record { items = record { hot = tt; cold = tt; still = tt }; loading = tt }) refl
+    Removes.of_ghost (3 ∷ []) [] (record {
+      items =
+          record { hot = tt; cold = tt; still = tt };
+      loading = tt;
+    }) refl
 
 -- an item that is removed leaves the order of the rest
 pub a_removal_keeps_the_order
     : Removes (is 2)
-    (record (empty_state 5 4 2) { hot = hot_item 1 10 1 0 ∷ hot_item 2 20 1 0 ∷ hot_item 3 30 1 0 ∷ [] })
-    2 (Some (2, 20)) (record (empty_state 5 4 2) { hot = hot_item 1 10 1 0 ∷ hot_item 3 30 1 0 ∷ [] })
+    (record (empty_state 5 4 2) {
+      hot = hot_item 1 10 1 0 ∷ hot_item 2 20 1 0 ∷ hot_item 3 30 1 0 ∷
+          [];
+    })
+    2 (Some (2, 20)) (record (empty_state 5 4 2)
+    { hot = hot_item 1 10 1 0 ∷ hot_item 3 30 1 0 ∷ [] })
 a_removal_keeps_the_order =
     Removes.of_item InHot (hot_item 1 10 1 0 ∷ []) (hot_item 2 20 1 0) (hot_item 3 30 1 0 ∷ [])
     (record { split = refl; passes = refl })
 
--- an entry callback writes a heavier value and keeps the item: it is weighed, and the call was a look-up
+-- an entry callback writes a heavier value and keeps the item: it is weighed, and the call was a
+-- look-up
 pub a_kept_entry_is_weighed_and_read
-    : ActsOnEntry digit_rules (is 1) (record (empty_state 100 97 50) { hot = hot_item 1 5 5 0 ∷ [] })
+    : ActsOnEntry digit_rules (is 1) (record (empty_state 100 97 50)
+    { hot = hot_item 1 5 5 0 ∷ [] })
     (hot_item 1 5 5 0) 11 Retain
-    (record (empty_state 100 97 50) { hot = record (hot_item 1 11 11 1) { reads = 1 } ∷ []; hits = 1 })
-a_kept_entry_is_weighed_and_read = ActsOnEntry.kept InHot [] [] (record { split = refl; passes = refl })
+    (record (empty_state 100 97 50) {
+      hot = record (hot_item 1 11 11 1) { reads = 1 } ∷ [];
+      hits =
+          1;
+    })
+a_kept_entry_is_weighed_and_read = ActsOnEntry.kept InHot [] []
+    (record { split = refl; passes = refl })
 
--- one that writes a value of weight 0 and then removes: the ring is begun anew behind the item before the item goes
+-- one that writes a value of weight 0 and then removes: the ring is begun anew behind the item
+-- before the item goes
 pub an_entry_emptied_and_removed_restarts_its_ring
     : ActsOnEntry digit_rules (is 2)
-    (record (empty_state 100 97 50) { hot = hot_item 1 5 5 0 ∷ hot_item 2 5 5 0 ∷ hot_item 3 5 5 0 ∷ [] })
+    (record (empty_state 100 97 50) {
+      hot = hot_item 1 5 5 0 ∷ hot_item 2 5 5 0 ∷ hot_item 3 5 5 0 ∷
+          [];
+    })
     (hot_item 2 5 5 0) 0 Remove
     (record (empty_state 100 97 50) { hot = hot_item 3 5 5 0 ∷ hot_item 1 5 5 0 ∷ [] })
 an_entry_emptied_and_removed_restarts_its_ring =
     ActsOnEntry.removed InHot (hot_item 1 5 5 0 ∷ []) (hot_item 3 5 5 0 ∷ []) InStill [] []
     (record { split = refl; passes = refl }) (record { split = refl; passes = refl })
 
--- one that replaces leaves a placeholder of the item's queue, with the next ticket, and counts no miss
+-- one that replaces leaves a placeholder of the item's queue, with the next ticket, and counts no
+-- miss
 pub a_replaced_entry_is_being_loaded
-    : ActsOnEntry digit_rules (is 1) (record (empty_state 100 97 50) { hot = hot_item 1 5 5 2 ∷ []; next_ticket = 7 })
+    : ActsOnEntry digit_rules (is 1) (record (empty_state 100 97 50)
+    { hot = hot_item 1 5 5 2 ∷ []; next_ticket = 7 })
     (hot_item 1 5 5 2) 5 ReplaceWithGuard
     (record (empty_state 100 97 50) { loading = hot_entry 1 7 ∷ []; next_ticket = 8 })
 a_replaced_entry_is_being_loaded =
@@ -77,7 +109,8 @@ a_replaced_entry_is_being_loaded =
 abbrev pub shared_rules : Rules ℕ ℕ
 shared_rules = record unit_rules { may_count = λ _. Unit {0} }
 
--- two items stand alike; a reader touched the first, and so the second is the victim, while the first pays the mark
+-- two items stand alike; a reader touched the first, and so the second is the victim, while the
+-- first pays the mark
 pub a_touch_of_a_reader_saves_an_item
     : AdvancesHot shared_rules
     (record (empty_state 2 2 1) { hot = hot_item 1 10 1 0 ∷ hot_item 2 20 1 0 ∷ [] }) true
@@ -85,8 +118,10 @@ pub a_touch_of_a_reader_saves_an_item
     (record (empty_state 2 2 1) { hot = record (hot_item 1 10 1 0) { reads = 1 } ∷ [] })
 a_touch_of_a_reader_saves_an_item =
     AdvancesHot.evicts (record (hot_item 1 10 1 1) { reads = 1 } ∷ hot_item 2 20 1 0 ∷ [])
-    (record (hot_item 1 10 1 1) { reads = 1 } ∷ []) (hot_item 2 20 1 0) [] _ _ ((1, tt, refl), ((0, tt, refl), tt)) refl
-    (record { unpinned = refl; earlier = ((λ _. lit< tt), tt); later = tt }) (EvictsVictim.leaves 20 (lit< tt))
+    (record (hot_item 1 10 1 1) { reads = 1 } ∷ []) (hot_item 2 20 1 0) [] _ _
+    ((1, tt, refl), ((0, tt, refl), tt)) refl
+    (record { unpinned = refl; earlier = ((λ _. lit< tt), tt); later = tt })
+    (EvictsVictim.leaves 20 (lit< tt))
 
 -- without readers a count is shown as it is
 pub a_count_is_shown_as_it_is : ShowsCount unit_rules.may_count 5 5

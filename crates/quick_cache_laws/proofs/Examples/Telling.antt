@@ -14,22 +14,30 @@ keeping_hooks = record {
   evict_cold = λ old key value new. new ≡ (key, value) ∷ old;
 }
 
--- a write over an item that evicts another: the hooks run in the order of the calls, each from the state that the one
--- before it left, and a pair is told with the value that `before_evict` left
+-- a write over an item that evicts another: the hooks run in the order of the calls, each from the
+-- state that the one before it left, and a pair is told with the value that `before_evict` left
 pub hooks_run_in_the_order_of_their_calls
-    : RunsHooks keeping_hooks (EvictHot 1 50 ∷ BeforeEvict 2 30 60 ∷ EvictCold 2 60 ∷ []) [] ((2, 60) ∷ (1, 50) ∷ [])
+    : RunsHooks keeping_hooks (EvictHot 1 50 ∷ BeforeEvict 2 30 60 ∷ EvictCold 2 60 ∷ []) []
+    ((2, 60) ∷ (1, 50) ∷ [])
 hooks_run_in_the_order_of_their_calls =
     ((1, 50) ∷ [], refl, ((1, 50) ∷ [], (refl, refl), ((2, 60) ∷ (1, 50) ∷ [], refl, refl)))
 
 -- where the tickets are spent, a call that would make a placeholder is refused
 pub spent_tickets_refuse_a_placeholder
-    : MayRefuse (needs_of_placeholder (is 1) 1 (record (empty_state {K = ℕ} {V = ℕ} 5 4 2) { next_ticket = 2 ^ 64 - 1 }))
+    : MayRefuse (needs_of_placeholder (is 1) 1
+    (record (empty_state {K = ℕ} {V = ℕ} 5 4 2) { next_ticket = 2 ^ 64 - 1 }))
     (record (empty_state {K = ℕ} {V = ℕ} 5 4 2) { next_ticket = 2 ^ 64 - 1 }) TicketsSpent
 spent_tickets_refuse_a_placeholder =
-    MayRefuse.tickets_spent (record { items = record { hot = tt; cold = tt; still = tt }; loading = tt }) (lit≤ tt)
+    MayRefuse.tickets_spent (record {
+      items = record { hot = tt; cold = tt; still = tt };
+      loading =
+          tt;
+    }) (lit≤ tt)
 
 -- an insert over an item is never refused
 pub an_insert_over_an_item_is_not_refused
-    : MayRefuse (needs_of_insert (is 1) 1 (record (empty_state 5 4 2) { hot = hot_item 1 10 1 0 ∷ [] }))
+    : MayRefuse (needs_of_insert (is 1) 1 (record (empty_state 5 4 2)
+    { hot = hot_item 1 10 1 0 ∷ [] }))
     (record (empty_state 5 4 2) { hot = hot_item 1 10 1 0 ∷ [] }) Memory → ⊥
-an_insert_over_an_item_is_not_refused (MayRefuse.memory_refused provided nothing) = true≢false (nothing.keys.items.hot.0)
+an_insert_over_an_item_is_not_refused (MayRefuse.memory_refused provided nothing) =
+    true≢false (nothing.keys.items.hot.0)

@@ -2,16 +2,22 @@
 use Rattle.std.proofs.Common.{◌≡◌, [], ◌∷◌, refl, lit<, lit≤, true, None}
 use Rattle.quick_cache_model.specs.CacheState.{empty_state, InHot, InStill}
 use Rattle.quick_cache_model.specs.Hooks.{BeforeEvict, EvictHot}
-use Rattle.quick_cache_model.specs.Eviction.{EvictsToCapacity, AdvancesHot, AdvancesCold, EvictsVictim}
+use Rattle.quick_cache_model.specs.Eviction.{EvictsToCapacity, AdvancesHot, AdvancesCold}
+use Rattle.quick_cache_model.specs.Eviction.{EvictsVictim}
 use Rattle.quick_cache_model.specs.Admission.{ChecksAdmission}
 use Rattle.quick_cache_model.specs.Writes.{Insert, Writes, WritesAdmitted}
 use Rattle.quick_cache_model.specs.Removal.{reweighed}
 use Rattle.quick_cache_laws.proofs.Examples.Caches.{digit_rules, is, hot_item, cold_item, untouched}
 
--- the value of an item is set to one of weight 0: the item leaves its ring, which then begins behind it
+-- the value of an item is set to one of weight 0: the item leaves its ring, which then begins
+-- behind it
 pub an_item_that_loses_its_weight_leaves_its_ring
-    : reweighed digit_rules InHot (hot_item 1 30 30 0 ∷ []) (hot_item 2 30 30 0) (hot_item 3 30 30 0 ∷ []) 0
-    (record (empty_state 100 97 50) { hot = hot_item 1 30 30 0 ∷ hot_item 2 30 30 0 ∷ hot_item 3 30 30 0 ∷ [] })
+    : reweighed digit_rules InHot (hot_item 1 30 30 0 ∷ []) (hot_item 2 30 30 0)
+    (hot_item 3 30 30 0 ∷ []) 0
+    (record (empty_state 100 97 50) {
+      hot = hot_item 1 30 30 0 ∷ hot_item 2 30 30 0 ∷ hot_item 3 30
+          30 0 ∷ [];
+    })
     ≡ record (empty_state 100 97 50) {
       hot = hot_item 3 30 30 0 ∷ hot_item 1 30 30 0 ∷ [];
       still = hot_item 2 0 0 0 ∷ [];
@@ -58,10 +64,12 @@ pub an_item_that_gains_weight_is_put_last
     ≡ record (empty_state 50 48 25) { hot = hot_item 3 30 30 0 ∷ hot_item 2 30 30 0 ∷ [] }
 an_item_that_gains_weight_is_put_last = refl
 
--- `before_evict` leaves a value of weight 0: the victim stays, outside the rings, and no other hook is called
+-- `before_evict` leaves a value of weight 0: the victim stays, outside the rings, and no other hook
+-- is called
 pub a_victim_made_weightless_stays
     : Writes digit_rules (is 3) 3 Insert
-    (record (empty_state 2 1 1) { hot = hot_item 1 201 1 0 ∷ []; cold = cold_item 2 201 1 0 ∷ [] }) 1
+    (record (empty_state 2 1 1) { hot = hot_item 1 201 1 0 ∷ []; cold = cold_item 2 201 1 0 ∷ [] })
+    1
     (BeforeEvict 2 201 200 ∷ []) None
     (record (empty_state 2 1 1) {
       hot = hot_item 1 201 1 0 ∷ [];
@@ -71,8 +79,15 @@ pub a_victim_made_weightless_stays
 a_victim_made_weightless_stays =
     Writes.admitted [] _ 1 None _ (ChecksAdmission.is_light (lit≤ tt))
     (WritesAdmitted.inserts_new _ _ refl
-    (record { keys = record { items = record { hot = (refl, tt); cold = (refl, tt); still = tt }; loading = tt }; ghosts = tt })
+    (record {
+      keys = record {
+        items = record { hot = (refl, tt); cold = (refl, tt); still = tt };
+        loading = tt;
+      };
+      ghosts = tt;
+    })
     (EvictsToCapacity.goes_on _ _ _ (BeforeEvict 2 201 200 ∷ []) [] (lit< tt)
-    (AdvancesCold.evicts _ [] (cold_item 2 201 1 0) [] _ _ (untouched (cold_item 2 201 1 0 ∷ [])) refl tt refl refl
+    (AdvancesCold.evicts _ [] (cold_item 2 201 1 0) [] _ _ (untouched (cold_item 2 201 1 0 ∷ []))
+    refl tt refl refl
     (EvictsVictim.stays 200 refl))
     (EvictsToCapacity.has_room _ (lit≤ tt))))

@@ -1,20 +1,33 @@
--- Laws of valid states: making room leads from a valid state to a valid one, and so does setting the capacity.
-use Rattle.std.proofs.Common.{◌≡◌, ℕ, ◌+◌, ◌<◌, ◌≤◌, ◌==◌, Bool, List, length, sym, ap, subst, arith}
+-- Laws of valid states: making room leads from a valid state to a valid one, and so does setting
+-- the capacity.
+use Rattle.std.proofs.Common.{◌≡◌, ℕ, ◌+◌, ◌<◌, ◌≤◌, ◌==◌, Bool, List, length, sym, ap, subst}
+use Rattle.std.proofs.Common.{arith}
 use Rattle.std.specs.List.{AllByRecursion, count_by}
 use Rattle.quick_cache_model.specs.declared.queue.Queue.{Queue}
-use Rattle.quick_cache_model.specs.CacheState.{CacheState, Item, LoadingEntry, keys_by, mark_cut, IsValid, empty_state}
+use Rattle.quick_cache_model.specs.CacheState.{CacheState, Item, LoadingEntry, keys_by, mark_cut}
+use Rattle.quick_cache_model.specs.CacheState.{IsValid, empty_state}
 use Rattle.quick_cache_model.specs.Hooks.{Rules, HookCall}
-use Rattle.quick_cache_model.specs.Eviction.{EvictsVictim, AdvancesHot, EvictsToTarget, AdvancesCold, EvictsToCapacity}
+use Rattle.quick_cache_model.specs.Eviction.{EvictsVictim, AdvancesHot, EvictsToTarget}
+use Rattle.quick_cache_model.specs.Eviction.{AdvancesCold, EvictsToCapacity}
 use Rattle.quick_cache_model.specs.Capacity.{resized, SetsCapacity}
 use Rattle.quick_cache_model.proofs.KeyCounts.{one}
-use Rattle.quick_cache_laws.proofs.Eviction.Keys.{EvictsVictim-keys, AdvancesHot-keys, EvictsToTarget-keys, AdvancesCold-keys, EvictsToCapacity-keys}
-use Rattle.quick_cache_laws.proofs.Eviction.InPlace.{newest-within, IsInPlace, IsSameBeside, EvictsVictim-in_place, EvictsVictim-beside, AdvancesHot-in_place, AdvancesHot-beside, EvictsToTarget-in_place, EvictsToTarget-beside, AdvancesCold-in_place, AdvancesCold-beside, EvictsToCapacity-in_place, EvictsToCapacity-beside}
+use Rattle.quick_cache_laws.proofs.Eviction.Keys.{EvictsVictim-keys, AdvancesHot-keys}
+use Rattle.quick_cache_laws.proofs.Eviction.Keys.{EvictsToTarget-keys, AdvancesCold-keys}
+use Rattle.quick_cache_laws.proofs.Eviction.Keys.{EvictsToCapacity-keys}
+use Rattle.quick_cache_laws.proofs.Eviction.InPlace.{newest-within, IsInPlace, IsSameBeside}
+use Rattle.quick_cache_laws.proofs.Eviction.InPlace.{EvictsVictim-in_place, EvictsVictim-beside}
+use Rattle.quick_cache_laws.proofs.Eviction.InPlace.{AdvancesHot-in_place, AdvancesHot-beside}
+use Rattle.quick_cache_laws.proofs.Eviction.InPlace.{EvictsToTarget-in_place, EvictsToTarget-beside}
+use Rattle.quick_cache_laws.proofs.Eviction.InPlace.{AdvancesCold-in_place, AdvancesCold-beside}
+use Rattle.quick_cache_laws.proofs.Eviction.InPlace.{EvictsToCapacity-in_place}
+use Rattle.quick_cache_laws.proofs.Eviction.InPlace.{EvictsToCapacity-beside}
 use Rattle.quick_cache_laws.proofs.Valid.Places.{IsSameButItems}
 use Rattle.quick_cache_laws.proofs.Valid.Tickets.{AreTickets}
 
 module _ {K V : Type 0} (equal : K → K → Bool) where
   -- the parts of which a valid state is made
-  pub IsValid-parts : (state : CacheState K V) → ((k : K) → keys_by (equal k) state ≤ 1) → AreTickets state.next_ticket state.loading
+  pub IsValid-parts : (state : CacheState K V) → ((k : K) → keys_by (equal k) state ≤ 1)
+      → AreTickets state.next_ticket state.loading
       → length state.ghosts ≤ state.ghost_limit → IsInPlace state → IsValid equal state
   IsValid-parts state single tickets within place = record {
     one_entry_a_key = single;
@@ -27,34 +40,57 @@ module _ {K V : Type 0} (equal : K → K → Bool) where
   }
 
   -- the tickets of a valid state differ, and are below the next one
-  pub IsValid-tickets : (state : CacheState K V) → IsValid equal state → AreTickets state.next_ticket state.loading
-  IsValid-tickets state valid = record { one_entry = valid.one_entry_a_ticket; given = valid.tickets_given }
+  pub IsValid-tickets : (state : CacheState K V) → IsValid equal state
+      → AreTickets state.next_ticket state.loading
+  IsValid-tickets state valid = record {
+    one_entry = valid.one_entry_a_ticket;
+    given =
+        valid.tickets_given;
+  }
 
   -- each item of a valid state is in its place
   pub IsValid-in_place : (state : CacheState K V) → IsValid equal state → IsInPlace state
-  IsValid-in_place state valid = record { in_hot = valid.in_hot; in_cold = valid.in_cold; in_still = valid.in_still }
+  IsValid-in_place state valid = record {
+    in_hot = valid.in_hot;
+    in_cold = valid.in_cold;
+    in_still =
+        valid.in_still;
+  }
 
   -- what a valid state becomes with other items
-  pub IsValid-items : (old new : CacheState K V) → IsSameButItems old new → IsValid equal old → ((k : K) → keys_by (equal k) new ≤ 1) → IsInPlace new → IsValid equal new
+  pub IsValid-items : (old new : CacheState K V) → IsSameButItems old new → IsValid equal old
+      → ((k : K) → keys_by (equal k) new ≤ 1) → IsInPlace new → IsValid equal new
   IsValid-items old new same valid single place =
       let loading : new.loading ≡ old.loading = ap (λ (s : CacheState K V). s.loading) same in
-      let next : new.next_ticket ≡ old.next_ticket = ap (λ (s : CacheState K V). s.next_ticket) same in
+      let next : new.next_ticket ≡ old.next_ticket =
+      ap (λ (s : CacheState K V). s.next_ticket) same in
       IsValid-parts new single
-      (subst (λ n. AreTickets n new.loading) (sym next) (subst (λ (l : List (LoadingEntry K)). AreTickets old.next_ticket l) (sym loading) (IsValid-tickets old valid)))
-      (omega (arith, valid.ghosts_within, ap (λ (s : CacheState K V). length s.ghosts) same, ap (λ (s : CacheState K V). s.ghost_limit) same))
+      (subst (λ n. AreTickets n new.loading) (sym next)
+      (subst (λ (l : List (LoadingEntry K)). AreTickets old.next_ticket l) (sym loading)
+      (IsValid-tickets old valid)))
+      (omega (
+        arith,
+        valid.ghosts_within,
+        ap (λ (s : CacheState K V). length s.ghosts) same,
+        ap
+            (λ (s : CacheState K V). s.ghost_limit) same,
+      ))
       place
 
   -- and where all beside the items and the ghosts is the same
-  pub IsValid-beside : (old new : CacheState K V) → IsSameBeside old new → IsValid equal old → ((k : K) → keys_by (equal k) new ≤ 1) → IsInPlace new → IsValid equal new
+  pub IsValid-beside : (old new : CacheState K V) → IsSameBeside old new → IsValid equal old
+      → ((k : K) → keys_by (equal k) new ≤ 1) → IsInPlace new → IsValid equal new
   IsValid-beside old new same valid single place =
       IsValid-parts new single
       (subst (λ n. AreTickets n new.loading) (sym same.next_ticket)
-      (subst (λ (l : List (LoadingEntry K)). AreTickets old.next_ticket l) (sym same.loading) (IsValid-tickets old valid)))
+      (subst (λ (l : List (LoadingEntry K)). AreTickets old.next_ticket l) (sym same.loading)
+      (IsValid-tickets old valid)))
       (same.ghosts_within valid.ghosts_within)
       place
 
   -- a cache that nothing was put into is valid
-  pub empty_state-valid : (capacity hot_target ghost_limit : ℕ) → IsValid equal (empty_state {K = K} {V = V} capacity hot_target ghost_limit)
+  pub empty_state-valid : (capacity hot_target ghost_limit : ℕ)
+      → IsValid equal (empty_state {K = K} {V = V} capacity hot_target ghost_limit)
   empty_state-valid capacity hot_target ghost_limit = record {
     one_entry_a_key = λ k. omega arith;
     one_entry_a_ticket = λ n. omega arith;
@@ -66,55 +102,85 @@ module _ {K V : Type 0} (equal : K → K → Bool) where
   }
 
   module _ (rules : Rules K V) where
-    -- the fate of a victim: from a valid state that it was taken out of, with a mark up to the greatest
-    pub EvictsVictim-valid : (queue : Queue) (old new : CacheState K V) (item : Item K V) (calls : List (HookCall K V)) → EvictsVictim rules queue old item calls new
-        → item.mark ≤ mark_cut → ((k : K) → keys_by (equal k) old + one (equal k) item.key ≤ 1) → IsValid equal old → IsValid equal new
+    -- the fate of a victim: from a valid state that it was taken out of, with a mark up to the
+    -- greatest
+    pub EvictsVictim-valid : (queue : Queue) (old new : CacheState K V) (item : Item K V)
+        (calls : List (HookCall K V)) → EvictsVictim rules queue old item calls new
+        → item.mark ≤ mark_cut → ((k : K) → keys_by (equal k) old + one (equal k) item.key ≤ 1)
+        → IsValid equal old → IsValid equal new
     EvictsVictim-valid queue old new item calls evicts marked single valid =
         IsValid-beside old new (EvictsVictim-beside rules queue old new item calls evicts) valid
-        (λ k. let was = single k in omega (arith, was, EvictsVictim-keys rules (equal k) queue old new item calls evicts))
-        (EvictsVictim-in_place rules queue old new item calls evicts marked (IsValid-in_place old valid))
+        (λ k. let was = single k in omega (
+          arith,
+          was,
+          EvictsVictim-keys rules (equal k)
+              queue old new item calls evicts,
+        ))
+        (EvictsVictim-in_place rules queue old new item calls evicts marked
+        (IsValid-in_place old valid))
 
     -- a hot advance
-    pub AdvancesHot-valid : (old new : CacheState K V) (answer : Bool) (calls : List (HookCall K V)) → AdvancesHot rules old answer calls new → IsValid equal old → IsValid equal new
+    pub AdvancesHot-valid : (old new : CacheState K V) (answer : Bool) (calls : List (HookCall K V))
+        → AdvancesHot rules old answer calls new → IsValid equal old → IsValid equal new
     AdvancesHot-valid old new answer calls advances valid =
         IsValid-beside old new (AdvancesHot-beside rules old new answer calls advances) valid
-        (λ k. let was = valid.one_entry_a_key k in omega (arith, was, AdvancesHot-keys rules (equal k) old new answer calls advances))
+        (λ k. let was = valid.one_entry_a_key k in omega
+        (arith, was, AdvancesHot-keys rules (equal k) old new answer calls advances))
         (AdvancesHot-in_place rules old new answer calls advances (IsValid-in_place old valid))
 
     -- eviction down to the target
-    pub EvictsToTarget-valid : (old new : CacheState K V) (calls : List (HookCall K V)) → EvictsToTarget rules old calls new → IsValid equal old → IsValid equal new
+    pub EvictsToTarget-valid : (old new : CacheState K V) (calls : List (HookCall K V))
+        → EvictsToTarget rules old calls new → IsValid equal old → IsValid equal new
     EvictsToTarget-valid old new calls evicts valid =
         IsValid-beside old new (EvictsToTarget-beside rules old new calls evicts) valid
-        (λ k. let was = valid.one_entry_a_key k in omega (arith, was, EvictsToTarget-keys rules (equal k) old new calls evicts))
+        (λ k. let was = valid.one_entry_a_key k in omega
+        (arith, was, EvictsToTarget-keys rules (equal k) old new calls evicts))
         (EvictsToTarget-in_place rules old new calls evicts (IsValid-in_place old valid))
 
     -- a cold advance
-    pub AdvancesCold-valid : (old new : CacheState K V) (answer : Bool) (calls : List (HookCall K V)) → AdvancesCold rules old answer calls new → IsValid equal old → IsValid equal new
+    pub AdvancesCold-valid : (old new : CacheState K V) (answer : Bool)
+        (calls : List (HookCall K V)) → AdvancesCold rules old answer calls new → IsValid equal old
+        → IsValid equal new
     AdvancesCold-valid old new answer calls advances valid =
         IsValid-beside old new (AdvancesCold-beside rules old new answer calls advances) valid
-        (λ k. let was = valid.one_entry_a_key k in omega (arith, was, AdvancesCold-keys rules (equal k) old new answer calls advances))
+        (λ k. let was = valid.one_entry_a_key k in omega
+        (arith, was, AdvancesCold-keys rules (equal k) old new answer calls advances))
         (AdvancesCold-in_place rules old new answer calls advances (IsValid-in_place old valid))
 
     -- eviction down to the capacity
-    pub EvictsToCapacity-valid : (need : ℕ) (old new : CacheState K V) (calls : List (HookCall K V)) → EvictsToCapacity rules need old calls new
+    pub EvictsToCapacity-valid : (need : ℕ) (old new : CacheState K V) (calls : List (HookCall K V))
+        → EvictsToCapacity rules need old calls new
         → IsValid equal old → IsValid equal new
     EvictsToCapacity-valid need old new calls evicts valid =
         IsValid-beside old new (EvictsToCapacity-beside rules need old new calls evicts) valid
-        (λ k. let was = valid.one_entry_a_key k in omega (arith, was, EvictsToCapacity-keys rules (equal k) need old new calls evicts))
+        (λ k. let was = valid.one_entry_a_key k in omega
+        (arith, was, EvictsToCapacity-keys rules (equal k) need old new calls evicts))
         (EvictsToCapacity-in_place rules need old new calls evicts (IsValid-in_place old valid))
 
     -- setting the capacity: the ghosts that are too many for the new limit go at the end
-    pub SetsCapacity-valid : (capacity : ℕ) (old new : CacheState K V) (calls : List (HookCall K V)) → SetsCapacity rules capacity old calls new
+    pub SetsCapacity-valid : (capacity : ℕ) (old new : CacheState K V) (calls : List (HookCall K V))
+        → SetsCapacity rules capacity old calls new
         → IsValid equal old → IsValid equal new
     SetsCapacity-valid capacity old _ calls (SetsCapacity.sets mid _ evicts) valid =
         let same = EvictsToCapacity-beside rules 0 (resized rules capacity old) mid calls evicts in
-        let place = EvictsToCapacity-in_place rules 0 (resized rules capacity old) mid calls evicts (record { in_hot = valid.in_hot; in_cold = valid.in_cold; in_still = valid.in_still }) in
+        let place = EvictsToCapacity-in_place rules 0 (resized rules capacity old) mid calls evicts
+        (record { in_hot = valid.in_hot; in_cold = valid.in_cold; in_still = valid.in_still })
+        in
         record {
-          one_entry_a_key = λ k. let was = valid.one_entry_a_key k in omega (arith, was, EvictsToCapacity-keys rules (equal k) 0 (resized rules capacity old) mid calls evicts);
-          one_entry_a_ticket = λ n. subst (λ (l : List (LoadingEntry K)). count_by (λ entry. entry.ticket == n) l ≤ 1) (sym same.loading) (valid.one_entry_a_ticket n);
+          one_entry_a_key = λ k. let was = valid.one_entry_a_key k in omega (
+            arith,
+            was,
+            EvictsToCapacity-keys rules (equal k) 0 (resized rules capacity old)
+                mid calls evicts,
+          );
+          one_entry_a_ticket = λ n. subst (λ (l : List (LoadingEntry K)). count_by
+              (λ entry. entry.ticket == n) l ≤ 1) (sym same.loading) (valid.one_entry_a_ticket n);
           tickets_given =
-              subst (λ n. AllByRecursion (λ (entry : LoadingEntry K). entry.ticket < n) mid.loading) (sym same.next_ticket)
-              (subst (λ (l : List (LoadingEntry K)). AllByRecursion (λ entry. entry.ticket < old.next_ticket) l) (sym same.loading) valid.tickets_given);
+              subst (λ n. AllByRecursion (λ (entry : LoadingEntry K). entry.ticket < n) mid.loading)
+              (sym same.next_ticket)
+              (subst (λ (l : List (LoadingEntry K)). AllByRecursion
+              (λ entry. entry.ticket < old.next_ticket) l) (sym same.loading)
+              valid.tickets_given);
           ghosts_within = newest-within mid.ghost_limit mid.ghosts;
           in_hot = place.in_hot;
           in_cold = place.in_cold;

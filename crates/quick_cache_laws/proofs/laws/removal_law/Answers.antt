@@ -6,4 +6,5 @@ returns-clause-again g c = λ stands_for hash old mid new first second query val
     Removes-second _ stands_for query hash old mid new first second valid removes again
 
 pub returns-clause-retains_again : goal.returns-clause-retains_again
-returns-clause-retains_again g c = λ keeps old mid new retains again. Retains-second keeps old mid new retains again
+returns-clause-retains_again g c = λ keeps old mid new retains again. Retains-second keeps old mid
+    new retains again
