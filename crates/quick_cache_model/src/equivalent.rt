@@ -1,5 +1,5 @@
 //! Queries that stand for keys.
-ghost use Rattle.std.specs.Prelude.{◌≡◌, Bool, IsTrue, IfOk, IfErr};
+ghost use Rattle.std.specs.Prelude.{◌≡◌, Bool, IsTrue, IfOk, IfErr, IsOk};
 ghost use Rattle.quick_cache_model.specs.declared.refusal.Refusal.TheVariants.{Memory};
 
 use crate::refusal::Refusal;
@@ -44,14 +44,20 @@ pub trait ToKey<K: Eq + Hash>: Equivalent<K> {
     /// The keys that the query may give. A call that takes one asks that the query stands for each of them.
     ghost to_key_gives: { Self → K → Type 0 };
 
+    /// Whether the query gives a key without fail.
+    ghost to_key_is_infallible: { Self → Type 0 };
+
     /// A key of its own, or `Memory` where there is none for it.
     fn to_key(&self) -> Result<K, Refusal>
         ensures gives { IfOk result (to_key_gives self.now) }
+        ensures succeeds { to_key_is_infallible self.now → IsOk result }
         ensures refused { IfErr result (λ refusal. refusal ≡ Memory) };
 }
 
 impl<K: Eq + Hash + Clone> ToKey<K> for K {
     ghost to_key_gives = { K.is_clone };
+
+    ghost to_key_is_infallible = { K.is_infallible };
 
     fn to_key(&self) -> Result<K, Refusal> {
         match self.clone() {

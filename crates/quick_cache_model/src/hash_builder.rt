@@ -1,5 +1,5 @@
 //! The hasher that a cache takes by default, and the hash of a key.
-ghost use Rattle.std.specs.Prelude.{◌≡◌};
+ghost use Rattle.std.specs.Prelude.{◌≡◌, Some, codes};
 ghost use Rattle.quick_cache_model.specs.Hashing.{hash_of};
 
 use std::fmt::{Debug, Formatter, Write};
@@ -45,6 +45,8 @@ impl BuildHasher for DefaultHashBuilder {
 }
 
 impl Debug for DefaultHashBuilder {
+    ghost debug_output = { λ _. Some (codes "DefaultHashBuilder { .. }") };
+
     fn fmt<W: Write>(&self, f: &mut Formatter<W>) -> std::fmt::Result {
         f.write_str("DefaultHashBuilder { .. }")
     }
