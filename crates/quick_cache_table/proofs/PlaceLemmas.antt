@@ -7,7 +7,7 @@ use Rattle.std.proofs.lemmas.List.{length-set}
 use Rattle.std.proofs.lemmas.List.Sums.{sum_by-cons, sum_by-set}
 use Rattle.quick_cache_table.specs.declared.table.groups.Place.{Place}
 use Rattle.quick_cache_table.specs.Table.{is_pair}
-use Rattle.quick_cache_table.specs.TableGroups.{hash_at, is_free, pair_of, pairs_of, holds_pair, place_at, empty_place, HasOneMore, tokens_at}
+use Rattle.quick_cache_table.specs.TableGroups.{hash_at, is_free, place_pair, pairs_of, holds_pair, place_at, empty_place, HasOneMore, tokens_at}
 
 -- two numbers are equal or not
 pub equal_or_not : (a b : ℕ) → (a ≡ b) ⊎ (a ≢ b)
@@ -155,9 +155,9 @@ is_pair-other x y h k off =
     ]
 
 -- the pairs, from what each place has
-pub pairs_of-map : (places : List Place) → pairs_of places ≡ filter_map (λ o. o) (map pair_of places)
+pub pairs_of-map : (places : List Place) → pairs_of places ≡ filter_map (λ o. o) (map place_pair places)
 pairs_of-map [] = refl
-pairs_of-map (place ∷ rest) = ap (cons_option (pair_of place)) (pairs_of-map rest)
+pairs_of-map (place ∷ rest) = ap (cons_option (place_pair place)) (pairs_of-map rest)
 
 pub filter_map-none : {X : Type 0} (n : ℕ) → filter_map {X = Option X} (λ o. o) (replicate n None) ≡ []
 filter_map-none zero = refl

@@ -5,7 +5,7 @@ use Rattle.std.specs.Int.NonZero.{non_zero_u32_get}
 use Rattle.std.proofs.lemmas.Bool.{eq-eqb}
 use Rattle.std.proofs.lemmas.Bool.Decides.{eqb_tells}
 use Rattle.std.proofs.lemmas.List.Sums.{sum_by-cons}
-use Rattle.quick_cache_table.specs.Table.{Table, HasPair, has_pair, SearchesAlong, CallsKeep, Answers, Finds, FindsByAnswer}
+use Rattle.quick_cache_table.specs.Table.{Table, HasPair, has_pair, SearchesAlong, ComputesTest, SearchesHash, FindsPassing}
 use Rattle.quick_cache_table.proofs.PlaceLemmas.{bool_tells, bit}
 
 some-injective : (x y : NonZeroU32) → Some x ≡ Some y → x ≡ y
@@ -26,37 +26,38 @@ module _ {F : Type 0} (step : F → NonZeroU32 → Bool → F → Type 0) where
       let Q : List ℕ → Type 0 = λ ts. SearchesAlong step f ts (Some token) in
       subst Q (sym first) (token, true, next, refl, subst P holds called, refl)
 
-  -- where calls keep f, a search that found a token had true for it
-  SearchesAlong-found : (f : F) (tokens : List ℕ) (token : NonZeroU32) → CallsKeep step f → SearchesAlong step f tokens (Some token) → Answers step f (non_zero_u32_get token) true
-  SearchesAlong-found f [] token keeps search_along = absurd (cc)
-  SearchesAlong-found f (first ∷ rest) token keeps (shown, true, next, at, called, ended) =
-      let kept : next ≡ f = keeps shown true next called in
-      let P : F → Type 0 = λ g. step f shown true g in
-      (shown, ap non_zero_u32_get (some-injective shown token (sym ended)), subst P kept called)
-  SearchesAlong-found f (first ∷ rest) token keeps (shown, false, next, at, called, later) =
+  -- where f computes a test, a search that found a token had it pass
+  SearchesAlong-found : (f : F) (passes : ℕ → Bool) (tokens : List ℕ) (token : NonZeroU32)
+      → ComputesTest step f passes → SearchesAlong step f tokens (Some token)
+      → passes (non_zero_u32_get token) ≡ true
+  SearchesAlong-found f passes [] token tests search_along = absurd (cc)
+  SearchesAlong-found f passes (first ∷ rest) token tests (shown, true, next, at, called, ended) =
+      let same : shown ≡ token = some-injective shown token (sym ended) in
+      ap (λ t. passes (non_zero_u32_get t)) (sym same) ∙ sym (tests.answers shown true next called)
+  SearchesAlong-found f passes (first ∷ rest) token tests (shown, false, next, at, called, later) =
       let P : F → Type 0 = λ g. SearchesAlong step g rest (Some token) in
-      SearchesAlong-found f rest token keeps (subst P (keeps shown false next called) later)
+      SearchesAlong-found f passes rest token tests
+      (subst P (tests.keeps shown false next called) later)
 
-  -- and one that found none had false for each
-  SearchesAlong-missed : (f : F) (tokens : List ℕ) → CallsKeep step f → SearchesAlong step f tokens None → (token : ℕ) → 0 < count_by (λ k. eqb k token) tokens → Answers step f token false
-  SearchesAlong-missed f [] keeps search_along token some = absurd (omega (arith, some))
-  SearchesAlong-missed f (first ∷ rest) keeps (shown, true, next, at, called, ended) token some = absurd (cc)
-  SearchesAlong-missed f (first ∷ rest) keeps (shown, false, next, at, called, later) token some =
-      let kept : next ≡ f = keeps shown false next called in
+  -- and one that found nothing had none pass
+  SearchesAlong-missed : (f : F) (passes : ℕ → Bool) (tokens : List ℕ)
+      → ComputesTest step f passes → SearchesAlong step f tokens None
+      → (token : ℕ) → 0 < count_by (λ k. eqb k token) tokens → passes token ≡ false
+  SearchesAlong-missed f passes [] tests search_along token some = absurd (omega (arith, some))
+  SearchesAlong-missed f passes (first ∷ rest) tests (shown, true, next, at, called, ended) token some =
+      absurd (cc)
+  SearchesAlong-missed f passes (first ∷ rest) tests (shown, false, next, at, called, later) token some =
       let P : F → Type 0 = λ g. SearchesAlong step g rest None in
-      let Q : F → Type 0 = λ g. step f shown false g in
       let counted = sum_by-cons (λ k. bit (eqb k token)) first rest in
       elim (eqb_tells first token) [
-        | inl t ↦ (shown, at ∙ t.1, subst Q kept called)
-        | inr t ↦ SearchesAlong-missed f rest keeps (subst P kept later) token (omega (arith, some, counted, ap bit t.0))
+        | inl t ↦
+            let same : non_zero_u32_get shown ≡ token = at ∙ t.1 in
+            ap passes (sym same) ∙ sym (tests.answers shown false next called)
+        | inr t ↦
+            SearchesAlong-missed f passes rest tests
+            (subst P (tests.keeps shown false next called) later) token
+            (omega (arith, some, counted, ap bit t.0))
       ]
-
-  -- a search along the tokens of a hash finds by the answers
-  pub FindsByAnswer-from_Finds : (table : Table) (hash : ℕ) (f : F) (result : Option NonZeroU32) → CallsKeep step f → Finds step table hash f result → FindsByAnswer step table hash f result
-  FindsByAnswer-from_Finds table hash f None keeps (tokens, are, along) =
-      λ token has. SearchesAlong-missed f tokens keeps along token (omega (arith, are token, ap bit has))
-  FindsByAnswer-from_Finds table hash f (Some token) keeps (tokens, are, along) =
-      SearchesAlong-found f tokens token keeps along
 
   -- a token that a search ended at is one of those that it was led along
   SearchesAlong-has : (f : F) (tokens : List ℕ) (token : NonZeroU32) → SearchesAlong step f tokens (Some token) → 0 < count_by (λ k. eqb k (non_zero_u32_get token)) tokens
@@ -68,9 +69,26 @@ module _ {F : Type 0} (step : F → NonZeroU32 → Bool → F → Type 0) where
       omega (arith, SearchesAlong-has next rest token later, sum_by-cons (λ k. bit (eqb k (non_zero_u32_get token))) first rest)
 
   -- what a search of a hash finds is a token of that hash
-  pub HasPair-from_Finds : (table : Table) (hash : ℕ) (f : F) (token : NonZeroU32) → Finds step table hash f (Some token) → HasPair table hash (non_zero_u32_get token)
-  HasPair-from_Finds table hash f token (tokens, are, along) =
+  pub HasPair-from_search : (table : Table) (hash : ℕ) (f : F) (token : NonZeroU32) → SearchesHash step table hash f (Some token) → HasPair table hash (non_zero_u32_get token)
+  HasPair-from_search table hash f token (tokens, are, along) =
       elim (bool_tells (has_pair table hash (non_zero_u32_get token))) [
         | inl holds ↦ holds
         | inr fails ↦ absurd (omega (arith, SearchesAlong-has f tokens token along, are (non_zero_u32_get token), ap bit fails))
       ]
+
+  -- a search along the tokens of a hash decides by the test
+  pub FindsPassing-from_search : (table : Table) (hash : ℕ) (f : F) (passes : ℕ → Bool)
+      (result : Option NonZeroU32) → ComputesTest step f passes → SearchesHash step table hash f result
+      → FindsPassing table hash passes result
+  FindsPassing-from_search table hash f passes result tests (tokens, are, along) = record {
+    found = λ token some.
+        HasPair-from_search table hash f token
+        (tokens, are, subst (λ r. SearchesAlong step f tokens r) some along);
+    passed = λ token some.
+        SearchesAlong-found f passes tokens token tests
+        (subst (λ r. SearchesAlong step f tokens r) some along);
+    missed = λ none token has.
+        SearchesAlong-missed f passes tokens tests
+        (subst (λ r. SearchesAlong step f tokens r) none along) token
+        (omega (arith, are token, ap bit has));
+  }

@@ -5,7 +5,7 @@ use Rattle.std.proofs.lemmas.Bool.{lt-ltb}
 use Rattle.std.proofs.lemmas.Bool.Decides.{leb_tells}
 use Rattle.quick_cache_table.specs.declared.table.groups.Place.{Place}
 use Rattle.quick_cache_table.specs.Table.{Table, in_order, is_pair, has_pair, pair_count, HasPair, AddsPair, RemovesPair, SameOtherPairs, IsTokensOf}
-use Rattle.quick_cache_table.specs.TableGroups.{hash_at, is_free, pair_of, pairs_of, place_at, holds_pair, empty_place, capacity_of, IsWhole, IsSound, HasOneMore, HasSamePairs, AreTokensOf}
+use Rattle.quick_cache_table.specs.TableGroups.{hash_at, is_free, place_pair, pairs_of, place_at, holds_pair, empty_place, capacity_of, IsWhole, IsSound, HasOneMore, HasSamePairs, AreTokensOf}
 use Rattle.quick_cache_table.proofs.PairOrder.{list_any-in_order, length-in_order, in_order-same}
 use Rattle.quick_cache_table.proofs.PlaceLemmas.{bool_tells, bit, length-pairs_of, holds_pair-hash, pairs_of-map, filter_map-none, map-replicate, is_pair-equal, is_pair-refl, is_pair-other, list_any-pairs_of, count_by-pairs_of}
 
@@ -111,7 +111,7 @@ IsSound-grown tags tags' places places' reaches reaches' mask mask' len sound wh
 
 -- free places have no pair
 pub pairs_of-free : (count : ℕ) → pairs_of (replicate count empty_place) ≡ []
-pairs_of-free count = pairs_of-map (replicate count empty_place) ∙ ap (filter_map (λ o. o)) (map-replicate pair_of count empty_place) ∙ filter_map-none count
+pairs_of-free count = pairs_of-map (replicate count empty_place) ∙ ap (filter_map (λ o. o)) (map-replicate place_pair count empty_place) ∙ filter_map-none count
 
 -- a table whose places are free is sound, and has no pair
 pub IsSound-freed : (tags : List ℕ) (places : List Place) (reaches : List ℕ) (mask : ℕ) → IsWhole tags places reaches mask → pairs_of places ≡ [] → IsSound tags places reaches mask 0

@@ -1,8 +1,7 @@
 -- What a contract sees of a `Table`: a set of pairs of a hash and a token.
-use Rattle.std.specs.Prelude.{◌≡◌, ℕ, ◌+◌, Bool, true, false, ◌&&◌, ◌||◌, ◌==◌, nat_lt, if◌then◌else◌, IsTrue, List, [], ◌∷◌, length, count_by, Option, Some, None, refl}
+use Rattle.std.specs.Prelude.{◌≡◌, ℕ, ◌+◌, ◌-◌, min, Bool, true, false, ◌&&◌, ◌||◌, ◌==◌, nat_lt, if◌then◌else◌, IsTrue, List, [], ◌∷◌, length, count_by, Option, Some, None, refl}
 use Rattle.std.specs.Bool.{MatchBool}
 use Rattle.std.specs.List.{list_any}
-use Rattle.std.specs.Option.{MatchOption}
 use Rattle.std.specs.Coded.{Coded, code_by, coded×, coded_ℕ, coded_list}
 use Rattle.std.specs.Int.NonZero.{non_zero_u32_get}
 use Rattle.std.specs.declared.num.NonZeroU32.{NonZeroU32}
@@ -55,6 +54,10 @@ HasPair table hash token = IsTrue (has_pair table hash token)
 abbrev pub pair_count : Table → ℕ
 pair_count table = length table.pairs
 
+-- so much room, or room for all the pairs that the table can still take, one for each token
+abbrev pub wanted_room : Table → ℕ → ℕ
+wanted_room table additional = min additional (4294967294 - pair_count table)
+
 -- every pair but that of this hash and this token is in both tables or in neither
 abbrev pub SameOtherPairs : Table → Table → ℕ → ℕ → Type 0
 SameOtherPairs old new hash token =
@@ -93,20 +96,23 @@ module _ {F : Type 0} (step : F → NonZeroU32 → Bool → F → Type 0) where
   CallsKeep f =
       (shown : NonZeroU32) (answer : Bool) (next : F) → step f shown answer next → next ≡ f
 
-  -- f answers so for the token
-  abbrev pub Answers : F → ℕ → Bool → Type 0
-  Answers f token answer =
-      (shown : NonZeroU32) × (non_zero_u32_get shown ≡ token) × step f shown answer f
-
-  -- the result is a token of that hash for which f answers true, or nothing, and then f answers
-  -- false for each token of that hash
-  abbrev pub FindsByAnswer : Table → ℕ → F → Option NonZeroU32 → Type 0
-  FindsByAnswer table hash f result =
-      MatchOption result
-      ((token : ℕ) → HasPair table hash token → Answers f token false)
-      (λ token. Answers f (non_zero_u32_get token) true)
-
   -- f was shown tokens of that hash, each at most once, until it answered true, or else all of them
-  abbrev pub Finds : Table → ℕ → F → Option NonZeroU32 → Type 0
-  Finds table hash f result =
+  abbrev pub SearchesHash : Table → ℕ → F → Option NonZeroU32 → Type 0
+  SearchesHash table hash f result =
       (tokens : List ℕ) × IsTokensOf table hash tokens × SearchesAlong f tokens result
+
+  -- f computes a test of tokens: a call answers what the test says, and leaves f as it was
+  pub record ComputesTest (f : F) (passes : ℕ → Bool) : Type 0 where
+    pub answers : (shown : NonZeroU32) (answer : Bool) (next : F) → step f shown answer next
+        → answer ≡ passes (non_zero_u32_get shown)
+    pub keeps : (shown : NonZeroU32) (answer : Bool) (next : F) → step f shown answer next
+        → next ≡ f
+
+-- the result is a token of that hash that passes the test, or nothing, and then none of them passes
+pub record FindsPassing (table : Table) (hash : ℕ) (passes : ℕ → Bool)
+    (result : Option NonZeroU32) : Type 0 where
+  pub found : (token : NonZeroU32) → result ≡ Some token
+      → HasPair table hash (non_zero_u32_get token)
+  pub passed : (token : NonZeroU32) → result ≡ Some token
+      → passes (non_zero_u32_get token) ≡ true
+  pub missed : result ≡ None → (token : ℕ) → HasPair table hash token → passes token ≡ false

@@ -14,12 +14,12 @@ abbrev pub is_free : Place → Bool
 is_free place = place.token == 0
 
 -- the pair at a place, if it has one
-abbrev pub pair_of : Place → Option (ℕ × ℕ)
-pair_of place = if is_free place then None else Some (hash_at place, place.token)
+abbrev pub place_pair : Place → Option (ℕ × ℕ)
+place_pair place = if is_free place then None else Some (hash_at place, place.token)
 
 -- the pairs, by their places
 abbrev pub pairs_of : List Place → List (ℕ × ℕ)
-pairs_of places = filter_map pair_of places
+pairs_of places = filter_map place_pair places
 
 -- the place has the pair of that hash and that token
 abbrev pub holds_pair : ℕ → ℕ → Place → Bool
@@ -52,7 +52,7 @@ IsReached reaches mask hash position =
     distance (home_of mask hash) position ≤ slice_index reaches (home_of mask hash)
 
 -- a reach for each group, and sixteen tags and places: of a power of two of groups, or of none
-pub record IsSized (tags : List ℕ) (places : List Place) (reaches : List ℕ) (mask : ℕ) : Type 0 where
+pub record IsGrouped (tags : List ℕ) (places : List Place) (reaches : List ℕ) (mask : ℕ) : Type 0 where
   pub groups : 0 < length reaches → length reaches ≡ mask + 1
   pub sixteen : length places ≡ 16 * length reaches
   pub tagged : length tags ≡ length places
@@ -68,7 +68,7 @@ pub record IsHousedAt (tags reaches : List ℕ) (mask : ℕ) (place : Place) (po
 
 -- where there is a tag, its pair is housed
 pub record IsHoused (tags : List ℕ) (places : List Place) (reaches : List ℕ) (mask : ℕ) : Type 0 where
-  pub sized : IsSized tags places reaches mask
+  pub sized : IsGrouped tags places reaches mask
   pub housed : (position : ℕ) → position < length places → 0 < slice_index tags position
       → IsHousedAt tags reaches mask (place_at places position) position
 

@@ -1,17 +1,17 @@
 //! Tokens by hash: a set of pairs of a hash and a token, in groups of sixteen places.
-ghost use Rattle.std.specs.Prelude.{◌≡◌, ◌⊎◌, ◌+◌, ◌-◌, ◌^◌, ◌<◌, ◌≤◌, ◌↔◌, [], min, IsTrue, IsOk, IfOk, IfErr, OnOk, OnErr, IfSome};
+ghost use Rattle.std.specs.Prelude.{◌≡◌, ℕ, Bool, ◌+◌, ◌-◌, ◌^◌, ◌<◌, ◌≤◌, ◌↔◌, [], min, IsTrue, IsOk, IfOk, IfErr, OnOk, OnErr, IfSome};
 ghost use Rattle.std.specs.Bool.{OnTrue, OnFalse};
 ghost use Rattle.std.specs.Int.NonZero.{non_zero_u32_get};
-ghost use Rattle.quick_cache_table.specs.Table.{HasPair, pair_count, AddsPair, RemovesPair, IsTokensOf, Finds, CallsKeep, FindsByAnswer};
+ghost use Rattle.quick_cache_table.specs.Table.{HasPair, pair_count, AddsPair, RemovesPair, IsTokensOf, SearchesHash, ComputesTest, FindsPassing, wanted_room};
 
 pub(crate) mod groups;
 pub(crate) mod tokens;
 pub(crate) mod walk;
 
 use groups::{MOST_PAIRS, Place, capacity, groups_for};
+use quick_cache_model::{Refusal, Token};
 use std::alloc::{Allocator, Global};
 use std::marker::Model;
-use quick_cache_model::{Refusal, Token};
 pub use tokens::Tokens;
 use walk::{Walk, position_of};
 
@@ -85,7 +85,8 @@ impl<A: Allocator> Table<A> {
 
     /// How many pairs there are.
     pub fn len(&self) -> usize
-        ensures { result ≡ pair_count self.now }
+        ensures value { result ≡ pair_count self.now }
+        ensures most { pair_count self.now + self.now.room ≤ 4294967294 }
     {
         self.len
     }
@@ -100,37 +101,38 @@ impl<A: Allocator> Table<A> {
         tags.saturating_add(places).saturating_add(reaches)
     }
 
-    /// Makes room for `additional` more pairs.
+    /// Makes room for `additional` more pairs, or for all that the table can still take.
     ///
-    /// A growth at least doubles the groups, and puts each pair into its group anew. A refused call
-    /// may keep memory that it got, and changes nothing else.
+    /// It asks for memory only where the room does not suffice. A growth at least doubles the groups,
+    /// and puts each pair into its group anew. A refused call may keep memory that it got, and
+    /// changes nothing else.
     ///
     /// # Errors
     ///
-    /// `SlotsFull` where the table would have room for more than 4294967294 pairs, and `Memory`
-    /// where there is none.
+    /// `Memory` where there is none.
     pub fn reserve(&mut self, additional: usize) -> Result<(), Refusal>
         ensures pairs { self.new.pairs ≡ self.old.pairs }
-        ensures room { OnOk result (additional ≤ self.new.room) }
+        ensures room { OnOk result (wanted_room self.old additional ≤ self.new.room) }
         ensures more { self.old.room ≤ self.new.room }
-        ensures had_room { additional ≤ self.old.room → self.new ≡ self.old }
+        ensures most { pair_count self.new + self.new.room ≤ 4294967294 }
+
+        // Where there is room it succeeds and nothing changes, so that it takes no memory.
+        ensures succeeds { wanted_room self.old additional ≤ self.old.room → IsOk result }
+        ensures had_room { wanted_room self.old additional ≤ self.old.room
+            → self.new ≡ self.old }
 
         // It is refused only where there was no room, and then nothing but the memory changes.
-        ensures succeeds { additional ≤ self.old.room → IsOk result }
-        ensures full { (result ≡ Err Refusal.SlotsFull)
-            ↔ (MOST_PAIRS < pair_count self.old + additional) }
-        ensures errors { IfErr result (λ e. (e ≡ Refusal.Memory) ⊎ (e ≡ Refusal.SlotsFull)) }
+        ensures lacked_room { OnErr result (self.old.room < wanted_room self.old additional) }
+        ensures memory { IfErr result (λ refusal. refusal ≡ Refusal.Memory) }
         ensures refused { OnErr result (self.new
             ≡ record self.old { allocated = self.new.allocated }) }
         ensures allocated { self.old.allocated ≤ self.new.allocated }
     {
-        if additional <= capacity(self.reaches.len()) - self.len {
+        let wanted = additional.min(MOST_PAIRS - self.len);
+        if wanted <= capacity(self.reaches.len()) - self.len {
             return Ok(());
         }
-        if additional > MOST_PAIRS - self.len {
-            return Err(Refusal::SlotsFull);
-        }
-        let count = groups_for(self.len + additional);
+        let count = groups_for(self.len + wanted);
         groups::grow(&mut self.tags, &mut self.places, &mut self.reaches, count)?;
         self.mask = count - 1;
         Ok(())
@@ -209,8 +211,9 @@ impl<A: Allocator> Table<A> {
     pub fn find<F: FnMut(Token) -> bool>(&self, hash: u64, mut is_it: F) -> Option<Token>
         requires { F.IsAlwaysCallable is_it }
         ensures found { IfSome result (λ token. HasPair self.now hash (non_zero_u32_get token)) }
-        ensures searches { Finds F.step self.now hash is_it result }
-        ensures answers { CallsKeep F.step is_it → FindsByAnswer F.step self.now hash is_it result }
+        ensures searches { SearchesHash F.step self.now hash is_it result }
+        ensures decides { (passes : ℕ → Bool) → ComputesTest F.step is_it passes
+            → FindsPassing self.now hash passes result }
     {
         if self.reaches.is_empty() {
             return None;

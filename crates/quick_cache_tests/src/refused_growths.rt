@@ -1,6 +1,6 @@
 //! Each allocation of the containers refused in turn: what they held stays, and the call succeeds once there is memory.
 use quick_cache_base::linked_slab::LinkedSlab;
-use quick_cache_base::{Refusal, Table};
+use quick_cache_base::{Refusal, Table, Token};
 use rationed::Rationed;
 use std::test::Fail;
 
@@ -30,7 +30,7 @@ fn a_table_that_cannot_grow_keeps_its_pairs(rt: HostRuntime) -> Result<(), Fail>
     let Ok(mut table) = Table::new(&ration) else {
         panic!(rt; "an empty table takes no memory");
     };
-    // A growth asks for the heads, and then for the places.
+    // A growth asks for the tags, for the places and for the reaches, and keeps what it got.
     for blocks in 0..2 {
         ration.allow(blocks);
         assert!(rt; table.reserve(1) == Err(Refusal::Memory));
@@ -39,5 +39,40 @@ fn a_table_that_cannot_grow_keeps_its_pairs(rt: HostRuntime) -> Result<(), Fail>
     }
     ration.allow(2);
     assert!(rt; table.reserve(1).is_ok());
+    Ok(())
+}
+
+#[test]
+fn a_table_with_room_asks_for_no_memory(rt: HostRuntime) -> Result<(), Fail> {
+    let ration = Rationed::new(rt.alloc(), 3);
+    let Ok(mut table) = Table::new(&ration) else {
+        panic!(rt; "an empty table takes no memory");
+    };
+    assert!(rt; table.reserve(100).is_ok());
+    assert_eq!(rt; ration.left(), 0);
+    for number in 1..=100 {
+        let token = Token::new(number).expect(&rt, "a token is not 0");
+        assert!(rt; table.reserve(1).is_ok());
+        if table.find(7, |other| other == token).is_none() {
+            table.insert_reserved(7, token);
+        }
+        assert!(rt; table.reserve(0).is_ok());
+    }
+    assert_eq!(rt; table.len(), 100);
+    assert!(rt; table.reserve(1000) == Err(Refusal::Memory));
+    table.clear();
+    assert!(rt; table.reserve(100).is_ok());
+    Ok(())
+}
+
+#[test]
+fn a_table_asks_for_no_more_room_than_there_are_tokens(rt: HostRuntime) -> Result<(), Fail> {
+    let ration = Rationed::new(rt.alloc(), 0);
+    let Ok(mut table) = Table::new(&ration) else {
+        panic!(rt; "an empty table takes no memory");
+    };
+    assert!(rt; table.reserve(usize::MAX) == Err(Refusal::Memory));
+    assert_eq!(rt; table.allocation_size(), 0);
+    assert!(rt; table.reserve(0).is_ok());
     Ok(())
 }

@@ -7,6 +7,11 @@ fn token(rt: &impl Abort, number: u32) -> Token {
     Token::new(number).expect(rt, "a token is not 0")
 }
 
+// A hash of its own for each number, all its bits in use.
+fn spread(number: u32) -> u64 {
+    u64::from(number).wrapping_mul(0x9E37_79B9_7F4A_7C15)
+}
+
 // Puts the pair into the table, unless it is there.
 fn put(table: &mut Table, hash: u64, token: Token) -> Result<(), Refusal> {
     table.reserve(1)?;
@@ -84,10 +89,35 @@ fn gives_room_back(rt: HostRuntime) -> Result<(), Fail> {
 }
 
 #[test]
-fn refuses_more_pairs_than_there_are_tokens(rt: HostRuntime) -> Result<(), Fail> {
+fn keeps_ten_thousand_pairs_of_as_many_hashes(rt: HostRuntime) -> Result<(), Fail> {
     let mut table = Table::new(rt.alloc())?;
-    assert_eq!(rt; table.reserve(usize::MAX), Err(Refusal::SlotsFull));
-    assert_eq!(rt; table.allocation_size(), 0);
+    for number in 1..=10_000 {
+        put(&mut table, spread(number), token(&rt, number))?;
+    }
+    assert_eq!(rt; table.len(), 10_000);
+    for number in 1..=10_000 {
+        let wanted = token(&rt, number);
+        assert_eq!(rt; table.find(spread(number), |_| true), Some(wanted));
+    }
+    assert_eq!(rt; table.find(spread(10_001), |_| true), None);
+    Ok(())
+}
+
+#[test]
+fn loses_ten_thousand_pairs_one_by_one(rt: HostRuntime) -> Result<(), Fail> {
+    let mut table = Table::new(rt.alloc())?;
+    table.reserve(10_000)?;
+    let held = table.allocation_size();
+    for number in 1..=10_000 {
+        put(&mut table, spread(number), token(&rt, number))?;
+    }
+    for number in 1..=10_000 {
+        let removed = table.remove(spread(number), token(&rt, number));
+        assert!(rt; removed, "pair {number} was there");
+        assert_eq!(rt; table.find(spread(number), |_| true), None);
+    }
+    assert_eq!(rt; table.len(), 0);
+    assert_eq!(rt; table.allocation_size(), held);
     Ok(())
 }
 

@@ -7,7 +7,7 @@
 ghost use Rattle.std.specs.Prelude.{◌≡◌, ◌≢◌, ℕ, ◌+◌, ◌-◌, ◌*◌, ◌^◌, ◌<◌, ◌≤◌, ◌==◌, ◌&&◌, false, length, count_by, map, replicate, IsTrue, IsFalse, OnOk, OnErr, IfErr, bit_xor, slice_index, slice_set, vec_len, vec_capacity};
 ghost use Rattle.std.specs.Simd.Lanes.{chunk, mask_l};
 ghost use Rattle.std.specs.Int.{IsPowerOfTwo};
-ghost use Rattle.quick_cache_table.specs.TableGroups.{hash_at, is_free, place_at, tag_of as tag_number, home_of as home_number, distance, IsReached, IsSized, IsHoused, IsBareBelow, IsWhole, capacity_of, HasOneMore, HasSamePairs, HasPairOf, ReachesGrow, empty_place};
+ghost use Rattle.quick_cache_table.specs.TableGroups.{hash_at, is_free, place_at, tag_of as tag_number, home_of as home_number, distance, IsReached, IsGrouped, IsHoused, IsBareBelow, IsWhole, capacity_of, HasOneMore, HasSamePairs, HasPairOf, ReachesGrow, empty_place};
 
 use quick_cache_model::Refusal;
 use std::alloc::Allocator;
@@ -244,7 +244,7 @@ pub(crate) fn grow<A: Allocator>(
 
 // Frees every place.
 pub(crate) fn free_all(tags: &mut [u8], places: &mut [Place], reaches: &mut [u32], mask: usize)
-    requires sized { IsSized tags.old places.old reaches.old mask }
+    requires sized { IsGrouped tags.old places.old reaches.old mask }
     ensures whole { IsWhole tags.new places.new reaches.new mask }
     ensures free { places.new ≡ replicate (length places.old) empty_place }
     ensures groups { length reaches.new ≡ length reaches.old }

@@ -3,7 +3,7 @@ use Rattle.quick_cache_table.specs.Table.{Table, IsTokensOf, SearchesAlong}
 use Rattle.std.specs.Vec.{vec_len}
 use Rattle.std.proofs.lemmas.Bool.{eqb-true}
 use Rattle.quick_cache_table.proofs.TableLemmas.{IsTokensOf-none}
-use Rattle.quick_cache_table.proofs.SearchLemmas.{SearchesAlong-on, SearchesAlong-ends, FindsByAnswer-from_Finds, HasPair-from_Finds}
+use Rattle.quick_cache_table.proofs.SearchLemmas.{SearchesAlong-on, SearchesAlong-ends, FindsPassing-from_search, HasPair-from_search}
 use Rattle.quick_cache_table.proofs.table.Table.find.Given as given
 use Rattle.quick_cache_table.proofs.table.Table.find.Goals as goal
 
@@ -26,11 +26,11 @@ returns-then-is_it-clause-searches g c =
 
 pub returns-then-is_it-clause-found : goal.returns-then-is_it-clause-found
 returns-then-is_it-clause-found g c =
-    HasPair-from_Finds (given.F-step g) c.args.self.now c.args.hash c.args.is_it c.in-Some.token (returns-then-is_it-clause-searches g c)
+    HasPair-from_search (given.F-step g) c.args.self.now c.args.hash c.args.is_it c.in-Some.token (returns-then-is_it-clause-searches g c)
 
-pub returns-then-is_it-clause-answers : goal.returns-then-is_it-clause-answers
-returns-then-is_it-clause-answers g c = λ keeps.
-    FindsByAnswer-from_Finds (given.F-step g) c.args.self.now c.args.hash c.args.is_it (Some c.in-Some.token) keeps (returns-then-is_it-clause-searches g c)
+pub returns-then-is_it-clause-decides : goal.returns-then-is_it-clause-decides
+returns-then-is_it-clause-decides g c = λ passes tests.
+    FindsPassing-from_search (given.F-step g) c.args.self.now c.args.hash c.args.is_it passes (Some c.in-Some.token) tests (returns-then-is_it-clause-searches g c)
 
 -- the search met all the tokens
 pub returns-clause-searches : goal.returns-clause-searches
@@ -40,9 +40,9 @@ returns-clause-searches g c =
     let all = c.loop-token.invariant.onward None (subst Q (sym c.in-None.ensures.steps.0) refl) in
     (c.into_iter-token-iterator.result, subst P (sym c.into_iter-token-iterator.ensures.into_iter_gives) c.iter_hash-token-items.ensures, all)
 
-pub returns-clause-answers : goal.returns-clause-answers
-returns-clause-answers g c = λ keeps.
-    FindsByAnswer-from_Finds (given.F-step g) c.args.self.now c.args.hash c.args.is_it None keeps (returns-clause-searches g c)
+pub returns-clause-decides : goal.returns-clause-decides
+returns-clause-decides g c = λ passes tests.
+    FindsPassing-from_search (given.F-step g) c.args.self.now c.args.hash c.args.is_it passes None tests (returns-clause-searches g c)
 
 -- a table without a group has nothing to show
 pub returns-then-is_empty-clause-searches : goal.returns-then-is_empty-clause-searches
@@ -52,6 +52,6 @@ returns-then-is_empty-clause-searches g c =
     let none : length c.self.inside.reaches.items ≡ 0 = omega (arith, empty) in
     ([], IsTokensOf-none c.args.self.now c.self.inside.tags.items c.self.inside.places.items c.self.inside.reaches.items c.self.inside.mask c.args.hash shows c.self.invariant.whole none, refl)
 
-pub returns-then-is_empty-clause-answers : goal.returns-then-is_empty-clause-answers
-returns-then-is_empty-clause-answers g c = λ keeps.
-    FindsByAnswer-from_Finds (given.F-step g) c.args.self.now c.args.hash c.args.is_it None keeps (returns-then-is_empty-clause-searches g c)
+pub returns-then-is_empty-clause-decides : goal.returns-then-is_empty-clause-decides
+returns-then-is_empty-clause-decides g c = λ passes tests.
+    FindsPassing-from_search (given.F-step g) c.args.self.now c.args.hash c.args.is_it passes None tests (returns-then-is_empty-clause-searches g c)
