@@ -9,5 +9,6 @@ pub mod Overwrites
 pub mod LoadingKeys
 pub mod Capacities
 pub mod Reads
+pub mod EntryCalls
 pub mod Telling
 pub mod Determined

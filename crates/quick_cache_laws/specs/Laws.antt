@@ -12,7 +12,11 @@ use Rattle.quick_cache_model.specs.Placeholders.{MakesPlaceholder, MeetsPlacehol
 use Rattle.quick_cache_model.specs.Placeholders.{FillsPlaceholder, GivesUpPlaceholder}
 use Rattle.quick_cache_model.specs.Lookups.{Sees, LooksUp}
 use Rattle.quick_cache_model.specs.Removal.{Removes, RemovesIf, Retains, emptied}
-use Rattle.quick_cache_model.specs.Entries.{EntryChoice, ActsOnEntry}
+use Rattle.quick_cache_model.specs.Entries.{EntryChoice, ReplaceWithGuard, ActsOnEntry}
+use Rattle.quick_cache_model.specs.Entries.{EntryOutcome, Refused, outcome_of}
+use Rattle.quick_cache_model.specs.Refusals.{HasTicket, last_ticket}
+use Rattle.quick_cache_model.specs.declared.refusal.Refusal.{Refusal}
+use Rattle.quick_cache_model.specs.declared.refusal.Refusal.TheVariants.{Memory, TicketsSpent}
 use Rattle.quick_cache_model.specs.Capacity.{SetsCapacity}
 
 -- what each advance that answers yes lowers: an item of the cold ring can become one of the hot
@@ -227,13 +231,31 @@ module _ (K V : Type 0) where
       (stands_for : K → Bool) (hash : ℕ) (old : CacheState K V) → (answer : Option (K × V))
       × (new : CacheState K V) × Removes stands_for old hash answer new
 
-  -- an item that is there can be acted on, whatever the callback leaves and chooses
+  -- while there are tickets, an item that is there can be acted on, whatever the callback leaves and
+  -- chooses, and what it chose can come of it
   abbrev pub EntriesCanBeActedOn : Type 0
   EntriesCanBeActedOn =
       WhateverRules (λ rules. (stands_for : K → Bool) (old : CacheState K V) (place : Place)
       (before : List (Item K V)) (item : Item K V) (after : List (Item K V))
-      → IsItemAt stands_for old place before item after → (left : V) (choice : EntryChoice)
-      → (new : CacheState K V) × ActsOnEntry rules stands_for old item left choice new)
+      → IsItemAt stands_for old place before item after → HasTicket old
+      → (left : V) (choice : EntryChoice) → (new : CacheState K V)
+      × ActsOnEntry rules stands_for old item left choice (outcome_of choice) new)
+
+  -- while there are tickets, nothing but want of memory refuses an entry call
+  abbrev pub EntriesAreRefusedForMemory : Type 0
+  EntriesAreRefusedForMemory =
+      WhateverRules (λ rules. (stands_for : K → Bool) (old : CacheState K V) (item : Item K V)
+      (left : V) (choice : EntryChoice) (refusal : Refusal) (new : CacheState K V)
+      → ActsOnEntry rules stands_for old item left choice (Refused refusal) new → HasTicket old
+      → refusal ≡ Memory)
+
+  -- once the tickets are spent, no entry call replaces
+  abbrev pub EntriesAreRefusedForTickets : Type 0
+  EntriesAreRefusedForTickets =
+      WhateverRules (λ rules. (stands_for : K → Bool) (old : CacheState K V) (item : Item K V)
+      (left : V) (outcome : EntryOutcome) (new : CacheState K V)
+      → ActsOnEntry rules stands_for old item left ReplaceWithGuard outcome new
+      → last_ticket ≤ old.next_ticket → outcome ≡ Refused TicketsSpent)
 
   -- the capacity can be set in every state, where there may be no touches
   abbrev pub CapacitiesCanBeSet : Type 0
@@ -360,8 +382,8 @@ module _ (K V : Type 0) where
     abbrev pub EntriesStayValid : Type 0
     EntriesStayValid =
         WhateverRules (λ rules. (stands_for : K → Bool) (old : CacheState K V) (item : Item K V)
-        (left : V) (choice : EntryChoice) (new : CacheState K V)
-        → ActsOnEntry rules stands_for old item left choice new → IsValid equal old
+        (left : V) (choice : EntryChoice) (outcome : EntryOutcome) (new : CacheState K V)
+        → ActsOnEntry rules stands_for old item left choice outcome new → IsValid equal old
         → IsValid equal new)
 
     -- a new capacity

@@ -1,6 +1,9 @@
-//! Laws of the definitions: each function does nothing, and its contract is a theorem about words of `specs/`.
+//! Laws of the definitions: each function does nothing, and its contract is a theorem about words
+//! of `specs/`.
 ghost use Rattle.quick_cache_laws.specs.Laws.{AdvancesLowerTheMeasure, CapacitiesCanBeSet};
 ghost use Rattle.quick_cache_laws.specs.Laws.{CapacitiesStayValid, EmptiedCachesAreValid};
+ghost use Rattle.quick_cache_laws.specs.Laws.{EntriesAreRefusedForMemory};
+ghost use Rattle.quick_cache_laws.specs.Laws.{EntriesAreRefusedForTickets};
 ghost use Rattle.quick_cache_laws.specs.Laws.{EntriesCanBeActedOn, EntriesStayValid};
 ghost use Rattle.quick_cache_laws.specs.Laws.{EvictionBringsNoKey, EvictionEnds};
 ghost use Rattle.quick_cache_laws.specs.Laws.{EvictionIsDetermined, EvictionMakesRoom};
@@ -20,14 +23,14 @@ ghost use Rattle.quick_cache_laws.specs.Laws.{SecondRetainsRemoveNothing, Weight
 ghost use Rattle.quick_cache_laws.specs.Laws.{WritesCanBeMade, WritesStayValid};
 ghost use Rattle.quick_cache_laws.specs.Laws.{WritesStayWithinCapacity};
 
-/// Making room makes it unless each item of the rings is pinned. It brings no key, takes out no item without weight and
-/// no pinned pair, and ends; for one thread it is determined.
+/// Eviction frees enough room unless every item in the rings is pinned. It brings in no key, it takes
+/// out no item of weight 0 and no pinned pair, and it ends. For one thread its outcome is determined.
 pub fn eviction_law<K, V>()
     ensures makes_room { EvictionMakesRoom K V }
     ensures brings_no_key { EvictionBringsNoKey K V }
     ensures weightless_stay { WeightlessItemsStay K V }
     ensures pinned_stay { PinnedPairsStay K V }
-    // Each advance that answers yes lowers a number, so room is made in finitely many.
+    // Each advance that answers yes lowers a number, so finitely many free the room.
     ensures measure { AdvancesLowerTheMeasure K V }
     ensures ends { EvictionEnds K V }
     ensures determined { EvictionIsDetermined K V }
@@ -59,6 +62,13 @@ pub fn call_law<K, V>()
     ensures removes { RemovalsCanBeMade K V }
     ensures acts { EntriesCanBeActedOn K V }
     ensures sets_capacity { CapacitiesCanBeSet K V }
+{}
+
+/// While there are tickets, an entry call is refused for want of memory alone. Once they are spent, each
+/// replacing call is refused for that.
+pub fn entry_law<K, V>()
+    ensures memory { EntriesAreRefusedForMemory K V }
+    ensures tickets { EntriesAreRefusedForTickets K V }
 {}
 
 /// What a cache of one thread may do, a cache whose readers share it may do.

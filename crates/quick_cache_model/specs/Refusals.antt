@@ -53,6 +53,10 @@ module _ {K V : Type 0} (stands_for : K → Bool) (hash : ℕ) (state : CacheSta
   abbrev pub needs_of_placeholder : Needs
   needs_of_placeholder = record { ticket = HasNoKey stands_for state; slot = HasNothing stands_for hash state; memory = HasNoKey stands_for state }
 
+-- a call that puts a placeholder in the place of an item takes a ticket and the item's slot, and asks for memory
+abbrev pub needs_of_replacement : Needs
+needs_of_replacement = record { ticket = Unit {0}; slot = ⊥; memory = Unit {0} }
+
 -- a call that shows a value makes a clone of it first
 abbrev pub needs_of_clone : Needs
 needs_of_clone = record { ticket = ⊥; slot = ⊥; memory = Unit {0} }

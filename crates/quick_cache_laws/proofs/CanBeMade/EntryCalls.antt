@@ -1,7 +1,7 @@
 -- Laws of existence: an item that is there can be acted on, whatever the callback leaves and
 -- chooses.
 use Rattle.std.proofs.Common.{◌≡◌, ◌==◌, Bool, true, false, if◌then◌else◌, List, [], ◌∷◌, ◌++◌}
-use Rattle.std.proofs.Common.{refl}
+use Rattle.std.proofs.Common.{refl, ◌≤◌, arith}
 use Rattle.quick_cache_model.specs.CacheState.{CacheState, Item, Place, InHot, InCold, InStill}
 use Rattle.quick_cache_model.specs.CacheState.{items_at, with_items, place_of_item, entered}
 use Rattle.quick_cache_model.specs.CacheState.{rewritten, restarted_behind}
@@ -11,7 +11,11 @@ use Rattle.quick_cache_model.specs.Placeholders.{with_placeholder}
 use Rattle.quick_cache_model.specs.Lookups.{looked_up, after_hit}
 use Rattle.quick_cache_model.specs.Removal.{weighed, reweighed}
 use Rattle.quick_cache_model.specs.Entries.{EntryChoice, Retain, Remove, ReplaceWithGuard}
-use Rattle.quick_cache_model.specs.Entries.{ActsOnEntry}
+use Rattle.quick_cache_model.specs.Entries.{EntryOutcome, Refused, outcome_of, ActsOnEntry}
+use Rattle.quick_cache_model.specs.Refusals.{HasTicket, last_ticket, MayRefuse}
+use Rattle.quick_cache_model.specs.Refusals.{needs_of_replacement}
+use Rattle.quick_cache_model.specs.declared.refusal.Refusal.{Refusal}
+use Rattle.quick_cache_model.specs.declared.refusal.Refusal.TheVariants.{Memory, TicketsSpent}
 
 -- where an item stands once it was written over another
 pub record StandsAt {K V : Type 0} (stands_for : K → Bool) (state : CacheState K V)
@@ -82,26 +86,58 @@ module _ {K V : Type 0} (stands_for : K → Bool) where
             record { split = refl; passes = passes };
       }
 
-  -- an item that is there can be acted on, whatever the callback leaves and chooses
+  -- while there are tickets, an item that is there can be acted on as the callback chose
   pub ActsOnEntry-exists : (rules : Rules K V) (old : CacheState K V) (place : Place)
       (before : List (Item K V)) (item : Item K V) (after : List (Item K V))
-      → IsItemAt stands_for old place before item after → (left : V) (choice : EntryChoice)
-      → (new : CacheState K V) × ActsOnEntry rules stands_for old item left choice new
-  ActsOnEntry-exists rules old place before item after there left Retain = (
+      → IsItemAt stands_for old place before item after → HasTicket old
+      → (left : V) (choice : EntryChoice) → (new : CacheState K V)
+      × ActsOnEntry rules stands_for old item left choice (outcome_of choice) new
+  ActsOnEntry-exists rules old place before item after there ticket left Retain = (
     after_hit (reweighed rules place before (looked_up item) after left old),
-    ActsOnEntry.kept
-        place before after there,
+    ActsOnEntry.kept place before after there,
   )
-  ActsOnEntry-exists rules old place before item after there left Remove =
+  ActsOnEntry-exists rules old place before item after there ticket left Remove =
       let now = rewritten-stands place before (weighed rules item left) after old there.passes in (
         with_items now.place (now.before ++ now.after)
             (reweighed rules place before item after left old),
         ActsOnEntry.removed place before after
             now.place now.before now.after there now.there,
       )
-  ActsOnEntry-exists rules old place before item after there left ReplaceWithGuard =
+  ActsOnEntry-exists rules old place before item after there ticket left ReplaceWithGuard =
       let now = rewritten-stands place before (weighed rules item left) after old there.passes in (
         with_placeholder item.key item.queue (with_items now.place (now.before ++ now.after)
             (reweighed rules place before item after left old)),
-        ActsOnEntry.replaced place before after now.place now.before now.after there now.there,
+        ActsOnEntry.replaced place before after now.place now.before now.after there now.there
+            (record { ticket = λ _. ticket; slot = λ none. absurd none }),
       )
+
+  -- while there are tickets, nothing but want of memory refuses
+  pub ActsOnEntry-memory : (rules : Rules K V) (old : CacheState K V) (item : Item K V) (left : V)
+      (choice : EntryChoice) (refusal : Refusal) (new : CacheState K V)
+      → ActsOnEntry rules stands_for old item left choice (Refused refusal) new → HasTicket old
+      → refusal ≡ Memory
+  ActsOnEntry-memory rules old item left _ _ _
+      (ActsOnEntry.refused place before after refusal there may) ticket = cause refusal may
+    where
+      cause : (why : Refusal) → MayRefuse needs_of_replacement old why → why ≡ Memory
+      cause _ (MayRefuse.tickets_spent needs spent) = absurd (omega (arith, ticket))
+      cause _ (MayRefuse.slots_full has needs full) = absurd needs
+      cause _ (MayRefuse.memory_refused provided needs) = refl
+
+  -- once the tickets are spent, no call replaces
+  pub ActsOnEntry-tickets : (rules : Rules K V) (old : CacheState K V) (item : Item K V) (left : V)
+      (outcome : EntryOutcome) (new : CacheState K V)
+      → ActsOnEntry rules stands_for old item left ReplaceWithGuard outcome new
+      → last_ticket ≤ old.next_ticket → outcome ≡ Refused TicketsSpent
+  ActsOnEntry-tickets rules old item left _ _
+      (ActsOnEntry.replaced place before after now front back there written provided) spent =
+      let ticket = provided.ticket tt in absurd (omega (arith, ticket))
+  ActsOnEntry-tickets rules old item left _ _
+      (ActsOnEntry.refused place before after refusal there may) spent = cause refusal may
+    where
+      cause : (why : Refusal) → MayRefuse needs_of_replacement old why
+          → Refused why ≡ Refused TicketsSpent
+      cause _ (MayRefuse.tickets_spent needs none) = refl
+      cause _ (MayRefuse.slots_full has needs full) = absurd needs
+      cause _ (MayRefuse.memory_refused provided needs) =
+          let ticket = provided.ticket tt in absurd (omega (arith, ticket))

@@ -1,15 +1,13 @@
--- Look-ups, removal and entries, and the touches that shared readers leave.
+-- Look-ups and removal, and the touches that shared readers leave.
 use Rattle.std.proofs.Common.{ℕ, [], ◌∷◌, refl, lit<, true, Some, None}
-use Rattle.quick_cache_model.specs.CacheState.{empty_state, InHot, InCold, InStill}
+use Rattle.quick_cache_model.specs.CacheState.{empty_state, InHot, InCold}
 use Rattle.quick_cache_model.specs.Hooks.{Rules, BeforeEvict, EvictHot}
 use Rattle.quick_cache_model.specs.Touches.{ShowsCount}
 use Rattle.quick_cache_model.specs.Eviction.{AdvancesHot, EvictsVictim}
 use Rattle.quick_cache_model.specs.Lookups.{LooksUp, Sees}
 use Rattle.quick_cache_model.specs.Removal.{Removes}
-use Rattle.quick_cache_model.specs.Entries.{ActsOnEntry, Remove, ReplaceWithGuard, Retain}
-use Rattle.quick_cache_laws.proofs.Examples.Caches.{unit_rules, digit_rules, is, hot_item}
+use Rattle.quick_cache_laws.proofs.Examples.Caches.{unit_rules, is, hot_item}
 use Rattle.quick_cache_laws.proofs.Examples.Caches.{cold_item}
-use Rattle.quick_cache_laws.proofs.Examples.LoadingKeys.{hot_entry}
 
 -- a look-up marks its item, counts a read of it, and a hit
 pub a_lookup_marks_and_counts
@@ -64,45 +62,6 @@ pub a_removal_keeps_the_order
     { hot = hot_item 1 10 1 0 ∷ hot_item 3 30 1 0 ∷ [] })
 a_removal_keeps_the_order =
     Removes.of_item InHot (hot_item 1 10 1 0 ∷ []) (hot_item 2 20 1 0) (hot_item 3 30 1 0 ∷ [])
-    (record { split = refl; passes = refl })
-
--- an entry callback writes a heavier value and keeps the item: it is weighed, and the call was a
--- look-up
-pub a_kept_entry_is_weighed_and_read
-    : ActsOnEntry digit_rules (is 1) (record (empty_state 100 97 50)
-    { hot = hot_item 1 5 5 0 ∷ [] })
-    (hot_item 1 5 5 0) 11 Retain
-    (record (empty_state 100 97 50) {
-      hot = record (hot_item 1 11 11 1) { reads = 1 } ∷ [];
-      hits =
-          1;
-    })
-a_kept_entry_is_weighed_and_read = ActsOnEntry.kept InHot [] []
-    (record { split = refl; passes = refl })
-
--- one that writes a value of weight 0 and then removes: the ring is begun anew behind the item
--- before the item goes
-pub an_entry_emptied_and_removed_restarts_its_ring
-    : ActsOnEntry digit_rules (is 2)
-    (record (empty_state 100 97 50) {
-      hot = hot_item 1 5 5 0 ∷ hot_item 2 5 5 0 ∷ hot_item 3 5 5 0 ∷
-          [];
-    })
-    (hot_item 2 5 5 0) 0 Remove
-    (record (empty_state 100 97 50) { hot = hot_item 3 5 5 0 ∷ hot_item 1 5 5 0 ∷ [] })
-an_entry_emptied_and_removed_restarts_its_ring =
-    ActsOnEntry.removed InHot (hot_item 1 5 5 0 ∷ []) (hot_item 3 5 5 0 ∷ []) InStill [] []
-    (record { split = refl; passes = refl }) (record { split = refl; passes = refl })
-
--- one that replaces leaves a placeholder of the item's queue, with the next ticket, and counts no
--- miss
-pub a_replaced_entry_is_being_loaded
-    : ActsOnEntry digit_rules (is 1) (record (empty_state 100 97 50)
-    { hot = hot_item 1 5 5 2 ∷ []; next_ticket = 7 })
-    (hot_item 1 5 5 2) 5 ReplaceWithGuard
-    (record (empty_state 100 97 50) { loading = hot_entry 1 7 ∷ []; next_ticket = 8 })
-a_replaced_entry_is_being_loaded =
-    ActsOnEntry.replaced InHot [] [] InHot [] [] (record { split = refl; passes = refl })
     (record { split = refl; passes = refl })
 
 -- the rules of a cache that readers share: a count of touches may be anything

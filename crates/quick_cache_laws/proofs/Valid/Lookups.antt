@@ -8,7 +8,7 @@ use Rattle.quick_cache_model.specs.CacheState.{items_at, with_items, mark_cut, I
 use Rattle.quick_cache_model.specs.Hooks.{Rules}
 use Rattle.quick_cache_model.specs.Lookups.{looked_up, after_hit, LooksUp}
 use Rattle.quick_cache_model.specs.Removal.{Removes, RemovesIf, Retains, Drains, weighed, reweighed}
-use Rattle.quick_cache_model.specs.Entries.{EntryChoice, ActsOnEntry}
+use Rattle.quick_cache_model.specs.Entries.{EntryChoice, EntryOutcome, ActsOnEntry}
 use Rattle.quick_cache_laws.proofs.Valid.Places.{keys_by-without, IsInPlace-marked}
 use Rattle.quick_cache_laws.proofs.Valid.States.{IsValid-in_place}
 use Rattle.quick_cache_laws.proofs.Valid.Edits.{after_hit-valid, after_miss-valid, instead-valid}
@@ -82,23 +82,23 @@ module _ {K V : Type 0} (equal : K → K → Bool) where
 
     -- the entry call
     pub ActsOnEntry-valid : (stands_for : K → Bool) (old : CacheState K V) (item : Item K V)
-        (left : V) (choice : EntryChoice) (new : CacheState K V)
-        → ActsOnEntry rules stands_for old item left choice new → IsValid equal old
+        (left : V) (choice : EntryChoice) (outcome : EntryOutcome) (new : CacheState K V)
+        → ActsOnEntry rules stands_for old item left choice outcome new → IsValid equal old
         → IsValid equal new
-    ActsOnEntry-valid stands_for old item left _ _ (ActsOnEntry.kept place before after there)
+    ActsOnEntry-valid stands_for old item left _ _ _ (ActsOnEntry.kept place before after there)
         valid =
         after_hit-valid equal (reweighed rules place before (looked_up item) after left old)
         (reweighed-valid place before item (looked_up item) after left old there.split refl refl
         (omega arith) valid)
-    ActsOnEntry-valid stands_for old item left _ _
+    ActsOnEntry-valid stands_for old item left _ _ _
         (ActsOnEntry.removed place before after now front back there written) valid =
         without-valid equal now front (weighed rules item left) back
         (reweighed rules place before item after left old) written.split
         (reweighed-valid place before item item after left old there.split refl refl
         (IsInPlace-marked place before item after old there.split
         (IsValid-in_place equal old valid)) valid)
-    ActsOnEntry-valid stands_for old item left _ _
-        (ActsOnEntry.replaced place before after now front back there written) valid =
+    ActsOnEntry-valid stands_for old item left _ _ _
+        (ActsOnEntry.replaced place before after now front back there written provided) valid =
         let mid = reweighed rules place before item after left old in
         let mid_valid = reweighed-valid place before item item after left old there.split refl refl
         (IsInPlace-marked place before item after old there.split
@@ -110,7 +110,7 @@ module _ {K V : Type 0} (equal : K → K → Bool) where
         (keys_by-without (equal item.key) now front (weighed rules item left)
         back mid written.split) mid_valid)
         (without-valid equal now front (weighed rules item left) back mid written.split mid_valid)
-    ActsOnEntry-valid stands_for old item left _ _ (ActsOnEntry.refused place before after there)
+    ActsOnEntry-valid stands_for old item left _ _ _ (ActsOnEntry.refused place before after refusal there may)
         valid =
         reweighed-valid place before item item after left old there.split refl refl
         (IsInPlace-marked place before item after old there.split

@@ -25,8 +25,8 @@ returns-clause-removes g c = λ stands_for hash old. Removes-exists stands_for o
 
 pub returns-clause-acts : goal.returns-clause-acts
 returns-clause-acts g c = λ hash weight pinned may_count stands_for old place before item after
-    there left choice.
-    ActsOnEntry-exists stands_for _ old place before item after there left choice
+    there ticket left choice.
+    ActsOnEntry-exists stands_for _ old place before item after there ticket left choice
 
 pub returns-clause-sets_capacity : goal.returns-clause-sets_capacity
 returns-clause-sets_capacity g c = λ hash weight pinned may_count may capacity old.

@@ -42,9 +42,9 @@ returns-clause-retains g c = λ keeps old new retains valid. Retains-valid _ kee
     valid
 
 pub returns-clause-acts : goal.returns-clause-acts
-returns-clause-acts g c = λ hash weight pinned may_count stands_for old item left choice new acts
-    valid.
-    ActsOnEntry-valid _ g.met.K.Eq.laws _ stands_for old item left choice new acts valid
+returns-clause-acts g c = λ hash weight pinned may_count stands_for old item left choice
+    outcome new acts valid.
+    ActsOnEntry-valid _ g.met.K.Eq.laws _ stands_for old item left choice outcome new acts valid
 
 pub returns-clause-sets_capacity : goal.returns-clause-sets_capacity
 returns-clause-sets_capacity g c = λ hash weight pinned may_count capacity old new calls sets valid.
