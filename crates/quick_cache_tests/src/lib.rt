@@ -1,6 +1,8 @@
 //! Tests of the crates together, and of what no contract says.
 #![tactic(auto)]
 
+#[cfg(test)]
+mod clones;
 pub mod halves;
 #[cfg(test)]
 mod linked_slab;

@@ -9,3 +9,7 @@ mod placeholder;
 pub use cache::Cache;
 pub use calls::{Call, Reply, run};
 pub use lifecycle::DefaultLifecycle;
+pub use quick_cache_model::{
+    DefaultHashBuilder, Equivalent, Lifecycle, Refusal, ToKey, UnitWeighter, Weighter, hash_of,
+};
+pub use quick_cache_shard::CacheShard;

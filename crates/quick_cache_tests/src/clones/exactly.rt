@@ -1,0 +1,121 @@
+//! Where a clone is the very value, as that of a number, the very value is shown.
+ghost use Rattle.std.specs.Prelude.{◌≡◌, IfOk, nat_eq};
+ghost use Rattle.quick_cache_loading.specs.LoadingRun.{LoadingRun};
+ghost use Rattle.quick_cache_shard.specs.Shard.{rules_of, hooks_of, ClonesExactly, IsPlainCache};
+ghost use Rattle.quick_cache_unsync.specs.CacheRun.{RunsCalls};
+ghost use Rattle.quick_cache_unsync.specs.CacheStep.{IsItself};
+ghost use Rattle.quick_cache_unsync.specs.Touches.{no_touches};
+
+use quick_cache_base::protocol::{Answer, Core, Event, run as run_loading};
+use quick_cache_base::{Lifecycle, Refusal, Weighter};
+use quick_cache_unsync::{Cache, Call, Reply, run};
+use std::alloc::{Allocator, Global};
+use std::hash::{BuildHasher, Hash};
+use std::test::Fail;
+
+/// A run over any such values shows the values that it finds.
+fn run_exactly<
+    K: Eq + Hash + Drop,
+    V: Clone + Drop,
+    We: Weighter<K, V> + Drop,
+    B: BuildHasher + Drop,
+    L: Lifecycle<K, V> + Drop,
+    A: Allocator,
+    M: Allocator,
+>(
+    alloc: M,
+    cache: &mut Cache<K, V, We, B, L, A>,
+    calls: Vec<Call<K, V>, M>,
+    state: &mut L::RequestState,
+) -> Result<Vec<Reply<K, V>, M>, (Vec<Reply<K, V>, M>, Vec<Call<K, V>, M>)>
+    requires clones { ClonesExactly V.is_clone }
+    requires plain { IsPlainCache We.Weighter L.Lifecycle cache.old }
+    ensures runs { RunsCalls
+        (rules_of no_touches K.Hash.hash_input We.Weighter B.BuildHasher
+        B.Hasher.Hasher L.Lifecycle cache.old)
+        K.eq IsItself (hooks_of L.Lifecycle cache.old)
+        cache.old.state state.old calls.items result cache.new.state state.new }
+{
+    run(alloc, cache, calls, state)
+}
+
+/// Numbers need no condition: the search sees that a clone of one is the number.
+fn run_numbers<We: Weighter<u64, u64> + Drop, B: BuildHasher + Drop, L: Lifecycle<u64, u64> + Drop>(
+    alloc: Global,
+    cache: &mut Cache<u64, u64, We, B, L>,
+    calls: Vec<Call<u64, u64>>,
+    state: &mut L::RequestState,
+) -> Result<Vec<Reply<u64, u64>>, (Vec<Reply<u64, u64>>, Vec<Call<u64, u64>>)>
+    requires plain { IsPlainCache We.Weighter L.Lifecycle cache.old }
+    ensures runs { RunsCalls
+        (rules_of no_touches ⟦<u64 as Hash>⟧.hash_input We.Weighter B.BuildHasher
+        B.Hasher.Hasher L.Lifecycle cache.old)
+        nat_eq IsItself (hooks_of L.Lifecycle cache.old)
+        cache.old.state state.old calls.items result cache.new.state state.new }
+{
+    run(alloc, cache, calls, state)
+}
+
+/// A copy of numbers is the very cache.
+fn copy_numbers(cache: &Cache<u64, u64>) -> Result<Cache<u64, u64>, Refusal>
+    ensures { IfOk result (λ copy. copy ≡ cache.now) }
+{
+    cache.try_clone()
+}
+
+/// Over any such values a loading core shows the value that filled it.
+fn load_exactly<V: Clone>(
+    core: &mut Core<V>,
+    events: Vec<Event<V>>,
+) -> Result<Vec<Answer<V>>, Refusal>
+    requires clones { ClonesExactly V.is_clone }
+    ensures { IfOk result (λ answers. LoadingRun IsItself
+        core.old events.items answers.items core.new) }
+{
+    match run_loading(core, events) {
+        Ok(answers) => Ok(answers),
+        Err(refusal) => Err(refusal),
+    }
+}
+
+#[test]
+fn a_run_shows_the_numbers_that_it_finds(rt: HostRuntime) -> Result<(), Fail> {
+    let alloc = rt.alloc();
+    let mut cache: Cache<u64, u64> = Cache::new(alloc, 5)?;
+    let calls = vec![in alloc; Call::Insert(1, 10), Call::Get(1)]?;
+    let Ok(replies) = run_exactly(alloc, &mut cache, calls, &mut ()) else {
+        panic!(rt; "there is memory");
+    };
+    assert_eq!(rt;
+        replies.as_slice(),
+        [Reply::Done, Reply::Value(Some(10))].as_slice()
+    );
+    let calls = vec![in alloc; Call::Remove(1), Call::Get(1)]?;
+    let Ok(replies) = run_numbers(alloc, &mut cache, calls, &mut ()) else {
+        panic!(rt; "there is memory");
+    };
+    let wanted = [Reply::Pair(Some((1, 10))), Reply::Value(None)];
+    assert_eq!(rt; replies.as_slice(), wanted.as_slice());
+    Ok(())
+}
+
+#[test]
+fn a_copy_of_numbers_counts_what_was_counted(rt: HostRuntime) -> Result<(), Fail> {
+    let mut cache: Cache<u64, u64> = Cache::new(rt.alloc(), 5)?;
+    cache.insert(1, 10)?;
+    let _ = cache.get(&1);
+    let copy = copy_numbers(&cache)?;
+    assert_eq!(rt; (copy.len(), copy.weight(), copy.hits()), (1, 1, 1));
+    assert_eq!(rt; copy.peek(&1).copied(), Some(10));
+    Ok(())
+}
+
+#[test]
+fn a_loaded_number_is_shown_as_it_is(rt: HostRuntime) -> Result<(), Fail> {
+    let mut core: Core<u64> = Core::new(rt.alloc());
+    let events = vec![in rt.alloc(); Event::Create, Event::Fill(10), Event::Join(1)]?;
+    let answers = load_exactly(&mut core, events)?;
+    let wanted = [Answer::Created, Answer::Done, Answer::Value(10)];
+    assert_eq!(rt; answers.as_slice(), wanted.as_slice());
+    Ok(())
+}
