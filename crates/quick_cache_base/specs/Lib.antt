@@ -22,5 +22,6 @@ pub use Rattle.quick_cache_loading.specs.LoadingRow
 pub use Rattle.quick_cache_loading.specs.LoadingLaws
 pub use Rattle.quick_cache_loading.specs.LoadingRun
 pub use Rattle.quick_cache_slab.specs.LinkedSlab
+pub use Rattle.quick_cache_slab.specs.SlabEdits
 pub use Rattle.quick_cache_slab.specs.SlabLends
 pub use Rattle.quick_cache_table.specs.Table

@@ -3,7 +3,7 @@ use Rattle.std.proofs.Common.{◌≡◌, ◌≢◌, ℕ, ◌+◌, ◌<◌, ◌�
 use Rattle.std.proofs.lemmas.Bool.{cases_eq, eq-eqb, ne_eqb, lt-ltb, le-ltb}
 use Rattle.std.proofs.lemmas.List.{length_push}
 use Rattle.quick_cache_slab.specs.LinkedSlab.{with_token, first_or, times}
-use Rattle.quick_cache_slab.specs.Links.{LeadsFree, link_of, free_of, is_taken, AreFree}
+use Rattle.quick_cache_slab.specs.Links.{LeadsFree, link_of, free_of, is_taken, AreFree, IsFreeRest}
 use Rattle.quick_cache_slab.proofs.TimesLemmas.{zero_from_none, times-here, times-other, length_once}
 use Rattle.quick_cache_slab.proofs.RingLemmas.{walk_free_list}
 use Rattle.quick_cache_slab.proofs.SlotLemmas.{length-with_token, at_token-with_same, at_token-with_other, at_token-push_same, at_token-push_other, taken_within}
@@ -108,3 +108,71 @@ module _ {T : Type 0} where
 
       none : times a free ≡ 0
       none = zero_from_none (times a free) (λ some. off a some refl)
+
+  -- ---- counting free tokens, one link at a time
+
+  pub IsFreeRest-start : (slots : List (Option T)) (nexts : List ℕ) (first : ℕ) (free : List ℕ)
+      → AreFree slots nexts first free → IsFreeRest slots nexts free first 0
+  IsFreeRest-start slots nexts first free are = record {
+    rest = free;
+    begins = are.begins;
+    leads = are.leads;
+    once = are.once;
+    within = λ t some. (are.within t some).1;
+    counted = omega arith;
+  }
+
+  -- past the slots none is left
+  pub IsFreeRest-past : (slots : List (Option T)) (nexts free : List ℕ) (token passed : ℕ)
+      → IsFreeRest slots nexts free token passed → length slots < token → passed ≡ length free
+  IsFreeRest-past slots nexts free token passed left past =
+      by_rest left.rest left.begins left.within left.counted
+    where
+      by_rest : (rest : List ℕ) → token ≡ first_or (length slots + 1) rest
+          → ((t : ℕ) → 0 < times t rest → t ≤ length slots)
+          → passed + length rest ≡ length free → passed ≡ length free
+      by_rest [] begins within counted = omega arith
+      by_rest (x ∷ xs) begins within counted =
+          let here = within x (omega (arith, times-here x xs)) in absurd (omega arith)
+
+  -- a token that names itself is the last
+  pub IsFreeRest-last : (slots : List (Option T)) (nexts free : List ℕ) (token passed : ℕ)
+      → IsFreeRest slots nexts free token passed → token ≤ length slots
+      → link_of nexts token ≡ token → passed + 1 ≡ length free
+  IsFreeRest-last slots nexts free token passed left inside own =
+      by_rest left.rest left.begins left.leads left.once left.counted
+    where
+      by_rest : (rest : List ℕ) → token ≡ first_or (length slots + 1) rest
+          → LeadsFree (link_of nexts) rest → ((t : ℕ) → times t rest ≤ 1)
+          → passed + length rest ≡ length free → passed + 1 ≡ length free
+      by_rest [] begins leads once counted = absurd (omega arith)
+      by_rest (x ∷ []) begins leads once counted = omega arith
+      by_rest (x ∷ y ∷ ys) begins leads once counted =
+          let same : y ≡ x = sym leads.0 ∙ ap (link_of nexts) (sym begins) ∙ own ∙ begins in
+          let twice = subst (λ (u : ℕ). times x (x ∷ u ∷ ys) ≤ 1) same (once x) in
+          absurd (omega (arith, twice, times-here x (x ∷ ys), times-here x ys))
+
+  -- another token that the link names is the next
+  pub IsFreeRest-step : (slots : List (Option T)) (nexts free : List ℕ) (token passed : ℕ)
+      → IsFreeRest slots nexts free token passed → token ≤ length slots
+      → link_of nexts token ≢ token
+      → IsFreeRest slots nexts free (link_of nexts token) (passed + 1)
+  IsFreeRest-step slots nexts free token passed left inside more =
+      by_rest left.rest left.begins left.leads left.once left.within left.counted
+    where
+      by_rest : (rest : List ℕ) → token ≡ first_or (length slots + 1) rest
+          → LeadsFree (link_of nexts) rest → ((t : ℕ) → times t rest ≤ 1)
+          → ((t : ℕ) → 0 < times t rest → t ≤ length slots)
+          → passed + length rest ≡ length free
+          → IsFreeRest slots nexts free (link_of nexts token) (passed + 1)
+      by_rest [] begins leads once within counted = absurd (omega arith)
+      by_rest (x ∷ []) begins leads once within counted =
+          absurd (more (ap (link_of nexts) begins ∙ leads.0 ∙ sym begins))
+      by_rest (x ∷ y ∷ ys) begins leads once within counted = record {
+        rest = y ∷ ys;
+        begins = ap (link_of nexts) begins ∙ leads.0;
+        leads = leads.1;
+        once = λ t. omega (arith, once t);
+        within = λ t some. within t (omega arith);
+        counted = omega arith;
+      }

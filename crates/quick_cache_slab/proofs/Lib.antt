@@ -1,3 +1,4 @@
+pub mod EditLemmas
 pub mod FreeLemmas
 pub mod LinkLemmas
 pub mod NodeLemmas

@@ -1,10 +1,12 @@
 -- The rings of a sound slab part its occupied tokens.
-use Rattle.std.proofs.Common.{◌≡◌, ◌≢◌, ◌↔◌, ℕ, ◌<◌, ◌≤◌, Bool, true, false, eqb, List, [], ◌∷◌, ◌++◌, map, Option, Some, None, is_some, IfSome, true≢false, refl, sym, ap, subst, ◌∙◌, inl, inr, arith, append-nil}
+use Rattle.std.proofs.Common.{◌≡◌, ◌≢◌, ◌↔◌, ℕ, ◌+◌, ◌<◌, ◌≤◌, Bool, true, false, eqb, List, [], ◌∷◌, ◌++◌, length, map, Option, Some, None, is_some, IfSome, true≢false, refl, sym, ap, subst, ◌∙◌, inl, inr, arith, append-nil}
 use Rattle.std.proofs.lemmas.Bool.{cases_Bool, eq-eqb}
 use Rattle.std.specs.Int.NonZero.{non_zero_u32_get}
 use Rattle.std.specs.declared.num.NonZeroU32.{NonZeroU32 as Token}
 use Rattle.quick_cache_slab.specs.LinkedSlab.{at_token, first_or, times, before_head, joined, without, ring_from, linked, unlinked, IsParted}
-use Rattle.quick_cache_slab.specs.Links.{Leads, IsRing, link_of, is_taken, ring_at, rings_of, view_of, AreLinked, IsSound}
+use Rattle.quick_cache_slab.specs.Links.{Leads, IsRing, link_of, is_taken, ring_at, rings_of, view_of, room_of, AreLinked, IsSound, slots_of, nexts_of, prevs_of}
+use Rattle.quick_cache_slab.specs.declared.linked_slab.links.Node.{Node}
+use Rattle.quick_cache_slab.proofs.NodeLemmas.{length-slots_of}
 use Rattle.quick_cache_slab.proofs.TimesLemmas.{times-here, times-append}
 use Rattle.quick_cache_slab.proofs.SlotLemmas.{at_token-with_same, at_token-with_other, at_token-map, taken_within, ring_at-is, ring_at-free, length-rings_of, at_token-rings_of}
 use Rattle.quick_cache_slab.proofs.SlabLemmas.{free_is, alone-to_link, alone-from_link}
@@ -40,7 +42,7 @@ IsRing-turned next held t u rest (b ∷ bs) after split ring =
       held = λ v some. ring.held v (omega (arith, counts v));
     }
 
-before_head_none : (a head : ℕ) (xs : List ℕ) → times head xs ≡ 0 → before_head a head xs ≡ xs
+pub before_head_none : (a head : ℕ) (xs : List ℕ) → times head xs ≡ 0 → before_head a head xs ≡ xs
 before_head_none a head [] none = refl
 before_head_none a head (x ∷ xs) none =
     elim (cases_Bool (eqb x head)) [
@@ -49,8 +51,12 @@ before_head_none a head (x ∷ xs) none =
     ]
 
 module _ {T : Type 0} where
-  pub IsParted-of : (slots : List (Option T)) (nexts prevs : List ℕ) (first room : ℕ) → IsSound slots nexts prevs first → IsParted (view_of slots nexts first room)
-  IsParted-of slots nexts prevs first room s = record {
+  pub IsParted-of : (slots : List (Option T)) (nexts prevs : List ℕ) (first room : ℕ) → length slots + room ≤ 4294967294 → IsSound slots nexts prevs first → IsParted (view_of slots nexts first room)
+  IsParted-of slots nexts prevs first room few s = record {
+    few = few;
+    ring_each = length-rings_of slots nexts;
+    ringless = λ t none. at_token-rings_of slots nexts t ∙ ring_at-free slots nexts t (ap is_some none);
+    free_all = λ t positive within none. rw (free_is slots nexts prevs first s) (s.are_free.all t positive within (ap is_some none));
     begins = λ t taken. let ring = s.linked.rings.ring t taken in (ring.0, at_token-rings_of slots nexts t ∙ ring_at-is slots nexts t ring.0 ring.1);
     once = λ t u. rw (at_token-rings_of slots nexts t) (once t u);
     held = λ t u some. held t u (rw (at_token-rings_of slots nexts t) at some);
@@ -119,3 +125,12 @@ module _ {T : Type 0} where
     λ own. alone-from_link slots nexts prevs first room t linked (ap is_some item) (sym next ∙ own),
     λ alone. next ∙ alone-to_link slots nexts prevs first room t linked (ap is_some item) alone,
   )
+
+  -- what always holds of a slab, from what always holds of its nodes
+  pub IsParted-nodes : (nodes : List (Node T)) (first capacity len : ℕ) → len ≡ length nodes
+      → IsSound (slots_of nodes) (nexts_of nodes) (prevs_of nodes) first
+      → IsParted (view_of (slots_of nodes) (nexts_of nodes) first (room_of capacity len))
+  IsParted-nodes nodes first capacity len long s =
+      let slots = length-slots_of nodes in
+      let few : length (slots_of nodes) + room_of capacity len ≤ 4294967294 = omega (arith, s.few) in
+      IsParted-of (slots_of nodes) (nexts_of nodes) (prevs_of nodes) first (room_of capacity len) few s

@@ -4,7 +4,7 @@ use Rattle.std.proofs.lemmas.Bool.{cases_eq, eq-eqb, ne_eqb}
 use Rattle.std.proofs.lemmas.List.{set-set, length_push}
 use Rattle.std.specs.Int.NonZero.{non_zero_u32_get}
 use Rattle.std.specs.declared.num.NonZeroU32.{NonZeroU32 as Token}
-use Rattle.quick_cache_slab.specs.LinkedSlab.{at_token, with_token, first_or, times, without, joined, room_taken, placed, linked, unlinked, removed, with_item, next_token, IsFull, successor, ring_from, IsNextOf}
+use Rattle.quick_cache_slab.specs.LinkedSlab.{at_token, with_token, first_or, times, without, joined, placed, linked, unlinked, removed, with_item, next_token, IsFull, successor, ring_from, IsNextOf}
 use Rattle.quick_cache_slab.specs.Links.{link_of, free_of, is_taken, ring_at, rings_of, view_of, AreRings, AreLinked, AreFree, IsSound, Unlinks, Links}
 use Rattle.quick_cache_slab.proofs.TimesLemmas.{times-here}
 use Rattle.quick_cache_slab.proofs.RingLemmas.{IsRing-frame}
@@ -20,10 +20,6 @@ with_token-with_token xs (suc i) x y = set-set xs i x y
 pub next_after : (link first past first' : ℕ) → ((link ≡ first) × (first' ≡ past)) ⊎ ((link ≢ first) × (first' ≡ link)) → first' ≡ cond (eqb link first) past link
 next_after link first past first' (inl last) = last.1 ∙ rw (eq-eqb link first last.0) refl
 next_after link first past first' (inr more) = more.1 ∙ rw (ne_eqb link first more.0) refl
-
--- an insert at a new token takes one of the room
-pub room_after : (free : List ℕ) (room rest : ℕ) → free ≡ [] → (1 ≤ room → rest + 1 ≡ room) → room_taken free ≤ room → rest + room_taken free ≡ room
-room_after free room rest none takes some = rw none (takes (rw none at some))
 
 AreRings-same : (next prev : ℕ → ℕ) (held held' : ℕ → Bool) → ((t : ℕ) → held' t ≡ held t) → AreRings next prev held → AreRings next prev held'
 AreRings-same next prev held held' same rings = record {

@@ -1,4 +1,5 @@
 pub mod LinkedSlab
 pub mod Links
 pub mod SlabDrain
+pub mod SlabEdits
 pub mod SlabLends

@@ -1,5 +1,5 @@
 -- What a contract sees of a `LinkedSlab`: tokens with items, the occupied ones parted into rings, and the free ones.
-use Rattle.std.specs.Prelude.{◌≡◌, ◌≢◌, ◌↔◌, ℕ, zero, suc, ◌+◌, ◌<◌, ◌≤◌, cond, eqb, List, [], ◌∷◌, ◌++◌, length, map, drop, filter_map, Option, Some, None, IsSome, slice_index_or, slice_set}
+use Rattle.std.specs.Prelude.{◌≡◌, ◌≢◌, ◌↔◌, ℕ, zero, suc, ◌+◌, ◌-◌, ◌<◌, ◌≤◌, cond, eqb, List, [], ◌∷◌, ◌++◌, length, map, drop, filter_map, Option, Some, None, IsSome, slice_index_or, slice_set}
 use Rattle.std.specs.Int.NonZero.{non_zero_u32_get}
 use Rattle.std.specs.declared.num.NonZeroU32.{NonZeroU32 as Token}
 
@@ -39,11 +39,6 @@ abbrev pub joined : ℕ → ℕ → List ℕ → List ℕ
 joined token head [] = []
 joined token head (x ∷ xs) = x ∷ (before_head token head xs ++ cond (eqb x head) (token ∷ []) [])
 
--- how much room an insert takes, where these tokens are free
-abbrev pub room_taken : List ℕ → ℕ
-room_taken [] = 1
-room_taken (token ∷ free) = 0
-
 -- the item or nothing at each token from 1 on; the ring of each token, as the list that begins with
 -- it, or no list at a free one; the free tokens, the last freed first; and how many more slots can
 -- be made with no allocation
@@ -73,6 +68,14 @@ module _ {T : Type 0} where
   -- the token of the next insert: the last one freed, or a new one
   abbrev pub next_token : LinkedSlab T → ℕ
   next_token slab = first_or (length slab.slots + 1) slab.free
+
+  -- how many more items it takes with no allocation
+  abbrev pub spare : LinkedSlab T → ℕ
+  spare slab = length slab.free + slab.room
+
+  -- how many more items it can have, with memory for them
+  abbrev pub left : LinkedSlab T → ℕ
+  left slab = length slab.free + (4294967294 - length slab.slots)
 
   -- all slots are taken
   abbrev pub IsFull : LinkedSlab T → Type 0
@@ -150,11 +153,15 @@ module _ {T : Type 0} where
   abbrev pub emptied : ℕ → LinkedSlab T
   emptied room = record { slots = []; rings = []; free = []; room = room }
 
-  -- The rings part the occupied tokens: each is in the list of its own ring, which begins with it
-  -- and has each token once; and the list of a member is the same ring, begun at that member.
+  -- What always holds of a slab. The rings part the occupied tokens: each is in the list of its own
+  -- ring, which begins with it and has each token once, and the list of a member is the same ring,
+  -- begun at that member. A free token has no ring, and is in the list of free tokens once.
   pub record IsParted (slab : LinkedSlab T) : Type 0 where
+    pub few : length slab.slots + slab.room ≤ 4294967294
+    pub ring_each : length slab.rings ≡ length slab.slots
     pub begins : (token : ℕ) → IsOccupied slab token
         → (rest : List ℕ) × (ring_from slab token ≡ token ∷ rest)
+    pub ringless : (token : ℕ) → item_at slab token ≡ None → ring_from slab token ≡ []
     pub once : (token other : ℕ) → times other (ring_from slab token) ≤ 1
     pub held : (token other : ℕ) → 0 < times other (ring_from slab token) → IsOccupied slab other
     pub turned : (token other : ℕ) (before after : List ℕ)
@@ -163,3 +170,5 @@ module _ {T : Type 0} where
     pub free_once : (token : ℕ) → times token slab.free ≤ 1
     pub free_within : (token : ℕ) → 0 < times token slab.free
         → (0 < token) × (token ≤ length slab.slots) × (item_at slab token ≡ None)
+    pub free_all : (token : ℕ) → 0 < token → token ≤ length slab.slots
+        → item_at slab token ≡ None → 0 < times token slab.free

@@ -1,5 +1,5 @@
 -- How a `LinkedSlab` lays out its slots. No public clause cites this module.
-use Rattle.std.specs.Prelude.{◌≡◌, ℕ, zero, suc, ◌+◌, ◌<◌, ◌≤◌, Bool, true, false, cond, eqb, ltb, List, [], ◌∷◌, length, map, Option, None, is_some}
+use Rattle.std.specs.Prelude.{◌≡◌, ℕ, zero, suc, ◌+◌, ◌-◌, ◌<◌, ◌≤◌, min, Bool, true, false, cond, eqb, ltb, List, [], ◌∷◌, length, map, Option, None, is_some}
 use Rattle.std.specs.List.{range_with_len}
 use Rattle.quick_cache_slab.specs.LinkedSlab.{LinkedSlab, at_token, with_token, first_or, times, without, joined}
 use Rattle.std.specs.Int.NonZero.{non_zero_u32_get}
@@ -44,6 +44,10 @@ link_of links token = at_token links token 0
 abbrev pub free_of : List ℕ → ℕ → List ℕ
 free_of nexts first = cond (ltb (length nexts) first) [] (walk_free (link_of nexts) (length nexts) first)
 
+-- how many more slots fit, with memory for so many, where there are so many
+abbrev pub room_of : ℕ → ℕ → ℕ
+room_of capacity len = min capacity 4294967294 - len
+
 module _ {T : Type 0} where
   -- whether a token has an item
   abbrev pub is_taken : List (Option T) → ℕ → Bool
@@ -71,6 +75,15 @@ module _ {T : Type 0} where
     pub once : (t : ℕ) → times t free ≤ 1
     pub within : (t : ℕ) → 0 < times t free → (0 < t) × (t ≤ length slots) × (is_taken slots t ≡ false)
     pub all : (t : ℕ) → 0 < t → t ≤ length slots → is_taken slots t ≡ false → 0 < times t free
+
+  -- the links lead from the token over the free tokens that are left, behind so many that were passed
+  pub record IsFreeRest (slots : List (Option T)) (nexts : List ℕ) (free : List ℕ) (token passed : ℕ) : Type 0 where
+    pub rest : List ℕ
+    pub begins : token ≡ first_or (length slots + 1) rest
+    pub leads : LeadsFree (link_of nexts) rest
+    pub once : (t : ℕ) → times t rest ≤ 1
+    pub within : (t : ℕ) → 0 < times t rest → t ≤ length slots
+    pub counted : passed + length rest ≡ length free
 
   -- the slab that slots and links stand for, with the token of the next insert
   abbrev pub view_of : List (Option T) → List ℕ → ℕ → ℕ → LinkedSlab T

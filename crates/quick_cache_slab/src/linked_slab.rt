@@ -1,7 +1,8 @@
 //! A slab: items in slots that tokens name, the occupied ones linked into rings, the free ones into a list.
 ghost use Rattle.std.specs.Prelude.{◌≡◌, ◌≢◌, ◌⊎◌, ◌↔◌, ◌+◌, ◌-◌, ◌<◌, ◌≤◌, min, [], ◌∷◌, ◌++◌, length, count_by, is_some, IsOk, IsNone, IfOk, IfErr, OnOk, OnErr, IfSome, OnSome, IfNone, MatchOption, Some, vec_len, vec_capacity};
 ghost use Rattle.std.specs.Int.NonZero.{non_zero_u32_get as number};
-ghost use Rattle.quick_cache_slab.specs.LinkedSlab.{item_at, IsOccupied, ring_from, successor, next_token, IsFull, room_taken, placed, linked, unlinked, removed, IsNextOf, IsAlone, IsAloneIf, JoinsEnd, IsParted, items, entries_after, emptied, times};
+ghost use Rattle.quick_cache_slab.specs.LinkedSlab.{item_at, IsOccupied, ring_from, successor, next_token, spare, left, IsFull, placed, linked, unlinked, removed, IsNextOf, IsAlone, IsAloneIf, JoinsEnd, IsParted, items, entries_after, emptied, times};
+ghost use Rattle.quick_cache_slab.specs.SlabEdits.{PlacesItem, LinksToken, UnlinksToken, RemovesItem};
 
 mod counts;
 mod drain;
@@ -13,7 +14,7 @@ mod unchecked;
 pub use drain::Drain;
 pub use item::ItemMut;
 pub use iter::{Iter, IterFrom};
-use links::{Node, fill, is_occupied, link, unlink, vacate};
+use links::{Node, fill, is_occupied, link, next_of, unlink, vacate};
 use quick_cache_model::Refusal;
 pub use quick_cache_model::Token;
 use std::alloc::{AllocError, Allocator, Global};
@@ -33,15 +34,15 @@ pub struct LinkedSlab<T, A: Allocator = Global> {
 }
 
 impl<T, A: Allocator> Model for LinkedSlab<T, A> {
-    ghost use Rattle.std.specs.Prelude.{◌-◌, vec_len, vec_capacity};
+    ghost use Rattle.std.specs.Prelude.{vec_len, vec_capacity};
     ghost use Rattle.std.specs.Int.NonZero.{non_zero_u32_get as number};
     ghost use Rattle.quick_cache_slab.specs.LinkedSlab.{LinkedSlab as Slots};
 
     ghost Value = { Slots T };
 
-    ghost use Rattle.quick_cache_slab.specs.Links.{slots_of, nexts_of, prevs_of, view_of, IsSound};
+    ghost use Rattle.quick_cache_slab.specs.Links.{slots_of, nexts_of, prevs_of, room_of, view_of, IsSound};
 
-    ghost view = { λ s. view_of (slots_of s.nodes.items) (nexts_of s.nodes.items) (number s.next_free) (vec_capacity s.nodes - vec_len s.nodes) };
+    ghost view = { λ s. view_of (slots_of s.nodes.items) (nexts_of s.nodes.items) (number s.next_free) (room_of (vec_capacity s.nodes) (vec_len s.nodes)) };
 
     ghost invariant = { λ s. IsSound (slots_of s.nodes.items) (nexts_of s.nodes.items) (prevs_of s.nodes.items) (number s.next_free) };
 }
@@ -54,19 +55,23 @@ fn past(len: usize) -> Token
     Token::MIN.saturating_add(len as u32)
 }
 
-// Makes room for one more slot where there is none.
-fn make_room<T, A: Allocator>(nodes: &mut Vec<Node<T>, A>) -> Result<(), AllocError>
+// Makes room for so many more slots where there is less.
+fn make_room<T, A: Allocator>(
+    nodes: &mut Vec<Node<T>, A>,
+    additional: usize,
+) -> Result<(), AllocError>
     ensures items { nodes.new.items ≡ nodes.old.items }
     ensures len { vec_len nodes.new ≡ vec_len nodes.old }
-    ensures ok { OnOk result (vec_len nodes.old < vec_capacity nodes.new) }
-    ensures had_room { vec_len nodes.old < vec_capacity nodes.old
+    ensures ok { OnOk result (vec_len nodes.old + additional ≤ vec_capacity nodes.new) }
+    ensures capacity { vec_capacity nodes.old ≤ vec_capacity nodes.new }
+    ensures had_room { vec_len nodes.old + additional ≤ vec_capacity nodes.old
         → IsOk result × (vec_capacity nodes.new ≡ vec_capacity nodes.old) }
     ensures err { OnErr result (vec_capacity nodes.new ≡ vec_capacity nodes.old) }
 {
-    if nodes.len() < nodes.capacity() {
+    if additional <= nodes.capacity() - nodes.len() {
         return Ok(());
     }
-    nodes.reserve(1)
+    nodes.reserve(additional)
 }
 
 impl<T, A: Allocator> LinkedSlab<T, A> {
@@ -80,6 +85,7 @@ impl<T, A: Allocator> LinkedSlab<T, A> {
     pub fn with_capacity(alloc: A, capacity: usize) -> Result<Self, Refusal>
         ensures empty { IfOk result (λ slab. slab ≡ record { slots = []; rings = []; free = []; room = slab.room }) }
         ensures room { IfOk result (λ slab. min capacity 4294967294 ≤ slab.room) }
+        ensures parted { IfOk result IsParted }
         ensures memory { IfErr result (λ refused. refused ≡ Refusal.Memory) }
         ensures succeeds { capacity ≡ 0 → IsOk result }
     {
@@ -92,23 +98,46 @@ impl<T, A: Allocator> LinkedSlab<T, A> {
         }
     }
 
-    /// Makes room for so many new slots, or for all that a slab can still have.
+    /// Makes room for so many more items, or for all that a slab can still have.
     ///
-    /// A refusal is for want of memory.
+    /// Free slots count, so where these and the room suffice it asks for no memory. A refusal is for
+    /// want of memory.
     pub fn reserve(&mut self, additional: usize) -> Result<(), Refusal>
         ensures kept { self.new ≡ record self.old { room = self.new.room } }
-        ensures room { OnOk result (min additional (4294967294 - length self.old.slots) ≤
-            self.new.room) }
+        ensures room { OnOk result (min additional (left self.old) ≤ spare self.new) }
         ensures grows { self.old.room ≤ self.new.room }
+        ensures parted { IsParted self.new }
+
+        // It is refused only where that room was missing. Where it was there, no more is made.
+        ensures succeeds { min additional (left self.old) ≤ spare self.old
+            → IsOk result × (self.new ≡ self.old) }
         ensures memory { IfErr result (λ refused. refused ≡ Refusal.Memory) }
-        ensures succeeds { additional ≤ self.old.room → IsOk result }
         ensures unchanged { OnErr result (self.new ≡ self.old) }
     {
-        let wanted = additional.min(MAX_SLOTS - self.nodes.len());
-        match self.nodes.reserve(wanted) {
+        let wanted = additional - self.free_up_to(additional);
+        let wanted = wanted.min(MAX_SLOTS - self.nodes.len());
+        match make_room(&mut self.nodes, wanted) {
             Ok(()) => Ok(()),
             Err(_) => Err(Refusal::Memory),
         }
+    }
+
+    // How many slots are free, of so many that are looked for.
+    fn free_up_to(&self, most: usize) -> usize
+        ensures { result ≡ min most (length self.now.free) }
+    {
+        let nodes = self.nodes.as_slice();
+        let mut token = self.next_free;
+        let mut found = 0;
+        while found < most && token.get() as usize <= nodes.len() {
+            found += 1;
+            let link = next_of(nodes, token);
+            if link.get() == token.get() {
+                return found;
+            }
+            token = link;
+        }
+        found
     }
 
     /// Stores an item, a ring of its own, under the token that was freed last, or under a new one.
@@ -118,16 +147,17 @@ impl<T, A: Allocator> LinkedSlab<T, A> {
         ensures token { IfOk result (λ token. number token ≡ next_token self.old) }
         ensures placed { OnOk result (self.new
             ≡ record (placed self.old.free self.old item) { room = self.new.room }) }
-        ensures room { OnOk result (room_taken self.old.free ≤ self.old.room
-            → self.new.room + room_taken self.old.free ≡ self.old.room) }
+        ensures spare { OnOk result (0 < spare self.old → spare self.new + 1 ≡ spare self.old) }
 
         ensures item { IfOk result (λ token. item_at self.new (number token) ≡ Some item) }
         ensures alone { IfOk result (λ token. IsAlone self.new (number token)) }
+        ensures edit { IfOk result (λ token. PlacesItem self.old self.new (number token) item) }
+        ensures parted { IsParted self.new }
 
         // Without memory it is refused only where it needs some, and a full slab refuses.
+        ensures succeeds { 0 < spare self.old → IsOk result }
         ensures full { (result ≡ Err (item, Refusal.SlotsFull)) ↔ IsFull self.old }
-        ensures memory { result ≡ Err (item, Refusal.Memory)
-            → (self.old.free ≡ []) × (self.old.room ≡ 0) }
+        ensures memory { result ≡ Err (item, Refusal.Memory) → spare self.old ≡ 0 }
         ensures refusals { IfErr result
             (λ refused. (refused ≡ (item, Refusal.SlotsFull))
             ⊎ (refused ≡ (item, Refusal.Memory))) }
@@ -147,7 +177,7 @@ impl<T, A: Allocator> LinkedSlab<T, A> {
         if len >= MAX_SLOTS {
             return Err((item, Refusal::SlotsFull));
         }
-        if make_room(&mut self.nodes).is_err() {
+        if make_room(&mut self.nodes, 1).is_err() {
             return Err((item, Refusal::Memory));
         }
         self.nodes.push_reserved(Node {
@@ -229,8 +259,12 @@ impl<T, A: Allocator> LinkedSlab<T, A> {
             (λ head. self.new ≡ linked self.old (number token) (number head)) }
         ensures ring { IfSome head
             (λ head. JoinsEnd self.old self.new (number token) (number head)) }
+        ensures edit { IfSome head
+            (λ head. LinksToken self.old self.new (number token) (number head)) }
+        ensures parted { IsParted self.new }
     {
         let Some(head) = head else {
+            self.validate();
             return token;
         };
         link(self.nodes.as_mut_slice(), token, head);
@@ -242,6 +276,8 @@ impl<T, A: Allocator> LinkedSlab<T, A> {
         requires { IsOccupied self.old (number token) }
         ensures unlinked { self.new ≡ unlinked self.old (number token) }
         ensures alone { IsAlone self.new (number token) }
+        ensures edit { UnlinksToken self.old self.new (number token) }
+        ensures parted { IsParted self.new }
         ensures next { IsNextOf self.old (number token) result }
     {
         unlink(self.nodes.as_mut_slice(), token)
@@ -256,6 +292,8 @@ impl<T, A: Allocator> LinkedSlab<T, A> {
         ensures item { IfSome result (λ taken. item_at self.old (number token) ≡ Some taken.0) }
         ensures next { IfSome result (λ taken. IsNextOf self.old (number token) taken.1) }
         ensures removed { OnSome result (self.new ≡ removed self.old (number token)) }
+        ensures edit { OnSome result (RemovesItem self.old self.new (number token)) }
+        ensures parted { IsParted self.new }
     {
         let len = self.nodes.len();
         let nodes = self.nodes.as_mut_slice();

@@ -1,10 +1,10 @@
 //! What a `LinkedSlab` tells of itself.
 ghost use Rattle.std.specs.Prelude.{◌≡◌, ◌↔◌, count_by, is_some};
 ghost use Rattle.std.specs.Int.NonZero.{non_zero_u32_get as number};
-ghost use Rattle.quick_cache_slab.specs.LinkedSlab.{next_token, IsFull};
+ghost use Rattle.quick_cache_slab.specs.LinkedSlab.{next_token, IsFull, IsParted};
 
-use quick_cache_model::Token;
 use crate::linked_slab::{LinkedSlab, links};
+use quick_cache_model::Token;
 use std::alloc::Allocator;
 use std::mem;
 
@@ -22,6 +22,13 @@ impl<T, A: Allocator> LinkedSlab<T, A> {
         ensures { result ≡ count_by is_some self.now.slots }
     {
         links::occupied_count(self.nodes.as_slice())
+    }
+
+    /// Does nothing: what it promises always holds of a slab.
+    pub fn validate(&self)
+        ensures { IsParted self.now }
+    {
+        let _ = &self.nodes;
     }
 
     /// The bytes of the slots, whether occupied or free.

@@ -4,8 +4,8 @@ ghost use Rattle.std.specs.Int.NonZero.{non_zero_u32_get as number};
 ghost use Rattle.std.specs.Iterator.{YieldsFirst, YieldsFirstBy, item_count};
 
 use crate::linked_slab::links::Node;
-use quick_cache_model::Token;
 use crate::linked_slab::{LinkedSlab, past};
+use quick_cache_model::Token;
 use std::alloc::{Allocator, Global};
 use std::iter::FusedIterator;
 use std::marker::Model;

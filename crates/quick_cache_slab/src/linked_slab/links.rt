@@ -45,8 +45,9 @@ fn set_prev<T>(nodes: &mut [Node<T>], token: Token, prev: Token)
     nodes[place(token)].prev = prev;
 }
 
+/// The token behind one in its ring, or behind a free one in the list of free tokens.
 #[inline(always)]
-fn next_of<T>(nodes: &[Node<T>], token: Token) -> Token
+pub(crate) fn next_of<T>(nodes: &[Node<T>], token: Token) -> Token
     requires { number token ≤ length nodes.now }
     ensures { number result ≡ link_of (nexts_of nodes.now) (number token) }
 {

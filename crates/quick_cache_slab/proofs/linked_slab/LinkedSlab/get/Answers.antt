@@ -1,6 +1,7 @@
-use Rattle.std.proofs.Common.{◌-◌, Bor, vec_len, vec_capacity}
+use Rattle.std.proofs.Common.{Bor, vec_len, vec_capacity, arith}
+use Rattle.quick_cache_slab.specs.Links.{room_of}
 use Rattle.quick_cache_slab.proofs.SlabLemmas.{successor_found}
-use Rattle.quick_cache_slab.proofs.PartLemmas.{alone_found, IsParted-of}
+use Rattle.quick_cache_slab.proofs.PartLemmas.{alone_found, IsParted-nodes}
 use Rattle.quick_cache_slab.proofs.linked_slab.LinkedSlab.get.Goals as goal
 
 pub returns-clause-next : goal.returns-clause-next
@@ -8,16 +9,16 @@ returns-clause-next g c =
     let nodes = c.self.inside.nodes in
     let item = rw c.as_slice.ensures.value at c.get.ensures.item in
     let next = rw c.as_slice.ensures.value at c.get.ensures.next in
-    rw (← c.self.view_is) (successor_found _ _ _ c.self.inside.next_free.value (vec_capacity nodes - vec_len nodes) c.args.token.value (λ (x : Bor g.row.T.Denot). x.now) _ c.self.invariant.linked item next)
+    rw (← c.self.view_is) (successor_found _ _ _ c.self.inside.next_free.value (room_of (vec_capacity nodes) (vec_len nodes)) c.args.token.value (λ (x : Bor g.row.T.Denot). x.now) _ c.self.invariant.linked item next)
 
 pub returns-clause-alone : goal.returns-clause-alone
 returns-clause-alone g c =
     let nodes = c.self.inside.nodes in
     let item = rw c.as_slice.ensures.value at c.get.ensures.item in
     let next = rw c.as_slice.ensures.value at c.get.ensures.next in
-    rw (← c.self.view_is) (alone_found _ _ _ c.self.inside.next_free.value (vec_capacity nodes - vec_len nodes) c.args.token.value (λ (x : Bor g.row.T.Denot). x.now) _ c.self.invariant.linked item next)
+    rw (← c.self.view_is) (alone_found _ _ _ c.self.inside.next_free.value (room_of (vec_capacity nodes) (vec_len nodes)) c.args.token.value (λ (x : Bor g.row.T.Denot). x.now) _ c.self.invariant.linked item next)
 
 pub returns-clause-parted : goal.returns-clause-parted
 returns-clause-parted g c =
     let nodes = c.self.inside.nodes in
-    rw (← c.self.view_is) (IsParted-of _ _ _ c.self.inside.next_free.value (vec_capacity nodes - vec_len nodes) c.self.invariant)
+    rw (← c.self.view_is) (IsParted-nodes nodes.items c.self.inside.next_free.value (vec_capacity nodes) (vec_len nodes) (omega arith) c.self.invariant)

@@ -1,4 +1,5 @@
-use Rattle.std.proofs.Common.{◌-◌, Some, is_some, refl, sym, ap, ◌∙◌, vec_len, vec_capacity}
+use Rattle.std.proofs.Common.{Some, is_some, refl, sym, ap, ◌∙◌, vec_len, vec_capacity}
+use Rattle.quick_cache_slab.specs.Links.{room_of}
 use Rattle.quick_cache_slab.specs.declared.linked_slab.links.Node.{Node}
 use Rattle.quick_cache_slab.proofs.NodeLemmas.{slots_of-with, nexts_of-set_kept, prevs_of-set_kept, item_read, next_read, taken_in_nodes}
 use Rattle.quick_cache_slab.proofs.SlabLemmas.{successor-view, IsSound-rewritten, view-rewritten}
@@ -29,10 +30,10 @@ returns g c =
     let within = taken_in_nodes nodes.items c.args.token.value taken in
     let item = item_read nodes.items c.args.token.value c.place.result c.index_mut-node.result.now c.place.ensures within in
     let next = next_read nodes.items c.args.token.value c.place.result c.index_mut-node.result.now c.place.ensures within in
-    let behind = successor-view _ _ _ c.self.inside.next_free.value (vec_capacity nodes - vec_len nodes) c.args.token.value c.self.invariant.linked taken in
+    let behind = successor-view _ _ _ c.self.inside.next_free.value (room_of (vec_capacity nodes) (vec_len nodes)) c.args.token.value c.self.invariant.linked taken in
     let slots = λ (w : g.row.T.Denot). slots_of-with nodes.items c.args.token.value c.place.result (record c.index_mut-node.result.now { item = Some w }) c.place.ensures in
     let nexts = λ (w : g.row.T.Denot). nexts_of-set_kept nodes.items c.place.result (record c.index_mut-node.result.now { item = Some w }) c.index_mut-node.result.now (ap (λ n. n.next.value) c.index_mut-node.ensures.value) in
-    let view = λ (w : g.row.T.Denot). view-rewritten _ _ c.self.inside.next_free.value (vec_capacity nodes - vec_len nodes) c.args.token.value w taken in (
+    let view = λ (w : g.row.T.Denot). view-rewritten _ _ c.self.inside.next_free.value (room_of (vec_capacity nodes) (vec_len nodes)) c.args.token.value w taken in (
       (refl, λ w. rw (← c.self.view_is, slots w, nexts w) (view w)),
       record {
         writes_back = tt;

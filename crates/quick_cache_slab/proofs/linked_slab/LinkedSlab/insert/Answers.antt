@@ -1,8 +1,11 @@
-use Rattle.std.proofs.Common.{◌≡◌, ◌≢◌, ◌⊎◌, ◌+◌, ◌-◌, [], length, inl, inr, refl, vec_len, vec_capacity, arith}
+use Rattle.std.proofs.Common.{◌≡◌, ◌≢◌, ◌⊎◌, ◌+◌, length, inl, inr, refl, ap, vec_len, vec_capacity, arith}
 use Rattle.std.proofs.lemmas.List.{with_items_is}
-use Rattle.quick_cache_slab.specs.Links.{slots_of}
+use Rattle.quick_cache_slab.specs.Links.{slots_of, room_of}
 use Rattle.quick_cache_slab.proofs.NodeLemmas.{length-slots_of, slots_of-push, nexts_of-push, prevs_of-push}
-use Rattle.quick_cache_slab.proofs.SlabLemmas.{none_free, some_free, next_after, room_after, Reused-at, Grown-at}
+use Rattle.quick_cache_slab.proofs.SlabLemmas.{next_token-is, none_free, some_free, next_after, Reused-at, Grown-at}
+use Rattle.quick_cache_slab.specs.LinkedSlab.{IsParted}
+use Rattle.quick_cache_slab.proofs.PartLemmas.{IsParted-nodes}
+use Rattle.quick_cache_slab.proofs.EditLemmas.{PlacesItem-from, spare-placed}
 use Rattle.quick_cache_slab.proofs.linked_slab.LinkedSlab.insert.Goals as goal
 use Rattle.quick_cache_slab.proofs.linked_slab.LinkedSlab.insert.Goals.{then-get, else-get}
 
@@ -19,7 +22,7 @@ invariant_of-self g c =
       | else-get w ↦ inr (λ same. omega (arith, w.if-get.false), rw w.self-is)
     ] in
     let after = rw link at (next_after c.fill-link.result.value first (length (slots_of nodes.items) + 1) c.if-get.self.value choice) in
-    let reused = Reused-at _ _ _ first (vec_capacity nodes - vec_len nodes) c.args.item c.if-get.self.value c.self.invariant (omega arith) after in
+    let reused = Reused-at _ _ _ first (room_of (vec_capacity nodes) (vec_len nodes)) c.args.item c.if-get.self.value c.self.invariant (omega arith) after in
     rw (items, c.fill-link.ensures.slots, c.fill-link.ensures.nexts, c.fill-link.ensures.prevs, c.as_mut_slice.ensures.value) reused.sound
 
 pub returns-then-get-len-clause-placed : goal.returns-then-get-len-clause-placed
@@ -35,7 +38,7 @@ returns-then-get-len-clause-placed g c =
       | else-get w ↦ inr (λ same. omega (arith, w.if-get.false), rw w.self-is)
     ] in
     let after = rw link at (next_after c.fill-link.result.value first (length (slots_of nodes.items) + 1) c.if-get.self.value choice) in
-    let reused = Reused-at _ _ _ first (vec_capacity nodes - vec_len nodes) c.args.item c.if-get.self.value c.self.invariant (omega arith) after in
+    let reused = Reused-at _ _ _ first (room_of (vec_capacity nodes) (vec_len nodes)) c.args.item c.if-get.self.value c.self.invariant (omega arith) after in
     rw (← c.self.view_is, items, c.fill-link.ensures.slots, c.fill-link.ensures.nexts, c.as_mut_slice.ensures.value) reused.view
 
 pub returns-then-get-len-clause-item : goal.returns-then-get-len-clause-item
@@ -51,7 +54,7 @@ returns-then-get-len-clause-item g c =
       | else-get w ↦ inr (λ same. omega (arith, w.if-get.false), rw w.self-is)
     ] in
     let after = rw link at (next_after c.fill-link.result.value first (length (slots_of nodes.items) + 1) c.if-get.self.value choice) in
-    let reused = Reused-at _ _ _ first (vec_capacity nodes - vec_len nodes) c.args.item c.if-get.self.value c.self.invariant (omega arith) after in
+    let reused = Reused-at _ _ _ first (room_of (vec_capacity nodes) (vec_len nodes)) c.args.item c.if-get.self.value c.self.invariant (omega arith) after in
     rw (items, c.fill-link.ensures.slots, c.as_mut_slice.ensures.value) reused.holds
 
 pub returns-then-get-len-clause-alone : goal.returns-then-get-len-clause-alone
@@ -67,7 +70,7 @@ returns-then-get-len-clause-alone g c =
       | else-get w ↦ inr (λ same. omega (arith, w.if-get.false), rw w.self-is)
     ] in
     let after = rw link at (next_after c.fill-link.result.value first (length (slots_of nodes.items) + 1) c.if-get.self.value choice) in
-    let reused = Reused-at _ _ _ first (vec_capacity nodes - vec_len nodes) c.args.item c.if-get.self.value c.self.invariant (omega arith) after in
+    let reused = Reused-at _ _ _ first (room_of (vec_capacity nodes) (vec_len nodes)) c.args.item c.if-get.self.value c.self.invariant (omega arith) after in
     rw (items, c.fill-link.ensures.slots, c.fill-link.ensures.nexts, c.as_mut_slice.ensures.value) reused.alone
 
 -- a free token is there, so the slab is not full
@@ -84,7 +87,7 @@ invariant_of-self-2 g c =
     let nodes = c.self.inside.nodes in
     let long = length-slots_of nodes.items in
     let last = none_free _ _ _ _ c.self.invariant (omega arith) in
-    let grown = Grown-at _ _ _ c.self.inside.next_free.value (vec_capacity nodes - vec_len nodes) (vec_capacity nodes - vec_len nodes) c.args.item c.past-self-inside-2.result.value c.self.invariant (omega arith) (omega arith) (omega (arith, last.1)) in
+    let grown = Grown-at _ _ _ c.self.inside.next_free.value (room_of (vec_capacity nodes) (vec_len nodes)) (room_of (vec_capacity nodes) (vec_len nodes)) c.args.item c.past-self-inside-2.result.value c.self.invariant (omega arith) (omega arith) (omega (arith, last.1)) in
     rw (c.push_reserved.ensures.items, c.make_room.ensures.items, slots_of-push, nexts_of-push, prevs_of-push) grown.sound
 
 pub returns-clause-placed : goal.returns-clause-placed
@@ -93,7 +96,7 @@ returns-clause-placed g c =
     let grown_nodes = c.push_reserved.new.self in
     let long = length-slots_of nodes.items in
     let last = none_free _ _ _ _ c.self.invariant (omega arith) in
-    let grown = Grown-at _ _ _ c.self.inside.next_free.value (vec_capacity nodes - vec_len nodes) (vec_capacity grown_nodes - vec_len grown_nodes) c.args.item c.past-self-inside-2.result.value c.self.invariant (omega arith) (omega arith) (omega (arith, last.1)) in
+    let grown = Grown-at _ _ _ c.self.inside.next_free.value (room_of (vec_capacity nodes) (vec_len nodes)) (room_of (vec_capacity grown_nodes) (vec_len grown_nodes)) c.args.item c.past-self-inside-2.result.value c.self.invariant (omega arith) (omega arith) (omega (arith, last.1)) in
     rw (← c.self.view_is, c.push_reserved.ensures.items, c.make_room.ensures.items, slots_of-push, nexts_of-push) grown.view
 
 pub returns-clause-item : goal.returns-clause-item
@@ -102,7 +105,7 @@ returns-clause-item g c =
     let grown_nodes = c.push_reserved.new.self in
     let long = length-slots_of nodes.items in
     let last = none_free _ _ _ _ c.self.invariant (omega arith) in
-    let grown = Grown-at _ _ _ c.self.inside.next_free.value (vec_capacity nodes - vec_len nodes) (vec_capacity grown_nodes - vec_len grown_nodes) c.args.item c.past-self-inside-2.result.value c.self.invariant (omega arith) (omega arith) (omega (arith, last.1)) in
+    let grown = Grown-at _ _ _ c.self.inside.next_free.value (room_of (vec_capacity nodes) (vec_len nodes)) (room_of (vec_capacity grown_nodes) (vec_len grown_nodes)) c.args.item c.past-self-inside-2.result.value c.self.invariant (omega arith) (omega arith) (omega (arith, last.1)) in
     rw (c.push_reserved.ensures.items, c.make_room.ensures.items, slots_of-push) grown.holds
 
 pub returns-clause-alone : goal.returns-clause-alone
@@ -111,14 +114,54 @@ returns-clause-alone g c =
     let grown_nodes = c.push_reserved.new.self in
     let long = length-slots_of nodes.items in
     let last = none_free _ _ _ _ c.self.invariant (omega arith) in
-    let grown = Grown-at _ _ _ c.self.inside.next_free.value (vec_capacity nodes - vec_len nodes) (vec_capacity grown_nodes - vec_len grown_nodes) c.args.item c.past-self-inside-2.result.value c.self.invariant (omega arith) (omega arith) (omega (arith, last.1)) in
+    let grown = Grown-at _ _ _ c.self.inside.next_free.value (room_of (vec_capacity nodes) (vec_len nodes)) (room_of (vec_capacity grown_nodes) (vec_len grown_nodes)) c.args.item c.past-self-inside-2.result.value c.self.invariant (omega arith) (omega arith) (omega (arith, last.1)) in
     rw (c.push_reserved.ensures.items, c.make_room.ensures.items, slots_of-push, nexts_of-push) grown.alone
 
-pub returns-clause-room : goal.returns-clause-room
-returns-clause-room g c =
+pub returns-then-get-len-clause-edit : goal.returns-then-get-len-clause-edit
+returns-then-get-len-clause-edit g c =
+    let nodes = c.self.inside.nodes in
+    let at = next_token-is _ _ _ c.self.inside.next_free.value (room_of (vec_capacity nodes) (vec_len nodes)) c.self.invariant in
+    let parted : IsParted c.args.self.now =
+    rw (← c.self.view_is) (IsParted-nodes nodes.items c.self.inside.next_free.value (vec_capacity nodes) (vec_len nodes) (omega arith) c.self.invariant) in
+    PlacesItem-from c.args.self.now _ c.self.inside.next_free.value c.args.item parted (rw (← c.self.view_is) at) (returns-then-get-len-clause-placed g c)
+
+pub returns-then-get-len-clause-parted : goal.returns-then-get-len-clause-parted
+returns-then-get-len-clause-parted g c =
+    let items = with_items_is c.self.inside.nodes c.fill-link.new.nodes (omega arith) in
+    IsParted-nodes _ _ _ _ (omega (arith, ap length items)) (invariant_of-self g c)
+
+pub returns-then-get-len-clause-spare : goal.returns-then-get-len-clause-spare
+returns-then-get-len-clause-spare g c =
+    let nodes = c.self.inside.nodes in
+    let long = length-slots_of nodes.items in
+    let some = some_free _ _ _ _ c.self.invariant (omega arith) in
+    spare-placed c.args.self.now _ c.args.item (returns-then-get-len-clause-placed g c) (λ _. rw (← c.self.view_is) refl) (λ none. absurd (some (rw (← c.self.view_is) at none)))
+
+pub returns-then-len-ge-MAX_SLOTS-clause-parted : goal.returns-then-len-ge-MAX_SLOTS-clause-parted
+returns-then-len-ge-MAX_SLOTS-clause-parted g c =
+    let nodes = c.self.inside.nodes in
+    rw (← c.self.view_is) (IsParted-nodes nodes.items c.self.inside.next_free.value (vec_capacity nodes) (vec_len nodes) (omega arith) c.self.invariant)
+
+pub returns-then-is_err-clause-parted : goal.returns-then-is_err-clause-parted
+returns-then-is_err-clause-parted g c =
+    IsParted-nodes _ _ _ _ (omega (arith, ap length c.make_room.ensures.items)) (invariant_of-self-then-is_err g c)
+
+pub returns-clause-edit : goal.returns-clause-edit
+returns-clause-edit g c =
+    let nodes = c.self.inside.nodes in
+    let at = next_token-is _ _ _ c.self.inside.next_free.value (room_of (vec_capacity nodes) (vec_len nodes)) c.self.invariant in
+    let parted : IsParted c.args.self.now =
+    rw (← c.self.view_is) (IsParted-nodes nodes.items c.self.inside.next_free.value (vec_capacity nodes) (vec_len nodes) (omega arith) c.self.invariant) in
+    PlacesItem-from c.args.self.now _ c.self.inside.next_free.value c.args.item parted (rw (← c.self.view_is) at) (returns-clause-placed g c)
+
+pub returns-clause-parted : goal.returns-clause-parted
+returns-clause-parted g c =
+    IsParted-nodes _ _ _ _ (omega arith) (invariant_of-self-2 g c)
+
+pub returns-clause-spare : goal.returns-clause-spare
+returns-clause-spare g c =
     let nodes = c.self.inside.nodes in
     let long = length-slots_of nodes.items in
     let last = none_free _ _ _ _ c.self.invariant (omega arith) in
-    let none : c.args.self.now.free ≡ [] = rw (← c.self.view_is) last.0 in
-    let room : c.args.self.now.room ≡ vec_capacity nodes - vec_len nodes = rw (← c.self.view_is) refl in
-    room_after _ _ _ none (λ some. let same = (c.make_room.ensures.had_room (omega arith)).1 in omega arith)
+    let room : c.args.self.now.room ≡ room_of (vec_capacity nodes) (vec_len nodes) = rw (← c.self.view_is) refl in
+    spare-placed c.args.self.now _ c.args.item (returns-clause-placed g c) (λ more. absurd (more (rw (← c.self.view_is) last.0))) (λ _ some. let same = (c.make_room.ensures.had_room (omega arith)).1 in omega arith)
