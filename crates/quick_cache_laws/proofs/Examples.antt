@@ -4,6 +4,7 @@ pub mod Caches
 pub mod SmallCaches
 pub mod Victims
 pub mod Pinned
+pub mod Weights
 pub mod Weightless
 pub mod Overwrites
 pub mod LoadingKeys

@@ -1,3 +1,4 @@
+pub mod Admitted
 pub mod Calls
 pub mod CanBeMade
 pub mod EachElement

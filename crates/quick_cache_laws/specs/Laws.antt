@@ -1,5 +1,5 @@
 -- Laws of the definitions, and the words in which they are stated.
-use Rattle.std.specs.Prelude.{◌≡◌, ℕ, ◌+◌, ◌*◌, ◌^◌, ◌<◌, ◌≤◌, ◌⊎◌, Bool, true, false, IsTrue, List}
+use Rattle.std.specs.Prelude.{◌≡◌, ℕ, ◌+◌, ◌*◌, ◌^◌, ◌<◌, ◌≤◌, ◌⊎◌, Bool, true, IsTrue, List}
 use Rattle.std.specs.Prelude.{[], ◌++◌, Option, None, length, min, count_by}
 use Rattle.std.specs.List.{AllByRecursion}
 use Rattle.quick_cache_model.specs.CacheState.{CacheState, Item, Place, empty_state, keys_by}
@@ -7,7 +7,7 @@ use Rattle.quick_cache_model.specs.CacheState.{total_weight, IsValid, SameButOrd
 use Rattle.quick_cache_model.specs.Hooks.{Rules, HookCall, BeforeEvict, EvictHot, EvictCold, Hooks}
 use Rattle.quick_cache_model.specs.Finding.{Found, IsItemAt, HasNoItem, Finds}
 use Rattle.quick_cache_model.specs.Eviction.{AdvancesCold, EvictsToCapacity}
-use Rattle.quick_cache_model.specs.Writes.{Strategy, WritesAdmitted, Writes}
+use Rattle.quick_cache_model.specs.Writes.{Strategy, Writes}
 use Rattle.quick_cache_model.specs.Placeholders.{MakesPlaceholder, MeetsPlaceholder}
 use Rattle.quick_cache_model.specs.Placeholders.{FillsPlaceholder, GivesUpPlaceholder}
 use Rattle.quick_cache_model.specs.Lookups.{Sees, LooksUp}
@@ -43,13 +43,10 @@ abbrev pub IsPinnedTest : {K V : Type 0} → Rules K V → (K → V → Bool) �
 IsPinnedTest {K} {V} rules test = (key : K) (value : V) → test key value ≡ true
     → rules.pinned key value ≡ true
 
--- each item of the rings whose key does not pass the test is pinned
-pub record AreOthersPinned {K V : Type 0} (rules : Rules K V) (spared : K → Bool)
-    (state : CacheState K V) : Type 0 where
-  pub hot : AllByRecursion (λ item. spared item.key ≡ false
-      → rules.pinned item.key item.value ≡ true) state.hot
-  pub cold : AllByRecursion (λ item. spared item.key ≡ false
-      → rules.pinned item.key item.value ≡ true) state.cold
+-- each item of the rings is pinned
+pub record AreRingsPinned {K V : Type 0} (rules : Rules K V) (state : CacheState K V) : Type 0 where
+  pub hot : AllByRecursion (λ item. rules.pinned item.key item.value ≡ true) state.hot
+  pub cold : AllByRecursion (λ item. rules.pinned item.key item.value ≡ true) state.cold
 
 -- Each hook can be called from any request state, with any pair: its relation leads somewhere, and
 -- leaves some value.
@@ -171,7 +168,7 @@ module _ (K V : Type 0) where
   EvictionMakesRoom =
       WhateverRules (λ rules. (need : ℕ) (old new : CacheState K V) (calls : List (HookCall K V))
       → EvictsToCapacity rules need old calls new
-      → (total_weight new + need ≤ new.capacity) ⊎ AreOthersPinned rules (λ _. false) new)
+      → (total_weight new + need ≤ new.capacity) ⊎ AreRingsPinned rules new)
 
   -- room can be made in every state, where there may be no touches
   abbrev pub EvictionEnds : Type 0
@@ -287,15 +284,6 @@ module _ (K V : Type 0) where
         → IsQuery equal stands_for → IsValid equal old
         → Sees stands_for old (λ item. item.value) seen
         → LooksUp stands_for old (λ item. item.value) shown new → seen ≡ shown
-
-    -- where a pair was taken, the items weigh at most the capacity, or each of another key that
-    -- stands in a ring is pinned
-    abbrev pub WritesStayWithinCapacity : Type 0
-    WritesStayWithinCapacity =
-        WhateverRules (λ rules. (key : K) (strategy : Strategy) (old : CacheState K V) (value : V)
-        (new : CacheState K V) (calls : List (HookCall K V))
-        → WritesAdmitted rules (equal key) key strategy old value calls None new
-        → (total_weight new ≤ new.capacity) ⊎ AreOthersPinned rules (equal key) new)
 
     -- a key that was removed is not there to be removed again
     abbrev pub SecondRemovalsFindNothing : Type 0

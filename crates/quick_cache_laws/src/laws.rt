@@ -1,5 +1,7 @@
 //! Laws of the definitions: each function does nothing, and its contract is a theorem about words
 //! of `specs/`.
+ghost use Rattle.quick_cache_laws.specs.Admitted.{FillsStayWithinCapacity, InsertedPairsAreKept};
+ghost use Rattle.quick_cache_laws.specs.Admitted.{WritesStayWithinCapacity};
 ghost use Rattle.quick_cache_laws.specs.Laws.{AdvancesLowerTheMeasure, CapacitiesCanBeSet};
 ghost use Rattle.quick_cache_laws.specs.Laws.{CapacitiesStayValid, EmptiedCachesAreValid};
 ghost use Rattle.quick_cache_laws.specs.Laws.{EntriesAreRefusedForMemory};
@@ -21,10 +23,10 @@ ghost use Rattle.quick_cache_laws.specs.Laws.{RemovalsCanBeMade, RemovalsStayVal
 ghost use Rattle.quick_cache_laws.specs.Laws.{RetainsStayValid, SecondRemovalsFindNothing};
 ghost use Rattle.quick_cache_laws.specs.Laws.{SecondRetainsRemoveNothing, WeightlessItemsStay};
 ghost use Rattle.quick_cache_laws.specs.Laws.{WritesCanBeMade, WritesStayValid};
-ghost use Rattle.quick_cache_laws.specs.Laws.{WritesStayWithinCapacity};
 
-/// Eviction frees enough room unless every item in the rings is pinned. It brings in no key, it takes
-/// out no item of weight 0 and no pinned pair, and it ends. For one thread its outcome is determined.
+/// Eviction frees enough room unless every item in the rings is pinned. It brings in no key, it
+/// takes out no item of weight 0 and no pinned pair, and it ends. For one thread its outcome is
+/// determined.
 pub fn eviction_law<K, V>()
     ensures makes_room { EvictionMakesRoom K V }
     ensures brings_no_key { EvictionBringsNoKey K V }
@@ -36,9 +38,17 @@ pub fn eviction_law<K, V>()
     ensures determined { EvictionIsDetermined K V }
 {}
 
-/// A write that takes its pair leaves the items within the capacity, unless all others in the rings are pinned.
-pub fn write_law<K: Eq, V>()
-    ensures { WritesStayWithinCapacity K V K.eq }
+/// After a write of a pair that passed its admission check, the items that are not pinned weigh
+/// at most the capacity. An insert under a new key keeps such a pair.
+pub fn write_law<K, V>()
+    ensures within_capacity { WritesStayWithinCapacity K V }
+    ensures kept { InsertedPairsAreKept K V }
+{}
+
+/// After a fill whose value passed its admission check with a weight above 0, the items that
+/// are not pinned weigh at most the capacity.
+pub fn fill_law<K: Eq, V>()
+    ensures { FillsStayWithinCapacity K V K.eq }
 {}
 
 /// What was removed is not there to be removed again.
@@ -47,13 +57,15 @@ pub fn removal_law<K: Eq, V>()
     ensures retains_again { SecondRetainsRemoveNothing K V }
 {}
 
-/// Setting the capacity to the present one changes no size, and nothing at all where there is room.
+/// Setting the capacity to the present one changes no size, and nothing at all where there is
+/// room.
 pub fn capacity_law<K, V>()
     ensures sizes { PresentCapacityKeepsSizes K V }
     ensures nothing { PresentCapacityChangesNothing K V }
 {}
 
-/// Each call can be made in every state, so that none of their definitions asks for what cannot be.
+/// Each call can be made in every state, so that none of their definitions asks for what cannot
+/// be.
 pub fn call_law<K, V>()
     ensures writes { WritesCanBeMade K V }
     ensures makes_or_meets { PlaceholdersCanBeTaken K V }
@@ -64,8 +76,8 @@ pub fn call_law<K, V>()
     ensures sets_capacity { CapacitiesCanBeSet K V }
 {}
 
-/// While there are tickets, an entry call is refused for want of memory alone. Once they are spent, each
-/// replacing call is refused for that.
+/// While there are tickets, an entry call is refused for want of memory alone. Once they are
+/// spent, each replacing call is refused for that.
 pub fn entry_law<K, V>()
     ensures memory { EntriesAreRefusedForMemory K V }
     ensures tickets { EntriesAreRefusedForTickets K V }
@@ -83,7 +95,8 @@ pub fn finding_law<K, V>()
     ensures { QueriesFindSomething K V }
 {}
 
-/// A query has at most one entry in a valid state, so a look at a key and a look-up show the same.
+/// A query has at most one entry in a valid state, so a look at a key and a look-up show the
+/// same.
 pub fn query_law<K: Eq, V>()
     ensures one_entry { QueriesHaveOneEntry K V K.eq }
     ensures same { LooksShowTheSame K V K.eq }

@@ -14,11 +14,11 @@ holds_between P [] x back holds = holds.0
 holds_between P (_ ∷ front) x back holds = holds_between P front x back holds.1
 
 -- the first of a list, and what follows it
-abbrev first_or : {X : Type 0} → X → List X → X
+abbrev pub first_or : {X : Type 0} → X → List X → X
 first_or other [] = other
 first_or other (x ∷ _) = x
 
-abbrev rest_of : {X : Type 0} → List X → List X
+abbrev pub rest_of : {X : Type 0} → List X → List X
 rest_of [] = []
 rest_of (_ ∷ xs) = xs
 

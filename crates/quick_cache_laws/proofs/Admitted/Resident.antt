@@ -1,0 +1,92 @@
+-- An insert under a key of which nothing is found keeps a pair that passed its check.
+use Rattle.std.proofs.Common.{◌≡◌, ◌≢◌, Bool, false, true≢false, List, [], ◌∷◌, ◌++◌}
+use Rattle.std.proofs.Common.{Option, None, refl, sym, subst, ◌∙◌}
+use Rattle.std.specs.List.{AllByRecursion}
+use Rattle.quick_cache_model.specs.declared.queue.Queue.TheVariants.{Cold}
+use Rattle.quick_cache_model.specs.CacheState.{CacheState, Item, Place, InHot, InCold}
+use Rattle.quick_cache_model.specs.CacheState.{InStill, items_at, entered, place_of_item}
+use Rattle.quick_cache_model.specs.Hooks.{Rules, HookCall}
+use Rattle.quick_cache_model.specs.Finding.{HasNothing, HasNoItem, IsItemAt}
+use Rattle.quick_cache_model.specs.Admission.{PassesCheck}
+use Rattle.quick_cache_model.specs.Writes.{Insert, new_item, queue_for, WritesAdmitted, Writes}
+use Rattle.quick_cache_laws.specs.Admitted.{HoldsPair}
+use Rattle.quick_cache_laws.proofs.EachElement.{all-middle}
+use Rattle.quick_cache_laws.proofs.Valid.Places.{put}
+use Rattle.quick_cache_laws.proofs.Admitted.Checks.{passed_is_not_too_heavy, passed_leaves}
+
+module _ {K V : Type 0} where
+  items_at-put : (place : Place) (item : Item K V) (state : CacheState K V)
+      → items_at place (put place item state) ≡ items_at place state ++ item ∷ []
+  items_at-put InHot item state = refl
+  items_at-put InCold item state = refl
+  items_at-put InStill item state = refl
+
+  -- a state with an item that entered holds its pair
+  entered-holds : (item : Item K V) (state : CacheState K V)
+      → HoldsPair item.key item.value (entered item state)
+  entered-holds item state = record {
+    place = place_of_item item;
+    before = items_at (place_of_item item) state;
+    item = item;
+    after = [];
+    split = items_at-put (place_of_item item) item state;
+    of_key = refl;
+    of_value = refl;
+  }
+
+  -- where no item is found, none stands anywhere
+  no_item_at : (stands_for : K → Bool) (state : CacheState K V) (place : Place)
+      (before : List (Item K V)) (item : Item K V) (after : List (Item K V))
+      → HasNoItem stands_for state → IsItemAt stands_for state place before item after → ⊥
+  no_item_at stands_for state place before item after none there =
+      true≢false (sym there.passes ∙ all-middle (λ x. stands_for x.key ≡ false) before item after
+      (subst (AllByRecursion (λ x. stands_for x.key ≡ false)) there.split (at place)))
+    where
+      at : (p : Place) → AllByRecursion (λ x. stands_for x.key ≡ false) (items_at p state)
+      at InHot = none.hot
+      at InCold = none.cold
+      at InStill = none.still
+
+  module _ (rules : Rules K V) (equal_to : K → Bool) (key : K) where
+    -- the write of an admitted pair
+    WritesAdmitted-holds : (old : CacheState K V) (value : V) (calls : List (HookCall K V))
+        (answer : Option (K × V)) (new : CacheState K V)
+        → WritesAdmitted rules equal_to key Insert old value calls answer new
+        → HasNothing equal_to (rules.hash key) old → (answer ≡ None) × HoldsPair key value new
+    WritesAdmitted-holds old value _ _ _
+        (WritesAdmitted.inserts_new mid calls inserts nothing evicts) none =
+        (refl, entered-holds (new_item rules key value (queue_for rules old key value Cold) 0) mid)
+    WritesAdmitted-holds old value _ _ _
+        (WritesAdmitted.overwrites place before item touched after calls new there takes evicts)
+        none
+        = absurd (no_item_at equal_to old place before item after none.keys.items there)
+    WritesAdmitted-holds old value _ _ _
+        (WritesAdmitted.inserts_over_ghost before after calls new inserts keys split evicts) none =
+        absurd (all-middle (λ h. h ≢ rules.hash key) before (rules.hash key) after
+        (subst (AllByRecursion (λ h. h ≢ rules.hash key)) split none.ghosts) refl)
+    WritesAdmitted-holds old value _ _ _
+        (WritesAdmitted.inserts_over_loading before entry after calls new inserts there evicts) none
+        = absurd (true≢false (sym there.passes
+        ∙ all-middle (λ x. equal_to x.key ≡ false) before entry after
+        (subst (AllByRecursion (λ x. equal_to x.key ≡ false)) there.split none.keys.loading)))
+    WritesAdmitted-holds old value _ _ _ (WritesAdmitted.gives_back replaces no_item) none =
+        absurd replaces
+
+    -- an insert whose pair passed its check
+    pub Writes-holds : (old new : CacheState K V) (value left : V) (calls : List (HookCall K V))
+        (answer : Option (K × V))
+        → Writes rules equal_to key Insert old value calls answer new
+        → HasNothing equal_to (rules.hash key) old
+        → PassesCheck rules old.hot_target key value calls left
+        → (answer ≡ None) × HoldsPair key left new
+    Writes-holds old _ value left _ _
+        (Writes.admitted first rest value' answer new checks writes) none passed =
+        subst (λ v. (answer ≡ None) × HoldsPair key v new)
+        (passed_leaves rules old.hot_target key value (first ++ rest) first rest left value' passed
+        refl checks)
+        (WritesAdmitted-holds old value' rest answer new writes none)
+    Writes-holds old _ value left _ _
+        (Writes.too_heavy first rest value' answer new checks rejects) none passed =
+        absurd (passed_is_not_too_heavy rules old.hot_target key value (first ++ rest)
+        first rest left
+        value' passed refl checks)
