@@ -1,0 +1,7 @@
+//! Small uses of the cache, which the README and the guide show word for word. Each runs as a test.
+#![tactic(auto)]
+
+pub mod borrowed;
+pub mod listener;
+pub mod runs;
+pub mod weigher;

@@ -1,0 +1,24 @@
+//! A list of calls, made in turn.
+use quick_cache_unsync::{Cache, Call, Reply, run};
+use std::alloc::{AllocError, Global};
+
+/// Three calls of a cache for five items, and their replies.
+pub fn replies(alloc: Global) -> Result<Vec<Reply<u64, u64>>, AllocError> {
+    let mut cache = Cache::new(alloc, 5).map_err(|_| AllocError)?;
+    let calls = vec![in alloc; Call::Insert(1, 10), Call::Get(1), Call::Remove(2)]?;
+    run(alloc, &mut cache, calls, &mut ()).map_err(|_| AllocError)
+}
+
+#[cfg(test)]
+mod tests {
+    use super::*;
+    use std::test::Fail;
+
+    #[test]
+    fn each_call_has_its_reply(rt: HostRuntime) -> Result<(), Fail> {
+        let replies = replies(rt.alloc())?;
+        let wanted = [Reply::Done, Reply::Value(Some(10)), Reply::Pair(None)];
+        assert_eq!(rt; replies.as_slice(), wanted.as_slice());
+        Ok(())
+    }
+}
