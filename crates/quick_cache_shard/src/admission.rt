@@ -1,9 +1,9 @@
 //! A pair that is too heavy.
-ghost use Rattle.std.specs.Prelude.{◌≡◌};
+ghost use Rattle.std.specs.Prelude.{◌≡◌, ℕ};
 ghost use Rattle.quick_cache_model.specs.Hooks.{Calls};
 ghost use Rattle.quick_cache_model.specs.Writes.{TakesOutItem, Writes};
 ghost use Rattle.quick_cache_shard.specs.Places.{IsFoundAt};
-ghost use Rattle.quick_cache_shard.specs.Rings.{IsSound, state_of, unit_rules};
+ghost use Rattle.quick_cache_shard.specs.Rings.{IsSound, state_of, unit_rules, HasRoom};
 ghost use Rattle.quick_cache_shard.specs.Shard.{strategy_of};
 
 use crate::find::Location;
@@ -33,6 +33,7 @@ impl<K: Eq + Hash + Drop, V: Drop, P: SharedPlaceholder<K>, A: Allocator> Rings<
             (K.eq key.now) key.now (state_of self.old) calls (state_of self.new))
             state.old state.new }
         ensures sound { IsSound K.eq self.new }
+        ensures room { (n : ℕ) → HasRoom n self.old → HasRoom n self.new }
     {
         match location {
             Location::InHot(at) => {
@@ -72,6 +73,7 @@ impl<K: Eq + Hash + Drop, V: Drop, P: SharedPlaceholder<K>, A: Allocator> Rings<
             (state_of self.new))
             state.old state.new }
         ensures sound { IsSound K.eq self.new }
+        ensures room { (n : ℕ) → HasRoom n self.old → HasRoom n self.new }
     {
         let mut value = value;
         terms.before_evict(state, &key, &mut value);

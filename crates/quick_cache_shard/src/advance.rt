@@ -97,10 +97,14 @@ impl<K: Eq + Hash + Drop, V: Drop, P: SharedPlaceholder<K>, A: Allocator> Rings<
             state.old state.new }
         ensures sound { IsSound K.eq self.new }
         ensures room { (n : ℕ) → HasRoom n self.old → HasRoom n self.new }
-        ensures same { self.new ≡ record self.old { hot = self.new.hot } }
+        ensures same { self.new ≡ record self.old {
+          hot = self.new.hot;
+          advances = self.new.advances;
+        } }
         ensures falls { vec_len self.new.hot + (if result then 1 else 0)
             ≡ vec_len self.old.hot }
     {
+        self.advances = self.advances.saturating_add(1);
         take_all_touches(&mut self.hot);
         let Some(at) = least_mark(&self.hot) else {
             return false;
@@ -123,7 +127,10 @@ impl<K: Eq + Hash + Drop, V: Drop, P: SharedPlaceholder<K>, A: Allocator> Rings<
             state.old state.new }
         ensures sound { IsSound K.eq self.new }
         ensures room { (n : ℕ) → HasRoom n self.old → HasRoom n self.new }
-        ensures same { self.new ≡ record self.old { hot = self.new.hot } }
+        ensures same { self.new ≡ record self.old {
+          hot = self.new.hot;
+          advances = self.new.advances;
+        } }
         ensures fewer { vec_len self.new.hot ≤ vec_len self.old.hot }
     {
         while self.hot.len() as u64 > self.hot_target {
@@ -146,6 +153,7 @@ impl<K: Eq + Hash + Drop, V: Drop, P: SharedPlaceholder<K>, A: Allocator> Rings<
           hot = self.new.hot;
           cold = self.new.cold;
           ghosts = self.new.ghosts;
+          advances = self.new.advances;
         } }
         ensures falls { IsTrue result → vec_len self.new.hot + 2 * vec_len self.new.cold
             < vec_len self.old.hot + 2 * vec_len self.old.cold }
@@ -185,6 +193,7 @@ impl<K: Eq + Hash + Drop, V: Drop, P: SharedPlaceholder<K>, A: Allocator> Rings<
           hot = self.new.hot;
           cold = self.new.cold;
           ghosts = self.new.ghosts;
+          advances = self.new.advances;
         } }
     {
         while self.hot.len() as u128 + self.cold.len() as u128 + need as u128

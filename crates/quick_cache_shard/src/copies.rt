@@ -70,6 +70,8 @@ impl<K: Eq + Hash + Clone, V: Clone, P: SharedPlaceholder<K>, A: Allocator + Clo
             ghost_limit: self.ghost_limit,
             hits: self.hits,
             misses: self.misses,
+            advances: 0,
+            visits: 0,
         })
     }
 }

@@ -1,5 +1,5 @@
 //! Writes: inserts and replaces.
-ghost use Rattle.std.specs.Prelude.{◌≡◌, ℕ, ◌<◌, List, [], ◌∷◌, None, nat_eq, vec_len, vec_capacity};
+ghost use Rattle.std.specs.Prelude.{◌≡◌, ℕ, ◌<◌, List, [], ◌∷◌, None, nat_eq, vec_len, vec_capacity, ◌+◌, ◌≤◌, OnErr, Some, IfErr};
 ghost use Rattle.quick_cache_model.specs.CacheState.{Item};
 ghost use Rattle.quick_cache_model.specs.Finding.{HasNoKey, HasNothing};
 ghost use Rattle.quick_cache_model.specs.Hooks.{Calls, RunsHooks, evicted};
@@ -8,9 +8,10 @@ ghost use Rattle.quick_cache_model.specs.Writes.{WritesAdmitted, Writes, TakesOu
 ghost use Rattle.quick_cache_shard.specs.Changes.{WritesOverAt, is_insert, IsReady, Provides};
 ghost use Rattle.quick_cache_shard.specs.Places.{IsFoundAt};
 ghost use Rattle.quick_cache_shard.specs.Policies.{rules_by, IsPlainPolicy};
-ghost use Rattle.quick_cache_shard.specs.Rings.{HasRoom, IsSound, state_of, unit_rules};
+ghost use Rattle.quick_cache_shard.specs.Rings.{HasRoom, IsSound, state_of, unit_rules, room_of};
 ghost use Rattle.quick_cache_shard.specs.Shard.{strategy_of, Answers};
 ghost use Rattle.quick_cache_shard.specs.Split.{IsFirst, IsSplit};
+ghost use Rattle.quick_cache_model.specs.declared.refusal.Refusal.TheVariants.{Memory};
 
 use crate::find::Location;
 use crate::lists::take_out;
@@ -60,8 +61,11 @@ impl<K: Eq + Hash + Drop, V: Drop, P: SharedPlaceholder<K>, A: Allocator> Rings<
         requires { IsSound K.eq self.old }
         ensures same { state_of self.new ≡ state_of self.old }
         ensures sound { IsSound K.eq self.new }
+        ensures room { (n : ℕ) → HasRoom n self.old → HasRoom n self.new }
         ensures provides { Provides location (strategy_of strategy) (slots_taken (state_of self.old))
             (HasRoom 1 self.new) result }
+        // Memory is asked for only where there is no room.
+        ensures asks { result ≡ Some Memory → room_of self.old ≡ 0 }
     {
         let Location::Nowhere = location else {
             return None;
@@ -94,6 +98,7 @@ impl<K: Eq + Hash + Drop, V: Drop, P: SharedPlaceholder<K>, A: Allocator> Rings<
             (K.eq key) key Insert (state_of self.old) value calls None (state_of self.new))
             state.old state.new }
         ensures sound { IsSound K.eq self.new }
+        ensures room { (n : ℕ) → HasRoom (n + 1) self.old → HasRoom n self.new }
     {
         // The ring is chosen before room is made.
         let is_hot = (self.hot.len() as u64) < self.hot_target;
@@ -125,6 +130,7 @@ impl<K: Eq + Hash + Drop, V: Drop, P: SharedPlaceholder<K>, A: Allocator> Rings<
             (K.eq key) key Insert (state_of self.old) value calls None (state_of self.new))
             state.old state.new }
         ensures sound { IsSound K.eq self.new }
+        ensures room { (n : ℕ) → HasRoom n self.old → HasRoom n self.new }
     {
         let _ = take_out(&mut self.ghosts, at);
         let item = Resident::new(key, value, 1, 0, Queue::Hot);
@@ -152,6 +158,7 @@ impl<K: Eq + Hash + Drop, V: Drop, P: SharedPlaceholder<K>, A: Allocator> Rings<
             (K.eq key) key (strategy_of strategy) (state_of self.old) value calls result (state_of self.new))
             state.old state.new }
         ensures sound { IsSound K.eq self.new }
+        ensures room { (n : ℕ) → HasRoom (n + 1) self.old → HasRoom n self.new }
     {
         match location {
             Location::InHot(at) => {
@@ -199,6 +206,7 @@ impl<K: Eq + Hash + Drop, V: Drop, P: SharedPlaceholder<K>, A: Allocator> Rings<
             (K.eq key) key (strategy_of strategy) (state_of self.old) value calls result (state_of self.new))
             state.old state.new }
         ensures sound { IsSound K.eq self.new }
+        ensures room { (n : ℕ) → HasRoom (n + 1) self.old → HasRoom n self.new }
     {
         if self.hot_target == 0 {
             return self.reject_too_heavy(location, terms, state, hash, key, value, strategy);
@@ -224,6 +232,8 @@ impl<K: Eq + Hash + Drop, V: Drop, P: SharedPlaceholder<K>, A: Allocator> Rings<
             K.eq (strategy_of strategy) (state_of self.old) state.old key value result
             (state_of self.new) state.new }
         ensures sound { IsSound K.eq self.new }
+        ensures room { room_of self.old ≤ room_of self.new + 1 }
+        ensures asks { IfErr result (λ back. back.2 ≡ Some Memory → room_of self.old ≡ 0) }
     {
         let location = self.find(hash, &key);
         if let Some(refusal) = self.provide(location, strategy) {

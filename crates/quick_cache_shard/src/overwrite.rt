@@ -1,10 +1,10 @@
 //! A pair over an item, and what its hook is told.
-ghost use Rattle.std.specs.Prelude.{◌≡◌, ◌<◌, List, [], ◌∷◌, None, vec_len, vec_capacity};
+ghost use Rattle.std.specs.Prelude.{◌≡◌, ◌<◌, List, [], ◌∷◌, None, vec_len, vec_capacity, ℕ};
 ghost use Rattle.quick_cache_model.specs.CacheState.{Item};
 ghost use Rattle.quick_cache_model.specs.Hooks.{Calls, RunsHooks, evicted};
 ghost use Rattle.quick_cache_model.specs.Writes.{WritesAdmitted};
 ghost use Rattle.quick_cache_shard.specs.Changes.{WritesOverAt};
-ghost use Rattle.quick_cache_shard.specs.Rings.{IsSound, state_of, unit_rules};
+ghost use Rattle.quick_cache_shard.specs.Rings.{IsSound, state_of, unit_rules, HasRoom};
 ghost use Rattle.quick_cache_shard.specs.Shard.{strategy_of};
 ghost use Rattle.quick_cache_shard.specs.Split.{IsFirst, IsSplit};
 
@@ -72,6 +72,7 @@ impl<K: Eq + Hash + Drop, V: Drop, P: SharedPlaceholder<K>, A: Allocator> Rings<
             (state_of self.new))
             state.old state.new }
         ensures sound { IsSound K.eq self.new }
+        ensures room { (n : ℕ) → HasRoom n self.old → HasRoom n self.new }
     {
         let (queue, (old_key, old_value)) = write_over_at(&mut self.hot, at, key, value, strategy);
         report(queue, terms, state, old_key, old_value);
@@ -96,6 +97,7 @@ impl<K: Eq + Hash + Drop, V: Drop, P: SharedPlaceholder<K>, A: Allocator> Rings<
             (state_of self.new))
             state.old state.new }
         ensures sound { IsSound K.eq self.new }
+        ensures room { (n : ℕ) → HasRoom n self.old → HasRoom n self.new }
     {
         let (queue, (old_key, old_value)) = write_over_at(&mut self.cold, at, key, value, strategy);
         report(queue, terms, state, old_key, old_value);

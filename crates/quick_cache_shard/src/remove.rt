@@ -1,7 +1,7 @@
 //! Taking out.
-ghost use Rattle.std.specs.Prelude.{◌≡◌};
+ghost use Rattle.std.specs.Prelude.{◌≡◌, ◌≤◌};
 ghost use Rattle.quick_cache_model.specs.Removal.{Removes};
-ghost use Rattle.quick_cache_shard.specs.Rings.{IsSound, state_of};
+ghost use Rattle.quick_cache_shard.specs.Rings.{IsSound, state_of, room_of, work_of};
 ghost use Rattle.quick_cache_shard.specs.Shard.{UpToOrder};
 
 use crate::find::Location;
@@ -19,6 +19,8 @@ impl<K: Eq + Hash, V, P: SharedPlaceholder<K>, A: Allocator> Rings<K, V, P, A> {
         ensures removes { UpToOrder (Removes (Q.equivalent query.now) (state_of self.old) hash result)
             (state_of self.new) }
         ensures sound { IsSound K.eq self.new }
+        ensures room { room_of self.old ≤ room_of self.new }
+        ensures same { work_of self.new ≡ work_of self.old }
     {
         match self.find(hash, query) {
             Location::InHot(at) => Some(take_out(&mut self.hot, at).into_pair()),

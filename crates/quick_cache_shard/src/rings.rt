@@ -1,7 +1,7 @@
 //! The lists of a shard, its sizes and its counts.
-ghost use Rattle.std.specs.Prelude.{◌≡◌, ◌<◌};
-ghost use Rattle.std.specs.Bool.{OnTrue};
-ghost use Rattle.quick_cache_shard.specs.Rings.{HasRoom, state_of, entries};
+ghost use Rattle.std.specs.Prelude.{◌≡◌, ◌<◌, ℕ};
+ghost use Rattle.std.specs.Bool.{OnTrue, OnFalse};
+ghost use Rattle.quick_cache_shard.specs.Rings.{HasRoom, state_of, entries, room_of};
 ghost use Rattle.quick_cache_model.specs.Refusals.{slot_count};
 
 use crate::placeholder::SharedPlaceholder;
@@ -23,6 +23,9 @@ pub(crate) struct Rings<K: Eq + Hash, V, P: SharedPlaceholder<K>, A: Allocator> 
     pub(crate) ghost_limit: usize,
     pub(crate) hits: u64,
     pub(crate) misses: u64,
+    // How many hot advances were made, and how many visits in them. Only contracts read these.
+    pub(crate) advances: u64,
+    pub(crate) visits: u64,
 }
 
 impl<K: Eq + Hash, V, P: SharedPlaceholder<K>, A: Allocator> Rings<K, V, P, A> {
@@ -31,7 +34,9 @@ impl<K: Eq + Hash, V, P: SharedPlaceholder<K>, A: Allocator> Rings<K, V, P, A> {
         requires room { HasRoom 0 self.old }
         requires slot { entries self.old < slot_count }
         ensures grown { OnTrue result (HasRoom 1 self.new) }
-        ensures room { HasRoom 0 self.new }
+        ensures room { (n : ℕ) → HasRoom n self.old → HasRoom n self.new }
+        // Memory is asked for only where there is no room.
+        ensures asks { OnFalse result (room_of self.old ≡ 0) }
         ensures same { state_of self.new ≡ state_of self.old }
     {
         let (hot, cold, ghosts) = (self.hot.len(), self.cold.len(), self.ghosts.len());

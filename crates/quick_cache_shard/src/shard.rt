@@ -1,5 +1,5 @@
 //! The shard: its calls, and what a contract sees of it.
-ghost use Rattle.std.specs.Prelude.{◌≡◌, IfOk, IfErr, IsOk, MatchOption, option_copied};
+ghost use Rattle.std.specs.Prelude.{◌≡◌, IfOk, IfErr, IsOk, MatchOption, option_copied, ◌≤◌, ◌+◌, OnErr, Some};
 ghost use Rattle.std.specs.Bool.{OnTrue, OnFalse};
 ghost use Rattle.std.specs.Borrow.{sem};
 ghost use Rattle.std.specs.Option.{option_map};
@@ -13,7 +13,7 @@ ghost use Rattle.quick_cache_model.specs.Removal.{Removes, pair_of};
 ghost use Rattle.quick_cache_model.specs.Sizes.{hot_target_of, ghost_limit_of};
 ghost use Rattle.quick_cache_shard.specs.Copies.{ClonesAreEqual, IsCopyOf};
 ghost use Rattle.quick_cache_shard.specs.Places.{IsLookedUp, IsMissed, IsPlaced, IsKeyAt, IsValueAt};
-ghost use Rattle.quick_cache_shard.specs.Shard.{rules_of, hooks_of, strategy_of, Answers, UpToOrder, IsPlainCache, IsSoundShard, HasItem};
+ghost use Rattle.quick_cache_shard.specs.Shard.{rules_of, hooks_of, strategy_of, Answers, UpToOrder, IsPlainCache, IsSoundShard, HasItem, no_work};
 
 use crate::find::Location;
 use crate::insert::InsertStrategy;
@@ -37,7 +37,7 @@ pub struct CacheShard<K: Eq + Hash, V, We, B, L, P: SharedPlaceholder<K>, A: All
 impl<K: Eq + Hash, V, We, B, L, P: SharedPlaceholder<K>, A: Allocator> Model
     for CacheShard<K, V, We, B, L, P, A> {
     ghost use Rattle.quick_cache_shard.specs.Shard.{Shard};
-    ghost use Rattle.quick_cache_shard.specs.Rings.{IsSound, state_of};
+    ghost use Rattle.quick_cache_shard.specs.Rings.{IsSound, state_of, room_of, work_of};
 
     ghost Value = { Shard K V We B L };
 
@@ -46,6 +46,8 @@ impl<K: Eq + Hash, V, We, B, L, P: SharedPlaceholder<K>, A: Allocator> Model
       weigher = s.terms.weigher;
       builder = s.terms.builder;
       lifecycle = s.terms.lifecycle;
+      room = room_of s.rings;
+      work = work_of s.rings;
     } };
 
     ghost invariant = { λ s. IsSound K.eq s.rings };
@@ -85,6 +87,8 @@ impl<K: Eq + Hash, V, We, B: BuildHasher, L, P: SharedPlaceholder<K>, A: Allocat
           weigher = weigher;
           builder = builder;
           lifecycle = lifecycle;
+          room = 0;
+          work = no_work;
         }) }
         ensures succeeds { A.is_infallible alloc → IsOk result }
         ensures refused { IfErr result (λ refusal. refusal ≡ Memory) }
@@ -104,6 +108,8 @@ impl<K: Eq + Hash, V, We, B: BuildHasher, L, P: SharedPlaceholder<K>, A: Allocat
                 ghost_limit: ghost_limit(items, ghosts),
                 hits: 0,
                 misses: 0,
+                advances: 0,
+                visits: 0,
             },
             terms: Terms {
                 weigher,
@@ -113,7 +119,7 @@ impl<K: Eq + Hash, V, We, B: BuildHasher, L, P: SharedPlaceholder<K>, A: Allocat
         })
     }
 
-    /// A cache of clones of the keys and values, with the same marks, order and counts, or `Memory`.
+    /// A cache of clones of the keys and values, with the same marks, order and counts, or `Memory`. Its room is its own.
     pub fn try_clone(&self) -> Result<Self, Refusal>
     where
         K: Clone,
@@ -128,6 +134,7 @@ impl<K: Eq + Hash, V, We, B: BuildHasher, L, P: SharedPlaceholder<K>, A: Allocat
         ensures weigher { IfOk result (λ copy. We.is_clone self.now.weigher copy.weigher) }
         ensures builder { IfOk result (λ copy. B.is_clone self.now.builder copy.builder) }
         ensures lifecycle { IfOk result (λ copy. L.is_clone self.now.lifecycle copy.lifecycle) }
+        ensures work { IfOk result (λ copy. copy.work ≡ no_work) }
         ensures refused { IfErr result (λ refusal. refusal ≡ Memory) }
     {
         let Ok(rings) = self.rings.try_copy() else {
@@ -183,7 +190,14 @@ impl<K: Eq + Hash, V, We, B: BuildHasher, L, P: SharedPlaceholder<K>, A: Allocat
             B.Hasher.Hasher L.Lifecycle self.old)
             K.eq (strategy_of strategy) self.old.state state.old key value result
             self.new.state state.new }
-        ensures same { self.new ≡ record self.old { state = self.new.state } }
+        // It takes room for one entry at most, and asks for memory only where there is no room.
+        ensures room { self.old.room ≤ self.new.room + 1 }
+        ensures asks { IfErr result (λ back. back.2 ≡ Some Memory → self.old.room ≡ 0) }
+        ensures same { self.new ≡ record self.old {
+          state = self.new.state;
+          room = self.new.room;
+          work = self.new.work;
+        } }
         ensures sound { IsSoundShard K.eq self.new }
     {
         self.rings
@@ -260,7 +274,8 @@ impl<K: Eq + Hash, V, We, B: BuildHasher, L, P: SharedPlaceholder<K>, A: Allocat
             (Q.hash_input query.now) }
         ensures removes { UpToOrder (Removes (Q.equivalent query.now) self.old.state hash result)
             self.new.state }
-        ensures same { self.new ≡ record self.old { state = self.new.state } }
+        ensures room { self.old.room ≤ self.new.room }
+        ensures same { self.new ≡ record self.old { state = self.new.state; room = self.new.room } }
         ensures sound { IsSoundShard K.eq self.new }
     {
         self.rings.remove(hash, query)

@@ -1,5 +1,5 @@
 //! The cache for one thread.
-ghost use Rattle.std.specs.Prelude.{◌≡◌, ◌^◌, ◌-◌, ◌↔◌, min, IsTrue, IfOk, IfErr, IsOk, option_copied};
+ghost use Rattle.std.specs.Prelude.{◌≡◌, ◌≤◌, ◌+◌, ◌^◌, ◌-◌, ◌↔◌, min, IsTrue, IfOk, IfErr, IsOk, option_copied};
 ghost use Rattle.std.specs.Borrow.{sem};
 ghost use Rattle.quick_cache_model.specs.declared.refusal.Refusal.TheVariants.{Memory};
 ghost use Rattle.quick_cache_model.specs.CacheState.{empty_state, item_count, total_weight};
@@ -10,7 +10,7 @@ ghost use Rattle.quick_cache_model.specs.Lookups.{Sees, LooksUp};
 ghost use Rattle.quick_cache_model.specs.Removal.{Removes};
 ghost use Rattle.quick_cache_model.specs.Sizes.{hot_target_of, ghost_limit_of, default_hot_share, default_ghost_share};
 ghost use Rattle.quick_cache_shard.specs.Copies.{ClonesAreEqual, IsCopyOf};
-ghost use Rattle.quick_cache_shard.specs.Shard.{rules_of, hooks_of, HasItem, IsPlainCache, IsSoundShard, UpToOrder};
+ghost use Rattle.quick_cache_shard.specs.Shard.{no_work, rules_of, hooks_of, HasItem, IsPlainCache, IsSoundShard, UpToOrder};
 ghost use Rattle.quick_cache_unsync.specs.Inserts.{Inserts, InsertsAlone};
 ghost use Rattle.quick_cache_unsync.specs.Touches.{no_touches};
 
@@ -107,6 +107,8 @@ impl<K: Eq + Hash, V, We, B: BuildHasher, L, A: Allocator> Cache<K, V, We, B, L,
           weigher = weigher;
           builder = builder;
           lifecycle = lifecycle;
+          room = 0;
+          work = no_work;
         }) }
         ensures succeeds { A.is_infallible alloc → IsOk result }
         ensures refused { IfErr result (λ refusal. refusal ≡ Memory) }
@@ -144,6 +146,7 @@ impl<K: Eq + Hash, V, We, B: BuildHasher, L, A: Allocator> Cache<K, V, We, B, L,
         ensures weigher { IfOk result (λ copy. We.is_clone self.now.weigher copy.weigher) }
         ensures builder { IfOk result (λ copy. B.is_clone self.now.builder copy.builder) }
         ensures lifecycle { IfOk result (λ copy. L.is_clone self.now.lifecycle copy.lifecycle) }
+        ensures work { IfOk result (λ copy. copy.work ≡ no_work) }
         ensures refused { IfErr result (λ refusal. refusal ≡ Memory) }
     {
         Ok(Cache {
@@ -192,7 +195,8 @@ impl<K: Eq + Hash, V, We, B: BuildHasher, L, A: Allocator> Cache<K, V, We, B, L,
     pub fn remove<Q: Equivalent<K>>(&mut self, query: &Q) -> Option<(K, V)>
         ensures removes { let hash = hash_of B.BuildHasher B.Hasher.Hasher self.old.builder (Q.hash_input query.now) in
             UpToOrder (Removes (Q.equivalent query.now) self.old.state hash result) self.new.state }
-        ensures same { self.new ≡ record self.old { state = self.new.state } }
+        ensures room { self.old.room ≤ self.new.room }
+        ensures same { self.new ≡ record self.old { state = self.new.state; room = self.new.room } }
     {
         let hash = self.shard.hash(query);
         self.shard.remove(hash, query)
@@ -213,7 +217,14 @@ impl<K: Eq + Hash, V, We, B: BuildHasher, L, A: Allocator> Cache<K, V, We, B, L,
         ensures inserts { InsertsAlone (hooks_of L.Lifecycle self.old)
             (rules_of no_touches K.Hash.hash_input We.Weighter B.BuildHasher B.Hasher.Hasher L.Lifecycle self.old)
             K.eq self.old.state L.RequestState.is_default key value result self.new.state }
-        ensures same { self.new ≡ record self.old { state = self.new.state } }
+        // It takes room for one entry at most, and asks for memory only where there is no room.
+        ensures room { self.old.room ≤ self.new.room + 1 }
+        ensures asks { IfErr result (λ back. back.2 ≡ Memory → self.old.room ≡ 0) }
+        ensures same { self.new ≡ record self.old {
+          state = self.new.state;
+          room = self.new.room;
+          work = self.new.work;
+        } }
     {
         let mut state = L::RequestState::default();
         self.insert_with_lifecycle(key, value, &mut state)
@@ -241,7 +252,14 @@ impl<K: Eq + Hash, V, We, B: BuildHasher, L, A: Allocator> Cache<K, V, We, B, L,
         ensures inserts { Inserts (hooks_of L.Lifecycle self.old)
             (rules_of no_touches K.Hash.hash_input We.Weighter B.BuildHasher B.Hasher.Hasher L.Lifecycle self.old)
             K.eq self.old.state state.old key value result self.new.state state.new }
-        ensures same { self.new ≡ record self.old { state = self.new.state } }
+        // It takes room for one entry at most, and asks for memory only where there is no room.
+        ensures room { self.old.room ≤ self.new.room + 1 }
+        ensures asks { IfErr result (λ back. back.2 ≡ Memory → self.old.room ≡ 0) }
+        ensures same { self.new ≡ record self.old {
+          state = self.new.state;
+          room = self.new.room;
+          work = self.new.work;
+        } }
     {
         let hash = self.shard.hash(&key);
         match self

@@ -88,7 +88,11 @@ fn act<
         (rules_of no_touches K.Hash.hash_input We.Weighter B.BuildHasher B.Hasher.Hasher L.Lifecycle cache.old)
         K.eq V.is_clone cache.old.state call result calls cache.new.state
         × RunsHooks (hooks_of L.Lifecycle cache.old) calls state.old state.new }
-    ensures same { cache.new ≡ record cache.old { state = cache.new.state } }
+    ensures same { cache.new ≡ record cache.old {
+      state = cache.new.state;
+      room = cache.new.room;
+      work = cache.new.work;
+    } }
     // A look-up is refused only where a clone fails.
     ensures answered { AlwaysClones V.is_infallible → IsAnswered result }
 {
@@ -128,7 +132,11 @@ pub fn run<
         (rules_of no_touches K.Hash.hash_input We.Weighter B.BuildHasher B.Hasher.Hasher L.Lifecycle cache.old)
         K.eq V.is_clone (hooks_of L.Lifecycle cache.old)
         cache.old.state state.old calls.items result cache.new.state state.new }
-    ensures same { cache.new ≡ record cache.old { state = cache.new.state } }
+    ensures same { cache.new ≡ record cache.old {
+      state = cache.new.state;
+      room = cache.new.room;
+      work = cache.new.work;
+    } }
     // A look-up is refused only where a clone fails.
     ensures answered { AlwaysClones V.is_infallible → All IsAnswered (replies_of result) }
 {

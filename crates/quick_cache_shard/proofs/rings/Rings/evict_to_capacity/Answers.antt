@@ -28,7 +28,7 @@ loop-self-preserved g c =
           c.args.state.now c.loop-self.state c.advance_cold.new.state above i.so_far c.if-not-advance_cold.ensures.advances;
       sound = c.advance_cold.ensures.sound;
       room = λ n r. c.advance_cold.ensures.room n (i.room n r);
-      same = c.advance_cold.ensures.same ∙ ap (λ (r : Rings g.row.K.Denot g.row.V.Denot g.row.P.Denot g.row.A.Denot _). record r { hot = c.advance_cold.new.self.hot; cold = c.advance_cold.new.self.cold; ghosts = c.advance_cold.new.self.ghosts }) i.same;
+      same = c.advance_cold.ensures.same ∙ ap (λ (r : Rings g.row.K.Denot g.row.V.Denot g.row.P.Denot g.row.A.Denot _). record r { hot = c.advance_cold.new.self.hot; cold = c.advance_cold.new.self.cold; ghosts = c.advance_cold.new.self.ghosts; advances = c.advance_cold.new.self.advances }) i.same;
     }
 
 pub returns-clause-evicts : goal.returns-clause-evicts

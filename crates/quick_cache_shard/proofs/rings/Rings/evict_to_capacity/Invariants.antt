@@ -9,7 +9,7 @@ invariant-loop-self g l = record {
   so_far : Calls (g.M.Policy.hooks l.terms) (GoesToCapacity (unit_rules g.P.Touch.Touches.may_count (g.M.Policy.hashed l.terms)) l.need (state_of l.initial.self) (state_of l.self)) l.initial.state l.state;
   sound : IsSound g.K.PartialEq.eq l.self;
   room : (n : ℕ) → HasRoom n l.initial.self → HasRoom n l.self;
-  same : l.self ≡ record l.initial.self { hot = l.self.hot; cold = l.self.cold; ghosts = l.self.ghosts };
+  same : l.self ≡ record l.initial.self { hot = l.self.hot; cold = l.self.cold; ghosts = l.self.ghosts; advances = l.self.advances };
 }
 
 abbrev pub decreases-loop-self : goal.decreases-loop-self

@@ -28,7 +28,7 @@ loop-self-preserved g c =
           c.args.state.now c.loop-self.state c.advance_hot.new.state above i.so_far c.if-not-advance_hot.ensures.advances;
       sound = c.advance_hot.ensures.sound;
       room = λ n r. c.advance_hot.ensures.room n (i.room n r);
-      same = c.advance_hot.ensures.same ∙ ap (λ (r : Rings g.row.K.Denot g.row.V.Denot g.row.P.Denot g.row.A.Denot _). record r { hot = c.advance_hot.new.self.hot }) i.same;
+      same = c.advance_hot.ensures.same ∙ ap (λ (r : Rings g.row.K.Denot g.row.V.Denot g.row.P.Denot g.row.A.Denot _). record r { hot = c.advance_hot.new.self.hot; advances = c.advance_hot.new.self.advances }) i.same;
       fewer = omega (arith, i.fewer, c.if-not-advance_hot.ensures.falls);
     }
 

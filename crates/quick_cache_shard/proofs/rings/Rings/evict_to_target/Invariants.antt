@@ -9,7 +9,7 @@ invariant-loop-self g l = record {
   so_far : Calls (g.M.Policy.hooks l.terms) (GoesToTarget (unit_rules g.P.Touch.Touches.may_count (g.M.Policy.hashed l.terms)) (state_of l.initial.self) (state_of l.self)) l.initial.state l.state;
   sound : IsSound g.K.PartialEq.eq l.self;
   room : (n : ℕ) → HasRoom n l.initial.self → HasRoom n l.self;
-  same : l.self ≡ record l.initial.self { hot = l.self.hot };
+  same : l.self ≡ record l.initial.self { hot = l.self.hot; advances = l.self.advances };
   fewer : vec_len l.self.hot ≤ vec_len l.initial.self.hot;
 }
 

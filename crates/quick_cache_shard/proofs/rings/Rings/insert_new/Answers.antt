@@ -1,4 +1,4 @@
-use Rattle.std.proofs.Common.{◌<◌, ◌≤◌, ◌++◌, ◌∷◌, [], ap, refl, ◌∙◌, arith}
+use Rattle.std.proofs.Common.{◌+◌, ◌<◌, ◌≤◌, ◌++◌, ◌∷◌, [], ap, refl, ◌∙◌, arith}
 use Rattle.quick_cache_model.specs.declared.queue.Queue.TheVariants.{Hot, Cold}
 use Rattle.quick_cache_model.specs.CacheState.{hot_weight}
 use Rattle.quick_cache_shard.specs.Rings.{state_of}
@@ -72,4 +72,24 @@ returns-else-is_hot-clause-sound g c =
         ghosts = omega (arith, r.ghosts, c.push_reserved-else-is_hot.ensures.len);
         slots = omega (arith, r.slots, c.push_reserved-else-is_hot.ensures.len);
       };
+    }
+
+pub returns-then-is_hot-clause-room : goal.returns-then-is_hot-clause-room
+returns-then-is_hot-clause-room g c = λ n room.
+    let r = c.evict_to_capacity.ensures.room (n + 1) room in
+    record {
+      hot = omega (arith, r.hot, c.push_reserved.ensures.len, c.push_reserved.ensures.capacity);
+      cold = omega (arith, r.cold, c.push_reserved.ensures.len, c.push_reserved.ensures.capacity);
+      ghosts = omega (arith, r.ghosts, c.push_reserved.ensures.len);
+      slots = omega (arith, r.slots, c.push_reserved.ensures.len);
+    }
+
+pub returns-else-is_hot-clause-room : goal.returns-else-is_hot-clause-room
+returns-else-is_hot-clause-room g c = λ n room.
+    let r = c.evict_to_capacity.ensures.room (n + 1) room in
+    record {
+      hot = omega (arith, r.hot, c.push_reserved-else-is_hot.ensures.len, c.push_reserved-else-is_hot.ensures.capacity);
+      cold = omega (arith, r.cold, c.push_reserved-else-is_hot.ensures.len, c.push_reserved-else-is_hot.ensures.capacity);
+      ghosts = omega (arith, r.ghosts, c.push_reserved-else-is_hot.ensures.len);
+      slots = omega (arith, r.slots, c.push_reserved-else-is_hot.ensures.len);
     }

@@ -31,3 +31,11 @@ returns-clause-writes g c =
           (λ i. record (state_of c.args.self.now) { hot = pushed i; ghosts = taken.1 i });
       runs = t.runs;
     }
+
+pub returns-clause-room : goal.returns-clause-room
+returns-clause-room g c = λ n r. c.evict_to_capacity.ensures.room n (record {
+  hot = omega (arith, r.hot, c.take_out.ensures.len, c.push_reserved.ensures.len, c.push_reserved.ensures.capacity);
+  cold = omega (arith, r.cold, c.take_out.ensures.len, c.push_reserved.ensures.len);
+  ghosts = omega (arith, r.ghosts, c.take_out.ensures.len, c.take_out.ensures.capacity, c.push_reserved.ensures.len);
+  slots = omega (arith, r.slots, c.take_out.ensures.len, c.push_reserved.ensures.len);
+})

@@ -43,3 +43,11 @@ returns-clause-writes g c =
           (strategy_of c.args.strategy) _ o.now f o.over (λ i. record (state_of c.args.self.now) { hot = o.list i });
       runs = runs-append hooks first t.calls c.args.state.now c.report.new.state c.evict_to_capacity.new.state told t.runs;
     }
+
+pub returns-clause-room : goal.returns-clause-room
+returns-clause-room g c = λ n r. c.evict_to_capacity.ensures.room n (record {
+  hot = omega (arith, r.hot, c.write_over_at-queue.ensures.len, c.write_over_at-queue.ensures.capacity);
+  cold = omega (arith, r.cold, c.write_over_at-queue.ensures.len, c.write_over_at-queue.ensures.capacity);
+  ghosts = omega (arith, r.ghosts, c.write_over_at-queue.ensures.len, c.write_over_at-queue.ensures.capacity);
+  slots = omega (arith, r.slots, c.write_over_at-queue.ensures.len);
+})

@@ -7,6 +7,7 @@ use Rattle.quick_cache_shard.specs.Shard.{strategy_of}
 use Rattle.quick_cache_shard.specs.Split.{IsFirst}
 use Rattle.quick_cache_shard.proofs.WriteLemmas.{insert-of, gives_back_calls}
 use Rattle.quick_cache_shard.proofs.rings.Rings.write_admitted.Goals as goal
+use Rattle.quick_cache_shard.proofs.RoomLemmas.{room-fewer}
 
 pub returns-then-not-makes_items-clause-writes : goal.returns-then-not-makes_items-clause-writes
 returns-then-not-makes_items-clause-writes g c =
@@ -36,3 +37,12 @@ returns-else-not-makes_items-2-clause-writes g c =
     let rules = unit_rules g.P.Touch.Touches.may_count (g.M.Policy.hashed c.args.terms.now) in
     subst (λ (strategy : Strategy). Calls (g.M.Policy.hooks c.args.terms.now) (λ calls. WritesAdmitted rules (g.K.PartialEq.eq c.args.key) c.args.key strategy (state_of c.args.self.now) c.args.value calls None (state_of c.insert_new.new.self)) c.args.state.now c.insert_new.new.state)
     (sym is) c.insert_new.ensures.writes
+
+pub returns-in-InHot-clause-room : goal.returns-in-InHot-clause-room
+returns-in-InHot-clause-room g c = λ n r. c.overwrite_hot.ensures.room n (room-fewer c.args.self.now n r)
+
+pub returns-in-InCold-clause-room : goal.returns-in-InCold-clause-room
+returns-in-InCold-clause-room g c = λ n r. c.overwrite_cold.ensures.room n (room-fewer c.args.self.now n r)
+
+pub returns-else-not-makes_items-clause-room : goal.returns-else-not-makes_items-clause-room
+returns-else-not-makes_items-clause-room g c = λ n r. c.insert_over_ghost.ensures.room n (room-fewer c.args.self.now n r)
