@@ -1,8 +1,9 @@
 //! Copies.
 ghost use Rattle.std.specs.Prelude.{◌≡◌, ◌≤◌, IfOk, vec_len, vec_capacity};
 ghost use Rattle.std.specs.List.{AllZip};
-ghost use Rattle.quick_cache_shard.specs.Rings.{IsSound, state_of};
+ghost use Rattle.quick_cache_shard.specs.Rings.{IsSound, state_of, work_of};
 ghost use Rattle.quick_cache_shard.specs.Copies.{ClonesAreEqual, IsItemCopy, IsCopyOf};
+ghost use Rattle.quick_cache_shard.specs.Shard.{no_work};
 
 use crate::placeholder::{SharedPlaceholder, Touches};
 use crate::resident::Resident;
@@ -59,6 +60,7 @@ impl<K: Eq + Hash + Clone, V: Clone, P: SharedPlaceholder<K>, A: Allocator + Clo
         ensures copies { IfOk result (λ copy.
             IsCopyOf K.is_clone V.is_clone (state_of self.now) (state_of copy)) }
         ensures sound { IfOk result (IsSound K.eq) }
+        ensures work { IfOk result (λ copy. work_of copy ≡ no_work) }
     {
         let room = self.hot.len() + self.cold.len() + self.ghosts.len();
         Ok(Rings {

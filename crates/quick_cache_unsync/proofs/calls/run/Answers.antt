@@ -60,7 +60,7 @@ loop-call-preserved g c =
           c.args.cache.now.state c.args.state.now c.loop-call.yielded c.loop-call.replies.items c.loop-call.cache.state c.loop-call.state i.run
           call c.act.result step.0 c.act.new.cache.state c.act.new.state stepped ran);
       same = c.act.ensures.same ∙ ap (λ (x : Shard g.row.K.Denot g.row.V.Denot g.row.We.Denot g.row.B.Denot g.row.L.Denot).
-          record x { state = c.act.new.cache.state }) i.same;
+          record x { state = c.act.new.cache.state; room = c.act.new.cache.room; work = c.act.new.cache.work }) i.same;
       left = omega (arith, i.left, ap length c.in-Some.ensures.steps.0, c.in-Some.ensures.steps.1);
       answered = λ always. subst (All IsAnswered) (sym c.push_reserved.ensures.items)
           (All-push IsAnswered c.loop-call.replies.items c.act.result (i.answered always) (c.act.ensures.answered always));
