@@ -47,12 +47,10 @@ module _ {We B L : Type 0} (rules : Shard ℕ ℕ We B L → Rules ℕ ℕ) wher
   ServesCommand-no_cache (Remove key) other = ServesCommand.lacks_cache_for_call (call.Remove key)
   ServesCommand-no_cache Show other = ServesCommand.lacks_cache_to_show
 
-  -- the call of a command was made, and only the state changed
+  -- the call of a command was made, and the cache goes by what it went by
   pub ServesCommand-call : (old : Option (Shard ℕ ℕ We B L)) (command : Command) (answer : Answer) (cache new : Shard ℕ ℕ We B L)
       (made : Call ℕ ℕ) (reply : Reply ℕ ℕ) → old ≡ Some cache → command ≡ command_of made → answer ≡ answer_of reply
-      → new ≡ record cache { state = new.state } → Serves (rules cache) nat_eq cache.state made reply new.state
+      → new ≡ record cache { state = new.state; room = new.room; work = new.work } → Serves (rules cache) nat_eq cache.state made reply new.state
       → ServesCommand rules old command Served (Some new) (Some (line_of answer))
   ServesCommand-call old command answer cache new made reply stood asked told same serves =
-      rw stood (rw asked (rw told (subst
-      (λ (last : Shard ℕ ℕ We B L). ServesCommand rules (Some cache) (command_of made) Served (Some last) (Some (line_of (answer_of reply))))
-      (sym same) (ServesCommand.makes_call cache made reply new.state serves))))
+      rw stood (rw asked (rw told (ServesCommand.makes_call cache new made reply same serves)))

@@ -42,9 +42,10 @@ module _ {We B L : Type 0} where
       : Option (Shard ℕ ℕ We B L) → Command → Outcome → Option (Shard ℕ ℕ We B L) → Option (List ℕ) → Type 0 where
     makes_cache : (items weight : ℕ) (old : Option (Shard ℕ ℕ We B L)) (answer : Answer) (new : Option (Shard ℕ ℕ We B L))
         → MakesCache items weight old answer new → ServesCommand rules old (Cache items weight) Served new (Some (line_of answer))
-    makes_call : (cache : Shard ℕ ℕ We B L) (call : Call ℕ ℕ) (reply : Reply ℕ ℕ) (new : CacheState ℕ ℕ)
-        → Serves (rules cache) nat_eq cache.state call reply new → ServesCommand rules (Some cache) (command_of call) Served
-        (Some (record cache { state = new })) (Some (line_of (answer_of reply)))
+    makes_call : (cache new : Shard ℕ ℕ We B L) (call : Call ℕ ℕ) (reply : Reply ℕ ℕ)
+        → new ≡ record cache { state = new.state; room = new.room; work = new.work }
+        → Serves (rules cache) nat_eq cache.state call reply new.state
+        → ServesCommand rules (Some cache) (command_of call) Served (Some new) (Some (line_of (answer_of reply)))
     shows : (cache : Shard ℕ ℕ We B L) → ServesCommand rules (Some cache) Show Served (Some cache) None
     lacks_cache_for_call : (call : Call ℕ ℕ) → ServesCommand rules None (command_of call) NoCache None (Some [])
     lacks_cache_to_show : ServesCommand rules None Show NoCache None (Some [])

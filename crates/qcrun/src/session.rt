@@ -55,7 +55,11 @@ fn insert<
     ensures serves { Serves
         (rules_of no_touches K.Hash.hash_input We.Weighter B.BuildHasher B.Hasher.Hasher L.Lifecycle cache.old)
         K.eq cache.old.state (Call.Insert key value) result cache.new.state }
-    ensures same { cache.new ≡ record cache.old { state = cache.new.state } }
+    ensures same { cache.new ≡ record cache.old {
+      state = cache.new.state;
+      room = cache.new.room;
+      work = cache.new.work;
+    } }
 {
     let mut calls = Vec::new(alloc);
     let Ok(()) = calls.push(Call::Insert(key, value)) else {
@@ -87,7 +91,11 @@ fn make_call<
     ensures serves { Serves
         (rules_of no_touches K.Hash.hash_input We.Weighter B.BuildHasher B.Hasher.Hasher L.Lifecycle cache.old)
         K.eq cache.old.state call result cache.new.state }
-    ensures same { cache.new ≡ record cache.old { state = cache.new.state } }
+    ensures same { cache.new ≡ record cache.old {
+      state = cache.new.state;
+      room = cache.new.room;
+      work = cache.new.work;
+    } }
 {
     match call {
         Call::Insert(key, value) => insert(alloc, cache, key, value, state),

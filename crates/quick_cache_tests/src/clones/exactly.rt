@@ -56,9 +56,9 @@ fn run_numbers<We: Weighter<u64, u64> + Drop, B: BuildHasher + Drop, L: Lifecycl
     run(alloc, cache, calls, state)
 }
 
-/// A copy of numbers is the very cache.
+/// A copy of numbers has the very state.
 fn copy_numbers(cache: &Cache<u64, u64>) -> Result<Cache<u64, u64>, Refusal>
-    ensures { IfOk result (λ copy. copy ≡ cache.now) }
+    ensures { IfOk result (λ copy. copy.state ≡ cache.now.state) }
 {
     cache.try_clone()
 }
