@@ -1,7 +1,8 @@
-pub mod LoadingLawLemmas
-pub mod LoadingRowLemmas
-pub mod LoadingRunLemmas
-pub mod LoadingShownLemmas
-pub mod LoadingTableLemmas
-pub mod TestLemmas
-pub mod WaitingLemmas
+pub mod BoolLemmas
+pub mod CasesToRows
+pub mod RowLaws
+pub mod RowsToCases
+pub mod ScheduleLaws
+pub mod WaiterLists
+pub mod WhenRowsApply
+pub mod WiderShowing

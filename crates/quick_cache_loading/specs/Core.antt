@@ -1,10 +1,11 @@
 -- The life of a placeholder, and what a core is seen as.
-use Rattle.std.specs.Prelude.{ℕ, ◌==◌, Bool, true, false, not, ◌&&◌, List, [], Option, Some, None}
+use Rattle.std.specs.Prelude.{ℕ, ◌==◌, Bool, true, false, not, ◌&&◌, ◌||◌, List, [], Option, Some, None}
 use Rattle.quick_cache_loading.specs.Waiting.{has, is_distinct}
 use Rattle.quick_cache_loading.specs.declared.protocol.life.Holder.{Holder}
 use Rattle.quick_cache_loading.specs.declared.protocol.life.Holder.TheVariants.{Held, HandedTo}
 
--- A life is loading, with a holder of the guard and a list of those who wait; or filled with a value; or given up.
+-- A life is loading, with a holder of the guard and a list of those who wait; or filled with a
+-- value; or given up.
 pub data Life (V : Type 0) : Type 0 where
   Loading : Holder → List ℕ → Life V
   Filled : V → Life V
@@ -67,6 +68,13 @@ is_given_up (Loading holder waiters) = false
 is_given_up (Filled v) = false
 is_given_up GivenUp = true
 
+-- the life is filled, or it loads and has this one as a waiter or as the one to whom the guard was
+-- handed
+abbrev pub concerns : {V : Type 0} → ℕ → Life V → Bool
+concerns n (Loading holder waiters) = is_handed_to holder n || has n waiters
+concerns n (Filled v) = true
+concerns n GivenUp = false
+
 -- 1 for a held guard, 0 for one on its way
 abbrev pub held_by : Holder → ℕ
 held_by Held = 1
@@ -93,6 +101,7 @@ handed_in (Loading holder waiters) = handed_by holder
 handed_in (Filled v) = 0
 handed_in GivenUp = 0
 
--- the number of guards on their way: 1 where the life is loading and its guard was handed to a waiter, else 0
+-- the number of guards on their way: 1 where the life is loading and its guard was handed to a
+-- waiter, else 0
 abbrev pub handed_count : {V : Type 0} → CoreState V → ℕ
 handed_count core = handed_in core.life

@@ -1,9 +1,8 @@
--- The words of the laws that each event of the loading core keeps: what an answer gives, shows and lets go.
+-- The words of the laws that each event of the loading core keeps: what an answer gives, shows and
+-- lets go.
 use Rattle.std.specs.Prelude.{ℕ, ◌==◌, Bool, true, false, not, ◌&&◌, ◌||◌, Option, Some, None}
-use Rattle.quick_cache_loading.specs.Waiting.{has}
-use Rattle.quick_cache_loading.specs.Core.{Life, Loading, Filled, GivenUp, CoreState, is_handed_to, is_given_up, held_count}
 use Rattle.quick_cache_loading.specs.declared.protocol.events.Event.{Event}
-use Rattle.quick_cache_loading.specs.declared.protocol.events.Event.TheVariants.{Create, Join, Fill, Abandon, Take, TimeOut, Cancel, Leave}
+use Rattle.quick_cache_loading.specs.declared.protocol.events.Event.TheVariants.{Create, Join, Fill, Abandon, Take, TimeOut, Cancel}
 use Rattle.quick_cache_loading.specs.declared.protocol.events.Answer.{Answer}
 use Rattle.quick_cache_loading.specs.declared.protocol.events.Answer.TheVariants as answer
 use Rattle.quick_cache_loading.specs.declared.protocol.events.Answer.TheVariants.{Created, Value, Guard, Waiting, TimedOut, Done, Refused, NotNow}
@@ -20,36 +19,6 @@ only_tells Waiting = true
 only_tells (Refused why) = true
 only_tells NotNow = true
 only_tells _ = false
-
--- the life is filled, or loads and has this one as waiter or as the one to whom the guard was handed
-abbrev pub concerns : {V : Type 0} → ℕ → Life V → Bool
-concerns n (Loading holder waiters) = is_handed_to holder n || has n waiters
-concerns n (Filled v) = true
-concerns n GivenUp = false
-
--- the life is filled, or loads and has no such waiter yet
-abbrev pub can_join : {V : Type 0} → ℕ → Life V → Bool
-can_join n (Loading holder waiters) = not (is_handed_to holder n || has n waiters)
-can_join n (Filled v) = true
-can_join n GivenUp = false
-
--- some case of the table applies to the event
-abbrev pub applies : {V : Type 0} → Event V → CoreState V → Bool
-applies Create core = is_given_up core.life
-applies (Join n) core = core.in_shard && can_join n core.life
-applies (Fill v) core = held_count core == 1
-applies Abandon core = held_count core == 1
-applies (Take n) core = concerns n core.life
-applies (TimeOut n) core = concerns n core.life
-applies (Cancel n) core = concerns n core.life
-applies Leave core = core.in_shard
-
--- a filled life shows its value to the event: to Take and TimeOut, and in the shard to Join
-abbrev pub can_show : {V : Type 0} → Event V → CoreState V → Bool
-can_show (Join n) core = core.in_shard
-can_show (Take n) core = true
-can_show (TimeOut n) core = true
-can_show _ core = false
 
 -- the guards that an answer gives
 abbrev pub given_by : {V : Type 0} → Answer V → ℕ
@@ -68,6 +37,12 @@ most_given _ = 0
 abbrev pub done_by : {V : Type 0} → Answer V → ℕ
 done_by NotNow = 0
 done_by _ = 1
+
+-- the most guards that an event takes back: none but by Fill and Abandon
+abbrev pub most_taken : {V : Type 0} → Event V → ℕ
+most_taken (Fill v) = 1
+most_taken Abandon = 1
+most_taken _ = 0
 
 -- the guards that an event takes back: one by a Fill or an Abandon that was not answered `NotNow`
 abbrev pub taken_by : {V : Type 0} → Event V → Answer V → ℕ
@@ -89,13 +64,15 @@ MayShow shows (Some value) shown = shows value shown
 abbrev pub ShowsNothing : {V : Type 0} → V → V → Type 0
 ShowsNothing value shown = ⊥
 
--- the value of the life after an event: a fill gives it, a new life has none, and nothing else changes it
+-- the value of the life after an event: a fill gives it, a new life has none, and nothing else
+-- changes it
 abbrev pub value_after : {V : Type 0} → Option V → Event V → Answer V → Option V
 value_after known (Fill v) Done = Some v
 value_after known Create Created = None
 value_after known e a = known
 
--- whether the life is given up after an answer: it ends by `GivenUp`, begins by `Created`, and else stays as it was
+-- whether the life is given up after an answer: it ends by `GivenUp`, begins by `Created`, and else
+-- stays as it was
 abbrev pub given_up_after : {V : Type 0} → Bool → Answer V → Bool
 given_up_after before answer.GivenUp = true
 given_up_after before Created = false
@@ -109,3 +86,13 @@ lets_go n (TimeOut m) TimedOut = m == n
 lets_go n (Cancel m) Done = m == n
 lets_go n (Fill v) Done = true
 lets_go n e a = false
+
+-- the waiter is answered that it joined
+abbrev pub joins_as : {V : Type 0} → ℕ → Event V → Answer V → Bool
+joins_as n (Join m) answer.Joined = m == n
+joins_as n e a = false
+
+-- whether the waiter waits after an event, by what it did before: it does once it has joined, and
+-- until it is let go
+abbrev pub waits_after : {V : Type 0} → ℕ → Bool → Event V → Answer V → Bool
+waits_after n before e a = (before || joins_as n e a) && not (lets_go n e a)

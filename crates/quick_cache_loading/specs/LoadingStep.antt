@@ -1,6 +1,6 @@
--- The table of the loading core: what each event does in each case, and what it answers.
+-- What each event does, by cases of the life, as the code's match goes.
 use Rattle.std.specs.Prelude.{◌≡◌, ℕ, true, false, not, ◌&&◌, ◌||◌, ◌⊎◌, List, [], ◌∷◌, ◌++◌, MatchBool}
-use Rattle.quick_cache_loading.specs.Waiting.{has, without}
+use Rattle.quick_cache_loading.specs.Waiting.{has, without_waiter}
 use Rattle.quick_cache_loading.specs.Core.{Life, Loading, Filled, GivenUp, CoreState, core_state, new_core, is_handed_to}
 use Rattle.quick_cache_model.specs.declared.refusal.Refusal.TheVariants.{Memory}
 use Rattle.quick_cache_loading.specs.declared.protocol.life.Holder.{Holder}
@@ -16,8 +16,10 @@ NotNowOf old a new = (a ≡ answer.NotNow) × (new ≡ old)
 
 -- Values are shown by others: the second of `shows` may be answered for the first, as a clone is.
 -- one that may be shown for the value is answered, or its memory was refused; nothing changes
-abbrev pub Shows : {V : Type 0} → (V → V → Type 0) → V → CoreState V → Answer V → CoreState V → Type 0
-Shows {V} shows v old a new = (((w : V) × shows v w × (a ≡ answer.Value w)) ⊎ (a ≡ answer.Refused Memory)) × (new ≡ old)
+abbrev pub Shows : {V : Type 0} → (V → V → Type 0) → V
+    → CoreState V → Answer V → CoreState V → Type 0
+Shows {V} shows v old a new =
+    (((w : V) × shows v w × (a ≡ answer.Value w)) ⊎ (a ≡ answer.Refused Memory)) × (new ≡ old)
 
 -- a given-up life begins anew: loading, held, with no waiters, in the shard
 abbrev pub Creates : {V : Type 0} → Life V → CoreState V → Answer V → CoreState V → Type 0
@@ -26,16 +28,20 @@ Creates (Filled v) old a new = NotNowOf old a new
 Creates GivenUp old a new = (a ≡ answer.Created) × (new ≡ core_state (Loading Held []) true)
 
 -- the waiter comes last into the list, or memory was refused and nothing changes
-abbrev pub Adds : {V : Type 0} → Holder → List ℕ → ℕ → CoreState V → Answer V → CoreState V → Type 0
+abbrev pub Adds : {V : Type 0} → Holder → List ℕ → ℕ
+    → CoreState V → Answer V → CoreState V → Type 0
 Adds holder waiters n old a new =
     ((a ≡ answer.Joined) × (new ≡ core_state (Loading holder (waiters ++ n ∷ [])) old.in_shard))
     ⊎ ((a ≡ answer.Refused Memory) × (new ≡ old))
 
 -- in the shard: one who neither waits nor was handed the guard is added; a filled life shows its value
-abbrev pub Joins : {V : Type 0} → (V → V → Type 0) → Life V → ℕ → CoreState V → Answer V → CoreState V → Type 0
+abbrev pub Joins : {V : Type 0} → (V → V → Type 0) → Life V → ℕ
+    → CoreState V → Answer V → CoreState V → Type 0
 Joins shows (Loading holder waiters) n old a new =
-    MatchBool (old.in_shard && not (is_handed_to holder n || has n waiters)) (Adds holder waiters n old a new) (NotNowOf old a new)
-Joins shows (Filled v) n old a new = MatchBool old.in_shard (Shows shows v old a new) (NotNowOf old a new)
+    MatchBool (old.in_shard && not (is_handed_to holder n || has n waiters))
+    (Adds holder waiters n old a new) (NotNowOf old a new)
+Joins shows (Filled v) n old a new =
+    MatchBool old.in_shard (Shows shows v old a new) (NotNowOf old a new)
 Joins shows GivenUp n old a new = NotNowOf old a new
 
 -- a held guard fills the life, and all waiters are done
@@ -49,12 +55,13 @@ Fills (Loading holder waiters) v old a new = FillsBy holder v old a new
 Fills (Filled w) v old a new = NotNowOf old a new
 Fills GivenUp v old a new = NotNowOf old a new
 
--- with no waiters the life is given up, outside the shard; else some waiter m leaves the list, and the guard is on its way to m
+-- with no waiters the life is given up, outside the shard; else the waiter that was added last
+-- leaves the list, and the guard is on its way to it
 abbrev pub PassesOn : {V : Type 0} → List ℕ → CoreState V → Answer V → CoreState V → Type 0
 PassesOn waiters old a new =
     ((waiters ≡ []) × (a ≡ answer.GivenUp) × (new ≡ new_core))
-    ⊎ ((m : ℕ) × (before : List ℕ) × (after : List ℕ) × (waiters ≡ before ++ m ∷ after)
-    × (a ≡ answer.HandedTo m) × (new ≡ core_state (Loading (HandedTo m) (before ++ after)) old.in_shard))
+    ⊎ ((others : List ℕ) × (m : ℕ) × (waiters ≡ others ++ m ∷ [])
+    × (a ≡ answer.HandedTo m) × (new ≡ core_state (Loading (HandedTo m) others) old.in_shard))
 
 -- a held guard is passed on
 abbrev pub AbandonsBy : {V : Type 0} → Holder → List ℕ → CoreState V → Answer V → CoreState V → Type 0
@@ -73,40 +80,53 @@ Receives waiters old a new = (a ≡ answer.Guard) × (new ≡ core_state (Loadin
 
 -- one who waits goes on waiting
 abbrev pub Remains : {V : Type 0} → List ℕ → ℕ → CoreState V → Answer V → CoreState V → Type 0
-Remains waiters n old a new = MatchBool (has n waiters) ((a ≡ answer.Waiting) × (new ≡ old)) (NotNowOf old a new)
+Remains waiters n old a new =
+    MatchBool (has n waiters) ((a ≡ answer.Waiting) × (new ≡ old)) (NotNowOf old a new)
 
--- the guard that was handed to the waiter reaches it; else it goes on waiting; a filled life shows its value
-abbrev pub Takes : {V : Type 0} → (V → V → Type 0) → Life V → ℕ → CoreState V → Answer V → CoreState V → Type 0
+-- the guard that was handed to the waiter reaches it; else it goes on waiting; a filled life shows
+-- its value
+abbrev pub Takes : {V : Type 0} → (V → V → Type 0) → Life V → ℕ
+    → CoreState V → Answer V → CoreState V → Type 0
 Takes shows (Loading holder waiters) n old a new =
     MatchBool (is_handed_to holder n) (Receives waiters old a new) (Remains waiters n old a new)
 Takes shows (Filled v) n old a new = Shows shows v old a new
 Takes shows GivenUp n old a new = NotNowOf old a new
 
 -- one who waits leaves the list, with this answer
-abbrev pub Withdraws : {V : Type 0} → Answer V → Holder → List ℕ → ℕ → CoreState V → Answer V → CoreState V → Type 0
+abbrev pub Withdraws : {V : Type 0} → Answer V → Holder → List ℕ → ℕ
+    → CoreState V → Answer V → CoreState V → Type 0
 Withdraws given holder waiters n old a new =
-    MatchBool (has n waiters) ((a ≡ given) × (new ≡ core_state (Loading holder (without n waiters)) old.in_shard)) (NotNowOf old a new)
+    MatchBool (has n waiters)
+    ((a ≡ given) × (new ≡ core_state (Loading holder (without_waiter n waiters)) old.in_shard))
+    (NotNowOf old a new)
 
--- the guard that was handed to the waiter reaches it; else it no longer waits; a filled life shows its value
-abbrev pub TimesOut : {V : Type 0} → (V → V → Type 0) → Life V → ℕ → CoreState V → Answer V → CoreState V → Type 0
+-- the guard that was handed to the waiter reaches it; else it no longer waits; a filled life shows
+-- its value
+abbrev pub TimesOut : {V : Type 0} → (V → V → Type 0) → Life V → ℕ
+    → CoreState V → Answer V → CoreState V → Type 0
 TimesOut shows (Loading holder waiters) n old a new =
-    MatchBool (is_handed_to holder n) (Receives waiters old a new) (Withdraws answer.TimedOut holder waiters n old a new)
+    MatchBool (is_handed_to holder n)
+    (Receives waiters old a new) (Withdraws answer.TimedOut holder waiters n old a new)
 TimesOut shows (Filled v) n old a new = Shows shows v old a new
 TimesOut shows GivenUp n old a new = NotNowOf old a new
 
--- the guard that was handed to the waiter is passed on; else it no longer waits; a filled life stays
+-- the guard that was handed to the waiter is passed on; else it no longer waits; a filled life
+-- stays
 abbrev pub Cancels : {V : Type 0} → Life V → ℕ → CoreState V → Answer V → CoreState V → Type 0
 Cancels (Loading holder waiters) n old a new =
-    MatchBool (is_handed_to holder n) (PassesOn waiters old a new) (Withdraws answer.Done holder waiters n old a new)
+    MatchBool (is_handed_to holder n)
+    (PassesOn waiters old a new) (Withdraws answer.Done holder waiters n old a new)
 Cancels (Filled v) n old a new = (a ≡ answer.Done) × (new ≡ old)
 Cancels GivenUp n old a new = NotNowOf old a new
 
 -- the placeholder leaves the shard, and its life goes on
 abbrev pub Leaves : {V : Type 0} → CoreState V → Answer V → CoreState V → Type 0
-Leaves old a new = MatchBool old.in_shard ((a ≡ answer.Done) × (new ≡ core_state old.life false)) (NotNowOf old a new)
+Leaves old a new =
+    MatchBool old.in_shard ((a ≡ answer.Done) × (new ≡ core_state old.life false)) (NotNowOf old a new)
 
 -- One event: the core before it, the event, its answer, and the core after it.
-abbrev pub LoadingStep : {V : Type 0} → (V → V → Type 0) → CoreState V → Event V → Answer V → CoreState V → Type 0
+abbrev pub LoadingStep : {V : Type 0} → (V → V → Type 0)
+    → CoreState V → Event V → Answer V → CoreState V → Type 0
 LoadingStep shows old Create a new = Creates old.life old a new
 LoadingStep shows old (Join n) a new = Joins shows old.life n old a new
 LoadingStep shows old (Fill v) a new = Fills old.life v old a new

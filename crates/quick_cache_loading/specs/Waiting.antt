@@ -7,8 +7,8 @@ abbrev pub has : ℕ → List ℕ → Bool
 has n waiters = list_any (λ m. m == n) waiters
 
 -- the list with the waiter taken out
-abbrev pub without : ℕ → List ℕ → List ℕ
-without n waiters = filter (λ m. not (m == n)) waiters
+abbrev pub without_waiter : ℕ → List ℕ → List ℕ
+without_waiter n waiters = filter (λ m. not (m == n)) waiters
 
 -- no waiter is in the list twice
 abbrev pub is_distinct : List ℕ → Bool

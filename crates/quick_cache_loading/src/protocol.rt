@@ -1,20 +1,21 @@
 //! Loading as a pure machine: the life of a placeholder, one event at a time.
-ghost use Rattle.std.specs.Prelude.{◌≡◌, ℕ, ◌+◌, ◌≤◌, [], ◌∷◌, ◌++◌, true, false, not, if◌then◌else◌, IfSome, IfOk, IfErr, OnErr, vec_len};
-ghost use Rattle.quick_cache_loading.specs.Core.{new_core, held_count, handed_count, is_loading, is_given_up, value_of, waiters_of, waits};
+ghost use Rattle.std.specs.Prelude.{◌≡◌, ℕ, ◌+◌, ◌≤◌, ◌↔◌, ◌==◌, min, [], ◌∷◌, ◌++◌, true, false, not, if◌then◌else◌, IfSome, IsOk, IfOk, IfErr, OnErr, vec_len};
+ghost use Rattle.std.specs.Vec.{vec_allocator};
+ghost use Rattle.quick_cache_loading.specs.Core.{new_core, held_count, handed_count, is_loading, is_given_up, value_of, waiters_of, waits, concerns};
 ghost use Rattle.quick_cache_loading.specs.LoadingStep.{LoadingStep};
-ghost use Rattle.quick_cache_loading.specs.LoadingRow.{LoadingRow};
-ghost use Rattle.quick_cache_loading.specs.LoadingLaws.{applies, is_not_now, only_tells, given_by, most_given, taken_by, done_by, shown_by, MayShow, ShowsNothing, value_after, given_up_after, lets_go};
-ghost use Rattle.quick_cache_loading.specs.LoadingRun.{LoadingRun, guards_given, guards_taken, ShowsTheFill, NoneJoinsGivenUp, NoGiveUpWhileWaiting, is_let_go};
+ghost use Rattle.quick_cache_loading.specs.LoadingRow.{LoadingRow, NoRowApplies};
+ghost use Rattle.quick_cache_loading.specs.LoadingLaws.{is_not_now, only_tells, given_by, most_given, most_taken, taken_by, done_by, shown_by, MayShow, ShowsNothing, value_after, given_up_after, lets_go};
+ghost use Rattle.quick_cache_loading.specs.LoadingRun.{LoadingRun, guards_given, guards_taken, ShowsTheFill, NoneJoinsGivenUp, NoGiveUpWhileWaiting, waits_at_end};
 
 mod events;
 mod laws;
 mod life;
 mod waiters;
 
-use quick_cache_model::Refusal;
 pub use events::{Answer, Event};
 pub use laws::tables_agree;
 pub use life::{Core, Holder};
+use quick_cache_model::Refusal;
 use std::alloc::Allocator;
 
 /// Makes one event happen, and says what it is answered.
@@ -22,9 +23,9 @@ use std::alloc::Allocator;
 /// A Join may allocate, and an answer `Value` holds a clone: where memory is refused, the answer
 /// is `Refused` and nothing has changed.
 pub fn step<V: Clone, A: Allocator>(core: &mut Core<V, A>, event: Event<V>) -> Answer<V>
-    // The table, by cases and by rows.
-    ensures step { LoadingStep V.is_clone core.old event result core.new }
+    // The table, and the same by cases.
     ensures row { LoadingRow V.is_clone event core.old result core.new }
+    ensures step { LoadingStep V.is_clone core.old event result core.new }
     // The guard goes to the waiter that was added last.
     ensures last { (m : ℕ) → result ≡ Answer.HandedTo m
         → waiters_of core.old.life ≡ waiters_of core.new.life ++ m ∷ [] }
@@ -34,12 +35,14 @@ pub fn step<V: Clone, A: Allocator>(core: &mut Core<V, A>, event: Event<V>) -> A
         ≡ held_count core.old + given_by result }
     // Join, Fill, Abandon, Cancel and Leave give no guard.
     ensures no_guard { given_by result ≤ most_given event }
+    // Fill and Abandon take back the guard that is held.
+    ensures taken { taken_by event result ≡ min (most_taken event) (held_count core.old) }
     ensures one_guard { held_count core.new + handed_count core.new
         ≡ (if is_loading core.new.life then 1 else 0) }
     ensures at_most_one { held_count core.new ≤ 1 }
 
-    // The answers that change nothing, and when they come.
-    ensures not_now { applies event core.old ≡ not (is_not_now result) }
+    // The answers that change nothing: `NotNow` comes where no row applies, and only there.
+    ensures not_now { (result ≡ Answer.NotNow) ↔ NoRowApplies V.is_clone event core.old }
     ensures unchanged { only_tells result ≡ true → core.new ≡ core.old }
     ensures refused { (why : Refusal) → result ≡ Answer.Refused why → why ≡ Refusal.Memory }
 
@@ -55,7 +58,9 @@ pub fn step<V: Clone, A: Allocator>(core: &mut Core<V, A>, event: Event<V>) -> A
     ensures none_joins { (n : ℕ) → event ≡ Event.Join n → is_given_up core.old.life ≡ true
         → result ≡ Answer.NotNow }
 
-    // Who waits goes on waiting until it is let go.
+    // Who joins waits from then on, and who waits goes on waiting until it is let go.
+    ensures joined { (n : ℕ) → event ≡ Event.Join n → result ≡ Answer.Joined
+        → waits n core.new ≡ true }
     ensures stays { (n : ℕ) → waits n core.old ≡ true → lets_go n event result ≡ false
         → waits n core.new ≡ true }
 {
@@ -64,9 +69,7 @@ pub fn step<V: Clone, A: Allocator>(core: &mut Core<V, A>, event: Event<V>) -> A
 
 /// The event's own call.
 fn make_happen<V: Clone, A: Allocator>(core: &mut Core<V, A>, event: Event<V>) -> Answer<V>
-    ensures step { LoadingStep V.is_clone core.old event result core.new }
-    ensures last { (m : ℕ) → result ≡ Answer.HandedTo m
-        → waiters_of core.old.life ≡ waiters_of core.new.life ++ m ∷ [] }
+    ensures { LoadingStep V.is_clone core.old event result core.new }
 {
     match event {
         Event::Create => core.create(),
@@ -98,7 +101,7 @@ pub fn abandon<V: Drop, A: Allocator>(core: &mut Core<V, A>) -> Answer<V>
         ≡ (if is_loading core.new.life then 1 else 0) }
     ensures at_most_one { held_count core.new ≤ 1 }
 
-    ensures not_now { applies Event.Abandon core.old ≡ not (is_not_now result) }
+    ensures not_now { is_not_now result ≡ (held_count core.old == 0) }
     ensures unchanged { only_tells result ≡ true → core.new ≡ core.old }
     ensures value { value_of core.new.life ≡ value_of core.old.life }
 
@@ -130,7 +133,7 @@ pub fn cancel<V: Drop, A: Allocator>(core: &mut Core<V, A>, waiter: u64) -> Answ
         ≡ (if is_loading core.new.life then 1 else 0) }
     ensures at_most_one { held_count core.new ≤ 1 }
 
-    ensures not_now { applies (Event.Cancel waiter) core.old ≡ not (is_not_now result) }
+    ensures not_now { is_not_now result ≡ not (concerns waiter core.old.life) }
     ensures unchanged { only_tells result ≡ true → core.new ≡ core.old }
     ensures value { value_of core.new.life ≡ value_of core.old.life }
 
@@ -147,7 +150,8 @@ pub fn cancel<V: Drop, A: Allocator>(core: &mut Core<V, A>, waiter: u64) -> Answ
 /// Makes the events happen in turn, and gives their answers.
 ///
 /// Room for the answers is made first: where that is refused, no event happens and the core is
-/// unchanged. The answers lie where the events lay, in a clone of their allocator.
+/// unchanged. The answers lie where the events lay, in a clone of their allocator. A list of no
+/// event is refused only where the allocator cannot be cloned.
 pub fn run<V: Clone, A: Allocator + Clone>(
     core: &mut Core<V, A>,
     events: Vec<Event<V>, A>,
@@ -169,13 +173,17 @@ pub fn run<V: Clone, A: Allocator + Clone>(
         ShowsTheFill V.is_clone (value_of core.old.life) events.items answers.items) }
     ensures none_joins { IfOk result (λ answers.
         NoneJoinsGivenUp (is_given_up core.old.life) answers.items) }
-    ensures alone { IfOk result (λ answers. (n : ℕ) → waits n core.old ≡ true
-        → NoGiveUpWhileWaiting n events.items answers.items) }
-    ensures stays { IfOk result (λ answers. (n : ℕ) → waits n core.old ≡ true
-        → is_let_go n events.items answers.items ≡ false → waits n core.new ≡ true) }
+    // Each waiter is watched, from the start or from its `Joined` on, until it is let go.
+    ensures alone { IfOk result (λ answers. (n : ℕ)
+        → NoGiveUpWhileWaiting n (waits n core.old) events.items answers.items) }
+    ensures stays { IfOk result (λ answers. (n : ℕ)
+        → waits_at_end n (waits n core.old) events.items answers.items ≡ true
+        → waits n core.new ≡ true) }
 
-    // Refused, no event has happened.
+    // Refused, no event has happened. Without an event it takes no memory.
     ensures unchanged { OnErr result (core.new ≡ core.old) }
+    ensures succeeds { A.is_infallible (vec_allocator events) → vec_len events ≡ 0
+        → IsOk result }
     ensures refused { IfErr result (λ refusal. refusal ≡ Refusal.Memory) }
 {
     let Ok(alloc) = events.allocator().clone() else {

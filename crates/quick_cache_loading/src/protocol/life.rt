@@ -117,9 +117,7 @@ impl<V: Drop, A: Allocator> Core<V, A> {
     }
 
     pub(crate) fn abandon(&mut self) -> Answer<V>
-        ensures step { Abandons self.old.life self.old result self.new }
-        ensures last { (m : ℕ) → result ≡ Answer.HandedTo m
-            → waiters_of self.old.life ≡ waiters_of self.new.life ++ m ∷ [] }
+        ensures { Abandons self.old.life self.old result self.new }
     {
         match self.stage {
             Stage::Loading(Holder::Held) => self.pass_on(),
@@ -128,9 +126,7 @@ impl<V: Drop, A: Allocator> Core<V, A> {
     }
 
     pub(crate) fn cancel(&mut self, waiter: u64) -> Answer<V>
-        ensures step { Cancels self.old.life waiter self.old result self.new }
-        ensures last { (m : ℕ) → result ≡ Answer.HandedTo m
-            → waiters_of self.old.life ≡ waiters_of self.new.life ++ m ∷ [] }
+        ensures { Cancels self.old.life waiter self.old result self.new }
     {
         match &self.stage {
             Stage::Loading(holder) => {
@@ -161,9 +157,7 @@ impl<V: Drop, A: Allocator> Core<V, A> {
     /// Hands the guard to the waiter that was added last. With none the life is given up.
     fn pass_on(&mut self) -> Answer<V>
         requires { is_loading self.old.life ≡ true }
-        ensures step { PassesOn (waiters_of self.old.life) self.old result self.new }
-        ensures last { (m : ℕ) → result ≡ Answer.HandedTo m
-            → waiters_of self.old.life ≡ waiters_of self.new.life ++ m ∷ [] }
+        ensures { PassesOn (waiters_of self.old.life) self.old result self.new }
     {
         match self.waiters.take_last() {
             Some(waiter) => {

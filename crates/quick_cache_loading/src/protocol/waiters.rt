@@ -1,6 +1,6 @@
 //! The numbers of those who wait, in the order in which they came.
 ghost use Rattle.std.specs.Prelude.{◌≡◌, ℕ, ◌==◌, List, [], ◌∷◌, ◌++◌, length, OnOk, OnErr, IfSome, IfNone};
-ghost use Rattle.quick_cache_loading.specs.Waiting.{has, without};
+ghost use Rattle.quick_cache_loading.specs.Waiting.{has, without_waiter};
 
 use std::alloc::{AllocError, Allocator, Global};
 use std::marker::Model;
@@ -60,7 +60,7 @@ impl<A: Allocator> Waiters<A> {
 
     /// Takes this one out, and keeps the order of the others.
     pub fn remove(&mut self, number: u64)
-        ensures { self.new ≡ without number self.old }
+        ensures { self.new ≡ without_waiter number self.old }
     {
         self.numbers.retain(|waiter| *waiter != number);
     }

@@ -1,6 +1,6 @@
 use Rattle.std.proofs.Common.{arith}
-use Rattle.quick_cache_loading.proofs.LoadingRowLemmas.{row_of_step}
-use Rattle.quick_cache_loading.proofs.LoadingLawLemmas.{one_guard, at_most_one, row-only_tells, row-value, row-given_up, row-alone, row-new_core, row-stays, row-guards, row-most_given, row-applies}
+use Rattle.quick_cache_loading.proofs.CasesToRows.{row_of_step}
+use Rattle.quick_cache_loading.proofs.RowLaws.{one_guard, at_most_one, row-only_tells, row-value, row-given_up, row-alone, row-new_core, row-stays, row-last, row-guards, row-most_given, row-abandon}
 use Rattle.quick_cache_loading.specs.LoadingLaws.{ShowsNothing}
 use Rattle.quick_cache_loading.specs.declared.protocol.events.Event.TheVariants.{Abandon}
 use Rattle.quick_cache_loading.proofs.protocol.abandon.Goals as goal
@@ -8,16 +8,16 @@ use Rattle.quick_cache_loading.proofs.protocol.abandon.Goals as goal
 -- The step is a row of the table, and each law holds of each row.
 pub returns : goal.returns
 returns g c =
-    let row = row_of_step ShowsNothing Abandon c.args.core.now c.abandon.result c.abandon.new.self c.abandon.ensures.step in
+    let row = row_of_step ShowsNothing Abandon c.args.core.now c.abandon.result c.abandon.new.self c.abandon.ensures in
     record {
-      step = c.abandon.ensures.step;
+      step = c.abandon.ensures;
       row = row;
-      last = c.abandon.ensures.last;
+      last = row-last row;
       guards = omega (arith, row-guards row, row-most_given row);
       no_guard = omega (arith, row-most_given row);
       one_guard = one_guard c.abandon.new.self;
       at_most_one = at_most_one c.abandon.new.self;
-      not_now = row-applies row;
+      not_now = row-abandon row;
       unchanged = row-only_tells row;
       value = row-value row;
       given_up = row-given_up row;

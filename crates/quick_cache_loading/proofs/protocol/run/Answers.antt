@@ -1,9 +1,9 @@
-use Rattle.std.proofs.Common.{rules, arith, map-id}
+use Rattle.std.proofs.Common.{rules, arith, map-id, refl}
 use Rattle.std.proofs.lemmas.Grind.{common_steps}
 use Rattle.std.proofs.lemmas.Iterator.Consumers.{YieldsList-end}
 use Rattle.std.proofs.lemmas.Iterator.Adapters.{YieldsList-from_vec}
-use Rattle.quick_cache_loading.proofs.LoadingLawLemmas.{one_guard, at_most_one}
-use Rattle.quick_cache_loading.proofs.LoadingRunLemmas.{LoadingRun-push, LoadingRun-guards, LoadingRun-shows, LoadingRun-none_joins, LoadingRun-alone, LoadingRun-stays}
+use Rattle.quick_cache_loading.proofs.RowLaws.{one_guard, at_most_one}
+use Rattle.quick_cache_loading.proofs.ScheduleLaws.{LoadingRun-push, LoadingRun-guards, LoadingRun-shows, LoadingRun-none_joins, LoadingRun-alone, LoadingRun-stays}
 use Rattle.quick_cache_loading.proofs.protocol.run.Goals as goal
 
 -- One more event is one more step of the schedule.
@@ -28,8 +28,9 @@ returns g c =
       at_most_one = at_most_one c.loop-event.core;
       shows = LoadingRun-shows g.V.Clone.is_clone _ _ _ _ steps;
       none_joins = LoadingRun-none_joins g.V.Clone.is_clone _ _ _ _ steps;
-      alone = LoadingRun-alone g.V.Clone.is_clone _ _ _ _ steps;
-      stays = LoadingRun-stays g.V.Clone.is_clone _ _ _ _ steps;
+      alone = λ n. LoadingRun-alone g.V.Clone.is_clone _ _ _ _ steps n _ (λ did. did);
+      stays = λ n. LoadingRun-stays g.V.Clone.is_clone _ _ _ _ steps n _ (λ did. did);
+      succeeds = λ clones none. refl;
       unchanged = tt;
       refused = tt;
     }

@@ -1,4 +1,4 @@
-use Rattle.quick_cache_loading.proofs.LoadingTableLemmas.{tables_agree}
+use Rattle.quick_cache_loading.proofs.RowsToCases.{tables_agree}
 use Rattle.quick_cache_loading.proofs.protocol.laws.tables_agree.Goals as goal
 
 pub returns : goal.returns

@@ -1,4 +1,4 @@
-use Rattle.quick_cache_loading.proofs.WaitingLemmas.{is_apart-without}
+use Rattle.quick_cache_loading.proofs.WaiterLists.{is_apart-without}
 use Rattle.quick_cache_loading.proofs.protocol.life.Core.cancel.Goals as goal
 
 -- Without one waiter, holder and waiters are still apart.

@@ -1,7 +1,7 @@
 use Rattle.std.proofs.Common.{◌≡◌, ◌++◌, ◌∷◌, [], false, rules}
 use Rattle.quick_cache_loading.specs.Core.{is_handed_to}
 use Rattle.quick_cache_loading.specs.Waiting.{has}
-use Rattle.quick_cache_loading.proofs.WaitingLemmas.{is_apart-push}
+use Rattle.quick_cache_loading.proofs.WaiterLists.{is_apart-push}
 use Rattle.quick_cache_loading.proofs.protocol.life.Core.join.Goals as goal
 
 -- Who joins neither waits nor was handed the guard.

@@ -1,4 +1,4 @@
-use Rattle.quick_cache_loading.proofs.WaitingLemmas.{pass_on_sound}
+use Rattle.quick_cache_loading.proofs.WaiterLists.{pass_on_sound}
 use Rattle.quick_cache_loading.proofs.protocol.life.Core.pass_on.Goals as goal
 
 -- The last waiter of a list of distinct waiters is not among the others.

@@ -1,8 +1,8 @@
 -- Lists of distinct waiters, through the changes that the core makes to them.
-use Rattle.std.proofs.Common.{◌≡◌, ℕ, ◌==◌, Bool, true, false, not, ◌&&◌, ◌||◌, List, [], ◌∷◌, ◌++◌, refl, sym, ◌∙◌, cond, arith}
+use Rattle.std.proofs.Common.{◌≡◌, ℕ, ◌==◌, Bool, true, false, not, ◌&&◌, ◌||◌, List, [], ◌∷◌, ◌++◌, ◌⊎◌, inl, inr, refl, sym, ◌∙◌, ap, cond, arith}
 use Rattle.std.proofs.lemmas.Bool.Decides.{nat_tests}
-use Rattle.quick_cache_loading.proofs.TestLemmas.{both, not-true, same-test}
-use Rattle.quick_cache_loading.specs.Waiting.{has, without, is_distinct}
+use Rattle.quick_cache_loading.proofs.BoolLemmas.{both, not-true, same-number, same-test}
+use Rattle.quick_cache_loading.specs.Waiting.{has, without_waiter, is_distinct}
 use Rattle.quick_cache_loading.specs.Core.{is_handed_to, is_apart, is_loading, is_sound, waiters_of}
 use Rattle.quick_cache_loading.specs.Stage.{life_of}
 use Rattle.quick_cache_loading.specs.declared.protocol.life.Holder.{Holder}
@@ -33,20 +33,20 @@ is_distinct-push (w ∷ ws) m =
       by_cases false false c d = refl
 
 -- who is not in a list is not in it once another is taken out
-has-without : (m n : ℕ) (ws : List ℕ) → has m ws ≡ false → has m (without n ws) ≡ false
+has-without : (m n : ℕ) (ws : List ℕ) → has m ws ≡ false → has m (without_waiter n ws) ≡ false
 has-without m n [] absent = refl
 has-without m n (w ∷ ws) absent = by_cases (w == m) (not (w == n)) refl absent (has-without m n ws) where
-  by_cases : (a b : Bool) → (w == m) ≡ a → (a || has m ws) ≡ false → (has m ws ≡ false → has m (without n ws) ≡ false)
-      → has m (cond b (w ∷ without n ws) (without n ws)) ≡ false
+  by_cases : (a b : Bool) → (w == m) ≡ a → (a || has m ws) ≡ false → (has m ws ≡ false → has m (without_waiter n ws) ≡ false)
+      → has m (cond b (w ∷ without_waiter n ws) (without_waiter n ws)) ≡ false
   by_cases true b e h rest = absurd (cc)
   by_cases false true e h rest = rw e (rest h)
   by_cases false false e h rest = rest h
 
-is_distinct-without : (n : ℕ) (ws : List ℕ) → is_distinct ws ≡ true → is_distinct (without n ws) ≡ true
+is_distinct-without : (n : ℕ) (ws : List ℕ) → is_distinct ws ≡ true → is_distinct (without_waiter n ws) ≡ true
 is_distinct-without n [] distinct = refl
 is_distinct-without n (w ∷ ws) distinct = by_cases (has w ws) (not (w == n)) refl distinct (is_distinct-without n ws) where
-  by_cases : (a b : Bool) → has w ws ≡ a → (not a && is_distinct ws) ≡ true → (is_distinct ws ≡ true → is_distinct (without n ws) ≡ true)
-      → is_distinct (cond b (w ∷ without n ws) (without n ws)) ≡ true
+  by_cases : (a b : Bool) → has w ws ≡ a → (not a && is_distinct ws) ≡ true → (is_distinct ws ≡ true → is_distinct (without_waiter n ws) ≡ true)
+      → is_distinct (cond b (w ∷ without_waiter n ws) (without_waiter n ws)) ≡ true
   by_cases true b e h rest = absurd (cc)
   by_cases false true e h rest = rw (has-without w n ws e) (rest h)
   by_cases false false e h rest = rest h
@@ -64,7 +64,7 @@ is_apart-push (HandedTo m) ws n apart other absent =
     rw (has-push m ws n, not-true (has m ws) parts.0, is_distinct-push ws n, absent, same-test n m, other) parts.1
 
 -- a waiter that leaves does too
-pub is_apart-without : (h : Holder) (ws : List ℕ) (n : ℕ) → is_apart h ws ≡ true → is_apart h (without n ws) ≡ true
+pub is_apart-without : (h : Holder) (ws : List ℕ) (n : ℕ) → is_apart h ws ≡ true → is_apart h (without_waiter n ws) ≡ true
 is_apart-without Held ws n apart = is_distinct-without n ws apart
 is_apart-without (HandedTo m) ws n apart =
     let parts = both (not (has m ws)) (is_distinct ws) apart in
@@ -88,29 +88,31 @@ module _ {V : Type 0} where
   waiters_of-loading (Filled v) ws loading = absurd (cc)
   waiters_of-loading GivenUp ws loading = absurd (cc)
 
--- who is in two lists, one after the other
-has-append : (n : ℕ) (xs ys : List ℕ) → has n (xs ++ ys) ≡ (has n xs || has n ys)
-has-append n [] ys = refl
-has-append n (x ∷ xs) ys = rw (has-append n xs ys) (by_cases (x == n) (has n xs) (has n ys)) where
-  by_cases : (a b c : Bool) → (a || (b || c)) ≡ ((a || b) || c)
-  by_cases true b c = refl
-  by_cases false b c = refl
+-- a list is empty, or has a last one
+pub last-waiter : (ws : List ℕ) → (ws ≡ []) ⊎ ((others : List ℕ) × (m : ℕ) × (ws ≡ others ++ m ∷ []))
+last-waiter [] = inl refl
+last-waiter (w ∷ ws) = inr (by_rest (last-waiter ws)) where
+  by_rest : (ws ≡ []) ⊎ ((others : List ℕ) × (m : ℕ) × (ws ≡ others ++ m ∷ []))
+      → (others : List ℕ) × (m : ℕ) × (w ∷ ws ≡ others ++ m ∷ [])
+  by_rest (inl none) = ([], w, ap (λ xs. w ∷ xs) none)
+  by_rest (inr p) = (w ∷ p.0, p.1, ap (λ xs. w ∷ xs) p.2)
 
 -- who waits still waits once another was handed the guard
-pub has-handed : (n m : ℕ) (before after : List ℕ) → has n (before ++ m ∷ after) ≡ true → (m == n) ≡ false → has n (before ++ after) ≡ true
-has-handed n m before after waiting other =
-    rw has-append (by_cases (has n before) (m == n) (has n after) (rw has-append at waiting) other) where
-      by_cases : (a b c : Bool) → (a || (b || c)) ≡ true → b ≡ false → (a || c) ≡ true
-      by_cases true b c e f = refl
-      by_cases false true c e f = absurd (cc)
-      by_cases false false c e f = e
+pub has-handed : (n m : ℕ) (others : List ℕ) → has n (others ++ m ∷ []) ≡ true → (m == n) ≡ false
+    → has n others ≡ true
+has-handed n m others waiting other =
+    by_cases (has n others) (m == n) (sym (has-push n others m) ∙ waiting) other where
+      by_cases : (a b : Bool) → (a || b) ≡ true → b ≡ false → a ≡ true
+      by_cases true b e f = refl
+      by_cases false true e f = absurd (cc)
+      by_cases false false e f = e
 
 -- who waits still waits once another left
-pub has-left : (n m : ℕ) (ws : List ℕ) → has n ws ≡ true → (m == n) ≡ false → has n (without m ws) ≡ true
+pub has-left : (n m : ℕ) (ws : List ℕ) → has n ws ≡ true → (m == n) ≡ false → has n (without_waiter m ws) ≡ true
 has-left n m [] waiting other = waiting
 has-left n m (w ∷ ws) waiting other = by_cases (w == n) (w == m) refl refl waiting (has-left n m ws) where
-  by_cases : (a b : Bool) → (w == n) ≡ a → (w == m) ≡ b → (a || has n ws) ≡ true → (has n ws ≡ true → (m == n) ≡ false → has n (without m ws) ≡ true)
-      → has n (cond (not b) (w ∷ without m ws) (without m ws)) ≡ true
+  by_cases : (a b : Bool) → (w == n) ≡ a → (w == m) ≡ b → (a || has n ws) ≡ true → (has n ws ≡ true → (m == n) ≡ false → has n (without_waiter m ws) ≡ true)
+      → has n (cond (not b) (w ∷ without_waiter m ws) (without_waiter m ws)) ≡ true
   by_cases true true e f h rest = let clash : true ≡ false = grind (arith, nat_tests) in absurd (cc)
   by_cases true false e f h rest = rw e refl
   by_cases false true e f h rest = rest h other
@@ -119,3 +121,10 @@ has-left n m (w ∷ ws) waiting other = by_cases (w == n) (w == m) refl refl wai
 -- who waits still waits once another came
 pub has-joined : (n m : ℕ) (ws : List ℕ) → has n ws ≡ true → has n (ws ++ m ∷ []) ≡ true
 has-joined n m ws waiting = rw (has-push n ws m, waiting) refl
+
+-- who comes is in the list
+pub has-added : (n : ℕ) (ws : List ℕ) → has n (ws ++ n ∷ []) ≡ true
+has-added n ws = has-push n ws n ∙ ap (λ b. has n ws || b) (same-number n) ∙ or-true (has n ws) where
+  or-true : (a : Bool) → (a || true) ≡ true
+  or-true true = refl
+  or-true false = refl

@@ -1,12 +1,12 @@
--- A step of the table by cases is a row of the table, and what each row keeps.
+-- A step by cases is a row of the table.
 use Rattle.std.proofs.Common.{◌≡◌, ℕ, ◌==◌, Bool, true, false, inl, inr, List, [], ◌∷◌, ◌++◌, refl, ◌∙◌, ap, not, ◌&&◌, ◌||◌, arith}
 use Rattle.std.proofs.lemmas.Bool.Decides.{nat_tests}
-use Rattle.quick_cache_loading.proofs.TestLemmas.{match_bool, neither}
-use Rattle.quick_cache_loading.specs.Waiting.{has, without}
+use Rattle.quick_cache_loading.proofs.BoolLemmas.{match_bool, neither}
+use Rattle.quick_cache_loading.specs.Waiting.{has, without_waiter}
 use Rattle.quick_cache_loading.specs.Core.{Life, Loading, Filled, GivenUp, CoreState, core_state, new_core, is_handed_to}
 use Rattle.quick_cache_loading.specs.LoadingStep.{LoadingStep, NotNowOf, Shows, Creates, Adds, Joins, Fills, PassesOn, Abandons, Receives, Remains, Takes, Withdraws, TimesOut, Cancels, Leaves}
-use Rattle.quick_cache_loading.specs.LoadingLaws.{applies, can_show}
-use Rattle.quick_cache_loading.specs.LoadingRow.{LoadingRow, no_case_applies, creates, joins, lacks_room, shows_the_value, lacks_a_clone, fills, hands_on, gives_up, receives, waits_on, withdraws, cancels_in_vain, leaves, Releases, abandoning, cancelling, Collects, taking, timing_out, Retires, by_time, by_cancel}
+use Rattle.quick_cache_loading.proofs.WhenRowsApply.{applies, NoRowApplies-from}
+use Rattle.quick_cache_loading.specs.LoadingRow.{LoadingRow, ActingRow, AsksForValue, by_joining, by_taking, by_timing_out, acts, no_row_applies, creates, joins, lacks_room, shows_the_value, lacks_a_clone, fills, hands_on, gives_up, receives, waits_on, withdraws, cancels_in_vain, leaves, Releases, abandoning, cancelling, Collects, taking, timing_out, Retires, by_time, by_cancel}
 use Rattle.quick_cache_model.specs.declared.refusal.Refusal.TheVariants.{Memory}
 use Rattle.quick_cache_loading.specs.declared.protocol.life.Holder.{Holder}
 use Rattle.quick_cache_loading.specs.declared.protocol.life.Holder.TheVariants.{Held, HandedTo}
@@ -24,14 +24,14 @@ may_join false b c e = absurd (cc)
 
 module _ {V : Type 0} (shows : V → V → Type 0) where
   -- a row with another name for what it answers and leaves
-  named : {e : Event V} {old : CoreState V} (b : Answer V) (mid : CoreState V) {a : Answer V} {new : CoreState V} → LoadingRow shows e old b mid
+  named : {e : Event V} {old : CoreState V} (b : Answer V) (mid : CoreState V) {a : Answer V} {new : CoreState V} → ActingRow shows e old b mid
       → (a ≡ b) × (new ≡ mid) → LoadingRow shows e old a new
-  named b mid row (p, q) = rw (p, q) row
+  named b mid row (p, q) = rw (p, q) (acts row)
 
   idle : (e : Event V) (old : CoreState V) (a : Answer V) (new : CoreState V) → applies e old ≡ false → NotNowOf old a new → LoadingRow shows e old a new
-  idle e old a new none step = named answer.NotNow old (no_case_applies e old none) step
+  idle e old a new none (p, q) = rw (p, q) (no_row_applies e old (NoRowApplies-from shows e old none))
 
-  shown : (e : Event V) (v : V) (old : CoreState V) (a : Answer V) (new : CoreState V) → can_show e old ≡ true → old.life ≡ Filled v
+  shown : (e : Event V) (v : V) (old : CoreState V) (a : Answer V) (new : CoreState V) → AsksForValue e old → old.life ≡ Filled v
       → Shows shows v old a new → LoadingRow shows e old a new
   shown e v old a new can is (inl p, q) = named (answer.Value p.0) old (shows_the_value e old v p.0 is can p.1) (p.2, q)
   shown e v old a new can is (inr p, q) = named (answer.Refused Memory) old (lacks_a_clone e old v is can) (p, q)
@@ -51,7 +51,7 @@ module _ {V : Type 0} (shows : V → V → Type 0) where
   of_join (Loading h ws) n old a new is step =
       match_bool _ (λ b. adds h ws n old a new is (may_join old.in_shard (is_handed_to h n) (has n ws) b)) (λ b. idle (Join n) old a new (rw is b)) step
   of_join (Filled v) n old a new is step =
-      match_bool old.in_shard (λ b. shown (Join n) v old a new b is) (λ b. idle (Join n) old a new (rw (is, b))) step
+      match_bool old.in_shard (λ b. shown (Join n) v old a new (by_joining n old b) is) (λ b. idle (Join n) old a new (rw (is, b))) step
   of_join GivenUp n old a new is step = idle (Join n) old a new (rw is (never old.in_shard)) step where
     never : (b : Bool) → (b && false) ≡ false
     never true = refl
@@ -67,8 +67,8 @@ module _ {V : Type 0} (shows : V → V → Type 0) where
       → PassesOn ws old a new → LoadingRow shows e old a new
   passed e h ws old a new by is (inl p) = named answer.GivenUp new_core (gives_up e old h by (is ∙ ap (Loading h) p.0)) (p.1, p.2)
   passed e h ws old a new by is (inr p) =
-      named (answer.HandedTo p.0) (core_state (Loading (HandedTo p.0) (p.1 ++ p.2)) old.in_shard)
-      (hands_on e old h p.1 p.0 p.2 by (is ∙ ap (Loading h) p.3)) (p.4, p.5)
+      named (answer.HandedTo p.1) (core_state (Loading (HandedTo p.1) p.0) old.in_shard)
+      (hands_on e old h p.0 p.1 by (is ∙ ap (Loading h) p.2)) (p.3, p.4)
 
   of_abandon : (l : Life V) (old : CoreState V) (a : Answer V) (new : CoreState V) → old.life ≡ l → Abandons l old a new → LoadingRow shows Abandon old a new
   of_abandon (Loading Held ws) old a new is step = passed Abandon Held ws old a new abandoning is step
@@ -95,14 +95,14 @@ module _ {V : Type 0} (shows : V → V → Type 0) where
   of_take (Loading (HandedTo m) ws) n old a new is step =
       match_bool (m == n) (λ b. received (Take n) n ws old a new (taking n) (handed m n ws old b is))
       (λ b. remained (HandedTo m) ws n old a new is b) step
-  of_take (Filled v) n old a new is step = shown (Take n) v old a new refl is step
+  of_take (Filled v) n old a new is step = shown (Take n) v old a new (by_taking n old) is step
   of_take GivenUp n old a new is step = idle (Take n) old a new (rw is) step
 
   withdrawn : (e : Event V) (given : Answer V) (h : Holder) (ws : List ℕ) (n : ℕ) (old : CoreState V) (a : Answer V) (new : CoreState V)
       → Retires e n given → old.life ≡ Loading h ws → is_handed_to h n ≡ false → (has n ws ≡ false → applies e old ≡ false)
       → Withdraws given h ws n old a new → LoadingRow shows e old a new
   withdrawn e given h ws n old a new by is other none step =
-      match_bool (has n ws) (λ b. named given (core_state (Loading h (without n ws)) old.in_shard) (withdraws e old h ws n given by is other b))
+      match_bool (has n ws) (λ b. named given (core_state (Loading h (without_waiter n ws)) old.in_shard) (withdraws e old h ws n given by is other b))
       (λ b. idle e old a new (none b)) step
 
   of_time_out : (l : Life V) (n : ℕ) (old : CoreState V) (a : Answer V) (new : CoreState V) → old.life ≡ l → TimesOut shows l n old a new → LoadingRow shows (TimeOut n) old a new
@@ -111,7 +111,7 @@ module _ {V : Type 0} (shows : V → V → Type 0) where
   of_time_out (Loading (HandedTo m) ws) n old a new is step =
       match_bool (m == n) (λ b. received (TimeOut n) n ws old a new (timing_out n) (handed m n ws old b is))
       (λ other. withdrawn (TimeOut n) answer.TimedOut (HandedTo m) ws n old a new (by_time n) is other (λ b. rw is (neither _ _ other b))) step
-  of_time_out (Filled v) n old a new is step = shown (TimeOut n) v old a new refl is step
+  of_time_out (Filled v) n old a new is step = shown (TimeOut n) v old a new (by_timing_out n old) is step
   of_time_out GivenUp n old a new is step = idle (TimeOut n) old a new (rw is) step
 
   of_cancel : (l : Life V) (n : ℕ) (old : CoreState V) (a : Answer V) (new : CoreState V) → old.life ≡ l → Cancels l n old a new → LoadingRow shows (Cancel n) old a new

@@ -1,4 +1,4 @@
--- Tests: what two of them together say.
+-- Conjunctions, alternatives and negations of tests, taken apart and put together.
 use Rattle.std.proofs.Common.{◌≡◌, ℕ, ◌==◌, Bool, true, false, not, ◌&&◌, ◌||◌, MatchBool, refl, arith}
 use Rattle.std.proofs.lemmas.Bool.Decides.{nat_tests}
 
@@ -12,6 +12,11 @@ both false b e = absurd (cc)
 pub not-true : (a : Bool) → not a ≡ true → a ≡ false
 not-true false e = refl
 not-true true e = absurd (cc)
+
+-- and one that fails
+pub not-false : (a : Bool) → not a ≡ false → a ≡ true
+not-false true e = refl
+not-false false e = absurd (cc)
 
 -- two alternatives that fail, taken together
 pub neither : (a b : Bool) → a ≡ false → b ≡ false → (a || b) ≡ false
@@ -30,6 +35,11 @@ pub or-false : (a b : Bool) → a ≡ false → b ≡ true → (a || b) ≡ true
 or-false false true e f = refl
 or-false true b e f = absurd (cc)
 or-false false false e f = absurd (cc)
+
+-- what is left of an alternative once one fails
+pub or-left : (a b : Bool) → a ≡ false → (a || b) ≡ true → b ≡ true
+or-left false b e f = f
+or-left true b e f = absurd (cc)
 
 -- a number is itself
 pub same-number : (n : ℕ) → (n == n) ≡ true

@@ -1,12 +1,11 @@
 -- What whole schedules keep.
-use Rattle.std.proofs.Common.{◌≡◌, ℕ, ◌+◌, true, false, List, [], ◌∷◌, ◌++◌, length, refl, arith}
-use Rattle.quick_cache_loading.specs.Core.{CoreState, held_count, value_of, is_given_up, waits}
+use Rattle.std.proofs.Common.{◌≡◌, ℕ, ◌+◌, Bool, true, false, List, [], ◌∷◌, ◌++◌, length, refl, arith}
+use Rattle.quick_cache_loading.specs.Core.{CoreState, held_count, value_of, is_given_up, waits, waiters_of}
 use Rattle.quick_cache_loading.specs.LoadingStep.{LoadingStep}
-use Rattle.quick_cache_loading.specs.LoadingLaws.{lets_go}
-use Rattle.quick_cache_loading.specs.LoadingRun.{LoadingRun, guards_given, guards_taken, ShowsTheFill, NoneJoinsGivenUp, NoGiveUpWhileWaiting, is_let_go}
-use Rattle.quick_cache_loading.proofs.TestLemmas.{both-false}
-use Rattle.quick_cache_loading.proofs.LoadingRowLemmas.{row_of_step}
-use Rattle.quick_cache_loading.proofs.LoadingLawLemmas.{row-guards, row-shown, row-value, row-given_up, row-joined, row-alone, row-stays}
+use Rattle.quick_cache_loading.specs.LoadingLaws.{waits_after}
+use Rattle.quick_cache_loading.specs.LoadingRun.{LoadingRun, guards_given, guards_taken, ShowsTheFill, NoneJoinsGivenUp, NoGiveUpWhileWaiting, waits_at_end}
+use Rattle.quick_cache_loading.proofs.CasesToRows.{row_of_step}
+use Rattle.quick_cache_loading.proofs.RowLaws.{row-guards, row-shown, row-value, row-given_up, row-joined, row-alone, row-waits}
 use Rattle.quick_cache_loading.specs.declared.protocol.events.Event.{Event}
 use Rattle.quick_cache_loading.specs.declared.protocol.events.Answer.{Answer}
 
@@ -57,24 +56,27 @@ module _ {V : Type 0} (shows : V → V → Type 0) where
       let row = row_of_step shows e old a run.0 run.1 in
       (λ ended joined. let open_life = row-joined row joined in absurd (cc), rw (← row-given_up row) (LoadingRun-none_joins es rs run.0 new run.2))
 
-  -- who waits goes on waiting until some step lets it go
+  -- who waited at the start or joined waits until some step lets it go
   pub LoadingRun-stays : (es : List (Event V)) (rs : List (Answer V)) (old new : CoreState V) → LoadingRun shows old es rs new
-      → (n : ℕ) → waits n old ≡ true → is_let_go n es rs ≡ false → waits n new ≡ true
-  LoadingRun-stays [] [] old new run n waiting kept = rw run waiting
-  LoadingRun-stays [] (a ∷ rs) old new run n waiting kept = absurd run
-  LoadingRun-stays (e ∷ es) [] old new run n waiting kept = absurd run
-  LoadingRun-stays (e ∷ es) (a ∷ rs) old new run n waiting kept =
-      let parts = both-false (lets_go n e a) (is_let_go n es rs) kept in
-      LoadingRun-stays es rs run.0 new run.2 n (row-stays (row_of_step shows e old a run.0 run.1) n waiting parts.0) parts.1
+      → (n : ℕ) (before : Bool) → (before ≡ true → waits n old ≡ true) → waits_at_end n before es rs ≡ true → waits n new ≡ true
+  LoadingRun-stays [] [] old new run n before did still = rw run (did still)
+  LoadingRun-stays [] (a ∷ rs) old new run n before did still = absurd run
+  LoadingRun-stays (e ∷ es) [] old new run n before did still = absurd run
+  LoadingRun-stays (e ∷ es) (a ∷ rs) old new run n before did still =
+      LoadingRun-stays es rs run.0 new run.2 n (waits_after n before e a)
+      (row-waits (row_of_step shows e old a run.0 run.1) n before did) still
 
-  -- no life is given up before a waiter is let go
+  -- no life is given up while a waiter waits
   pub LoadingRun-alone : (es : List (Event V)) (rs : List (Answer V)) (old new : CoreState V) → LoadingRun shows old es rs new
-      → (n : ℕ) → waits n old ≡ true → NoGiveUpWhileWaiting n es rs
-  LoadingRun-alone [] [] old new run n waiting = tt
-  LoadingRun-alone [] (a ∷ rs) old new run n waiting = absurd run
-  LoadingRun-alone (e ∷ es) [] old new run n waiting = absurd run
-  LoadingRun-alone (e ∷ es) (a ∷ rs) old new run n waiting =
+      → (n : ℕ) (before : Bool) → (before ≡ true → waits n old ≡ true) → NoGiveUpWhileWaiting n before es rs
+  LoadingRun-alone [] [] old new run n before did = tt
+  LoadingRun-alone [] (a ∷ rs) old new run n before did = absurd run
+  LoadingRun-alone (e ∷ es) [] old new run n before did = absurd run
+  LoadingRun-alone (e ∷ es) (a ∷ rs) old new run n before did =
       let row = row_of_step shows e old a run.0 run.1 in (
-        λ ended. let nobody : false ≡ true = rw (row-alone row ended) at waiting in absurd (cc),
-        λ kept. LoadingRun-alone es rs run.0 new run.2 n (row-stays row n waiting kept),
-      )
+        λ ended. nobody before did (row-alone row ended),
+        LoadingRun-alone es rs run.0 new run.2 n (waits_after n before e a) (row-waits row n before did),
+      ) where
+        nobody : (b : Bool) → (b ≡ true → waits n old ≡ true) → waiters_of old.life ≡ [] → b ≡ false
+        nobody false did none = refl
+        nobody true did none = let absent : false ≡ true = rw none at (did refl) in absurd (cc)

@@ -1,12 +1,12 @@
--- Each row of the table is a step by cases, so the two tables are one.
+-- Each row of the table is a step by cases, so the two say the same.
 use Rattle.std.proofs.Common.{◌≡◌, ℕ, ◌==◌, Bool, true, false, ◌&&◌, ◌⊎◌, inl, inr, refl, MatchBool}
 use Rattle.quick_cache_loading.specs.Waiting.{has}
-use Rattle.quick_cache_loading.specs.Core.{Life, Loading, Filled, GivenUp, CoreState, is_handed_to, is_given_up, held_in}
+use Rattle.quick_cache_loading.specs.Core.{Life, Loading, Filled, GivenUp, CoreState, is_handed_to, is_given_up, held_in, concerns}
 use Rattle.quick_cache_loading.specs.LoadingStep.{LoadingStep, Shows, Creates, Joins, Fills, Abandons, Takes, TimesOut, Cancels}
-use Rattle.quick_cache_loading.specs.LoadingLaws.{applies, can_join, can_show, concerns}
-use Rattle.quick_cache_loading.specs.LoadingRow.{LoadingRow, no_case_applies, creates, joins, lacks_room, shows_the_value, lacks_a_clone, fills, hands_on, gives_up, receives, waits_on, withdraws, cancels_in_vain, leaves, abandoning, cancelling, taking, timing_out, by_time, by_cancel, TablesAgree}
-use Rattle.quick_cache_loading.proofs.TestLemmas.{both-false, same-number}
-use Rattle.quick_cache_loading.proofs.LoadingRowLemmas.{row_of_step}
+use Rattle.quick_cache_loading.proofs.WhenRowsApply.{applies, can_join, applies-from_none}
+use Rattle.quick_cache_loading.specs.LoadingRow.{LoadingRow, AsksForValue, by_joining, by_taking, by_timing_out, acts, no_row_applies, creates, joins, lacks_room, shows_the_value, lacks_a_clone, fills, hands_on, gives_up, receives, waits_on, withdraws, cancels_in_vain, leaves, abandoning, cancelling, taking, timing_out, by_time, by_cancel, TablesAgree}
+use Rattle.quick_cache_loading.proofs.BoolLemmas.{both-false, same-number}
+use Rattle.quick_cache_loading.proofs.CasesToRows.{row_of_step}
 use Rattle.quick_cache_model.specs.declared.refusal.Refusal.TheVariants.{Memory}
 use Rattle.quick_cache_loading.specs.declared.protocol.life.Holder.TheVariants.{Held, HandedTo}
 use Rattle.quick_cache_loading.specs.declared.protocol.events.Event.{Event}
@@ -66,36 +66,32 @@ module _ {V : Type 0} (shows : V → V → Type 0) where
   idle_step (Cancel n) old none = idle_cancel old.life n old none
   idle_step Leave old none = rw none (refl, refl)
 
-  shows_step : (e : Event V) (old : CoreState V) (v : V) (a : Answer V) → ((w : V) × shows v w × (a ≡ answer.Value w)) ⊎ (a ≡ answer.Refused Memory)
-      → old.life ≡ Filled v → can_show e old ≡ true → LoadingStep shows old e a old
-  shows_step (Join n) old v a told is can = rw (is, can) (told, refl)
-  shows_step (Take n) old v a told is can = rw is (told, refl)
-  shows_step (TimeOut n) old v a told is can = rw is (told, refl)
-  shows_step Create old v a told is can = absurd (cc)
-  shows_step (Fill w) old v a told is can = absurd (cc)
-  shows_step Abandon old v a told is can = absurd (cc)
-  shows_step (Cancel n) old v a told is can = absurd (cc)
-  shows_step Leave old v a told is can = absurd (cc)
+  shows_step : {e : Event V} {old : CoreState V} (v : V) (a : Answer V)
+      → ((w : V) × shows v w × (a ≡ answer.Value w)) ⊎ (a ≡ answer.Refused Memory)
+      → old.life ≡ Filled v → AsksForValue e old → LoadingStep shows old e a old
+  shows_step v a told is (by_joining n old inside) = rw (is, inside) (told, refl)
+  shows_step v a told is (by_taking n old) = rw is (told, refl)
+  shows_step v a told is (by_timing_out n old) = rw is (told, refl)
 
   step_of_row : {e : Event V} {old : CoreState V} {a : Answer V} {new : CoreState V} → LoadingRow shows e old a new → LoadingStep shows old e a new
-  step_of_row (no_case_applies e old none) = idle_step e old none
-  step_of_row (creates old is) = rw is (refl, refl)
-  step_of_row (joins old h ws n is inside other absent) = rw (is, inside, other, absent) (inl (refl, refl))
-  step_of_row (lacks_room old h ws n is inside other absent) = rw (is, inside, other, absent) (inr (refl, refl))
-  step_of_row (shows_the_value e old v w is can same) = shows_step e old v (answer.Value w) (inl (w, same, refl)) is can
-  step_of_row (lacks_a_clone e old v is can) = shows_step e old v (answer.Refused Memory) (inr refl) is can
-  step_of_row (fills old ws v is) = rw is (refl, refl)
-  step_of_row (hands_on _ old _ before m after abandoning is) = rw is (inr (m, before, after, refl, refl, refl))
-  step_of_row (hands_on _ old _ before m after (cancelling n) is) = rw (is, same-number n) (inr (m, before, after, refl, refl, refl))
-  step_of_row (gives_up _ old _ abandoning is) = rw is (inl (refl, refl, refl))
-  step_of_row (gives_up _ old _ (cancelling n) is) = rw (is, same-number n) (inl (refl, refl, refl))
-  step_of_row (receives _ old _ ws (taking n) is) = rw (is, same-number n) (refl, refl)
-  step_of_row (receives _ old _ ws (timing_out n) is) = rw (is, same-number n) (refl, refl)
-  step_of_row (waits_on old h ws n is other waiting) = rw (is, other, waiting) (refl, refl)
-  step_of_row (withdraws _ old h ws _ _ (by_time n) is other waiting) = rw (is, other, waiting) (refl, refl)
-  step_of_row (withdraws _ old h ws _ _ (by_cancel n) is other waiting) = rw (is, other, waiting) (refl, refl)
-  step_of_row (cancels_in_vain old v n is) = rw is (refl, refl)
-  step_of_row (leaves old inside) = rw inside (refl, refl)
+  step_of_row (no_row_applies e old none) = idle_step e old (applies-from_none shows e old none)
+  step_of_row (acts (creates old is)) = rw is (refl, refl)
+  step_of_row (acts (joins old h ws n is inside other absent)) = rw (is, inside, other, absent) (inl (refl, refl))
+  step_of_row (acts (lacks_room old h ws n is inside other absent)) = rw (is, inside, other, absent) (inr (refl, refl))
+  step_of_row (acts (shows_the_value e old v w is asks same)) = shows_step v (answer.Value w) (inl (w, same, refl)) is asks
+  step_of_row (acts (lacks_a_clone e old v is asks)) = shows_step v (answer.Refused Memory) (inr refl) is asks
+  step_of_row (acts (fills old ws v is)) = rw is (refl, refl)
+  step_of_row (acts (hands_on _ old _ others m abandoning is)) = rw is (inr (others, m, refl, refl, refl))
+  step_of_row (acts (hands_on _ old _ others m (cancelling n) is)) = rw (is, same-number n) (inr (others, m, refl, refl, refl))
+  step_of_row (acts (gives_up _ old _ abandoning is)) = rw is (inl (refl, refl, refl))
+  step_of_row (acts (gives_up _ old _ (cancelling n) is)) = rw (is, same-number n) (inl (refl, refl, refl))
+  step_of_row (acts (receives _ old _ ws (taking n) is)) = rw (is, same-number n) (refl, refl)
+  step_of_row (acts (receives _ old _ ws (timing_out n) is)) = rw (is, same-number n) (refl, refl)
+  step_of_row (acts (waits_on old h ws n is other waiting)) = rw (is, other, waiting) (refl, refl)
+  step_of_row (acts (withdraws _ old h ws _ _ (by_time n) is other waiting)) = rw (is, other, waiting) (refl, refl)
+  step_of_row (acts (withdraws _ old h ws _ _ (by_cancel n) is other waiting)) = rw (is, other, waiting) (refl, refl)
+  step_of_row (acts (cancels_in_vain old v n is)) = rw is (refl, refl)
+  step_of_row (acts (leaves old inside)) = rw inside (refl, refl)
 
 -- the table by rows is the table by cases
 pub tables_agree : {V : Type 0} (shows : V → V → Type 0) → TablesAgree shows
