@@ -35,18 +35,18 @@ module _ {K V : Type 0} where
 module _ (K V : Type 0) where
   -- After a write of a pair that passed its check, the items that are not pinned weigh at most the
   -- capacity, if the hot target was within it.
-  abbrev pub WritesStayWithinCapacity : Type 0
-  WritesStayWithinCapacity =
-      WhateverRules K V (λ rules. (equal_to : K → Bool) (key : K) (strategy : Strategy)
+  abbrev pub WritesStayWithinCapacity : (ℕ → Type 0) → Type 0
+  WritesStayWithinCapacity may_count =
+      WhateverRules K V may_count (λ rules. (equal_to : K → Bool) (key : K) (strategy : Strategy)
       (old new : CacheState K V) (value left : V) (calls : List (HookCall K V))
       → Writes rules equal_to key strategy old value calls None new
       → PassesCheck rules old.hot_target key value calls left
       → old.hot_target ≤ old.capacity → unpinned_weight rules new ≤ new.capacity)
 
   -- After a fill whose value passed its check with a weight above 0, they do so, too.
-  abbrev pub FillsStayWithinCapacity : (K → K → Bool) → Type 0
-  FillsStayWithinCapacity equal =
-      WhateverRules K V (λ rules. (ticket : ℕ) (marked : Bool) (old new : CacheState K V)
+  abbrev pub FillsStayWithinCapacity : (K → K → Bool) → (ℕ → Type 0) → Type 0
+  FillsStayWithinCapacity equal may_count =
+      WhateverRules K V may_count (λ rules. (ticket : ℕ) (marked : Bool) (old new : CacheState K V)
       (value left : V) (calls : List (HookCall K V))
       (before : List (LoadingEntry K)) (entry : LoadingEntry K) (after : List (LoadingEntry K))
       → IsValid equal old → IsLoadingTicket ticket old before entry after
@@ -56,9 +56,10 @@ module _ (K V : Type 0) where
 
   -- An insert under a key of which nothing is found keeps a pair that passed its check: the key is
   -- there afterwards, with the value that the check left.
-  abbrev pub InsertedPairsAreKept : Type 0
-  InsertedPairsAreKept =
-      WhateverRules K V (λ rules. (equal_to : K → Bool) (key : K) (old new : CacheState K V)
+  abbrev pub InsertedPairsAreKept : (ℕ → Type 0) → Type 0
+  InsertedPairsAreKept may_count =
+      WhateverRules K V may_count (λ rules.
+      (equal_to : K → Bool) (key : K) (old new : CacheState K V)
       (value left : V) (calls : List (HookCall K V)) (answer : Option (K × V))
       → Writes rules equal_to key Insert old value calls answer new
       → HasNothing equal_to (rules.hash key) old

@@ -1,5 +1,5 @@
 -- Laws of the definitions, and the words in which they are stated.
-use Rattle.std.specs.Prelude.{◌≡◌, ℕ, ◌+◌, ◌*◌, ◌^◌, ◌<◌, ◌≤◌, ◌⊎◌, Bool, true, IsTrue, List}
+use Rattle.std.specs.Prelude.{◌≡◌, ℕ, ◌+◌, ◌*◌, ◌^◌, ◌<◌, ◌≤◌, ◌⊎◌, Bool, true, List}
 use Rattle.std.specs.Prelude.{[], ◌++◌, Option, None, length, min, count_by}
 use Rattle.std.specs.List.{AllByRecursion}
 use Rattle.quick_cache_model.specs.CacheState.{CacheState, Item, Place, empty_state, keys_by}
@@ -74,138 +74,129 @@ IsQuery {K} equal stands_for = (first second : K) → stands_for first ≡ true
     → stands_for second ≡ equal first second
 
 module _ (K V : Type 0) where
-  -- whatever the rules, where a test says which counts of touches may be
-  abbrev pub WhateverRules : (Rules K V → Type 0) → Type 0
-  WhateverRules P =
-      (hash : K → ℕ) (weight : K → V → ℕ) (pinned : K → V → Bool) (may_count : ℕ → Bool)
-      → P (record {
-        hash = hash;
-        weight = weight;
-        pinned = pinned;
-        may_count =
-            λ n. IsTrue (may_count n);
-      })
+  -- whatever the rules of a cache in which these counts of touches may be
+  abbrev pub WhateverRules : (ℕ → Type 0) → (Rules K V → Type 0) → Type 0
+  WhateverRules may_count P =
+      (hash : K → ℕ) (weight : K → V → ℕ) (pinned : K → V → Bool)
+      → P (record { hash = hash; weight = weight; pinned = pinned; may_count = may_count })
 
   -- Whatever the rules, where more counts of touches may be than in another cache: what that one
   -- may do, this one may do.
-  abbrev pub WhateverTouches : (Rules K V → Rules K V → Type 0) → Type 0
-  WhateverTouches P =
-      (hash : K → ℕ) (weight : K → V → ℕ) (pinned : K → V → Bool) (few many : ℕ → Bool)
-      → ((n : ℕ) → IsTrue (few n) → IsTrue (many n))
-      → P (record {
-        hash = hash;
-        weight = weight;
-        pinned = pinned;
-        may_count =
-            λ n. IsTrue (few n);
-      })
-      (record { hash = hash; weight = weight; pinned = pinned; may_count = λ n. IsTrue (many n) })
+  abbrev pub WhateverTouches : (few many : ℕ → Type 0) → (Rules K V → Rules K V → Type 0) → Type 0
+  WhateverTouches few many P =
+      ((n : ℕ) → few n → many n) → (hash : K → ℕ) (weight : K → V → ℕ) (pinned : K → V → Bool)
+      → P (record { hash = hash; weight = weight; pinned = pinned; may_count = few })
+      (record { hash = hash; weight = weight; pinned = pinned; may_count = many })
 
   -- a write that a cache of one thread may make is one that a shared cache may make
-  abbrev pub LoneWritesAreShared : Type 0
-  LoneWritesAreShared =
-      WhateverTouches (λ lone shared. (equal_to : K → Bool) (key : K) (strategy : Strategy)
+  abbrev pub LoneWritesAreShared : (few many : ℕ → Type 0) → Type 0
+  LoneWritesAreShared few many =
+      WhateverTouches few many (λ lone shared. (equal_to : K → Bool) (key : K) (strategy : Strategy)
       (old : CacheState K V) (value : V) (calls : List (HookCall K V))
       (answer : Option (K × V)) (new : CacheState K V)
       → Writes lone equal_to key strategy old value calls answer new
       → Writes shared equal_to key strategy old value calls answer new)
 
   -- so is a placeholder that is filled
-  abbrev pub LoneFillsAreShared : Type 0
-  LoneFillsAreShared =
-      WhateverTouches (λ lone shared. (ticket : ℕ) (marked : Bool) (old : CacheState K V)
+  abbrev pub LoneFillsAreShared : (few many : ℕ → Type 0) → Type 0
+  LoneFillsAreShared few many =
+      WhateverTouches few many (λ lone shared. (ticket : ℕ) (marked : Bool) (old : CacheState K V)
       (value : V) (calls : List (HookCall K V)) (answer : Option V)
       (new : CacheState K V) → FillsPlaceholder ticket old lone marked value calls answer new
       → FillsPlaceholder ticket old shared marked value calls answer new)
 
   -- and a capacity that is set
-  abbrev pub LoneCapacitiesAreShared : Type 0
-  LoneCapacitiesAreShared =
-      WhateverTouches (λ lone shared. (capacity : ℕ) (old : CacheState K V)
+  abbrev pub LoneCapacitiesAreShared : (few many : ℕ → Type 0) → Type 0
+  LoneCapacitiesAreShared few many =
+      WhateverTouches few many (λ lone shared. (capacity : ℕ) (old : CacheState K V)
       (calls : List (HookCall K V)) (new : CacheState K V)
       → SetsCapacity lone capacity old calls new → SetsCapacity shared capacity old calls new)
 
   -- making room brings no key
-  abbrev pub EvictionBringsNoKey : Type 0
-  EvictionBringsNoKey =
-      WhateverRules (λ rules. (need : ℕ) (old new : CacheState K V) (calls : List (HookCall K V))
+  abbrev pub EvictionBringsNoKey : (ℕ → Type 0) → Type 0
+  EvictionBringsNoKey may_count =
+      WhateverRules may_count (λ rules.
+      (need : ℕ) (old new : CacheState K V) (calls : List (HookCall K V))
       → EvictsToCapacity rules need old calls new
       → (test : K → Bool) → keys_by test new ≤ keys_by test old)
 
   -- where there can be no touches, and `before_evict` leaves a value by the pair alone, room is
   -- made in one way
-  abbrev pub EvictionIsDetermined : Type 0
-  EvictionIsDetermined =
-      WhateverRules (λ rules. ((n : ℕ) → rules.may_count n → n ≡ 0)
+  abbrev pub EvictionIsDetermined : (ℕ → Type 0) → Type 0
+  EvictionIsDetermined may_count =
+      WhateverRules may_count (λ rules. ((n : ℕ) → rules.may_count n → n ≡ 0)
       → (leaves : K → V → V) (need : ℕ) (old : CacheState K V) (one two : List (HookCall K V))
       (new other : CacheState K V) → EvictsToCapacity rules need old one new
       → EvictsToCapacity rules need old two other
       → LeavesBy leaves one → LeavesBy leaves two → (one ≡ two) × (new ≡ other))
 
   -- an item without weight stays where it is when room is made
-  abbrev pub WeightlessItemsStay : Type 0
-  WeightlessItemsStay =
-      WhateverRules (λ rules. (need : ℕ) (old new : CacheState K V) (calls : List (HookCall K V))
+  abbrev pub WeightlessItemsStay : (ℕ → Type 0) → Type 0
+  WeightlessItemsStay may_count =
+      WhateverRules may_count (λ rules.
+      (need : ℕ) (old new : CacheState K V) (calls : List (HookCall K V))
       → EvictsToCapacity rules need old calls new
       → (more : List (Item K V)) × (new.still ≡ old.still ++ more))
 
   -- a pinned pair does not leave when room is made
-  abbrev pub PinnedPairsStay : Type 0
-  PinnedPairsStay =
-      WhateverRules (λ rules. (need : ℕ) (old new : CacheState K V) (calls : List (HookCall K V))
+  abbrev pub PinnedPairsStay : (ℕ → Type 0) → Type 0
+  PinnedPairsStay may_count =
+      WhateverRules may_count (λ rules.
+      (need : ℕ) (old new : CacheState K V) (calls : List (HookCall K V))
       → EvictsToCapacity rules need old calls new
       → (test : K → V → Bool) → IsPinnedTest rules test → pairs_by test old ≤ pairs_by test new)
 
   -- an advance that answers yes lowers the measure of the rings
-  abbrev pub AdvancesLowerTheMeasure : Type 0
-  AdvancesLowerTheMeasure =
-      WhateverRules (λ rules. (old new : CacheState K V) (calls : List (HookCall K V))
+  abbrev pub AdvancesLowerTheMeasure : (ℕ → Type 0) → Type 0
+  AdvancesLowerTheMeasure may_count =
+      WhateverRules may_count (λ rules. (old new : CacheState K V) (calls : List (HookCall K V))
       → AdvancesCold rules old true calls new
       → ring_measure new < ring_measure old)
 
   -- room was made, or each item of the rings is pinned
-  abbrev pub EvictionMakesRoom : Type 0
-  EvictionMakesRoom =
-      WhateverRules (λ rules. (need : ℕ) (old new : CacheState K V) (calls : List (HookCall K V))
+  abbrev pub EvictionMakesRoom : (ℕ → Type 0) → Type 0
+  EvictionMakesRoom may_count =
+      WhateverRules may_count (λ rules.
+      (need : ℕ) (old new : CacheState K V) (calls : List (HookCall K V))
       → EvictsToCapacity rules need old calls new
       → (total_weight new + need ≤ new.capacity) ⊎ AreRingsPinned rules new)
 
-  -- room can be made in every state, where there may be no touches
-  abbrev pub EvictionEnds : Type 0
-  EvictionEnds =
-      WhateverRules (λ rules. rules.may_count 0 → (need : ℕ) (old : CacheState K V)
+  -- room can be made in every state
+  abbrev pub EvictionEnds : (ℕ → Type 0) → Type 0
+  EvictionEnds may_count =
+      WhateverRules may_count (λ rules. (need : ℕ) (old : CacheState K V)
       → (calls : List (HookCall K V)) × (new : CacheState K V)
       × EvictsToCapacity rules need old calls new)
 
   -- the present capacity changes no size
-  abbrev pub PresentCapacityKeepsSizes : Type 0
-  PresentCapacityKeepsSizes =
-      WhateverRules (λ rules. (old new : CacheState K V) (calls : List (HookCall K V))
+  abbrev pub PresentCapacityKeepsSizes : (ℕ → Type 0) → Type 0
+  PresentCapacityKeepsSizes may_count =
+      WhateverRules may_count (λ rules. (old new : CacheState K V) (calls : List (HookCall K V))
       → SetsCapacity rules old.capacity old calls new → IsSized old
       → (new.capacity ≡ old.capacity) × (new.hot_target ≡ old.hot_target)
       × (new.ghost_limit ≡ old.ghost_limit))
 
   -- and nothing at all where the items have room and the ghosts are within their limit
-  abbrev pub PresentCapacityChangesNothing : Type 0
-  PresentCapacityChangesNothing =
-      WhateverRules (λ rules. (old new : CacheState K V) (calls : List (HookCall K V))
+  abbrev pub PresentCapacityChangesNothing : (ℕ → Type 0) → Type 0
+  PresentCapacityChangesNothing may_count =
+      WhateverRules may_count (λ rules. (old new : CacheState K V) (calls : List (HookCall K V))
       → SetsCapacity rules old.capacity old calls new → IsSized old
       → total_weight old ≤ old.capacity → length old.ghosts ≤ old.ghost_limit → (new ≡ old)
       × (calls ≡ []))
 
-  -- a write can be made in every state, where there may be no touches
-  abbrev pub WritesCanBeMade : Type 0
-  WritesCanBeMade =
-      WhateverRules (λ rules. rules.may_count 0
-      → (equal_to : K → Bool) (key : K) (strategy : Strategy) (old : CacheState K V) (value : V)
+  -- a write can be made in every state
+  abbrev pub WritesCanBeMade : (ℕ → Type 0) → Type 0
+  WritesCanBeMade may_count =
+      WhateverRules may_count (λ rules.
+      (equal_to : K → Bool) (key : K) (strategy : Strategy) (old : CacheState K V) (value : V)
       → (calls : List (HookCall K V)) × (answer : Option (K × V)) × (new : CacheState K V)
       × Writes rules equal_to key strategy old value calls answer new)
 
   -- a placeholder can be filled, be it there or gone
-  abbrev pub PlaceholdersCanBeFilled : Type 0
-  PlaceholdersCanBeFilled =
-      WhateverRules (λ rules. rules.may_count 0
-      → (ticket : ℕ) (marked : Bool) (old : CacheState K V) (value : V)
+  abbrev pub PlaceholdersCanBeFilled : (ℕ → Type 0) → Type 0
+  PlaceholdersCanBeFilled may_count =
+      WhateverRules may_count (λ rules.
+      (ticket : ℕ) (marked : Bool) (old : CacheState K V) (value : V)
       → (calls : List (HookCall K V)) × (answer : Option V) × (new : CacheState K V)
       × FillsPlaceholder ticket old rules marked value calls answer new)
 
@@ -228,36 +219,39 @@ module _ (K V : Type 0) where
       (stands_for : K → Bool) (hash : ℕ) (old : CacheState K V) → (answer : Option (K × V))
       × (new : CacheState K V) × Removes stands_for old hash answer new
 
-  -- while there are tickets, an item that is there can be acted on, whatever the callback leaves and
-  -- chooses, and what it chose can come of it
-  abbrev pub EntriesCanBeActedOn : Type 0
-  EntriesCanBeActedOn =
-      WhateverRules (λ rules. (stands_for : K → Bool) (old : CacheState K V) (place : Place)
+  -- while there are tickets, an item that is there can be acted on, whatever the callback leaves
+  -- and chooses, and what it chose can come of it
+  abbrev pub EntriesCanBeActedOn : (ℕ → Type 0) → Type 0
+  EntriesCanBeActedOn may_count =
+      WhateverRules may_count (λ rules.
+      (stands_for : K → Bool) (old : CacheState K V) (place : Place)
       (before : List (Item K V)) (item : Item K V) (after : List (Item K V))
       → IsItemAt stands_for old place before item after → HasTicket old
       → (left : V) (choice : EntryChoice) → (new : CacheState K V)
       × ActsOnEntry rules stands_for old item left choice (outcome_of choice) new)
 
   -- while there are tickets, nothing but want of memory refuses an entry call
-  abbrev pub EntriesAreRefusedForMemory : Type 0
-  EntriesAreRefusedForMemory =
-      WhateverRules (λ rules. (stands_for : K → Bool) (old : CacheState K V) (item : Item K V)
+  abbrev pub EntriesAreRefusedForMemory : (ℕ → Type 0) → Type 0
+  EntriesAreRefusedForMemory may_count =
+      WhateverRules may_count (λ rules.
+      (stands_for : K → Bool) (old : CacheState K V) (item : Item K V)
       (left : V) (choice : EntryChoice) (refusal : Refusal) (new : CacheState K V)
       → ActsOnEntry rules stands_for old item left choice (Refused refusal) new → HasTicket old
       → refusal ≡ Memory)
 
   -- once the tickets are spent, no entry call replaces
-  abbrev pub EntriesAreRefusedForTickets : Type 0
-  EntriesAreRefusedForTickets =
-      WhateverRules (λ rules. (stands_for : K → Bool) (old : CacheState K V) (item : Item K V)
+  abbrev pub EntriesAreRefusedForTickets : (ℕ → Type 0) → Type 0
+  EntriesAreRefusedForTickets may_count =
+      WhateverRules may_count (λ rules.
+      (stands_for : K → Bool) (old : CacheState K V) (item : Item K V)
       (left : V) (outcome : EntryOutcome) (new : CacheState K V)
       → ActsOnEntry rules stands_for old item left ReplaceWithGuard outcome new
       → last_ticket ≤ old.next_ticket → outcome ≡ Refused TicketsSpent)
 
-  -- the capacity can be set in every state, where there may be no touches
-  abbrev pub CapacitiesCanBeSet : Type 0
-  CapacitiesCanBeSet =
-      WhateverRules (λ rules. rules.may_count 0 → (capacity : ℕ) (old : CacheState K V)
+  -- the capacity can be set in every state
+  abbrev pub CapacitiesCanBeSet : (ℕ → Type 0) → Type 0
+  CapacitiesCanBeSet may_count =
+      WhateverRules may_count (λ rules. (capacity : ℕ) (old : CacheState K V)
       → (calls : List (HookCall K V)) × (new : CacheState K V)
       × SetsCapacity rules capacity old calls new)
 
@@ -294,9 +288,10 @@ module _ (K V : Type 0) where
         → second ≡ None
 
     -- each call leads from a valid state to a valid one: a write
-    abbrev pub WritesStayValid : Type 0
-    WritesStayValid =
-        WhateverRules (λ rules. (key : K) (strategy : Strategy) (old : CacheState K V) (value : V)
+    abbrev pub WritesStayValid : (ℕ → Type 0) → Type 0
+    WritesStayValid may_count =
+        WhateverRules may_count (λ rules.
+        (key : K) (strategy : Strategy) (old : CacheState K V) (value : V)
         (new : CacheState K V) (calls : List (HookCall K V)) (answer : Option (K × V))
         → Writes rules (equal key) key strategy old value calls answer new → IsValid equal old
         → IsValid equal new)
@@ -325,9 +320,10 @@ module _ (K V : Type 0) where
         → MeetsPlaceholder stands_for old ticket new → IsValid equal old → IsValid equal new
 
     -- one that is filled
-    abbrev pub FillsStayValid : Type 0
-    FillsStayValid =
-        WhateverRules (λ rules. (ticket : ℕ) (marked : Bool) (old new : CacheState K V) (value : V)
+    abbrev pub FillsStayValid : (ℕ → Type 0) → Type 0
+    FillsStayValid may_count =
+        WhateverRules may_count (λ rules.
+        (ticket : ℕ) (marked : Bool) (old new : CacheState K V) (value : V)
         (calls : List (HookCall K V)) (answer : Option V)
         → FillsPlaceholder ticket old rules marked value calls answer new → IsValid equal old
         → IsValid equal new)
@@ -367,16 +363,17 @@ module _ (K V : Type 0) where
         → IsValid equal old → IsValid equal new
 
     -- an entry call
-    abbrev pub EntriesStayValid : Type 0
-    EntriesStayValid =
-        WhateverRules (λ rules. (stands_for : K → Bool) (old : CacheState K V) (item : Item K V)
+    abbrev pub EntriesStayValid : (ℕ → Type 0) → Type 0
+    EntriesStayValid may_count =
+        WhateverRules may_count (λ rules.
+        (stands_for : K → Bool) (old : CacheState K V) (item : Item K V)
         (left : V) (choice : EntryChoice) (outcome : EntryOutcome) (new : CacheState K V)
         → ActsOnEntry rules stands_for old item left choice outcome new → IsValid equal old
         → IsValid equal new)
 
     -- a new capacity
-    abbrev pub CapacitiesStayValid : Type 0
-    CapacitiesStayValid =
-        WhateverRules (λ rules. (capacity : ℕ) (old new : CacheState K V)
+    abbrev pub CapacitiesStayValid : (ℕ → Type 0) → Type 0
+    CapacitiesStayValid may_count =
+        WhateverRules may_count (λ rules. (capacity : ℕ) (old new : CacheState K V)
         (calls : List (HookCall K V))
         → SetsCapacity rules capacity old calls new → IsValid equal old → IsValid equal new)

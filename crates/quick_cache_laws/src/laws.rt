@@ -1,5 +1,6 @@
 //! Laws of the definitions: each function does nothing, and its contract is a theorem about words
-//! of `specs/`.
+//! of `specs/`. What a count of touches may be is the type parameter's, so that a law speaks of
+//! the very rules of a contract.
 ghost use Rattle.quick_cache_laws.specs.Admitted.{FillsStayWithinCapacity, InsertedPairsAreKept};
 ghost use Rattle.quick_cache_laws.specs.Admitted.{WritesStayWithinCapacity};
 ghost use Rattle.quick_cache_laws.specs.Laws.{AdvancesLowerTheMeasure, CapacitiesCanBeSet};
@@ -24,31 +25,33 @@ ghost use Rattle.quick_cache_laws.specs.Laws.{RetainsStayValid, SecondRemovalsFi
 ghost use Rattle.quick_cache_laws.specs.Laws.{SecondRetainsRemoveNothing, WeightlessItemsStay};
 ghost use Rattle.quick_cache_laws.specs.Laws.{WritesCanBeMade, WritesStayValid};
 
+use quick_cache_model::Touches;
+
 /// Eviction frees enough room unless every item in the rings is pinned. It brings in no key, it
 /// takes out no item of weight 0 and no pinned pair, and it ends. For one thread its outcome is
 /// determined.
-pub fn eviction_law<K, V>()
-    ensures makes_room { EvictionMakesRoom K V }
-    ensures brings_no_key { EvictionBringsNoKey K V }
-    ensures weightless_stay { WeightlessItemsStay K V }
-    ensures pinned_stay { PinnedPairsStay K V }
+pub fn eviction_law<K, V, T: Touches>()
+    ensures makes_room { EvictionMakesRoom K V T.may_count }
+    ensures brings_no_key { EvictionBringsNoKey K V T.may_count }
+    ensures weightless_stay { WeightlessItemsStay K V T.may_count }
+    ensures pinned_stay { PinnedPairsStay K V T.may_count }
     // Each advance that answers yes lowers a number, so finitely many free the room.
-    ensures measure { AdvancesLowerTheMeasure K V }
-    ensures ends { EvictionEnds K V }
-    ensures determined { EvictionIsDetermined K V }
+    ensures measure { AdvancesLowerTheMeasure K V T.may_count }
+    ensures ends { EvictionEnds K V T.may_count }
+    ensures determined { EvictionIsDetermined K V T.may_count }
 {}
 
 /// After a write of a pair that passed its admission check, the items that are not pinned weigh
 /// at most the capacity. An insert under a new key keeps such a pair.
-pub fn write_law<K, V>()
-    ensures within_capacity { WritesStayWithinCapacity K V }
-    ensures kept { InsertedPairsAreKept K V }
+pub fn write_law<K, V, T: Touches>()
+    ensures within_capacity { WritesStayWithinCapacity K V T.may_count }
+    ensures kept { InsertedPairsAreKept K V T.may_count }
 {}
 
 /// After a fill whose value passed its admission check with a weight above 0, the items that
 /// are not pinned weigh at most the capacity.
-pub fn fill_law<K: Eq, V>()
-    ensures { FillsStayWithinCapacity K V K.eq }
+pub fn fill_law<K: Eq, V, T: Touches>()
+    ensures { FillsStayWithinCapacity K V K.eq T.may_count }
 {}
 
 /// What was removed is not there to be removed again.
@@ -59,35 +62,35 @@ pub fn removal_law<K: Eq, V>()
 
 /// Setting the capacity to the present one changes no size, and nothing at all where there is
 /// room.
-pub fn capacity_law<K, V>()
-    ensures sizes { PresentCapacityKeepsSizes K V }
-    ensures nothing { PresentCapacityChangesNothing K V }
+pub fn capacity_law<K, V, T: Touches>()
+    ensures sizes { PresentCapacityKeepsSizes K V T.may_count }
+    ensures nothing { PresentCapacityChangesNothing K V T.may_count }
 {}
 
 /// Each call can be made in every state, so that none of their definitions asks for what cannot
 /// be.
-pub fn call_law<K, V>()
-    ensures writes { WritesCanBeMade K V }
+pub fn call_law<K, V, T: Touches>()
+    ensures writes { WritesCanBeMade K V T.may_count }
     ensures makes_or_meets { PlaceholdersCanBeTaken K V }
-    ensures fills { PlaceholdersCanBeFilled K V }
+    ensures fills { PlaceholdersCanBeFilled K V T.may_count }
     ensures looks_up { LookupsCanBeMade K V }
     ensures removes { RemovalsCanBeMade K V }
-    ensures acts { EntriesCanBeActedOn K V }
-    ensures sets_capacity { CapacitiesCanBeSet K V }
+    ensures acts { EntriesCanBeActedOn K V T.may_count }
+    ensures sets_capacity { CapacitiesCanBeSet K V T.may_count }
 {}
 
 /// While there are tickets, an entry call is refused for want of memory alone. Once they are
 /// spent, each replacing call is refused for that.
-pub fn entry_law<K, V>()
-    ensures memory { EntriesAreRefusedForMemory K V }
-    ensures tickets { EntriesAreRefusedForTickets K V }
+pub fn entry_law<K, V, T: Touches>()
+    ensures memory { EntriesAreRefusedForMemory K V T.may_count }
+    ensures tickets { EntriesAreRefusedForTickets K V T.may_count }
 {}
 
 /// What a cache of one thread may do, a cache whose readers share it may do.
-pub fn shared_law<K, V>()
-    ensures writes { LoneWritesAreShared K V }
-    ensures fills { LoneFillsAreShared K V }
-    ensures sets_capacity { LoneCapacitiesAreShared K V }
+pub fn shared_law<K, V, Lone: Touches, Shared: Touches>()
+    ensures writes { LoneWritesAreShared K V Lone.may_count Shared.may_count }
+    ensures fills { LoneFillsAreShared K V Lone.may_count Shared.may_count }
+    ensures sets_capacity { LoneCapacitiesAreShared K V Lone.may_count Shared.may_count }
 {}
 
 /// A query finds something in each state, be it nothing.
@@ -103,19 +106,19 @@ pub fn query_law<K: Eq, V>()
 {}
 
 /// Each call leads from a valid state to a valid one.
-pub fn valid_law<K: Eq, V>()
+pub fn valid_law<K: Eq, V, T: Touches>()
     ensures starts { NewCachesAreValid K V K.eq }
     ensures orders { OtherOrdersAreValid K V K.eq }
-    ensures writes { WritesStayValid K V K.eq }
+    ensures writes { WritesStayValid K V K.eq T.may_count }
     ensures makes { PlaceholdersStayValid K V K.eq }
     ensures meets { MeetingsStayValid K V K.eq }
-    ensures fills { FillsStayValid K V K.eq }
+    ensures fills { FillsStayValid K V K.eq T.may_count }
     ensures gives_up { GiveUpsStayValid K V K.eq }
     ensures looks_up { LookupsStayValid K V K.eq }
     ensures removes { RemovalsStayValid K V K.eq }
     ensures removes_if { RemovalsByTestStayValid K V K.eq }
     ensures retains { RetainsStayValid K V K.eq }
     ensures empties { EmptiedCachesAreValid K V K.eq }
-    ensures acts { EntriesStayValid K V K.eq }
-    ensures sets_capacity { CapacitiesStayValid K V K.eq }
+    ensures acts { EntriesStayValid K V K.eq T.may_count }
+    ensures sets_capacity { CapacitiesStayValid K V K.eq T.may_count }
 {}

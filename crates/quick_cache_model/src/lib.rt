@@ -9,6 +9,7 @@ pub mod queue;
 pub mod refusal;
 pub mod stats;
 pub mod token;
+pub mod touches;
 pub mod weighter;
 
 pub use equivalent::{Equivalent, ToKey};
@@ -18,4 +19,5 @@ pub use queue::Queue;
 pub use refusal::Refusal;
 pub use stats::{ItemStats, MemoryUsed};
 pub use token::Token;
+pub use touches::Touches;
 pub use weighter::{UnitWeighter, Weighter};

@@ -5,6 +5,8 @@
 mod clones;
 pub mod halves;
 #[cfg(test)]
+mod laws;
+#[cfg(test)]
 mod linked_slab;
 #[cfg(test)]
 mod options;

@@ -3,7 +3,7 @@ ghost use Rattle.std.specs.Prelude.{◌&&◌, ◌==◌};
 ghost use Rattle.std.specs.Cmp.Rules.{comparing, hashing};
 ghost use Rattle.std.proofs.Common.{rules};
 
-mod parts;
+pub(crate) mod parts;
 
 use parts::{Counting, Placeholder, Thousand, Told};
 use quick_cache_base::{Equivalent, Refusal, UnitWeighter};

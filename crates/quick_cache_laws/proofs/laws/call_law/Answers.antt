@@ -6,16 +6,16 @@ use Rattle.quick_cache_laws.proofs.CanBeMade.Writes.{SetsCapacity-ends}
 use Rattle.quick_cache_laws.proofs.laws.call_law.Goals as goal
 
 pub returns-clause-writes : goal.returns-clause-writes
-returns-clause-writes g c = λ hash weight pinned may_count may equal_to key strategy old value.
-    Writes-ends _ may equal_to key strategy old value
+returns-clause-writes g c = λ hash weight pinned equal_to key strategy old value.
+    Writes-ends _ g.T.Touches.none_counted equal_to key strategy old value
 
 pub returns-clause-makes_or_meets : goal.returns-clause-makes_or_meets
 returns-clause-makes_or_meets g c = λ stands_for hash key old none. Placeholder-exists stands_for
     hash key old none
 
 pub returns-clause-fills : goal.returns-clause-fills
-returns-clause-fills g c = λ hash weight pinned may_count may ticket marked old value.
-    FillsPlaceholder-ends _ may ticket marked old value
+returns-clause-fills g c = λ hash weight pinned ticket marked old value.
+    FillsPlaceholder-ends _ g.T.Touches.none_counted ticket marked old value
 
 pub returns-clause-looks_up : goal.returns-clause-looks_up
 returns-clause-looks_up g c = λ stands_for old. LooksUp-exists stands_for old _
@@ -24,10 +24,10 @@ pub returns-clause-removes : goal.returns-clause-removes
 returns-clause-removes g c = λ stands_for hash old. Removes-exists stands_for old hash
 
 pub returns-clause-acts : goal.returns-clause-acts
-returns-clause-acts g c = λ hash weight pinned may_count stands_for old place before item after
+returns-clause-acts g c = λ hash weight pinned stands_for old place before item after
     there ticket left choice.
     ActsOnEntry-exists stands_for _ old place before item after there ticket left choice
 
 pub returns-clause-sets_capacity : goal.returns-clause-sets_capacity
-returns-clause-sets_capacity g c = λ hash weight pinned may_count may capacity old.
-    SetsCapacity-ends _ may capacity old
+returns-clause-sets_capacity g c = λ hash weight pinned capacity old.
+    SetsCapacity-ends _ g.T.Touches.none_counted capacity old

@@ -11,7 +11,7 @@ use Rattle.quick_cache_laws.proofs.Valid.Lookups.{Retains-valid, ActsOnEntry-val
 use Rattle.quick_cache_laws.proofs.laws.valid_law.Goals as goal
 
 pub returns-clause-writes : goal.returns-clause-writes
-returns-clause-writes g c = λ hash weight pinned may_count key strategy old value new calls answer
+returns-clause-writes g c = λ hash weight pinned key strategy old value new calls answer
     writes valid.
     Writes-valid _ g.met.K.Eq.laws _ key strategy old value new calls answer writes valid
 
@@ -21,7 +21,7 @@ returns-clause-makes g c = λ stands_for hash key old new query stands makes val
     makes valid
 
 pub returns-clause-fills : goal.returns-clause-fills
-returns-clause-fills g c = λ hash weight pinned may_count ticket marked old new value calls answer
+returns-clause-fills g c = λ hash weight pinned ticket marked old new value calls answer
     fills valid.
     FillsPlaceholder-valid _ g.met.K.Eq.laws ticket _ marked old new value calls answer fills valid
 
@@ -42,12 +42,12 @@ returns-clause-retains g c = λ keeps old new retains valid. Retains-valid _ kee
     valid
 
 pub returns-clause-acts : goal.returns-clause-acts
-returns-clause-acts g c = λ hash weight pinned may_count stands_for old item left choice
+returns-clause-acts g c = λ hash weight pinned stands_for old item left choice
     outcome new acts valid.
     ActsOnEntry-valid _ g.met.K.Eq.laws _ stands_for old item left choice outcome new acts valid
 
 pub returns-clause-sets_capacity : goal.returns-clause-sets_capacity
-returns-clause-sets_capacity g c = λ hash weight pinned may_count capacity old new calls sets valid.
+returns-clause-sets_capacity g c = λ hash weight pinned capacity old new calls sets valid.
     SetsCapacity-valid _ _ capacity old new calls sets valid
 
 pub returns-clause-starts : goal.returns-clause-starts

@@ -1,0 +1,22 @@
+//! What readers count beside each other.
+ghost use Rattle.std.specs.Prelude.{ℕ};
+
+/// Counts what readers add to a mark and to reads, where they share the cache. A new one counts nothing.
+pub trait Touches: Default + Drop {
+    /// What the count may be: anything where readers share it, and 0 where there is one thread.
+    ghost may_count: { ℕ → Type 0 };
+
+    /// There may be no touch at all.
+    ghost none_counted: { may_count 0 };
+
+    /// Counts one more.
+    fn add(&self);
+
+    /// The count so far, which stays.
+    fn seen(&self) -> u64
+        ensures { may_count result };
+
+    /// The count so far, which begins anew.
+    fn take(&mut self) -> u64
+        ensures { may_count result };
+}
