@@ -1,0 +1,15 @@
+pub mod GatherLemmas
+pub mod SlabFrames
+pub mod SoundLemmas
+pub mod StandLemmas
+pub mod FindLemmas
+pub mod ViewLemmas
+pub mod RemoveLemmas
+pub mod TakeLemmas
+pub mod TurnLemmas
+pub mod ItemLemmas
+pub mod ChangeLemmas
+pub mod ApartLemmas
+pub mod CountLemmas
+pub mod PutLemmas
+pub mod LeaveLemmas

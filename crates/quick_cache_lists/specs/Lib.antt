@@ -1,0 +1,4 @@
+pub mod Slots
+pub mod Lists
+pub mod Sound
+pub mod Frames

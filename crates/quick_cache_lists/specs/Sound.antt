@@ -1,0 +1,97 @@
+-- The lists that the slots of a slab stand for. No public clause cites this module.
+use Rattle.std.specs.Prelude.{◌≡◌, ◌≢◌, ℕ, zero, suc, ◌+◌, ◌-◌, ◌<◌, ◌≤◌, min, Bool, List, [], ◌∷◌, ◌++◌, length, Option, Some, None, IfSome, true, false}
+use Rattle.std.specs.Int.NonZero.{non_zero_u32_get}
+use Rattle.std.specs.declared.num.NonZeroU32.{NonZeroU32 as Token}
+use Rattle.quick_cache_slab.specs.LinkedSlab.{LinkedSlab, item_at, ring_from, times, next_token, IsAlone}
+use Rattle.quick_cache_table.specs.Table.{Table, has_pair, HasPair, pair_count}
+use Rattle.quick_cache_lists.specs.declared.entry.Slot.{Slot}
+use Rattle.quick_cache_lists.specs.declared.ring.Ring.{Ring}
+use Rattle.quick_cache_lists.specs.declared.rings.Rings.{Rings}
+use Rattle.quick_cache_lists.specs.Lists.{Lists, entry_count}
+use Rattle.quick_cache_lists.specs.Slots.{is_under_at, is_ghost_at, weight_at, Stand, AmongHot, AmongCold, AmongStill, AmongLoading, AmongGhosts, stand_of, has_hash, item_of, still_of, loading_of, ghost_of}
+
+-- before the rest, what there is
+abbrev pub put : {Y : Type 0} → Option Y → List Y → List Y
+put None ys = ys
+put (Some y) ys = y ∷ ys
+
+-- what stands at these tokens
+abbrev pub gather : {Y : Type 0} → (ℕ → Option Y) → List ℕ → List Y
+gather at [] = []
+gather at (token ∷ tokens) = put (at token) (gather at tokens)
+
+-- what the tokens weigh together
+abbrev pub weigh : (ℕ → ℕ) → List ℕ → ℕ
+weigh f [] = 0
+weigh f (token ∷ tokens) = f token + weigh f tokens
+
+-- the tokens from 1 to n
+abbrev pub upto : ℕ → List ℕ
+upto zero = []
+upto (suc n) = upto n ++ suc n ∷ []
+
+module _ {S : Type 0} where
+  -- the ring with that head
+  abbrev pub tokens_of : LinkedSlab S → Option Token → List ℕ
+  tokens_of slab None = []
+  tokens_of slab (Some head) = ring_from slab (non_zero_u32_get head)
+
+  -- how many more slots can be had with no allocation
+  abbrev pub slab_room : LinkedSlab S → ℕ
+  slab_room slab = length slab.free + min slab.room (4294967294 - length slab.slots)
+
+module _ {K V P T : Type 0} where
+  -- how many more entries fit with no allocation
+  abbrev pub room_of : LinkedSlab (Slot K V P T) → Table → ℕ
+  room_of slab table = min (slab_room slab) table.room
+
+  abbrev pub lists_of : LinkedSlab (Slot K V P T) → Table → (hot cold ghosts : Ring) → Lists K V P
+  lists_of slab table hot cold ghosts = record {
+    hot = gather (λ token. item_of token (item_at slab token)) (tokens_of slab hot.head);
+    cold = gather (λ token. item_of token (item_at slab token)) (tokens_of slab cold.head);
+    still = gather (λ token. still_of token (item_at slab token)) (upto (length slab.slots));
+    loading = gather (λ token. loading_of token (item_at slab token)) (upto (length slab.slots));
+    ghosts = gather (λ token. ghost_of token (item_at slab token)) (tokens_of slab ghosts.head);
+    next = next_token slab;
+    room = room_of slab table;
+  }
+
+  -- the ring with that head has the entries of that list, and so many
+  pub record IsRingOf (slab : LinkedSlab (Slot K V P T)) (ring : Ring) (stand : Stand) : Type 0 where
+    pub headed : IfSome ring.head (λ head. stand_of (item_at slab (non_zero_u32_get head)) ≡ Some stand)
+    pub members : (token : ℕ) → 0 < times token (tokens_of slab ring.head) → stand_of (item_at slab token) ≡ Some stand
+    pub all : (token : ℕ) → stand_of (item_at slab token) ≡ Some stand → 0 < times token (tokens_of slab ring.head)
+    pub counted : ring.count ≡ length (tokens_of slab ring.head)
+    pub weighed : ring.weight ≡ weigh (λ token. weight_at (item_at slab token)) (tokens_of slab ring.head)
+
+  -- the entries of that list stand in no ring
+  abbrev pub AreAlone : LinkedSlab (Slot K V P T) → Stand → Type 0
+  AreAlone slab stand = (token : ℕ) → stand_of (item_at slab token) ≡ Some stand → IsAlone slab token
+
+  -- each entry is found by its hash, and each slot is taken or free
+  pub record IsKeyed (slab : LinkedSlab (Slot K V P T)) (table : Table) : Type 0 where
+    pub pairs : (hash token : ℕ) → has_pair table hash token ≡ has_hash hash (item_at slab token)
+    pub few : length slab.slots ≤ 4294967295
+    pub light : (token : ℕ) → weight_at (item_at slab token) < 18446744073709551616
+    pub counted : pair_count table + length slab.free ≡ length slab.slots
+
+  -- each ring has its entries, and the others stand alone
+  pub record IsStanding (slab : LinkedSlab (Slot K V P T)) (hot cold ghosts : Ring) : Type 0 where
+    pub hot_ring : IsRingOf slab hot AmongHot
+    pub cold_ring : IsRingOf slab cold AmongCold
+    pub ghost_ring : IsRingOf slab ghosts AmongGhosts
+    pub still : AreAlone slab AmongStill
+    pub loading : AreAlone slab AmongLoading
+
+  -- What always holds of the slots: each entry stands in its list, is found by its hash, and is counted.
+  pub record IsSound (slab : LinkedSlab (Slot K V P T)) (table : Table) (rings : Rings) (loading : ℕ) : Type 0 where
+    pub standing : IsStanding slab rings.hot rings.cold rings.ghosts
+    pub keyed : IsKeyed slab table
+    pub loading_counted : loading ≡ length (lists_of slab table rings.hot rings.cold rings.ghosts).loading
+    pub all_counted : entry_count (lists_of slab table rings.hot rings.cold rings.ghosts) ≡ pair_count table
+
+  -- a walk along the tokens of a hash, with these left: it passed no key, and noted a ghost if it passed one
+  pub record IsWalked (slab : LinkedSlab (Slot K V P T)) (table : Table) (hash : ℕ) (stands_for : K → Bool) (left : List ℕ) (shade : Option Token) : Type 0 where
+    pub left_has : (t : ℕ) → 0 < times t left → HasPair table hash t
+    pub passed : (t : ℕ) → HasPair table hash t → times t left ≡ 0 → (is_under_at stands_for (item_at slab t) ≡ false) × (is_ghost_at (item_at slab t) ≡ true → shade ≢ None)
+    pub noted : IfSome shade (λ t. HasPair table hash (non_zero_u32_get t) × (is_ghost_at (item_at slab (non_zero_u32_get t)) ≡ true))

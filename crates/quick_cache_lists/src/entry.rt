@@ -1,0 +1,147 @@
+//! What stands in a slot.
+ghost use Rattle.std.specs.Prelude.{◌≡◌, true};
+ghost use Rattle.quick_cache_lists.specs.Slots.{is_under, is_ghost, is_item, weight_in, slot_changed, HasPair, stand_in, loading_in};
+ghost use Rattle.quick_cache_lists.specs.Lists.{with_counts, with_pair};
+
+use crate::resident::Resident;
+use quick_cache_model::{Equivalent, Queue};
+use std::hash::Hash;
+
+/// A key that is being loaded.
+#[derive(Drop)]
+pub struct Awaited<K, P> {
+    pub key: K,
+    pub queue: Queue,
+    pub placeholder: P,
+}
+
+/// What a slot has.
+#[derive(Drop)]
+pub enum Entry<K, V, P, T> {
+    Item(Resident<K, V, T>),
+    Loading(Awaited<K, P>),
+    Ghost,
+}
+
+/// The list that an entry stands in.
+#[derive(Clone, Copy)]
+pub(crate) enum Stand {
+    AmongHot,
+    AmongCold,
+    AmongStill,
+    AmongLoading,
+    AmongGhosts,
+}
+
+/// An entry under its hash.
+#[derive(Drop)]
+pub struct Slot<K, V, P, T> {
+    pub hash: u64,
+    pub entry: Entry<K, V, P, T>,
+}
+
+impl Stand {
+    /// How many placeholders an entry of that list is.
+    pub(crate) fn loading(self) -> usize
+        ensures { result ≡ loading_in self }
+    {
+        match self {
+            Stand::AmongLoading => 1,
+            _ => 0,
+        }
+    }
+}
+
+impl<K, V, P, T> Entry<K, V, P, T> {
+    /// What it weighs: only an item weighs something.
+    pub(crate) fn weight(&self) -> u64
+        ensures { result ≡ weight_in self.now }
+    {
+        match self {
+            Entry::Item(resident) => resident.weight(),
+            Entry::Loading(_) => 0,
+            Entry::Ghost => 0,
+        }
+    }
+
+    /// The list that it stands in.
+    pub(crate) fn stand(&self) -> Stand
+        ensures { result ≡ stand_in self.now }
+    {
+        match self {
+            Entry::Item(resident) => resident.stand(),
+            Entry::Loading(_) => Stand::AmongLoading,
+            Entry::Ghost => Stand::AmongGhosts,
+        }
+    }
+}
+
+impl<K, V, P, T> Slot<K, V, P, T> {
+    /// Whether the query stands for the key of an item or of a placeholder.
+    pub(crate) fn is_under<Q: Equivalent<K>>(&self, query: &Q) -> bool
+    where
+        K: Eq + Hash,
+        ensures { result ≡ is_under (Q.equivalent query.now) self.now }
+    {
+        match &self.entry {
+            Entry::Item(resident) => query.equivalent(resident.key()),
+            Entry::Loading(awaited) => query.equivalent(&awaited.key),
+            Entry::Ghost => false,
+        }
+    }
+
+    /// Gives an item another mark and another count of reads.
+    pub(crate) fn set_counts(&mut self, mark: u8, reads: u64)
+        requires { is_item self.old ≡ true }
+        ensures { self.new ≡ slot_changed (with_counts mark reads) self.old }
+    {
+        match &mut self.entry {
+            Entry::Item(resident) => resident.set_counts(mark, reads),
+            Entry::Loading(_) => unreachable!(),
+            Entry::Ghost => unreachable!(),
+        }
+    }
+
+    /// Gives an item another pair, and the old pair back.
+    pub(crate) fn write(&mut self, key: K, value: V) -> (K, V)
+        requires { is_item self.old ≡ true }
+        ensures written { self.new ≡ slot_changed (with_pair key value) self.old }
+        ensures old { HasPair self.old.entry result }
+    {
+        match &mut self.entry {
+            Entry::Item(resident) => resident.write(key, value),
+            Entry::Loading(_) => unreachable!(),
+            Entry::Ghost => unreachable!(),
+        }
+    }
+
+    /// Gives an item another count of touches, and the old one back.
+    pub(crate) fn swap_touch(&mut self, touch: T) -> T
+        requires { is_item self.old ≡ true }
+        ensures { self.new ≡ self.old }
+    {
+        match &mut self.entry {
+            Entry::Item(resident) => resident.swap_touch(touch),
+            Entry::Loading(_) => unreachable!(),
+            Entry::Ghost => unreachable!(),
+        }
+    }
+
+    pub(crate) fn is_ghost(&self) -> bool
+        ensures { result ≡ is_ghost self.now }
+    {
+        match &self.entry {
+            Entry::Ghost => true,
+            _ => false,
+        }
+    }
+
+    pub(crate) fn is_item(&self) -> bool
+        ensures { result ≡ is_item self.now }
+    {
+        match &self.entry {
+            Entry::Item(_) => true,
+            _ => false,
+        }
+    }
+}

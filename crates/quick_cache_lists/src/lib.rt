@@ -1,0 +1,17 @@
+//! The representation of a shard: its entries in the slots of one slab, linked into rings and found by their hashes.
+//!
+//! No policy stands here. It knows nothing of weighers, hooks or hash functions: weights and hashes are handed in.
+#![tactic(auto)]
+
+mod entry;
+mod found;
+mod lists;
+mod resident;
+mod ring;
+mod rings;
+mod store;
+
+pub use entry::{Awaited, Entry, Slot};
+pub use found::Found;
+pub use lists::Lists;
+pub use resident::Resident;

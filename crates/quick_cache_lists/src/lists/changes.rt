@@ -1,0 +1,84 @@
+//! What changes the lists: an entry comes, goes, moves or is written.
+ghost use Rattle.std.specs.Prelude.{◌≡◌, ◌+◌, ◌<◌};
+ghost use Rattle.std.specs.Int.NonZero.{non_zero_u32_get as number};
+ghost use Rattle.quick_cache_lists.specs.Lists.{PutsLast, HasEntry, IsEntry, without_entry, HasItemToken, ring_turned, with_change, with_counts, with_pair, HadPair};
+
+use crate::entry::{Entry, Slot};
+use crate::lists::Lists;
+use crate::ring::turn;
+use crate::store::{displace, parted, place};
+use quick_cache_model::{Queue, Token};
+use std::alloc::Allocator;
+
+impl<K, V, P, T, A: Allocator> Lists<K, V, P, T, A> {
+    /// Puts an entry last in its ring, or beside the rings where it is a placeholder or an item that weighs
+    /// nothing. It takes one of the room, and no memory.
+    pub fn put(&mut self, hash: u64, entry: Entry<K, V, P, T>) -> Token
+        requires { 0 < self.old.room }
+        ensures token { number result ≡ self.old.next }
+        ensures last { PutsLast self.old (number result) hash entry self.new }
+        ensures room { self.new.room + 1 ≡ self.old.room }
+    {
+        parted(&self.slab);
+        let stand = entry.stand();
+        let weight = entry.weight();
+        let token = place(&mut self.slab, &mut self.table, Slot { hash, entry });
+        self.rings.enter(&mut self.slab, token, stand, weight);
+        self.loading += stand.loading();
+        token
+    }
+
+    /// Takes an entry out. Its ring keeps the order of the rest, or begins behind it where it restarts.
+    pub fn take(&mut self, token: Token, restarts: bool) -> Slot<K, V, P, T>
+        requires { HasEntry self.old (number token) }
+        ensures taken { IsEntry self.old (number token) result.hash result.entry }
+        ensures rest { self.new ≡ without_entry restarts (number token) self.old }
+    {
+        parted(&self.slab);
+        let (slot, next) = displace(&mut self.slab, &mut self.table, token);
+        let stand = slot.entry.stand();
+        let weight = slot.entry.weight();
+        self.rings.leave(token, next, stand, restarts, weight);
+        self.loading -= stand.loading();
+        slot
+    }
+
+    /// Begins the ring one further on.
+    pub fn turn(&mut self, queue: Queue)
+        ensures { self.new ≡ ring_turned queue self.old }
+    {
+        parted(&self.slab);
+        match queue {
+            Queue::Hot => turn(&self.slab, &mut self.rings.hot),
+            Queue::Cold => turn(&self.slab, &mut self.rings.cold),
+        }
+    }
+
+    /// Gives the item of a token another mark and another count of reads.
+    pub fn set_counts(&mut self, token: Token, mark: u8, reads: u64)
+        requires { HasItemToken self.old (number token) }
+        ensures { self.new ≡ with_change (number token) (with_counts mark reads) self.old }
+    {
+        let (slot, _) = unsafe { self.slab.get_mut_unchecked(token) };
+        slot.set_counts(mark, reads);
+    }
+
+    /// Gives the item of a token another pair, and the old pair back. The item keeps its place and its weight.
+    pub fn write(&mut self, token: Token, key: K, value: V) -> (K, V)
+        requires { HasItemToken self.old (number token) }
+        ensures written { self.new ≡ with_change (number token) (with_pair key value) self.old }
+        ensures old { HadPair self.old (number token) result }
+    {
+        let (slot, _) = unsafe { self.slab.get_mut_unchecked(token) };
+        slot.write(key, value)
+    }
+
+    /// Gives the item of a token another count of touches, and the old one back.
+    pub fn swap_touch(&mut self, token: Token, touch: T) -> T
+        requires { HasItemToken self.old (number token) }
+        ensures { self.new ≡ self.old }
+    {
+        let (slot, _) = unsafe { self.slab.get_mut_unchecked(token) };
+        slot.swap_touch(touch)
+    }
+}

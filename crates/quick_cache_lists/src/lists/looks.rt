@@ -1,0 +1,76 @@
+//! What the lists have: found by a query, or seen at a token.
+ghost use Rattle.std.specs.Prelude.{◌≡◌};
+ghost use Rattle.std.specs.Int.NonZero.{non_zero_u32_get as number};
+ghost use Rattle.quick_cache_model.specs.CacheState.{ring_place};
+ghost use Rattle.quick_cache_lists.specs.Lists.{Finds, HasItemToken, IsItemOf, IsFirstOf, items_at};
+
+use crate::entry::Entry;
+use crate::found::Found;
+use crate::lists::Lists;
+use crate::resident::Resident;
+use crate::store::{is_ghost_at, is_item_at, is_under_at, parted};
+use quick_cache_model::{Equivalent, Queue, Token};
+use std::alloc::Allocator;
+use std::hash::Hash;
+
+impl<K, V, P, T, A: Allocator> Lists<K, V, P, T, A> {
+    /// The item or the placeholder of that hash whose key the query stands for; else some ghost of that
+    /// hash; else nothing.
+    pub fn find<Q: Equivalent<K>>(&self, hash: u64, query: &Q) -> Found
+    where
+        K: Eq + Hash,
+        ensures { Finds (Q.equivalent query.now) hash self.now result }
+    {
+        let mut shade = None;
+        for token in self.table.iter_hash(hash) {
+            if is_under_at(&self.slab, token, query) {
+                return if is_item_at(&self.slab, token) {
+                    Found::Item(token)
+                } else {
+                    Found::Loading(token)
+                };
+            }
+            if is_ghost_at(&self.slab, token) {
+                shade = Some(token);
+            }
+        }
+        match shade {
+            Some(token) => Found::Ghost(token),
+            None => Found::Nothing,
+        }
+    }
+
+    /// The token of the item that is visited next.
+    pub fn first(&self, queue: Queue) -> Option<Token>
+        ensures { IsFirstOf (λ held. held.token) (items_at (ring_place queue) self.now) result }
+    {
+        parted(&self.slab);
+        match queue {
+            Queue::Hot => self.rings.hot.head,
+            Queue::Cold => self.rings.cold.head,
+        }
+    }
+
+    /// The token of the oldest ghost.
+    pub fn oldest_ghost(&self) -> Option<Token>
+        ensures { IsFirstOf (λ shade. shade.token) self.now.ghosts result }
+    {
+        parted(&self.slab);
+        self.rings.ghosts.head
+    }
+
+    /// The item of a token.
+    pub fn item(&self, token: Token) -> &Resident<K, V, T>
+        requires { HasItemToken self.now (number token) }
+        ensures { IsItemOf self.now (number token) result.now }
+    {
+        match self.slab.get(token) {
+            Some((slot, _)) => match &slot.entry {
+                Entry::Item(resident) => resident,
+                Entry::Loading(_) => unreachable!(),
+                Entry::Ghost => unreachable!(),
+            },
+            None => unreachable!(),
+        }
+    }
+}

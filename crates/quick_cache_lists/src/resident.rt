@@ -1,0 +1,156 @@
+//! An item, as a slot has it.
+ghost use Rattle.std.specs.Prelude.{◌≡◌};
+ghost use Rattle.quick_cache_lists.specs.Slots.{stand_of_item};
+ghost use Rattle.quick_cache_lists.specs.Lists.{with_counts, with_pair};
+
+use crate::entry::Stand;
+use quick_cache_model::Queue;
+use std::marker::Model;
+use std::mem::replace;
+
+/// An item: its pair, the weight that it counts for, how often it was used lately and read, and its ring.
+#[derive(Drop)]
+pub struct Resident<K, V, T> {
+    key: K,
+    value: V,
+    weight: u64,
+    mark: u8,
+    reads: u64,
+    queue: Queue,
+    // What readers counted since the cache last took it in.
+    touch: T,
+}
+
+impl<K, V, T> Model for Resident<K, V, T> {
+    ghost use Rattle.quick_cache_model.specs.CacheState.{Item};
+
+    ghost Value = { Item K V };
+
+    ghost view = { λ r. record {
+      key = r.key;
+      value = r.value;
+      weight = r.weight;
+      mark = r.mark;
+      reads = r.reads;
+      queue = r.queue;
+    } };
+}
+
+impl<K, V, T> Resident<K, V, T> {
+    /// An item that was never read.
+    pub fn new(key: K, value: V, weight: u64, mark: u8, queue: Queue, touch: T) -> Self
+        ensures { result ≡ record {
+          key = key;
+          value = value;
+          weight = weight;
+          mark = mark;
+          reads = 0;
+          queue = queue;
+        } }
+    {
+        Resident {
+            key,
+            value,
+            weight,
+            mark,
+            reads: 0,
+            queue,
+            touch,
+        }
+    }
+
+    pub fn queue(&self) -> Queue
+        ensures { result ≡ self.now.queue }
+    {
+        self.queue
+    }
+
+    pub fn weight(&self) -> u64
+        ensures { result ≡ self.now.weight }
+    {
+        self.weight
+    }
+
+    pub fn mark(&self) -> u8
+        ensures { result ≡ self.now.mark }
+    {
+        self.mark
+    }
+
+    pub fn key(&self) -> &K
+        ensures { result.now ≡ self.now.key }
+    {
+        &self.key
+    }
+
+    pub fn value(&self) -> &V
+        ensures { result.now ≡ self.now.value }
+    {
+        &self.value
+    }
+
+    /// The list of an item: that of its queue, or neither if it weighs nothing.
+    pub(crate) fn stand(&self) -> Stand
+        ensures { result ≡ stand_of_item self.now }
+    {
+        if self.weight == 0 {
+            return Stand::AmongStill;
+        }
+        match self.queue {
+            Queue::Hot => Stand::AmongHot,
+            Queue::Cold => Stand::AmongCold,
+        }
+    }
+
+    /// What readers counted at it since the cache last took it in.
+    pub fn touch(&self) -> &T {
+        &self.touch
+    }
+
+    pub fn reads(&self) -> u64
+        ensures { result ≡ self.now.reads }
+    {
+        self.reads
+    }
+
+    /// Takes another mark and another count of reads.
+    pub(crate) fn set_counts(&mut self, mark: u8, reads: u64)
+        ensures { self.new ≡ with_counts mark reads self.old }
+    {
+        self.mark = mark;
+        self.reads = reads;
+    }
+
+    /// Takes another pair, and gives the old one back.
+    pub(crate) fn write(&mut self, key: K, value: V) -> (K, V)
+        ensures written { self.new ≡ with_pair key value self.old }
+        ensures old { result ≡ (self.old.key, self.old.value) }
+    {
+        (replace(&mut self.key, key), replace(&mut self.value, value))
+    }
+
+    /// Takes another count of touches, and gives the old one back.
+    pub(crate) fn swap_touch(&mut self, touch: T) -> T
+        ensures { self.new ≡ self.old }
+    {
+        replace(&mut self.touch, touch)
+    }
+
+    /// The pair, taken apart.
+    pub fn into_pair(self) -> (K, V)
+    where
+        T: Drop,
+        ensures { result ≡ (self.key, self.value) }
+    {
+        let Resident {
+            key,
+            value,
+            weight: _,
+            mark: _,
+            reads: _,
+            queue: _,
+            touch: _touch,
+        } = self;
+        (key, value)
+    }
+}

@@ -1,0 +1,81 @@
+//! The three rings, chosen by the list of an entry.
+ghost use Rattle.std.specs.Prelude.{◌≡◌};
+ghost use Rattle.quick_cache_lists.specs.Frames.{CanEnter, EntersRing, CanLeaveRing, LeavesRingOf};
+
+use crate::entry::Stand;
+use crate::ring::{Ring, join, leave};
+use quick_cache_model::Token;
+use quick_cache_slab::LinkedSlab;
+use std::alloc::Allocator;
+
+/// The rings of the hot items, of the cold ones, and of the ghosts.
+#[derive(Clone, Copy)]
+pub struct Rings {
+    pub(crate) hot: Ring,
+    pub(crate) cold: Ring,
+    pub(crate) ghosts: Ring,
+}
+
+impl Rings {
+    /// Three rings without entries.
+    pub(crate) fn empty() -> Self
+        ensures { result ≡ record {
+          hot = record { head = None; count = 0; weight = 0 };
+          cold = record { head = None; count = 0; weight = 0 };
+          ghosts = record { head = None; count = 0; weight = 0 };
+        } }
+    {
+        let none = Ring {
+            head: None,
+            count: 0,
+            weight: 0,
+        };
+        Rings {
+            hot: none,
+            cold: none,
+            ghosts: none,
+        }
+    }
+
+    /// Puts a token that is a ring of its own last in the ring of that list, if it is one.
+    pub(crate) fn enter<S, A: Allocator>(
+        &mut self,
+        slab: &mut LinkedSlab<S, A>,
+        token: Token,
+        stand: Stand,
+        weight: u64,
+    )
+        requires { CanEnter slab.old self.old token weight stand }
+        ensures { EntersRing slab.old slab.new self.old self.new token weight stand }
+    {
+        match stand {
+            Stand::AmongHot => join(slab, &mut self.hot, token, weight),
+            Stand::AmongCold => join(slab, &mut self.cold, token, weight),
+            Stand::AmongGhosts => join(slab, &mut self.ghosts, token, weight),
+            Stand::AmongStill => (),
+            Stand::AmongLoading => (),
+        }
+    }
+
+    /// Takes a token out of the counts of the ring of that list, if it is one. The ring begins behind the
+    /// token where it restarts, or where it began with the token.
+    pub(crate) fn leave(
+        &mut self,
+        token: Token,
+        next: Option<Token>,
+        stand: Stand,
+        restarts: bool,
+        weight: u64,
+    )
+        requires { CanLeaveRing self.old weight stand }
+        ensures { LeavesRingOf self.old self.new token next restarts weight stand }
+    {
+        match stand {
+            Stand::AmongHot => leave(&mut self.hot, token, next, restarts, weight),
+            Stand::AmongCold => leave(&mut self.cold, token, next, restarts, weight),
+            Stand::AmongGhosts => leave(&mut self.ghosts, token, next, restarts, weight),
+            Stand::AmongStill => (),
+            Stand::AmongLoading => (),
+        }
+    }
+}

@@ -1,0 +1,111 @@
+//! The slots and the table in step: each entry is in a slot, and its hash leads to the slot.
+ghost use Rattle.std.specs.Prelude.{◌≡◌, ◌+◌, ◌<◌, Some};
+ghost use Rattle.std.specs.Int.NonZero.{non_zero_u32_get as number};
+ghost use Rattle.quick_cache_slab.specs.LinkedSlab.{next_token, IsParted, IsOccupied, IsNextOf, item_at};
+ghost use Rattle.quick_cache_table.specs.Table.{pair_count};
+ghost use Rattle.quick_cache_lists.specs.Frames.{IsPlaced, IsRemoved};
+ghost use Rattle.quick_cache_lists.specs.Slots.{weight_in, is_under_at, is_ghost_at, is_item_at};
+ghost use Rattle.quick_cache_lists.specs.Sound.{IsKeyed, room_of};
+
+use crate::entry::Slot;
+use quick_cache_model::{Equivalent, Token};
+use quick_cache_slab::LinkedSlab;
+use quick_cache_table::Table;
+use std::alloc::Allocator;
+use std::hash::Hash;
+
+/// The rings of a slab part its occupied tokens.
+pub(crate) fn parted<S, A: Allocator>(slab: &LinkedSlab<S, A>)
+    ensures { IsParted slab.now }
+{
+    let _ = slab.get(slab.next_free());
+}
+
+/// Whether the query stands for the key at a token.
+pub(crate) fn is_under_at<K: Eq + Hash, V, P, T, Q: Equivalent<K>, A: Allocator>(
+    slab: &LinkedSlab<Slot<K, V, P, T>, A>,
+    token: Token,
+    query: &Q,
+) -> bool
+    ensures { result ≡ is_under_at (Q.equivalent query.now) (item_at slab.now (number token)) }
+{
+    match slab.get(token) {
+        Some((slot, _)) => slot.is_under(query),
+        None => false,
+    }
+}
+
+/// Whether a ghost has the token.
+pub(crate) fn is_ghost_at<K, V, P, T, A: Allocator>(
+    slab: &LinkedSlab<Slot<K, V, P, T>, A>,
+    token: Token,
+) -> bool
+    ensures { result ≡ is_ghost_at (item_at slab.now (number token)) }
+{
+    match slab.get(token) {
+        Some((slot, _)) => slot.is_ghost(),
+        None => false,
+    }
+}
+
+/// Whether an item has the token.
+pub(crate) fn is_item_at<K, V, P, T, A: Allocator>(
+    slab: &LinkedSlab<Slot<K, V, P, T>, A>,
+    token: Token,
+) -> bool
+    ensures { result ≡ is_item_at (item_at slab.now (number token)) }
+{
+    match slab.get(token) {
+        Some((slot, _)) => slot.is_item(),
+        None => false,
+    }
+}
+
+/// Puts an entry into a slot and its hash into the table.
+pub(crate) fn place<K, V, P, T, A: Allocator>(
+    slab: &mut LinkedSlab<Slot<K, V, P, T>, A>,
+    table: &mut Table<A>,
+    slot: Slot<K, V, P, T>,
+) -> Token
+    requires keyed { IsKeyed slab.old table.old }
+    requires room { 0 < room_of slab.old table.old }
+    requires light { weight_in slot.entry < 18446744073709551616 }
+    ensures token { number result ≡ next_token slab.old }
+    ensures placed { IsPlaced slab.old slab.new (number result) slot }
+    ensures keyed { IsKeyed slab.new table.new }
+    ensures count { pair_count table.new ≡ pair_count table.old + 1 }
+    ensures room { room_of slab.new table.new + 1 ≡ room_of slab.old table.old }
+{
+    parted(slab);
+    let hash = slot.hash;
+    let token = match slab.insert(slot) {
+        Ok(token) => token,
+        Err(_) => unreachable!(),
+    };
+    table.insert_reserved(hash, token);
+    token
+}
+
+/// Takes an entry out of its slot and its hash out of the table, and answers the token behind it.
+pub(crate) fn displace<K, V, P, T, A: Allocator>(
+    slab: &mut LinkedSlab<Slot<K, V, P, T>, A>,
+    table: &mut Table<A>,
+    token: Token,
+) -> (Slot<K, V, P, T>, Option<Token>)
+    requires keyed { IsKeyed slab.old table.old }
+    requires occupied { IsOccupied slab.old (number token) }
+    ensures item { item_at slab.old (number token) ≡ Some result.0 }
+    ensures next { IsNextOf slab.old (number token) result.1 }
+    ensures removed { IsRemoved slab.old slab.new (number token) }
+    ensures keyed { IsKeyed slab.new table.new }
+    ensures count { pair_count table.new + 1 ≡ pair_count table.old }
+    ensures room { room_of slab.new table.new ≡ room_of slab.old table.old + 1 }
+{
+    match slab.remove(token) {
+        Some((slot, next)) => {
+            let _ = table.remove(slot.hash, token);
+            (slot, next)
+        }
+        None => unreachable!(),
+    }
+}
