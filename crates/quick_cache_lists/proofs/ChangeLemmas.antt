@@ -127,7 +127,7 @@ module _ {K V P T : Type 0} where
         ∙ gather-neither (λ u. loading_of u (item_at old u)) (λ u. loading_of u (item_at (written hash (change item) t old) u)) t (upto (length old.slots)) (λ u differs. ap (loading_of u) (others u differs)) (ap (loading_of t) at) (ap (loading_of t) here) in
         let ghosts_is = gather-neither (λ u. ghost_of u (item_at old u)) (λ u. ghost_of u (item_at (written hash (change item) t old) u)) t (tokens_of old ghosts.head) (λ u differs. ap (ghost_of u) (others u differs)) (ap (ghost_of t) at) (ap (ghost_of t) here) in
         let next_is : next_token (written hash (change item) t old) ≡ next_token old = rw long refl in
-        let room_is : room_of (written hash (change item) t old) table ≡ room_of old table = rw long refl in
+        let room_is : room_of (written hash (change item) t old) table ≡ room_of old table = refl in
         λ i. record { hot = hot_is i; cold = cold_is i; still = still_is i; loading = loading_is i; ghosts = ghosts_is i; next = next_is i; room = room_is i }
 
     pub IsSound-changed : (table : Table) (rings : Rings) (loading : ℕ) → IsSound old table rings loading → IsSound (written hash (change item) t old) table rings loading
@@ -151,3 +151,8 @@ module _ {S : Type 0} where
   -- an item that is written as it was
   pub with_item-same : (slab : LinkedSlab S) (t : ℕ) (x : S) → item_at slab t ≡ Some x → with_item slab t x ≡ slab
   with_item-same slab t x is = λ i. record slab { slots = slots_same slab.slots t (Some x) is i }
+
+module _ {K V P T : Type 0} where
+  pub lists-same : (slab : LinkedSlab (Slot K V P T)) (table : Table) (hot cold ghosts : Ring) (t : ℕ) (x y : Slot K V P T) → item_at slab t ≡ Some x → y ≡ x → lists_of (with_item slab t y) table hot cold ghosts ≡ lists_of slab table hot cold ghosts
+  lists-same slab table hot cold ghosts t x y at same =
+      ap (λ (s : LinkedSlab (Slot K V P T)). lists_of s table hot cold ghosts) (ap (λ (z : Slot K V P T). with_item slab t z) same ∙ with_item-same slab t x at)

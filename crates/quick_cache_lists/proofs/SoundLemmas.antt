@@ -4,7 +4,7 @@ use Rattle.std.specs.Int.NonZero.{non_zero_u32_get}
 use Rattle.std.specs.declared.num.NonZeroU32.{NonZeroU32 as Token}
 use Rattle.std.proofs.lemmas.Bool.{cases_eq, eq-eqb, ne_eqb}
 use Rattle.std.proofs.lemmas.List.{length_push}
-use Rattle.quick_cache_slab.specs.LinkedSlab.{LinkedSlab, at_token, times, joined, item_at, ring_from, room_taken, IsAlone, IsParted}
+use Rattle.quick_cache_slab.specs.LinkedSlab.{LinkedSlab, at_token, times, joined, item_at, ring_from, spare, IsAlone, IsParted}
 use Rattle.quick_cache_table.specs.Table.{Table, has_pair, AddsPair}
 use Rattle.quick_cache_slab.proofs.SlotLemmas.{at_token-past}
 use Rattle.quick_cache_slab.proofs.TimesLemmas.{zero_from_none, times-here, times-other, times-append, length_once}
@@ -133,21 +133,8 @@ module _ {K V P T : Type 0} where
       ];
     }
 
-    room_taken-none : (free : List ℕ) → 0 < length free → room_taken free ≡ 0
-    room_taken-none [] some = absurd (omega (arith, some))
-    room_taken-none (y ∷ ys) some = refl
-
-    pub room-placed : (told tnew : Table) → (room_taken old.free ≤ old.room → new.room + room_taken old.free ≡ old.room) → tnew.room + 1 ≡ told.room → 0 < room_of old told → room_of new tnew + 1 ≡ room_of old told
-    room-placed told tnew takes fewer some =
-        elim placed.grows [
-          | inl same ↦
-              let none = room_taken-none old.free (omega (arith, same.3)) in
-              let kept = rw none at takes in
-              grind (arith, same.0, same.3, kept, fewer)
-          | inr more ↦
-              let taken = rw more.2 at takes in
-              grind (arith, more.0, ap length more.2, ap length more.3, taken, fewer, some)
-        ]
+    pub room-placed : (told tnew : Table) → (0 < spare old → spare new + 1 ≡ spare old) → tnew.room + 1 ≡ told.room → 0 < room_of old told → room_of new tnew + 1 ≡ room_of old told
+    room-placed told tnew takes fewer some = omega (arith, takes (omega (arith, some)), fewer, some)
 
   -- ---- a token that joins a ring
 
@@ -333,7 +320,7 @@ module _ {K V P T : Type 0} where
     where
       by_head : (o : Option Token) → MatchOption o ((new ≡ mid) × (non_zero_u32_get joined.head ≡ non_zero_u32_get token)) (λ h. IsLinked mid new (non_zero_u32_get token) (non_zero_u32_get h) × (non_zero_u32_get joined.head ≡ non_zero_u32_get h)) → room_of new table ≡ room_of mid table
       by_head None done = ap (λ s. room_of s table) done.0
-      by_head (Some h) done = rw (done.0.slots, done.0.free, done.0.room) refl
+      by_head (Some h) done = rw (done.0.free, done.0.room) refl
 
   -- a ring can take one more weight
   pub ring_light : (slab : LinkedSlab (Slot K V P T)) (table : Table) (ring : Ring) (r : Stand) → IsParted slab → IsKeyed slab table → IsRingOf slab ring r → ring.weight ≤ 4294967295 * 18446744073709551616

@@ -1,5 +1,5 @@
 -- What a contract sees of `Lists`: plain lists, whose entries have tokens.
-use Rattle.std.specs.Prelude.{◌≡◌, ◌≢◌, ◌⊎◌, ℕ, ◌+◌, Bool, true, false, cond, eqb, if◌then◌else◌, ◌==◌, List, [], ◌∷◌, ◌++◌, length, map, Option, MatchOption, ◌≤◌}
+use Rattle.std.specs.Prelude.{◌≡◌, ◌≢◌, ◌⊎◌, ℕ, ◌+◌, ◌-◌, Bool, true, false, cond, eqb, if◌then◌else◌, ◌==◌, List, [], ◌∷◌, ◌++◌, length, map, Option, MatchOption, ◌≤◌}
 use Rattle.quick_cache_slab.specs.LinkedSlab.{times}
 use Rattle.std.specs.List.{AllByRecursion}
 use Rattle.std.specs.List.Sorted.{IsPermutation}
@@ -240,6 +240,10 @@ module _ {K V P : Type 0} where
   -- how many entries there are
   abbrev pub entry_count : Lists K V P → ℕ
   entry_count lists = length lists.hot + length lists.cold + length lists.still + length lists.loading + length lists.ghosts
+
+  -- how many more entries there can be, with memory for them
+  abbrev pub slots_left : Lists K V P → ℕ
+  slots_left lists = 4294967294 - entry_count lists
 
   -- each token has one entry at most
   abbrev pub AreApart : Lists K V P → Type 0

@@ -2,7 +2,7 @@
 use Rattle.std.specs.Prelude.{◌≡◌, ◌≢◌, ℕ, zero, suc, ◌+◌, ◌-◌, ◌<◌, ◌≤◌, min, Bool, List, [], ◌∷◌, ◌++◌, length, Option, Some, None, IfSome, true, false}
 use Rattle.std.specs.Int.NonZero.{non_zero_u32_get}
 use Rattle.std.specs.declared.num.NonZeroU32.{NonZeroU32 as Token}
-use Rattle.quick_cache_slab.specs.LinkedSlab.{LinkedSlab, item_at, ring_from, times, next_token, IsAlone}
+use Rattle.quick_cache_slab.specs.LinkedSlab.{LinkedSlab, item_at, ring_from, times, next_token, spare, IsAlone}
 use Rattle.quick_cache_table.specs.Table.{Table, has_pair, HasPair, pair_count}
 use Rattle.quick_cache_lists.specs.declared.entry.Slot.{Slot}
 use Rattle.quick_cache_lists.specs.declared.ring.Ring.{Ring}
@@ -36,14 +36,10 @@ module _ {S : Type 0} where
   tokens_of slab None = []
   tokens_of slab (Some head) = ring_from slab (non_zero_u32_get head)
 
-  -- how many more slots can be had with no allocation
-  abbrev pub slab_room : LinkedSlab S → ℕ
-  slab_room slab = length slab.free + min slab.room (4294967294 - length slab.slots)
-
 module _ {K V P T : Type 0} where
   -- how many more entries fit with no allocation
   abbrev pub room_of : LinkedSlab (Slot K V P T) → Table → ℕ
-  room_of slab table = min (slab_room slab) table.room
+  room_of slab table = min (spare slab) table.room
 
   abbrev pub lists_of : LinkedSlab (Slot K V P T) → Table → (hot cold ghosts : Ring) → Lists K V P
   lists_of slab table hot cold ghosts = record {

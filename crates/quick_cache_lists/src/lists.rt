@@ -1,6 +1,6 @@
 //! The lists of a shard, and room for them.
-ghost use Rattle.std.specs.Prelude.{◌≡◌, ◌≤◌, IfOk, OnOk, OnErr};
-ghost use Rattle.quick_cache_lists.specs.Lists.{no_lists, AreApart};
+ghost use Rattle.std.specs.Prelude.{◌≡◌, ◌≤◌, ◌<◌, ◌⊎◌, ◌↔◌, min, IsOk, IfOk, IfErr, OnOk, OnErr};
+ghost use Rattle.quick_cache_lists.specs.Lists.{no_lists, slots_left, AreApart};
 
 mod changes;
 mod counts;
@@ -8,12 +8,14 @@ mod looks;
 
 use crate::entry::Slot;
 use crate::rings::Rings;
-use crate::store::parted;
 use quick_cache_model::Refusal;
 use quick_cache_slab::LinkedSlab;
 use quick_cache_table::Table;
 use std::alloc::{Allocator, Global};
 use std::marker::Model;
+
+/// How many entries there can be.
+const MOST_ENTRIES: usize = 4294967294;
 
 /// Entries in the slots of one slab: the items of a hot and of a cold ring, the ghosts in a ring of
 /// their own, and items of weight 0 and placeholders in none. Each is found by its hash.
@@ -59,20 +61,49 @@ impl<K, V, P, T, A: Allocator> Lists<K, V, P, T, A> {
         })
     }
 
-    /// Makes room for so many more entries. A refusal may keep room that it got, and changes nothing else.
+    /// Makes room for so many more entries, or for all that can still come.
+    ///
+    /// The slots grow first, then the table. A refusal is for want of memory: it may keep room that it got, and
+    /// changes nothing else.
     pub fn reserve(&mut self, additional: usize) -> Result<(), Refusal>
         ensures lists { self.new ≡ record self.old { room = self.new.room } }
-        ensures room { OnOk result (additional ≤ self.new.room) }
+        ensures room { OnOk result (min additional (slots_left self.old) ≤ self.new.room) }
         ensures grows { self.old.room ≤ self.new.room }
+
+        // Where there is room it succeeds, and nothing changes.
+        ensures had_room { min additional (slots_left self.old) ≤ self.old.room
+            → IsOk result × (self.new ≡ self.old) }
+        ensures memory { IfErr result (λ refused. refused ≡ Refusal.Memory) }
     {
+        self.slab.validate();
         self.slab.reserve(additional)?;
         self.table.reserve(additional)
+    }
+
+    /// Makes room for one more entry where there is none.
+    pub fn make_room(&mut self) -> Result<(), Refusal>
+        ensures lists { self.new ≡ record self.old { room = self.new.room } }
+        ensures room { OnOk result (0 < self.new.room) }
+        ensures grows { self.old.room ≤ self.new.room }
+
+        // Where there is room it succeeds, and nothing changes. It is refused where all slots are taken, or
+        // for want of memory.
+        ensures had_room { 0 < self.old.room → IsOk result × (self.new ≡ self.old) }
+        ensures full { (result ≡ Err Refusal.SlotsFull) ↔ (slots_left self.old ≡ 0) }
+        ensures refusals { IfErr result
+            (λ refused. (refused ≡ Refusal.SlotsFull) ⊎ (refused ≡ Refusal.Memory)) }
+    {
+        self.slab.validate();
+        if self.table.len() >= MOST_ENTRIES {
+            return Err(Refusal::SlotsFull);
+        }
+        self.reserve(1)
     }
 
     /// Each token has one entry at most.
     pub fn apart(&self)
         ensures { AreApart self.now }
     {
-        parted(&self.slab);
+        self.slab.validate();
     }
 }

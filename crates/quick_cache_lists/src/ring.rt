@@ -17,7 +17,12 @@ pub struct Ring {
 }
 
 /// Puts a token that is a ring of its own at the end of a ring.
-pub(crate) fn join<S, A: Allocator>(slab: &mut LinkedSlab<S, A>, ring: &mut Ring, token: Token, weight: u64)
+pub(crate) fn join<S, A: Allocator>(
+    slab: &mut LinkedSlab<S, A>,
+    ring: &mut Ring,
+    token: Token,
+    weight: u64,
+)
     requires { CanJoin slab.old ring.old token weight }
     ensures { IsJoined slab.old slab.new ring.old ring.new token weight }
 {

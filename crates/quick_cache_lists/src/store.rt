@@ -1,7 +1,7 @@
 //! The slots and the table in step: each entry is in a slot, and its hash leads to the slot.
 ghost use Rattle.std.specs.Prelude.{◌≡◌, ◌+◌, ◌<◌, Some};
 ghost use Rattle.std.specs.Int.NonZero.{non_zero_u32_get as number};
-ghost use Rattle.quick_cache_slab.specs.LinkedSlab.{next_token, IsParted, IsOccupied, IsNextOf, item_at};
+ghost use Rattle.quick_cache_slab.specs.LinkedSlab.{next_token, IsOccupied, IsNextOf, item_at};
 ghost use Rattle.quick_cache_table.specs.Table.{pair_count};
 ghost use Rattle.quick_cache_lists.specs.Frames.{IsPlaced, IsRemoved};
 ghost use Rattle.quick_cache_lists.specs.Slots.{weight_in, is_under_at, is_ghost_at, is_item_at};
@@ -13,13 +13,6 @@ use quick_cache_slab::LinkedSlab;
 use quick_cache_table::Table;
 use std::alloc::Allocator;
 use std::hash::Hash;
-
-/// The rings of a slab part its occupied tokens.
-pub(crate) fn parted<S, A: Allocator>(slab: &LinkedSlab<S, A>)
-    ensures { IsParted slab.now }
-{
-    let _ = slab.get(slab.next_free());
-}
 
 /// Whether the query stands for the key at a token.
 pub(crate) fn is_under_at<K: Eq + Hash, V, P, T, Q: Equivalent<K>, A: Allocator>(
@@ -76,7 +69,7 @@ pub(crate) fn place<K, V, P, T, A: Allocator>(
     ensures count { pair_count table.new ≡ pair_count table.old + 1 }
     ensures room { room_of slab.new table.new + 1 ≡ room_of slab.old table.old }
 {
-    parted(slab);
+    slab.validate();
     let hash = slot.hash;
     let token = match slab.insert(slot) {
         Ok(token) => token,

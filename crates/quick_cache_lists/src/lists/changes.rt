@@ -6,7 +6,7 @@ ghost use Rattle.quick_cache_lists.specs.Lists.{PutsLast, HasEntry, IsEntry, wit
 use crate::entry::{Entry, Slot};
 use crate::lists::Lists;
 use crate::ring::turn;
-use crate::store::{displace, parted, place};
+use crate::store::{displace, place};
 use quick_cache_model::{Queue, Token};
 use std::alloc::Allocator;
 
@@ -19,7 +19,7 @@ impl<K, V, P, T, A: Allocator> Lists<K, V, P, T, A> {
         ensures last { PutsLast self.old (number result) hash entry self.new }
         ensures room { self.new.room + 1 ≡ self.old.room }
     {
-        parted(&self.slab);
+        self.slab.validate();
         let stand = entry.stand();
         let weight = entry.weight();
         let token = place(&mut self.slab, &mut self.table, Slot { hash, entry });
@@ -34,7 +34,7 @@ impl<K, V, P, T, A: Allocator> Lists<K, V, P, T, A> {
         ensures taken { IsEntry self.old (number token) result.hash result.entry }
         ensures rest { self.new ≡ without_entry restarts (number token) self.old }
     {
-        parted(&self.slab);
+        self.slab.validate();
         let (slot, next) = displace(&mut self.slab, &mut self.table, token);
         let stand = slot.entry.stand();
         let weight = slot.entry.weight();
@@ -47,7 +47,7 @@ impl<K, V, P, T, A: Allocator> Lists<K, V, P, T, A> {
     pub fn turn(&mut self, queue: Queue)
         ensures { self.new ≡ ring_turned queue self.old }
     {
-        parted(&self.slab);
+        self.slab.validate();
         match queue {
             Queue::Hot => turn(&self.slab, &mut self.rings.hot),
             Queue::Cold => turn(&self.slab, &mut self.rings.cold),

@@ -4,7 +4,6 @@ ghost use Rattle.quick_cache_model.specs.CacheState.{ring_place};
 ghost use Rattle.quick_cache_lists.specs.Lists.{items_at};
 
 use crate::lists::Lists;
-use crate::store::parted;
 use quick_cache_model::Queue;
 use std::alloc::Allocator;
 
@@ -13,7 +12,7 @@ impl<K, V, P, T, A: Allocator> Lists<K, V, P, T, A> {
     pub fn count(&self, queue: Queue) -> usize
         ensures { result ≡ length (items_at (ring_place queue) self.now) }
     {
-        parted(&self.slab);
+        self.slab.validate();
         match queue {
             Queue::Hot => self.rings.hot.count,
             Queue::Cold => self.rings.cold.count,
@@ -25,7 +24,7 @@ impl<K, V, P, T, A: Allocator> Lists<K, V, P, T, A> {
         ensures { result ≡ sum_by (λ held. held.item.weight)
             (items_at (ring_place queue) self.now) }
     {
-        parted(&self.slab);
+        self.slab.validate();
         match queue {
             Queue::Hot => self.rings.hot.weight,
             Queue::Cold => self.rings.cold.weight,

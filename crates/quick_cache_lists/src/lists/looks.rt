@@ -8,7 +8,7 @@ use crate::entry::Entry;
 use crate::found::Found;
 use crate::lists::Lists;
 use crate::resident::Resident;
-use crate::store::{is_ghost_at, is_item_at, is_under_at, parted};
+use crate::store::{is_ghost_at, is_item_at, is_under_at};
 use quick_cache_model::{Equivalent, Queue, Token};
 use std::alloc::Allocator;
 use std::hash::Hash;
@@ -44,7 +44,7 @@ impl<K, V, P, T, A: Allocator> Lists<K, V, P, T, A> {
     pub fn first(&self, queue: Queue) -> Option<Token>
         ensures { IsFirstOf (λ held. held.token) (items_at (ring_place queue) self.now) result }
     {
-        parted(&self.slab);
+        self.slab.validate();
         match queue {
             Queue::Hot => self.rings.hot.head,
             Queue::Cold => self.rings.cold.head,
@@ -55,7 +55,7 @@ impl<K, V, P, T, A: Allocator> Lists<K, V, P, T, A> {
     pub fn oldest_ghost(&self) -> Option<Token>
         ensures { IsFirstOf (λ shade. shade.token) self.now.ghosts result }
     {
-        parted(&self.slab);
+        self.slab.validate();
         self.rings.ghosts.head
     }
 

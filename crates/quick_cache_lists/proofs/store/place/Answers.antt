@@ -6,7 +6,7 @@ use Rattle.quick_cache_lists.proofs.store.place.Goals as goal
 pub returns-clause-placed : goal.returns-clause-placed
 returns-clause-placed g c =
     let at = c.in-Ok.ensures.token in
-    rw at (IsPlaced-from c.args.slab.now c.insert.new.self c.args.slot c.parted.ensures c.in-Ok.ensures.placed (rw at at c.in-Ok.ensures.alone))
+    rw at (IsPlaced-from c.args.slab.now c.insert.new.self c.args.slot c.validate.ensures c.in-Ok.ensures.placed (rw at at c.in-Ok.ensures.alone))
 
 pub returns-clause-keyed : goal.returns-clause-keyed
 returns-clause-keyed g c =
@@ -14,4 +14,4 @@ returns-clause-keyed g c =
 
 pub returns-clause-room : goal.returns-clause-room
 returns-clause-room g c =
-    room-placed c.args.slab.now c.insert.new.self c.in-Ok.token.value c.args.slot (returns-clause-placed g c) c.args.table.now c.insert_reserved.new.self c.in-Ok.ensures.room c.insert_reserved.ensures.room c.requires.room
+    room-placed c.args.slab.now c.insert.new.self c.in-Ok.token.value c.args.slot (returns-clause-placed g c) c.args.table.now c.insert_reserved.new.self c.in-Ok.ensures.spare c.insert_reserved.ensures.room c.requires.room

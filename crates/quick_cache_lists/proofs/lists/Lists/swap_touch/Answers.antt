@@ -1,7 +1,7 @@
 use Rattle.std.proofs.Common.{◌∙◌, ◌≡◌, refl, sym, ap, Some}
 use Rattle.std.specs.Int.NonZero.{non_zero_u32_get as number}
 use Rattle.quick_cache_lists.proofs.ItemLemmas.{item_by_token}
-use Rattle.quick_cache_lists.proofs.ChangeLemmas.{changed_slot, with_item-same}
+use Rattle.quick_cache_lists.proofs.ChangeLemmas.{changed_slot, with_item-same, lists-same}
 use Rattle.quick_cache_lists.proofs.lists.Lists.swap_touch.Goals as goal
 
 pub get_mut_unchecked-requires : goal.get_mut_unchecked-requires
@@ -24,4 +24,4 @@ invariant_of-self g c =
 pub returns : goal.returns
 returns g c =
     let i = c.self.inside in
-    rw (← c.self.view_is, c.swap_touch.ensures, with_item-same i.slab (number c.args.token) c.get_mut_unchecked.result.0.now c.get_mut_unchecked.ensures.item) refl
+    lists-same i.slab i.table i.rings.hot i.rings.cold i.rings.ghosts (number c.args.token) c.get_mut_unchecked.result.0.now _ c.get_mut_unchecked.ensures.item c.swap_touch.ensures ∙ c.self.view_is

@@ -24,13 +24,13 @@ pub overflow_sub-self : goal.overflow_sub-self
 overflow_sub-self g c =
     let i = c.self.inside in
     let u = c.displace-slot.ensures in
-    omega (arith, loading-enough i.slab c.displace-slot.new.slab i.table c.displace-slot.new.table c.args.token c.displace-slot.result.1 c.args.restarts i.rings c.leave.new.self i.loading c.self.invariant c.parted.ensures u.removed u.next u.room u.keyed u.count c.displace-slot.result.0 u.item c.stand-stand.result c.weight-weight.result c.stand-stand.ensures c.weight-weight.ensures c.leave.ensures, c.loading.ensures)
+    omega (arith, loading-enough i.slab c.displace-slot.new.slab i.table c.displace-slot.new.table c.args.token c.displace-slot.result.1 c.args.restarts i.rings c.leave.new.self i.loading c.self.invariant c.validate.ensures u.removed u.next u.room u.keyed u.count c.displace-slot.result.0 u.item c.stand-stand.result c.weight-weight.result c.stand-stand.ensures c.weight-weight.ensures c.leave.ensures, c.loading.ensures)
 
 pub invariant_of-self : goal.invariant_of-self
 invariant_of-self g c =
     let i = c.self.inside in
     let u = c.displace-slot.ensures in
-    IsSound-left i.slab c.displace-slot.new.slab i.table c.displace-slot.new.table c.args.token c.displace-slot.result.1 c.args.restarts i.rings c.leave.new.self i.loading c.self.invariant c.parted.ensures u.removed u.next u.room u.keyed u.count c.displace-slot.result.0 u.item c.stand-stand.result c.weight-weight.result c.stand-stand.ensures c.weight-weight.ensures c.leave.ensures c.loading.result c.loading.ensures
+    IsSound-left i.slab c.displace-slot.new.slab i.table c.displace-slot.new.table c.args.token c.displace-slot.result.1 c.args.restarts i.rings c.leave.new.self i.loading c.self.invariant c.validate.ensures u.removed u.next u.room u.keyed u.count c.displace-slot.result.0 u.item c.stand-stand.result c.weight-weight.result c.stand-stand.ensures c.weight-weight.ensures c.leave.ensures c.loading.result c.loading.ensures
 
 pub returns-clause-taken : goal.returns-clause-taken
 returns-clause-taken g c =
@@ -41,4 +41,4 @@ pub returns-clause-rest : goal.returns-clause-rest
 returns-clause-rest g c =
     let i = c.self.inside in
     let u = c.displace-slot.ensures in
-    rw (← c.self.view_is) (IsGone-left i.slab c.displace-slot.new.slab i.table c.displace-slot.new.table c.args.token c.displace-slot.result.1 c.args.restarts i.rings c.leave.new.self i.loading c.self.invariant c.parted.ensures u.removed u.next u.room u.keyed u.count c.displace-slot.result.0 u.item c.stand-stand.result c.weight-weight.result c.stand-stand.ensures c.weight-weight.ensures c.leave.ensures).1
+    rw (← c.self.view_is) (IsGone-left i.slab c.displace-slot.new.slab i.table c.displace-slot.new.table c.args.token c.displace-slot.result.1 c.args.restarts i.rings c.leave.new.self i.loading c.self.invariant c.validate.ensures u.removed u.next u.room u.keyed u.count c.displace-slot.result.0 u.item c.stand-stand.result c.weight-weight.result c.stand-stand.ensures c.weight-weight.ensures c.leave.ensures).1
