@@ -50,6 +50,7 @@ pub same-test : (m n : ℕ) → (m == n) ≡ (n == m)
 same-test m n = grind (arith, nat_tests)
 
 -- a choice by a test, taken apart
-pub match_bool : {P Q R : Type 0} (b : Bool) → (b ≡ true → P → R) → (b ≡ false → Q → R) → MatchBool b P Q → R
+pub match_bool : {P Q R : Type 0} (b : Bool) → (b ≡ true → P → R) → (b ≡ false → Q → R)
+    → MatchBool b P Q → R
 match_bool true f g chosen = f refl chosen
 match_bool false f g chosen = g refl chosen

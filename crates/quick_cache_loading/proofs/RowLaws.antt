@@ -18,7 +18,8 @@ use Rattle.quick_cache_loading.specs.declared.protocol.events.Answer.TheVariants
 
 module _ {V : Type 0} where
   -- a core's guard is held or on its way while its life is loading, and there is none else
-  pub one_guard : (core : CoreState V) → held_count core + handed_count core ≡ (if is_loading core.life then 1 else 0)
+  pub one_guard : (core : CoreState V)
+      → held_count core + handed_count core ≡ (if is_loading core.life then 1 else 0)
   one_guard core = by_life core.life where
     by_holder : (h : Holder) → held_by h + handed_by h ≡ 1
     by_holder Held = refl
@@ -38,7 +39,8 @@ module _ {V : Type 0} where
     by_life GivenUp = lit≤ tt
 
   -- where no case applies no guard comes or goes, and no value
-  none-guards : (e : Event V) (old : CoreState V) → held_count old + taken_by e answer.NotNow ≡ held_count old + 0
+  none-guards : (e : Event V) (old : CoreState V)
+      → held_count old + taken_by e answer.NotNow ≡ held_count old + 0
   none-guards Create old = refl
   none-guards (Join n) old = refl
   none-guards (Fill v) old = refl
@@ -49,13 +51,15 @@ module _ {V : Type 0} where
   none-guards Leave old = refl
 
   -- an event that is shown the value takes no guard back
-  shown-guards : {e : Event V} {old : CoreState V} (a : Answer V) → AsksForValue e old → held_count old + taken_by e a ≡ held_count old + 0
+  shown-guards : {e : Event V} {old : CoreState V} (a : Answer V) → AsksForValue e old
+      → held_count old + taken_by e a ≡ held_count old + 0
   shown-guards a (by_joining n old inside) = refl
   shown-guards a (by_taking n old) = refl
   shown-guards a (by_timing_out n old) = refl
 
   -- what is held afterwards and was taken back is what was held and is given
-  pub row-guards : {shows : V → V → Type 0} {e : Event V} {old : CoreState V} {a : Answer V} {new : CoreState V} → LoadingRow shows e old a new
+  pub row-guards : {shows : V → V → Type 0} {e : Event V} {old : CoreState V} {a : Answer V}
+      {new : CoreState V} → LoadingRow shows e old a new
       → held_count new + taken_by e a ≡ held_count old + given_by a
   row-guards (no_row_applies e old none) = none-guards e old
   row-guards (acts (creates old is)) = rw is
@@ -87,7 +91,8 @@ module _ {V : Type 0} where
   some-given (Cancel n) = lit≤ tt
   some-given Leave = lit≤ tt
 
-  pub row-most_given : {shows : V → V → Type 0} {e : Event V} {old : CoreState V} {a : Answer V} {new : CoreState V} → LoadingRow shows e old a new → given_by a ≤ most_given e
+  pub row-most_given : {shows : V → V → Type 0} {e : Event V} {old : CoreState V} {a : Answer V}
+      {new : CoreState V} → LoadingRow shows e old a new → given_by a ≤ most_given e
   row-most_given (no_row_applies e old none) = some-given e
   row-most_given (acts (creates old is)) = lit≤ tt
   row-most_given (acts (joins old h ws n is inside other absent)) = lit≤ tt
@@ -106,14 +111,16 @@ module _ {V : Type 0} where
   row-most_given (acts (leaves old inside)) = lit≤ tt
 
   -- no row that acts is answered `NotNow`
-  acting-answers : {shows : V → V → Type 0} {e : Event V} {old : CoreState V} {a : Answer V} {new : CoreState V} → ActingRow shows e old a new
+  acting-answers : {shows : V → V → Type 0} {e : Event V} {old : CoreState V} {a : Answer V}
+      {new : CoreState V} → ActingRow shows e old a new
       → is_not_now a ≡ false
   acting-answers (withdraws _ old h ws _ _ (by_time n) is other waiting) = refl
   acting-answers (withdraws _ old h ws _ _ (by_cancel n) is other waiting) = refl
   acting-answers _ = refl
 
   -- `NotNow` is answered exactly where the test of the event fails
-  pub row-applies : {shows : V → V → Type 0} {e : Event V} {old : CoreState V} {a : Answer V} {new : CoreState V} → LoadingRow shows e old a new
+  pub row-applies : {shows : V → V → Type 0} {e : Event V} {old : CoreState V} {a : Answer V}
+      {new : CoreState V} → LoadingRow shows e old a new
       → applies e old ≡ not (is_not_now a)
   row-applies {shows} (no_row_applies e old none) = applies-from_none shows e old none
   row-applies (acts row) = acting-applies row ∙ sym (ap not (acting-answers row))
@@ -123,7 +130,8 @@ module _ {V : Type 0} where
   only-not_now _ t = absurd (cc)
 
   -- and exactly where no row applies
-  pub row-not_now : {shows : V → V → Type 0} {e : Event V} {old : CoreState V} {a : Answer V} {new : CoreState V} → LoadingRow shows e old a new
+  pub row-not_now : {shows : V → V → Type 0} {e : Event V} {old : CoreState V} {a : Answer V}
+      {new : CoreState V} → LoadingRow shows e old a new
       → (a ≡ answer.NotNow) ↔ NoRowApplies shows e old
   row-not_now {shows} {e} {old} {a} row = (
     λ is. NoRowApplies-from shows e old (row-applies row ∙ ap (λ x. not (is_not_now x)) is),
@@ -143,16 +151,20 @@ module _ {V : Type 0} where
     by_life GivenUp = refl
 
   -- a fill and an abandon are done where the guard is held
-  done-held : (old : CoreState V) (a : Answer V) → (held_count old == 1) ≡ not (is_not_now a) → done_by a ≡ min 1 (held_count old)
+  done-held : (old : CoreState V) (a : Answer V) → (held_count old == 1) ≡ not (is_not_now a)
+      → done_by a ≡ min 1 (held_count old)
   done-held old a told =
-      let same : done_by a ≡ held_count old = done-by_test a ∙ ap (λ b. if b then 1 else 0) (sym told) ∙ sym (held-by_test old) in
+      let same : done_by a ≡ held_count old =
+      done-by_test a ∙ ap (λ b. if b then 1 else 0) (sym told) ∙ sym (held-by_test old) in
       omega (arith, same, at_most_one old)
 
   -- what an event takes back is the guard that is held, where the event is one that takes it
-  pub row-taken : {shows : V → V → Type 0} {e : Event V} {old : CoreState V} {a : Answer V} {new : CoreState V} → LoadingRow shows e old a new
+  pub row-taken : {shows : V → V → Type 0} {e : Event V} {old : CoreState V} {a : Answer V}
+      {new : CoreState V} → LoadingRow shows e old a new
       → taken_by e a ≡ min (most_taken e) (held_count old)
   row-taken {shows} {e} {old} {a} row = by_event e (row-applies row) where
-    by_event : (d : Event V) → applies d old ≡ not (is_not_now a) → taken_by d a ≡ min (most_taken d) (held_count old)
+    by_event : (d : Event V) → applies d old ≡ not (is_not_now a)
+        → taken_by d a ≡ min (most_taken d) (held_count old)
     by_event (Fill v) told = done-held old a told
     by_event Abandon told = done-held old a told
     by_event Create told = omega arith
@@ -163,7 +175,8 @@ module _ {V : Type 0} where
     by_event Leave told = omega arith
 
   -- an abandon is `NotNow` where no guard is held
-  pub row-abandon : {shows : V → V → Type 0} {old : CoreState V} {a : Answer V} {new : CoreState V} → LoadingRow shows Abandon old a new
+  pub row-abandon : {shows : V → V → Type 0} {old : CoreState V} {a : Answer V} {new : CoreState V}
+      → LoadingRow shows Abandon old a new
       → is_not_now a ≡ (held_count old == 0)
   row-abandon {shows} {old} {a} row = by_life old.life (row-applies row) where
     by_life : (l : Life V) → (held_in l == 1) ≡ not (is_not_now a) → is_not_now a ≡ (held_in l == 0)
@@ -173,26 +186,31 @@ module _ {V : Type 0} where
     by_life GivenUp told = not-false (is_not_now a) (sym told)
 
   -- a cancel is `NotNow` where the life does not concern the waiter
-  pub row-cancel : {shows : V → V → Type 0} {n : ℕ} {old : CoreState V} {a : Answer V} {new : CoreState V} → LoadingRow shows (Cancel n) old a new
+  pub row-cancel : {shows : V → V → Type 0} {n : ℕ} {old : CoreState V} {a : Answer V}
+      {new : CoreState V} → LoadingRow shows (Cancel n) old a new
       → is_not_now a ≡ not (concerns n old.life)
-  row-cancel {shows} {n} {old} {a} row = turned (concerns n old.life) (is_not_now a) (row-applies row) where
-    turned : (x y : Bool) → x ≡ not y → y ≡ not x
-    turned x true e = sym (ap not e)
-    turned x false e = sym (ap not e)
+  row-cancel {shows} {n} {old} {a} row =
+      turned (concerns n old.life) (is_not_now a) (row-applies row) where
+        turned : (x y : Bool) → x ≡ not y → y ≡ not x
+        turned x true e = sym (ap not e)
+        turned x false e = sym (ap not e)
 
   -- an answer that only tells changes nothing
-  pub row-only_tells : {shows : V → V → Type 0} {e : Event V} {old : CoreState V} {a : Answer V} {new : CoreState V} → LoadingRow shows e old a new → only_tells a ≡ true → new ≡ old
+  pub row-only_tells : {shows : V → V → Type 0} {e : Event V} {old : CoreState V} {a : Answer V}
+      {new : CoreState V} → LoadingRow shows e old a new → only_tells a ≡ true → new ≡ old
   row-only_tells (no_row_applies e old none) tells = refl
   row-only_tells (acts (lacks_room old h ws n is inside other absent)) tells = refl
   row-only_tells (acts (shows_the_value e old v w is asks same)) tells = refl
   row-only_tells (acts (lacks_a_clone e old v is asks)) tells = refl
   row-only_tells (acts (waits_on old h ws n is other waiting)) tells = refl
   row-only_tells (acts (withdraws _ old h ws _ _ (by_time n) is other waiting)) tells = absurd (cc)
-  row-only_tells (acts (withdraws _ old h ws _ _ (by_cancel n) is other waiting)) tells = absurd (cc)
+  row-only_tells (acts (withdraws _ old h ws _ _ (by_cancel n) is other waiting)) tells =
+      absurd (cc)
   row-only_tells _ tells = absurd (cc)
 
   -- only memory is refused
-  pub row-refused : {shows : V → V → Type 0} {e : Event V} {old : CoreState V} {a : Answer V} {new : CoreState V} → LoadingRow shows e old a new
+  pub row-refused : {shows : V → V → Type 0} {e : Event V} {old : CoreState V} {a : Answer V}
+      {new : CoreState V} → LoadingRow shows e old a new
       → (why : Refusal) → a ≡ answer.Refused why → why ≡ Memory
   row-refused (acts (lacks_room old h ws n is inside other absent)) why eq = cc
   row-refused (acts (lacks_a_clone e old v is asks)) why eq = cc
@@ -201,7 +219,8 @@ module _ {V : Type 0} where
   row-refused _ why eq = cc
 
   -- a value that is shown stands for the one that the life is filled with
-  pub row-shown : {shows : V → V → Type 0} {e : Event V} {old : CoreState V} {a : Answer V} {new : CoreState V} → LoadingRow shows e old a new
+  pub row-shown : {shows : V → V → Type 0} {e : Event V} {old : CoreState V} {a : Answer V}
+      {new : CoreState V} → LoadingRow shows e old a new
       → IfSome (shown_by a) (MayShow shows (value_of old.life))
   row-shown (acts (shows_the_value e old v w is asks same)) = rw is same
   row-shown (acts (withdraws _ old h ws _ _ (by_time n) is other waiting)) = tt
@@ -218,18 +237,21 @@ module _ {V : Type 0} where
   none-value (Cancel n) known = refl
   none-value Leave known = refl
 
-  shown-value : {e : Event V} {old : CoreState V} (known : Option V) (v : V) → AsksForValue e old → known ≡ value_after known e (answer.Value v)
+  shown-value : {e : Event V} {old : CoreState V} (known : Option V) (v : V) → AsksForValue e old
+      → known ≡ value_after known e (answer.Value v)
   shown-value known v (by_joining n old inside) = refl
   shown-value known v (by_taking n old) = refl
   shown-value known v (by_timing_out n old) = refl
 
-  refused-value : {e : Event V} {old : CoreState V} (known : Option V) → AsksForValue e old → known ≡ value_after known e (answer.Refused Memory)
+  refused-value : {e : Event V} {old : CoreState V} (known : Option V) → AsksForValue e old
+      → known ≡ value_after known e (answer.Refused Memory)
   refused-value known (by_joining n old inside) = refl
   refused-value known (by_taking n old) = refl
   refused-value known (by_timing_out n old) = refl
 
   -- a fill gives the value, a new life has none, and nothing else changes it
-  pub row-value : {shows : V → V → Type 0} {e : Event V} {old : CoreState V} {a : Answer V} {new : CoreState V} → LoadingRow shows e old a new
+  pub row-value : {shows : V → V → Type 0} {e : Event V} {old : CoreState V} {a : Answer V}
+      {new : CoreState V} → LoadingRow shows e old a new
       → value_of new.life ≡ value_after (value_of old.life) e a
   row-value (no_row_applies e old none) = none-value e _
   row-value (acts (creates old is)) = refl
@@ -251,7 +273,8 @@ module _ {V : Type 0} where
   row-value (acts (leaves old inside)) = refl
 
   -- a life is given up by the answer `GivenUp` alone, until a new one is created
-  pub row-given_up : {shows : V → V → Type 0} {e : Event V} {old : CoreState V} {a : Answer V} {new : CoreState V} → LoadingRow shows e old a new
+  pub row-given_up : {shows : V → V → Type 0} {e : Event V} {old : CoreState V} {a : Answer V}
+      {new : CoreState V} → LoadingRow shows e old a new
       → is_given_up new.life ≡ given_up_after (is_given_up old.life) a
   row-given_up (no_row_applies e old none) = refl
   row-given_up (acts (creates old is)) = refl
@@ -270,14 +293,16 @@ module _ {V : Type 0} where
   row-given_up (acts (leaves old inside)) = refl
 
   -- a life is given up only where nobody waits, and the core is then as a new one
-  pub row-alone : {shows : V → V → Type 0} {e : Event V} {old : CoreState V} {a : Answer V} {new : CoreState V} → LoadingRow shows e old a new
+  pub row-alone : {shows : V → V → Type 0} {e : Event V} {old : CoreState V} {a : Answer V}
+      {new : CoreState V} → LoadingRow shows e old a new
       → a ≡ answer.GivenUp → waiters_of old.life ≡ []
   row-alone (acts (gives_up e old h by is)) eq = rw is
   row-alone (acts (withdraws _ old h ws _ _ (by_time n) is other waiting)) eq = absurd (cc)
   row-alone (acts (withdraws _ old h ws _ _ (by_cancel n) is other waiting)) eq = absurd (cc)
   row-alone _ eq = absurd (cc)
 
-  pub row-new_core : {shows : V → V → Type 0} {e : Event V} {old : CoreState V} {a : Answer V} {new : CoreState V} → LoadingRow shows e old a new
+  pub row-new_core : {shows : V → V → Type 0} {e : Event V} {old : CoreState V} {a : Answer V}
+      {new : CoreState V} → LoadingRow shows e old a new
       → a ≡ answer.GivenUp → new ≡ new_core
   row-new_core (acts (gives_up e old h by is)) eq = refl
   row-new_core (acts (withdraws _ old h ws _ _ (by_time n) is other waiting)) eq = absurd (cc)
@@ -285,7 +310,8 @@ module _ {V : Type 0} where
   row-new_core _ eq = absurd (cc)
 
   -- a waiter joins a loading life alone
-  pub row-joined : {shows : V → V → Type 0} {e : Event V} {old : CoreState V} {a : Answer V} {new : CoreState V} → LoadingRow shows e old a new
+  pub row-joined : {shows : V → V → Type 0} {e : Event V} {old : CoreState V} {a : Answer V}
+      {new : CoreState V} → LoadingRow shows e old a new
       → a ≡ answer.Joined → is_given_up old.life ≡ false
   row-joined (acts (joins old h ws n is inside other absent)) eq = rw is
   row-joined (acts (withdraws _ old h ws _ _ (by_time n) is other waiting)) eq = absurd (cc)
@@ -293,61 +319,82 @@ module _ {V : Type 0} where
   row-joined _ eq = absurd (cc)
 
   -- who waits goes on waiting until it is let go
-  pub row-stays : {shows : V → V → Type 0} {e : Event V} {old : CoreState V} {a : Answer V} {new : CoreState V} → LoadingRow shows e old a new
+  pub row-stays : {shows : V → V → Type 0} {e : Event V} {old : CoreState V} {a : Answer V}
+      {new : CoreState V} → LoadingRow shows e old a new
       → (n : ℕ) → waits n old ≡ true → lets_go n e a ≡ false → waits n new ≡ true
   row-stays (no_row_applies e old none) k waiting kept = waiting
-  row-stays (acts (creates old is)) k waiting kept = let none : false ≡ true = rw is at waiting in absurd (cc)
-  row-stays (acts (joins old h ws n is inside other absent)) k waiting kept = has-joined k n ws (rw is at waiting)
+  row-stays (acts (creates old is)) k waiting kept =
+      let none : false ≡ true = rw is at waiting in absurd (cc)
+  row-stays (acts (joins old h ws n is inside other absent)) k waiting kept =
+      has-joined k n ws (rw is at waiting)
   row-stays (acts (lacks_room old h ws n is inside other absent)) k waiting kept = waiting
   row-stays (acts (shows_the_value e old v w is asks same)) k waiting kept = waiting
   row-stays (acts (lacks_a_clone e old v is asks)) k waiting kept = waiting
   row-stays (acts (fills old ws v is)) k waiting kept = absurd (cc)
-  row-stays (acts (hands_on _ old _ others m abandoning is)) k waiting kept = has-handed k m others (rw is at waiting) kept
-  row-stays (acts (hands_on _ old _ others m (cancelling n) is)) k waiting kept = has-handed k m others (rw is at waiting) kept
-  row-stays (acts (gives_up e old _ by is)) k waiting kept = let none : false ≡ true = rw is at waiting in absurd (cc)
+  row-stays (acts (hands_on _ old _ others m abandoning is)) k waiting kept =
+      has-handed k m others (rw is at waiting) kept
+  row-stays (acts (hands_on _ old _ others m (cancelling n) is)) k waiting kept =
+      has-handed k m others (rw is at waiting) kept
+  row-stays (acts (gives_up e old _ by is)) k waiting kept =
+      let none : false ≡ true = rw is at waiting in absurd (cc)
   row-stays (acts (receives e old _ ws by is)) k waiting kept = rw is at waiting
   row-stays (acts (waits_on old h ws n is other waits)) k waiting kept = waiting
-  row-stays (acts (withdraws _ old h ws _ _ (by_time n) is other waits)) k waiting kept = has-left k n ws (rw is at waiting) kept
-  row-stays (acts (withdraws _ old h ws _ _ (by_cancel n) is other waits)) k waiting kept = has-left k n ws (rw is at waiting) kept
+  row-stays (acts (withdraws _ old h ws _ _ (by_time n) is other waits)) k waiting kept =
+      has-left k n ws (rw is at waiting) kept
+  row-stays (acts (withdraws _ old h ws _ _ (by_cancel n) is other waits)) k waiting kept =
+      has-left k n ws (rw is at waiting) kept
   row-stays (acts (cancels_in_vain old v n is)) k waiting kept = waiting
   row-stays (acts (leaves old inside)) k waiting kept = waiting
 
   -- the guard goes to the waiter that was added last
-  pub row-last : {shows : V → V → Type 0} {e : Event V} {old : CoreState V} {a : Answer V} {new : CoreState V} → LoadingRow shows e old a new
+  pub row-last : {shows : V → V → Type 0} {e : Event V} {old : CoreState V} {a : Answer V}
+      {new : CoreState V} → LoadingRow shows e old a new
       → (m : ℕ) → a ≡ answer.HandedTo m → waiters_of old.life ≡ waiters_of new.life ++ m ∷ []
-  row-last (acts (hands_on e old h others k by is)) m eq = let same : k ≡ m = cc in rw (is, same) refl
+  row-last (acts (hands_on e old h others k by is)) m eq =
+      let same : k ≡ m = cc in rw (is, same) refl
   row-last (acts (withdraws _ old h ws _ _ (by_time n) is other waiting)) m eq = absurd (cc)
   row-last (acts (withdraws _ old h ws _ _ (by_cancel n) is other waiting)) m eq = absurd (cc)
   row-last _ m eq = absurd (cc)
 
   -- who joins waits afterwards
-  pub row-joins : {shows : V → V → Type 0} {e : Event V} {old : CoreState V} {a : Answer V} {new : CoreState V} → LoadingRow shows e old a new
+  pub row-joins : {shows : V → V → Type 0} {e : Event V} {old : CoreState V} {a : Answer V}
+      {new : CoreState V} → LoadingRow shows e old a new
       → (n : ℕ) → e ≡ Join n → a ≡ answer.Joined → waits n new ≡ true
-  row-joins (acts (joins old h ws m is inside other absent)) n at eq = let same : m ≡ n = cc in rw same (has-added n ws)
+  row-joins (acts (joins old h ws m is inside other absent)) n at eq =
+      let same : m ≡ n = cc in rw same (has-added n ws)
   row-joins (acts (withdraws _ old h ws _ _ (by_time m) is other waiting)) n at eq = absurd (cc)
   row-joins (acts (withdraws _ old h ws _ _ (by_cancel m) is other waiting)) n at eq = absurd (cc)
   row-joins _ n at eq = absurd (cc)
 
   -- an event by which the waiter joins
-  joins_as-parts : (n : ℕ) (e : Event V) (a : Answer V) → joins_as n e a ≡ true → (e ≡ Join n) × (a ≡ answer.Joined)
-  joins_as-parts n (Join m) answer.Joined t = let same : m ≡ n = grind (arith, nat_tests) in (rw same refl, refl)
+  joins_as-parts : (n : ℕ) (e : Event V) (a : Answer V) → joins_as n e a ≡ true
+      → (e ≡ Join n) × (a ≡ answer.Joined)
+  joins_as-parts n (Join m) answer.Joined t =
+      let same : m ≡ n = grind (arith, nat_tests) in (rw same refl, refl)
   joins_as-parts n (Join m) _ t = absurd (cc)
   joins_as-parts n _ a t = absurd (cc)
 
   -- who waits after an event, by what it did before, the event and its answer, does wait
-  pub row-waits : {shows : V → V → Type 0} {e : Event V} {old : CoreState V} {a : Answer V} {new : CoreState V} → LoadingRow shows e old a new
-      → (n : ℕ) (before : Bool) → (before ≡ true → waits n old ≡ true) → waits_after n before e a ≡ true → waits n new ≡ true
-  row-waits {shows} {e} {old} {a} {new} row n before did still = by_before before did (both (before || joins_as n e a) (not (lets_go n e a)) still) where
-    by_before : (b : Bool) → (b ≡ true → waits n old ≡ true) → ((b || joins_as n e a) ≡ true) × (not (lets_go n e a) ≡ true) → waits n new ≡ true
-    by_before true did parts = row-stays row n (did refl) (not-true (lets_go n e a) parts.1)
-    by_before false did parts = let joined = joins_as-parts n e a parts.0 in row-joins row n joined.0 joined.1
+  pub row-waits : {shows : V → V → Type 0} {e : Event V} {old : CoreState V} {a : Answer V}
+      {new : CoreState V} → LoadingRow shows e old a new
+      → (n : ℕ) (before : Bool) → (before ≡ true → waits n old ≡ true)
+      → waits_after n before e a ≡ true → waits n new ≡ true
+  row-waits {shows} {e} {old} {a} {new} row n before did still =
+      by_before before did (both (before || joins_as n e a) (not (lets_go n e a)) still) where
+        by_before : (b : Bool) → (b ≡ true → waits n old ≡ true)
+            → ((b || joins_as n e a) ≡ true) × (not (lets_go n e a) ≡ true) → waits n new ≡ true
+        by_before true did parts = row-stays row n (did refl) (not-true (lets_go n e a) parts.1)
+        by_before false did parts =
+            let joined = joins_as-parts n e a parts.0 in row-joins row n joined.0 joined.1
 
   -- who would join a life that was given up is answered `NotNow`
-  pub row-none_joins : {shows : V → V → Type 0} {e : Event V} {old : CoreState V} {a : Answer V} {new : CoreState V} → LoadingRow shows e old a new
+  pub row-none_joins : {shows : V → V → Type 0} {e : Event V} {old : CoreState V} {a : Answer V}
+      {new : CoreState V} → LoadingRow shows e old a new
       → (n : ℕ) → e ≡ Join n → is_given_up old.life ≡ true → a ≡ answer.NotNow
   row-none_joins {shows} {e} {old} {a} row n is ended =
       let cannot : applies (Join n) old ≡ false = closed old.life ended old.in_shard in
-      let told : not (is_not_now a) ≡ false = sym (row-applies row) ∙ ap (λ d. applies d old) is ∙ cannot in
+      let told : not (is_not_now a) ≡ false =
+      sym (row-applies row) ∙ ap (λ d. applies d old) is ∙ cannot in
       only-not_now a told where
         closed : (l : Life V) → is_given_up l ≡ true → (b : Bool) → (b && can_join n l) ≡ false
         closed GivenUp up true = refl

@@ -21,10 +21,12 @@ has-push n (w ∷ ws) m = rw (has-push n ws m) (by_cases (w == n) (has n ws) (m 
   by_cases true b c = refl
   by_cases false b c = refl
 
-is_distinct-push : (ws : List ℕ) (m : ℕ) → is_distinct (ws ++ m ∷ []) ≡ (not (has m ws) && is_distinct ws)
+is_distinct-push : (ws : List ℕ) (m : ℕ)
+    → is_distinct (ws ++ m ∷ []) ≡ (not (has m ws) && is_distinct ws)
 is_distinct-push [] m = refl
 is_distinct-push (w ∷ ws) m =
-    rw (has-push w ws m, is_distinct-push ws m, same-test m w) (by_cases (w == m) (has w ws) (has m ws) (is_distinct ws)) where
+    rw (has-push w ws m, is_distinct-push ws m, same-test m w)
+    (by_cases (w == m) (has w ws) (has m ws) (is_distinct ws)) where
       by_cases : (a b c d : Bool) → (not (b || a) && (not c && d)) ≡ (not (a || c) && (not b && d))
       by_cases true true c d = refl
       by_cases true false c d = refl
@@ -35,61 +37,80 @@ is_distinct-push (w ∷ ws) m =
 -- who is not in a list is not in it once another is taken out
 has-without : (m n : ℕ) (ws : List ℕ) → has m ws ≡ false → has m (without_waiter n ws) ≡ false
 has-without m n [] absent = refl
-has-without m n (w ∷ ws) absent = by_cases (w == m) (not (w == n)) refl absent (has-without m n ws) where
-  by_cases : (a b : Bool) → (w == m) ≡ a → (a || has m ws) ≡ false → (has m ws ≡ false → has m (without_waiter n ws) ≡ false)
-      → has m (cond b (w ∷ without_waiter n ws) (without_waiter n ws)) ≡ false
-  by_cases true b e h rest = absurd (cc)
-  by_cases false true e h rest = rw e (rest h)
-  by_cases false false e h rest = rest h
+has-without m n (w ∷ ws) absent =
+    by_cases (w == m) (not (w == n)) refl absent (has-without m n ws) where
+      by_cases : (a b : Bool) → (w == m) ≡ a → (a || has m ws) ≡ false
+          → (has m ws ≡ false → has m (without_waiter n ws) ≡ false)
+          → has m (cond b (w ∷ without_waiter n ws) (without_waiter n ws)) ≡ false
+      by_cases true b e h rest = absurd (cc)
+      by_cases false true e h rest = rw e (rest h)
+      by_cases false false e h rest = rest h
 
-is_distinct-without : (n : ℕ) (ws : List ℕ) → is_distinct ws ≡ true → is_distinct (without_waiter n ws) ≡ true
+is_distinct-without : (n : ℕ) (ws : List ℕ) → is_distinct ws ≡ true
+    → is_distinct (without_waiter n ws) ≡ true
 is_distinct-without n [] distinct = refl
-is_distinct-without n (w ∷ ws) distinct = by_cases (has w ws) (not (w == n)) refl distinct (is_distinct-without n ws) where
-  by_cases : (a b : Bool) → has w ws ≡ a → (not a && is_distinct ws) ≡ true → (is_distinct ws ≡ true → is_distinct (without_waiter n ws) ≡ true)
-      → is_distinct (cond b (w ∷ without_waiter n ws) (without_waiter n ws)) ≡ true
-  by_cases true b e h rest = absurd (cc)
-  by_cases false true e h rest = rw (has-without w n ws e) (rest h)
-  by_cases false false e h rest = rest h
+is_distinct-without n (w ∷ ws) distinct =
+    by_cases (has w ws) (not (w == n)) refl distinct (is_distinct-without n ws) where
+      by_cases : (a b : Bool) → has w ws ≡ a → (not a && is_distinct ws) ≡ true
+          → (is_distinct ws ≡ true → is_distinct (without_waiter n ws) ≡ true)
+          → is_distinct (cond b (w ∷ without_waiter n ws) (without_waiter n ws)) ≡ true
+      by_cases true b e h rest = absurd (cc)
+      by_cases false true e h rest = rw (has-without w n ws e) (rest h)
+      by_cases false false e h rest = rest h
 
 distinct_of : (h : Holder) (ws : List ℕ) → is_apart h ws ≡ true → is_distinct ws ≡ true
 distinct_of Held ws apart = apart
 distinct_of (HandedTo m) ws apart = (both (not (has m ws)) (is_distinct ws) apart).1
 
 -- a new waiter leaves holder and waiters apart
-pub is_apart-push : (h : Holder) (ws : List ℕ) (n : ℕ) → is_apart h ws ≡ true → is_handed_to h n ≡ false → has n ws ≡ false
+pub is_apart-push : (h : Holder) (ws : List ℕ) (n : ℕ) → is_apart h ws ≡ true
+    → is_handed_to h n ≡ false → has n ws ≡ false
     → is_apart h (ws ++ n ∷ []) ≡ true
 is_apart-push Held ws n apart other absent = rw (is_distinct-push ws n, absent) apart
 is_apart-push (HandedTo m) ws n apart other absent =
     let parts = both (not (has m ws)) (is_distinct ws) apart in
-    rw (has-push m ws n, not-true (has m ws) parts.0, is_distinct-push ws n, absent, same-test n m, other) parts.1
+    rw (
+      has-push m ws n,
+      not-true (has m ws) parts.0,
+      is_distinct-push ws n,
+      absent,
+      same-test n m,
+      other,
+    ) parts.1
 
 -- a waiter that leaves does too
-pub is_apart-without : (h : Holder) (ws : List ℕ) (n : ℕ) → is_apart h ws ≡ true → is_apart h (without_waiter n ws) ≡ true
+pub is_apart-without : (h : Holder) (ws : List ℕ) (n : ℕ) → is_apart h ws ≡ true
+    → is_apart h (without_waiter n ws) ≡ true
 is_apart-without Held ws n apart = is_distinct-without n ws apart
 is_apart-without (HandedTo m) ws n apart =
     let parts = both (not (has m ws)) (is_distinct ws) apart in
     rw (has-without m n ws (not-true (has m ws) parts.0)) (is_distinct-without n ws parts.1)
 
 -- and so does one that is taken from the end and handed the guard
-is_apart-pop : (h : Holder) (ws rest : List ℕ) (m : ℕ) → is_apart h ws ≡ true → ws ≡ rest ++ m ∷ [] → is_apart (HandedTo m) rest ≡ true
-is_apart-pop h ws rest m apart is = sym (is_distinct-push rest m) ∙ rw is at (distinct_of h ws apart)
+is_apart-pop : (h : Holder) (ws rest : List ℕ) (m : ℕ) → is_apart h ws ≡ true → ws ≡ rest ++ m ∷ []
+    → is_apart (HandedTo m) rest ≡ true
+is_apart-pop h ws rest m apart is =
+    sym (is_distinct-push rest m) ∙ rw is at (distinct_of h ws apart)
 
 module _ {V : Type 0} where
   -- the same of what is stored, while it is loading
-  pub pass_on_sound : (s : Stage V) (ws rest : List ℕ) (m : ℕ) → is_sound (life_of s ws) ≡ true → is_loading (life_of s ws) ≡ true
+  pub pass_on_sound : (s : Stage V) (ws rest : List ℕ) (m : ℕ) → is_sound (life_of s ws) ≡ true
+      → is_loading (life_of s ws) ≡ true
       → ws ≡ rest ++ m ∷ [] → is_apart (HandedTo m) rest ≡ true
   pass_on_sound (Loading h) ws rest m sound loading is = is_apart-pop h ws rest m sound is
   pass_on_sound (Filled v) ws rest m sound loading is = absurd (cc)
   pass_on_sound GivenUp ws rest m sound loading is = absurd (cc)
 
   -- while it is loading, the stored waiters are those who wait
-  pub waiters_of-loading : (s : Stage V) (ws : List ℕ) → is_loading (life_of s ws) ≡ true → waiters_of (life_of s ws) ≡ ws
+  pub waiters_of-loading : (s : Stage V) (ws : List ℕ) → is_loading (life_of s ws) ≡ true
+      → waiters_of (life_of s ws) ≡ ws
   waiters_of-loading (Loading h) ws loading = refl
   waiters_of-loading (Filled v) ws loading = absurd (cc)
   waiters_of-loading GivenUp ws loading = absurd (cc)
 
 -- a list is empty, or has a last one
-pub last-waiter : (ws : List ℕ) → (ws ≡ []) ⊎ ((others : List ℕ) × (m : ℕ) × (ws ≡ others ++ m ∷ []))
+pub last-waiter : (ws : List ℕ)
+    → (ws ≡ []) ⊎ ((others : List ℕ) × (m : ℕ) × (ws ≡ others ++ m ∷ []))
 last-waiter [] = inl refl
 last-waiter (w ∷ ws) = inr (by_rest (last-waiter ws)) where
   by_rest : (ws ≡ []) ⊎ ((others : List ℕ) × (m : ℕ) × (ws ≡ others ++ m ∷ []))
@@ -108,15 +129,19 @@ has-handed n m others waiting other =
       by_cases false false e f = e
 
 -- who waits still waits once another left
-pub has-left : (n m : ℕ) (ws : List ℕ) → has n ws ≡ true → (m == n) ≡ false → has n (without_waiter m ws) ≡ true
+pub has-left : (n m : ℕ) (ws : List ℕ) → has n ws ≡ true → (m == n) ≡ false
+    → has n (without_waiter m ws) ≡ true
 has-left n m [] waiting other = waiting
-has-left n m (w ∷ ws) waiting other = by_cases (w == n) (w == m) refl refl waiting (has-left n m ws) where
-  by_cases : (a b : Bool) → (w == n) ≡ a → (w == m) ≡ b → (a || has n ws) ≡ true → (has n ws ≡ true → (m == n) ≡ false → has n (without_waiter m ws) ≡ true)
-      → has n (cond (not b) (w ∷ without_waiter m ws) (without_waiter m ws)) ≡ true
-  by_cases true true e f h rest = let clash : true ≡ false = grind (arith, nat_tests) in absurd (cc)
-  by_cases true false e f h rest = rw e refl
-  by_cases false true e f h rest = rest h other
-  by_cases false false e f h rest = rw e (rest h other)
+has-left n m (w ∷ ws) waiting other =
+    by_cases (w == n) (w == m) refl refl waiting (has-left n m ws) where
+      by_cases : (a b : Bool) → (w == n) ≡ a → (w == m) ≡ b → (a || has n ws) ≡ true
+          → (has n ws ≡ true → (m == n) ≡ false → has n (without_waiter m ws) ≡ true)
+          → has n (cond (not b) (w ∷ without_waiter m ws) (without_waiter m ws)) ≡ true
+      by_cases true true e f h rest =
+          let clash : true ≡ false = grind (arith, nat_tests) in absurd (cc)
+      by_cases true false e f h rest = rw e refl
+      by_cases false true e f h rest = rest h other
+      by_cases false false e f h rest = rw e (rest h other)
 
 -- who waits still waits once another came
 pub has-joined : (n m : ℕ) (ws : List ℕ) → has n ws ≡ true → has n (ws ++ m ∷ []) ≡ true
@@ -124,7 +149,8 @@ has-joined n m ws waiting = rw (has-push n ws m, waiting) refl
 
 -- who comes is in the list
 pub has-added : (n : ℕ) (ws : List ℕ) → has n (ws ++ n ∷ []) ≡ true
-has-added n ws = has-push n ws n ∙ ap (λ b. has n ws || b) (same-number n) ∙ or-true (has n ws) where
-  or-true : (a : Bool) → (a || true) ≡ true
-  or-true true = refl
-  or-true false = refl
+has-added n ws =
+    has-push n ws n ∙ ap (λ b. has n ws || b) (same-number n) ∙ or-true (has n ws) where
+      or-true : (a : Bool) → (a || true) ≡ true
+      or-true true = refl
+      or-true false = refl

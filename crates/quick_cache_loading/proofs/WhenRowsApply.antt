@@ -42,7 +42,8 @@ module _ {V : Type 0} where
       {new : CoreState V} → ActingRow shows e old a new → applies e old ≡ true
   acting-applies (creates old is) = rw is refl
   acting-applies (joins old h ws n is inside other absent) = rw (is, inside, other, absent) refl
-  acting-applies (lacks_room old h ws n is inside other absent) = rw (is, inside, other, absent) refl
+  acting-applies (lacks_room old h ws n is inside other absent) =
+      rw (is, inside, other, absent) refl
   acting-applies (shows_the_value e old v w is asks same) = asks-applies v is asks
   acting-applies (lacks_a_clone e old v is asks) = asks-applies v is asks
   acting-applies (fills old ws v is) = rw is refl
@@ -53,8 +54,10 @@ module _ {V : Type 0} where
   acting-applies (receives _ old _ ws (taking n) is) = rw (is, same-number n) refl
   acting-applies (receives _ old _ ws (timing_out n) is) = rw (is, same-number n) refl
   acting-applies (waits_on old h ws n is other waiting) = rw is (or-false _ _ other waiting)
-  acting-applies (withdraws _ old h ws _ _ (by_time n) is other waiting) = rw is (or-false _ _ other waiting)
-  acting-applies (withdraws _ old h ws _ _ (by_cancel n) is other waiting) = rw is (or-false _ _ other waiting)
+  acting-applies (withdraws _ old h ws _ _ (by_time n) is other waiting) =
+      rw is (or-false _ _ other waiting)
+  acting-applies (withdraws _ old h ws _ _ (by_cancel n) is other waiting) =
+      rw is (or-false _ _ other waiting)
   acting-applies (cancels_in_vain old v n is) = rw is refl
   acting-applies (leaves old inside) = inside
 
@@ -71,7 +74,8 @@ module _ {V : Type 0} (shows : V → V → Type 0) where
     by_list xs at (inl none) = (_, _, gives_up e old h by (at ∙ ap (Loading h) none))
     by_list xs at (inr p) = (_, _, hands_on e old h p.0 p.1 by (at ∙ ap (Loading h) p.2))
 
-  some_create : (l : Life V) (old : CoreState V) → old.life ≡ l → is_given_up l ≡ true → SomeRow Create old
+  some_create : (l : Life V) (old : CoreState V) → old.life ≡ l → is_given_up l ≡ true
+      → SomeRow Create old
   some_create GivenUp old is up = (_, _, creates old is)
   some_create (Loading h ws) old is up = absurd (cc)
   some_create (Filled v) old is up = absurd (cc)
@@ -81,16 +85,19 @@ module _ {V : Type 0} (shows : V → V → Type 0) where
   some_join (Loading h ws) n old is inside free =
       let apart = both-false (is_handed_to h n) (has n ws) (not-true _ free) in
       (_, _, joins old h ws n is inside apart.0 apart.1)
-  some_join (Filled v) n old is inside free = (_, _, lacks_a_clone (Join n) old v is (by_joining n old inside))
+  some_join (Filled v) n old is inside free =
+      (_, _, lacks_a_clone (Join n) old v is (by_joining n old inside))
   some_join GivenUp n old is inside free = absurd (cc)
 
-  some_fill : (l : Life V) (v : V) (old : CoreState V) → old.life ≡ l → (held_in l == 1) ≡ true → SomeRow (Fill v) old
+  some_fill : (l : Life V) (v : V) (old : CoreState V) → old.life ≡ l → (held_in l == 1) ≡ true
+      → SomeRow (Fill v) old
   some_fill (Loading Held ws) v old is held = (_, _, fills old ws v is)
   some_fill (Loading (HandedTo m) ws) v old is held = absurd (cc)
   some_fill (Filled w) v old is held = absurd (cc)
   some_fill GivenUp v old is held = absurd (cc)
 
-  some_abandon : (l : Life V) (old : CoreState V) → old.life ≡ l → (held_in l == 1) ≡ true → SomeRow Abandon old
+  some_abandon : (l : Life V) (old : CoreState V) → old.life ≡ l → (held_in l == 1) ≡ true
+      → SomeRow Abandon old
   some_abandon (Loading Held ws) old is held = passed_on Abandon old Held ws abandoning is
   some_abandon (Loading (HandedTo m) ws) old is held = absurd (cc)
   some_abandon (Filled w) old is held = absurd (cc)
@@ -107,23 +114,30 @@ module _ {V : Type 0} (shows : V → V → Type 0) where
     | inr other ↦ waits other (or-left (m == n) (has n ws) other there)
   ]
 
-  some_take : (l : Life V) (n : ℕ) (old : CoreState V) → old.life ≡ l → concerns n l ≡ true → SomeRow (Take n) old
+  some_take : (l : Life V) (n : ℕ) (old : CoreState V) → old.life ≡ l → concerns n l ≡ true
+      → SomeRow (Take n) old
   some_take (Loading h ws) n old is there =
-      some_waiter (Take n) h ws n old there is (λ at. (_, _, receives (Take n) old n ws (taking n) at))
+      some_waiter (Take n) h ws n old there is
+      (λ at. (_, _, receives (Take n) old n ws (taking n) at))
       (λ other waiting. (_, _, waits_on old h ws n is other waiting))
   some_take (Filled v) n old is there = (_, _, lacks_a_clone (Take n) old v is (by_taking n old))
   some_take GivenUp n old is there = absurd (cc)
 
-  some_time_out : (l : Life V) (n : ℕ) (old : CoreState V) → old.life ≡ l → concerns n l ≡ true → SomeRow (TimeOut n) old
+  some_time_out : (l : Life V) (n : ℕ) (old : CoreState V) → old.life ≡ l → concerns n l ≡ true
+      → SomeRow (TimeOut n) old
   some_time_out (Loading h ws) n old is there =
-      some_waiter (TimeOut n) h ws n old there is (λ at. (_, _, receives (TimeOut n) old n ws (timing_out n) at))
+      some_waiter (TimeOut n) h ws n old there is
+      (λ at. (_, _, receives (TimeOut n) old n ws (timing_out n) at))
       (λ other waiting. (_, _, withdraws (TimeOut n) old h ws n _ (by_time n) is other waiting))
-  some_time_out (Filled v) n old is there = (_, _, lacks_a_clone (TimeOut n) old v is (by_timing_out n old))
+  some_time_out (Filled v) n old is there =
+      (_, _, lacks_a_clone (TimeOut n) old v is (by_timing_out n old))
   some_time_out GivenUp n old is there = absurd (cc)
 
-  some_cancel : (l : Life V) (n : ℕ) (old : CoreState V) → old.life ≡ l → concerns n l ≡ true → SomeRow (Cancel n) old
+  some_cancel : (l : Life V) (n : ℕ) (old : CoreState V) → old.life ≡ l → concerns n l ≡ true
+      → SomeRow (Cancel n) old
   some_cancel (Loading h ws) n old is there =
-      some_waiter (Cancel n) h ws n old there is (λ at. passed_on (Cancel n) old (HandedTo n) ws (cancelling n) at)
+      some_waiter (Cancel n) h ws n old there is
+      (λ at. passed_on (Cancel n) old (HandedTo n) ws (cancelling n) at)
       (λ other waiting. (_, _, withdraws (Cancel n) old h ws n _ (by_cancel n) is other waiting))
   some_cancel (Filled v) n old is there = (_, _, cancels_in_vain old v n is)
   some_cancel GivenUp n old is there = absurd (cc)
@@ -142,11 +156,13 @@ module _ {V : Type 0} (shows : V → V → Type 0) where
   some_row Leave old holds = (_, _, leaves old holds)
 
   -- where the test fails no row is
-  pub NoRowApplies-from : (e : Event V) (old : CoreState V) → applies e old ≡ false → NoRowApplies shows e old
+  pub NoRowApplies-from : (e : Event V) (old : CoreState V) → applies e old ≡ false
+      → NoRowApplies shows e old
   NoRowApplies-from e old fails = λ a new row. true≢false (sym (acting-applies row) ∙ fails)
 
   -- and where no row is the test fails
-  pub applies-from_none : (e : Event V) (old : CoreState V) → NoRowApplies shows e old → applies e old ≡ false
+  pub applies-from_none : (e : Event V) (old : CoreState V) → NoRowApplies shows e old
+      → applies e old ≡ false
   applies-from_none e old none = elim (cases_Bool (applies e old)) [
     | inl test ↦ let row = some_row e old test in absurd (none row.0 row.1 row.2)
     | inr fails ↦ fails

@@ -1,4 +1,5 @@
--- The table of the loading core, a row for each thing that can happen: the event, the core before it,
+-- The table of the loading core, a row for each thing that can happen: the event, the core before
+-- it,
 -- its answer, the core after it.
 use Rattle.std.specs.Prelude.{◌≡◌, ◌↔◌, ℕ, true, false, List, [], ◌∷◌, ◌++◌}
 use Rattle.quick_cache_loading.specs.Waiting.{has, without_waiter}
@@ -43,7 +44,8 @@ module _ {V : Type 0} (shows : V → V → Type 0) where
     joins : (old : CoreState V) (h : Holder) (waiters : List ℕ) (n : ℕ)
         → old.life ≡ Loading h waiters → old.in_shard ≡ true
         → is_handed_to h n ≡ false → has n waiters ≡ false
-        → ActingRow (Join n) old answer.Joined (core_state (Loading h (waiters ++ n ∷ [])) old.in_shard)
+        → ActingRow (Join n) old answer.Joined
+        (core_state (Loading h (waiters ++ n ∷ [])) old.in_shard)
     -- or there is no memory for it
     lacks_room : (old : CoreState V) (h : Holder) (waiters : List ℕ) (n : ℕ)
         → old.life ≡ Loading h waiters → old.in_shard ≡ true
@@ -63,7 +65,8 @@ module _ {V : Type 0} (shows : V → V → Type 0) where
     -- a guard that is let go is on its way to the waiter that was added last
     hands_on : (e : Event V) (old : CoreState V) (h : Holder) (others : List ℕ) (m : ℕ)
         → Releases e h → old.life ≡ Loading h (others ++ m ∷ [])
-        → ActingRow e old (answer.HandedTo m) (core_state (Loading (HandedTo m) others) old.in_shard)
+        → ActingRow e old (answer.HandedTo m)
+        (core_state (Loading (HandedTo m) others) old.in_shard)
     -- or, where nobody waits, the life is given up
     gives_up : (e : Event V) (old : CoreState V) (h : Holder)
         → Releases e h → old.life ≡ Loading h [] → ActingRow e old answer.GivenUp new_core

@@ -34,7 +34,8 @@ Adds holder waiters n old a new =
     ((a ≡ answer.Joined) × (new ≡ core_state (Loading holder (waiters ++ n ∷ [])) old.in_shard))
     ⊎ ((a ≡ answer.Refused Memory) × (new ≡ old))
 
--- in the shard: one who neither waits nor was handed the guard is added; a filled life shows its value
+-- in the shard: one who neither waits nor was handed the guard is added; a filled life shows its
+-- value
 abbrev pub Joins : {V : Type 0} → (V → V → Type 0) → Life V → ℕ
     → CoreState V → Answer V → CoreState V → Type 0
 Joins shows (Loading holder waiters) n old a new =
@@ -64,7 +65,8 @@ PassesOn waiters old a new =
     × (a ≡ answer.HandedTo m) × (new ≡ core_state (Loading (HandedTo m) others) old.in_shard))
 
 -- a held guard is passed on
-abbrev pub AbandonsBy : {V : Type 0} → Holder → List ℕ → CoreState V → Answer V → CoreState V → Type 0
+abbrev pub AbandonsBy : {V : Type 0} → Holder → List ℕ → CoreState V → Answer V → CoreState V
+    → Type 0
 AbandonsBy Held waiters old a new = PassesOn waiters old a new
 AbandonsBy (HandedTo m) waiters old a new = NotNowOf old a new
 
@@ -76,7 +78,8 @@ Abandons GivenUp old a new = NotNowOf old a new
 
 -- the guard reaches the waiter that it was on its way to
 abbrev pub Receives : {V : Type 0} → List ℕ → CoreState V → Answer V → CoreState V → Type 0
-Receives waiters old a new = (a ≡ answer.Guard) × (new ≡ core_state (Loading Held waiters) old.in_shard)
+Receives waiters old a new =
+    (a ≡ answer.Guard) × (new ≡ core_state (Loading Held waiters) old.in_shard)
 
 -- one who waits goes on waiting
 abbrev pub Remains : {V : Type 0} → List ℕ → ℕ → CoreState V → Answer V → CoreState V → Type 0
@@ -122,7 +125,8 @@ Cancels GivenUp n old a new = NotNowOf old a new
 -- the placeholder leaves the shard, and its life goes on
 abbrev pub Leaves : {V : Type 0} → CoreState V → Answer V → CoreState V → Type 0
 Leaves old a new =
-    MatchBool old.in_shard ((a ≡ answer.Done) × (new ≡ core_state old.life false)) (NotNowOf old a new)
+    MatchBool old.in_shard
+    ((a ≡ answer.Done) × (new ≡ core_state old.life false)) (NotNowOf old a new)
 
 -- One event: the core before it, the event, its answer, and the core after it.
 abbrev pub LoadingStep : {V : Type 0} → (V → V → Type 0)

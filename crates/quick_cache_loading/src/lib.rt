@@ -1,4 +1,4 @@
-//! The loading core: the life of a placeholder, one event at a time, with the one guard of each life.
+//! The loading core: the life of a placeholder, one event at a time, with the one guard of a life.
 #![tactic(auto)]
 
 pub mod protocol;

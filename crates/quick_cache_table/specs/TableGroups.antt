@@ -1,4 +1,5 @@
--- How a `Table` lays out its pairs: places in groups of sixteen, each with a tag. No public clause cites this module.
+-- How a `Table` lays out its pairs: places in groups of sixteen, each with a tag. No public clause
+-- cites this module.
 use Rattle.std.specs.Prelude.{◌≡◌, ℕ, ◌+◌, ◌-◌, ◌*◌, ◌/◌, ◌^◌, ◌<◌, ◌≤◌, Bool, ◌&&◌, not, ◌==◌, max, min, if◌then◌else◌, List, [], ◌∷◌, zero, suc, length, count_by, filter, filter_map, ◌++◌, Option, Some, None, bit_and, bit_xor, slice_index, slice_index_or}
 use Rattle.std.specs.Int.{IsPowerOfTwo, bit_at}
 use Rattle.quick_cache_table.specs.Table.{is_pair}
@@ -52,7 +53,8 @@ IsReached reaches mask hash position =
     distance (home_of mask hash) position ≤ slice_index reaches (home_of mask hash)
 
 -- a reach for each group, and sixteen tags and places: of a power of two of groups, or of none
-pub record IsGrouped (tags : List ℕ) (places : List Place) (reaches : List ℕ) (mask : ℕ) : Type 0 where
+pub record IsGrouped (tags : List ℕ) (places : List Place) (reaches : List ℕ)
+    (mask : ℕ) : Type 0 where
   pub groups : 0 < length reaches → length reaches ≡ mask + 1
   pub sixteen : length places ≡ 16 * length reaches
   pub tagged : length tags ≡ length places
@@ -61,13 +63,15 @@ pub record IsGrouped (tags : List ℕ) (places : List Place) (reaches : List ℕ
   pub near : (group : ℕ) → slice_index reaches group ≤ mask
 
 -- a pair stands at the position under its tag, and a search finds it there
-pub record IsHousedAt (tags reaches : List ℕ) (mask : ℕ) (place : Place) (position : ℕ) : Type 0 where
+pub record IsHousedAt (tags reaches : List ℕ)
+    (mask : ℕ) (place : Place) (position : ℕ) : Type 0 where
   pub taken : 0 < place.token
   pub tag : slice_index tags position ≡ tag_of (hash_at place)
   pub reached : IsReached reaches mask (hash_at place) position
 
 -- where there is a tag, its pair is housed
-pub record IsHoused (tags : List ℕ) (places : List Place) (reaches : List ℕ) (mask : ℕ) : Type 0 where
+pub record IsHoused (tags : List ℕ) (places : List Place) (reaches : List ℕ)
+    (mask : ℕ) : Type 0 where
   pub sized : IsGrouped tags places reaches mask
   pub housed : (position : ℕ) → position < length places → 0 < slice_index tags position
       → IsHousedAt tags reaches mask (place_at places position) position
@@ -79,7 +83,8 @@ IsBareBelow tags places count =
     → (place_at places position).token ≡ 0
 
 -- every pair is housed
-pub record IsWhole (tags : List ℕ) (places : List Place) (reaches : List ℕ) (mask : ℕ) : Type 0 where
+pub record IsWhole (tags : List ℕ) (places : List Place) (reaches : List ℕ)
+    (mask : ℕ) : Type 0 where
   pub pairs : IsHoused tags places reaches mask
   pub bare : IsBareBelow tags places (length places)
 
@@ -88,7 +93,8 @@ abbrev pub capacity_of : ℕ → ℕ
 capacity_of groups = min (14 * groups) 4294967294
 
 -- the places, the length and the pairs of a table
-pub record IsSound (tags : List ℕ) (places : List Place) (reaches : List ℕ) (mask len : ℕ) : Type 0 where
+pub record IsSound (tags : List ℕ) (places : List Place) (reaches : List ℕ)
+    (mask len : ℕ) : Type 0 where
   pub whole : IsWhole tags places reaches mask
   pub counted : len ≡ length (pairs_of places)
   pub load : len ≤ capacity_of (length reaches)

@@ -103,9 +103,9 @@ impl<A: Allocator> Table<A> {
 
     /// Makes room for `additional` more pairs, or for all that the table can still take.
     ///
-    /// It asks for memory only where the room does not suffice. A growth at least doubles the groups,
-    /// and puts each pair into its group anew. A refused call may keep memory that it got, and
-    /// changes nothing else.
+    /// It asks for memory only where the room does not suffice. A growth at least doubles the
+    /// groups, and puts each pair into its group anew. A refused call may keep memory that it got,
+    /// and changes nothing else.
     ///
     /// # Errors
     ///

@@ -163,7 +163,8 @@ pub(crate) fn take_place(
     places[position] = Place::new(hash, token);
 }
 
-// Houses the pair at that position, where it has no tag, and each that makes room for the one before.
+// Houses the pair at that position, where it has no tag, and each that makes room for the one
+// before.
 fn house(tags: &mut [u8], places: &mut [Place], reaches: &mut [u32], mask: usize, position: usize)
     requires housed { IsHoused tags.old places.old reaches.old mask }
     requires bare { IsBareBelow tags.old places.old position }

@@ -8,7 +8,9 @@ use Rattle.quick_cache_loading.proofs.protocol.abandon.Goals as goal
 -- The step is a row of the table, and each law holds of each row.
 pub returns : goal.returns
 returns g c =
-    let row = row_of_step ShowsNothing Abandon c.args.core.now c.abandon.result c.abandon.new.self c.abandon.ensures in
+    let row =
+    row_of_step ShowsNothing Abandon c.args.core.now c.abandon.result c.abandon.new.self
+    c.abandon.ensures in
     record {
       step = c.abandon.ensures;
       row = row;

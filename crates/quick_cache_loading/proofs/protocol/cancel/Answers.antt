@@ -8,7 +8,9 @@ use Rattle.quick_cache_loading.proofs.protocol.cancel.Goals as goal
 -- The step is a row of the table, and each law holds of each row.
 pub returns : goal.returns
 returns g c =
-    let row = row_of_step ShowsNothing (Cancel c.args.waiter) c.args.core.now c.cancel.result c.cancel.new.self c.cancel.ensures in
+    let row =
+    row_of_step ShowsNothing (Cancel c.args.waiter) c.args.core.now c.cancel.result
+    c.cancel.new.self c.cancel.ensures in
     record {
       step = c.cancel.ensures;
       row = row;

@@ -9,7 +9,9 @@ use Rattle.quick_cache_loading.proofs.protocol.run.Goals as goal
 -- One more event is one more step of the schedule.
 pub loop-event-preserved : goal.loop-event-preserved
 loop-event-preserved g c = record {
-  steps = rw c.push_reserved.ensures.items (LoadingRun-push g.V.Clone.is_clone _ _ _ _ _ _ _ c.loop-event.invariant.steps c.step.ensures.step);
+  steps =
+      rw c.push_reserved.ensures.items (LoadingRun-push g.V.Clone.is_clone _ _ _ _ _ _ _
+      c.loop-event.invariant.steps c.step.ensures.step);
   count = grind (arith, common_steps);
   room = grind (arith, common_steps);
 }
@@ -17,8 +19,11 @@ loop-event-preserved g c = record {
 -- At the loop's end all events were made, so each law of schedules holds of them.
 pub returns : goal.returns
 returns g c =
-    let end = YieldsList-end (YieldsList-from_vec {s = c.into_iter-event-iterator.result} c.args.events.items (search rules) (search rules))
-    c.loop-event.yielded c.loop-event.event-iterator c.loop-event.yielded_by c.next.result c.next.new.self c.in-None.is c.next.ensures.steps in
+    let end =
+    YieldsList-end (YieldsList-from_vec {s = c.into_iter-event-iterator.result}
+    c.args.events.items (search rules) (search rules))
+    c.loop-event.yielded c.loop-event.event-iterator c.loop-event.yielded_by c.next.result
+    c.next.new.self c.in-None.is c.next.ensures.steps in
     let steps = rw (simp map-id at end.0) at c.loop-event.invariant.steps in
     record {
       run = steps;

@@ -5,7 +5,9 @@ use Rattle.quick_cache_loading.proofs.protocol.step.Goals as goal
 -- The step is a row of the table, and each law holds of each row.
 pub returns : goal.returns
 returns g c =
-    let row = row_of_step g.V.Clone.is_clone c.args.event c.args.core.now c.make_happen.result c.make_happen.new.core c.make_happen.ensures in
+    let row =
+    row_of_step g.V.Clone.is_clone c.args.event c.args.core.now c.make_happen.result
+    c.make_happen.new.core c.make_happen.ensures in
     record {
       row = row;
       step = c.make_happen.ensures;

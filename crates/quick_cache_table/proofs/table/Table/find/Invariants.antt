@@ -7,5 +7,7 @@ use Rattle.quick_cache_table.proofs.table.Table.find.Given as goal
 abbrev pub invariant-loop-token : goal.invariant-loop-token
 invariant-loop-token g l = record {
   callable : goal.F-IsAlwaysCallable g l.is_it;
-  onward : (result : Option NonZeroU32) → SearchesAlong (goal.F-step g) l.is_it l.token-iterator result → SearchesAlong (goal.F-step g) l.fn.is_it l.initial.token-iterator result;
+  onward : (result : Option NonZeroU32)
+      → SearchesAlong (goal.F-step g) l.is_it l.token-iterator result
+      → SearchesAlong (goal.F-step g) l.fn.is_it l.initial.token-iterator result;
 }

@@ -2,13 +2,16 @@ use Rattle.std.proofs.Common.{◌≡◌, ap, sym, subst, List}
 use Rattle.quick_cache_table.specs.declared.table.groups.Place.{Place}
 use Rattle.quick_cache_table.specs.Table.{in_order}
 use Rattle.quick_cache_table.specs.TableGroups.{pairs_of, tokens_left, AreTokensOf}
-use Rattle.quick_cache_table.proofs.TableLemmas.{IsTokensOf-walk}
+use Rattle.quick_cache_table.proofs.ShownPairs.{IsTokensOf-walk}
 use Rattle.quick_cache_table.proofs.table.Table.iter_hash.Goals as goal
 
 -- the walk meets each pair of the hash once
 pub returns : goal.returns
 returns g c =
     let places : List Place = c.self.inside.places.items in
-    let shows : c.args.self.now.pairs ≡ in_order (pairs_of places) = sym (ap (λ t. t.pairs) c.self.view_is) in
-    let P : List Place → Type 0 = λ ps. AreTokensOf ps c.args.hash (tokens_left c.new-walk.result) in
-    IsTokensOf-walk c.args.self.now places c.args.hash (tokens_left c.new-walk.result) shows c.self.invariant.once (subst P c.as_slice-2.ensures.value c.new-walk.ensures.all)
+    let shows : c.args.self.now.pairs ≡ in_order (pairs_of places) =
+    sym (ap (λ t. t.pairs) c.self.view_is) in
+    let P : List Place → Type 0 =
+    λ ps. AreTokensOf ps c.args.hash (tokens_left c.new-walk.result) in
+    IsTokensOf-walk c.args.self.now places c.args.hash (tokens_left c.new-walk.result) shows
+    c.self.invariant.once (subst P c.as_slice-2.ensures.value c.new-walk.ensures.all)

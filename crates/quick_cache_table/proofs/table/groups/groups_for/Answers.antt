@@ -11,6 +11,8 @@ returns-clause-few c =
       | inl t ↦ t.1
       | inr t ↦
           let above : 536870912 < c.next_power_of_two.result = omega (arith, t.1) in
-          let doubled = IsPowerOfTwo-double 536870912 c.next_power_of_two.result (29, refl) next.power above in
+          let doubled =
+          IsPowerOfTwo-double 536870912 c.next_power_of_two.result (29, refl) next.power above
+          in
           absurd (omega (arith, doubled, next.upper_bound, c.div_ceil.ensures, c.requires))
     ]

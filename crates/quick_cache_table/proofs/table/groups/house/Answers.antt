@@ -2,7 +2,7 @@
 use Rattle.std.proofs.Common.{◌≡◌, ◌<◌, length, get_or, set, sym, ap, subst, ◌∙◌, arith}
 use Rattle.std.specs.List.{swap}
 use Rattle.quick_cache_table.specs.TableGroups.{hash_at, tag_of, place_at, IsReached, IsHoused, IsBareBelow, HasSamePairs}
-use Rattle.quick_cache_table.proofs.GroupLemmas.{HasSamePairs-swap, HasSamePairs-then, IsHoused-move, IsBareBelow-move}
+use Rattle.quick_cache_table.proofs.HousedPairs.{HasSamePairs-swap, HasSamePairs-then, IsHoused-move, IsBareBelow-move}
 use Rattle.quick_cache_table.proofs.table.groups.house.Goals as goal
 
 pub loop-tags-preserved : goal.loop-tags-preserved
@@ -15,7 +15,8 @@ loop-tags-preserved c =
     let p = c.args.position in
     let q = c.untagged-other.result in
     let hash = hash_at (place_at places p) in
-    let tags_are : c.tag_place.new.tags ≡ set tags q (tag_of hash) = c.tag_place.ensures.tags ∙ ap (λ h. set tags q (tag_of h)) c.hash-hash.ensures in
+    let tags_are : c.tag_place.new.tags ≡ set tags q (tag_of hash) =
+    c.tag_place.ensures.tags ∙ ap (λ h. set tags q (tag_of h)) c.hash-hash.ensures in
     let places_are : c.swap.new.self ≡ swap places p q = c.swap.ensures.after in
     let bare_p : get_or tags p 0 ≡ 0 = omega (arith, c.loop-tags-test.true) in
     let bare_q : get_or tags q 0 ≡ 0 = c.untagged-other.ensures.untagged in
@@ -23,11 +24,23 @@ loop-tags-preserved c =
     let q_in : q < length tags = c.untagged-other.ensures.within in
     let q_inside : q < length places = omega (arith, q_in, kept.housed.sized.tagged) in
     let taken : 0 < (place_at places p).token = omega (arith, c.if-places-position-ne0.true) in
-    let reached : IsReached after mask hash q = subst (λ h. IsReached after mask h q) c.hash-hash.ensures c.tag_place.ensures.reached in
-    let housed = IsHoused-move tags places c.loop-tags.reaches after mask p q kept.housed bare_p bare_q p_in q_in taken reached c.tag_place.ensures.grow c.tag_place.ensures.near in
-    let bare = IsBareBelow-move tags places c.loop-tags.reaches after mask p q kept.housed bare_p bare_q p_in q_in kept.bare in
+    let reached : IsReached after mask hash q =
+    subst (λ h. IsReached after mask h q) c.hash-hash.ensures c.tag_place.ensures.reached in
+    let housed =
+    IsHoused-move tags places c.loop-tags.reaches after mask p q kept.housed bare_p bare_q p_in
+    q_in taken reached c.tag_place.ensures.grow c.tag_place.ensures.near in
+    let bare =
+    IsBareBelow-move tags places c.loop-tags.reaches after mask p q kept.housed bare_p bare_q
+    p_in q_in kept.bare in
     record {
-      housed = subst (λ ts. IsHoused ts c.swap.new.self after mask) (sym tags_are) (subst (λ ps. IsHoused (set tags q (tag_of hash)) ps after mask) (sym places_are) housed);
-      bare = subst (λ ts. IsBareBelow ts c.swap.new.self p) (sym tags_are) (subst (λ ps. IsBareBelow (set tags q (tag_of hash)) ps p) (sym places_are) bare);
-      pairs = subst (λ ps. HasSamePairs c.args.places.now ps) (sym places_are) (HasSamePairs-then c.args.places.now places (swap places p q) kept.pairs (HasSamePairs-swap places p q p_in q_inside));
+      housed =
+          subst (λ ts. IsHoused ts c.swap.new.self after mask) (sym tags_are)
+          (subst (λ ps. IsHoused (set tags q (tag_of hash)) ps after mask) (sym places_are) housed);
+      bare =
+          subst (λ ts. IsBareBelow ts c.swap.new.self p) (sym tags_are)
+          (subst (λ ps. IsBareBelow (set tags q (tag_of hash)) ps p) (sym places_are) bare);
+      pairs =
+          subst (λ ps. HasSamePairs c.args.places.now ps) (sym places_are) (HasSamePairs-then
+          c.args.places.now places (swap places p q) kept.pairs
+          (HasSamePairs-swap places p q p_in q_inside));
     }

@@ -1,5 +1,5 @@
 use Rattle.std.proofs.Common.{◌≤◌}
-use Rattle.quick_cache_table.proofs.LeaveLemmas.{AreWithin}
+use Rattle.quick_cache_table.proofs.FreedPlaces.{AreWithin}
 use Rattle.quick_cache_table.proofs.table.groups.shorten.Given as goal
 
 -- no pair of the home is farther from it

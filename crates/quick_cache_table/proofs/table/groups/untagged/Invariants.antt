@@ -1,6 +1,6 @@
 -- No group that was read has a place without a tag.
 use Rattle.std.proofs.Common.{◌+◌, ◌-◌}
-use Rattle.quick_cache_table.proofs.GroupLemmas.{AreTagged}
+use Rattle.quick_cache_table.proofs.NearestFreePlace.{AreTagged}
 use Rattle.quick_cache_table.proofs.table.groups.untagged.Given as goal
 
 abbrev pub invariant-loop-mask : goal.invariant-loop-mask

@@ -10,4 +10,5 @@ invariant_of-self-in-Loading g c =
     let added : c.add.new.self ≡ c.self.inside.waiters ++ c.args.waiter ∷ [] = search rules in
     let other : is_handed_to c.in-Loading.holder c.args.waiter ≡ false = search rules in
     let absent : has c.args.waiter c.self.inside.waiters ≡ false = search rules in
-    rw (c.in-Loading.is, added) (is_apart-push c.in-Loading.holder c.self.inside.waiters c.args.waiter (rw c.in-Loading.is at c.self.invariant) other absent)
+    rw (c.in-Loading.is, added) (is_apart-push c.in-Loading.holder c.self.inside.waiters
+    c.args.waiter (rw c.in-Loading.is at c.self.invariant) other absent)

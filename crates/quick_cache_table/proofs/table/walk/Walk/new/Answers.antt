@@ -1,16 +1,38 @@
 use Rattle.quick_cache_table.specs.declared.table.walk.Walk.{Walk}
-use Rattle.quick_cache_table.proofs.TableWalkLemmas.{begins_walk, some-from_test}
+use Rattle.quick_cache_table.proofs.WalkedTokens.{begins_walk, some-from_test}
 use Rattle.quick_cache_table.proofs.table.walk.Walk.new.Goals as goal
 
 pub returns-then-not-is_empty-clause-walk : goal.returns-then-not-is_empty-clause-walk
 returns-then-not-is_empty-clause-walk c =
-    let walk : Walk = record { tags = c.args.tags; places = c.args.places; hash = c.args.hash; reaches = c.args.reaches; home = 0; step = 0; lanes = 0 } in
+    let walk : Walk =
+    record {
+      tags = c.args.tags;
+      places = c.args.places;
+      hash = c.args.hash;
+      reaches =
+          c.args.reaches;
+      home = 0;
+      step = 0;
+      lanes = 0;
+    } in
     let some = some-from_test c.args.reaches.now c.if-not-is_empty.ensures in
-    (begins_walk walk c.args.mask c.home_of.result c.tag_of.result c.lanes_of.result c.requires some c.home_of.ensures.value c.tag_of.ensures.value c.lanes_of.ensures).still
+    (begins_walk walk c.args.mask c.home_of.result c.tag_of.result c.lanes_of.result c.requires some
+    c.home_of.ensures.value c.tag_of.ensures.value c.lanes_of.ensures).still
 
 -- each pair of the hash stands in a group that the walk reads
 pub returns-then-not-is_empty-clause-all : goal.returns-then-not-is_empty-clause-all
 returns-then-not-is_empty-clause-all c =
-    let walk : Walk = record { tags = c.args.tags; places = c.args.places; hash = c.args.hash; reaches = c.args.reaches; home = 0; step = 0; lanes = 0 } in
+    let walk : Walk =
+    record {
+      tags = c.args.tags;
+      places = c.args.places;
+      hash = c.args.hash;
+      reaches =
+          c.args.reaches;
+      home = 0;
+      step = 0;
+      lanes = 0;
+    } in
     let some = some-from_test c.args.reaches.now c.if-not-is_empty.ensures in
-    (begins_walk walk c.args.mask c.home_of.result c.tag_of.result c.lanes_of.result c.requires some c.home_of.ensures.value c.tag_of.ensures.value c.lanes_of.ensures).all
+    (begins_walk walk c.args.mask c.home_of.result c.tag_of.result c.lanes_of.result c.requires some
+    c.home_of.ensures.value c.tag_of.ensures.value c.lanes_of.ensures).all

@@ -2,7 +2,7 @@ use Rattle.std.proofs.Common.{◌≡◌, ◌<◌, List, ◌∷◌, length, arith
 use Rattle.quick_cache_table.specs.declared.table.groups.Place.{Place}
 use Rattle.quick_cache_table.specs.declared.table.walk.Walk.{Walk}
 use Rattle.quick_cache_table.specs.TableGroups.{hash_at, place_at, tokens_left}
-use Rattle.quick_cache_table.proofs.TableWalkLemmas.{looks_at_lane, behind_lane, lane_position}
+use Rattle.quick_cache_table.proofs.WalkedTokens.{looks_at_lane, behind_lane, lane_position}
 use Rattle.quick_cache_table.proofs.table.walk.Walk.next_in_group.Goals as goal
 
 pub overflow_mul-position : goal.overflow_mul-position
@@ -16,15 +16,18 @@ overflow_add-position c =
     omega (arith, looks.inside)
 
 pub bounds-self-position : goal.bounds-self-position
-bounds-self-position c = (looks_at_lane c.loop-self.self c.loop-self.invariant.walk (omega arith)).inside
+bounds-self-position c =
+    (looks_at_lane c.loop-self.self c.loop-self.invariant.walk (omega arith)).inside
 
 pub returns-then-hash-self-clause-walk : goal.returns-then-hash-self-clause-walk
-returns-then-hash-self-clause-walk c = (looks_at_lane c.loop-self.self c.loop-self.invariant.walk (omega arith)).still
+returns-then-hash-self-clause-walk c =
+    (looks_at_lane c.loop-self.self c.loop-self.invariant.walk (omega arith)).still
 
 pub returns-then-hash-self-clause-within : goal.returns-then-hash-self-clause-within
 returns-then-hash-self-clause-within c =
     let looks = looks_at_lane c.loop-self.self c.loop-self.invariant.walk (omega arith) in
-    omega (arith, looks.inside, ap (λ (walk : Walk). length walk.places.now) c.loop-self.invariant.stays)
+    omega
+    (arith, looks.inside, ap (λ (walk : Walk). length walk.places.now) c.loop-self.invariant.stays)
 
 -- the token of the place that was looked at is the first of what was left
 pub returns-then-hash-self-clause-some : goal.returns-then-hash-self-clause-some
@@ -32,11 +35,17 @@ returns-then-hash-self-clause-some c =
     let walk : Walk = c.loop-self.self in
     let looks = looks_at_lane walk c.loop-self.invariant.walk (omega arith) in
     let place : List Place → Place = λ places. place_at places (lane_position walk) in
-    let same : hash_at (place walk.places.now) ≡ walk.hash = sym c.hash.ensures ∙ c.if-hash-self.true in
+    let same : hash_at (place walk.places.now) ≡ walk.hash =
+    sym c.hash.ensures ∙ c.if-hash-self.true in
     let P : List Place → Type 0 = λ places.
-    (0 < (place places).token) × (hash_at (place places) ≡ c.args.self.now.hash) × (tokens_left c.args.self.now ≡ (place places).token ∷ tokens_left (behind_lane walk)) in
-    subst P (ap (λ (walk : Walk). walk.places.now) c.loop-self.invariant.stays)
-    (looks.taken, same ∙ ap (λ (walk : Walk). walk.hash) c.loop-self.invariant.stays, sym c.loop-self.invariant.left ∙ looks.take same)
+    (0 < (place places).token) × (hash_at (place places) ≡ c.args.self.now.hash) ×
+    (tokens_left c.args.self.now ≡ (place places).token ∷ tokens_left (behind_lane walk)) in
+    subst P (ap (λ (walk : Walk). walk.places.now) c.loop-self.invariant.stays) (
+      looks.taken,
+      same ∙ ap (λ (walk : Walk). walk.hash) c.loop-self.invariant.stays,
+      sym
+          c.loop-self.invariant.left ∙ looks.take same,
+    )
 
 -- a place with the tag and another hash is passed over
 pub loop-self-preserved : goal.loop-self-preserved
@@ -46,5 +55,7 @@ loop-self-preserved c =
     record {
       walk = looks.still;
       stays = ap behind_lane c.loop-self.invariant.stays;
-      left = sym (looks.skip (λ same. c.if-hash-self.false (c.hash.ensures ∙ same))) ∙ c.loop-self.invariant.left;
+      left =
+          sym (looks.skip (λ same. c.if-hash-self.false (c.hash.ensures ∙ same))) ∙
+          c.loop-self.invariant.left;
     }

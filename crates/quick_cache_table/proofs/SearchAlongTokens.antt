@@ -6,21 +6,26 @@ use Rattle.std.proofs.lemmas.Bool.{eq-eqb}
 use Rattle.std.proofs.lemmas.Bool.Decides.{eqb_tells}
 use Rattle.std.proofs.lemmas.List.Sums.{sum_by-cons}
 use Rattle.quick_cache_table.specs.Table.{Table, HasPair, has_pair, SearchesAlong, ComputesTest, SearchesHash, FindsPassing}
-use Rattle.quick_cache_table.proofs.PlaceLemmas.{bool_tells, bit}
+use Rattle.quick_cache_table.proofs.CountedPlaces.{bool_tells, bit}
 
 some-injective : (x y : NonZeroU32) → Some x ≡ Some y → x ≡ y
 some-injective x y e = cc
 
 module _ {F : Type 0} (step : F → NonZeroU32 → Bool → F → Type 0) where
   -- it goes on where the first answer is false
-  pub SearchesAlong-on : (f next : F) (token : NonZeroU32) (answer : Bool) (tokens rest : List ℕ) (result : Option NonZeroU32) → tokens ≡ non_zero_u32_get token ∷ rest → step f token answer next → answer ≡ false → SearchesAlong step next rest result → SearchesAlong step f tokens result
+  pub SearchesAlong-on : (f next : F) (token : NonZeroU32) (answer : Bool) (tokens rest : List ℕ)
+      (result : Option NonZeroU32) → tokens ≡ non_zero_u32_get token ∷ rest
+      → step f token answer next → answer ≡ false → SearchesAlong step next rest result
+      → SearchesAlong step f tokens result
   SearchesAlong-on f next token answer tokens rest result first called fails later =
       let P : Bool → Type 0 = λ b. step f token b next in
       let Q : List ℕ → Type 0 = λ ts. SearchesAlong step f ts result in
       subst Q (sym first) (token, false, next, refl, subst P fails called, later)
 
   -- it ends where the first answer is true
-  pub SearchesAlong-ends : (f next : F) (token : NonZeroU32) (answer : Bool) (tokens rest : List ℕ) → tokens ≡ non_zero_u32_get token ∷ rest → step f token answer next → answer ≡ true → SearchesAlong step f tokens (Some token)
+  pub SearchesAlong-ends : (f next : F) (token : NonZeroU32) (answer : Bool) (tokens rest : List ℕ)
+      → tokens ≡ non_zero_u32_get token ∷ rest → step f token answer next → answer ≡ true
+      → SearchesAlong step f tokens (Some token)
   SearchesAlong-ends f next token answer tokens rest first called holds =
       let P : Bool → Type 0 = λ b. step f token b next in
       let Q : List ℕ → Type 0 = λ ts. SearchesAlong step f ts (Some token) in
@@ -44,9 +49,11 @@ module _ {F : Type 0} (step : F → NonZeroU32 → Bool → F → Type 0) where
       → ComputesTest step f passes → SearchesAlong step f tokens None
       → (token : ℕ) → 0 < count_by (λ k. eqb k token) tokens → passes token ≡ false
   SearchesAlong-missed f passes [] tests search_along token some = absurd (omega (arith, some))
-  SearchesAlong-missed f passes (first ∷ rest) tests (shown, true, next, at, called, ended) token some =
+  SearchesAlong-missed f passes (first ∷ rest) tests (shown, true, next, at, called, ended) token
+      some =
       absurd (cc)
-  SearchesAlong-missed f passes (first ∷ rest) tests (shown, false, next, at, called, later) token some =
+  SearchesAlong-missed f passes (first ∷ rest) tests (shown, false, next, at, called, later) token
+      some =
       let P : F → Type 0 = λ g. SearchesAlong step g rest None in
       let counted = sum_by-cons (λ k. bit (eqb k token)) first rest in
       elim (eqb_tells first token) [
@@ -60,25 +67,47 @@ module _ {F : Type 0} (step : F → NonZeroU32 → Bool → F → Type 0) where
       ]
 
   -- a token that a search ended at is one of those that it was led along
-  SearchesAlong-has : (f : F) (tokens : List ℕ) (token : NonZeroU32) → SearchesAlong step f tokens (Some token) → 0 < count_by (λ k. eqb k (non_zero_u32_get token)) tokens
+  SearchesAlong-has : (f : F) (tokens : List ℕ) (token : NonZeroU32)
+      → SearchesAlong step f tokens (Some token)
+      → 0 < count_by (λ k. eqb k (non_zero_u32_get token)) tokens
   SearchesAlong-has f [] token search_along = absurd (cc)
   SearchesAlong-has f (first ∷ rest) token (shown, true, next, at, called, ended) =
-      let here : first ≡ non_zero_u32_get token = sym at ∙ ap non_zero_u32_get (some-injective shown token (sym ended)) in
-      omega (arith, sum_by-cons (λ k. bit (eqb k (non_zero_u32_get token))) first rest, ap bit (eq-eqb first (non_zero_u32_get token) here))
+      let here : first ≡ non_zero_u32_get token =
+      sym at ∙ ap non_zero_u32_get (some-injective shown token (sym ended)) in
+      omega (
+        arith,
+        sum_by-cons (λ k. bit (eqb k (non_zero_u32_get token))) first rest,
+        ap bit
+            (eq-eqb first (non_zero_u32_get token) here),
+      )
   SearchesAlong-has f (first ∷ rest) token (shown, false, next, at, called, later) =
-      omega (arith, SearchesAlong-has next rest token later, sum_by-cons (λ k. bit (eqb k (non_zero_u32_get token))) first rest)
+      omega (
+        arith,
+        SearchesAlong-has next rest token later,
+        sum_by-cons
+            (λ k. bit (eqb k (non_zero_u32_get token))) first rest,
+      )
 
   -- what a search of a hash finds is a token of that hash
-  pub HasPair-from_search : (table : Table) (hash : ℕ) (f : F) (token : NonZeroU32) → SearchesHash step table hash f (Some token) → HasPair table hash (non_zero_u32_get token)
+  pub HasPair-from_search : (table : Table) (hash : ℕ) (f : F) (token : NonZeroU32)
+      → SearchesHash step table hash f (Some token) → HasPair table hash (non_zero_u32_get token)
   HasPair-from_search table hash f token (tokens, are, along) =
       elim (bool_tells (has_pair table hash (non_zero_u32_get token))) [
         | inl holds ↦ holds
-        | inr fails ↦ absurd (omega (arith, SearchesAlong-has f tokens token along, are (non_zero_u32_get token), ap bit fails))
+        | inr fails ↦
+            absurd (omega (
+              arith,
+              SearchesAlong-has f tokens token along,
+              are
+                  (non_zero_u32_get token),
+              ap bit fails,
+            ))
       ]
 
   -- a search along the tokens of a hash decides by the test
   pub FindsPassing-from_search : (table : Table) (hash : ℕ) (f : F) (passes : ℕ → Bool)
-      (result : Option NonZeroU32) → ComputesTest step f passes → SearchesHash step table hash f result
+      (result : Option NonZeroU32) → ComputesTest step f passes → SearchesHash step table hash f
+      result
       → FindsPassing table hash passes result
   FindsPassing-from_search table hash f passes result tests (tokens, are, along) = record {
     found = λ token some.
