@@ -53,7 +53,8 @@ impl<K: Eq + Hash + Drop, V: Drop, P: SharedPlaceholder<K>, A: Allocator> Rings<
         }
     }
 
-    /// Turns away a pair that is too heavy: an insert tells it to the cold hook, a replace gives it back.
+    /// Turns away a pair that is too heavy: an insert tells it to the cold hook, a replace gives it
+    /// back.
     pub(crate) fn reject_too_heavy<M: Policy<K, V>>(
         &mut self,
         location: Location,

@@ -87,8 +87,8 @@ fn leave_cold<K, V, T: Drop, M: Policy<K, V>>(
 }
 
 impl<K: Eq + Hash + Drop, V: Drop, P: SharedPlaceholder<K>, A: Allocator> Rings<K, V, P, A> {
-    /// Takes an item out of the hot ring, the first with the least mark: the rounds that look for it, and lower the
-    /// marks that they pass, are made at once.
+    /// Takes an item out of the hot ring, the first with the least mark: the rounds that look for
+    /// it, and lower the marks that they pass, are made at once.
     fn advance_hot<M: Policy<K, V>>(&mut self, terms: &M, state: &mut M::RequestState) -> bool
         requires { IsSound K.eq self.old }
         ensures advances { Calls (M.hooks terms.now)
@@ -140,7 +140,8 @@ impl<K: Eq + Hash + Drop, V: Drop, P: SharedPlaceholder<K>, A: Allocator> Rings<
         }
     }
 
-    /// Takes the first item out of the cold ring: a marked one goes to the hot ring, an unmarked one leaves.
+    /// Takes the first item out of the cold ring: a marked one goes to the hot ring, an unmarked
+    /// one leaves.
     fn advance_cold<M: Policy<K, V>>(&mut self, terms: &M, state: &mut M::RequestState) -> bool
         requires { IsSound K.eq self.old }
         ensures advances { Calls (M.hooks terms.now)

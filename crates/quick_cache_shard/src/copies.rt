@@ -1,4 +1,4 @@
-//! Copies.
+//! A copy of a shard: clones of its keys and values, in lists with room for all entries.
 ghost use Rattle.std.specs.Prelude.{◌≡◌, ◌≤◌, IfOk, vec_len, vec_capacity};
 ghost use Rattle.std.specs.List.{AllZip};
 ghost use Rattle.quick_cache_shard.specs.Rings.{IsSound, state_of, work_of};

@@ -62,8 +62,8 @@ impl<K: Eq + Hash + Drop, V: Drop, P: SharedPlaceholder<K>, A: Allocator> Rings<
         ensures same { state_of self.new ≡ state_of self.old }
         ensures sound { IsSound K.eq self.new }
         ensures room { (n : ℕ) → HasRoom n self.old → HasRoom n self.new }
-        ensures provides { Provides location (strategy_of strategy) (slots_taken (state_of self.old))
-            (HasRoom 1 self.new) result }
+        ensures provides { Provides location (strategy_of strategy)
+            (slots_taken (state_of self.old)) (HasRoom 1 self.new) result }
         // Memory is asked for only where there is no room.
         ensures asks { result ≡ Some Memory → room_of self.old ≡ 0 }
     {
@@ -155,7 +155,8 @@ impl<K: Eq + Hash + Drop, V: Drop, P: SharedPlaceholder<K>, A: Allocator> Rings<
         requires ready { IsReady location (strategy_of strategy) (HasRoom 1 self.old) }
         ensures writes { Calls (M.hooks terms.now)
             (λ calls. WritesAdmitted (unit_rules P.Touch.may_count (M.hashed terms.now))
-            (K.eq key) key (strategy_of strategy) (state_of self.old) value calls result (state_of self.new))
+            (K.eq key) key (strategy_of strategy) (state_of self.old) value calls result
+            (state_of self.new))
             state.old state.new }
         ensures sound { IsSound K.eq self.new }
         ensures room { (n : ℕ) → HasRoom (n + 1) self.old → HasRoom n self.new }
@@ -186,7 +187,8 @@ impl<K: Eq + Hash + Drop, V: Drop, P: SharedPlaceholder<K>, A: Allocator> Rings<
         }
     }
 
-    /// Checks whether the pair may come in, and writes it. A pair of weight 1 is too heavy for a target of 0 alone.
+    /// Checks whether the pair may come in, and writes it. A pair of weight 1 is too heavy for a
+    /// target of 0 alone.
     fn write<M: Policy<K, V>>(
         &mut self,
         location: Location,
@@ -203,7 +205,8 @@ impl<K: Eq + Hash + Drop, V: Drop, P: SharedPlaceholder<K>, A: Allocator> Rings<
         requires ready { IsReady location (strategy_of strategy) (HasRoom 1 self.old) }
         ensures writes { Calls (M.hooks terms.now)
             (λ calls. Writes (unit_rules P.Touch.may_count (M.hashed terms.now))
-            (K.eq key) key (strategy_of strategy) (state_of self.old) value calls result (state_of self.new))
+            (K.eq key) key (strategy_of strategy) (state_of self.old) value calls result
+            (state_of self.new))
             state.old state.new }
         ensures sound { IsSound K.eq self.new }
         ensures room { (n : ℕ) → HasRoom (n + 1) self.old → HasRoom n self.new }
@@ -214,7 +217,8 @@ impl<K: Eq + Hash + Drop, V: Drop, P: SharedPlaceholder<K>, A: Allocator> Rings<
         self.write_admitted(location, terms, state, hash, key, value, strategy)
     }
 
-    /// Writes a pair. All growth comes first, so that a refused write has changed nothing and called no hook.
+    /// Writes a pair. All growth comes first, so that a refused write has changed nothing and
+    /// called no hook.
     pub(crate) fn insert<M: Policy<K, V>>(
         &mut self,
         terms: &M,

@@ -1,4 +1,5 @@
-//! What a cache goes by: how it hashes and weighs, which pairs stay, and who is told of those that leave.
+//! What a cache goes by: how it hashes and weighs, which pairs stay, and who is told of those that
+//! leave.
 ghost use Rattle.std.specs.Prelude.{◌≡◌, ℕ, Bool};
 ghost use Rattle.quick_cache_model.specs.Hooks.{Hooks};
 ghost use Rattle.quick_cache_model.specs.Hashing.{hash_of};
@@ -60,7 +61,8 @@ impl<K: Eq + Hash + Drop, V: Drop, We: Weighter<K, V>, B: BuildHasher, L: Lifecy
 > for Terms<We, B, L> {
     type RequestState = L::RequestState;
 
-    ghost hashed = { λ terms key. hash_of B.BuildHasher B.Hasher.Hasher terms.builder (K.hash_input key) };
+    ghost hashed = { λ terms key.
+        hash_of B.BuildHasher B.Hasher.Hasher terms.builder (K.hash_input key) };
 
     ghost weight_of = { λ terms. We.weight_of terms.weigher };
 

@@ -1,4 +1,4 @@
-//! Taking out.
+//! Removal: the item under a query leaves with its pair, or a ghost of its hash.
 ghost use Rattle.std.specs.Prelude.{◌≡◌, ◌≤◌};
 ghost use Rattle.quick_cache_model.specs.Removal.{Removes};
 ghost use Rattle.quick_cache_shard.specs.Rings.{IsSound, state_of, room_of, work_of};
@@ -16,7 +16,8 @@ impl<K: Eq + Hash, V, P: SharedPlaceholder<K>, A: Allocator> Rings<K, V, P, A> {
     /// Takes out what stands under a query, and gives the pair of an item.
     pub(crate) fn remove<Q: Equivalent<K>>(&mut self, hash: u64, query: &Q) -> Option<(K, V)>
         requires { IsSound K.eq self.old }
-        ensures removes { UpToOrder (Removes (Q.equivalent query.now) (state_of self.old) hash result)
+        ensures removes { UpToOrder
+            (Removes (Q.equivalent query.now) (state_of self.old) hash result)
             (state_of self.new) }
         ensures sound { IsSound K.eq self.new }
         ensures room { room_of self.old ≤ room_of self.new }

@@ -12,7 +12,8 @@ use std::hash::Hash;
 /// How many items and ghosts there may be at most.
 pub(crate) const SLOT_COUNT: usize = 4_294_967_294;
 
-/// The lists, each with room for all entries, so that an entry can go from one to another; the sizes and the counts.
+/// The lists, each with room for all entries, so that an entry can go from one to another; the
+/// sizes and the counts.
 #[derive(Drop)]
 pub(crate) struct Rings<K: Eq + Hash, V, P: SharedPlaceholder<K>, A: Allocator> {
     pub(crate) hot: Vec<Resident<K, V, P::Touch>, A>,

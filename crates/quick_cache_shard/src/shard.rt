@@ -27,7 +27,8 @@ use std::alloc::{Allocator, Global};
 use std::hash::{BuildHasher, Hash};
 use std::marker::Model;
 
-/// One cache: the items of a hot and of a cold ring, and the hashes of what left the cold ring lately.
+/// One cache: the items of a hot and of a cold ring, and the hashes of what left the cold ring
+/// lately.
 #[derive(Drop)]
 pub struct CacheShard<K: Eq + Hash, V, We, B, L, P: SharedPlaceholder<K>, A: Allocator = Global> {
     pub(crate) rings: Rings<K, V, P, A>,
@@ -64,7 +65,8 @@ impl<K: Eq + Hash, V, We, B: BuildHasher, L, P: SharedPlaceholder<K>, A: Allocat
 > {
     ghost use Rattle.quick_cache_shard.specs.Lent.{ends_so};
 
-    /// An empty cache for so many items and so much weight, with the hot and the ghost share in parts per million.
+    /// An empty cache for so many items and so much weight, with the hot and the ghost share in
+    /// parts per million.
     ///
     /// It takes no memory; `Memory` is a refused clone of the allocator.
     pub fn new(
@@ -119,7 +121,8 @@ impl<K: Eq + Hash, V, We, B: BuildHasher, L, P: SharedPlaceholder<K>, A: Allocat
         })
     }
 
-    /// A cache of clones of the keys and values, with the same marks, order and counts, or `Memory`. Its room is its own.
+    /// A cache of clones of the keys and values, with the same marks, order and counts, or
+    /// `Memory`. Its room is its own.
     pub fn try_clone(&self) -> Result<Self, Refusal>
     where
         K: Clone,
@@ -166,9 +169,10 @@ impl<K: Eq + Hash, V, We, B: BuildHasher, L, P: SharedPlaceholder<K>, A: Allocat
 
     /// Writes a pair, whose hash is handed in, and makes room for it.
     ///
-    /// Room is made first: with 4294967294 items, ghosts and placeholders, and where there is no memory, an insert of
-    /// what is not found gives the pair back with the refusal, and has changed nothing and called no hook. A pair that
-    /// comes back with no refusal was not admitted: only a replace gives one back so.
+    /// Room is made first: with 4294967294 items, ghosts and placeholders, and where there is no
+    /// memory, an insert of what is not found gives the pair back with the refusal, and has changed
+    /// nothing and called no hook. A pair that comes back with no refusal was not admitted: only a
+    /// replace gives one back so.
     pub fn insert(
         &mut self,
         state: &mut L::RequestState,
@@ -204,8 +208,8 @@ impl<K: Eq + Hash, V, We, B: BuildHasher, L, P: SharedPlaceholder<K>, A: Allocat
             .insert(&self.terms, state, hash, key, value, strategy)
     }
 
-    /// The value under the query, which is handed in with its hash. A find counts a hit, marks the item and counts a
-    /// read of it; else a miss is counted.
+    /// The value under the query, which is handed in with its hash. A find counts a hit, marks the
+    /// item and counts a read of it; else a miss is counted.
     pub fn get<Q: Equivalent<K>>(&mut self, hash: u64, query: &Q) -> Option<&V>
         requires hash_is { hash ≡ hash_of B.BuildHasher B.Hasher.Hasher self.old.builder
             (Q.hash_input query.now) }
@@ -235,7 +239,8 @@ impl<K: Eq + Hash, V, We, B: BuildHasher, L, P: SharedPlaceholder<K>, A: Allocat
         Some(self.pair_at(at))
     }
 
-    /// The value under the query, which is handed in with its hash. Nothing changes: it is no use of the item.
+    /// The value under the query, which is handed in with its hash. Nothing changes: it is no use
+    /// of the item.
     pub fn peek<Q: Equivalent<K>>(&self, hash: u64, query: &Q) -> Option<&V>
         requires hash_is { hash ≡ hash_of B.BuildHasher B.Hasher.Hasher self.now.builder
             (Q.hash_input query.now) }
@@ -267,8 +272,8 @@ impl<K: Eq + Hash, V, We, B: BuildHasher, L, P: SharedPlaceholder<K>, A: Allocat
         }
     }
 
-    /// Takes the item under the query out and gives its pair, or takes out a ghost of its hash. No hook is called, and
-    /// no memory is asked for.
+    /// Takes the item under the query out and gives its pair, or takes out a ghost of its hash. No
+    /// hook is called, and no memory is asked for.
     pub fn remove<Q: Equivalent<K>>(&mut self, hash: u64, query: &Q) -> Option<(K, V)>
         requires hash_is { hash ≡ hash_of B.BuildHasher B.Hasher.Hasher self.old.builder
             (Q.hash_input query.now) }

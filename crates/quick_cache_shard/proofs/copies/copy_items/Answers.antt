@@ -12,9 +12,12 @@ loop-i-preserved g c =
     let is_copy = IsItemCopy g.K.Clone.is_clone g.V.Clone.is_clone in
     let at : slice_index_or xs c.loop-i.i item ≡ item = search rules in
     let within : c.loop-i.i < length xs = search rules in
-    let more : take (c.loop-i.i + 1) xs ≡ take c.loop-i.i xs ++ item ∷ [] = rw at at (take_more xs c.loop-i.i item within) in
+    let more : take (c.loop-i.i + 1) xs ≡ take c.loop-i.i xs ++ item ∷ [] =
+    rw at at (take_more xs c.loop-i.i item within) in
     record {
-      copied = rw (more, c.push_reserved.ensures.items) (AllZip-push is_copy (take c.loop-i.i xs) c.loop-i.copy.items item c.in_ok-try_copy.field-0
+      copied = rw (more, c.push_reserved.ensures.items)
+          (AllZip-push is_copy (take c.loop-i.i xs) c.loop-i.copy.items item
+          c.in_ok-try_copy.field-0
           c.loop-i.invariant.copied c.in_ok-try_copy.ensures);
       len = search rules;
       room = search rules;

@@ -6,10 +6,13 @@ use Rattle.quick_cache_shard.proofs.rings.Rings.evict_to_capacity.Given as goal
 
 abbrev pub invariant-loop-self : goal.invariant-loop-self
 invariant-loop-self g l = record {
-  so_far : Calls (g.M.Policy.hooks l.terms) (GoesToCapacity (unit_rules g.P.Touch.Touches.may_count (g.M.Policy.hashed l.terms)) l.need (state_of l.initial.self) (state_of l.self)) l.initial.state l.state;
+  so_far : Calls (g.M.Policy.hooks l.terms)
+      (GoesToCapacity (unit_rules g.P.Touch.Touches.may_count (g.M.Policy.hashed l.terms)) l.need
+      (state_of l.initial.self) (state_of l.self)) l.initial.state l.state;
   sound : IsSound g.K.PartialEq.eq l.self;
   room : (n : ℕ) → HasRoom n l.initial.self → HasRoom n l.self;
-  same : l.self ≡ record l.initial.self { hot = l.self.hot; cold = l.self.cold; ghosts = l.self.ghosts; advances = l.self.advances };
+  same : l.self ≡ record l.initial.self
+      { hot = l.self.hot; cold = l.self.cold; ghosts = l.self.ghosts; advances = l.self.advances };
 }
 
 abbrev pub decreases-loop-self : goal.decreases-loop-self

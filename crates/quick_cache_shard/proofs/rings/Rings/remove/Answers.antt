@@ -12,17 +12,26 @@ use Rattle.quick_cache_shard.proofs.rings.Rings.remove.Goals as goal
 
 pub returns-in-InHot-clause-removes : goal.returns-in-InHot-clause-removes
 returns-in-InHot-clause-removes g c =
-    let f : IsFirst (λ (i : Item g.row.K.Denot g.row.V.Denot). g.Q.Equivalent.equivalent c.args.query.now i.key) c.args.self.now.hot.items c.in-InHot.at = subst (IsFoundAt (g.Q.Equivalent.equivalent c.args.query.now) c.args.hash (state_of c.args.self.now)) c.in-InHot.is c.find.ensures in
+    let f : IsFirst (λ (i : Item g.row.K.Denot g.row.V.Denot). g.Q.Equivalent.equivalent
+    c.args.query.now i.key) c.args.self.now.hot.items c.in-InHot.at = subst
+    (IsFoundAt (g.Q.Equivalent.equivalent c.args.query.now) c.args.hash
+    (state_of c.args.self.now)) c.in-InHot.is c.find.ensures in
     let e = c.take_out.ensures.takes f.before f.element f.after f.is_split in
-    removes_at (g.Q.Equivalent.equivalent c.args.query.now) (state_of c.args.self.now) _ c.args.hash Hot c.in-InHot.at f _
-    (c.into_pair.ensures ∙ ap (λ (i : Item g.row.K.Denot g.row.V.Denot). (i.key, i.value)) e.0) (λ j. record (state_of c.args.self.now) { hot = e.1 j })
+    removes_at (g.Q.Equivalent.equivalent c.args.query.now)
+    (state_of c.args.self.now) _ c.args.hash Hot c.in-InHot.at f _
+    (c.into_pair.ensures ∙ ap (λ (i : Item g.row.K.Denot g.row.V.Denot). (i.key, i.value)) e.0)
+    (λ j. record (state_of c.args.self.now) { hot = e.1 j })
 
 pub returns-in-InHot-clause-sound : goal.returns-in-InHot-clause-sound
 returns-in-InHot-clause-sound g c =
-    let f : IsFirst (λ (i : Item g.row.K.Denot g.row.V.Denot). g.Q.Equivalent.equivalent c.args.query.now i.key) c.args.self.now.hot.items c.in-InHot.at = subst (IsFoundAt (g.Q.Equivalent.equivalent c.args.query.now) c.args.hash (state_of c.args.self.now)) c.in-InHot.is c.find.ensures in
+    let f : IsFirst (λ (i : Item g.row.K.Denot g.row.V.Denot). g.Q.Equivalent.equivalent
+    c.args.query.now i.key) c.args.self.now.hot.items c.in-InHot.at = subst
+    (IsFoundAt (g.Q.Equivalent.equivalent c.args.query.now) c.args.hash
+    (state_of c.args.self.now)) c.in-InHot.is c.find.ensures in
     let e = c.take_out.ensures.takes f.before f.element f.after f.is_split in
     record {
-      plain = plain-hot g.K.PartialEq.eq _ _ _ _ _ _ _ _ c.requires.plain _ _ _ (unit-out Hot _ _ _ f.before f.element f.after f.is_split e.1 c.requires.plain.hot)
+      plain = plain-hot g.K.PartialEq.eq _ _ _ _ _ _ _ _ c.requires.plain _ _ _
+          (unit-out Hot _ _ _ f.before f.element f.after f.is_split e.1 c.requires.plain.hot)
           (λ k. keys_of-out (g.K.PartialEq.eq k) _ _ _ f.before f.element f.after f.is_split e.1);
       room = record {
         hot = omega (arith, c.requires.room.hot, c.take_out.ensures);
@@ -34,17 +43,27 @@ returns-in-InHot-clause-sound g c =
 
 pub returns-in-InCold-clause-removes : goal.returns-in-InCold-clause-removes
 returns-in-InCold-clause-removes g c =
-    let f : IsFirst (λ (i : Item g.row.K.Denot g.row.V.Denot). g.Q.Equivalent.equivalent c.args.query.now i.key) c.args.self.now.cold.items c.in-InCold.at = subst (IsFoundAt (g.Q.Equivalent.equivalent c.args.query.now) c.args.hash (state_of c.args.self.now)) c.in-InCold.is c.find.ensures in
+    let f : IsFirst (λ (i : Item g.row.K.Denot g.row.V.Denot). g.Q.Equivalent.equivalent
+    c.args.query.now i.key) c.args.self.now.cold.items c.in-InCold.at = subst
+    (IsFoundAt (g.Q.Equivalent.equivalent c.args.query.now) c.args.hash
+    (state_of c.args.self.now)) c.in-InCold.is c.find.ensures in
     let e = c.take_out-in-InCold.ensures.takes f.before f.element f.after f.is_split in
-    removes_at (g.Q.Equivalent.equivalent c.args.query.now) (state_of c.args.self.now) _ c.args.hash Cold c.in-InCold.at f _
-    (c.into_pair-in-InCold.ensures ∙ ap (λ (i : Item g.row.K.Denot g.row.V.Denot). (i.key, i.value)) e.0) (λ j. record (state_of c.args.self.now) { cold = e.1 j })
+    removes_at (g.Q.Equivalent.equivalent c.args.query.now)
+    (state_of c.args.self.now) _ c.args.hash Cold c.in-InCold.at f _
+    (c.into_pair-in-InCold.ensures
+    ∙ ap (λ (i : Item g.row.K.Denot g.row.V.Denot). (i.key, i.value)) e.0)
+    (λ j. record (state_of c.args.self.now) { cold = e.1 j })
 
 pub returns-in-InCold-clause-sound : goal.returns-in-InCold-clause-sound
 returns-in-InCold-clause-sound g c =
-    let f : IsFirst (λ (i : Item g.row.K.Denot g.row.V.Denot). g.Q.Equivalent.equivalent c.args.query.now i.key) c.args.self.now.cold.items c.in-InCold.at = subst (IsFoundAt (g.Q.Equivalent.equivalent c.args.query.now) c.args.hash (state_of c.args.self.now)) c.in-InCold.is c.find.ensures in
+    let f : IsFirst (λ (i : Item g.row.K.Denot g.row.V.Denot). g.Q.Equivalent.equivalent
+    c.args.query.now i.key) c.args.self.now.cold.items c.in-InCold.at = subst
+    (IsFoundAt (g.Q.Equivalent.equivalent c.args.query.now) c.args.hash
+    (state_of c.args.self.now)) c.in-InCold.is c.find.ensures in
     let e = c.take_out-in-InCold.ensures.takes f.before f.element f.after f.is_split in
     record {
-      plain = plain-cold g.K.PartialEq.eq _ _ _ _ _ _ _ _ c.requires.plain _ _ _ (unit-out Cold _ _ _ f.before f.element f.after f.is_split e.1 c.requires.plain.cold)
+      plain = plain-cold g.K.PartialEq.eq _ _ _ _ _ _ _ _ c.requires.plain _ _ _
+          (unit-out Cold _ _ _ f.before f.element f.after f.is_split e.1 c.requires.plain.cold)
           (λ k. keys_of-out (g.K.PartialEq.eq k) _ _ _ f.before f.element f.after f.is_split e.1);
       room = record {
         hot = omega (arith, c.requires.room.hot, c.take_out-in-InCold.ensures);
@@ -56,12 +75,17 @@ returns-in-InCold-clause-sound g c =
 
 pub returns-in-AmongGhosts-clause-removes : goal.returns-in-AmongGhosts-clause-removes
 returns-in-AmongGhosts-clause-removes g c =
-    let found = subst (IsFoundAt (g.Q.Equivalent.equivalent c.args.query.now) c.args.hash (state_of c.args.self.now)) c.in-AmongGhosts.is c.find.ensures in
+    let found = subst (IsFoundAt (g.Q.Equivalent.equivalent c.args.query.now) c.args.hash
+    (state_of c.args.self.now)) c.in-AmongGhosts.is c.find.ensures in
     let f = found.1 in
     let e = c.take_out-in-AmongGhosts.ensures.takes f.before f.element f.after f.is_split in
-    removes_ghost (g.Q.Equivalent.equivalent c.args.query.now) (state_of c.args.self.now) _ c.args.hash c.in-AmongGhosts.at f found.0 (λ j. record (state_of c.args.self.now) { ghosts = e.1 j })
+    removes_ghost (g.Q.Equivalent.equivalent c.args.query.now)
+    (state_of c.args.self.now) _ c.args.hash c.in-AmongGhosts.at f found.0
+    (λ j. record (state_of c.args.self.now) { ghosts = e.1 j })
 
 pub returns-in-Nowhere-clause-removes : goal.returns-in-Nowhere-clause-removes
 returns-in-Nowhere-clause-removes g c =
-    let found = subst (IsFoundAt (g.Q.Equivalent.equivalent c.args.query.now) c.args.hash (state_of c.args.self.now)) c.in-Nowhere.is c.find.ensures in
-    in_order (Removes (g.Q.Equivalent.equivalent c.args.query.now) (state_of c.args.self.now) c.args.hash None) (state_of c.args.self.now) (of_nothing found)
+    let found = subst (IsFoundAt (g.Q.Equivalent.equivalent c.args.query.now) c.args.hash
+    (state_of c.args.self.now)) c.in-Nowhere.is c.find.ensures in
+    in_order (Removes (g.Q.Equivalent.equivalent c.args.query.now)
+    (state_of c.args.self.now) c.args.hash None) (state_of c.args.self.now) (of_nothing found)
