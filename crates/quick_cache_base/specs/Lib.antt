@@ -16,6 +16,7 @@ pub use Rattle.quick_cache_model.specs.Capacity
 pub use Rattle.quick_cache_model.specs.Refusals
 pub use Rattle.quick_cache_laws.specs.Laws
 pub use Rattle.quick_cache_laws.specs.Admitted
+pub use Rattle.quick_cache_laws.specs.Steps
 pub use Rattle.quick_cache_loading.specs.Core
 pub use Rattle.quick_cache_loading.specs.Waiting
 pub use Rattle.quick_cache_loading.specs.LoadingStep

@@ -11,5 +11,6 @@ pub mod LoadingKeys
 pub mod Capacities
 pub mod Reads
 pub mod EntryCalls
+pub mod Steps
 pub mod Telling
 pub mod Determined

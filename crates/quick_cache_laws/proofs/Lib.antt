@@ -4,4 +4,5 @@ pub mod CanBeMade
 pub mod EachElement
 pub mod Eviction
 pub mod Examples
+pub mod Steps
 pub mod Valid

@@ -1,6 +1,6 @@
 -- Laws of the definitions, and the words in which they are stated.
-use Rattle.std.specs.Prelude.{◌≡◌, ℕ, ◌+◌, ◌*◌, ◌^◌, ◌<◌, ◌≤◌, ◌⊎◌, Bool, true, List}
-use Rattle.std.specs.Prelude.{[], ◌++◌, Option, None, length, min, count_by}
+use Rattle.std.specs.Prelude.{◌≡◌, ℕ, ◌+◌, ◌*◌, ◌<◌, ◌≤◌, ◌⊎◌, Bool, true, List}
+use Rattle.std.specs.Prelude.{[], ◌++◌, Option, None, length, count_by}
 use Rattle.std.specs.List.{AllByRecursion}
 use Rattle.quick_cache_model.specs.CacheState.{CacheState, Item, Place, empty_state, keys_by}
 use Rattle.quick_cache_model.specs.CacheState.{total_weight, IsValid, SameButOrder}
@@ -18,18 +18,12 @@ use Rattle.quick_cache_model.specs.Refusals.{HasTicket, last_ticket}
 use Rattle.quick_cache_model.specs.declared.refusal.Refusal.{Refusal}
 use Rattle.quick_cache_model.specs.declared.refusal.Refusal.TheVariants.{Memory, TicketsSpent}
 use Rattle.quick_cache_model.specs.Capacity.{SetsCapacity}
+use Rattle.quick_cache_model.specs.Sizes.{IsSized}
 
 -- what each advance that answers yes lowers: an item of the cold ring can become one of the hot
 -- ring, and then leave
 abbrev pub ring_measure : {K V : Type 0} → CacheState K V → ℕ
 ring_measure state = length state.hot + 2 * length state.cold
-
--- The sizes of a cache as its options and each new capacity make them: the hot target is at most
--- the capacity, and at least 1 unless the capacity is 0; the ghost limit is what a count holds.
-pub record IsSized {K V : Type 0} (state : CacheState K V) : Type 0 where
-  pub target_within : state.hot_target ≤ state.capacity
-  pub target_above : min state.capacity 1 ≤ state.hot_target
-  pub limit_counts : state.ghost_limit < 2 ^ 64
 
 -- how many items have a pair that passes the test
 abbrev pub pairs_by : {K V : Type 0} → (K → V → Bool) → CacheState K V → ℕ

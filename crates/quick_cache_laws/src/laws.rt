@@ -3,6 +3,9 @@
 //! the very rules of a contract.
 ghost use Rattle.quick_cache_laws.specs.Admitted.{FillsStayWithinCapacity, InsertedPairsAreKept};
 ghost use Rattle.quick_cache_laws.specs.Admitted.{WritesStayWithinCapacity};
+ghost use Rattle.quick_cache_laws.specs.Steps.{NewCachesAreSized, NewWeightsStayValid};
+ghost use Rattle.quick_cache_laws.specs.Steps.{StepsStaySized, StepsStayValid};
+ghost use Rattle.quick_cache_laws.specs.Steps.{TicketsNeverReturn};
 ghost use Rattle.quick_cache_laws.specs.Laws.{AdvancesLowerTheMeasure, CapacitiesCanBeSet};
 ghost use Rattle.quick_cache_laws.specs.Laws.{CapacitiesStayValid, EmptiedCachesAreValid};
 ghost use Rattle.quick_cache_laws.specs.Laws.{EntriesAreRefusedForMemory};
@@ -121,4 +124,18 @@ pub fn valid_law<K: Eq, V, T: Touches>()
     ensures empties { EmptiedCachesAreValid K V K.eq }
     ensures acts { EntriesStayValid K V K.eq T.may_count }
     ensures sets_capacity { CapacitiesStayValid K V K.eq T.may_count }
+    ensures reweighs { NewWeightsStayValid K V K.eq T.may_count }
+    ensures steps { StepsStayValid K V K.eq T.may_count }
+{}
+
+/// The hot target of a new cache is within its capacity and its ghost limit is what a count
+/// holds, and each call keeps it so.
+pub fn size_law<K: Eq, V, T: Touches>()
+    ensures starts { NewCachesAreSized K V }
+    ensures steps { StepsStaySized K V K.eq T.may_count }
+{}
+
+/// Once a placeholder is gone, no placeholder has its ticket again, whatever calls follow.
+pub fn ticket_law<K: Eq, V, T: Touches>()
+    ensures { TicketsNeverReturn K V K.eq T.may_count }
 {}

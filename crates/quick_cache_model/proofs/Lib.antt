@@ -1,4 +1,6 @@
+pub mod EvictionKeeps
 pub mod HookLaws
+pub mod KeptSizes
 pub mod KeyCounts
 pub mod LookupLaws
 pub mod TouchLaws

@@ -2,7 +2,6 @@
 use Rattle.std.specs.Prelude.{◌≡◌, ℕ, ◌<◌, ◌≤◌, true, false, List, [], ◌∷◌, ◌++◌}
 use Rattle.quick_cache_model.specs.Hooks.{Rules, HookCall, BeforeEvict}
 
-
 -- the answer, with the value as it then stands
 pub data Admission (V : Type 0) : Type 0 where
   Admitted : (value : V) → Admission V

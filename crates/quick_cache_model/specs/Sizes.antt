@@ -1,6 +1,8 @@
--- The sizes of a cache: its hot target and ghost limit, how a new capacity rescales them, its shards.
+-- The sizes of a cache: its hot target and ghost limit, how a new capacity rescales them, its
+-- shards.
 use Rattle.std.specs.Prelude.{ℕ, ◌+◌, ◌-◌, ◌*◌, ◌/◌, ◌^◌, ◌==◌, ◌<◌, ◌≤◌, min, max, if◌then◌else◌}
 use Rattle.std.specs.Int.{IsPowerOfTwo}
+use Rattle.quick_cache_model.specs.CacheState.{CacheState}
 
 -- the hot share where none is set: 97 hundredths of the capacity, in parts per million
 abbrev pub default_hot_share : ℕ
@@ -32,6 +34,13 @@ rescaled_target old_capacity new_capacity target =
 abbrev pub rescaled_limit : (old_capacity new_capacity limit : ℕ) → ℕ
 rescaled_limit old_capacity new_capacity limit =
     if old_capacity == 0 then limit else min (limit * new_capacity / old_capacity) (2 ^ 64 - 1)
+
+-- The sizes of a cache as its options and each new capacity make them: the hot target is at most
+-- the capacity, and at least 1 unless the capacity is 0; the ghost limit is what a count holds.
+pub record IsSized {K V : Type 0} (state : CacheState K V) : Type 0 where
+  pub target_within : state.hot_target ≤ state.capacity
+  pub target_above : min state.capacity 1 ≤ state.hot_target
+  pub limit_counts : state.ghost_limit < 2 ^ 64
 
 -- one shard's part of a total: an equal part, rounded up by a sum that stops at what a count holds
 abbrev pub shard_part : (total shards : ℕ) → ℕ

@@ -11,16 +11,8 @@ use Rattle.quick_cache_model.specs.Sizes.{default_hot_share, clamped_target, hot
 use Rattle.quick_cache_model.specs.Sizes.{rescaled_target, rescaled_limit}
 use Rattle.quick_cache_model.specs.Eviction.{newest, EvictsToCapacity}
 use Rattle.quick_cache_model.specs.Capacity.{resized, SetsCapacity}
-use Rattle.quick_cache_laws.specs.Laws.{IsSized}
-use Rattle.quick_cache_laws.proofs.Eviction.InPlace.{EvictsToCapacity-beside}
-
--- a clamped target is at most the capacity, and at least 1 unless the capacity is 0
-pub clamped_target-le : (capacity wish : ℕ) → clamped_target capacity wish ≤ capacity
-clamped_target-le capacity wish = omega arith
-
--- and is at least 1 unless the capacity is 0
-pub clamped_target-pos : (capacity wish : ℕ) → min capacity 1 ≤ clamped_target capacity wish
-clamped_target-pos capacity wish = omega arith
+use Rattle.quick_cache_model.specs.Sizes.{IsSized}
+use Rattle.quick_cache_model.proofs.EvictionKeeps.{EvictsToCapacity-beside}
 
 -- the target at the present capacity is the target, if it was within its bounds
 pub rescaled_target-same : (capacity target : ℕ) → target ≤ capacity → min capacity 1 ≤ target
@@ -46,66 +38,7 @@ rescaled_limit-same capacity limit counts = go (capacity == 0) refl
         let some = eqb-false capacity 0 is in
         omega (arith, mul-div_cancel limit {n = capacity} (omega arith))
 
--- whatever the capacities, the new target is within its bounds
-pub rescaled_target-le : (old_capacity capacity target : ℕ)
-    → rescaled_target old_capacity capacity target ≤ capacity
-rescaled_target-le old_capacity capacity target = go (old_capacity == 0)
-  where
-    go : (b : Bool) → (if b then hot_target_of capacity default_hot_share else clamped_target
-        capacity (capacity * target / old_capacity)) ≤ capacity
-    go true = clamped_target-le capacity (capacity * default_hot_share / 1000000)
-    go false = clamped_target-le capacity (capacity * target / old_capacity)
-
--- and it is at least 1 unless the new capacity is 0
-pub rescaled_target-pos : (old_capacity capacity target : ℕ)
-    → min capacity 1 ≤ rescaled_target old_capacity capacity target
-rescaled_target-pos old_capacity capacity target = go (old_capacity == 0)
-  where
-    go : (b : Bool) → min capacity 1 ≤ (if b then hot_target_of capacity default_hot_share else
-        clamped_target capacity (capacity * target / old_capacity))
-    go true = clamped_target-pos capacity (capacity * default_hot_share / 1000000)
-    go false = clamped_target-pos capacity (capacity * target / old_capacity)
-
--- and a count holds the new limit, if one held the old
-pub rescaled_limit-counts : (old_capacity capacity limit : ℕ) → limit < 2 ^ 64
-    → rescaled_limit old_capacity capacity limit < 2 ^ 64
-rescaled_limit-counts old_capacity capacity limit counts = go (old_capacity == 0)
-  where
-    go : (b : Bool) → (if b then limit else min (limit * capacity / old_capacity) (2 ^ 64 - 1))
-        < 2 ^ 64
-    go true = counts
-    go false = omega arith
-
 module _ {K V : Type 0} (rules : Rules K V) where
-  -- a new capacity leaves a cache sized
-  pub SetsCapacity-sized : (capacity : ℕ) (old new : CacheState K V) (calls : List (HookCall K V))
-      → SetsCapacity rules capacity old calls new
-      → IsSized old → IsSized new
-  SetsCapacity-sized capacity old _ calls (SetsCapacity.sets mid _ evicts) sized =
-      let same = EvictsToCapacity-beside rules 0 (resized rules capacity old) mid calls evicts in
-      record {
-        target_within = omega (
-          arith,
-          same.capacity,
-          same.hot_target,
-          rescaled_target-le
-              old.capacity capacity old.hot_target,
-        );
-        target_above = omega (
-          arith,
-          same.capacity,
-          same.hot_target,
-          rescaled_target-pos
-              old.capacity capacity old.hot_target,
-        );
-        limit_counts = omega (
-          arith,
-          same.ghost_limit,
-          rescaled_limit-counts old.capacity capacity
-              old.ghost_limit sized.limit_counts,
-        );
-      }
-
   -- the present capacity changes no size
   pub SetsCapacity-sizes : (old new : CacheState K V) (calls : List (HookCall K V))
       → SetsCapacity rules old.capacity old calls new → IsSized old

@@ -14,7 +14,7 @@ use Rattle.quick_cache_model.specs.Eviction.{AdvancesCold, EvictsToCapacity}
 use Rattle.quick_cache_laws.specs.Laws.{pairs_by, IsPinnedTest}
 use Rattle.quick_cache_model.proofs.KeyCounts.{one_if}
 use Rattle.quick_cache_model.proofs.TouchLaws.{with_touches-key, with_touches-value}
-use Rattle.quick_cache_laws.proofs.Eviction.InPlace.{EvictsToCapacity-beside}
+use Rattle.quick_cache_model.proofs.EvictionKeeps.{EvictsToCapacity-beside}
 
 -- an item without weight is where it was, once room was made
 pub EvictsToCapacity-still : {K V : Type 0} (rules : Rules K V) (need : ℕ)

@@ -14,13 +14,18 @@ use Rattle.quick_cache_model.proofs.KeyCounts.{one}
 use Rattle.quick_cache_laws.proofs.Eviction.Keys.{EvictsVictim-keys, AdvancesHot-keys}
 use Rattle.quick_cache_laws.proofs.Eviction.Keys.{EvictsToTarget-keys, AdvancesCold-keys}
 use Rattle.quick_cache_laws.proofs.Eviction.Keys.{EvictsToCapacity-keys}
-use Rattle.quick_cache_laws.proofs.Eviction.InPlace.{newest-within, IsInPlace, IsSameBeside}
-use Rattle.quick_cache_laws.proofs.Eviction.InPlace.{EvictsVictim-in_place, EvictsVictim-beside}
-use Rattle.quick_cache_laws.proofs.Eviction.InPlace.{AdvancesHot-in_place, AdvancesHot-beside}
-use Rattle.quick_cache_laws.proofs.Eviction.InPlace.{EvictsToTarget-in_place, EvictsToTarget-beside}
-use Rattle.quick_cache_laws.proofs.Eviction.InPlace.{AdvancesCold-in_place, AdvancesCold-beside}
+use Rattle.quick_cache_model.proofs.EvictionKeeps.{newest-within, IsSameBeside}
+use Rattle.quick_cache_laws.proofs.Eviction.InPlace.{IsInPlace}
+use Rattle.quick_cache_model.proofs.EvictionKeeps.{EvictsVictim-beside}
+use Rattle.quick_cache_laws.proofs.Eviction.InPlace.{EvictsVictim-in_place}
+use Rattle.quick_cache_model.proofs.EvictionKeeps.{AdvancesHot-beside}
+use Rattle.quick_cache_laws.proofs.Eviction.InPlace.{AdvancesHot-in_place}
+use Rattle.quick_cache_model.proofs.EvictionKeeps.{EvictsToTarget-beside}
+use Rattle.quick_cache_laws.proofs.Eviction.InPlace.{EvictsToTarget-in_place}
+use Rattle.quick_cache_model.proofs.EvictionKeeps.{AdvancesCold-beside}
+use Rattle.quick_cache_laws.proofs.Eviction.InPlace.{AdvancesCold-in_place}
 use Rattle.quick_cache_laws.proofs.Eviction.InPlace.{EvictsToCapacity-in_place}
-use Rattle.quick_cache_laws.proofs.Eviction.InPlace.{EvictsToCapacity-beside}
+use Rattle.quick_cache_model.proofs.EvictionKeeps.{EvictsToCapacity-beside}
 use Rattle.quick_cache_laws.proofs.Valid.Places.{IsSameButItems}
 use Rattle.quick_cache_laws.proofs.Valid.Tickets.{AreTickets}
 

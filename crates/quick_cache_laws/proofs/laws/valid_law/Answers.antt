@@ -8,6 +8,7 @@ use Rattle.quick_cache_laws.proofs.Valid.Placeholders.{FillsPlaceholder-valid}
 use Rattle.quick_cache_laws.proofs.Valid.Placeholders.{GivesUpPlaceholder-valid}
 use Rattle.quick_cache_laws.proofs.Valid.Lookups.{LooksUp-valid, Removes-valid, RemovesIf-valid}
 use Rattle.quick_cache_laws.proofs.Valid.Lookups.{Retains-valid, ActsOnEntry-valid}
+use Rattle.quick_cache_laws.proofs.Steps.Valid.{Steps-valid, reweighed_there-valid}
 use Rattle.quick_cache_laws.proofs.laws.valid_law.Goals as goal
 
 pub returns-clause-writes : goal.returns-clause-writes
@@ -67,3 +68,19 @@ returns-clause-empties g c = λ state. emptied-valid _ state
 
 pub returns-clause-orders : goal.returns-clause-orders
 returns-clause-orders g c = λ old new order valid. SameButOrder-valid _ old new order valid
+
+pub returns-clause-reweighs : goal.returns-clause-reweighs
+returns-clause-reweighs g c = λ hash weight pinned stands_for place before item after left
+    old there valid.
+    reweighed_there-valid _ g.met.K.Eq.laws
+    (record {
+      hash = hash;
+      weight = weight;
+      pinned = pinned;
+      may_count = g.T.Touches.may_count;
+    })
+    stands_for place before item after left old there valid
+
+pub returns-clause-steps : goal.returns-clause-steps
+returns-clause-steps g c = λ hash weight pinned old new steps valid.
+    Steps-valid _ g.met.K.Eq.laws _ old new steps valid
