@@ -1,4 +1,4 @@
--- What a contract sees of a `LinkedSlab`: tokens with items, the occupied ones parted into rings, and the free ones.
+-- What a contract sees of a `LinkedSlab`: tokens with items, their rings, and the free tokens.
 use Rattle.std.specs.Prelude.{◌≡◌, ◌≢◌, ◌↔◌, ℕ, zero, suc, ◌+◌, ◌-◌, ◌<◌, ◌≤◌, cond, eqb, List, [], ◌∷◌, ◌++◌, length, map, drop, filter_map, Option, Some, None, IsSome, slice_index_or, slice_set}
 use Rattle.std.specs.Int.NonZero.{non_zero_u32_get}
 use Rattle.std.specs.declared.num.NonZeroU32.{NonZeroU32 as Token}
@@ -34,7 +34,7 @@ before_head token head [] = []
 before_head token head (x ∷ xs) =
     cond (eqb x head) (token ∷ x ∷ before_head token head xs) (x ∷ before_head token head xs)
 
--- a ring with the token put in before `head`: at the end of the list where the list begins with `head`
+-- a ring with the token put in before `head`, so at the end of a list that begins with `head`
 abbrev pub joined : ℕ → ℕ → List ℕ → List ℕ
 joined token head [] = []
 joined token head (x ∷ xs) = x ∷ (before_head token head xs ++ cond (eqb x head) (token ∷ []) [])
@@ -93,7 +93,7 @@ module _ {T : Type 0} where
     free = free;
   }
 
-  -- the slab with the token put in before the head, at the end of the list that begins with the head
+  -- the slab with the token put in before the head, at the end of the list that begins with it
   abbrev pub linked : LinkedSlab T → ℕ → ℕ → LinkedSlab T
   linked slab token head = record slab {
     rings = with_token (map (joined token head) slab.rings) token (token ∷ ring_from slab head);

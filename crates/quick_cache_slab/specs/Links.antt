@@ -42,7 +42,8 @@ link_of links token = at_token links token 0
 
 -- the free tokens, from the first on
 abbrev pub free_of : List ℕ → ℕ → List ℕ
-free_of nexts first = cond (ltb (length nexts) first) [] (walk_free (link_of nexts) (length nexts) first)
+free_of nexts first =
+    cond (ltb (length nexts) first) [] (walk_free (link_of nexts) (length nexts) first)
 
 -- how many more slots fit, with memory for so many, where there are so many
 abbrev pub room_of : ℕ → ℕ → ℕ
@@ -56,7 +57,8 @@ module _ {T : Type 0} where
   -- the ring of a token, as the list that begins with it
   abbrev pub ring_at : List (Option T) → List ℕ → ℕ → List ℕ
   ring_at slots nexts token =
-      cond (is_taken slots token) (token ∷ walk (link_of nexts) token (length slots) (link_of nexts token)) []
+      let next = link_of nexts in
+      cond (is_taken slots token) (token ∷ walk next token (length slots) (next token)) []
 
   -- the ring of each token
   abbrev pub rings_of : List (Option T) → List ℕ → List (List ℕ)
@@ -69,15 +71,18 @@ module _ {T : Type 0} where
     pub rings : AreRings (link_of nexts) (link_of prevs) (is_taken slots)
 
   -- the links lead from the first over these tokens, which are all that are free
-  pub record AreFree (slots : List (Option T)) (nexts : List ℕ) (first : ℕ) (free : List ℕ) : Type 0 where
+  pub record AreFree (slots : List (Option T)) (nexts : List ℕ) (first : ℕ) (free : List ℕ)
+      : Type 0 where
     pub begins : first ≡ first_or (length slots + 1) free
     pub leads : LeadsFree (link_of nexts) free
     pub once : (t : ℕ) → times t free ≤ 1
-    pub within : (t : ℕ) → 0 < times t free → (0 < t) × (t ≤ length slots) × (is_taken slots t ≡ false)
+    pub within : (t : ℕ) → 0 < times t free
+        → (0 < t) × (t ≤ length slots) × (is_taken slots t ≡ false)
     pub all : (t : ℕ) → 0 < t → t ≤ length slots → is_taken slots t ≡ false → 0 < times t free
 
-  -- the links lead from the token over the free tokens that are left, behind so many that were passed
-  pub record IsFreeRest (slots : List (Option T)) (nexts : List ℕ) (free : List ℕ) (token passed : ℕ) : Type 0 where
+  -- so many free tokens were passed, and the links lead from the token over those that are left
+  pub record IsFreeRest (slots : List (Option T)) (nexts free : List ℕ) (token passed : ℕ)
+      : Type 0 where
     pub rest : List ℕ
     pub begins : token ≡ first_or (length slots + 1) rest
     pub leads : LeadsFree (link_of nexts) rest
@@ -88,7 +93,8 @@ module _ {T : Type 0} where
   -- the slab that slots and links stand for, with the token of the next insert
   abbrev pub view_of : List (Option T) → List ℕ → ℕ → ℕ → LinkedSlab T
   view_of slots nexts first room =
-      record { slots = slots; rings = rings_of slots nexts; free = free_of nexts first; room = room }
+      let rings = rings_of slots nexts in
+      record { slots = slots; rings = rings; free = free_of nexts first; room = room }
 
   -- what always holds of the slots
   pub record IsSound (slots : List (Option T)) (nexts prevs : List ℕ) (first : ℕ) : Type 0 where
@@ -98,16 +104,20 @@ module _ {T : Type 0} where
     pub are_free : AreFree slots nexts first free
 
   -- the token is a ring of its own, and is gone from the other rings
-  pub record Unlinks (slots : List (Option T)) (nexts prevs : List ℕ) (a : ℕ) (nexts' prevs' : List ℕ) : Type 0 where
+  pub record Unlinks (slots : List (Option T)) (nexts prevs : List ℕ) (a : ℕ)
+      (nexts' prevs' : List ℕ) : Type 0 where
     pub linked : AreLinked slots nexts' prevs'
-    pub rings : rings_of slots nexts' ≡ with_token (map (without a) (rings_of slots nexts)) a (a ∷ [])
+    pub rings : rings_of slots nexts'
+        ≡ with_token (map (without a) (rings_of slots nexts)) a (a ∷ [])
     pub alone : link_of nexts' a ≡ a
     pub free_kept : (t : ℕ) → is_taken slots t ≡ false → link_of nexts' t ≡ link_of nexts t
 
   -- the token stands before the head in its ring, at the end of the list that begins with the head
-  pub record Links (slots : List (Option T)) (nexts prevs : List ℕ) (a head : ℕ) (nexts' prevs' : List ℕ) : Type 0 where
+  pub record Links (slots : List (Option T)) (nexts prevs : List ℕ) (a head : ℕ)
+      (nexts' prevs' : List ℕ) : Type 0 where
     pub linked : AreLinked slots nexts' prevs'
-    pub rings : rings_of slots nexts' ≡ with_token (map (joined a head) (rings_of slots nexts)) a (a ∷ ring_at slots nexts head)
+    pub rings : rings_of slots nexts'
+        ≡ with_token (map (joined a head) (rings_of slots nexts)) a (a ∷ ring_at slots nexts head)
     pub free_kept : (t : ℕ) → is_taken slots t ≡ false → link_of nexts' t ≡ link_of nexts t
 
   -- the items of the nodes

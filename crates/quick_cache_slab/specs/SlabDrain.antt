@@ -1,4 +1,4 @@
--- What a contract sees of a `Drain`.
+-- What a contract sees of a `Drain`: the items to come, and what the slab ends as.
 use Rattle.std.specs.Prelude.{◌≡◌, ℕ, ◌+◌, ◌≤◌, List, length, Option, None}
 use Rattle.std.specs.Borrow.{GName}
 use Rattle.std.specs.Iterator.{YieldsFirst, Yields}
@@ -28,7 +28,8 @@ module _ {T A : Type 0} where
 
   -- `next` took old to new, and returned the first item
   abbrev pub DrainSteps : Drain T A → Option T → Drain T A → Type 0
-  DrainSteps old item new = YieldsFirst drain_rest old item new × DrainKeeps old new × DrainCanStep new
+  DrainSteps old item new =
+      YieldsFirst drain_rest old item new × DrainKeeps old new × DrainCanStep new
 
   -- each state that calls of `next` lead to keeps what the first keeps
   abbrev pub DrainKeepsAlong : Drain T A → Type 0

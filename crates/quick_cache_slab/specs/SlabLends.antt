@@ -30,4 +30,5 @@ module _ (T A : RattleType) (alloc : Ghosts A.Denot) where
 
   -- with no item the slab stays as it is
   abbrev pub rests_if_free : MutBor (LinkedSlab T.Denot) → Option (ItemMut T.Denot A.Denot) → Fml
-  rests_if_free slab r = RestsIfNone (the_row T A alloc) slab held_lender r (λ rest. rest ≡ slab.now)
+  rests_if_free slab r =
+      RestsIfNone (the_row T A alloc) slab held_lender r (λ rest. rest ≡ slab.now)

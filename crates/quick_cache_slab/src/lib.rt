@@ -1,4 +1,4 @@
-//! A slab: items in slots that tokens name, the occupied ones linked into rings, the free ones into a list.
+//! A slab: items in slots that tokens name, the occupied ones in rings, the free ones in a list.
 #![tactic(auto)]
 
 pub mod linked_slab;

@@ -1,4 +1,4 @@
-//! A slab: items in slots that tokens name, the occupied ones linked into rings, the free ones into a list.
+//! A slab: items in slots that tokens name, the occupied ones in rings, the free ones in a list.
 ghost use Rattle.std.specs.Prelude.{◌≡◌, ◌≢◌, ◌⊎◌, ◌↔◌, ◌+◌, ◌-◌, ◌<◌, ◌≤◌, min, [], ◌∷◌, ◌++◌, length, count_by, is_some, IsOk, IsNone, IfOk, IfErr, OnOk, OnErr, IfSome, OnSome, IfNone, MatchOption, Some, vec_len, vec_capacity};
 ghost use Rattle.std.specs.Int.NonZero.{non_zero_u32_get as number};
 ghost use Rattle.quick_cache_slab.specs.LinkedSlab.{item_at, IsOccupied, ring_from, successor, next_token, spare, left, IsFull, placed, linked, unlinked, removed, IsNextOf, IsAlone, IsAloneIf, JoinsEnd, IsParted, items, entries_after, emptied, times};
@@ -25,7 +25,7 @@ const MAX_SLOTS: usize = 4294967294;
 
 /// Items under tokens. Each item stands in a ring, at first alone.
 ///
-/// A token keeps its item until that item is removed, and only then can `insert` give the token out again.
+/// A token keeps its item until that item is removed, and only then can `insert` give it out again.
 #[derive(Drop)]
 pub struct LinkedSlab<T, A: Allocator = Global> {
     nodes: Vec<Node<T>, A>,
@@ -42,9 +42,13 @@ impl<T, A: Allocator> Model for LinkedSlab<T, A> {
 
     ghost use Rattle.quick_cache_slab.specs.Links.{slots_of, nexts_of, prevs_of, room_of, view_of, IsSound};
 
-    ghost view = { λ s. view_of (slots_of s.nodes.items) (nexts_of s.nodes.items) (number s.next_free) (room_of (vec_capacity s.nodes) (vec_len s.nodes)) };
+    ghost view = { λ s. view_of
+        (slots_of s.nodes.items) (nexts_of s.nodes.items) (number s.next_free)
+        (room_of (vec_capacity s.nodes) (vec_len s.nodes)) };
 
-    ghost invariant = { λ s. IsSound (slots_of s.nodes.items) (nexts_of s.nodes.items) (prevs_of s.nodes.items) (number s.next_free) };
+    ghost invariant = { λ s. IsSound
+        (slots_of s.nodes.items) (nexts_of s.nodes.items) (prevs_of s.nodes.items)
+        (number s.next_free) };
 }
 
 // The token of the slot past so many.
@@ -83,7 +87,7 @@ impl<T, A: Allocator> LinkedSlab<T, A> {
     ///
     /// A refusal is for want of memory.
     pub fn with_capacity(alloc: A, capacity: usize) -> Result<Self, Refusal>
-        ensures empty { IfOk result (λ slab. slab ≡ record { slots = []; rings = []; free = []; room = slab.room }) }
+        ensures empty { IfOk result (λ slab. slab ≡ emptied slab.room) }
         ensures room { IfOk result (λ slab. min capacity 4294967294 ≤ slab.room) }
         ensures parted { IfOk result IsParted }
         ensures memory { IfErr result (λ refused. refused ≡ Refusal.Memory) }
@@ -100,8 +104,8 @@ impl<T, A: Allocator> LinkedSlab<T, A> {
 
     /// Makes room for so many more items, or for all that a slab can still have.
     ///
-    /// Free slots count, so where these and the room suffice it asks for no memory. A refusal is for
-    /// want of memory.
+    /// Free slots count, so where these and the room suffice it asks for no memory. It reads at most
+    /// as many slots as are asked for. A refusal is for want of memory.
     pub fn reserve(&mut self, additional: usize) -> Result<(), Refusal>
         ensures kept { self.new ≡ record self.old { room = self.new.room } }
         ensures room { OnOk result (min additional (left self.old) ≤ spare self.new) }
@@ -189,7 +193,9 @@ impl<T, A: Allocator> LinkedSlab<T, A> {
         Ok(token)
     }
 
-    /// The item of a token and the token behind it in its ring, or nothing at a free or unknown token.
+    /// The item of a token and the token behind it in its ring.
+    ///
+    /// A free or unknown token gives nothing.
     #[inline]
     pub fn get(&self, token: Token) -> Option<(&T, Token)>
         ensures absent { IfNone result (item_at self.now (number token) ≡ None) }
@@ -203,7 +209,9 @@ impl<T, A: Allocator> LinkedSlab<T, A> {
         links::get(self.nodes.as_slice(), token)
     }
 
-    /// The item of a token, for writing, and the token behind it in its ring, or nothing at a free or unknown token.
+    /// The item of a token, for writing, and the token behind it in its ring.
+    ///
+    /// A free or unknown token gives nothing.
     #[inline]
     pub fn get_mut(&mut self, token: Token) -> Option<ItemMut<'_, T, A>>
         ensures* unchanged { sem 𝓛 (rests_if_free T.row A.row A.Allocator self.entry result) }
@@ -245,9 +253,9 @@ impl<T, A: Allocator> LinkedSlab<T, A> {
         is_occupied(self.nodes.as_slice(), token)
     }
 
-    /// Puts an item that is a ring of its own before the head of another ring, so at the ring's end, and answers the head.
+    /// Puts an item that is a ring of its own before the head of another, so at that ring's end.
     ///
-    /// With no head nothing changes, and the answer is the token itself.
+    /// It answers the head. With no head nothing changes, and the answer is the token itself.
     pub fn link(&mut self, token: Token, head: Option<Token>) -> Token
         requires occupied { IsOccupied self.old (number token) }
         requires alone { IsAlone self.old (number token) }
@@ -271,7 +279,9 @@ impl<T, A: Allocator> LinkedSlab<T, A> {
         head
     }
 
-    /// Takes an item out of its ring, leaves it a ring of its own, and answers the token behind it, if that was another.
+    /// Takes an item out of its ring, and leaves it a ring of its own.
+    ///
+    /// It answers the token that was behind it, if that was another.
     pub fn unlink(&mut self, token: Token) -> Option<Token>
         requires { IsOccupied self.old (number token) }
         ensures unlinked { self.new ≡ unlinked self.old (number token) }
@@ -283,9 +293,10 @@ impl<T, A: Allocator> LinkedSlab<T, A> {
         unlink(self.nodes.as_mut_slice(), token)
     }
 
-    /// Takes an item out of its ring and out of the slab, and answers it with the token behind it, if that was another.
+    /// Takes an item out of its ring and out of the slab, and answers it.
     ///
-    /// The token is the next that `insert` gives out. A free or unknown token gives nothing.
+    /// With it comes the token that was behind it, if that was another. The token is the next that
+    /// `insert` gives out. A free or unknown token gives nothing.
     pub fn remove(&mut self, token: Token) -> Option<(T, Option<Token>)>
         ensures absent { IfNone result (item_at self.old (number token) ≡ None) }
         ensures unchanged { IfNone result (self.new ≡ self.old) }
@@ -350,7 +361,9 @@ impl<T, A: Allocator> LinkedSlab<T, A> {
         }
     }
 
-    /// Takes the items out, by ascending token. The slab is empty once the iterator is dropped, and keeps its room.
+    /// Takes the items out, by ascending token.
+    ///
+    /// The slab is empty once the iterator is dropped, and keeps its room.
     pub fn drain(&mut self) -> Drain<'_, T, A>
     where
         T: Drop,

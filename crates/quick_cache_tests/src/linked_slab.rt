@@ -1,10 +1,12 @@
 //! The slab's row, its iterators and its drain.
-ghost use Rattle.std.specs.Prelude.{◌≡◌, OnSome, IfSome, IfNone};
+ghost use Rattle.std.specs.Prelude.{◌≡◌, ◌≢◌, ℕ, Some, OnSome, IfSome, IfNone};
 ghost use Rattle.std.specs.Int.NonZero.{non_zero_u32_get as number};
-ghost use Rattle.quick_cache_slab.specs.LinkedSlab.{successor, with_item};
+ghost use Rattle.quick_cache_slab.specs.LinkedSlab.{item_at, successor, with_item};
 
+use quick_cache_base::Refusal;
 use quick_cache_base::linked_slab::{LinkedSlab, Token};
-use std::alloc::Global;
+use rationed::Rationed;
+use std::alloc::{Allocator, Global};
 use std::process::Abort;
 use std::test::Fail;
 
@@ -59,6 +61,21 @@ fn write(slab: &mut Slab, token: Token, item: u32) -> Option<Token>
     let next = held.next_token();
     *held.into_mut() = item;
     Some(next)
+}
+
+// Takes an item out and puts another in. The slot that was freed suffices, so none is refused.
+fn exchange(slab: &mut Slab, token: Token, item: u32) -> Option<u32>
+    ensures absent { IfNone result (slab.new ≡ slab.old) }
+    ensures taken { IfSome result (λ taken. item_at slab.old (number token) ≡ Some taken) }
+    ensures others { (other : ℕ) → other ≢ number token
+        → item_at slab.new other ≡ item_at slab.old other }
+    ensures put { OnSome result (item_at slab.new (number token) ≡ Some item) }
+{
+    let (taken, _) = slab.remove(token)?;
+    match slab.insert(item) {
+        Ok(_) => Some(taken),
+        Err(_) => unreachable!(),
+    }
 }
 
 // Walks a ring until it closes, and notes its tokens, which were in no ring before.
@@ -205,5 +222,106 @@ fn a_drain_empties_the_slab(rt: HostRuntime) -> Result<(), Fail> {
     assert_eq!(rt; slab.next_free().get(), 1);
     assert_eq!(rt; store(&mut slab, 60)?, 1);
     validate(&rt, rt.alloc(), &slab)?;
+    Ok(())
+}
+
+#[test]
+fn exchanges_items(rt: HostRuntime) -> Result<(), Fail> {
+    let mut slab = filled(&rt, rt.alloc())?;
+    let two = Token::new(2).ok_or("zero")?;
+    assert_eq!(rt; exchange(&mut slab, two, 25), Some(20));
+    assert_eq!(rt; look(&slab, 2), Some((25, 2)));
+    assert_eq!(rt; look(&slab, 3), Some((30, 3)));
+    Ok(())
+}
+
+// How many items a test of many has.
+const MANY: u32 = 10000;
+
+// A slab of many items, the item 1 under the token 1 and so on, all in one ring.
+fn many(rt: &impl Abort, alloc: Global) -> Result<Slab, Fail> {
+    let Ok(mut slab) = LinkedSlab::with_capacity(alloc, 0) else {
+        return Err("refused")?;
+    };
+    for item in 1..=MANY {
+        assert_eq!(rt; store(&mut slab, item)?, item);
+        if item > 1 {
+            assert_eq!(rt; join(&mut slab, item, 1), Some(1));
+        }
+    }
+    Ok(slab)
+}
+
+// Takes each second item out: its successor is the one behind it.
+fn halve(rt: &impl Abort, slab: &mut Slab) {
+    for half in 1..=MANY / 2 {
+        let token = half * 2;
+        let next = if token == MANY { 1 } else { token + 1 };
+        assert_eq!(rt; take(slab, token), Some((token, Some(next))));
+    }
+}
+
+#[test]
+fn ten_thousand_items_stand_in_one_ring(rt: HostRuntime) -> Result<(), Fail> {
+    let slab = many(&rt, rt.alloc())?;
+    assert_eq!(rt; slab.len(), MANY as usize);
+    for token in 1..=MANY {
+        let next = if token == MANY { 1 } else { token + 1 };
+        assert_eq!(rt; look(&slab, token), Some((token, next)));
+    }
+    Ok(())
+}
+
+#[test]
+fn ten_thousand_slots_are_freed_and_taken_again(rt: HostRuntime) -> Result<(), Fail> {
+    let mut slab = many(&rt, rt.alloc())?;
+    halve(&rt, &mut slab);
+    assert_eq!(rt; slab.len(), (MANY / 2) as usize);
+    for (token, item) in slab.iter_from(None) {
+        assert_eq!(rt; token.get(), *item);
+        assert_eq!(rt; token.get() % 2, 1);
+    }
+    // The last freed comes first.
+    for half in 1..=MANY / 2 {
+        let token = MANY + 2 - half * 2;
+        assert_eq!(rt; store(&mut slab, token)?, token);
+    }
+    assert_eq!(rt; slab.next_free().get(), MANY + 1);
+    Ok(())
+}
+
+// A slab with room for four items and no memory for more, of three items, and one that was removed.
+fn rationed<'a>(
+    ration: &'a Rationed<Global>,
+) -> Result<LinkedSlab<u32, &'a Rationed<Global>>, Fail> {
+    let Ok(mut slab) = LinkedSlab::with_capacity(ration, 4) else {
+        return Err("refused")?;
+    };
+    ration.allow(0);
+    for item in 1..=3 {
+        slab.insert(item).map_err(|_| "refused")?;
+    }
+    slab.remove(Token::MIN);
+    Ok(slab)
+}
+
+#[test]
+fn a_reserve_that_needs_no_memory_asks_for_none(rt: HostRuntime) -> Result<(), Fail> {
+    let ration = Rationed::new(rt.alloc(), 1);
+    let mut slab = rationed(&ration)?;
+    for (additional, answer) in [
+        (0, Ok(())),
+        (1, Ok(())),
+        (2, Ok(())),
+        (3, Err(Refusal::Memory)),
+        (usize::MAX, Err(Refusal::Memory)),
+    ] {
+        assert_eq!(rt; slab.reserve(additional), answer, "room for {additional}");
+    }
+    for item in 4..=5 {
+        assert!(rt; slab.insert(item).is_ok());
+    }
+    assert!(rt; slab.insert(6).is_err());
+    assert_eq!(rt; slab.reserve(0), Ok(()));
     Ok(())
 }

@@ -1,4 +1,4 @@
-use Rattle.quick_cache_slab.proofs.WalkLemmas.{entries_rest}
+use Rattle.quick_cache_slab.proofs.IteratedItems.{entries_rest}
 use Rattle.quick_cache_slab.proofs.linked_slab.LinkedSlab.after.Goals as goal
 
 pub returns : goal.returns

@@ -1,4 +1,4 @@
-use Rattle.quick_cache_slab.proofs.WalkLemmas.{Drain_keeps_along}
+use Rattle.quick_cache_slab.proofs.IteratedItems.{Drain_keeps_along}
 use Rattle.quick_cache_slab.proofs.linked_slab.LinkedSlab.drain.Goals as goal
 
 pub returns-clause-stays : goal.returns-clause-stays

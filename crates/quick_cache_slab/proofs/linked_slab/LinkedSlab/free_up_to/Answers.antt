@@ -1,8 +1,8 @@
 use Rattle.std.proofs.Common.{◌≡◌, ◌≢◌, sym, ◌∙◌, arith}
 use Rattle.quick_cache_slab.specs.Links.{nexts_of, link_of}
-use Rattle.quick_cache_slab.proofs.NodeLemmas.{length-slots_of}
-use Rattle.quick_cache_slab.proofs.SlabLemmas.{free_is}
-use Rattle.quick_cache_slab.proofs.FreeLemmas.{IsFreeRest-start, IsFreeRest-past, IsFreeRest-last, IsFreeRest-step}
+use Rattle.quick_cache_slab.proofs.NodeFields.{length-slots_of}
+use Rattle.quick_cache_slab.proofs.SlabViews.{free_is}
+use Rattle.quick_cache_slab.proofs.FreeTokens.{IsFreeRest-start, IsFreeRest-past, IsFreeRest-last, IsFreeRest-step}
 use Rattle.quick_cache_slab.proofs.linked_slab.LinkedSlab.free_up_to.Goals as goal
 
 pub loop-found-init : goal.loop-found-init

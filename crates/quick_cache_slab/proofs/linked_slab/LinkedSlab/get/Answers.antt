@@ -1,7 +1,7 @@
 use Rattle.std.proofs.Common.{Bor, vec_len, vec_capacity, arith}
 use Rattle.quick_cache_slab.specs.Links.{room_of}
-use Rattle.quick_cache_slab.proofs.SlabLemmas.{successor_found}
-use Rattle.quick_cache_slab.proofs.PartLemmas.{alone_found, IsParted-nodes}
+use Rattle.quick_cache_slab.proofs.SlabViews.{successor_found}
+use Rattle.quick_cache_slab.proofs.PartedRings.{alone_found, IsParted-nodes}
 use Rattle.quick_cache_slab.proofs.linked_slab.LinkedSlab.get.Goals as goal
 
 pub returns-clause-next : goal.returns-clause-next

@@ -1,8 +1,8 @@
 use Rattle.std.proofs.Common.{Some, is_some, refl, sym, ap, ◌∙◌, vec_len, vec_capacity}
 use Rattle.quick_cache_slab.specs.Links.{room_of}
 use Rattle.quick_cache_slab.specs.declared.linked_slab.links.Node.{Node}
-use Rattle.quick_cache_slab.proofs.NodeLemmas.{slots_of-with, nexts_of-set_kept, prevs_of-set_kept, item_read, next_read, taken_in_nodes}
-use Rattle.quick_cache_slab.proofs.SlabLemmas.{successor-view, IsSound-rewritten, view-rewritten}
+use Rattle.quick_cache_slab.proofs.NodeFields.{slots_of-with, nexts_of-set_kept, prevs_of-set_kept, item_read, next_read, taken_in_nodes}
+use Rattle.quick_cache_slab.proofs.SlabViews.{successor-view, IsSound-rewritten, view-rewritten}
 use Rattle.quick_cache_slab.proofs.linked_slab.LinkedSlab.get_mut_unchecked.Goals as goal
 
 pub item_mut-requires : goal.item_mut-requires

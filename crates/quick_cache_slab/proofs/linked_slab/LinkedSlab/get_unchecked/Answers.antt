@@ -1,7 +1,7 @@
 use Rattle.std.proofs.Common.{is_some, true≢false, sym, ap, ◌∙◌, vec_len, vec_capacity}
 use Rattle.quick_cache_slab.specs.Links.{room_of}
-use Rattle.quick_cache_slab.proofs.NodeLemmas.{item_read, next_read, taken_in_nodes}
-use Rattle.quick_cache_slab.proofs.SlabLemmas.{successor-view}
+use Rattle.quick_cache_slab.proofs.NodeFields.{item_read, next_read, taken_in_nodes}
+use Rattle.quick_cache_slab.proofs.SlabViews.{successor-view}
 use Rattle.quick_cache_slab.proofs.linked_slab.LinkedSlab.get_unchecked.Goals as goal
 
 pub unreachable-requires : goal.unreachable-requires

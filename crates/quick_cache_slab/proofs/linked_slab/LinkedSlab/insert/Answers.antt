@@ -1,11 +1,11 @@
 use Rattle.std.proofs.Common.{◌≡◌, ◌≢◌, ◌⊎◌, ◌+◌, length, inl, inr, refl, ap, vec_len, vec_capacity, arith}
 use Rattle.std.proofs.lemmas.List.{with_items_is}
 use Rattle.quick_cache_slab.specs.Links.{slots_of, room_of}
-use Rattle.quick_cache_slab.proofs.NodeLemmas.{length-slots_of, slots_of-push, nexts_of-push, prevs_of-push}
-use Rattle.quick_cache_slab.proofs.SlabLemmas.{next_token-is, none_free, some_free, next_after, Reused-at, Grown-at}
+use Rattle.quick_cache_slab.proofs.NodeFields.{length-slots_of, slots_of-push, nexts_of-push, prevs_of-push}
+use Rattle.quick_cache_slab.proofs.SlabViews.{next_token-is, none_free, some_free, next_after, Reused-at, Grown-at}
+use Rattle.quick_cache_slab.proofs.PartedRings.{IsParted-nodes}
+use Rattle.quick_cache_slab.proofs.EditsByToken.{PlacesItem-from, spare-placed}
 use Rattle.quick_cache_slab.specs.LinkedSlab.{IsParted}
-use Rattle.quick_cache_slab.proofs.PartLemmas.{IsParted-nodes}
-use Rattle.quick_cache_slab.proofs.EditLemmas.{PlacesItem-from, spare-placed}
 use Rattle.quick_cache_slab.proofs.linked_slab.LinkedSlab.insert.Goals as goal
 use Rattle.quick_cache_slab.proofs.linked_slab.LinkedSlab.insert.Goals.{then-get, else-get}
 

@@ -1,10 +1,10 @@
 use Rattle.std.proofs.Common.{length, ap, ◌∙◌, vec_len, vec_capacity, arith}
 use Rattle.quick_cache_slab.specs.Links.{room_of}
 use Rattle.std.proofs.lemmas.List.{with_items_is}
-use Rattle.quick_cache_slab.proofs.SlabLemmas.{alone-to_link, IsSound-linked, view-linked}
+use Rattle.quick_cache_slab.proofs.SlabViews.{alone-to_link, IsSound-linked, view-linked}
+use Rattle.quick_cache_slab.proofs.PartedRings.{ring_from-linked, IsParted-nodes}
+use Rattle.quick_cache_slab.proofs.EditsByToken.{LinksToken-from}
 use Rattle.quick_cache_slab.specs.LinkedSlab.{ring_from, IsParted}
-use Rattle.quick_cache_slab.proofs.PartLemmas.{ring_from-linked, IsParted-nodes}
-use Rattle.quick_cache_slab.proofs.EditLemmas.{LinksToken-from}
 use Rattle.quick_cache_slab.proofs.linked_slab.LinkedSlab.link.Goals as goal
 
 pub link-requires-clause-linked : goal.link-requires-clause-linked

@@ -1,6 +1,6 @@
 use Rattle.std.proofs.Common.{vec_len, vec_capacity}
 use Rattle.quick_cache_slab.specs.Links.{room_of}
-use Rattle.quick_cache_slab.proofs.SlabLemmas.{full-is}
+use Rattle.quick_cache_slab.proofs.SlabViews.{full-is}
 use Rattle.quick_cache_slab.proofs.linked_slab.LinkedSlab.next_free.Goals as goal
 
 pub returns-clause-full : goal.returns-clause-full

@@ -1,11 +1,11 @@
 use Rattle.std.proofs.Common.{◌≡◌, ◌⊎◌, ◌<◌, ◌≤◌, length, inl, inr, sym, ap, ◌∙◌, vec_len, vec_capacity, arith}
 use Rattle.std.proofs.lemmas.List.{with_items_is}
 use Rattle.quick_cache_slab.specs.Links.{slots_of, room_of}
-use Rattle.quick_cache_slab.proofs.NodeLemmas.{length-slots_of}
-use Rattle.quick_cache_slab.proofs.SlabLemmas.{IsNextOf-is, Removes-by}
+use Rattle.quick_cache_slab.proofs.NodeFields.{length-slots_of}
+use Rattle.quick_cache_slab.proofs.SlabViews.{IsNextOf-is, Removes-by}
+use Rattle.quick_cache_slab.proofs.PartedRings.{IsParted-nodes}
+use Rattle.quick_cache_slab.proofs.EditsByToken.{RemovesItem-from}
 use Rattle.quick_cache_slab.specs.LinkedSlab.{IsOccupied, IsParted}
-use Rattle.quick_cache_slab.proofs.PartLemmas.{IsParted-nodes}
-use Rattle.quick_cache_slab.proofs.EditLemmas.{RemovesItem-from}
 use Rattle.quick_cache_slab.proofs.linked_slab.LinkedSlab.remove.Goals as goal
 use Rattle.quick_cache_slab.proofs.linked_slab.LinkedSlab.remove.Goals.{then-get-len, else-get-len}
 

@@ -1,5 +1,5 @@
 use Rattle.std.proofs.Common.{length, ap, arith}
-use Rattle.quick_cache_slab.proofs.PartLemmas.{IsParted-nodes}
+use Rattle.quick_cache_slab.proofs.PartedRings.{IsParted-nodes}
 use Rattle.quick_cache_slab.proofs.linked_slab.LinkedSlab.reserve.Goals as goal
 
 pub invariant_of-self : goal.invariant_of-self

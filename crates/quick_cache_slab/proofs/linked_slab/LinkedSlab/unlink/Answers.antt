@@ -1,10 +1,10 @@
 use Rattle.std.proofs.Common.{length, ap, ◌∙◌, vec_len, vec_capacity, arith}
 use Rattle.quick_cache_slab.specs.Links.{room_of}
 use Rattle.std.proofs.lemmas.List.{with_items_is}
-use Rattle.quick_cache_slab.proofs.SlabLemmas.{IsSound-unlinked, view-unlinked, IsNextOf-is}
+use Rattle.quick_cache_slab.proofs.SlabViews.{IsSound-unlinked, view-unlinked, IsNextOf-is}
+use Rattle.quick_cache_slab.proofs.PartedRings.{ring_from-unlinked, IsParted-nodes}
+use Rattle.quick_cache_slab.proofs.EditsByToken.{UnlinksToken-from}
 use Rattle.quick_cache_slab.specs.LinkedSlab.{ring_from, IsParted}
-use Rattle.quick_cache_slab.proofs.PartLemmas.{ring_from-unlinked, IsParted-nodes}
-use Rattle.quick_cache_slab.proofs.EditLemmas.{UnlinksToken-from}
 use Rattle.quick_cache_slab.proofs.linked_slab.LinkedSlab.unlink.Goals as goal
 
 pub unlink-requires-clause-linked : goal.unlink-requires-clause-linked

@@ -1,5 +1,5 @@
 use Rattle.std.proofs.Common.{vec_len, vec_capacity, arith}
-use Rattle.quick_cache_slab.proofs.PartLemmas.{IsParted-nodes}
+use Rattle.quick_cache_slab.proofs.PartedRings.{IsParted-nodes}
 use Rattle.quick_cache_slab.proofs.linked_slab.LinkedSlab.validate.Goals as goal
 
 pub returns : goal.returns

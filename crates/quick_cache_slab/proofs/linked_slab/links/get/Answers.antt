@@ -1,5 +1,5 @@
 use Rattle.std.proofs.Common.{sym, ap, ◌∙◌, arith}
-use Rattle.quick_cache_slab.proofs.NodeLemmas.{item_read, next_read}
+use Rattle.quick_cache_slab.proofs.NodeFields.{item_read, next_read}
 use Rattle.quick_cache_slab.proofs.linked_slab.links.get.Goals as goal
 
 pub returns-in-Some-clause-item : goal.returns-in-Some-clause-item

@@ -1,5 +1,5 @@
 use Rattle.std.proofs.Common.{is_some, sym, ap, ◌∙◌, arith}
-use Rattle.quick_cache_slab.proofs.NodeLemmas.{item_read}
+use Rattle.quick_cache_slab.proofs.NodeFields.{item_read}
 use Rattle.quick_cache_slab.proofs.linked_slab.links.is_occupied.Goals as goal
 
 pub returns-then-at-nodes : goal.returns-then-at-nodes

@@ -1,6 +1,6 @@
 use Rattle.std.proofs.Common.{arith}
-use Rattle.quick_cache_slab.proofs.NodeLemmas.{taken_in_nodes, prev_in_nodes}
-use Rattle.quick_cache_slab.proofs.LinkLemmas.{Links-written}
+use Rattle.quick_cache_slab.proofs.NodeFields.{taken_in_nodes, prev_in_nodes}
+use Rattle.quick_cache_slab.proofs.RingEditsOfSlots.{Links-written}
 use Rattle.quick_cache_slab.proofs.linked_slab.links.link.Goals as goal
 
 pub prev_of-last-requires : goal.prev_of-last-requires

@@ -1,4 +1,4 @@
-use Rattle.quick_cache_slab.proofs.NodeLemmas.{next_read}
+use Rattle.quick_cache_slab.proofs.NodeFields.{next_read}
 use Rattle.quick_cache_slab.proofs.linked_slab.links.next_of.Goals as goal
 
 pub returns : goal.returns

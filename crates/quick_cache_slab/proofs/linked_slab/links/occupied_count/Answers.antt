@@ -2,7 +2,7 @@ use Rattle.std.proofs.Common.{◌≡◌, ◌<◌, None, length, get_or, is_some,
 use Rattle.std.proofs.lemmas.List.{get_or-map}
 use Rattle.std.proofs.lemmas.List.Sums.{count_by_more_yes, count_by_more_no}
 use Rattle.quick_cache_slab.specs.Links.{slots_of}
-use Rattle.quick_cache_slab.proofs.NodeLemmas.{length-slots_of}
+use Rattle.quick_cache_slab.proofs.NodeFields.{length-slots_of}
 use Rattle.quick_cache_slab.proofs.linked_slab.links.occupied_count.Goals as goal
 use Rattle.quick_cache_slab.proofs.linked_slab.links.occupied_count.Goals.{then-is_some, else-is_some}
 

@@ -1,4 +1,4 @@
-use Rattle.quick_cache_slab.proofs.NodeLemmas.{prev_read}
+use Rattle.quick_cache_slab.proofs.NodeFields.{prev_read}
 use Rattle.quick_cache_slab.proofs.linked_slab.links.prev_of.Goals as goal
 
 pub returns : goal.returns

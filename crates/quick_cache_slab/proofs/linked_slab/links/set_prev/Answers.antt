@@ -1,5 +1,5 @@
 use Rattle.std.proofs.Common.{refl}
-use Rattle.quick_cache_slab.proofs.NodeLemmas.{slots_of-set, nexts_of-set_kept, prevs_of-with}
+use Rattle.quick_cache_slab.proofs.NodeFields.{slots_of-set, nexts_of-set_kept, prevs_of-with}
 use Rattle.quick_cache_slab.proofs.linked_slab.links.set_prev.Goals as goal
 
 pub returns-clause-slots : goal.returns-clause-slots

@@ -1,7 +1,7 @@
 use Rattle.std.proofs.Common.{◌≡◌, ◌≢◌, sym, ◌∙◌, arith}
 use Rattle.quick_cache_slab.specs.Links.{link_of, nexts_of}
-use Rattle.quick_cache_slab.proofs.NodeLemmas.{taken_in_nodes, prev_in_nodes}
-use Rattle.quick_cache_slab.proofs.SlotLemmas.{Unlinks-alone, Unlinks-written}
+use Rattle.quick_cache_slab.proofs.NodeFields.{taken_in_nodes, prev_in_nodes}
+use Rattle.quick_cache_slab.proofs.RingEditsOfSlots.{Unlinks-alone, Unlinks-written}
 use Rattle.quick_cache_slab.proofs.linked_slab.links.unlink.Goals as goal
 
 pub next_of-next-requires : goal.next_of-next-requires

@@ -1,7 +1,7 @@
 use Rattle.std.proofs.Common.{is_some, true≢false, refl, sym, ap, ◌∙◌}
 use Rattle.quick_cache_slab.specs.LinkedSlab.{with_token}
 use Rattle.quick_cache_slab.specs.Links.{slots_of}
-use Rattle.quick_cache_slab.proofs.NodeLemmas.{slots_of-with, nexts_of-with, prevs_of-set_kept, item_read, taken_in_nodes}
+use Rattle.quick_cache_slab.proofs.NodeFields.{slots_of-with, nexts_of-with, prevs_of-set_kept, item_read, taken_in_nodes}
 use Rattle.quick_cache_slab.proofs.linked_slab.links.vacate.Goals as goal
 
 pub unreachable-requires : goal.unreachable-requires

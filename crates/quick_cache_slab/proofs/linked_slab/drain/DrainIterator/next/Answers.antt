@@ -1,7 +1,7 @@
 use Rattle.std.proofs.Common.{◌≡◌, ℕ, suc, ◌+◌, ◌≤◌, None, length, refl, ap, arith}
 use Rattle.quick_cache_slab.specs.LinkedSlab.{item_at, items}
-use Rattle.quick_cache_slab.proofs.SlotLemmas.{length-with_token}
-use Rattle.quick_cache_slab.proofs.WalkLemmas.{first_left, none_left_past, none_passed_more}
+use Rattle.quick_cache_slab.proofs.AtTokens.{length-with_token}
+use Rattle.quick_cache_slab.proofs.IteratedItems.{first_left, none_left_past, none_passed_more}
 use Rattle.quick_cache_slab.proofs.linked_slab.drain.DrainIterator.next.Goals as goal
 
 pub returns-then-contains-clause-steps : goal.returns-then-contains-clause-steps

@@ -4,9 +4,10 @@ use Rattle.std.proofs.lemmas.Bool.{cases_Bool, eq-eqb}
 use Rattle.std.proofs.lemmas.List.{length-map, length_push}
 use Rattle.quick_cache_slab.specs.LinkedSlab.{LinkedSlab, at_token, with_token, times, without, joined, IsOccupied, ring_from, next_token, spare, placed, linked, unlinked, removed, IsParted}
 use Rattle.quick_cache_slab.specs.SlabEdits.{LeavesRings, PlacesItem, RemovesItem, UnlinksToken, LinksToken}
-use Rattle.quick_cache_slab.proofs.TimesLemmas.{times-here, times-append, without_none}
-use Rattle.quick_cache_slab.proofs.SlotLemmas.{length-with_token, at_token-with_same, at_token-with_other, at_token-past, at_token-map, at_token-push_same, at_token-push_other, taken_within}
-use Rattle.quick_cache_slab.proofs.PartLemmas.{before_head_none}
+use Rattle.quick_cache_slab.proofs.TokenCounts.{times-here, times-append, without_none}
+use Rattle.quick_cache_slab.proofs.AtTokens.{length-with_token, at_token-with_same, at_token-with_other, at_token-past, at_token-map, at_token-push_same, at_token-push_other}
+use Rattle.quick_cache_slab.proofs.SlotRings.{taken_within}
+use Rattle.quick_cache_slab.proofs.PartedRings.{before_head_none}
 
 -- taking out a token that stands once joins what stands before and after it
 without-split : (t : ℕ) (before after : List ℕ) → times t (before ++ t ∷ after) ≤ 1

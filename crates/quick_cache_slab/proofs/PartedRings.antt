@@ -1,4 +1,4 @@
--- The rings of a sound slab part its occupied tokens.
+-- What always holds of a slab: its rings part the occupied tokens.
 use Rattle.std.proofs.Common.{◌≡◌, ◌≢◌, ◌↔◌, ℕ, ◌+◌, ◌<◌, ◌≤◌, Bool, true, false, eqb, List, [], ◌∷◌, ◌++◌, length, map, Option, Some, None, is_some, IfSome, true≢false, refl, sym, ap, subst, ◌∙◌, inl, inr, arith, append-nil}
 use Rattle.std.proofs.lemmas.Bool.{cases_Bool, eq-eqb}
 use Rattle.std.specs.Int.NonZero.{non_zero_u32_get}
@@ -6,13 +6,15 @@ use Rattle.std.specs.declared.num.NonZeroU32.{NonZeroU32 as Token}
 use Rattle.quick_cache_slab.specs.LinkedSlab.{at_token, first_or, times, before_head, joined, without, ring_from, linked, unlinked, IsParted}
 use Rattle.quick_cache_slab.specs.Links.{Leads, IsRing, link_of, is_taken, ring_at, rings_of, view_of, room_of, AreLinked, IsSound, slots_of, nexts_of, prevs_of}
 use Rattle.quick_cache_slab.specs.declared.linked_slab.links.Node.{Node}
-use Rattle.quick_cache_slab.proofs.NodeLemmas.{length-slots_of}
-use Rattle.quick_cache_slab.proofs.TimesLemmas.{times-here, times-append}
-use Rattle.quick_cache_slab.proofs.SlotLemmas.{at_token-with_same, at_token-with_other, at_token-map, taken_within, ring_at-is, ring_at-free, length-rings_of, at_token-rings_of}
-use Rattle.quick_cache_slab.proofs.SlabLemmas.{free_is, alone-to_link, alone-from_link}
+use Rattle.quick_cache_slab.proofs.NodeFields.{length-slots_of}
+use Rattle.quick_cache_slab.proofs.TokenCounts.{times-here, times-append}
+use Rattle.quick_cache_slab.proofs.AtTokens.{at_token-with_same, at_token-with_other, at_token-map}
+use Rattle.quick_cache_slab.proofs.SlotRings.{taken_within, ring_at-is, ring_at-free, length-rings_of, at_token-rings_of}
+use Rattle.quick_cache_slab.proofs.SlabViews.{free_is, alone-to_link, alone-from_link}
 use Rattle.std.proofs.lemmas.List.{length-map}
 
-Leads-left : (next : ℕ → ℕ) (xs ys : List ℕ) (e : ℕ) → Leads next (xs ++ ys) e → Leads next xs (first_or e ys)
+Leads-left : (next : ℕ → ℕ) (xs ys : List ℕ) (e : ℕ) → Leads next (xs ++ ys) e
+    → Leads next xs (first_or e ys)
 Leads-left next [] ys e leads = tt
 Leads-left next (x ∷ []) ys e leads = (leads.0, tt)
 Leads-left next (x ∷ y ∷ zs) ys e leads = (leads.0, Leads-left next (y ∷ zs) ys e leads.1)
@@ -21,13 +23,16 @@ Leads-right : (next : ℕ → ℕ) (xs ys : List ℕ) (e : ℕ) → Leads next (
 Leads-right next [] ys e leads = leads
 Leads-right next (x ∷ xs) ys e leads = Leads-right next xs ys e leads.1
 
-Leads-both : (next : ℕ → ℕ) (xs ys : List ℕ) (e : ℕ) → Leads next xs (first_or e ys) → Leads next ys e → Leads next (xs ++ ys) e
+Leads-both : (next : ℕ → ℕ) (xs ys : List ℕ) (e : ℕ) → Leads next xs (first_or e ys)
+    → Leads next ys e → Leads next (xs ++ ys) e
 Leads-both next [] ys e left right = right
 Leads-both next (x ∷ []) ys e left right = (left.0, right)
 Leads-both next (x ∷ y ∷ zs) ys e left right = (left.0, Leads-both next (y ∷ zs) ys e left.1 right)
 
 -- the same ring, begun at another of its tokens
-pub IsRing-turned : (next : ℕ → ℕ) (held : ℕ → Bool) (t u : ℕ) (rest before after : List ℕ) → t ∷ rest ≡ before ++ u ∷ after → IsRing next held t rest → IsRing next held u (after ++ before)
+pub IsRing-turned : (next : ℕ → ℕ) (held : ℕ → Bool) (t u : ℕ) (rest before after : List ℕ)
+    → t ∷ rest ≡ before ++ u ∷ after → IsRing next held t rest
+    → IsRing next held u (after ++ before)
 IsRing-turned next held t u rest [] after split ring =
     let same : t ≡ u = cc in
     let others : rest ≡ after = cc in
@@ -51,7 +56,9 @@ before_head_none a head (x ∷ xs) none =
     ]
 
 module _ {T : Type 0} where
-  pub IsParted-of : (slots : List (Option T)) (nexts prevs : List ℕ) (first room : ℕ) → length slots + room ≤ 4294967294 → IsSound slots nexts prevs first → IsParted (view_of slots nexts first room)
+  pub IsParted-of : (slots : List (Option T)) (nexts prevs : List ℕ) (first room : ℕ)
+      → length slots + room ≤ 4294967294 → IsSound slots nexts prevs first
+      → IsParted (view_of slots nexts first room)
   IsParted-of slots nexts prevs first room few s = record {
     few = few;
     ring_each = length-rings_of slots nexts;
@@ -81,7 +88,8 @@ module _ {T : Type 0} where
             | inr out ↦ absurd (omega (arith, rw (ring_at-free slots nexts t out) at some))
           ]
 
-      turned : (t u : ℕ) (before after : List ℕ) → ring_at slots nexts t ≡ before ++ u ∷ after → at_token (rings_of slots nexts) u [] ≡ u ∷ (after ++ before)
+      turned : (t u : ℕ) (before after : List ℕ) → ring_at slots nexts t ≡ before ++ u ∷ after
+          → at_token (rings_of slots nexts) u [] ≡ u ∷ (after ++ before)
       turned t u before after split =
           elim (cases_Bool (is_taken slots t)) [
             | inl taken ↦
@@ -102,7 +110,10 @@ module _ {T : Type 0} where
           by_slot (Some x) out = absurd (true≢false out)
 
   -- the token stands last in the list that begins with the head
-  pub ring_from-linked : (slots : List (Option T)) (nexts prevs : List ℕ) (first room a head : ℕ) → IsSound slots nexts prevs first → is_taken slots head ≡ true → head ≢ a → ring_from (linked (view_of slots nexts first room) a head) head ≡ ring_from (view_of slots nexts first room) head ++ a ∷ []
+  pub ring_from-linked : (slots : List (Option T)) (nexts prevs : List ℕ) (first room a head : ℕ)
+      → IsSound slots nexts prevs first → is_taken slots head ≡ true → head ≢ a
+      → ring_from (linked (view_of slots nexts first room) a head) head
+      ≡ ring_from (view_of slots nexts first room) head ++ a ∷ []
   ring_from-linked slots nexts prevs first room a head s taken apart =
       let ring = s.linked.rings.ring head taken in
       let none : times head ring.0 ≡ 0 = omega (arith, ring.1.once head, times-here head ring.0) in
@@ -113,13 +124,19 @@ module _ {T : Type 0} where
       ∙ rw (eq-eqb head head refl, before_head_none a head ring.0 none) (ap (λ xs. xs ++ a ∷ []) (sym read))
 
   -- the token is left a ring of its own
-  pub ring_from-unlinked : (slots : List (Option T)) (nexts : List ℕ) (first room a : ℕ) → is_taken slots a ≡ true → ring_from (unlinked (view_of slots nexts first room) a) a ≡ a ∷ []
+  pub ring_from-unlinked : (slots : List (Option T)) (nexts : List ℕ) (first room a : ℕ)
+      → is_taken slots a ≡ true → ring_from (unlinked (view_of slots nexts first room) a) a ≡ a ∷ []
   ring_from-unlinked slots nexts first room a taken =
       let here = taken_within slots a taken in
       at_token-with_same (map (without a) (rings_of slots nexts)) a (a ∷ []) [] here.0 (omega (arith, here.1, length-map (rings_of slots nexts) (without a), length-rings_of slots nexts))
 
   -- the look-up's token is its own successor exactly in a ring of one
-  pub alone_found : {X : Type 0} (slots : List (Option T)) (nexts prevs : List ℕ) (first room t : ℕ) (value : X → T) (answer : Option (X × Token)) → AreLinked slots nexts prevs → IfSome answer (λ found. at_token slots t None ≡ Some (value found.0)) → IfSome answer (λ found. non_zero_u32_get found.1 ≡ link_of nexts t) → IfSome answer (λ found. (non_zero_u32_get found.1 ≡ t) ↔ (ring_from (view_of slots nexts first room) t ≡ t ∷ []))
+  pub alone_found : {X : Type 0} (slots : List (Option T)) (nexts prevs : List ℕ)
+      (first room t : ℕ) (value : X → T) (answer : Option (X × Token))
+      → AreLinked slots nexts prevs
+      → IfSome answer (λ found. at_token slots t None ≡ Some (value found.0))
+      → IfSome answer (λ found. non_zero_u32_get found.1 ≡ link_of nexts t)
+      → IfSome answer (λ found. (non_zero_u32_get found.1 ≡ t) ↔ (ring_from (view_of slots nexts first room) t ≡ t ∷ []))
   alone_found slots nexts prevs first room t value None linked item next = tt
   alone_found slots nexts prevs first room t value (Some found) linked item next = (
     λ own. alone-from_link slots nexts prevs first room t linked (ap is_some item) (sym next ∙ own),

@@ -1,21 +1,24 @@
--- What the calls do to the list of free tokens.
+-- The list of free tokens: what each call makes of it, and how it is counted.
 use Rattle.std.proofs.Common.{◌≡◌, ◌≢◌, ℕ, ◌+◌, ◌<◌, ◌≤◌, true, false, true≢false, cond, eqb, List, [], ◌∷◌, ◌++◌, length, Option, Some, None, is_some, refl, sym, ap, subst, ◌∙◌, inl, inr, arith}
 use Rattle.std.proofs.lemmas.Bool.{cases_eq, eq-eqb, ne_eqb, lt-ltb, le-ltb}
 use Rattle.std.proofs.lemmas.List.{length_push}
 use Rattle.quick_cache_slab.specs.LinkedSlab.{with_token, first_or, times}
 use Rattle.quick_cache_slab.specs.Links.{LeadsFree, link_of, free_of, is_taken, AreFree, IsFreeRest}
-use Rattle.quick_cache_slab.proofs.TimesLemmas.{zero_from_none, times-here, times-other, length_once}
-use Rattle.quick_cache_slab.proofs.RingLemmas.{walk_free_list}
-use Rattle.quick_cache_slab.proofs.SlotLemmas.{length-with_token, at_token-with_same, at_token-with_other, at_token-push_same, at_token-push_other, taken_within}
+use Rattle.quick_cache_slab.proofs.TokenCounts.{zero_from_none, times-here, times-other, length_once}
+use Rattle.quick_cache_slab.proofs.OneRing.{walk_free_list}
+use Rattle.quick_cache_slab.proofs.AtTokens.{length-with_token, at_token-with_same, at_token-with_other, at_token-push_same, at_token-push_other}
+use Rattle.quick_cache_slab.proofs.SlotRings.{taken_within}
 
-LeadsFree-frame : (next next' : ℕ → ℕ) (xs : List ℕ) → ((t : ℕ) → 0 < times t xs → next' t ≡ next t) → LeadsFree next xs → LeadsFree next' xs
+LeadsFree-frame : (next next' : ℕ → ℕ) (xs : List ℕ) → ((t : ℕ) → 0 < times t xs → next' t ≡ next t)
+    → LeadsFree next xs → LeadsFree next' xs
 LeadsFree-frame next next' [] agree leads = tt
 LeadsFree-frame next next' (x ∷ xs) agree leads =
     (agree x (omega (arith, times-here x xs)) ∙ leads.0, LeadsFree-frame next next' xs (λ t some. agree t (omega arith)) leads.1)
 
 module _ {T : Type 0} where
   -- the walk from the first free token finds them all
-  pub free_of-is : (slots : List (Option T)) (nexts : List ℕ) (first : ℕ) (free : List ℕ) → length nexts ≡ length slots → AreFree slots nexts first free → free_of nexts first ≡ free
+  pub free_of-is : (slots : List (Option T)) (nexts : List ℕ) (first : ℕ) (free : List ℕ)
+      → length nexts ≡ length slots → AreFree slots nexts first free → free_of nexts first ≡ free
   free_of-is slots nexts first [] long free = rw (lt-ltb (length nexts) first (omega (arith, free.begins))) refl
   free_of-is slots nexts first (x ∷ xs) long free =
       let here = free.within x (omega (arith, times-here x xs)) in
@@ -23,7 +26,9 @@ module _ {T : Type 0} where
       rw (free.begins, le-ltb (length nexts) x (omega (arith, here.1))) (walk_free_list (link_of nexts) (length nexts) x xs free.leads free.once (omega arith))
 
   -- a link of an occupied token is none of theirs
-  pub AreFree-kept : (slots : List (Option T)) (nexts nexts' : List ℕ) (first : ℕ) (free : List ℕ) → ((t : ℕ) → is_taken slots t ≡ false → link_of nexts' t ≡ link_of nexts t) → AreFree slots nexts first free → AreFree slots nexts' first free
+  pub AreFree-kept : (slots : List (Option T)) (nexts nexts' : List ℕ) (first : ℕ) (free : List ℕ)
+      → ((t : ℕ) → is_taken slots t ≡ false → link_of nexts' t ≡ link_of nexts t)
+      → AreFree slots nexts first free → AreFree slots nexts' first free
   AreFree-kept slots nexts nexts' first free kept are = record {
     begins = are.begins;
     leads = LeadsFree-frame (link_of nexts) (link_of nexts') free (λ t some. kept t (are.within t some).2) are.leads;
@@ -33,13 +38,19 @@ module _ {T : Type 0} where
   }
 
   -- the token that the free list has after the first, or the next new one
-  pub begins_after : (slots : List (Option T)) (nexts : List ℕ) (a : ℕ) (free : List ℕ) → AreFree slots nexts a (a ∷ free) → cond (eqb (link_of nexts a) a) (length slots + 1) (link_of nexts a) ≡ first_or (length slots + 1) free
+  pub begins_after : (slots : List (Option T)) (nexts : List ℕ) (a : ℕ) (free : List ℕ)
+      → AreFree slots nexts a (a ∷ free)
+      → cond (eqb (link_of nexts a) a) (length slots + 1)
+      (link_of nexts a) ≡ first_or (length slots + 1) free
   begins_after slots nexts a [] are = rw (are.leads.0, eq-eqb a a refl) refl
   begins_after slots nexts a (y ∷ ys) are =
       let differs : y ≢ a = λ same. omega (arith, subst (λ (u : ℕ). times a (a ∷ u ∷ ys) ≤ 1) same (are.once a), times-here a (a ∷ ys), times-here a ys) in
       rw (are.leads.0, ne_eqb y a differs) refl
 
-  pub AreFree-reuse : (slots : List (Option T)) (nexts : List ℕ) (a : ℕ) (free : List ℕ) (item : T) (first : ℕ) → first ≡ first_or (length slots + 1) free → AreFree slots nexts a (a ∷ free) → AreFree (with_token slots a (Some item)) (with_token nexts a a) first free
+  pub AreFree-reuse : (slots : List (Option T)) (nexts : List ℕ) (a : ℕ) (free : List ℕ) (item : T)
+      (first : ℕ)
+      → first ≡ first_or (length slots + 1) free → AreFree slots nexts a (a ∷ free)
+      → AreFree (with_token slots a (Some item)) (with_token nexts a a) first free
   AreFree-reuse slots nexts a free item first begins are = record {
     begins = begins ∙ ap (λ n. first_or (n + 1) free) (sym (length-with_token slots a (Some item)));
     leads = LeadsFree-frame (link_of nexts) (link_of (with_token nexts a a)) free (λ t some. at_token-with_other nexts a t a 0 (off t some)) are.leads.1;
@@ -62,7 +73,9 @@ module _ {T : Type 0} where
       off : (t : ℕ) → 0 < times t free → t ≢ a
       off t some same = omega (arith, none, subst (λ (u : ℕ). 0 < times u free) same some)
 
-  pub AreFree-grow : (slots : List (Option T)) (nexts : List ℕ) (a first : ℕ) (item : T) → AreFree slots nexts a [] → first ≡ a + 1 → AreFree (slots ++ Some item ∷ []) (nexts ++ a ∷ []) first []
+  pub AreFree-grow : (slots : List (Option T)) (nexts : List ℕ) (a first : ℕ) (item : T)
+      → AreFree slots nexts a [] → first ≡ a + 1
+      → AreFree (slots ++ Some item ∷ []) (nexts ++ a ∷ []) first []
   AreFree-grow slots nexts a first item are begins = record {
     begins = omega (arith, are.begins, length_push slots (Some item));
     leads = tt;
@@ -75,7 +88,10 @@ module _ {T : Type 0} where
         ];
   }
 
-  pub AreFree-vacate : (slots : List (Option T)) (nexts : List ℕ) (first a link : ℕ) (free : List ℕ) → length nexts ≡ length slots → is_taken slots a ≡ true → link ≡ first_or a free → AreFree slots nexts first free → AreFree (with_token slots a None) (with_token nexts a link) a (a ∷ free)
+  pub AreFree-vacate : (slots : List (Option T)) (nexts : List ℕ) (first a link : ℕ) (free : List ℕ)
+      → length nexts ≡ length slots → is_taken slots a ≡ true → link ≡ first_or a free
+      → AreFree slots nexts first free
+      → AreFree (with_token slots a None) (with_token nexts a link) a (a ∷ free)
   AreFree-vacate slots nexts first a link free long taken links are = record {
     begins = refl;
     leads = (at_token-with_same nexts a link 0 here.0 (omega (arith, here.1)) ∙ links, LeadsFree-frame (link_of nexts) (link_of (with_token nexts a link)) free (λ t some. at_token-with_other nexts a t link 0 (off t some)) are.leads);

@@ -1,4 +1,4 @@
--- What the calls do to a sound slab, as its callers see it.
+-- The model of a slab, from its slots and links: before and after each edit.
 use Rattle.std.proofs.Common.{◌≡◌, ◌≢◌, ◌⊎◌, ◌↔◌, ℕ, zero, suc, ◌+◌, ◌<◌, ◌≤◌, Bool, true, false, cond, eqb, List, [], ◌∷◌, ◌++◌, length, map, Option, Some, None, is_some, IfSome, MatchOption, refl, sym, ap, subst, ◌∙◌, inl, inr, arith}
 use Rattle.std.proofs.lemmas.Bool.{cases_eq, eq-eqb, ne_eqb}
 use Rattle.std.proofs.lemmas.List.{set-set, length_push}
@@ -6,22 +6,27 @@ use Rattle.std.specs.Int.NonZero.{non_zero_u32_get}
 use Rattle.std.specs.declared.num.NonZeroU32.{NonZeroU32 as Token}
 use Rattle.quick_cache_slab.specs.LinkedSlab.{at_token, with_token, first_or, times, without, joined, placed, linked, unlinked, removed, with_item, next_token, IsFull, successor, ring_from, IsNextOf}
 use Rattle.quick_cache_slab.specs.Links.{link_of, free_of, is_taken, ring_at, rings_of, view_of, AreRings, AreLinked, AreFree, IsSound, Unlinks, Links}
-use Rattle.quick_cache_slab.proofs.TimesLemmas.{times-here}
-use Rattle.quick_cache_slab.proofs.RingLemmas.{IsRing-frame}
-use Rattle.quick_cache_slab.proofs.SlotLemmas.{length-with_token, at_token-with_same, at_token-with_other, at_token-push_same, taken_within, rings_of-is, length-rings_of, ring_at-is, at_token-rings_of, successor-is}
-use Rattle.quick_cache_slab.proofs.LinkLemmas.{Reuses-written, Grows-written, Vacates-written}
-use Rattle.quick_cache_slab.proofs.FreeLemmas.{free_of-is, begins_after, AreFree-kept, AreFree-reuse, AreFree-grow, AreFree-vacate}
+use Rattle.quick_cache_slab.proofs.TokenCounts.{times-here}
+use Rattle.quick_cache_slab.proofs.OneRing.{IsRing-frame}
+use Rattle.quick_cache_slab.proofs.AtTokens.{length-with_token, at_token-with_same, at_token-with_other, at_token-push_same}
+use Rattle.quick_cache_slab.proofs.SlotRings.{taken_within, rings_of-is, length-rings_of, ring_at-is, at_token-rings_of, successor-is}
+use Rattle.quick_cache_slab.proofs.RingEditsOfSlots.{Reuses-written, Grows-written, Vacates-written}
+use Rattle.quick_cache_slab.proofs.FreeTokens.{free_of-is, begins_after, AreFree-kept, AreFree-reuse, AreFree-grow, AreFree-vacate}
 
-with_token-with_token : {X : Type 0} (xs : List X) (t : ℕ) (x y : X) → with_token (with_token xs t x) t y ≡ with_token xs t y
+with_token-with_token : {X : Type 0} (xs : List X) (t : ℕ) (x y : X)
+    → with_token (with_token xs t x) t y ≡ with_token xs t y
 with_token-with_token xs zero x y = refl
 with_token-with_token xs (suc i) x y = set-set xs i x y
 
 -- the next free token, or a new one where the last free one was taken
-pub next_after : (link first past first' : ℕ) → ((link ≡ first) × (first' ≡ past)) ⊎ ((link ≢ first) × (first' ≡ link)) → first' ≡ cond (eqb link first) past link
+pub next_after : (link first past first' : ℕ)
+    → ((link ≡ first) × (first' ≡ past)) ⊎ ((link ≢ first) × (first' ≡ link))
+    → first' ≡ cond (eqb link first) past link
 next_after link first past first' (inl last) = last.1 ∙ rw (eq-eqb link first last.0) refl
 next_after link first past first' (inr more) = more.1 ∙ rw (ne_eqb link first more.0) refl
 
-AreRings-same : (next prev : ℕ → ℕ) (held held' : ℕ → Bool) → ((t : ℕ) → held' t ≡ held t) → AreRings next prev held → AreRings next prev held'
+AreRings-same : (next prev : ℕ → ℕ) (held held' : ℕ → Bool) → ((t : ℕ) → held' t ≡ held t)
+    → AreRings next prev held → AreRings next prev held'
 AreRings-same next prev held held' same rings = record {
   back = λ t there. rings.back t (sym (same t) ∙ there);
   ring = λ t there.
@@ -32,38 +37,49 @@ AreRings-same next prev held held' same rings = record {
 module _ {T : Type 0} where
   -- ---- what callers read
 
-  pub free_is : (slots : List (Option T)) (nexts prevs : List ℕ) (first : ℕ) → (s : IsSound slots nexts prevs first) → free_of nexts first ≡ s.free
+  pub free_is : (slots : List (Option T)) (nexts prevs : List ℕ) (first : ℕ)
+      → (s : IsSound slots nexts prevs first) → free_of nexts first ≡ s.free
   free_is slots nexts prevs first s = free_of-is slots nexts first s.free s.linked.next_each s.are_free
 
-  pub next_token-is : (slots : List (Option T)) (nexts prevs : List ℕ) (first room : ℕ) → IsSound slots nexts prevs first → first ≡ next_token (view_of slots nexts first room)
+  pub next_token-is : (slots : List (Option T)) (nexts prevs : List ℕ) (first room : ℕ)
+      → IsSound slots nexts prevs first → first ≡ next_token (view_of slots nexts first room)
   next_token-is slots nexts prevs first room s = s.are_free.begins ∙ ap (first_or (length slots + 1)) (sym (free_is slots nexts prevs first s))
 
   -- the next token is past the end exactly where none is free
-  first_past : (slots : List (Option T)) (nexts : List ℕ) (first : ℕ) (free : List ℕ) → AreFree slots nexts first free → length slots < first → free ≡ []
+  first_past : (slots : List (Option T)) (nexts : List ℕ) (first : ℕ) (free : List ℕ)
+      → AreFree slots nexts first free → length slots < first → free ≡ []
   first_past slots nexts first [] are past = refl
   first_past slots nexts first (x ∷ xs) are past =
       let at = (are.within x (omega (arith, times-here x xs))).1 in
       let begins = are.begins in
       absurd (omega arith)
 
-  pub none_free : (slots : List (Option T)) (nexts prevs : List ℕ) (first : ℕ) → IsSound slots nexts prevs first → length slots < first → (free_of nexts first ≡ []) × (first ≡ length slots + 1)
+  pub none_free : (slots : List (Option T)) (nexts prevs : List ℕ) (first : ℕ)
+      → IsSound slots nexts prevs first → length slots < first
+      → (free_of nexts first ≡ []) × (first ≡ length slots + 1)
   none_free slots nexts prevs first s past =
       let none = first_past slots nexts first s.free s.are_free past in
       (free_is slots nexts prevs first s ∙ none, s.are_free.begins ∙ ap (first_or (length slots + 1)) none)
 
-  pub some_free : (slots : List (Option T)) (nexts prevs : List ℕ) (first : ℕ) → IsSound slots nexts prevs first → first ≤ length slots → free_of nexts first ≢ []
+  pub some_free : (slots : List (Option T)) (nexts prevs : List ℕ) (first : ℕ)
+      → IsSound slots nexts prevs first → first ≤ length slots → free_of nexts first ≢ []
   some_free slots nexts prevs first s within none =
       let begins : first ≡ length slots + 1 = s.are_free.begins ∙ ap (first_or (length slots + 1)) (sym (free_is slots nexts prevs first s) ∙ none) in
       absurd (omega arith)
 
-  pub first_vacant : (slots : List (Option T)) (nexts prevs : List ℕ) (first : ℕ) → IsSound slots nexts prevs first → first ≤ length slots → (0 < first) × (is_taken slots first ≡ false)
+  pub first_vacant : (slots : List (Option T)) (nexts prevs : List ℕ) (first : ℕ)
+      → IsSound slots nexts prevs first → first ≤ length slots
+      → (0 < first) × (is_taken slots first ≡ false)
   first_vacant slots nexts prevs first s within = by_free s.free s.are_free
     where
-      by_free : (free : List ℕ) → AreFree slots nexts first free → (0 < first) × (is_taken slots first ≡ false)
+      by_free : (free : List ℕ) → AreFree slots nexts first free
+          → (0 < first) × (is_taken slots first ≡ false)
       by_free [] are = let begins = are.begins in absurd (omega arith)
       by_free (x ∷ xs) are = let at = are.within x (omega (arith, times-here x xs)) in rw are.begins (at.0, at.2)
 
-  pub full-is : (slots : List (Option T)) (nexts prevs : List ℕ) (first room : ℕ) → IsSound slots nexts prevs first → (first ≡ 4294967295) ↔ IsFull (view_of slots nexts first room)
+  pub full-is : (slots : List (Option T)) (nexts prevs : List ℕ) (first room : ℕ)
+      → IsSound slots nexts prevs first
+      → (first ≡ 4294967295) ↔ IsFull (view_of slots nexts first room)
   full-is slots nexts prevs first room s = (to, from)
     where
       to : first ≡ 4294967295 → IsFull (view_of slots nexts first room)
@@ -74,21 +90,28 @@ module _ {T : Type 0} where
           let begins : first ≡ length slots + 1 = s.are_free.begins ∙ ap (first_or (length slots + 1)) (sym (free_is slots nexts prevs first s) ∙ full.0) in
           omega (arith, full.1)
 
-  pub ring_from-is : (slots : List (Option T)) (nexts : List ℕ) (first room t : ℕ) → ring_from (view_of slots nexts first room) t ≡ ring_at slots nexts t
+  pub ring_from-is : (slots : List (Option T)) (nexts : List ℕ) (first room t : ℕ)
+      → ring_from (view_of slots nexts first room) t ≡ ring_at slots nexts t
   ring_from-is slots nexts first room t = at_token-rings_of slots nexts t
 
-  pub successor-view : (slots : List (Option T)) (nexts prevs : List ℕ) (first room t : ℕ) → AreLinked slots nexts prevs → is_taken slots t ≡ true → successor (view_of slots nexts first room) t ≡ link_of nexts t
+  pub successor-view : (slots : List (Option T)) (nexts prevs : List ℕ) (first room t : ℕ)
+      → AreLinked slots nexts prevs → is_taken slots t ≡ true
+      → successor (view_of slots nexts first room) t ≡ link_of nexts t
   successor-view slots nexts prevs first room t linked taken = rw (at_token-rings_of slots nexts t) (successor-is slots nexts prevs t linked taken)
 
   -- a ring of one leads to itself
-  pub alone-to_link : (slots : List (Option T)) (nexts prevs : List ℕ) (first room t : ℕ) → AreLinked slots nexts prevs → is_taken slots t ≡ true → ring_from (view_of slots nexts first room) t ≡ t ∷ [] → link_of nexts t ≡ t
+  pub alone-to_link : (slots : List (Option T)) (nexts prevs : List ℕ) (first room t : ℕ)
+      → AreLinked slots nexts prevs → is_taken slots t ≡ true
+      → ring_from (view_of slots nexts first room) t ≡ t ∷ [] → link_of nexts t ≡ t
   alone-to_link slots nexts prevs first room t linked taken alone =
       let ring = linked.rings.ring t taken in
       let same : t ∷ ring.0 ≡ t ∷ [] = sym (ring_at-is slots nexts t ring.0 ring.1) ∙ sym (at_token-rings_of slots nexts t) ∙ alone in
       let none : ring.0 ≡ [] = cc in
       ring.1.leads.0 ∙ ap (first_or t) none
 
-  pub alone-from_link : (slots : List (Option T)) (nexts prevs : List ℕ) (first room t : ℕ) → AreLinked slots nexts prevs → is_taken slots t ≡ true → link_of nexts t ≡ t → ring_from (view_of slots nexts first room) t ≡ t ∷ []
+  pub alone-from_link : (slots : List (Option T)) (nexts prevs : List ℕ) (first room t : ℕ)
+      → AreLinked slots nexts prevs → is_taken slots t ≡ true → link_of nexts t ≡ t
+      → ring_from (view_of slots nexts first room) t ≡ t ∷ []
   alone-from_link slots nexts prevs first room t linked taken own =
       let ring = linked.rings.ring t taken in
       at_token-rings_of slots nexts t ∙ ring_at-is slots nexts t ring.0 ring.1 ∙ ap (λ xs. t ∷ xs) (by_rest ring.0 (sym ring.1.leads.0 ∙ own) (ring.1.once t))
@@ -99,21 +122,33 @@ module _ {T : Type 0} where
 
   -- ---- unlink and link
 
-  pub IsSound-unlinked : (slots : List (Option T)) (nexts prevs : List ℕ) (first a : ℕ) (nexts' prevs' : List ℕ) → IsSound slots nexts prevs first → Unlinks slots nexts prevs a nexts' prevs' → IsSound slots nexts' prevs' first
+  pub IsSound-unlinked : (slots : List (Option T)) (nexts prevs : List ℕ) (first a : ℕ)
+      (nexts' prevs' : List ℕ)
+      → IsSound slots nexts prevs first → Unlinks slots nexts prevs a nexts' prevs'
+      → IsSound slots nexts' prevs' first
   IsSound-unlinked slots nexts prevs first a nexts' prevs' s done =
       record { few = s.few; linked = done.linked; free = s.free; are_free = AreFree-kept slots nexts nexts' first s.free done.free_kept s.are_free }
 
-  pub view-unlinked : (slots : List (Option T)) (nexts prevs : List ℕ) (first room a : ℕ) (nexts' prevs' : List ℕ) → IsSound slots nexts prevs first → Unlinks slots nexts prevs a nexts' prevs' → view_of slots nexts' first room ≡ unlinked (view_of slots nexts first room) a
+  pub view-unlinked : (slots : List (Option T)) (nexts prevs : List ℕ) (first room a : ℕ)
+      (nexts' prevs' : List ℕ)
+      → IsSound slots nexts prevs first → Unlinks slots nexts prevs a nexts' prevs'
+      → view_of slots nexts' first room ≡ unlinked (view_of slots nexts first room) a
   unfolding IsSound-unlinked
   view-unlinked slots nexts prevs first room a nexts' prevs' s done =
       let free : free_of nexts' first ≡ free_of nexts first = free_is slots nexts' prevs' first (IsSound-unlinked slots nexts prevs first a nexts' prevs' s done) ∙ sym (free_is slots nexts prevs first s) in
       λ i. record { slots = slots; rings = done.rings i; free = free i; room = room }
 
-  pub IsSound-linked : (slots : List (Option T)) (nexts prevs : List ℕ) (first a head : ℕ) (nexts' prevs' : List ℕ) → IsSound slots nexts prevs first → Links slots nexts prevs a head nexts' prevs' → IsSound slots nexts' prevs' first
+  pub IsSound-linked : (slots : List (Option T)) (nexts prevs : List ℕ) (first a head : ℕ)
+      (nexts' prevs' : List ℕ)
+      → IsSound slots nexts prevs first → Links slots nexts prevs a head nexts' prevs'
+      → IsSound slots nexts' prevs' first
   IsSound-linked slots nexts prevs first a head nexts' prevs' s done =
       record { few = s.few; linked = done.linked; free = s.free; are_free = AreFree-kept slots nexts nexts' first s.free done.free_kept s.are_free }
 
-  pub view-linked : (slots : List (Option T)) (nexts prevs : List ℕ) (first room a head : ℕ) (nexts' prevs' : List ℕ) → IsSound slots nexts prevs first → Links slots nexts prevs a head nexts' prevs' → view_of slots nexts' first room ≡ linked (view_of slots nexts first room) a head
+  pub view-linked : (slots : List (Option T)) (nexts prevs : List ℕ) (first room a head : ℕ)
+      (nexts' prevs' : List ℕ)
+      → IsSound slots nexts prevs first → Links slots nexts prevs a head nexts' prevs'
+      → view_of slots nexts' first room ≡ linked (view_of slots nexts first room) a head
   unfolding IsSound-linked
   view-linked slots nexts prevs first room a head nexts' prevs' s done =
       let free : free_of nexts' first ≡ free_of nexts first = free_is slots nexts' prevs' first (IsSound-linked slots nexts prevs first a head nexts' prevs' s done) ∙ sym (free_is slots nexts prevs first s) in
@@ -129,13 +164,18 @@ module _ {T : Type 0} where
     pub holds : at_token (with_token slots first (Some item)) first None ≡ Some item
     pub alone : at_token (rings_of (with_token slots first (Some item)) (with_token nexts first first)) first [] ≡ first ∷ []
 
-  pub Reused-at : (slots : List (Option T)) (nexts prevs : List ℕ) (first room : ℕ) (item : T) (first' : ℕ) → IsSound slots nexts prevs first → first ≤ length slots → first' ≡ cond (eqb (link_of nexts first) first) (length slots + 1) (link_of nexts first) → Reused slots nexts prevs first room item first'
+  pub Reused-at : (slots : List (Option T)) (nexts prevs : List ℕ) (first room : ℕ) (item : T)
+      (first' : ℕ)
+      → IsSound slots nexts prevs first → first ≤ length slots
+      → first' ≡ cond (eqb (link_of nexts first) first) (length slots + 1) (link_of nexts first)
+      → Reused slots nexts prevs first room item first'
   Reused-at slots nexts prevs first room item first' s within begins = by_free s.free s.are_free
     where
       vacant : (0 < first) × (is_taken slots first ≡ false)
       vacant = first_vacant slots nexts prevs first s within
 
-      by_rest : (rest : List ℕ) → AreFree slots nexts first (first ∷ rest) → Reused slots nexts prevs first room item first'
+      by_rest : (rest : List ℕ) → AreFree slots nexts first (first ∷ rest)
+          → Reused slots nexts prevs first room item first'
       by_rest rest are =
           let reuses = Reuses-written slots nexts prevs first item s.linked vacant.0 within vacant.1 in
           let after = begins ∙ begins_after slots nexts first rest are in
@@ -151,7 +191,8 @@ module _ {T : Type 0} where
             alone = ap (λ rs. at_token rs first []) reuses.rings ∙ at_token-with_same (rings_of slots nexts) first (first ∷ []) [] vacant.0 (omega (arith, length-rings_of slots nexts));
           }
 
-      by_free : (free : List ℕ) → AreFree slots nexts first free → Reused slots nexts prevs first room item first'
+      by_free : (free : List ℕ) → AreFree slots nexts first free
+          → Reused slots nexts prevs first room item first'
       by_free [] are = let start = are.begins in absurd (omega arith)
       by_free (x ∷ rest) are = by_rest rest (subst (λ (u : ℕ). AreFree slots nexts first (u ∷ rest)) (sym are.begins) are)
 
@@ -163,7 +204,10 @@ module _ {T : Type 0} where
     pub holds : at_token (slots ++ Some item ∷ []) first None ≡ Some item
     pub alone : at_token (rings_of (slots ++ Some item ∷ []) (nexts ++ first ∷ [])) first [] ≡ first ∷ []
 
-  pub Grown-at : (slots : List (Option T)) (nexts prevs : List ℕ) (first room room' : ℕ) (item : T) (first' : ℕ) → IsSound slots nexts prevs first → length slots < first → length slots < 4294967294 → first' ≡ first + 1 → Grown slots nexts prevs first room room' item first'
+  pub Grown-at : (slots : List (Option T)) (nexts prevs : List ℕ) (first room room' : ℕ) (item : T)
+      (first' : ℕ)
+      → IsSound slots nexts prevs first → length slots < first → length slots < 4294967294
+      → first' ≡ first + 1 → Grown slots nexts prevs first room room' item first'
   Grown-at slots nexts prevs first room room' item first' s past few begins =
       let none = first_past slots nexts first s.free s.are_free past in
       let last = none_free slots nexts prevs first s past in
@@ -181,7 +225,8 @@ module _ {T : Type 0} where
         alone = ap (λ rs. at_token rs first []) grows.rings ∙ pushed_ring last.1;
       }
     where
-      pushed_ring : first ≡ length slots + 1 → at_token (rings_of slots nexts ++ (first ∷ []) ∷ []) first [] ≡ first ∷ []
+      pushed_ring : first ≡ length slots + 1
+          → at_token (rings_of slots nexts ++ (first ∷ []) ∷ []) first [] ≡ first ∷ []
       pushed_ring at =
           let place : length (rings_of slots nexts) + 1 ≡ first = omega (arith, length-rings_of slots nexts) in
           subst (λ (n : ℕ). at_token (rings_of slots nexts ++ (first ∷ []) ∷ []) n [] ≡ first ∷ []) place (at_token-push_same (rings_of slots nexts) (first ∷ []) [])
@@ -193,17 +238,24 @@ module _ {T : Type 0} where
     pub view : view_of (with_token slots a None) (with_token nexts' a link) a room ≡ removed (view_of slots nexts first room) a
 
   -- the link that a slot gets when it is freed
-  pub link_is_first : (slots : List (Option T)) (nexts prevs : List ℕ) (first a : ℕ) → (s : IsSound slots nexts prevs first) → ((first ≤ length slots) → first ≡ first_or a s.free) × ((length slots < first) → a ≡ first_or a s.free)
+  pub link_is_first : (slots : List (Option T)) (nexts prevs : List ℕ) (first a : ℕ)
+      → (s : IsSound slots nexts prevs first)
+      → ((first ≤ length slots) → first ≡ first_or a s.free) × ((length slots < first) → a ≡ first_or a s.free)
   link_is_first slots nexts prevs first a s = by_free s.free s.are_free
     where
-      by_free : (free : List ℕ) → AreFree slots nexts first free → ((first ≤ length slots) → first ≡ first_or a free) × ((length slots < first) → a ≡ first_or a free)
+      by_free : (free : List ℕ) → AreFree slots nexts first free
+          → ((first ≤ length slots) → first ≡ first_or a free) × ((length slots < first) → a ≡ first_or a free)
       by_free [] are = let begins = are.begins in (λ within. absurd (omega arith), λ past. refl)
       by_free (x ∷ xs) are =
           let at = (are.within x (omega (arith, times-here x xs))).1 in
           let begins = are.begins in
           (λ within. are.begins, λ past. absurd (omega arith))
 
-  pub Removes-at : (slots : List (Option T)) (nexts prevs : List ℕ) (first room a : ℕ) (nexts' prevs' : List ℕ) (link : ℕ) → (s : IsSound slots nexts prevs first) → is_taken slots a ≡ true → Unlinks slots nexts prevs a nexts' prevs' → link ≡ first_or a s.free → Removes slots nexts prevs first room a nexts' prevs' link
+  pub Removes-at : (slots : List (Option T)) (nexts prevs : List ℕ) (first room a : ℕ)
+      (nexts' prevs' : List ℕ) (link : ℕ)
+      → (s : IsSound slots nexts prevs first) → is_taken slots a ≡ true
+      → Unlinks slots nexts prevs a nexts' prevs' → link ≡ first_or a s.free
+      → Removes slots nexts prevs first room a nexts' prevs' link
   unfolding IsSound-unlinked
   Removes-at slots nexts prevs first room a nexts' prevs' link s taken done links =
       let mid = IsSound-unlinked slots nexts prevs first a nexts' prevs' s done in
@@ -219,12 +271,22 @@ module _ {T : Type 0} where
 
   -- ---- answers
 
-  pub IsNextOf-is : (slots : List (Option T)) (nexts prevs : List ℕ) (first room t : ℕ) (answer : Option Token) → AreLinked slots nexts prevs → is_taken slots t ≡ true → MatchOption answer (link_of nexts t ≡ t) (λ next. (non_zero_u32_get next ≡ link_of nexts t) × (non_zero_u32_get next ≢ t)) → IsNextOf (view_of slots nexts first room) t answer
+  pub IsNextOf-is : (slots : List (Option T)) (nexts prevs : List ℕ) (first room t : ℕ)
+      (answer : Option Token)
+      → AreLinked slots nexts prevs → is_taken slots t ≡ true
+      → MatchOption answer (link_of nexts t ≡ t)
+      (λ next. (non_zero_u32_get next ≡ link_of nexts t) × (non_zero_u32_get next ≢ t))
+      → IsNextOf (view_of slots nexts first room) t answer
   IsNextOf-is slots nexts prevs first room t None linked taken told = alone-from_link slots nexts prevs first room t linked taken told
   IsNextOf-is slots nexts prevs first room t (Some next) linked taken told =
       (told.0 ∙ sym (successor-view slots nexts prevs first room t linked taken), told.1)
 
-  pub successor_found : {X : Type 0} (slots : List (Option T)) (nexts prevs : List ℕ) (first room t : ℕ) (value : X → T) (answer : Option (X × Token)) → AreLinked slots nexts prevs → IfSome answer (λ found. at_token slots t None ≡ Some (value found.0)) → IfSome answer (λ found. non_zero_u32_get found.1 ≡ link_of nexts t) → IfSome answer (λ found. non_zero_u32_get found.1 ≡ successor (view_of slots nexts first room) t)
+  pub successor_found : {X : Type 0} (slots : List (Option T)) (nexts prevs : List ℕ)
+      (first room t : ℕ) (value : X → T) (answer : Option (X × Token))
+      → AreLinked slots nexts prevs
+      → IfSome answer (λ found. at_token slots t None ≡ Some (value found.0))
+      → IfSome answer (λ found. non_zero_u32_get found.1 ≡ link_of nexts t)
+      → IfSome answer (λ found. non_zero_u32_get found.1 ≡ successor (view_of slots nexts first room) t)
   successor_found slots nexts prevs first room t value None linked item next = tt
   successor_found slots nexts prevs first room t value (Some found) linked item next =
       next ∙ sym (successor-view slots nexts prevs first room t linked (ap is_some item))
@@ -232,7 +294,12 @@ module _ {T : Type 0} where
   -- ---- the links that the code chooses
 
   -- a freed slot names the token that was free before it, or itself
-  pub Removes-by : (slots : List (Option T)) (nexts prevs : List ℕ) (first room a : ℕ) (nexts' prevs' : List ℕ) (link : ℕ) → IsSound slots nexts prevs first → is_taken slots a ≡ true → Unlinks slots nexts prevs a nexts' prevs' → ((first ≤ length slots) × (link ≡ first)) ⊎ ((length slots < first) × (link ≡ a)) → Removes slots nexts prevs first room a nexts' prevs' link
+  pub Removes-by : (slots : List (Option T)) (nexts prevs : List ℕ) (first room a : ℕ)
+      (nexts' prevs' : List ℕ) (link : ℕ)
+      → IsSound slots nexts prevs first → is_taken slots a ≡ true
+      → Unlinks slots nexts prevs a nexts' prevs'
+      → ((first ≤ length slots) × (link ≡ first)) ⊎ ((length slots < first) × (link ≡ a))
+      → Removes slots nexts prevs first room a nexts' prevs' link
   Removes-by slots nexts prevs first room a nexts' prevs' link s taken done (inl some) =
       Removes-at slots nexts prevs first room a nexts' prevs' link s taken done (some.1 ∙ (link_is_first slots nexts prevs first a s).0 some.0)
   Removes-by slots nexts prevs first room a nexts' prevs' link s taken done (inr none) =
@@ -240,14 +307,17 @@ module _ {T : Type 0} where
 
   -- ---- another item at an occupied token
 
-  taken_same : (slots : List (Option T)) (t u : ℕ) (item : T) → is_taken slots t ≡ true → is_taken (with_token slots t (Some item)) u ≡ is_taken slots u
+  taken_same : (slots : List (Option T)) (t u : ℕ) (item : T) → is_taken slots t ≡ true
+      → is_taken (with_token slots t (Some item)) u ≡ is_taken slots u
   taken_same slots t u item taken =
       elim (cases_eq u t) [
         | inl same ↦ let here = taken_within slots t taken in rw same (ap is_some (at_token-with_same slots t (Some item) None here.0 here.1) ∙ sym taken)
         | inr differs ↦ ap is_some (at_token-with_other slots t u (Some item) None differs)
       ]
 
-  pub IsSound-rewritten : (slots : List (Option T)) (nexts prevs : List ℕ) (first t : ℕ) (item : T) → is_taken slots t ≡ true → IsSound slots nexts prevs first → IsSound (with_token slots t (Some item)) nexts prevs first
+  pub IsSound-rewritten : (slots : List (Option T)) (nexts prevs : List ℕ) (first t : ℕ) (item : T)
+      → is_taken slots t ≡ true → IsSound slots nexts prevs first
+      → IsSound (with_token slots t (Some item)) nexts prevs first
   IsSound-rewritten slots nexts prevs first t item taken s =
       let long = length-with_token slots t (Some item) in
       record {
@@ -267,7 +337,10 @@ module _ {T : Type 0} where
         };
       }
 
-  pub view-rewritten : (slots : List (Option T)) (nexts : List ℕ) (first room t : ℕ) (item : T) → is_taken slots t ≡ true → view_of (with_token slots t (Some item)) nexts first room ≡ with_item (view_of slots nexts first room) t item
+  pub view-rewritten : (slots : List (Option T)) (nexts : List ℕ) (first room t : ℕ) (item : T)
+      → is_taken slots t ≡ true
+      → view_of (with_token slots t (Some item)) nexts first room
+      ≡ with_item (view_of slots nexts first room) t item
   view-rewritten slots nexts first room t item taken =
       let long = length-with_token slots t (Some item) in
       let rings : rings_of (with_token slots t (Some item)) nexts ≡ rings_of slots nexts =

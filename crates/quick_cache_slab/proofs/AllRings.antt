@@ -1,29 +1,34 @@
--- The links of all rings together, and what becomes of them when one token leaves, joins, comes or goes.
+-- The links of all rings together, when one token leaves, joins, comes or goes.
 use Rattle.std.proofs.Common.{◌≡◌, ◌≢◌, ℕ, ◌<◌, Bool, true, false, true≢false, cond, eqb, List, [], ◌∷◌, ◌++◌, refl, sym, ap, subst, ◌∙◌, inl, inr, arith}
 use Rattle.std.proofs.lemmas.Bool.{cases_eq, eq-eqb, ne_eqb}
 use Rattle.quick_cache_slab.specs.LinkedSlab.{first_or, times, without, before_head}
 use Rattle.quick_cache_slab.specs.Links.{Leads, IsRing, AreRings}
-use Rattle.quick_cache_slab.proofs.TimesLemmas.{times-here}
-use Rattle.quick_cache_slab.proofs.RingLemmas.{IsRing-without, IsRing-joined, IsRing-of_joined, out_of_ring, IsRing-frame, IsRing-alone}
+use Rattle.quick_cache_slab.proofs.TokenCounts.{times-here}
+use Rattle.quick_cache_slab.proofs.OneRing.{IsRing-without, IsRing-joined, IsRing-of_joined, out_of_ring, IsRing-frame, IsRing-alone}
 
 -- ---- the neighbours of a token
 
-next_held : (next : ℕ → ℕ) (held : ℕ → Bool) (head : ℕ) (rest : List ℕ) → IsRing next held head rest → held (next head) ≡ true
+next_held : (next : ℕ → ℕ) (held : ℕ → Bool) (head : ℕ) (rest : List ℕ) → IsRing next held head rest
+    → held (next head) ≡ true
 next_held next held head rest ring = by_rest rest ring.leads.0 ring.held
   where
-    by_rest : (xs : List ℕ) → next head ≡ first_or head xs → ((t : ℕ) → 0 < times t (head ∷ xs) → held t ≡ true) → held (next head) ≡ true
+    by_rest : (xs : List ℕ) → next head ≡ first_or head xs
+        → ((t : ℕ) → 0 < times t (head ∷ xs) → held t ≡ true) → held (next head) ≡ true
     by_rest [] leads taken = rw leads (taken head (omega (arith, times-here head [])))
     by_rest (y ∷ ys) leads taken = rw leads (taken y (omega (arith, times-here y ys)))
 
-before_end : (next : ℕ → ℕ) (e x : ℕ) (xs : List ℕ) → Leads next (x ∷ xs) e → (p : ℕ) × (0 < times p (x ∷ xs)) × (next p ≡ e)
+before_end : (next : ℕ → ℕ) (e x : ℕ) (xs : List ℕ) → Leads next (x ∷ xs) e
+    → (p : ℕ) × (0 < times p (x ∷ xs)) × (next p ≡ e)
 before_end next e x [] leads = (x, omega (arith, times-here x []), leads.0)
 before_end next e x (y ∷ ys) leads = let found = before_end next e y ys leads.1 in (found.0, omega (arith, found.1), found.2)
 
-pub held-next : (next prev : ℕ → ℕ) (held : ℕ → Bool) → AreRings next prev held → (t : ℕ) → held t ≡ true → held (next t) ≡ true
+pub held-next : (next prev : ℕ → ℕ) (held : ℕ → Bool) → AreRings next prev held → (t : ℕ)
+    → held t ≡ true → held (next t) ≡ true
 held-next next prev held rings t taken = let ring = rings.ring t taken in next_held next held t ring.0 ring.1
 
 -- `next` leads back from the token that `prev` leads to
-pub before : (next prev : ℕ → ℕ) (held : ℕ → Bool) → AreRings next prev held → (t : ℕ) → held t ≡ true → (held (prev t) ≡ true) × (next (prev t) ≡ t)
+pub before : (next prev : ℕ → ℕ) (held : ℕ → Bool) → AreRings next prev held → (t : ℕ)
+    → held t ≡ true → (held (prev t) ≡ true) × (next (prev t) ≡ t)
 before next prev held rings t taken =
     let ring = rings.ring t taken in
     let found = before_end next t t ring.0 ring.1.leads in
@@ -35,10 +40,13 @@ before next prev held rings t taken =
 pub record IsUnlinked (next prev next' prev' : ℕ → ℕ) (held : ℕ → Bool) (a : ℕ) : Type 0 where
   pub next_own : next' a ≡ a
   pub prev_own : prev' a ≡ a
-  pub next_others : (t : ℕ) → held t ≡ true → t ≢ a → next' t ≡ cond (eqb (next t) a) (next a) (next t)
-  pub prev_others : (t : ℕ) → held t ≡ true → t ≢ a → prev' t ≡ cond (eqb (prev t) a) (prev a) (prev t)
+  pub next_others : (t : ℕ) → held t ≡ true → t ≢ a
+      → next' t ≡ cond (eqb (next t) a) (next a) (next t)
+  pub prev_others : (t : ℕ) → held t ≡ true → t ≢ a
+      → prev' t ≡ cond (eqb (prev t) a) (prev a) (prev t)
 
-pub AreRings-unlinked : (next prev next' prev' : ℕ → ℕ) (held : ℕ → Bool) (a : ℕ) → held a ≡ true → AreRings next prev held → IsUnlinked next prev next' prev' held a → AreRings next' prev' held
+pub AreRings-unlinked : (next prev next' prev' : ℕ → ℕ) (held : ℕ → Bool) (a : ℕ) → held a ≡ true
+    → AreRings next prev held → IsUnlinked next prev next' prev' held a → AreRings next' prev' held
 AreRings-unlinked next prev next' prev' held a taken rings links = record {
   back = λ t there. elim (cases_eq t a) [
     | inl same ↦ rw same (ap prev' links.next_own ∙ links.prev_own)
@@ -72,10 +80,13 @@ pub record IsLinkedIn (next prev next' prev' : ℕ → ℕ) (held : ℕ → Bool
   pub next_others : (t : ℕ) → held t ≡ true → t ≢ a → next' t ≡ cond (eqb (next t) head) a (next t)
   pub prev_others : (t : ℕ) → held t ≡ true → t ≢ a → prev' t ≡ cond (eqb t head) a (prev t)
 
-pub only_itself : (next prev : ℕ → ℕ) (held : ℕ → Bool) (a : ℕ) → AreRings next prev held → held a ≡ true → next a ≡ a → (t : ℕ) → held t ≡ true → next t ≡ a → t ≡ a
+pub only_itself : (next prev : ℕ → ℕ) (held : ℕ → Bool) (a : ℕ) → AreRings next prev held
+    → held a ≡ true → next a ≡ a → (t : ℕ) → held t ≡ true → next t ≡ a → t ≡ a
 only_itself next prev held a rings taken own t there to = sym (rings.back t there) ∙ ap prev to ∙ ap prev (sym own) ∙ rings.back a taken
 
-pub AreRings-linked : (next prev next' prev' : ℕ → ℕ) (held : ℕ → Bool) (a head : ℕ) → held a ≡ true → held head ≡ true → next a ≡ a → head ≢ a → AreRings next prev held → IsLinkedIn next prev next' prev' held a head → AreRings next' prev' held
+pub AreRings-linked : (next prev next' prev' : ℕ → ℕ) (held : ℕ → Bool) (a head : ℕ) → held a ≡ true
+    → held head ≡ true → next a ≡ a → head ≢ a → AreRings next prev held
+    → IsLinkedIn next prev next' prev' held a head → AreRings next' prev' held
 AreRings-linked next prev next' prev' held a head taken there_head own apart rings links = record {
   back = λ t there. elim (cases_eq t a) [
     | inl same ↦ rw same (ap prev' links.next_own ∙ links.prev_others head there_head apart ∙ rw (eq-eqb head head refl) refl)
@@ -109,12 +120,17 @@ pub record IsPlaced (next prev next' prev' : ℕ → ℕ) (held held' : ℕ → 
   pub prev_others : (t : ℕ) → t ≢ a → prev' t ≡ prev t
   pub held_others : (t : ℕ) → t ≢ a → held' t ≡ held t
 
-pub IsRing-placed : (next prev next' prev' : ℕ → ℕ) (held held' : ℕ → Bool) (a t : ℕ) (rest : List ℕ) → IsPlaced next prev next' prev' held held' a → IsRing next held t rest → IsRing next' held' t rest
+pub IsRing-placed : (next prev next' prev' : ℕ → ℕ) (held held' : ℕ → Bool) (a t : ℕ)
+    (rest : List ℕ)
+    → IsPlaced next prev next' prev' held held' a → IsRing next held t rest
+    → IsRing next' held' t rest
 IsRing-placed next prev next' prev' held held' a t rest placed ring =
     let off : (u : ℕ) → 0 < times u (t ∷ rest) → u ≢ a = λ u some same. true≢false (sym (ring.held u some) ∙ ap held same ∙ placed.was_free) in
     IsRing-frame next next' held held' t rest (λ u some. placed.next_others u (off u some)) (λ u some. placed.held_others u (off u some) ∙ ring.held u some) ring
 
-pub AreRings-placed : (next prev next' prev' : ℕ → ℕ) (held held' : ℕ → Bool) (a : ℕ) → AreRings next prev held → IsPlaced next prev next' prev' held held' a → AreRings next' prev' held'
+pub AreRings-placed : (next prev next' prev' : ℕ → ℕ) (held held' : ℕ → Bool) (a : ℕ)
+    → AreRings next prev held → IsPlaced next prev next' prev' held held' a
+    → AreRings next' prev' held'
 AreRings-placed next prev next' prev' held held' a rings placed = record {
   back = λ t there. elim (cases_eq t a) [
     | inl same ↦ rw same (ap prev' placed.next_own ∙ placed.prev_own)
@@ -139,13 +155,16 @@ pub record IsVacated (next next' : ℕ → ℕ) (held held' : ℕ → Bool) (a :
   pub next_others : (t : ℕ) → t ≢ a → next' t ≡ next t
   pub held_others : (t : ℕ) → t ≢ a → held' t ≡ held t
 
-pub IsRing-vacated : (next prev next' : ℕ → ℕ) (held held' : ℕ → Bool) (a t : ℕ) (rest : List ℕ) → AreRings next prev held → IsVacated next next' held held' a → t ≢ a → IsRing next held t rest → IsRing next' held' t rest
+pub IsRing-vacated : (next prev next' : ℕ → ℕ) (held held' : ℕ → Bool) (a t : ℕ) (rest : List ℕ)
+    → AreRings next prev held → IsVacated next next' held held' a → t ≢ a → IsRing next held t rest
+    → IsRing next' held' t rest
 IsRing-vacated next prev next' held held' a t rest rings left differs ring =
     let out = out_of_ring next held a t rest ring (only_itself next prev held a rings left.was_held left.was_alone) differs in
     let off : (u : ℕ) → 0 < times u (t ∷ rest) → u ≢ a = λ u some same. omega (arith, subst (λ (v : ℕ). 0 < times v (t ∷ rest)) same some) in
     IsRing-frame next next' held held' t rest (λ u some. left.next_others u (off u some)) (λ u some. left.held_others u (off u some) ∙ ring.held u some) ring
 
-pub AreRings-vacated : (next prev next' : ℕ → ℕ) (held held' : ℕ → Bool) (a : ℕ) → AreRings next prev held → IsVacated next next' held held' a → AreRings next' prev held'
+pub AreRings-vacated : (next prev next' : ℕ → ℕ) (held held' : ℕ → Bool) (a : ℕ)
+    → AreRings next prev held → IsVacated next next' held held' a → AreRings next' prev held'
 AreRings-vacated next prev next' held held' a rings left =
     let differs : (t : ℕ) → held' t ≡ true → t ≢ a = λ t there same. true≢false (sym there ∙ ap held' same ∙ left.now_free) in
     record {

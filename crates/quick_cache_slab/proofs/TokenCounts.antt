@@ -65,7 +65,8 @@ times_from_any t (x ∷ xs) found =
     ]
 
 -- tokens from 1 to n, each once, are at most n
-pub length_once : (xs : List ℕ) (n : ℕ) → ((t : ℕ) → times t xs ≤ 1) → ((t : ℕ) → 0 < times t xs → (0 < t) × (t ≤ n)) → length xs ≤ n
+pub length_once : (xs : List ℕ) (n : ℕ) → ((t : ℕ) → times t xs ≤ 1)
+    → ((t : ℕ) → 0 < times t xs → (0 < t) × (t ≤ n)) → length xs ≤ n
 length_once xs n once within =
     let none : times 0 xs ≡ 0 = zero_from_none (times 0 xs) (λ some. omega (arith, (within 0 some).0)) in
     let whole : (t : ℕ) → times t (0 ∷ xs) ≤ 1 =
