@@ -6,7 +6,7 @@ use Rattle.std.proofs.lemmas.Bool.{cases_eq, cases_lt}
 use Rattle.quick_cache_slab.specs.LinkedSlab.{LinkedSlab, times, item_at, IsParted}
 use Rattle.quick_cache_table.specs.Table.{Table}
 use Rattle.quick_cache_model.specs.declared.queue.Queue.{Queue}
-use Rattle.quick_cache_slab.proofs.TimesLemmas.{times-append, times-other}
+use Rattle.quick_cache_slab.proofs.TokenCounts.{times-append, times-other}
 use Rattle.quick_cache_lists.specs.declared.entry.Entry.{Entry}
 use Rattle.quick_cache_lists.specs.declared.entry.Entry.TheVariants.{Item as item_variant, Loading as loading_variant, Ghost as ghost_variant}
 use Rattle.quick_cache_lists.specs.declared.entry.Slot.{Slot}

@@ -7,7 +7,7 @@ use Rattle.std.proofs.lemmas.List.{set-get_or}
 use Rattle.quick_cache_model.specs.CacheState.{Item}
 use Rattle.quick_cache_slab.specs.LinkedSlab.{LinkedSlab, at_token, with_token, item_at, next_token, with_item}
 use Rattle.quick_cache_table.specs.Table.{Table}
-use Rattle.quick_cache_slab.proofs.SlotLemmas.{at_token-with_same, at_token-with_other, length-with_token}
+use Rattle.quick_cache_slab.proofs.AtTokens.{at_token-with_same, at_token-with_other, length-with_token}
 use Rattle.quick_cache_lists.specs.declared.entry.Entry.TheVariants.{Item as item_variant}
 use Rattle.quick_cache_lists.specs.declared.entry.Slot.{Slot}
 use Rattle.quick_cache_lists.specs.declared.ring.Ring.{Ring}

@@ -7,7 +7,7 @@ use Rattle.quick_cache_model.specs.CacheState.{Item, Place, InHot, InCold, InSti
 use Rattle.quick_cache_model.specs.declared.queue.Queue.{Queue}
 use Rattle.quick_cache_model.specs.declared.queue.Queue.TheVariants.{Hot, Cold}
 use Rattle.quick_cache_slab.specs.LinkedSlab.{times}
-use Rattle.quick_cache_slab.proofs.TimesLemmas.{times-here, times-other, times-append}
+use Rattle.quick_cache_slab.proofs.TokenCounts.{times-here, times-other, times-append}
 use Rattle.quick_cache_lists.specs.declared.entry.Entry.{Entry}
 use Rattle.quick_cache_lists.specs.declared.entry.Entry.TheVariants.{Item as item_variant, Loading as loading_variant, Ghost as ghost_variant}
 use Rattle.quick_cache_lists.specs.Lists.{HeldItem, Lists, StandsIn, items_at, with_items, SameButOrder, PutsLast, HasEntry, IsEntry, AreApart, dropped, ahead_of, behind, restarted, left_by, without_entry, entries_of, entry_count, changed_held, with_change}

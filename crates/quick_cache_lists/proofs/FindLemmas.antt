@@ -6,7 +6,7 @@ use Rattle.std.proofs.lemmas.Bool.{cases_eq, cases_Bool, eqb-true, eq-eqb}
 use Rattle.quick_cache_slab.specs.LinkedSlab.{LinkedSlab, times, item_at}
 use Rattle.std.proofs.lemmas.List.Sums.{sum_by-cons}
 use Rattle.quick_cache_table.proofs.CountedPlaces.{bit}
-use Rattle.quick_cache_slab.proofs.TimesLemmas.{times-here, times-other}
+use Rattle.quick_cache_slab.proofs.TokenCounts.{times-here, times-other}
 use Rattle.quick_cache_table.specs.Table.{Table, has_pair, HasPair, IsTokensOf}
 use Rattle.quick_cache_lists.specs.declared.entry.Entry.{Entry}
 use Rattle.quick_cache_lists.specs.declared.entry.Entry.TheVariants.{Item as item_variant, Loading as loading_variant, Ghost as ghost_variant}

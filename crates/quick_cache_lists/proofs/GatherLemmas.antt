@@ -6,7 +6,7 @@ use Rattle.std.specs.List.{AllByRecursion}
 use Rattle.std.specs.List.Sorted.{IsPermutation}
 use Rattle.std.proofs.lemmas.List.Sorted.{IsPermutation-refl, IsPermutation-trans, IsPermutation-cons, IsPermutation-to_front, IsPermutation-append_left}
 use Rattle.quick_cache_slab.specs.LinkedSlab.{times, without}
-use Rattle.quick_cache_slab.proofs.TimesLemmas.{times-here, times-other, times-append}
+use Rattle.quick_cache_slab.proofs.TokenCounts.{times-here, times-other, times-append}
 use Rattle.quick_cache_lists.specs.Lists.{StandsIn, dropped, ahead_of, behind, restarted}
 use Rattle.quick_cache_lists.specs.Sound.{put, gather, upto, weigh}
 

@@ -7,8 +7,8 @@ use Rattle.std.specs.Int.NonZero.{non_zero_u32_get}
 use Rattle.std.specs.declared.num.NonZeroU32.{NonZeroU32 as Token}
 use Rattle.quick_cache_lists.specs.declared.ring.Ring.{Ring}
 use Rattle.quick_cache_lists.specs.Frames.{IsPlaced, IsRemoved, IsLinked, IsJoined, IsLeft}
-use Rattle.quick_cache_slab.proofs.TimesLemmas.{times-here, times-other}
-use Rattle.quick_cache_slab.proofs.SlotLemmas.{length-with_token, at_token-with_same, at_token-with_other, at_token-past, at_token-map, at_token-push_same, at_token-push_other}
+use Rattle.quick_cache_slab.proofs.TokenCounts.{times-here, times-other}
+use Rattle.quick_cache_slab.proofs.AtTokens.{length-with_token, at_token-with_same, at_token-with_other, at_token-past, at_token-map, at_token-push_same, at_token-push_other}
 
 module _ {S : Type 0} where
   pub occupied_within : (slots : List (Option S)) (t : ℕ) (x : S) → at_token slots t None ≡ Some x → (0 < t) × (t ≤ length slots)

@@ -6,8 +6,8 @@ use Rattle.std.proofs.lemmas.Bool.{cases_eq, eq-eqb, ne_eqb}
 use Rattle.std.proofs.lemmas.List.{length_push}
 use Rattle.quick_cache_slab.specs.LinkedSlab.{LinkedSlab, at_token, times, joined, item_at, ring_from, spare, IsAlone, IsParted}
 use Rattle.quick_cache_table.specs.Table.{Table, has_pair, AddsPair}
-use Rattle.quick_cache_slab.proofs.SlotLemmas.{at_token-past}
-use Rattle.quick_cache_slab.proofs.TimesLemmas.{zero_from_none, times-here, times-other, times-append, length_once}
+use Rattle.quick_cache_slab.proofs.AtTokens.{at_token-past}
+use Rattle.quick_cache_slab.proofs.TokenCounts.{zero_from_none, times-here, times-other, times-append, length_once}
 use Rattle.quick_cache_lists.specs.declared.entry.Slot.{Slot}
 use Rattle.quick_cache_lists.specs.declared.ring.Ring.{Ring}
 use Rattle.quick_cache_lists.specs.Frames.{IsPlaced, IsLinked, IsJoined}

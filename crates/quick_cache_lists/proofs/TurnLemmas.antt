@@ -5,7 +5,7 @@ use Rattle.std.specs.declared.num.NonZeroU32.{NonZeroU32 as Token}
 use Rattle.std.proofs.lemmas.Bool.{eq-eqb}
 use Rattle.std.proofs.lemmas.List.{length_push}
 use Rattle.quick_cache_slab.specs.LinkedSlab.{LinkedSlab, first_or, times, item_at, ring_from, successor, IsParted}
-use Rattle.quick_cache_slab.proofs.TimesLemmas.{times-here, times-append, without_none}
+use Rattle.quick_cache_slab.proofs.TokenCounts.{times-here, times-append, without_none}
 use Rattle.quick_cache_lists.specs.declared.entry.Entry.{Entry}
 use Rattle.quick_cache_lists.specs.declared.entry.Entry.TheVariants.{Item as item_variant, Loading as loading_variant, Ghost as ghost_variant}
 use Rattle.quick_cache_lists.specs.declared.entry.Slot.{Slot}

@@ -6,7 +6,7 @@ ghost use Rattle.quick_cache_slab.specs.LinkedSlab.{item_at, successor, with_ite
 use quick_cache_base::Refusal;
 use quick_cache_base::linked_slab::{LinkedSlab, Token};
 use rationed::Rationed;
-use std::alloc::{Allocator, Global};
+use std::alloc::Global;
 use std::process::Abort;
 use std::test::Fail;
 
