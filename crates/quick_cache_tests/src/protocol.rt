@@ -249,3 +249,65 @@ fn a_run_without_room_makes_no_event_happen(rt: HostRuntime) -> Result<(), Fail>
     assert!(rt; !core.is_held());
     Ok(())
 }
+
+/// A life that is begun, joined, left and given up, over and over.
+#[test]
+fn ten_thousand_events_have_as_many_answers(rt: HostRuntime) -> Result<(), Fail> {
+    let mut events = Vec::new(rt.alloc());
+    for _ in 0..2500 {
+        events.push(Event::Create)?;
+        events.push(Event::Join(1))?;
+        events.push(Event::Cancel(1))?;
+        events.push(Event::Abandon)?;
+    }
+    let mut core: Core<u64> = Core::new(rt.alloc());
+    let answers = run(&mut core, events)?;
+    assert_eq!(rt; answers.len(), 10_000);
+    for at in 0..answers.len() {
+        let wanted = match at % 4 {
+            0 => Answer::Created,
+            1 => Answer::Joined,
+            2 => Answer::Done,
+            _ => Answer::GivenUp,
+        };
+        assert_eq!(rt; answers[at], wanted, "answer {at}");
+    }
+    Ok(())
+}
+
+#[test]
+fn a_hundred_waiters_get_the_guard_from_the_last_to_the_first(rt: HostRuntime) {
+    let mut core: Core<u64> = Core::new(rt.alloc());
+    assert_eq!(rt; step(&mut core, Event::Create), Answer::Created);
+    for waiter in 1..=100 {
+        assert_eq!(rt; step(&mut core, Event::Join(waiter)), Answer::Joined);
+    }
+    for turn in 0..100 {
+        let waiter = 100 - turn;
+        assert_eq!(rt; abandon(&mut core), Answer::HandedTo(waiter));
+        assert_eq!(rt; step(&mut core, Event::Take(waiter)), Answer::Guard);
+    }
+    assert!(rt; !core.has_waiters());
+    assert_eq!(rt; abandon(&mut core), Answer::GivenUp);
+}
+
+#[test]
+fn a_hundred_waiters_are_shown_the_value(rt: HostRuntime) {
+    let mut core: Core<u64> = Core::new(rt.alloc());
+    assert_eq!(rt; step(&mut core, Event::Create), Answer::Created);
+    for waiter in 1..=100 {
+        assert_eq!(rt; step(&mut core, Event::Join(waiter)), Answer::Joined);
+    }
+    assert_eq!(rt; step(&mut core, Event::Fill(7)), Answer::Done);
+    for waiter in 1..=100 {
+        assert_eq!(rt; step(&mut core, Event::Take(waiter)), Answer::Value(7));
+    }
+}
+
+#[test]
+fn a_run_of_no_event_takes_no_memory(rt: HostRuntime) {
+    let arena = Bump::new(rt.alloc());
+    arena.set_allocation_limit(Some(0));
+    let mut core: Core<u64, &Bump> = Core::new(&arena);
+    assert!(rt; run(&mut core, Vec::new(&arena)).is_ok());
+}
