@@ -41,6 +41,7 @@ evict_to_target-requires g c =
             of_queue = refl;
             marked = omega (arith, unit.marked);
           })) c.push_reserved.ensures.items r.1;
+      sized = c.requires.sized;
       room = record {
         hot = omega (
           arith,
@@ -139,6 +140,7 @@ returns-clause-sound g c =
     record {
       plain = plain-left g.K.PartialEq.eq _ _ _ _ _ _ _ _ c.requires.plain b _ _ r.1
           (omega (arith, c.remember.ensures.within));
+      sized = c.requires.sized;
       room = record {
         hot = omega (arith, c.requires.room.hot, c.restart-item.ensures, c.remember.ensures.len);
         cold = omega (arith, c.requires.room.cold, c.restart-item.ensures, c.remember.ensures.len);

@@ -66,6 +66,7 @@ returns-clause-sound g c =
             keys_of-raised _
                 (g.K.PartialEq.eq k) c.args.self.now.hot.items xs c.take_all_touches.ensures.raises,
           ));
+      sized = c.requires.sized;
       room = record {
         hot = omega (
           arith,
@@ -113,6 +114,7 @@ returns-in_default-clause-sound g c =
             keys_of-raised _
                 (g.K.PartialEq.eq k) c.args.self.now.hot.items xs c.take_all_touches.ensures.raises,
           ));
+      sized = c.requires.sized;
       room = record {
         hot = omega (arith, c.requires.room.hot, c.take_all_touches.ensures);
         cold = omega (arith, c.requires.room.cold, c.take_all_touches.ensures);

@@ -63,6 +63,7 @@ returns-then-is_hot-clause-sound g c =
           c.new.ensures
           (omega (arith, few, h, k)) (omega (arith, few, h, k)) refl _
           c.push_reserved.ensures.items;
+      sized = c.evict_to_capacity.ensures.sound.sized;
       room = record {
         hot = omega (arith, r.hot, c.push_reserved.ensures.len, c.push_reserved.ensures.capacity);
         cold = omega (arith, r.cold, c.push_reserved.ensures.len);
@@ -86,6 +87,7 @@ returns-else-is_hot-clause-sound g c =
           c.new-else-is_hot.result c.new-else-is_hot.ensures
           (omega (arith, few, h, k)) (omega (arith, few, h, k)) refl _
           c.push_reserved-else-is_hot.ensures.items;
+      sized = c.evict_to_capacity.ensures.sound.sized;
       room = record {
         hot = omega (arith, r.hot, c.push_reserved-else-is_hot.ensures.len);
         cold = omega (

@@ -16,6 +16,7 @@ evict_to_capacity-requires g c =
           (keys_of-none test c.args.self.now.hot.items c.requires.new.items.hot)
           (keys_of-none test c.args.self.now.cold.items c.requires.new.items.cold) refl _
           c.push_reserved.ensures.items;
+      sized = c.requires.sound.sized;
       room = record {
         hot = omega (
           arith,

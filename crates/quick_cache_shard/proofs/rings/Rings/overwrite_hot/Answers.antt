@@ -21,6 +21,7 @@ evict_to_capacity-requires g c =
           (λ i. g.K.PartialEq.eq c.args.key i.key) f o.over o.list c.requires.sound.plain.hot)
           (keys_of-overwritten may_count strategy c.args.key c.args.value Hot _ _ c.args.at _ o.now
           g.K.PartialEq.eq g.met.K.Eq.laws f o.over o.list);
+      sized = c.requires.sound.sized;
       room = record {
         hot = omega (
           arith,

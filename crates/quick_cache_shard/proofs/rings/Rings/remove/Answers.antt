@@ -33,6 +33,7 @@ returns-in-InHot-clause-sound g c =
       plain = plain-hot g.K.PartialEq.eq _ _ _ _ _ _ _ _ c.requires.plain _ _ _
           (unit-out Hot _ _ _ f.before f.element f.after f.is_split e.1 c.requires.plain.hot)
           (λ k. keys_of-out (g.K.PartialEq.eq k) _ _ _ f.before f.element f.after f.is_split e.1);
+      sized = c.requires.sized;
       room = record {
         hot = omega (arith, c.requires.room.hot, c.take_out.ensures);
         cold = omega (arith, c.requires.room.cold, c.take_out.ensures);
@@ -65,6 +66,7 @@ returns-in-InCold-clause-sound g c =
       plain = plain-cold g.K.PartialEq.eq _ _ _ _ _ _ _ _ c.requires.plain _ _ _
           (unit-out Cold _ _ _ f.before f.element f.after f.is_split e.1 c.requires.plain.cold)
           (λ k. keys_of-out (g.K.PartialEq.eq k) _ _ _ f.before f.element f.after f.is_split e.1);
+      sized = c.requires.sized;
       room = record {
         hot = omega (arith, c.requires.room.hot, c.take_out-in-InCold.ensures);
         cold = omega (arith, c.requires.room.cold, c.take_out-in-InCold.ensures);

@@ -43,6 +43,7 @@ returns-in-InHot-clause-sound g c =
       plain = plain-hot g.K.PartialEq.eq _ _ _ _ _ _ _ _ c.requires.sound.plain _ _ _
           (unit-out Hot _ _ _ f.before f.element f.after f.is_split e.1 c.requires.sound.plain.hot)
           (λ k. keys_of-out (g.K.PartialEq.eq k) _ _ _ f.before f.element f.after f.is_split e.1);
+      sized = c.requires.sound.sized;
       room = record {
         hot = omega (arith, c.requires.sound.room.hot, c.take_out-item.ensures);
         cold = omega (arith, c.requires.sound.room.cold, c.take_out-item.ensures);
@@ -85,6 +86,7 @@ returns-in-InCold-clause-sound g c =
           (unit-out Cold _ _ _ f.before f.element f.after f.is_split e.1
           c.requires.sound.plain.cold) (λ k. keys_of-out
           (g.K.PartialEq.eq k) _ _ _ f.before f.element f.after f.is_split e.1);
+      sized = c.requires.sound.sized;
       room = record {
         hot = omega (arith, c.requires.sound.room.hot, c.take_out-item-in-InCold.ensures);
         cold = omega (arith, c.requires.sound.room.cold, c.take_out-item-in-InCold.ensures);

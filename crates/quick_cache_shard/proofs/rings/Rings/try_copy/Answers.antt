@@ -10,5 +10,6 @@ returns-clause-sound g c = record {
       c.requires.keys
       _ _ _ _ _ _ _ _ _ _ c.requires.sound.plain c.in_ok-copy_items.ensures.items
       c.in_ok-copy_items-2.ensures.items);
+  sized = c.requires.sound.sized;
   room = search rules;
 }
