@@ -1,5 +1,6 @@
 -- How many entries there are, once one came or went.
 use Rattle.std.proofs.Common.{◌≡◌, ℕ, ◌+◌, ◌<◌, ◌≤◌, ◌==◌, if◌then◌else◌, Bool, true, false, List, [], ◌∷◌, ◌++◌, map, length, Option, Some, None, refl, sym, ap, ◌∙◌, inl, inr, arith}
+use Rattle.std.proofs.lemmas.Bool.Decides.{nat_tests}
 use Rattle.std.proofs.lemmas.Bool.{cases_eq, eq-eqb, ne_eqb}
 use Rattle.std.proofs.lemmas.List.{length-append, length-map, map-append}
 use Rattle.std.proofs.lemmas.List.Sorted.{length_permutation}
@@ -9,8 +10,9 @@ use Rattle.quick_cache_model.specs.declared.queue.Queue.TheVariants.{Hot, Cold}
 use Rattle.quick_cache_slab.specs.LinkedSlab.{times}
 use Rattle.quick_cache_slab.proofs.TokenCounts.{times-here, times-other, times-append}
 use Rattle.quick_cache_lists.specs.declared.entry.Entry.{Entry}
+use Rattle.quick_cache_lists.specs.declared.entry.Slot.{Slot}
 use Rattle.quick_cache_lists.specs.declared.entry.Entry.TheVariants.{Item as item_variant, Loading as loading_variant, Ghost as ghost_variant}
-use Rattle.quick_cache_lists.specs.Lists.{HeldItem, Lists, StandsIn, items_at, with_items, SameButOrder, PutsLast, HasEntry, IsEntry, AreApart, dropped, ahead_of, behind, restarted, left_by, without_entry, entries_of, entry_count, changed_held, with_change}
+use Rattle.quick_cache_lists.specs.Lists.{HeldItem, Lists, StandsIn, items_at, with_items, SameButOrder, PutsLast, PutsItem, HasEntry, IsEntry, AreApart, dropped, ahead_of, behind, restarted, left_by, without_entry, entries_of, entry_count, changed_held, with_change}
 use Rattle.quick_cache_lists.specs.Slots.{AmongStill, ring_stand, stand_in, loading_in}
 
 module _ {Y : Type 0} (name : Y → ℕ) (t : ℕ) where
@@ -43,7 +45,11 @@ module _ {Y : Type 0} (name : Y → ℕ) (t : ℕ) where
       let here = ap (times t) (ap (λ (n : ℕ). n ∷ map name stands.after) is) in
       omega (arith, ap (times t) (ap (map name) stands.split ∙ map-append name stands.before (x ∷ stands.after)), all, here, times-here t (map name stands.after))
 
-loading_in-item : (b : Bool) (q : Queue) → loading_in (if b then AmongStill else ring_stand q) ≡ 0
+in_ring-heavy : (weight : ℕ) → 0 < weight → (if weight == 0 then false else true) ≡ true
+in_ring-heavy weight heavy = grind (arith, nat_tests, heavy)
+
+-- an item is no placeholder
+pub loading_in-item : (b : Bool) (q : Queue) → loading_in (if b then AmongStill else ring_stand q) ≡ 0
 loading_in-item true q = refl
 loading_in-item false Hot = refl
 loading_in-item false Cold = refl
@@ -152,3 +158,14 @@ module _ {K V P : Type 0} where
   pub entry_count-change : (t : ℕ) (change : Item K V → Item K V) (lists : Lists K V P) → entry_count (with_change t change lists) ≡ entry_count lists
   entry_count-change t change lists =
       omega (arith, length-map lists.hot (changed_held t change), length-map lists.cold (changed_held t change), length-map lists.still (changed_held t change))
+
+module _ {K V P T : Type 0} where
+  pub loading_in-slot : (slot : Slot K V P T) (hash : ℕ) (item : Item K V) → slot ≡ record { hash = hash; entry = item_variant item } → loading_in (stand_in slot.entry) ≡ 0
+  loading_in-slot slot hash item is =
+      ap (λ (s : Slot K V P T). loading_in (stand_in s.entry)) is ∙ loading_in-item (item.weight == 0) item.queue
+
+  pub PutsItem-from : (old new : Lists K V P) (token hash : ℕ) (item : Item K V) → PutsLast {T = T} old token hash (item_variant item) new → PutsItem old token hash item new
+  PutsItem-from old new token hash item last = record {
+    put = last.put;
+    in_ring = λ heavy. last.in_ring (in_ring-heavy item.weight heavy);
+  }

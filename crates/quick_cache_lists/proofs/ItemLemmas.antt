@@ -50,6 +50,9 @@ module _ {K V P T : Type 0} where
       let same : slot ≡ record { hash = hash; entry = item_variant item } = cc in
       ap (λ (s : Slot K V P T). s.entry) same
 
+  pub slot_is : (o : Option (Slot K V P T)) (slot : Slot K V P T) (hash : ℕ) (item : Item K V) → o ≡ Some (record { hash = hash; entry = item_variant item }) → o ≡ Some slot → slot ≡ record { hash = hash; entry = item_variant item }
+  slot_is o slot hash item is at = cc
+
   pub lists-reserved : (old new : LinkedSlab (Slot K V P T)) (told tnew : Table) (hot cold ghosts : Ring) → new ≡ record old { room = new.room } → lists_of new tnew hot cold ghosts ≡ record (lists_of old told hot cold ghosts) { room = room_of new tnew }
   lists-reserved old new told tnew hot cold ghosts kept = λ i. record {
     hot = gather (λ u. item_of u (item_at (kept i) u)) (tokens_of (kept i) hot.head);

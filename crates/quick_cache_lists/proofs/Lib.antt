@@ -13,3 +13,5 @@ pub mod ApartLemmas
 pub mod CountLemmas
 pub mod PutLemmas
 pub mod LeaveLemmas
+pub mod MoveLemmas
+pub mod NextLemmas

@@ -1,12 +1,12 @@
 -- An entry was put last.
-use Rattle.std.proofs.Common.{◌≡◌, ◌≢◌, ℕ, ◌+◌, ◌<◌, ◌==◌, Bool, true, false, List, Option, Some, None, IfSome, refl, sym, ap, subst, ◌∙◌, arith, true≢false}
+use Rattle.std.proofs.Common.{◌≡◌, ◌≢◌, ℕ, ◌+◌, ◌<◌, ◌≤◌, length, ◌==◌, Bool, true, false, List, Option, Some, None, IfSome, refl, sym, ap, subst, ◌∙◌, arith, true≢false}
 use Rattle.std.specs.Int.NonZero.{non_zero_u32_get}
 use Rattle.std.specs.declared.num.NonZeroU32.{NonZeroU32 as Token}
 use Rattle.std.proofs.lemmas.List.Sorted.{IsPermutation-refl}
 use Rattle.quick_cache_model.specs.CacheState.{Item}
 use Rattle.quick_cache_model.specs.declared.queue.Queue.{Queue}
 use Rattle.quick_cache_model.specs.declared.queue.Queue.TheVariants.{Hot, Cold}
-use Rattle.quick_cache_slab.specs.LinkedSlab.{LinkedSlab, item_at, next_token, IsOccupied, IsParted}
+use Rattle.quick_cache_slab.specs.LinkedSlab.{LinkedSlab, item_at, ring_from, times, next_token, IsOccupied}
 use Rattle.quick_cache_table.specs.Table.{Table, pair_count}
 use Rattle.quick_cache_lists.specs.declared.entry.Entry.{Entry}
 use Rattle.quick_cache_lists.specs.declared.entry.Entry.TheVariants.{Item as item_variant, Loading as loading_variant, Ghost as ghost_variant}
@@ -15,7 +15,7 @@ use Rattle.quick_cache_lists.specs.declared.ring.Ring.{Ring}
 use Rattle.quick_cache_lists.specs.declared.rings.Rings.{Rings}
 use Rattle.quick_cache_lists.specs.Frames.{IsPlaced, CanJoin, CanEnter, EntersRing}
 use Rattle.quick_cache_lists.specs.Lists.{Lists, with_last, PutsLast}
-use Rattle.quick_cache_lists.specs.Slots.{Stand, AmongHot, AmongCold, AmongStill, AmongLoading, AmongGhosts, stand_of, stand_in, weight_in, loading_in}
+use Rattle.quick_cache_lists.specs.Slots.{Stand, AmongHot, AmongCold, AmongStill, AmongLoading, AmongGhosts, stand_of, stand_in, weight_in, weight_at, loading_in}
 use Rattle.quick_cache_lists.specs.Sound.{lists_of, room_of, IsRingOf, IsKeyed, IsStanding, IsSound}
 use Rattle.quick_cache_lists.proofs.CountLemmas.{IsMore-put}
 use Rattle.quick_cache_lists.proofs.SoundLemmas.{stand-some, stand-placed, vacant-stand, ring_light, ring_short, IsKeyed-joined, room-joined}
@@ -41,15 +41,15 @@ module _ {K V P T : Type 0} where
 
   -- ---- it can enter its ring
 
-  module _ (old mid : LinkedSlab (Slot K V P T)) (told : Table) (token : Token) (x : Slot K V P T) (rings : Rings) (standing : IsStanding old rings.hot rings.cold rings.ghosts) (keyed : IsKeyed old told) (parted : IsParted old) (placed : IsPlaced old mid (non_zero_u32_get token) x) (w : ℕ) (light : w < 18446744073709551616) where
+  module _ (old mid : LinkedSlab (Slot K V P T)) (token : Token) (x : Slot K V P T) (rings : Rings) (standing : IsStanding old rings.hot rings.cold rings.ghosts) (single : (t u : ℕ) → times u (ring_from old t) ≤ 1) (short : length old.slots ≤ 4294967295) (lean : (t : ℕ) → weight_at (item_at old t) < 18446744073709551616) (placed : IsPlaced old mid (non_zero_u32_get token) x) (w : ℕ) (light : w < 18446744073709551616) where
     can_join : (ring : Ring) (r : Stand) → IsRingOf old ring r → CanJoin mid ring token w
     can_join ring r is = record {
       occupied = rw placed.here refl;
       alone = placed.alone;
       head = heads ring.head is.headed;
       apart = aparts ring.head is.headed;
-      few = omega (arith, ring_short old ring r parted is, keyed.few);
-      light = omega (arith, ring_light old told ring r parted keyed is, light);
+      few = omega (arith, ring_short old ring r single is, short);
+      light = omega (arith, ring_light old ring r single short lean is, light);
     }
       where
         heads : (o : Option Token) → IfSome o (λ head. stand_of (item_at old (non_zero_u32_get head)) ≡ Some r) → IfSome o (λ head. IsOccupied mid (non_zero_u32_get head))

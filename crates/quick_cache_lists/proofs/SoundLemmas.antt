@@ -174,13 +174,13 @@ module _ {K V P T : Type 0} where
         linked.rings u other ∙ ap (joined t h) (alone u was) ∙ joined-other t h (u ∷ []) (omega (arith, times-other h u [] apart))
 
   -- a ring is no longer than the slots
-  pub ring_short : (slab : LinkedSlab (Slot K V P T)) (ring : Ring) (r : Stand) → IsParted slab → IsRingOf slab ring r → ring.count ≤ length slab.slots
-  ring_short slab ring r parted is =
+  pub ring_short : (slab : LinkedSlab (Slot K V P T)) (ring : Ring) (r : Stand) → ((t u : ℕ) → times u (ring_from slab t) ≤ 1) → IsRingOf slab ring r → ring.count ≤ length slab.slots
+  ring_short slab ring r single is =
       rw is.counted (length_once (tokens_of slab ring.head) (length slab.slots) (once ring.head) within)
     where
       once : (o : Option Token) (u : ℕ) → times u (tokens_of slab o) ≤ 1
       once None u = omega arith
-      once (Some head) u = parted.once (non_zero_u32_get head) u
+      once (Some head) u = single (non_zero_u32_get head) u
 
       within : (u : ℕ) → 0 < times u (tokens_of slab ring.head) → (0 < u) × (u ≤ length slab.slots)
       within u some = by_item (item_at slab u) refl (is.members u some)
@@ -323,9 +323,9 @@ module _ {K V P T : Type 0} where
       by_head (Some h) done = rw (done.0.free, done.0.room) refl
 
   -- a ring can take one more weight
-  pub ring_light : (slab : LinkedSlab (Slot K V P T)) (table : Table) (ring : Ring) (r : Stand) → IsParted slab → IsKeyed slab table → IsRingOf slab ring r → ring.weight ≤ 4294967295 * 18446744073709551616
-  ring_light slab table ring r parted keyed is =
-      omega (arith, is.weighed, weigh-light (λ u. weight_at (item_at slab u)) (tokens_of slab ring.head) keyed.light, is.counted, ring_short slab ring r parted is, keyed.few)
+  pub ring_light : (slab : LinkedSlab (Slot K V P T)) (ring : Ring) (r : Stand) → ((t u : ℕ) → times u (ring_from slab t) ≤ 1) → length slab.slots ≤ 4294967295 → ((t : ℕ) → weight_at (item_at slab t) < 18446744073709551616) → IsRingOf slab ring r → ring.weight ≤ 4294967295 * 18446744073709551616
+  ring_light slab ring r single few light is =
+      omega (arith, is.weighed, weigh-light (λ u. weight_at (item_at slab u)) (tokens_of slab ring.head) light, is.counted, ring_short slab ring r single is, few)
 
   -- a ring weighs no less than its member
   pub ring_weighs : (slab : LinkedSlab (Slot K V P T)) (ring : Ring) (r : Stand) (t : ℕ) → IsRingOf slab ring r → stand_of (item_at slab t) ≡ Some r → weight_at (item_at slab t) ≤ ring.weight

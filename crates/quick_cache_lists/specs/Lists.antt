@@ -1,6 +1,6 @@
 -- What a contract sees of `Lists`: plain lists, whose entries have tokens.
-use Rattle.std.specs.Prelude.{◌≡◌, ◌≢◌, ◌⊎◌, ℕ, ◌+◌, ◌-◌, Bool, true, false, cond, eqb, if◌then◌else◌, ◌==◌, List, [], ◌∷◌, ◌++◌, length, map, Option, MatchOption, ◌≤◌}
-use Rattle.quick_cache_slab.specs.LinkedSlab.{times}
+use Rattle.std.specs.Prelude.{◌≡◌, ◌≢◌, ◌⊎◌, ℕ, ◌+◌, ◌-◌, Bool, true, false, cond, eqb, if◌then◌else◌, ◌==◌, List, [], ◌∷◌, ◌++◌, length, map, Option, Some, None, MatchOption, ◌<◌, ◌≤◌}
+use Rattle.quick_cache_slab.specs.LinkedSlab.{times, first_or}
 use Rattle.std.specs.List.{AllByRecursion}
 use Rattle.std.specs.List.Sorted.{IsPermutation}
 use Rattle.std.specs.Int.NonZero.{non_zero_u32_get}
@@ -11,7 +11,7 @@ use Rattle.quick_cache_lists.specs.declared.entry.Entry.{Entry}
 use Rattle.quick_cache_lists.specs.declared.entry.Entry.TheVariants.{Item as item_variant, Loading as loading_variant, Ghost as ghost_variant}
 use Rattle.quick_cache_lists.specs.declared.found.Found.{Found}
 use Rattle.quick_cache_lists.specs.declared.found.Found.TheVariants.{Item as found_item, Loading as found_loading, Ghost as found_ghost, Nothing as found_nothing}
-use Rattle.quick_cache_model.specs.CacheState.{Item, Place, InHot, InCold, InStill, place_of_item}
+use Rattle.quick_cache_model.specs.CacheState.{Item, Place, InHot, InCold, InStill, place_of_item, ring_place}
 
 -- an item under its token and its hash
 pub record HeldItem (K V : Type 0) : Type 0 where
@@ -38,6 +38,10 @@ with_counts mark reads item = record item { mark = mark; reads = reads }
 -- the item with another pair
 abbrev pub with_pair : {K V : Type 0} → K → V → Item K V → Item K V
 with_pair key value item = record item { key = key; value = value }
+
+-- the item with another queue, mark and weight
+abbrev pub requeued : {K V : Type 0} → Queue → (mark weight : ℕ) → Item K V → Item K V
+requeued queue mark weight item = record item { queue = queue; mark = mark; weight = weight }
 
 -- a ghost: its token and its hash
 pub record HeldGhost : Type 0 where
@@ -85,6 +89,11 @@ restarted name token xs = behind name token xs ++ ahead_of name token xs
 abbrev pub left_by : {X : Type 0} → Bool → (X → ℕ) → ℕ → List X → List X
 left_by false name token xs = dropped name token xs
 left_by true name token xs = restarted name token xs
+
+-- the number of a token, or 0 where there is none
+abbrev pub number_or_zero : Option Token → ℕ
+number_or_zero None = 0
+number_or_zero (Some token) = non_zero_u32_get token
 
 -- the list begun one further on
 abbrev pub turned : {X : Type 0} → List X → List X
@@ -205,9 +214,61 @@ module _ {K V P : Type 0} where
     pub put : SameButOrder (record (with_last token hash entry old) { next = new.next; room = new.room }) new
     pub in_ring : is_in_ring entry ≡ true → new ≡ record (with_last token hash entry old) { next = new.next; room = new.room }
 
+  -- The entry of that token left its list, its ring kept its order or began behind it, and another was put last under
+  -- the same token and hash, in the same room.
+  pub record Replaces {T : Type 0} (old : Lists K V P) (token : ℕ) (restarts : Bool) (entry was : Entry K V P T) (new : Lists K V P) : Type 0 where
+    pub hash : ℕ
+    pub taken : IsEntry old token hash was
+    pub last : PutsLast (without_entry restarts token old) token hash entry new
+    pub room : new.room ≡ old.room
+
+  -- The item was put last under that token. Where it weighs nothing, those that stand in no ring may be in another order.
+  pub record PutsItem (old : Lists K V P) (token hash : ℕ) (item : Item K V) (new : Lists K V P) : Type 0 where
+    pub put : SameButOrder
+        (record (entered (record { token = token; hash = hash; item = item }) old) { next = new.next; room = new.room })
+        new
+    pub in_ring : 0 < item.weight
+        → new ≡ record (entered (record { token = token; hash = hash; item = item }) old) { next = new.next; room = new.room }
+
+  -- The item of that token left its list, its ring kept its order or began behind it, and once changed it was put last
+  -- under the same token and hash, in the same room.
+  pub record Requeues (old : Lists K V P) (token : ℕ) (restarts : Bool) (change : Item K V → Item K V) (new : Lists K V P) : Type 0 where
+    pub hash : ℕ
+    pub item : Item K V
+    pub taken : HasItem old (record { token = token; hash = hash; item = item })
+    pub last : PutsItem (without_entry restarts token old) token hash (change item) new
+    pub room : new.room ≡ old.room
+
   -- an item has the token
   abbrev pub HasItemToken : Lists K V P → ℕ → Type 0
   HasItemToken lists token = (held : HeldItem K V) × HasItem lists held × (held.token ≡ token)
+
+  -- an item of that ring has the token
+  abbrev pub HasRingToken : Queue → Lists K V P → ℕ → Type 0
+  HasRingToken queue lists token =
+      (held : HeldItem K V) × StandsIn (items_at (ring_place queue) lists) held × (held.token ≡ token)
+
+  -- the token behind this one in that ring: itself, where no other item stands there
+  abbrev pub next_in_ring : Queue → Lists K V P → ℕ → ℕ
+  next_in_ring queue lists token =
+      first_or token (map (λ held. held.token) (restarted (λ held. held.token) token (items_at (ring_place queue) lists)))
+
+  -- the result is the least token of an item above that token, or nothing where there is none
+  pub record IsFirstAbove (lists : Lists K V P) (token : ℕ) (result : Option Token) : Type 0 where
+    pub none : result ≡ None → (other : ℕ) → token < other → ¬ HasItemToken lists other
+    pub found : (first : Token) → result ≡ Some first
+        → (token < non_zero_u32_get first) × HasItemToken lists (non_zero_u32_get first)
+    pub least : (first : Token) (other : ℕ) → result ≡ Some first → token < other
+        → other < non_zero_u32_get first → ¬ HasItemToken lists other
+
+  -- a placeholder has the token
+  abbrev pub HasLoadingToken : Lists K V P → ℕ → Type 0
+  HasLoadingToken lists token =
+      (waiting : HeldLoading K P) × StandsIn lists.loading waiting × (waiting.token ≡ token)
+
+  -- how many items there are
+  abbrev pub item_count : Lists K V P → ℕ
+  item_count lists = length lists.hot + length lists.cold + length lists.still
 
   -- the item of that token is this one
   abbrev pub IsItemOf : Lists K V P → (token : ℕ) → Item K V → Type 0

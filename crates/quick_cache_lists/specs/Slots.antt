@@ -1,5 +1,5 @@
 -- What stands in a slot. No public clause cites this module.
-use Rattle.std.specs.Prelude.{◌≡◌, ℕ, Bool, true, false, Option, Some, None, if◌then◌else◌, ◌==◌, eqb}
+use Rattle.std.specs.Prelude.{◌≡◌, List, [], ◌∷◌, ℕ, Bool, true, false, Option, Some, None, if◌then◌else◌, ◌==◌, eqb}
 use Rattle.quick_cache_model.specs.CacheState.{Item}
 use Rattle.quick_cache_model.specs.declared.queue.Queue.{Queue}
 use Rattle.quick_cache_model.specs.declared.queue.Queue.TheVariants.{Hot, Cold}
@@ -104,6 +104,11 @@ module _ {K V P T : Type 0} where
   abbrev pub is_item_at : Option (Slot K V P T) → Bool
   is_item_at None = false
   is_item_at (Some slot) = is_item slot
+
+  -- the token of the first of these entries that is an item
+  abbrev pub first_item : List (ℕ × Slot K V P T) → Option ℕ
+  first_item [] = None
+  first_item (entry ∷ rest) = if is_item entry.1 then Some entry.0 else first_item rest
 
   -- the slot has that hash
   abbrev pub has_hash : ℕ → Option (Slot K V P T) → Bool

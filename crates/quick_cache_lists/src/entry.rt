@@ -1,11 +1,12 @@
 //! What stands in a slot.
 ghost use Rattle.std.specs.Prelude.{◌≡◌, true};
 ghost use Rattle.quick_cache_lists.specs.Slots.{is_under, is_ghost, is_item, weight_in, slot_changed, HasPair, stand_in, loading_in};
-ghost use Rattle.quick_cache_lists.specs.Lists.{with_counts, with_pair};
+ghost use Rattle.quick_cache_lists.specs.Lists.{with_counts, with_pair, requeued};
 
 use crate::resident::Resident;
 use quick_cache_model::{Equivalent, Queue};
 use std::hash::Hash;
+use std::mem::replace;
 
 /// A key that is being loaded.
 #[derive(Drop)]
@@ -100,6 +101,26 @@ impl<K, V, P, T> Slot<K, V, P, T> {
             Entry::Loading(_) => unreachable!(),
             Entry::Ghost => unreachable!(),
         }
+    }
+
+    /// Gives an item another queue, mark and weight.
+    pub(crate) fn requeue(&mut self, queue: Queue, mark: u8, weight: u64)
+        requires { is_item self.old ≡ true }
+        ensures { self.new ≡ slot_changed (requeued queue mark weight) self.old }
+    {
+        match &mut self.entry {
+            Entry::Item(resident) => resident.requeue(queue, mark, weight),
+            Entry::Loading(_) => unreachable!(),
+            Entry::Ghost => unreachable!(),
+        }
+    }
+
+    /// Takes another entry, and gives the old one back.
+    pub(crate) fn replace(&mut self, entry: Entry<K, V, P, T>) -> Entry<K, V, P, T>
+        ensures new { self.new ≡ record self.old { entry = entry } }
+        ensures old { result ≡ self.old.entry }
+    {
+        replace(&mut self.entry, entry)
     }
 
     /// Gives an item another pair, and the old pair back.

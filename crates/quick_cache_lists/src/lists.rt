@@ -1,10 +1,11 @@
 //! The lists of a shard, and room for them.
-ghost use Rattle.std.specs.Prelude.{◌≡◌, ◌≤◌, ◌<◌, ◌⊎◌, ◌↔◌, min, IsOk, IfOk, IfErr, OnOk, OnErr};
-ghost use Rattle.quick_cache_lists.specs.Lists.{no_lists, slots_left, AreApart};
+ghost use Rattle.std.specs.Prelude.{◌≡◌, ◌+◌, ◌≤◌, ◌<◌, ◌⊎◌, ◌↔◌, min, IsOk, IfOk, IfErr, OnOk, OnErr};
+ghost use Rattle.quick_cache_lists.specs.Lists.{no_lists, entry_count, slots_left, AreApart};
 
 mod changes;
 mod counts;
 mod looks;
+mod moves;
 
 use crate::entry::Slot;
 use crate::rings::Rings;
@@ -98,6 +99,22 @@ impl<K, V, P, T, A: Allocator> Lists<K, V, P, T, A> {
             return Err(Refusal::SlotsFull);
         }
         self.reserve(1)
+    }
+
+    /// Drops every entry, and keeps the memory.
+    pub fn clear(&mut self)
+    where
+        K: Drop,
+        V: Drop,
+        P: Drop,
+        T: Drop,
+        ensures { self.new ≡ record no_lists { room = self.old.room + entry_count self.old } }
+    {
+        self.slab.validate();
+        let _ = self.slab.drain();
+        self.table.clear();
+        self.rings = Rings::empty();
+        self.loading = 0;
     }
 
     /// Each token has one entry at most.

@@ -1,7 +1,7 @@
 //! An item, as a slot has it.
 ghost use Rattle.std.specs.Prelude.{◌≡◌};
 ghost use Rattle.quick_cache_lists.specs.Slots.{stand_of_item};
-ghost use Rattle.quick_cache_lists.specs.Lists.{with_counts, with_pair};
+ghost use Rattle.quick_cache_lists.specs.Lists.{with_counts, with_pair, requeued};
 
 use crate::entry::Stand;
 use quick_cache_model::Queue;
@@ -119,6 +119,15 @@ impl<K, V, T> Resident<K, V, T> {
     {
         self.mark = mark;
         self.reads = reads;
+    }
+
+    /// Takes another queue, mark and weight.
+    pub(crate) fn requeue(&mut self, queue: Queue, mark: u8, weight: u64)
+        ensures { self.new ≡ requeued queue mark weight self.old }
+    {
+        self.queue = queue;
+        self.mark = mark;
+        self.weight = weight;
     }
 
     /// Takes another pair, and gives the old one back.

@@ -1,10 +1,10 @@
 //! What the lists tell of themselves, each in constant time.
 ghost use Rattle.std.specs.Prelude.{◌≡◌, sum_by, length};
 ghost use Rattle.quick_cache_model.specs.CacheState.{ring_place};
-ghost use Rattle.quick_cache_lists.specs.Lists.{items_at};
+ghost use Rattle.quick_cache_lists.specs.Lists.{items_at, item_count};
 
 use crate::lists::Lists;
-use quick_cache_model::Queue;
+use quick_cache_model::{MemoryUsed, Queue};
 use std::alloc::Allocator;
 
 impl<K, V, P, T, A: Allocator> Lists<K, V, P, T, A> {
@@ -28,6 +28,37 @@ impl<K, V, P, T, A: Allocator> Lists<K, V, P, T, A> {
         match queue {
             Queue::Hot => self.rings.hot.weight,
             Queue::Cold => self.rings.cold.weight,
+        }
+    }
+
+    /// How many items there are, those of weight 0 with them.
+    pub fn item_count(&self) -> usize
+        ensures { result ≡ item_count self.now }
+    {
+        self.slab.validate();
+        self.table.len() - self.rings.ghosts.count - self.loading
+    }
+
+    /// How many ghosts there are.
+    pub fn ghost_count(&self) -> usize
+        ensures { result ≡ length self.now.ghosts }
+    {
+        self.slab.validate();
+        self.rings.ghosts.count
+    }
+
+    /// How many keys are being loaded.
+    pub fn loading_count(&self) -> usize
+        ensures { result ≡ length self.now.loading }
+    {
+        self.loading
+    }
+
+    /// How many bytes the slots and the table take.
+    pub fn memory_used(&self) -> MemoryUsed {
+        MemoryUsed {
+            entries: self.slab.memory_used(),
+            map: self.table.allocation_size(),
         }
     }
 }

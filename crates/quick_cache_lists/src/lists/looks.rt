@@ -2,9 +2,9 @@
 ghost use Rattle.std.specs.Prelude.{◌≡◌};
 ghost use Rattle.std.specs.Int.NonZero.{non_zero_u32_get as number};
 ghost use Rattle.quick_cache_model.specs.CacheState.{ring_place};
-ghost use Rattle.quick_cache_lists.specs.Lists.{Finds, HasItemToken, IsItemOf, IsFirstOf, items_at};
+ghost use Rattle.quick_cache_lists.specs.Lists.{Finds, HasEntry, IsEntry, HasItemToken, IsItemOf, HasRingToken, next_in_ring, IsFirstAbove, number_or_zero, IsFirstOf, items_at};
 
-use crate::entry::Entry;
+use crate::entry::{Entry, Slot};
 use crate::found::Found;
 use crate::lists::Lists;
 use crate::resident::Resident;
@@ -72,5 +72,45 @@ impl<K, V, P, T, A: Allocator> Lists<K, V, P, T, A> {
             },
             None => unreachable!(),
         }
+    }
+
+    /// The token behind an item of a ring, which is the item's own where no other stands there.
+    pub fn next_in_ring(&self, queue: Queue, token: Token) -> Token
+        requires { HasRingToken queue self.now (number token) }
+        ensures { number result ≡ next_in_ring queue self.now (number token) }
+    {
+        self.slab.validate();
+        let (_, next) = unsafe { self.slab.get_unchecked(token) };
+        next
+    }
+
+    /// The entry of a token, and its hash.
+    pub fn entry(&self, token: Token) -> &Slot<K, V, P, T>
+        requires { HasEntry self.now (number token) }
+        ensures { IsEntry self.now (number token) result.now.hash result.now.entry }
+    {
+        let (slot, _) = unsafe { self.slab.get_unchecked(token) };
+        slot
+    }
+
+    /// The token of the item with the least token above this one, or the least of all.
+    ///
+    /// It looks at the slots between.
+    pub fn first_above(&self, token: Option<Token>) -> Option<Token>
+        ensures { IsFirstAbove self.now (number_or_zero token) result }
+    {
+        for (next, slot) in self.slab.iter_from(token) {
+            if slot.is_item() {
+                return Some(next);
+            }
+        }
+        None
+    }
+
+    /// The token that the next entry gets: 4294967295 where all slots are taken.
+    pub fn next_token(&self) -> Token
+        ensures { number result ≡ self.now.next }
+    {
+        self.slab.next_free()
     }
 }

@@ -5,7 +5,7 @@ use Rattle.quick_cache_lists.proofs.lists.Lists.put.Goals as goal
 pub enter-requires : goal.enter-requires
 enter-requires g c =
     let i = c.self.inside in
-    can_enter i.slab c.place-token.new.slab i.table c.place-token.result _ i.rings c.self.invariant.standing c.self.invariant.keyed c.validate.ensures c.place-token.ensures.placed _ (omega arith) c.stand-stand.result
+    can_enter i.slab c.place-token.new.slab c.place-token.result _ i.rings c.self.invariant.standing c.validate.ensures.once c.self.invariant.keyed.few c.self.invariant.keyed.light c.place-token.ensures.placed _ (omega arith) c.stand-stand.result
 
 pub invariant_of-self : goal.invariant_of-self
 invariant_of-self g c =

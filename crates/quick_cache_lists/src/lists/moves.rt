@@ -1,0 +1,53 @@
+//! Entries that go from list to list and keep their tokens, so that the table does not change.
+ghost use Rattle.std.specs.Int.NonZero.{non_zero_u32_get as number};
+ghost use Rattle.quick_cache_lists.specs.Lists.{HasEntry, HasItemToken, Replaces, Requeues, requeued};
+
+use crate::entry::Entry;
+use crate::lists::Lists;
+use quick_cache_model::{Queue, Token};
+use std::alloc::Allocator;
+
+impl<K, V, P, T, A: Allocator> Lists<K, V, P, T, A> {
+    /// Puts another entry under a token, and answers the old one. The old one leaves its list as with `take`,
+    /// the new one is put last as with `put`; the hash stays, and no room is needed.
+    pub fn replace(
+        &mut self,
+        token: Token,
+        restarts: bool,
+        entry: Entry<K, V, P, T>,
+    ) -> Entry<K, V, P, T>
+        requires { HasEntry self.old (number token) }
+        ensures { Replaces self.old (number token) restarts entry result self.new }
+    {
+        self.slab.validate();
+        let to = entry.stand();
+        let weight = entry.weight();
+        let next = self.slab.unlink(token);
+        let (slot, _) = unsafe { self.slab.get_mut_unchecked(token) };
+        let was = slot.replace(entry);
+        let from = was.stand();
+        let weighed = was.weight();
+        self.rings.leave(token, next, from, restarts, weighed);
+        self.rings.enter(&mut self.slab, token, to, weight);
+        self.loading = self.loading - from.loading() + to.loading();
+        was
+    }
+
+    /// Gives the item of a token another queue, mark and weight, and puts it last in its ring, or beside the
+    /// rings where it then weighs nothing. The ring that it leaves keeps the order of the rest, or begins
+    /// behind it where it restarts.
+    pub fn requeue(&mut self, token: Token, restarts: bool, queue: Queue, mark: u8, weight: u64)
+        requires { HasItemToken self.old (number token) }
+        ensures { Requeues self.old (number token) restarts (requeued queue mark weight) self.new }
+    {
+        self.slab.validate();
+        let next = self.slab.unlink(token);
+        let (slot, _) = unsafe { self.slab.get_mut_unchecked(token) };
+        let from = slot.entry.stand();
+        let weighed = slot.entry.weight();
+        slot.requeue(queue, mark, weight);
+        let to = slot.entry.stand();
+        self.rings.leave(token, next, from, restarts, weighed);
+        self.rings.enter(&mut self.slab, token, to, weight);
+    }
+}
