@@ -11,6 +11,7 @@ pub mod LoadingKeys
 pub mod Capacities
 pub mod Reads
 pub mod EntryCalls
+pub mod Orders
 pub mod Steps
 pub mod Telling
 pub mod Determined

@@ -3,7 +3,7 @@ use Rattle.std.specs.Prelude.{◌≡◌, ℕ, ◌+◌, ◌*◌, ◌<◌, ◌≤�
 use Rattle.std.specs.Prelude.{[], ◌++◌, Option, None, length, count_by}
 use Rattle.std.specs.List.{AllByRecursion}
 use Rattle.quick_cache_model.specs.CacheState.{CacheState, Item, Place, empty_state, keys_by}
-use Rattle.quick_cache_model.specs.CacheState.{total_weight, IsValid, SameButOrder}
+use Rattle.quick_cache_model.specs.CacheState.{total_weight, IsValid, SameButOrder, UpToOrder}
 use Rattle.quick_cache_model.specs.Hooks.{Rules, HookCall, BeforeEvict, EvictHot, EvictCold, Hooks}
 use Rattle.quick_cache_model.specs.Finding.{Found, IsItemAt, HasNoItem, Finds}
 use Rattle.quick_cache_model.specs.Eviction.{AdvancesCold, EvictsToCapacity}
@@ -254,10 +254,11 @@ module _ (K V : Type 0) where
   QueriesFindSomething = (stands_for : K → Bool) (hash : ℕ) (state : CacheState K V)
       → (found : Found K V) × Finds stands_for hash state found
 
-  -- a second retain by the same test removes nothing
+  -- a second retain by the same test removes nothing, whatever order the first left
   abbrev pub SecondRetainsRemoveNothing : Type 0
   SecondRetainsRemoveNothing = (keeps : K → V → Bool) (old mid new : CacheState K V)
-      → Retains keeps old mid → Retains keeps mid new → new ≡ mid
+      → UpToOrder (λ state. Retains keeps old state) mid
+      → UpToOrder (λ state. Retains keeps mid state) new → SameButOrder mid new
 
   module _ (equal : K → K → Bool) where
     -- a query has at most one entry in a valid state
@@ -273,12 +274,13 @@ module _ (K V : Type 0) where
         → Sees stands_for old (λ item. item.value) seen
         → LooksUp stands_for old (λ item. item.value) shown new → seen ≡ shown
 
-    -- a key that was removed is not there to be removed again
+    -- a key that was removed is not there to be removed again, whatever order the first left
     abbrev pub SecondRemovalsFindNothing : Type 0
     SecondRemovalsFindNothing =
         (stands_for : K → Bool) (hash : ℕ) (old mid new : CacheState K V)
         (first second : Option (K × V)) → IsQuery equal stands_for → IsValid equal old
-        → Removes stands_for old hash first mid → Removes stands_for mid hash second new
+        → UpToOrder (λ state. Removes stands_for old hash first state) mid
+        → UpToOrder (λ state. Removes stands_for mid hash second state) new
         → second ≡ None
 
     -- each call leads from a valid state to a valid one: a write

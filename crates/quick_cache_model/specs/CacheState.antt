@@ -159,3 +159,9 @@ module _ {K V : Type 0} where
     pub still : IsPermutation old.still new.still
     pub loading : IsPermutation old.loading new.loading
     pub same : new ≡ record old { still = new.still; loading = new.loading }
+
+  -- what holds of the state, up to the order of what has none
+  pub record UpToOrder (P : CacheState K V → Type 0) (new : CacheState K V) : Type 0 where
+    pub ordered : CacheState K V
+    pub holds : P ordered
+    pub same : SameButOrder ordered new

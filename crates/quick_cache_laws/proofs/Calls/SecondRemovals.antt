@@ -1,15 +1,16 @@
 -- Laws of removals: a second one finds nothing to remove.
 use Rattle.std.proofs.Common.{◌≡◌, ℕ, Bool, true, false, cond, List, [], ◌∷◌, Option, None, refl}
-use Rattle.std.proofs.Common.{sym, ap, ◌∙◌, arith}
-use Rattle.std.specs.List.{filter}
+use Rattle.std.proofs.Common.{IsPermutation, sym, ap, subst, ◌∙◌, arith}
+use Rattle.std.specs.List.{AllByRecursion, filter}
 use Rattle.quick_cache_model.specs.CacheState.{CacheState, Item, Place, InHot, InCold, InStill}
-use Rattle.quick_cache_model.specs.CacheState.{keys_by, IsValid}
+use Rattle.quick_cache_model.specs.CacheState.{keys_by, IsValid, SameButOrder, UpToOrder}
 use Rattle.quick_cache_model.specs.Finding.{IsItemAt}
 use Rattle.quick_cache_model.specs.Removal.{Removes, Retains, retained}
 use Rattle.quick_cache_laws.specs.Laws.{IsQuery}
 use Rattle.quick_cache_model.proofs.KeyCounts.{one_if}
 use Rattle.quick_cache_laws.proofs.Eviction.Keys.{keys_by-none}
 use Rattle.quick_cache_laws.proofs.Valid.Places.{keys_by-without}
+use Rattle.quick_cache_laws.proofs.Valid.Orders.{all-permutation, SameButOrder-keys}
 use Rattle.quick_cache_model.proofs.LookupLaws.{at_least}
 use Rattle.quick_cache_laws.proofs.Calls.Queries.{keys_by-query}
 use Rattle.quick_cache_laws.proofs.Valid.Edits.{keys_by-unloaded}
@@ -70,13 +71,17 @@ module _ {K V : Type 0} (equal : K → K → Bool) (stands_for : K → Bool)
   none_to_give hash old _ _ none (Removes.of_ghost before after no_key split) = refl
   none_to_give hash old _ _ none (Removes.of_nothing nothing) = refl
 
-  -- so a second removal gives nothing
+  -- so a second removal gives nothing, whatever order the first left
   pub Removes-second : (hash : ℕ) (old mid new : CacheState K V) (first second : Option (K × V))
       → IsValid equal old
-      → Removes stands_for old hash first mid → Removes stands_for mid hash second new
+      → UpToOrder (λ state. Removes stands_for old hash first state) mid
+      → UpToOrder (λ state. Removes stands_for mid hash second state) new
       → second ≡ None
   Removes-second hash old mid new first second valid removes again =
-      none_to_give hash mid new second (Removes-keys hash old mid first removes valid) again
+      none_to_give hash mid again.ordered second
+      (SameButOrder-keys stands_for removes.ordered mid removes.same
+      ∙ Removes-keys hash old removes.ordered first removes.holds valid)
+      again.holds
 
 module _ {X : Type 0} (test : X → Bool) where
   -- what passes a test passes it again
@@ -94,22 +99,65 @@ module _ {X : Type 0} (test : X → Bool) where
       go true passes same = filter-pass x (filter test xs) passes ∙ ap (λ l. x ∷ l) same
       go false fails same = same
 
--- a second retain by the same test removes nothing
+  -- what a filter keeps passes
+  passes-filter : (xs : List X) → AllByRecursion (λ x. test x ≡ true) (filter test xs)
+  passes-filter [] = tt
+  passes-filter (x ∷ xs) = go (test x) refl (passes-filter xs)
+    where
+      go : (b : Bool) → test x ≡ b → AllByRecursion (λ x. test x ≡ true) (filter test xs)
+          → AllByRecursion (λ x. test x ≡ true) (cond b (x ∷ filter test xs) (filter test xs))
+      go true passes rest = (passes, rest)
+      go false fails rest = rest
+
+  -- a filter keeps all that pass
+  filter-passing : (xs : List X) → AllByRecursion (λ x. test x ≡ true) xs → filter test xs ≡ xs
+  filter-passing [] all = refl
+  filter-passing (x ∷ xs) all =
+      filter-pass x xs all.0 ∙ ap (λ l. x ∷ l) (filter-passing xs all.1)
+
+  -- so it keeps all that it kept before, in whatever order
+  pub filter-reordered : (xs ys : List X) → IsPermutation (filter test xs) ys → filter test ys ≡ ys
+  filter-reordered xs ys order =
+      filter-passing ys (all-permutation (λ x. test x ≡ true) (filter test xs) ys order
+      (passes-filter xs))
+
+-- a second retain by the same test removes nothing, whatever order the first left
 pub Retains-second : {K V : Type 0} (keeps : K → V → Bool) (old mid new : CacheState K V)
-    → Retains keeps old mid → Retains keeps mid new → new ≡ mid
+    → UpToOrder (λ state. Retains keeps old state) mid
+    → UpToOrder (λ state. Retains keeps mid state) new → SameButOrder mid new
 Retains-second {K} {V} keeps old mid new first second =
-    let test : Item K V → Bool = λ item. keeps item.key item.value in
-    second
-    ∙ ap (λ (s : CacheState K V). record s {
-      hot = retained keeps s.hot;
-      cold =
-          retained keeps s.cold;
-      still = retained keeps s.still;
-    }) first
-    ∙ (λ i. record old {
-      hot = filter-filter test old.hot i;
-      cold =
-          filter-filter test old.cold i;
-      still = filter-filter test old.still i;
-    })
-    ∙ sym first
+    subst (λ (s : CacheState K V). SameButOrder s new) (second.holds ∙ keeps_all) second.same
+  where
+    -- what the first left, but for the order of what has none
+    left : mid ≡ record old {
+      hot = retained keeps old.hot;
+      cold = retained keeps old.cold;
+      still = mid.still;
+      loading = mid.loading;
+    }
+    left = first.same.same
+        ∙ ap (λ (s : CacheState K V). record s { still = mid.still; loading = mid.loading })
+        first.holds
+
+    hot : mid.hot ≡ retained keeps old.hot
+    hot = ap (λ (s : CacheState K V). s.hot) left
+
+    cold : mid.cold ≡ retained keeps old.cold
+    cold = ap (λ (s : CacheState K V). s.cold) left
+
+    still : IsPermutation (retained keeps old.still) mid.still
+    still = subst (λ (l : List (Item K V)). IsPermutation l mid.still)
+        (ap (λ (s : CacheState K V). s.still) first.holds) first.same.still
+
+    keeps_all : record mid {
+      hot = retained keeps mid.hot;
+      cold = retained keeps mid.cold;
+      still = retained keeps mid.still;
+    } ≡ mid
+    keeps_all i = record mid {
+      hot = (ap (retained keeps) hot ∙ filter-filter (λ (x : Item K V). keeps x.key x.value) old.hot
+          ∙ sym hot) i;
+      cold = (ap (retained keeps) cold
+          ∙ filter-filter (λ (x : Item K V). keeps x.key x.value) old.cold ∙ sym cold) i;
+      still = filter-reordered (λ (x : Item K V). keeps x.key x.value) old.still mid.still still i;
+    }
