@@ -15,3 +15,4 @@ pub mod PutLemmas
 pub mod LeaveLemmas
 pub mod MoveLemmas
 pub mod NextLemmas
+pub mod CallerLemmas

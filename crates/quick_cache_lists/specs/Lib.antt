@@ -2,3 +2,4 @@ pub mod Slots
 pub mod Lists
 pub mod Sound
 pub mod Frames
+pub mod Views
