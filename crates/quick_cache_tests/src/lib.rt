@@ -1,4 +1,4 @@
-//! Tests of the crates together, and of what no contract says.
+//! Tests of the cache: its traits, one shard, the cache for one thread, and callers that keep texts.
 #![tactic(auto)]
 
 #[cfg(test)]
@@ -7,19 +7,7 @@ pub mod halves;
 #[cfg(test)]
 mod laws;
 #[cfg(test)]
-mod linked_slab;
-#[cfg(test)]
-mod options;
-#[cfg(test)]
-mod protocol;
-#[cfg(test)]
-mod ration;
-#[cfg(test)]
-mod refused_growths;
-#[cfg(test)]
 mod shard;
-#[cfg(test)]
-mod table;
 #[cfg(test)]
 mod traits;
 #[cfg(test)]
