@@ -5,3 +5,15 @@ pub mod Lent
 pub mod CacheStep
 pub mod CacheRun
 pub use Rattle.quick_cache_shard.specs.Shard
+pub use Rattle.quick_cache_shard.specs.Copies
+pub use Rattle.quick_cache_model.specs.Hashing
+pub use Rattle.quick_cache_model.specs.CacheState
+pub use Rattle.quick_cache_model.specs.Hooks
+pub use Rattle.quick_cache_model.specs.Finding
+pub use Rattle.quick_cache_model.specs.Eviction
+pub use Rattle.quick_cache_model.specs.Admission
+pub use Rattle.quick_cache_model.specs.Writes
+pub use Rattle.quick_cache_model.specs.Lookups
+pub use Rattle.quick_cache_model.specs.Removal
+pub use Rattle.quick_cache_model.specs.Sizes
+pub use Rattle.quick_cache_model.specs.Refusals

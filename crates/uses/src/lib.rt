@@ -3,5 +3,6 @@
 
 pub mod borrowed;
 pub mod listener;
+pub mod promises;
 pub mod runs;
 pub mod weigher;

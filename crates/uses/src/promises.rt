@@ -1,0 +1,38 @@
+//! Callers with contracts of their own, in the words of the cache's definitions.
+ghost use Rattle.quick_cache_unsync.specs.Lookups.{Sees};
+ghost use Rattle.quick_cache_unsync.specs.Shard.{IsPlainCache};
+
+use quick_cache_unsync::{Cache, Lifecycle, Refusal, Weighter};
+use std::hash::{BuildHasher, Hash};
+
+/// The number under a key. Nothing changes.
+pub fn number_under<K: Eq + Hash>(cache: &Cache<K, u64>, key: &K) -> Option<u64>
+    ensures sees { Sees (K.eq key.now) cache.now.state (λ item. item.value) result }
+{
+    cache.peek(key).copied()
+}
+
+/// Puts a zero under a key, in a cache of any weigher that weighs 1 and any lifecycle that pins nothing.
+pub fn put_zero<K: Eq + Hash + Drop, We: Weighter<K, u64>, B: BuildHasher, L: Lifecycle<K, u64>>(
+    cache: &mut Cache<K, u64, We, B, L>,
+    key: K,
+) -> Result<(), Refusal>
+    requires plain { IsPlainCache We.Weighter L.Lifecycle cache.old }
+{
+    cache.insert(key, 0).map_err(|(_, _, refusal)| refusal)
+}
+
+#[cfg(test)]
+mod tests {
+    use super::*;
+    use std::test::Fail;
+
+    #[test]
+    fn a_zero_that_was_put_is_seen(rt: HostRuntime) -> Result<(), Fail> {
+        let mut cache: Cache<&str, u64> = Cache::new(rt.alloc(), 5)?;
+        put_zero(&mut cache, "square")?;
+        assert_eq!(rt; number_under(&cache, &"square"), Some(0));
+        assert_eq!(rt; number_under(&cache, &"circle"), None);
+        Ok(())
+    }
+}
