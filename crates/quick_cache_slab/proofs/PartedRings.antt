@@ -62,6 +62,7 @@ module _ {T : Type 0} where
   IsParted-of slots nexts prevs first room few s = record {
     few = few;
     ring_each = length-rings_of slots nexts;
+    within = λ t taken. taken_within slots t taken;
     ringless = λ t none. at_token-rings_of slots nexts t ∙ ring_at-free slots nexts t (ap is_some none);
     free_all = λ t positive within none. rw (free_is slots nexts prevs first s) (s.are_free.all t positive within (ap is_some none));
     begins = λ t taken. let ring = s.linked.rings.ring t taken in (ring.0, at_token-rings_of slots nexts t ∙ ring_at-is slots nexts t ring.0 ring.1);

@@ -155,10 +155,12 @@ module _ {T : Type 0} where
 
   -- What always holds of a slab. The rings part the occupied tokens: each is in the list of its own
   -- ring, which begins with it and has each token once, and the list of a member is the same ring,
-  -- begun at that member. A free token has no ring, and is in the list of free tokens once.
+  -- begun at that member. A free token has no ring, and is in the list of free tokens once. Slots
+  -- and room are never more than a slab can have.
   pub record IsParted (slab : LinkedSlab T) : Type 0 where
     pub few : length slab.slots + slab.room ≤ 4294967294
     pub ring_each : length slab.rings ≡ length slab.slots
+    pub within : (token : ℕ) → IsOccupied slab token → (0 < token) × (token ≤ length slab.slots)
     pub begins : (token : ℕ) → IsOccupied slab token
         → (rest : List ℕ) × (ring_from slab token ≡ token ∷ rest)
     pub ringless : (token : ℕ) → item_at slab token ≡ None → ring_from slab token ≡ []

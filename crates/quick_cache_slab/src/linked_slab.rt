@@ -6,18 +6,20 @@ ghost use Rattle.quick_cache_slab.specs.SlabEdits.{PlacesItem, LinksToken, Unlin
 
 mod counts;
 mod drain;
+mod growth;
 mod item;
 mod iter;
 mod links;
 mod unchecked;
 
 pub use drain::Drain;
+use growth::make_room;
 pub use item::ItemMut;
 pub use iter::{Iter, IterFrom};
-use links::{Node, fill, is_occupied, link, next_of, unlink, vacate};
+use links::{Node, fill, is_occupied, link, unlink, vacate};
 use quick_cache_model::Refusal;
 pub use quick_cache_model::Token;
-use std::alloc::{AllocError, Allocator, Global};
+use std::alloc::{Allocator, Global};
 use std::marker::Model;
 
 /// How many slots there may be.
@@ -59,25 +61,6 @@ fn past(len: usize) -> Token
     Token::MIN.saturating_add(len as u32)
 }
 
-// Makes room for so many more slots where there is less.
-fn make_room<T, A: Allocator>(
-    nodes: &mut Vec<Node<T>, A>,
-    additional: usize,
-) -> Result<(), AllocError>
-    ensures items { nodes.new.items ≡ nodes.old.items }
-    ensures len { vec_len nodes.new ≡ vec_len nodes.old }
-    ensures ok { OnOk result (vec_len nodes.old + additional ≤ vec_capacity nodes.new) }
-    ensures capacity { vec_capacity nodes.old ≤ vec_capacity nodes.new }
-    ensures had_room { vec_len nodes.old + additional ≤ vec_capacity nodes.old
-        → IsOk result × (vec_capacity nodes.new ≡ vec_capacity nodes.old) }
-    ensures err { OnErr result (vec_capacity nodes.new ≡ vec_capacity nodes.old) }
-{
-    if additional <= nodes.capacity() - nodes.len() {
-        return Ok(());
-    }
-    nodes.reserve(additional)
-}
-
 impl<T, A: Allocator> LinkedSlab<T, A> {
     ghost use Rattle.std.specs.Borrow.{sem};
     ghost use Rattle.quick_cache_slab.specs.SlabLends.{held_lender, held_slab, held_token, lends_item, rests_if_free};
@@ -100,48 +83,6 @@ impl<T, A: Allocator> LinkedSlab<T, A> {
             }),
             Err(_) => Err(Refusal::Memory),
         }
-    }
-
-    /// Makes room for so many more items, or for all that a slab can still have.
-    ///
-    /// Free slots count, so where these and the room suffice it asks for no memory. It reads at most
-    /// as many slots as are asked for. A refusal is for want of memory.
-    pub fn reserve(&mut self, additional: usize) -> Result<(), Refusal>
-        ensures kept { self.new ≡ record self.old { room = self.new.room } }
-        ensures room { OnOk result (min additional (left self.old) ≤ spare self.new) }
-        ensures grows { self.old.room ≤ self.new.room }
-        ensures parted { IsParted self.new }
-
-        // It is refused only where that room was missing. Where it was there, no more is made.
-        ensures succeeds { min additional (left self.old) ≤ spare self.old
-            → IsOk result × (self.new ≡ self.old) }
-        ensures memory { IfErr result (λ refused. refused ≡ Refusal.Memory) }
-        ensures unchanged { OnErr result (self.new ≡ self.old) }
-    {
-        let wanted = additional - self.free_up_to(additional);
-        let wanted = wanted.min(MAX_SLOTS - self.nodes.len());
-        match make_room(&mut self.nodes, wanted) {
-            Ok(()) => Ok(()),
-            Err(_) => Err(Refusal::Memory),
-        }
-    }
-
-    // How many slots are free, of so many that are looked for.
-    fn free_up_to(&self, most: usize) -> usize
-        ensures { result ≡ min most (length self.now.free) }
-    {
-        let nodes = self.nodes.as_slice();
-        let mut token = self.next_free;
-        let mut found = 0;
-        while found < most && token.get() as usize <= nodes.len() {
-            found += 1;
-            let link = next_of(nodes, token);
-            if link.get() == token.get() {
-                return found;
-            }
-            token = link;
-        }
-        found
     }
 
     /// Stores an item, a ring of its own, under the token that was freed last, or under a new one.
