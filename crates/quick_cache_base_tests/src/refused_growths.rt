@@ -1,4 +1,5 @@
 //! Each allocation of the containers refused in turn: what they held stays, and the call succeeds once there is memory.
+use crate::table::put;
 use quick_cache_base::linked_slab::LinkedSlab;
 use quick_cache_base::{Refusal, Table, Token};
 use rationed::Rationed;
@@ -52,11 +53,7 @@ fn a_table_with_room_asks_for_no_memory(rt: HostRuntime) -> Result<(), Fail> {
     assert_eq!(rt; ration.left(), 0);
     for number in 1..=100 {
         let token = Token::new(number).expect(&rt, "a token is not 0");
-        assert!(rt; table.reserve(1).is_ok());
-        if table.find(7, |other| other == token).is_none() {
-            table.insert_reserved(7, token);
-        }
-        assert!(rt; table.reserve(0).is_ok());
+        assert!(rt; put(&mut table, 7, token).is_ok());
     }
     assert_eq!(rt; table.len(), 100);
     assert!(rt; table.reserve(1000) == Err(Refusal::Memory));

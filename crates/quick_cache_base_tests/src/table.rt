@@ -1,5 +1,6 @@
 //! The table: a row of calls, many pairs of one hash, room that comes back, and refused growths.
 use quick_cache_base::{Refusal, Table, Token};
+use std::alloc::Allocator;
 use std::process::Abort;
 use std::test::Fail;
 
@@ -7,13 +8,23 @@ fn token(rt: &impl Abort, number: u32) -> Token {
     Token::new(number).expect(rt, "a token is not 0")
 }
 
+// As many pairs as there are tokens.
+const MOST_PAIRS: usize = 4_294_967_294;
+
 // A hash of its own for each number, all its bits in use.
 fn spread(number: u32) -> u64 {
     u64::from(number).wrapping_mul(0x9E37_79B9_7F4A_7C15)
 }
 
 // Puts the pair into the table, unless it is there.
-fn put(table: &mut Table, hash: u64, token: Token) -> Result<(), Refusal> {
+pub(crate) fn put<A: Allocator>(
+    table: &mut Table<A>,
+    hash: u64,
+    token: Token,
+) -> Result<(), Refusal> {
+    if table.len() == MOST_PAIRS {
+        return Err(Refusal::SlotsFull);
+    }
     table.reserve(1)?;
     if table.find(hash, |other| other == token).is_none() {
         table.insert_reserved(hash, token);

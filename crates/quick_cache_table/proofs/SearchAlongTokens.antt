@@ -5,7 +5,7 @@ use Rattle.std.specs.Int.NonZero.{non_zero_u32_get}
 use Rattle.std.proofs.lemmas.Bool.{eq-eqb}
 use Rattle.std.proofs.lemmas.Bool.Decides.{eqb_tells}
 use Rattle.std.proofs.lemmas.List.Sums.{sum_by-cons}
-use Rattle.quick_cache_table.specs.Table.{Table, HasPair, has_pair, SearchesAlong, ComputesTest, SearchesHash, FindsPassing}
+use Rattle.quick_cache_table.specs.Table.{Table, HasPair, has_pair, SearchesAlong, CallsKeep, AnswersSo, FindsByAnswer, ComputesTest, SearchesHash, FindsPassing}
 use Rattle.quick_cache_table.proofs.CountedPlaces.{bool_tells, bit}
 
 some-injective : (x y : NonZeroU32) → Some x ≡ Some y → x ≡ y
@@ -65,6 +65,47 @@ module _ {F : Type 0} (step : F → NonZeroU32 → Bool → F → Type 0) where
             (subst P (tests.keeps shown false next called) later) token
             (omega (arith, some, counted, ap bit t.0))
       ]
+
+  -- where calls keep f, a search that found a token had true for it
+  SearchesAlong-answered : (f : F) (tokens : List ℕ) (token : NonZeroU32) → CallsKeep step f
+      → SearchesAlong step f tokens (Some token) → AnswersSo step f (non_zero_u32_get token) true
+  SearchesAlong-answered f [] token keeps search_along = absurd (cc)
+  SearchesAlong-answered f (first ∷ rest) token keeps (shown, true, next, at, called, ended) =
+      let kept : next ≡ f = keeps shown true next called in
+      let P : F → Type 0 = λ g. step f shown true g in
+      (shown, ap non_zero_u32_get (some-injective shown token (sym ended)), subst P kept called)
+  SearchesAlong-answered f (first ∷ rest) token keeps (shown, false, next, at, called, later) =
+      let P : F → Type 0 = λ g. SearchesAlong step g rest (Some token) in
+      SearchesAlong-answered f rest token keeps (subst P (keeps shown false next called) later)
+
+  -- and one that found none had false for each
+  SearchesAlong-refused : (f : F) (tokens : List ℕ) → CallsKeep step f
+      → SearchesAlong step f tokens None → (token : ℕ) → 0 < count_by (λ k. eqb k token) tokens
+      → AnswersSo step f token false
+  SearchesAlong-refused f [] keeps search_along token some = absurd (omega (arith, some))
+  SearchesAlong-refused f (first ∷ rest) keeps (shown, true, next, at, called, ended) token some =
+      absurd (cc)
+  SearchesAlong-refused f (first ∷ rest) keeps (shown, false, next, at, called, later) token some =
+      let kept : next ≡ f = keeps shown false next called in
+      let P : F → Type 0 = λ g. SearchesAlong step g rest None in
+      let Q : F → Type 0 = λ g. step f shown false g in
+      let counted = sum_by-cons (λ k. bit (eqb k token)) first rest in
+      elim (eqb_tells first token) [
+        | inl t ↦ (shown, at ∙ t.1, subst Q kept called)
+        | inr t ↦
+            SearchesAlong-refused f rest keeps (subst P kept later) token
+            (omega (arith, some, counted, ap bit t.0))
+      ]
+
+  -- a search along the tokens of a hash finds by the answers
+  pub FindsByAnswer-from_search : (table : Table) (hash : ℕ) (f : F) (result : Option NonZeroU32)
+      → CallsKeep step f → SearchesHash step table hash f result
+      → FindsByAnswer step table hash f result
+  FindsByAnswer-from_search table hash f None keeps (tokens, are, along) =
+      λ token has. SearchesAlong-refused f tokens keeps along token
+      (omega (arith, are token, ap bit has))
+  FindsByAnswer-from_search table hash f (Some token) keeps (tokens, are, along) =
+      SearchesAlong-answered f tokens token keeps along
 
   -- a token that a search ended at is one of those that it was led along
   SearchesAlong-has : (f : F) (tokens : List ℕ) (token : NonZeroU32)

@@ -1,6 +1,7 @@
 -- What a contract sees of a `Table`: a set of pairs of a hash and a token.
 use Rattle.std.specs.Prelude.{◌≡◌, ℕ, ◌+◌, ◌-◌, min, Bool, true, false, ◌&&◌, ◌||◌, ◌==◌, nat_lt, if◌then◌else◌, IsTrue, List, [], ◌∷◌, length, count_by, Option, Some, None, refl}
 use Rattle.std.specs.Bool.{MatchBool}
+use Rattle.std.specs.Option.{MatchOption}
 use Rattle.std.specs.List.{list_any}
 use Rattle.std.specs.Coded.{Coded, code_by, coded×, coded_ℕ, coded_list}
 use Rattle.std.specs.Int.NonZero.{non_zero_u32_get}
@@ -95,6 +96,19 @@ module _ {F : Type 0} (step : F → NonZeroU32 → Bool → F → Type 0) where
   abbrev pub CallsKeep : F → Type 0
   CallsKeep f =
       (shown : NonZeroU32) (answer : Bool) (next : F) → step f shown answer next → next ≡ f
+
+  -- f answers so for the token
+  abbrev pub AnswersSo : F → ℕ → Bool → Type 0
+  AnswersSo f token answer =
+      (shown : NonZeroU32) × (non_zero_u32_get shown ≡ token) × step f shown answer f
+
+  -- the result is a token of that hash for which f answers true, or nothing, and then f answers
+  -- false for each token of that hash
+  abbrev pub FindsByAnswer : Table → ℕ → F → Option NonZeroU32 → Type 0
+  FindsByAnswer table hash f result =
+      MatchOption result
+      ((token : ℕ) → HasPair table hash token → AnswersSo f token false)
+      (λ token. AnswersSo f (non_zero_u32_get token) true)
 
   -- f was shown tokens of that hash, each at most once, until it answered true, or else all of them
   abbrev pub SearchesHash : Table → ℕ → F → Option NonZeroU32 → Type 0

@@ -2,7 +2,7 @@
 ghost use Rattle.std.specs.Prelude.{◌≡◌, ℕ, Bool, ◌+◌, ◌-◌, ◌^◌, ◌<◌, ◌≤◌, ◌↔◌, [], min, IsTrue, IsOk, IfOk, IfErr, OnOk, OnErr, IfSome};
 ghost use Rattle.std.specs.Bool.{OnTrue, OnFalse};
 ghost use Rattle.std.specs.Int.NonZero.{non_zero_u32_get};
-ghost use Rattle.quick_cache_table.specs.Table.{HasPair, pair_count, AddsPair, RemovesPair, IsTokensOf, SearchesHash, ComputesTest, FindsPassing, wanted_room};
+ghost use Rattle.quick_cache_table.specs.Table.{HasPair, pair_count, AddsPair, RemovesPair, IsTokensOf, SearchesHash, CallsKeep, FindsByAnswer, ComputesTest, FindsPassing, wanted_room};
 
 pub(crate) mod groups;
 pub(crate) mod tokens;
@@ -212,6 +212,7 @@ impl<A: Allocator> Table<A> {
         requires { F.IsAlwaysCallable is_it }
         ensures found { IfSome result (λ token. HasPair self.now hash (non_zero_u32_get token)) }
         ensures searches { SearchesHash F.step self.now hash is_it result }
+        ensures answers { CallsKeep F.step is_it → FindsByAnswer F.step self.now hash is_it result }
         ensures decides { (passes : ℕ → Bool) → ComputesTest F.step is_it passes
             → FindsPassing self.now hash passes result }
     {

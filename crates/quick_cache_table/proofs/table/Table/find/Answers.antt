@@ -3,7 +3,7 @@ use Rattle.quick_cache_table.specs.Table.{Table, IsTokensOf, SearchesAlong}
 use Rattle.std.specs.Vec.{vec_len}
 use Rattle.std.proofs.lemmas.Bool.{eqb-true}
 use Rattle.quick_cache_table.proofs.ShownPairs.{IsTokensOf-none}
-use Rattle.quick_cache_table.proofs.SearchAlongTokens.{SearchesAlong-on, SearchesAlong-ends, FindsPassing-from_search, HasPair-from_search}
+use Rattle.quick_cache_table.proofs.SearchAlongTokens.{SearchesAlong-on, SearchesAlong-ends, FindsPassing-from_search, FindsByAnswer-from_search, HasPair-from_search}
 use Rattle.quick_cache_table.proofs.table.Table.find.Given as given
 use Rattle.quick_cache_table.proofs.table.Table.find.Goals as goal
 
@@ -69,7 +69,8 @@ returns-then-is_empty-clause-searches g c =
     let none : length c.self.inside.reaches.items ≡ 0 = omega (arith, empty) in (
       [],
       IsTokensOf-none c.args.self.now c.self.inside.tags.items c.self.inside.places.items
-          c.self.inside.reaches.items c.self.inside.mask c.args.hash shows c.self.invariant.whole none,
+          c.self.inside.reaches.items c.self.inside.mask c.args.hash shows c.self.invariant.whole
+          none,
       refl,
     )
 
@@ -77,3 +78,18 @@ pub returns-then-is_empty-clause-decides : goal.returns-then-is_empty-clause-dec
 returns-then-is_empty-clause-decides g c = λ passes tests.
     FindsPassing-from_search (given.F-step g) c.args.self.now c.args.hash c.args.is_it passes None
     tests (returns-then-is_empty-clause-searches g c)
+
+pub returns-then-is_it-clause-answers : goal.returns-then-is_it-clause-answers
+returns-then-is_it-clause-answers g c = λ keeps.
+    FindsByAnswer-from_search (given.F-step g) c.args.self.now c.args.hash c.args.is_it
+    (Some c.in-Some.token) keeps (returns-then-is_it-clause-searches g c)
+
+pub returns-clause-answers : goal.returns-clause-answers
+returns-clause-answers g c = λ keeps.
+    FindsByAnswer-from_search (given.F-step g) c.args.self.now c.args.hash c.args.is_it None
+    keeps (returns-clause-searches g c)
+
+pub returns-then-is_empty-clause-answers : goal.returns-then-is_empty-clause-answers
+returns-then-is_empty-clause-answers g c = λ keeps.
+    FindsByAnswer-from_search (given.F-step g) c.args.self.now c.args.hash c.args.is_it None
+    keeps (returns-then-is_empty-clause-searches g c)
