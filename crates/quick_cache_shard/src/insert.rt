@@ -73,10 +73,10 @@ impl<K: Eq + Hash + Drop, V: Drop, P: SharedPlaceholder<K>, A: Allocator> Rings<
         if !strategy.makes_items() {
             return None;
         }
-        if self.hot.len() + self.cold.len() + self.ghosts.len() >= SLOT_COUNT {
+        if self.entries() >= SLOT_COUNT {
             return Some(Refusal::SlotsFull);
         }
-        if !self.grow() {
+        if !self.grow(1) {
             return Some(Refusal::Memory);
         }
         None

@@ -1,5 +1,5 @@
 //! The shard: its calls, and what a contract sees of it.
-ghost use Rattle.std.specs.Prelude.{◌≡◌, IfOk, IfErr, IsOk, MatchOption, option_copied, ◌≤◌, ◌+◌, OnErr, Some};
+ghost use Rattle.std.specs.Prelude.{◌≡◌, IfOk, IfErr, IsOk, MatchOption, option_copied, ◌≤◌, ◌+◌, OnErr, Some, min, ◌-◌, OnOk};
 ghost use Rattle.std.specs.Bool.{OnTrue, OnFalse};
 ghost use Rattle.std.specs.Borrow.{sem};
 ghost use Rattle.std.specs.Option.{option_map};
@@ -14,13 +14,14 @@ ghost use Rattle.quick_cache_model.specs.Sizes.{hot_target_of, ghost_limit_of};
 ghost use Rattle.quick_cache_shard.specs.Copies.{ClonesAreEqual, IsCopyOf};
 ghost use Rattle.quick_cache_shard.specs.Places.{IsLookedUp, IsMissed, IsPlaced, IsKeyAt, IsValueAt};
 ghost use Rattle.quick_cache_shard.specs.Shard.{rules_of, hooks_of, strategy_of, Answers, UpToOrder, IsPlainCache, IsSoundShard, HasItem, no_work};
+ghost use Rattle.quick_cache_model.specs.Refusals.{slots_taken, slot_count};
 
 use crate::find::Location;
 use crate::insert::InsertStrategy;
 use crate::lists::look_up_at;
 use crate::placeholder::SharedPlaceholder;
 use crate::policy::Terms;
-use crate::rings::Rings;
+use crate::rings::{Rings, SLOT_COUNT};
 use quick_cache_base::sizes::{ghost_limit, hot_target};
 use quick_cache_model::{Equivalent, Lifecycle, Queue, Refusal, Weighter, hash_of};
 use std::alloc::{Allocator, Global};
@@ -157,6 +158,31 @@ impl<K: Eq + Hash, V, We, B: BuildHasher, L, P: SharedPlaceholder<K>, A: Allocat
                 lifecycle,
             },
         })
+    }
+
+    /// Makes room for so many more entries, and for the ghosts that as many inserts can leave, so that they ask for no
+    /// memory; or for all entries that there can still be.
+    ///
+    /// # Errors
+    ///
+    /// `Memory` where there is not enough. Room that was already made may stay, and nothing else has changed.
+    pub fn reserve(&mut self, additional: usize) -> Result<(), Refusal>
+        ensures room { OnOk result (min additional (slot_count - slots_taken self.old.state)
+            ≤ self.new.room) }
+        ensures grows { self.old.room ≤ self.new.room }
+
+        // Where there is that room already it succeeds.
+        ensures succeeds { min (additional + min additional self.old.state.ghost_limit)
+            (slot_count - slots_taken self.old.state) ≤ self.old.room → IsOk result }
+        ensures refused { IfErr result (λ refusal. refusal ≡ Memory) }
+        ensures same { self.new ≡ record self.old { room = self.new.room } }
+    {
+        let left = SLOT_COUNT - self.rings.entries();
+        let with_ghosts = additional.saturating_add(additional.min(self.rings.ghost_limit));
+        if !self.rings.grow(with_ghosts.min(left)) {
+            return Err(Refusal::Memory);
+        }
+        Ok(())
     }
 
     /// The hash of a key or a query, as the calls below are handed it.

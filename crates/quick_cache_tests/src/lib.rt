@@ -7,6 +7,8 @@ pub mod halves;
 #[cfg(test)]
 mod laws;
 #[cfg(test)]
+mod reserved;
+#[cfg(test)]
 mod shard;
 #[cfg(test)]
 mod traits;

@@ -1,5 +1,5 @@
 //! The cache for one thread.
-ghost use Rattle.std.specs.Prelude.{◌≡◌, ◌≤◌, ◌+◌, ◌^◌, ◌-◌, ◌↔◌, min, IsTrue, IfOk, IfErr, IsOk, option_copied};
+ghost use Rattle.std.specs.Prelude.{◌≡◌, ◌≤◌, ◌+◌, ◌^◌, ◌-◌, ◌↔◌, min, IsTrue, IfOk, IfErr, IsOk, option_copied, OnOk};
 ghost use Rattle.std.specs.Borrow.{sem};
 ghost use Rattle.quick_cache_model.specs.declared.refusal.Refusal.TheVariants.{Memory};
 ghost use Rattle.quick_cache_model.specs.CacheState.{empty_state, item_count, total_weight};
@@ -13,6 +13,7 @@ ghost use Rattle.quick_cache_shard.specs.Copies.{ClonesAreEqual, IsCopyOf};
 ghost use Rattle.quick_cache_shard.specs.Shard.{no_work, rules_of, hooks_of, HasItem, IsPlainCache, IsSoundShard, UpToOrder};
 ghost use Rattle.quick_cache_unsync.specs.Inserts.{Inserts, InsertsAlone};
 ghost use Rattle.quick_cache_unsync.specs.Touches.{no_touches};
+ghost use Rattle.quick_cache_model.specs.Refusals.{slots_taken, slot_count};
 
 use crate::lifecycle::DefaultLifecycle;
 use crate::placeholder::Placeholder;
@@ -152,6 +153,27 @@ impl<K: Eq + Hash, V, We, B: BuildHasher, L, A: Allocator> Cache<K, V, We, B, L,
         Ok(Cache {
             shard: self.shard.try_clone()?,
         })
+    }
+
+    /// Makes room for so many more entries, and for the ghosts that as many inserts can leave, so
+    /// that they ask for no memory; or for all entries that there can still be. It changes nothing
+    /// else.
+    ///
+    /// # Errors
+    ///
+    /// `Memory` where there is not enough. Room that was already made may stay.
+    pub fn reserve(&mut self, additional: usize) -> Result<(), Refusal>
+        ensures room { OnOk result (min additional (slot_count - slots_taken self.old.state)
+            ≤ self.new.room) }
+        ensures grows { self.old.room ≤ self.new.room }
+
+        // Where there is that room already it succeeds.
+        ensures succeeds { min (additional + min additional self.old.state.ghost_limit)
+            (slot_count - slots_taken self.old.state) ≤ self.old.room → IsOk result }
+        ensures refused { IfErr result (λ refusal. refusal ≡ Memory) }
+        ensures same { self.new ≡ record self.old { room = self.new.room } }
+    {
+        self.shard.reserve(additional)
     }
 
     /// The shard that holds all, for reading.

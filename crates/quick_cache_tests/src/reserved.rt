@@ -1,0 +1,47 @@
+//! Room that was reserved: so many inserts ask for no memory, and a refused one can be made again.
+use quick_cache_unsync::{Cache, DefaultHashBuilder, DefaultLifecycle, Refusal, UnitWeighter};
+use rationed::Rationed;
+use std::alloc::Global;
+use std::test::Fail;
+
+type RationedCache<'a> = Cache<
+    u64,
+    u64,
+    UnitWeighter,
+    DefaultHashBuilder,
+    DefaultLifecycle<u64, u64>,
+    &'a Rationed<Global>,
+>;
+
+/// Inserts new keys up to the first that is refused, and gives that key.
+fn first_refused(cache: &mut RationedCache<'_>) -> Option<u64> {
+    for key in 100..1100 {
+        if cache.insert(key, key) == Err((key, key, Refusal::Memory)) {
+            return Some(key);
+        }
+    }
+    None
+}
+
+#[test]
+fn reserved_room_needs_no_memory(rt: HostRuntime) -> Result<(), Fail> {
+    let ration = Rationed::new(rt.alloc(), 100);
+    let mut cache: RationedCache<'_> = Cache::new(&ration, 1000)?;
+    assert_eq!(rt; cache.reserve(3), Ok(()));
+    ration.allow(0);
+    for key in 1..=3 {
+        assert_eq!(rt; cache.insert(key, key), Ok(()));
+    }
+    let Some(refused) = first_refused(&mut cache) else {
+        return Err(Fail::new("no insert was refused"));
+    };
+    let len = cache.len();
+    assert_eq!(rt; len as u64, refused.saturating_sub(97));
+    assert!(rt; !cache.contains_key(&refused));
+    assert_eq!(rt; cache.peek(&3).copied(), Some(3));
+    assert_eq!(rt; cache.reserve(1), Err(Refusal::Memory));
+    ration.allow(100);
+    assert_eq!(rt; cache.insert(refused, 7), Ok(()));
+    assert_eq!(rt; cache.peek(&refused).copied(), Some(7));
+    Ok(())
+}
