@@ -1,24 +1,26 @@
 -- An item that is written in its place.
-use Rattle.std.proofs.Common.{◌≡◌, ◌≢◌, ℕ, zero, suc, subst, ◌==◌, if◌then◌else◌, Bool, true, false, cond, eqb, List, map, length, Option, Some, None, IfSome, refl, sym, ap, ◌∙◌, inl, inr}
+use Rattle.std.proofs.Common.{◌≡◌, ◌≢◌, ◌<◌, ◌≤◌, ◌+◌, [], ◌∷◌, arith, ℕ, zero, suc, subst, ◌==◌, if◌then◌else◌, Bool, true, false, cond, eqb, List, map, length, Option, Some, None, IfSome, refl, sym, ap, ◌∙◌, inl, inr}
 use Rattle.std.specs.Int.NonZero.{non_zero_u32_get}
 use Rattle.std.specs.declared.num.NonZeroU32.{NonZeroU32 as Token}
 use Rattle.std.proofs.lemmas.Bool.{cases_eq}
 use Rattle.std.proofs.lemmas.List.{set-get_or}
 use Rattle.quick_cache_model.specs.CacheState.{Item}
-use Rattle.quick_cache_slab.specs.LinkedSlab.{LinkedSlab, at_token, with_token, item_at, next_token, with_item}
+use Rattle.quick_cache_slab.specs.LinkedSlab.{LinkedSlab, times, ring_from, at_token, with_token, item_at, next_token, with_item}
 use Rattle.quick_cache_table.specs.Table.{Table}
 use Rattle.quick_cache_slab.proofs.AtTokens.{at_token-with_same, at_token-with_other, length-with_token}
 use Rattle.quick_cache_lists.specs.declared.entry.Entry.TheVariants.{Item as item_variant}
 use Rattle.quick_cache_lists.specs.declared.entry.Slot.{Slot}
 use Rattle.quick_cache_lists.specs.declared.ring.Ring.{Ring}
 use Rattle.quick_cache_lists.specs.declared.rings.Rings.{Rings}
+use Rattle.quick_cache_slab.proofs.TokenCounts.{times-here, times-other}
+use Rattle.quick_cache_lists.specs.Frames.{ReweighsRing}
 use Rattle.quick_cache_lists.specs.Lists.{HeldItem, Lists, with_change, entry_count}
-use Rattle.quick_cache_lists.specs.Slots.{Stand, stand_of, weight_at, has_hash, item_of, still_of, loading_of, ghost_of, slot_changed, is_item}
-use Rattle.quick_cache_lists.specs.Sound.{gather, upto, tokens_of, lists_of, room_of, IsRingOf, IsKeyed, IsStanding, IsSound}
+use Rattle.quick_cache_lists.specs.Slots.{Stand, AmongHot, AmongCold, AmongStill, AmongLoading, AmongGhosts, stand_of, weight_at, has_hash, item_of, still_of, loading_of, ghost_of, slot_changed, is_item}
+use Rattle.quick_cache_lists.specs.Sound.{weigh, gather, upto, tokens_of, lists_of, room_of, IsRingOf, IsKeyed, IsStanding, IsSound}
 use Rattle.quick_cache_lists.proofs.CountLemmas.{entry_count-change}
 use Rattle.quick_cache_lists.proofs.GatherLemmas.{weigh-same, gather-changed, gather-neither}
 use Rattle.quick_cache_lists.proofs.SlabFrames.{occupied_within}
-use Rattle.quick_cache_lists.proofs.TakeLemmas.{named_item, named_still}
+use Rattle.quick_cache_lists.proofs.TakeLemmas.{not_ghosts, named_item, named_still}
 
 module _ {K V : Type 0} where
   abbrev held_with : ℕ → ℕ → Item K V → HeldItem K V
@@ -47,9 +49,9 @@ module _ {K V P T : Type 0} where
   abbrev pub written : (hash : ℕ) (item : Item K V) (t : ℕ) → LinkedSlab (Slot K V P T) → LinkedSlab (Slot K V P T)
   written hash item t old = with_item old t (record { hash = hash; entry = item_variant item })
 
-  module _ (old : LinkedSlab (Slot K V P T)) (t hash : ℕ) (item : Item K V) (change : Item K V → Item K V) (weight : (change item).weight ≡ item.weight) (queue : (change item).queue ≡ item.queue) (at : item_at old t ≡ Some (record { hash = hash; entry = item_variant item })) where
+  module _ (old : LinkedSlab (Slot K V P T)) (t hash : ℕ) (item : Item K V) (change : Item K V → Item K V) (heavy : ((change item).weight == 0) ≡ (item.weight == 0)) (queue : (change item).queue ≡ item.queue) (at : item_at old t ≡ Some (record { hash = hash; entry = item_variant item })) where
     stand_same : stand_of {K = K} {V = V} {P = P} {T = T} (Some (record { hash = hash; entry = item_variant (change item) })) ≡ stand_of {K = K} {V = V} {P = P} {T = T} (Some (record { hash = hash; entry = item_variant item }))
-    stand_same = rw (weight, queue) refl
+    stand_same = rw (heavy, queue) refl
 
     here : at_token (with_token old.slots t (Some (record { hash = hash; entry = item_variant (change item) }))) t None ≡ Some (record { hash = hash; entry = item_variant (change item) })
     here = let within = occupied_within old.slots t _ at in at_token-with_same old.slots t _ None within.0 within.1
@@ -67,8 +69,8 @@ module _ {K V P T : Type 0} where
       | inr differs ↦ ap says (others u differs)
     ]
 
-    IsRingOf-changed : (ring : Ring) (s : Stand) → IsRingOf old ring s → IsRingOf (written hash (change item) t old) ring s
-    IsRingOf-changed ring s is = record {
+    IsRingOf-changed : (change item).weight ≡ item.weight → (ring : Ring) (s : Stand) → IsRingOf old ring s → IsRingOf (written hash (change item) t old) ring s
+    IsRingOf-changed weight ring s is = record {
       headed = by_head ring.head is.headed;
       members = λ u some. alike stand_of stand_same u ∙ is.members u some;
       all = λ u stands. is.all u (sym (alike stand_of stand_same u) ∙ stands);
@@ -80,20 +82,23 @@ module _ {K V P T : Type 0} where
         by_head None headed = tt
         by_head (Some h) headed = alike stand_of stand_same (non_zero_u32_get h) ∙ headed
 
-    pub IsStanding-changed : (hot cold ghosts : Ring) → IsStanding old hot cold ghosts → IsStanding (written hash (change item) t old) hot cold ghosts
-    IsStanding-changed hot cold ghosts sound = record {
-      hot_ring = IsRingOf-changed hot _ sound.hot_ring;
-      cold_ring = IsRingOf-changed cold _ sound.cold_ring;
-      ghost_ring = IsRingOf-changed ghosts _ sound.ghost_ring;
+    pub IsStanding-changed : (change item).weight ≡ item.weight → (hot cold ghosts : Ring) → IsStanding old hot cold ghosts → IsStanding (written hash (change item) t old) hot cold ghosts
+    IsStanding-changed weight hot cold ghosts sound = record {
+      hot_ring = IsRingOf-changed weight hot _ sound.hot_ring;
+      cold_ring = IsRingOf-changed weight cold _ sound.cold_ring;
+      ghost_ring = IsRingOf-changed weight ghosts _ sound.ghost_ring;
       still = λ u stands. sound.still u (sym (alike stand_of stand_same u) ∙ stands);
       loading = λ u stands. sound.loading u (sym (alike stand_of stand_same u) ∙ stands);
     }
 
-    pub IsKeyed-changed : (table : Table) → IsKeyed old table → IsKeyed (written hash (change item) t old) table
-    IsKeyed-changed table keyed = record {
+    pub IsKeyed-changed : (change item).weight < 18446744073709551616 → (table : Table) → IsKeyed old table → IsKeyed (written hash (change item) t old) table
+    IsKeyed-changed light table keyed = record {
       pairs = λ h u. keyed.pairs h u ∙ sym (alike (has_hash h) refl u);
       few = rw long keyed.few;
-      light = λ u. rw (alike weight_at weight u) (keyed.light u);
+      light = λ u. elim (cases_eq u t) [
+        | inl is ↦ rw (is, here) light
+        | inr differs ↦ rw (others u differs) (keyed.light u)
+      ];
       counted = keyed.counted ∙ sym long;
     }
 
@@ -114,8 +119,8 @@ module _ {K V P T : Type 0} where
         gather-changed (λ h. h.token) (λ u. still_of u (item_at old u)) (λ u. still_of u (item_at (written hash (change item) t old) u)) t (λ y. record y { item = change y.item })
         (λ u y is. named_still u (item_at old u) y is)
         (λ u differs. ap (still_of u) (others u differs))
-        (λ y is. ap (still_of t) here ∙ still_some (item.weight == 0) ((change item).weight == 0) (ap (λ w. w == 0) weight) t hash item change y (sym (ap (still_of t) at) ∙ is))
-        (λ none. ap (still_of t) here ∙ still_none (item.weight == 0) ((change item).weight == 0) (ap (λ w. w == 0) weight) t hash item (change item) (sym (ap (still_of t) at) ∙ none))
+        (λ y is. ap (still_of t) here ∙ still_some (item.weight == 0) ((change item).weight == 0) heavy t hash item change y (sym (ap (still_of t) at) ∙ is))
+        (λ none. ap (still_of t) here ∙ still_none (item.weight == 0) ((change item).weight == 0) heavy t hash item (change item) (sym (ap (still_of t) at) ∙ none))
         tokens
 
     pub lists-changed : (table : Table) (hot cold ghosts : Ring) → lists_of (written hash (change item) t old) table hot cold ghosts ≡ with_change t change (lists_of old table hot cold ghosts)
@@ -130,17 +135,121 @@ module _ {K V P T : Type 0} where
         let room_is : room_of (written hash (change item) t old) table ≡ room_of old table = refl in
         λ i. record { hot = hot_is i; cold = cold_is i; still = still_is i; loading = loading_is i; ghosts = ghosts_is i; next = next_is i; room = room_is i }
 
-    pub IsSound-changed : (table : Table) (rings : Rings) (loading : ℕ) → IsSound old table rings loading → IsSound (written hash (change item) t old) table rings loading
-    IsSound-changed table rings loading sound =
+    pub IsSound-changed : (change item).weight ≡ item.weight → (table : Table) (rings : Rings) (loading : ℕ) → IsSound old table rings loading → IsSound (written hash (change item) t old) table rings loading
+    IsSound-changed weight table rings loading sound =
         let same = lists-changed table rings.hot rings.cold rings.ghosts in
         let before = lists_of old table rings.hot rings.cold rings.ghosts in
         let waiting = ap (λ (l : Lists K V P). length l.loading) same in
         let all = ap entry_count same in
         record {
-          standing = IsStanding-changed rings.hot rings.cold rings.ghosts sound.standing;
-          keyed = IsKeyed-changed table sound.keyed;
+          standing = IsStanding-changed weight rings.hot rings.cold rings.ghosts sound.standing;
+          keyed = IsKeyed-changed (omega (arith, weight, sound.keyed.light t, ap weight_at at)) table sound.keyed;
           loading_counted = sound.loading_counted ∙ sym waiting;
           all_counted = all ∙ entry_count-change t change before ∙ sound.all_counted;
+        }
+
+    -- ---- another weight, in the same list
+
+    module _ (single : (u w : ℕ) → times w (ring_from old u) ≤ 1) where
+      once_in : (o : Option Token) → times t (tokens_of old o) ≤ 1
+      once_in None = omega arith
+      once_in (Some h) = single (non_zero_u32_get h) t
+
+      weigh-one : (xs : List ℕ) → times t xs ≡ 1 → weigh (λ u. weight_at (item_at (written hash (change item) t old) u)) xs + item.weight ≡ weigh (λ u. weight_at (item_at old u)) xs + (change item).weight
+      weigh-one [] one = absurd (omega (arith, one))
+      weigh-one (x ∷ xs) one = elim (cases_eq x t) [
+        | inl is ↦
+            let out : times t xs ≡ 0 = omega (arith, one, ap (times t) (ap (λ (n : ℕ). n ∷ xs) is), times-here t xs) in
+            let rest = weigh-same (λ u. weight_at (item_at old u)) (λ u. weight_at (item_at (written hash (change item) t old) u)) xs (λ u some. ap weight_at (others u (λ e. omega (arith, some, subst (λ (w : ℕ). times w xs ≡ 0) (sym e) out)))) in
+            omega (arith, rest, ap (λ u. weight_at (item_at old u)) is, ap weight_at at, ap (λ u. weight_at (item_at (written hash (change item) t old) u)) is, ap weight_at here)
+        | inr differs ↦ omega (arith, weigh-one xs (omega (arith, one, times-other t x xs differs)), ap weight_at (others x differs))
+      ]
+
+      IsRingOf-own : (ring after : Ring) (s : Stand) → stand_of (item_at old t) ≡ Some s → after.head ≡ ring.head → after.count ≡ ring.count → after.weight + item.weight ≡ ring.weight + (change item).weight → IsRingOf old ring s → IsRingOf (written hash (change item) t old) after s
+      IsRingOf-own ring after s own head count weighs is =
+          let tokens : tokens_of old after.head ≡ tokens_of old ring.head = ap (tokens_of old) head in
+          record {
+            headed = rw head (by_head ring.head is.headed);
+            members = λ u some. alike stand_of stand_same u ∙ is.members u (rw tokens at some);
+            all = λ u stands. rw tokens (is.all u (sym (alike stand_of stand_same u) ∙ stands));
+            counted = count ∙ is.counted ∙ ap length (sym tokens);
+            weighed =
+                let one : times t (tokens_of old ring.head) ≡ 1 = omega (arith, is.all t own, once_in ring.head) in
+                let same = ap (weigh (λ u. weight_at (item_at (written hash (change item) t old) u))) tokens in
+                omega (arith, weigh-one (tokens_of old ring.head) one, weighs, is.weighed, same);
+          }
+        where
+          by_head : (o : Option Token) → IfSome o (λ head. stand_of (item_at old (non_zero_u32_get head)) ≡ Some s) → IfSome o (λ head. stand_of (item_at (written hash (change item) t old) (non_zero_u32_get head)) ≡ Some s)
+          by_head None headed = tt
+          by_head (Some h) headed = alike stand_of stand_same (non_zero_u32_get h) ∙ headed
+
+      IsRingOf-off : (ring : Ring) (s : Stand) → stand_of (item_at old t) ≢ Some s → IsRingOf old ring s → IsRingOf (written hash (change item) t old) ring s
+      IsRingOf-off ring s off is = record {
+        headed = by_head ring.head is.headed;
+        members = λ u some. alike stand_of stand_same u ∙ is.members u some;
+        all = λ u stands. is.all u (sym (alike stand_of stand_same u) ∙ stands);
+        counted = is.counted;
+        weighed = is.weighed ∙ sym (weigh-same (λ u. weight_at (item_at old u)) (λ u. weight_at (item_at (written hash (change item) t old) u)) (tokens_of old ring.head) (λ u some. ap weight_at (others u (λ e. off (subst (λ (w : ℕ). stand_of (item_at old w) ≡ Some s) e (is.members u some))))));
+      }
+        where
+          by_head : (o : Option Token) → IfSome o (λ head. stand_of (item_at old (non_zero_u32_get head)) ≡ Some s) → IfSome o (λ head. stand_of (item_at (written hash (change item) t old) (non_zero_u32_get head)) ≡ Some s)
+          by_head None headed = tt
+          by_head (Some h) headed = alike stand_of stand_same (non_zero_u32_get h) ∙ headed
+
+      off_of : (s r : Stand) → stand_of (item_at old t) ≡ Some s → s ≢ r → stand_of (item_at old t) ≢ Some r
+      off_of s r is differs same = differs (some_stand s r (sym is ∙ same))
+        where
+          some_stand : (a b : Stand) → Some a ≡ Some b → a ≡ b
+          some_stand a b e = cc
+
+      beside : {rings : Rings} {s : Stand} → stand_of (item_at old t) ≡ Some s → IsStanding old rings.hot rings.cold rings.ghosts → s ≢ AmongHot → s ≢ AmongCold → s ≢ AmongGhosts → IsStanding (written hash (change item) t old) rings.hot rings.cold rings.ghosts
+      beside {rings = rings} {s = s} is sound off_hot off_cold off_ghosts = record {
+        hot_ring = IsRingOf-off rings.hot AmongHot (off_of s AmongHot is off_hot) sound.hot_ring;
+        cold_ring = IsRingOf-off rings.cold AmongCold (off_of s AmongCold is off_cold) sound.cold_ring;
+        ghost_ring = IsRingOf-off rings.ghosts AmongGhosts (off_of s AmongGhosts is off_ghosts) sound.ghost_ring;
+        still = λ u stands. sound.still u (sym (alike stand_of stand_same u) ∙ stands);
+        loading = λ u stands. sound.loading u (sym (alike stand_of stand_same u) ∙ stands);
+      }
+
+      pub IsStanding-reweighed : (rings after : Rings) (s : Stand) → stand_of (item_at old t) ≡ Some s → ReweighsRing rings after item.weight (change item).weight s → IsStanding old rings.hot rings.cold rings.ghosts → IsStanding (written hash (change item) t old) after.hot after.cold after.ghosts
+      IsStanding-reweighed rings after AmongHot is same sound = rw (same.1) (record {
+        hot_ring = IsRingOf-own rings.hot (record rings.hot { weight = after.hot.weight }) AmongHot is refl refl same.0 sound.hot_ring;
+        cold_ring = IsRingOf-off rings.cold AmongCold (off_of AmongHot AmongCold is (λ e. cc)) sound.cold_ring;
+        ghost_ring = IsRingOf-off rings.ghosts AmongGhosts (off_of AmongHot AmongGhosts is (λ e. cc)) sound.ghost_ring;
+        still = λ u stands. sound.still u (sym (alike stand_of stand_same u) ∙ stands);
+        loading = λ u stands. sound.loading u (sym (alike stand_of stand_same u) ∙ stands);
+      })
+      IsStanding-reweighed rings after AmongCold is same sound = rw (same.1) (record {
+        hot_ring = IsRingOf-off rings.hot AmongHot (off_of AmongCold AmongHot is (λ e. cc)) sound.hot_ring;
+        cold_ring = IsRingOf-own rings.cold (record rings.cold { weight = after.cold.weight }) AmongCold is refl refl same.0 sound.cold_ring;
+        ghost_ring = IsRingOf-off rings.ghosts AmongGhosts (off_of AmongCold AmongGhosts is (λ e. cc)) sound.ghost_ring;
+        still = λ u stands. sound.still u (sym (alike stand_of stand_same u) ∙ stands);
+        loading = λ u stands. sound.loading u (sym (alike stand_of stand_same u) ∙ stands);
+      })
+      IsStanding-reweighed rings after AmongGhosts is same sound = absurd (not_ghosts (item.weight == 0) item.queue (some_stand (sym (ap stand_of at) ∙ is)))
+        where
+          some_stand : {a b : Stand} → Some a ≡ Some b → a ≡ b
+          some_stand e = cc
+      IsStanding-reweighed rings after AmongStill is same sound = rw same (beside is sound (λ e. cc) (λ e. cc) (λ e. cc))
+      IsStanding-reweighed rings after AmongLoading is same sound = rw same (beside is sound (λ e. cc) (λ e. cc) (λ e. cc))
+
+    -- no list changes but for the item
+    pub lists-reweighed : (table : Table) (rings after : Rings) (s : Stand) → ReweighsRing rings after item.weight (change item).weight s → lists_of (written hash (change item) t old) table after.hot after.cold after.ghosts ≡ with_change t change (lists_of old table rings.hot rings.cold rings.ghosts)
+    lists-reweighed table rings after AmongHot same = rw same.1 (lists-changed table rings.hot rings.cold rings.ghosts)
+    lists-reweighed table rings after AmongCold same = rw same.1 (lists-changed table rings.hot rings.cold rings.ghosts)
+    lists-reweighed table rings after AmongGhosts same = rw same (lists-changed table rings.hot rings.cold rings.ghosts)
+    lists-reweighed table rings after AmongStill same = rw same (lists-changed table rings.hot rings.cold rings.ghosts)
+    lists-reweighed table rings after AmongLoading same = rw same (lists-changed table rings.hot rings.cold rings.ghosts)
+
+    pub IsSound-reweighed : ((u w : ℕ) → times w (ring_from old u) ≤ 1) → (change item).weight < 18446744073709551616 → (table : Table) (rings after : Rings) (loading : ℕ) (s : Stand) → stand_of (item_at old t) ≡ Some s → ReweighsRing rings after item.weight (change item).weight s → IsSound old table rings loading → IsSound (written hash (change item) t old) table after loading
+    IsSound-reweighed single light table rings after loading s is reweighs sound =
+        let same = lists-reweighed table rings after s reweighs in
+        let before = lists_of old table rings.hot rings.cold rings.ghosts in
+        record {
+          standing = IsStanding-reweighed single rings after s is reweighs sound.standing;
+          keyed = IsKeyed-changed light table sound.keyed;
+          loading_counted = sound.loading_counted ∙ sym (ap (λ (l : Lists K V P). length l.loading) same);
+          all_counted = ap entry_count same ∙ entry_count-change t change before ∙ sound.all_counted;
         }
 
 module _ {S : Type 0} where

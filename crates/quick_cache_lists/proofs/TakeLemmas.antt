@@ -22,7 +22,7 @@ use Rattle.quick_cache_lists.proofs.SoundLemmas.{out_of_ring}
 use Rattle.quick_cache_lists.proofs.RemoveLemmas.{LeavesRing, LeavesRing-by, IsRingOf-left, IsRingOf-removed, AreAlone-removed, tokens-removed, view-dropped, view-other, view-left}
 
 -- no item stands among the ghosts
-not_ghosts : (weightless : Bool) (queue : Queue) → (if weightless then AmongStill else ring_stand queue) ≢ AmongGhosts
+pub not_ghosts : (weightless : Bool) (queue : Queue) → (if weightless then AmongStill else ring_stand queue) ≢ AmongGhosts
 not_ghosts true queue e = cc
 not_ghosts false Hot e = cc
 not_ghosts false Cold e = cc

@@ -104,6 +104,26 @@ LeavesRingOf rings left token next restarts weight AmongGhosts =
 LeavesRingOf rings left token next restarts weight AmongStill = left ≡ rings
 LeavesRingOf rings left token next restarts weight AmongLoading = left ≡ rings
 
+-- an item of that list has another weight: its ring, if it stands in one, weighs so much less and more
+abbrev pub ReweighsRing : Rings → Rings → ℕ → ℕ → Stand → Type 0
+ReweighsRing rings after from to AmongHot = (after.hot.weight + from ≡ rings.hot.weight + to)
+    × (after ≡ record rings { hot = record rings.hot { weight = after.hot.weight } })
+ReweighsRing rings after from to AmongCold = (after.cold.weight + from ≡ rings.cold.weight + to)
+    × (after ≡ record rings { cold = record rings.cold { weight = after.cold.weight } })
+ReweighsRing rings after from to AmongGhosts = after ≡ rings
+ReweighsRing rings after from to AmongStill = after ≡ rings
+ReweighsRing rings after from to AmongLoading = after ≡ rings
+
+-- a ring can weigh so much less and more
+abbrev pub CanReweigh : Rings → ℕ → ℕ → Stand → Type 0
+CanReweigh rings from to AmongHot = (from ≤ rings.hot.weight)
+    × (rings.hot.weight + to < 340282366920938463463374607431768211456)
+CanReweigh rings from to AmongCold = (from ≤ rings.cold.weight)
+    × (rings.cold.weight + to < 340282366920938463463374607431768211456)
+CanReweigh rings from to AmongGhosts = Unit {0}
+CanReweigh rings from to AmongStill = Unit {0}
+CanReweigh rings from to AmongLoading = Unit {0}
+
 -- the ring begins one further on
 pub record IsTurned {S : Type 0} (slab : LinkedSlab S) (ring turned : Ring) : Type 0 where
   pub counted : turned.count ≡ ring.count

@@ -1,6 +1,6 @@
 //! The three rings, chosen by the list of an entry.
 ghost use Rattle.std.specs.Prelude.{◌≡◌};
-ghost use Rattle.quick_cache_lists.specs.Frames.{CanEnter, EntersRing, CanLeaveRing, LeavesRingOf};
+ghost use Rattle.quick_cache_lists.specs.Frames.{CanEnter, EntersRing, CanLeaveRing, LeavesRingOf, CanReweigh, ReweighsRing};
 
 use crate::entry::Stand;
 use crate::ring::{Ring, join, leave};
@@ -74,6 +74,24 @@ impl Rings {
             Stand::AmongHot => leave(&mut self.hot, token, next, restarts, weight),
             Stand::AmongCold => leave(&mut self.cold, token, next, restarts, weight),
             Stand::AmongGhosts => leave(&mut self.ghosts, token, next, restarts, weight),
+            Stand::AmongStill => (),
+            Stand::AmongLoading => (),
+        }
+    }
+
+    /// Counts another weight of an item of that list, where its ring counts weights.
+    pub(crate) fn reweigh(&mut self, stand: Stand, from: u64, to: u64)
+        requires { CanReweigh self.old from to stand }
+        ensures { ReweighsRing self.old self.new from to stand }
+    {
+        match stand {
+            Stand::AmongHot => {
+                self.hot.weight = self.hot.weight - u128::from(from) + u128::from(to);
+            }
+            Stand::AmongCold => {
+                self.cold.weight = self.cold.weight - u128::from(from) + u128::from(to);
+            }
+            Stand::AmongGhosts => (),
             Stand::AmongStill => (),
             Stand::AmongLoading => (),
         }

@@ -22,7 +22,7 @@ invariant_of-self g c =
     let i = c.self.inside in
     let has = item_by_token i.slab i.table i.rings.hot i.rings.cold i.rings.ghosts (number c.args.token) (rw (← c.self.view_is) at c.requires) in
     let is = c.write.ensures.written ∙ (changed_slot _ c.get_mut_unchecked.result.0.now has.0 has.1 (with_pair c.args.key c.args.value) has.2 c.get_mut_unchecked.ensures.item).1 in
-    rw is (IsSound-changed i.slab (number c.args.token) has.0 has.1 (with_pair c.args.key c.args.value) refl refl has.2 i.table i.rings i.loading c.self.invariant)
+    rw is (IsSound-changed i.slab (number c.args.token) has.0 has.1 (with_pair c.args.key c.args.value) refl refl has.2 refl i.table i.rings i.loading c.self.invariant)
 
 pub returns-clause-written : goal.returns-clause-written
 returns-clause-written g c =
