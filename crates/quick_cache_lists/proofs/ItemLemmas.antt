@@ -9,7 +9,7 @@ use Rattle.quick_cache_lists.specs.declared.entry.Slot.{Slot}
 use Rattle.quick_cache_lists.specs.declared.ring.Ring.{Ring}
 use Rattle.quick_cache_lists.specs.declared.rings.Rings.{Rings}
 use Rattle.std.specs.declared.num.NonZeroU32.{NonZeroU32 as Token}
-use Rattle.quick_cache_lists.specs.Lists.{HeldItem, StandsIn, items_at, HasItemToken, HadPair}
+use Rattle.quick_cache_lists.specs.Lists.{HeldItem, StandsIn, items_at, HasItem, HasItemToken, HadPair}
 use Rattle.quick_cache_lists.specs.Slots.{HasPair, Stand, AmongHot, AmongCold, AmongGhosts, weight_at, item_of, still_of, loading_of, ghost_of}
 use Rattle.quick_cache_lists.specs.Sound.{weigh, gather, upto, tokens_of, lists_of, room_of, IsRingOf, IsStanding, IsSound}
 use Rattle.quick_cache_lists.proofs.GatherLemmas.{gather-from}
@@ -104,3 +104,28 @@ module _ {K V P T : Type 0} where
   had_pair slab table hot cold ghosts standing t hash item at slot is pair has =
       let same : slot.entry ≡ item_variant item = item_is (item_at slab t) slot hash item at is in
       (item, (hash, HasItem-from slab table hot cold ghosts standing t hash item at), subst (λ (e : Entry K V P T). HasPair e pair) same has)
+
+  slot_of_held : (u : ℕ) (o : Option (Slot K V P T)) (held : HeldItem K V) → item_of u o ≡ Some held → o ≡ Some (record { hash = held.hash; entry = item_variant held.item })
+  slot_of_held u None held is = absurd (cc)
+  slot_of_held u (Some slot) held is = by_entry slot.hash slot.entry is
+    where
+      by_entry : (hash : ℕ) (entry : Entry K V P T) → item_of u (Some (record { hash = hash; entry = entry })) ≡ Some held → ◌≡◌ {A = Option (Slot K V P T)} (Some (record { hash = hash; entry = entry })) (Some (record { hash = held.hash; entry = item_variant held.item }))
+      by_entry hash (item_variant item) e = let same : record { token = u; hash = hash; item = item } ≡ held = cc in ap (λ (h : HeldItem K V). Some (record { hash = h.hash; entry = item_variant h.item })) same
+      by_entry hash (loading_variant awaited) e = absurd (cc)
+      by_entry hash ghost_variant e = absurd (cc)
+
+  -- an item is in the slot of its token
+  pub item_at-held : (slab : LinkedSlab (Slot K V P T)) (table : Table) (hot cold ghosts : Ring) (held : HeldItem K V) → HasItem (lists_of slab table hot cold ghosts) held → item_at slab held.token ≡ Some (record { hash = held.hash; entry = item_variant held.item })
+  item_at-held slab table hot cold ghosts held has = by_place has.place has.stands
+    where
+      found : (u : ℕ) → item_of u (item_at slab u) ≡ Some held → item_at slab held.token ≡ Some (record { hash = held.hash; entry = item_variant held.item })
+      found u is = ap (item_at slab) (named_item u (item_at slab u) held is) ∙ slot_of_held u (item_at slab u) held is
+
+      by_place : (place : Place) → StandsIn (items_at place (lists_of slab table hot cold ghosts)) held → item_at slab held.token ≡ Some (record { hash = held.hash; entry = item_variant held.item })
+      by_place InHot there =
+          let at = gather-from (λ u. item_of u (item_at slab u)) (tokens_of slab hot.head) held there in found at.0 at.2
+      by_place InCold there =
+          let at = gather-from (λ u. item_of u (item_at slab u)) (tokens_of slab cold.head) held there in found at.0 at.2
+      by_place InStill there =
+          let at = gather-from (λ u. still_of u (item_at slab u)) (upto (length slab.slots)) held there in
+          found at.0 (held_still (item_of at.0 (item_at slab at.0)) held at.2)

@@ -2,18 +2,18 @@
 use Rattle.std.proofs.Common.{◌≡◌, ◌≢◌, ℕ, ◌+◌, ◌<◌, ◌≤◌, ◌-◌, length, Bool, Option, Some, None, refl, sym, ap, subst, ◌∙◌, arith}
 use Rattle.std.specs.Int.NonZero.{non_zero_u32_get}
 use Rattle.std.specs.declared.num.NonZeroU32.{NonZeroU32 as Token}
-use Rattle.quick_cache_slab.specs.LinkedSlab.{LinkedSlab, item_at, IsNextOf, IsParted}
+use Rattle.quick_cache_slab.specs.LinkedSlab.{LinkedSlab, times, ring_from, item_at, IsNextOf, IsParted}
 use Rattle.quick_cache_table.specs.Table.{Table, pair_count}
 use Rattle.quick_cache_lists.specs.declared.entry.Slot.{Slot}
 use Rattle.quick_cache_lists.specs.declared.ring.Ring.{Ring}
 use Rattle.quick_cache_lists.specs.declared.rings.Rings.{Rings}
-use Rattle.quick_cache_lists.specs.Frames.{IsRemoved, CanLeave, CanLeaveRing, LeavesRingOf}
+use Rattle.quick_cache_lists.specs.Frames.{IsRemoved, CanLeave, CanLeaveRing, LeavesRingOf, CanReweigh}
 use Rattle.quick_cache_lists.specs.Lists.{Lists, without_entry, entry_count}
 use Rattle.quick_cache_lists.specs.Slots.{Stand, AmongHot, AmongCold, AmongStill, AmongLoading, AmongGhosts, stand_of, stand_in, weight_at, weight_in, loading_in}
 use Rattle.quick_cache_lists.specs.Sound.{lists_of, room_of, IsRingOf, IsKeyed, IsStanding, IsSound}
 use Rattle.quick_cache_lists.proofs.ApartLemmas.{apart_by}
 use Rattle.quick_cache_lists.proofs.CountLemmas.{IsLess, IsLess-without}
-use Rattle.quick_cache_lists.proofs.SoundLemmas.{ring_weighs, ring_has}
+use Rattle.quick_cache_lists.proofs.SoundLemmas.{ring_light, ring_weighs, ring_has}
 use Rattle.quick_cache_lists.proofs.TakeLemmas.{IsEntry-from, IsStanding-taken_hot, IsStanding-taken_cold, IsStanding-taken_ghosts, IsStanding-taken_beside, lists-taken_hot, lists-taken_cold, lists-taken_ghosts, lists-taken_beside}
 
 module _ {K V P T : Type 0} where
@@ -27,6 +27,17 @@ module _ {K V P T : Type 0} where
     can_leave AmongGhosts stands = can_leave_ring rings.ghosts AmongGhosts standing.ghost_ring stands
     can_leave AmongStill stands = tt
     can_leave AmongLoading stands = tt
+
+  -- it can weigh more, or less
+  module _ (old : LinkedSlab (Slot K V P T)) (told : Table) (rings : Rings) (standing : IsStanding old rings.hot rings.cold rings.ghosts) (keyed : IsKeyed old told) (single : (u w : ℕ) → times w (ring_from old u) ≤ 1) (t : ℕ) (weight : ℕ) (light : weight < 18446744073709551616) where
+    pub can_reweigh : (s : Stand) → stand_of (item_at old t) ≡ Some s → CanReweigh rings (weight_at (item_at old t)) weight s
+    can_reweigh AmongHot stands =
+        (ring_weighs old rings.hot AmongHot t standing.hot_ring stands, omega (arith, ring_light old rings.hot AmongHot single keyed.few keyed.light standing.hot_ring, light))
+    can_reweigh AmongCold stands =
+        (ring_weighs old rings.cold AmongCold t standing.cold_ring stands, omega (arith, ring_light old rings.cold AmongCold single keyed.few keyed.light standing.cold_ring, light))
+    can_reweigh AmongGhosts stands = tt
+    can_reweigh AmongStill stands = tt
+    can_reweigh AmongLoading stands = tt
 
   module _ (old new : LinkedSlab (Slot K V P T)) (told tnew : Table) (token : Token) (next : Option Token) (restarts : Bool) (rings left : Rings) (standing : IsStanding old rings.hot rings.cold rings.ghosts) (parted : IsParted old) (removed : IsRemoved old new (non_zero_u32_get token)) (is_next : IsNextOf old (non_zero_u32_get token) next) (room : room_of new tnew ≡ room_of old told + 1) where
     abbrev pub IsGone : Rings → Type 0

@@ -39,6 +39,10 @@ with_counts mark reads item = record item { mark = mark; reads = reads }
 abbrev pub with_pair : {K V : Type 0} → K → V → Item K V → Item K V
 with_pair key value item = record item { key = key; value = value }
 
+-- the item with another weight
+abbrev pub with_weight : {K V : Type 0} → (weight : ℕ) → Item K V → Item K V
+with_weight weight item = record item { weight = weight }
+
 -- the item with another queue, mark and weight
 abbrev pub requeued : {K V : Type 0} → Queue → (mark weight : ℕ) → Item K V → Item K V
 requeued queue mark weight item = record item { queue = queue; mark = mark; weight = weight }
@@ -273,6 +277,11 @@ module _ {K V P : Type 0} where
   -- the item of that token is this one
   abbrev pub IsItemOf : Lists K V P → (token : ℕ) → Item K V → Type 0
   IsItemOf lists token item = (hash : ℕ) × HasItem lists (record { token = token; hash = hash; item = item })
+
+  -- the item of that token stays in its list with that weight: both weights are 0, or neither is
+  abbrev pub StaysInList : Lists K V P → (token weight : ℕ) → Type 0
+  StaysInList lists token weight =
+      (item : Item K V) × IsItemOf lists token item × ((weight == 0) ≡ (item.weight == 0))
 
   -- the item of that token has this pair
   abbrev pub HadPair : Lists K V P → (token : ℕ) → K × V → Type 0

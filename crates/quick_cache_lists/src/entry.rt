@@ -1,7 +1,7 @@
 //! What stands in a slot.
 ghost use Rattle.std.specs.Prelude.{◌≡◌, true};
 ghost use Rattle.quick_cache_lists.specs.Slots.{is_under, is_ghost, is_item, weight_in, slot_changed, HasPair, stand_in, loading_in};
-ghost use Rattle.quick_cache_lists.specs.Lists.{with_counts, with_pair, requeued};
+ghost use Rattle.quick_cache_lists.specs.Lists.{with_counts, with_pair, with_weight, requeued};
 
 use crate::resident::Resident;
 use quick_cache_model::{Equivalent, Queue};
@@ -98,6 +98,18 @@ impl<K, V, P, T> Slot<K, V, P, T> {
     {
         match &mut self.entry {
             Entry::Item(resident) => resident.set_counts(mark, reads),
+            Entry::Loading(_) => unreachable!(),
+            Entry::Ghost => unreachable!(),
+        }
+    }
+
+    /// Gives an item another weight.
+    pub(crate) fn set_weight(&mut self, weight: u64)
+        requires { is_item self.old ≡ true }
+        ensures { self.new ≡ slot_changed (with_weight weight) self.old }
+    {
+        match &mut self.entry {
+            Entry::Item(resident) => resident.set_weight(weight),
             Entry::Loading(_) => unreachable!(),
             Entry::Ghost => unreachable!(),
         }

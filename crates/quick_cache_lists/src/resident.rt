@@ -1,7 +1,7 @@
 //! An item, as a slot has it.
 ghost use Rattle.std.specs.Prelude.{◌≡◌};
 ghost use Rattle.quick_cache_lists.specs.Slots.{stand_of_item};
-ghost use Rattle.quick_cache_lists.specs.Lists.{with_counts, with_pair, requeued};
+ghost use Rattle.quick_cache_lists.specs.Lists.{with_counts, with_pair, with_weight, requeued};
 
 use crate::entry::Stand;
 use quick_cache_model::Queue;
@@ -127,6 +127,13 @@ impl<K, V, T> Resident<K, V, T> {
     {
         self.queue = queue;
         self.mark = mark;
+        self.weight = weight;
+    }
+
+    /// Takes another weight.
+    pub(crate) fn set_weight(&mut self, weight: u64)
+        ensures { self.new ≡ with_weight weight self.old }
+    {
         self.weight = weight;
     }
 

@@ -1,7 +1,7 @@
 //! What changes the lists: an entry comes, goes, moves or is written.
 ghost use Rattle.std.specs.Prelude.{◌≡◌, ◌+◌, ◌<◌};
 ghost use Rattle.std.specs.Int.NonZero.{non_zero_u32_get as number};
-ghost use Rattle.quick_cache_lists.specs.Lists.{PutsLast, HasEntry, IsEntry, without_entry, HasItemToken, ring_turned, with_change, with_counts, with_pair, HadPair};
+ghost use Rattle.quick_cache_lists.specs.Lists.{PutsLast, HasEntry, IsEntry, without_entry, HasItemToken, ring_turned, with_change, with_counts, with_weight, with_pair, StaysInList, HadPair};
 
 use crate::entry::{Entry, Slot};
 use crate::lists::Lists;
@@ -61,6 +61,20 @@ impl<K, V, P, T, A: Allocator> Lists<K, V, P, T, A> {
     {
         let (slot, _) = unsafe { self.slab.get_mut_unchecked(token) };
         slot.set_counts(mark, reads);
+    }
+
+    /// Gives the item of a token another weight, where it stays in its list: both weights are 0, or neither is.
+    /// `requeue` is for the other cases.
+    pub fn set_weight(&mut self, token: Token, weight: u64)
+        requires { StaysInList self.old (number token) weight }
+        ensures { self.new ≡ with_change (number token) (with_weight weight) self.old }
+    {
+        self.slab.validate();
+        let (slot, _) = unsafe { self.slab.get_mut_unchecked(token) };
+        let stand = slot.entry.stand();
+        let was = slot.entry.weight();
+        slot.set_weight(weight);
+        self.rings.reweigh(stand, was, weight);
     }
 
     /// Gives the item of a token another pair, and the old pair back. The item keeps its place and its weight.
