@@ -2,7 +2,7 @@
 use Rattle.std.specs.Prelude.{◌≡◌, ℕ, ◌+◌, ◌<◌, ◌≤◌, Bool, List, ◌∷◌, ◌++◌, Option, None, sum_by}
 use Rattle.std.specs.Prelude.{if◌then◌else◌}
 use Rattle.quick_cache_model.specs.CacheState.{CacheState, Item, LoadingEntry, Place, items_at}
-use Rattle.quick_cache_model.specs.CacheState.{IsValid}
+use Rattle.quick_cache_model.specs.CacheState.{IsValid, UpToOrder}
 use Rattle.quick_cache_model.specs.Hooks.{Rules, HookCall}
 use Rattle.quick_cache_model.specs.Finding.{HasNothing}
 use Rattle.quick_cache_model.specs.Eviction.{pinned}
@@ -34,12 +34,13 @@ module _ {K V : Type 0} where
 
 module _ (K V : Type 0) where
   -- After a write of a pair that passed its check, the items that are not pinned weigh at most the
-  -- capacity, if the hot target was within it.
+  -- capacity, if the hot target was within it. Here and below a call may leave its step in another
+  -- order of what has none.
   abbrev pub WritesStayWithinCapacity : (ℕ → Type 0) → Type 0
   WritesStayWithinCapacity may_count =
       WhateverRules K V may_count (λ rules. (equal_to : K → Bool) (key : K) (strategy : Strategy)
       (old new : CacheState K V) (value left : V) (calls : List (HookCall K V))
-      → Writes rules equal_to key strategy old value calls None new
+      → UpToOrder (λ state. Writes rules equal_to key strategy old value calls None state) new
       → PassesCheck rules old.hot_target key value calls left
       → old.hot_target ≤ old.capacity → unpinned_weight rules new ≤ new.capacity)
 
@@ -50,7 +51,7 @@ module _ (K V : Type 0) where
       (value left : V) (calls : List (HookCall K V))
       (before : List (LoadingEntry K)) (entry : LoadingEntry K) (after : List (LoadingEntry K))
       → IsValid equal old → IsLoadingTicket ticket old before entry after
-      → FillsPlaceholder ticket old rules marked value calls None new
+      → UpToOrder (λ state. FillsPlaceholder ticket old rules marked value calls None state) new
       → PassesCheck rules old.hot_target entry.key value calls left
       → 0 < rules.weight entry.key left → unpinned_weight rules new ≤ new.capacity)
 
@@ -61,7 +62,7 @@ module _ (K V : Type 0) where
       WhateverRules K V may_count (λ rules.
       (equal_to : K → Bool) (key : K) (old new : CacheState K V)
       (value left : V) (calls : List (HookCall K V)) (answer : Option (K × V))
-      → Writes rules equal_to key Insert old value calls answer new
+      → UpToOrder (λ state. Writes rules equal_to key Insert old value calls answer state) new
       → HasNothing equal_to (rules.hash key) old
       → PassesCheck rules old.hot_target key value calls left
       → (answer ≡ None) × HoldsPair key left new)

@@ -5,16 +5,81 @@ use Rattle.std.specs.List.{AllByRecursion}
 use Rattle.quick_cache_model.specs.declared.queue.Queue.TheVariants.{Cold}
 use Rattle.quick_cache_model.specs.CacheState.{CacheState, Item, Place, InHot, InCold}
 use Rattle.quick_cache_model.specs.CacheState.{InStill, items_at, entered, place_of_item}
+use Rattle.quick_cache_model.specs.CacheState.{SameButOrder, UpToOrder}
 use Rattle.quick_cache_model.specs.Hooks.{Rules, HookCall}
 use Rattle.quick_cache_model.specs.Finding.{HasNothing, HasNoItem, IsItemAt}
 use Rattle.quick_cache_model.specs.Admission.{PassesCheck}
 use Rattle.quick_cache_model.specs.Writes.{Insert, new_item, queue_for, WritesAdmitted, Writes}
 use Rattle.quick_cache_laws.specs.Admitted.{HoldsPair}
 use Rattle.quick_cache_laws.proofs.EachElement.{all-middle}
+use Rattle.quick_cache_laws.proofs.Valid.Orders.{all-permutation}
+use Rattle.std.proofs.Common.{ap, IsPermutation, append_assoc}
+use Rattle.std.proofs.lemmas.List.Sorted.{IsPermutation-sym}
 use Rattle.quick_cache_laws.proofs.Valid.Places.{put}
 use Rattle.quick_cache_laws.proofs.Admitted.Checks.{passed_is_not_too_heavy, passed_leaves}
 
+-- an element stands in a list, between two others
+record Splits {X : Type 0} (xs : List X) (x : X) : Type 0 where
+  before : List X
+  after : List X
+  split : xs ≡ before ++ x ∷ after
+
+-- each element of what stands behind a front
+each_splits : {X : Type 0} (front xs : List X) → AllByRecursion (Splits (front ++ xs)) xs
+each_splits front [] = tt
+each_splits front (x ∷ xs) = (
+  record { before = front; after = xs; split = refl },
+  subst (λ l. AllByRecursion (Splits l) xs) (append_assoc front (x ∷ []) xs)
+      (each_splits (front ++ x ∷ []) xs),
+)
+
+-- an element stands in each order of its list
+splits_in_order : {X : Type 0} (before : List X) (x : X) (after ys : List X)
+    → IsPermutation (before ++ x ∷ after) ys → Splits ys x
+splits_in_order before x after ys order =
+    all-middle (Splits ys) before x after
+    (all-permutation (Splits ys) ys (before ++ x ∷ after)
+    (IsPermutation-sym (before ++ x ∷ after) ys order) (each_splits [] ys))
+
 module _ {K V : Type 0} where
+  -- a pair is there in each order of what has none
+  SameButOrder-holds : (key : K) (value : V) (old new : CacheState K V) → SameButOrder old new
+      → HoldsPair key value old → HoldsPair key value new
+  SameButOrder-holds key value old new order holds = go holds.place holds.split
+    where
+      go : (place : Place) → items_at place old ≡ holds.before ++ holds.item ∷ holds.after
+          → HoldsPair key value new
+      go InHot split = record {
+        place = InHot;
+        before = holds.before;
+        item = holds.item;
+        after = holds.after;
+        split = ap (λ (s : CacheState K V). s.hot) order.same ∙ split;
+        of_key = holds.of_key;
+        of_value = holds.of_value;
+      }
+      go InCold split = record {
+        place = InCold;
+        before = holds.before;
+        item = holds.item;
+        after = holds.after;
+        split = ap (λ (s : CacheState K V). s.cold) order.same ∙ split;
+        of_key = holds.of_key;
+        of_value = holds.of_value;
+      }
+      go InStill split =
+          let there = splits_in_order holds.before holds.item holds.after new.still
+          (subst (λ (l : List (Item K V)). IsPermutation l new.still) split order.still) in
+          record {
+            place = InStill;
+            before = there.before;
+            item = holds.item;
+            after = there.after;
+            split = there.split;
+            of_key = holds.of_key;
+            of_value = holds.of_value;
+          }
+
   items_at-put : (place : Place) (item : Item K V) (state : CacheState K V)
       → items_at place (put place item state) ≡ items_at place state ++ item ∷ []
   items_at-put InHot item state = refl
@@ -90,3 +155,14 @@ module _ {K V : Type 0} where
         absurd (passed_is_not_too_heavy rules old.hot_target key value (first ++ rest)
         first rest left
         value' passed refl checks)
+
+    -- and so in whatever order it leaves what has none
+    pub Writes-holds_to_order : (old new : CacheState K V) (value left : V)
+        (calls : List (HookCall K V)) (answer : Option (K × V))
+        → UpToOrder (λ state. Writes rules equal_to key Insert old value calls answer state) new
+        → HasNothing equal_to (rules.hash key) old
+        → PassesCheck rules old.hot_target key value calls left
+        → (answer ≡ None) × HoldsPair key left new
+    Writes-holds_to_order old new value left calls answer step none passed =
+        let held = Writes-holds old step.ordered value left calls answer step.holds none passed in
+        (held.0, SameButOrder-holds key left step.ordered new step.same held.1)

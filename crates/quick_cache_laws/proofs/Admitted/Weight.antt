@@ -7,6 +7,7 @@ use Rattle.quick_cache_model.specs.declared.queue.Queue.TheVariants.{Cold}
 use Rattle.quick_cache_model.specs.CacheState.{CacheState, Item, LoadingEntry, Place, InHot, InCold}
 use Rattle.quick_cache_model.specs.CacheState.{InStill, entered, place_of_item, total_weight}
 use Rattle.quick_cache_model.specs.CacheState.{IsValid}
+use Rattle.quick_cache_model.specs.CacheState.{SameButOrder, UpToOrder}
 use Rattle.quick_cache_model.specs.Hooks.{Rules, HookCall, EvictCold}
 use Rattle.quick_cache_model.specs.Eviction.{EvictsToCapacity}
 use Rattle.quick_cache_model.specs.Admission.{Admitted, TooHeavy, ChecksAdmission, PassesCheck}
@@ -157,3 +158,34 @@ module _ {K V : Type 0} (rules : Rules K V) where
       ChecksAdmission rules old.hot_target e.key value first (TooHeavy left'))
       (one_of_ticket equal ticket old before' entry' after' before entry after valid there' there)
       checks))
+
+  -- another order of what has none weighs the same
+  SameButOrder-within : (old new : CacheState K V) → SameButOrder old new
+      → unpinned_weight rules old ≤ old.capacity → unpinned_weight rules new ≤ new.capacity
+  SameButOrder-within old new order within =
+      subst (λ (s : CacheState K V). unpinned_weight rules s ≤ s.capacity) (sym order.same) within
+
+  -- a write whose pair passed its check, up to order
+  pub Writes-within_to_order : (equal_to : K → Bool) (key : K) (strategy : Strategy)
+      (old new : CacheState K V) (value left : V) (calls : List (HookCall K V))
+      → UpToOrder (λ state. Writes rules equal_to key strategy old value calls None state) new
+      → PassesCheck rules old.hot_target key value calls left
+      → old.hot_target ≤ old.capacity → unpinned_weight rules new ≤ new.capacity
+  Writes-within_to_order equal_to key strategy old new value left calls step passed sized =
+      SameButOrder-within step.ordered new step.same
+      (Writes-within equal_to key strategy old step.ordered value left calls step.holds passed
+      sized)
+
+  -- a fill whose value passed its check with a weight above 0, up to order
+  pub FillsPlaceholder-within_to_order : (equal : K → K → Bool) (ticket : ℕ) (marked : Bool)
+      (old new : CacheState K V) (value left : V) (calls : List (HookCall K V))
+      (before : List (LoadingEntry K)) (entry : LoadingEntry K) (after : List (LoadingEntry K))
+      → IsValid equal old → IsLoadingTicket ticket old before entry after
+      → UpToOrder (λ state. FillsPlaceholder ticket old rules marked value calls None state) new
+      → PassesCheck rules old.hot_target entry.key value calls left
+      → 0 < rules.weight entry.key left → unpinned_weight rules new ≤ new.capacity
+  FillsPlaceholder-within_to_order equal ticket marked old new value left calls before entry after
+      valid there step passed weighs =
+      SameButOrder-within step.ordered new step.same
+      (FillsPlaceholder-within equal ticket marked old step.ordered value left calls before entry
+      after valid there step.holds passed weighs)

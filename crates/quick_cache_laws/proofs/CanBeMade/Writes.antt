@@ -1,12 +1,12 @@
 -- Laws of existence: each write, each filling and each new capacity can be had in every state,
 -- where a count of touches may be 0 and each hook may be called.
-use Rattle.std.proofs.Common.{◌≡◌, ℕ, ◌<◌, ◌≤◌, ◌==◌, ◌⊎◌, inl, inr, Bool, true, false}
+use Rattle.std.proofs.Common.{◌≡◌, ℕ, ◌<◌, ◌≤◌, ◌==◌, ◌⊎◌, inl, inr, Bool, false}
 use Rattle.std.proofs.Common.{if◌then◌else◌, List, [], ◌∷◌, ◌++◌, Option, Some, None, refl, arith}
 use Rattle.std.proofs.lemmas.Bool.{cases_lt, eqb-true, eqb-false}
 use Rattle.quick_cache_model.specs.declared.queue.Queue.TheVariants.{Hot, Cold}
 use Rattle.quick_cache_model.specs.CacheState.{CacheState, Item, LoadingEntry, Place, with_items}
 use Rattle.quick_cache_model.specs.CacheState.{entered, rewritten}
-use Rattle.quick_cache_model.specs.Hooks.{Rules, HookCall, BeforeEvict, EvictCold, evicted, Hooks}
+use Rattle.quick_cache_model.specs.Hooks.{Rules, HookCall, EvictCold, evicted, Hooks}
 use Rattle.quick_cache_model.specs.Hooks.{RunsHooks}
 use Rattle.quick_cache_model.specs.Finding.{Found, FoundItem, FoundLoading, FoundGhost}
 use Rattle.quick_cache_model.specs.Finding.{FoundNothing, IsItemAt, Finds}
@@ -26,68 +26,10 @@ use Rattle.quick_cache_laws.proofs.CanBeMade.Evictions.{Leads, Answers, told}
 use Rattle.quick_cache_laws.proofs.CanBeMade.Evictions.{EvictsToCapacity-exists, idle_hooks}
 use Rattle.quick_cache_laws.proofs.CanBeMade.Evictions.{can_call_idle_hooks}
 use Rattle.quick_cache_laws.proofs.CanBeMade.Lookups.{ItemFound, item_there, no_item, find_item}
-
--- an admission check, with the calls of hooks that it makes
-pub record Checks {K V S : Type 0} (hooks : Hooks K V S) (rules : Rules K V) (hot_target : ℕ)
-    (key : K) (value : V) (first : S) : Type 0 where
-  pub answer : Admission V
-  pub calls : List (HookCall K V)
-  pub last : S
-  pub holds : ChecksAdmission rules hot_target key value calls answer
-  pub runs : RunsHooks hooks calls first last
+use Rattle.quick_cache_laws.proofs.CanBeMade.Checks.{ChecksAdmission-exists}
 
 module _ {K V S : Type 0} (rules : Rules K V) (may : rules.may_count 0) (hooks : Hooks K V S)
     (can : CanCallHooks hooks) where
-  pub ChecksAdmission-exists : (hot_target : ℕ) (key : K) (value : V) (first : S)
-      → Checks hooks rules hot_target key value first
-  ChecksAdmission-exists hot_target key value first =
-      by_weight (cases_lt hot_target (rules.weight key value))
-    where
-      step : (last : S) × (left : V) × hooks.before_evict first key value last left
-      step = can.before_evict first key value
-
-      by_left : hot_target < rules.weight key value → rules.pinned key value ≡ false
-          → (hot_target < rules.weight key step.1) ⊎ (rules.weight key step.1 ≤ hot_target)
-          → Checks hooks rules hot_target key value first
-      by_left heavy unpinned (inl still_heavy) = record {
-        answer = TooHeavy step.1;
-        calls = BeforeEvict key value step.1 ∷ [];
-        last = step.0;
-        holds = ChecksAdmission.is_too_heavy step.1 heavy unpinned still_heavy;
-        runs = (step.0, step.2, refl);
-      }
-      by_left heavy unpinned (inr light) = record {
-        answer = Admitted step.1;
-        calls = BeforeEvict key value step.1 ∷ [];
-        last = step.0;
-        holds = ChecksAdmission.was_lightened step.1 heavy unpinned light;
-        runs = (step.0, step.2, refl);
-      }
-
-      by_pin : hot_target < rules.weight key value → (b : Bool) → rules.pinned key value ≡ b
-          → Checks hooks rules hot_target key value first
-      by_pin heavy true is = record {
-        answer = Admitted value;
-        calls = [];
-        last = first;
-        holds =
-            ChecksAdmission.is_pinned heavy is;
-        runs = refl;
-      }
-      by_pin heavy false is = by_left heavy is (cases_lt hot_target (rules.weight key step.1))
-
-      by_weight : (hot_target < rules.weight key value) ⊎ (rules.weight key value ≤ hot_target)
-          → Checks hooks rules hot_target key value first
-      by_weight (inl heavy) = by_pin heavy (rules.pinned key value) refl
-      by_weight (inr light) = record {
-        answer = Admitted value;
-        calls = [];
-        last = first;
-        holds =
-            ChecksAdmission.is_light light;
-        runs = refl;
-      }
-
   -- the capacity can be set
   pub SetsCapacity-exists : (capacity : ℕ) (old : CacheState K V) (first : S)
       → Leads hooks (SetsCapacity rules capacity old) first
@@ -264,7 +206,8 @@ module _ {K V S : Type 0} (rules : Rules K V) (may : rules.may_count 0) (hooks :
         → Answers hooks (λ answer calls new. Writes rules equal_to key strategy old value calls
         answer new) first
     Writes-exists strategy old value first =
-        let check = ChecksAdmission-exists old.hot_target key value first in go check.answer
+        let check = ChecksAdmission-exists rules may hooks can old.hot_target key value first in go
+        check.answer
         check.calls check.last check.holds check.runs
       where
         go : (admission : Admission V) (calls : List (HookCall K V)) (last : S)
@@ -364,7 +307,8 @@ module _ {K V S : Type 0} (rules : Rules K V) (may : rules.may_count 0) (hooks :
           → Answers hooks (λ answer calls new. FillsPlaceholder ticket old rules marked value calls
           answer new) first
       go (is_there before entry after split passes) =
-          let check = ChecksAdmission-exists old.hot_target entry.key value first in
+          let check = ChecksAdmission-exists rules may hooks can old.hot_target entry.key value
+          first in
           fill before entry after (record {
             split = split;
             is_of_ticket =

@@ -61,12 +61,14 @@ an_entry_is_refused_once_tickets_are_spent =
 
 -- no replacing call is refused for want of a slot: it has the item's
 pub no_entry_is_refused_for_slots : (old new : CacheState ℕ ℕ)
-    → ActsOnEntry digit_rules (is 1) old (hot_item 1 5 5 2) 5 ReplaceWithGuard (Refused SlotsFull) new
+    → ActsOnEntry digit_rules (is 1) old (hot_item 1 5 5 2) 5 ReplaceWithGuard (Refused SlotsFull)
+    new
     → ⊥
 no_entry_is_refused_for_slots old _
     (ActsOnEntry.refused place before after _ there (MayRefuse.slots_full has needs full)) = needs
 
--- and with tickets left none is refused for them, as it could always be when the outcome was not told
+-- and with tickets left none is refused for them, as it could always be when the outcome was not
+-- told
 pub no_entry_is_refused_before_tickets_are_spent : (new : CacheState ℕ ℕ)
     → ActsOnEntry digit_rules (is 1)
     (record (empty_state 100 97 50) { hot = hot_item 1 5 5 2 ∷ []; next_ticket = 7 })

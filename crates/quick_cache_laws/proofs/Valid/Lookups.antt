@@ -110,7 +110,8 @@ module _ {K V : Type 0} (equal : K → K → Bool) where
         (keys_by-without (equal item.key) now front (weighed rules item left)
         back mid written.split) mid_valid)
         (without-valid equal now front (weighed rules item left) back mid written.split mid_valid)
-    ActsOnEntry-valid stands_for old item left _ _ _ (ActsOnEntry.refused place before after refusal there may)
+    ActsOnEntry-valid stands_for old item left _ _ _
+        (ActsOnEntry.refused place before after refusal there may)
         valid =
         reweighed-valid place before item item after left old there.split refl refl
         (IsInPlace-marked place before item after old there.split
