@@ -1,9 +1,9 @@
 -- What a look-up finds.
-use Rattle.std.proofs.Common.{◌≡◌, ◌≢◌, ◌⊎◌, ℕ, ◌+◌, ◌==◌, if◌then◌else◌, Bool, true, false, eqb, List, [], ◌∷◌, count_by, length, IfSome, Option, Some, None, refl, sym, ap, subst, ◌∙◌, inl, inr, arith, true≢false}
+use Rattle.std.proofs.Common.{◌≡◌, ◌≢◌, ◌⊎◌, ℕ, ◌+◌, ◌==◌, if◌then◌else◌, Bool, true, false, eqb, List, [], ◌∷◌, count_by, length, IfSome, Option, Some, None, IsSome, refl, sym, ap, subst, ◌∙◌, inl, inr, arith, true≢false}
 use Rattle.std.specs.Int.NonZero.{non_zero_u32_get}
 use Rattle.std.specs.declared.num.NonZeroU32.{NonZeroU32 as Token}
 use Rattle.std.proofs.lemmas.Bool.{cases_eq, cases_Bool, eqb-true, eq-eqb}
-use Rattle.quick_cache_slab.specs.LinkedSlab.{LinkedSlab, times, item_at}
+use Rattle.quick_cache_slab.specs.LinkedSlab.{LinkedSlab, times, item_at, IsOccupied}
 use Rattle.std.proofs.lemmas.List.Sums.{sum_by-cons}
 use Rattle.quick_cache_table.proofs.CountedPlaces.{bit}
 use Rattle.quick_cache_slab.proofs.TokenCounts.{times-here, times-other}
@@ -191,3 +191,12 @@ module _ {K V P T : Type 0} where
     pub IsWalked-noted : (tokens : List ℕ) (shade : Option Token) (token : Token) → shade ≡ Some token → IsWalked slab table hash stands_for tokens shade → HasPair table hash (non_zero_u32_get token) × (is_ghost_at (item_at slab (non_zero_u32_get token)) ≡ true)
     IsWalked-noted tokens shade token seen walked =
         subst (λ (o : Option Token). IfSome o (λ t. HasPair table hash (non_zero_u32_get t) × (is_ghost_at (item_at slab (non_zero_u32_get t)) ≡ true))) seen walked.noted
+
+module _ {K V P T : Type 0} where
+  hashed_some : (hash : ℕ) (o : Option (Slot K V P T)) → has_hash hash o ≡ true → IsSome o
+  hashed_some hash None is = absurd (true≢false (sym is))
+  hashed_some hash (Some slot) is = refl
+
+  -- a token of the table has an entry
+  pub occupied_by_pair : (slab : LinkedSlab (Slot K V P T)) (table : Table) → IsKeyed slab table → (hash t : ℕ) → HasPair table hash t → IsOccupied slab t
+  occupied_by_pair slab table keyed hash t has = hashed_some hash (item_at slab t) (sym (keyed.pairs hash t) ∙ has)

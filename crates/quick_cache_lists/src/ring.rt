@@ -54,11 +54,7 @@ pub(crate) fn turn<S, A: Allocator>(slab: &LinkedSlab<S, A>, ring: &mut Ring)
     ensures { IsTurned slab.now ring.old ring.new }
 {
     if let Some(head) = ring.head {
-        match slab.get(head) {
-            Some((_, next)) => {
-                ring.head = Some(next);
-            }
-            None => unreachable!(),
-        }
+        let (_, next) = unsafe { slab.get_unchecked(head) };
+        ring.head = Some(next);
     }
 }

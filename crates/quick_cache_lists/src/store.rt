@@ -4,55 +4,14 @@ ghost use Rattle.std.specs.Int.NonZero.{non_zero_u32_get as number};
 ghost use Rattle.quick_cache_slab.specs.LinkedSlab.{next_token, IsOccupied, IsNextOf, item_at};
 ghost use Rattle.quick_cache_table.specs.Table.{pair_count};
 ghost use Rattle.quick_cache_lists.specs.Frames.{IsPlaced, IsRemoved};
-ghost use Rattle.quick_cache_lists.specs.Slots.{weight_in, is_under_at, is_ghost_at, is_item_at};
+ghost use Rattle.quick_cache_lists.specs.Slots.{weight_in};
 ghost use Rattle.quick_cache_lists.specs.Sound.{IsKeyed, room_of};
 
 use crate::entry::Slot;
-use quick_cache_model::{Equivalent, Token};
+use quick_cache_model::Token;
 use quick_cache_slab::LinkedSlab;
 use quick_cache_table::Table;
 use std::alloc::Allocator;
-use std::hash::Hash;
-
-/// Whether the query stands for the key at a token.
-pub(crate) fn is_under_at<K: Eq + Hash, V, P, T, Q: Equivalent<K>, A: Allocator>(
-    slab: &LinkedSlab<Slot<K, V, P, T>, A>,
-    token: Token,
-    query: &Q,
-) -> bool
-    ensures { result ≡ is_under_at (Q.equivalent query.now) (item_at slab.now (number token)) }
-{
-    match slab.get(token) {
-        Some((slot, _)) => slot.is_under(query),
-        None => false,
-    }
-}
-
-/// Whether a ghost has the token.
-pub(crate) fn is_ghost_at<K, V, P, T, A: Allocator>(
-    slab: &LinkedSlab<Slot<K, V, P, T>, A>,
-    token: Token,
-) -> bool
-    ensures { result ≡ is_ghost_at (item_at slab.now (number token)) }
-{
-    match slab.get(token) {
-        Some((slot, _)) => slot.is_ghost(),
-        None => false,
-    }
-}
-
-/// Whether an item has the token.
-pub(crate) fn is_item_at<K, V, P, T, A: Allocator>(
-    slab: &LinkedSlab<Slot<K, V, P, T>, A>,
-    token: Token,
-) -> bool
-    ensures { result ≡ is_item_at (item_at slab.now (number token)) }
-{
-    match slab.get(token) {
-        Some((slot, _)) => slot.is_item(),
-        None => false,
-    }
-}
 
 /// Puts an entry into a slot and its hash into the table.
 pub(crate) fn place<K, V, P, T, A: Allocator>(

@@ -8,7 +8,6 @@ use crate::entry::{Entry, Slot};
 use crate::found::Found;
 use crate::lists::Lists;
 use crate::resident::Resident;
-use crate::store::{is_ghost_at, is_item_at, is_under_at};
 use quick_cache_model::{Equivalent, Queue, Token};
 use std::alloc::Allocator;
 use std::hash::Hash;
@@ -23,14 +22,15 @@ impl<K, V, P, T, A: Allocator> Lists<K, V, P, T, A> {
     {
         let mut shade = None;
         for token in self.table.iter_hash(hash) {
-            if is_under_at(&self.slab, token, query) {
-                return if is_item_at(&self.slab, token) {
+            let (slot, _) = unsafe { self.slab.get_unchecked(token) };
+            if slot.is_under(query) {
+                return if slot.is_item() {
                     Found::Item(token)
                 } else {
                     Found::Loading(token)
                 };
             }
-            if is_ghost_at(&self.slab, token) {
+            if slot.is_ghost() {
                 shade = Some(token);
             }
         }
@@ -64,13 +64,11 @@ impl<K, V, P, T, A: Allocator> Lists<K, V, P, T, A> {
         requires { HasItemToken self.now (number token) }
         ensures { IsItemOf self.now (number token) result.now }
     {
-        match self.slab.get(token) {
-            Some((slot, _)) => match &slot.entry {
-                Entry::Item(resident) => resident,
-                Entry::Loading(_) => unreachable!(),
-                Entry::Ghost => unreachable!(),
-            },
-            None => unreachable!(),
+        let (slot, _) = unsafe { self.slab.get_unchecked(token) };
+        match &slot.entry {
+            Entry::Item(resident) => resident,
+            Entry::Loading(_) => unreachable!(),
+            Entry::Ghost => unreachable!(),
         }
     }
 
@@ -89,8 +87,8 @@ impl<K, V, P, T, A: Allocator> Lists<K, V, P, T, A> {
         requires { HasEntry self.now (number token) }
         ensures { IsEntry self.now (number token) result.now.hash result.now.entry }
     {
-        let (slot, _) = unsafe { self.slab.get_unchecked(token) };
-        slot
+        let (found, _) = unsafe { self.slab.get_unchecked(token) };
+        found
     }
 
     /// The token of the item with the least token above this one, or the least of all.

@@ -1,5 +1,5 @@
 use Rattle.std.proofs.Common.{refl}
 use Rattle.quick_cache_lists.proofs.ring.turn.Goals as goal
 
-pub returns-in-Some-get : goal.returns-in-Some-get
-returns-in-Some-get g c = record { counted = refl; weighed = refl; head = rw c.in-Some.is (c.in-Some-get.next, refl, c.in-Some-get.ensures.next) }
+pub returns-in-Some : goal.returns-in-Some
+returns-in-Some g c = record { counted = refl; weighed = refl; head = rw c.in-Some.is (c.get_unchecked.result.1, refl, c.get_unchecked.ensures.next) }
