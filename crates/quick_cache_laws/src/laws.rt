@@ -57,7 +57,8 @@ pub fn fill_law<K: Eq, V, T: Touches>()
     ensures { FillsStayWithinCapacity K V K.eq T.may_count }
 {}
 
-/// What was removed is not there to be removed again.
+/// A second removal by one query finds nothing, and a second retain by one test removes nothing,
+/// in whatever order the first call left what has no order.
 pub fn removal_law<K: Eq, V>()
     ensures again { SecondRemovalsFindNothing K V K.eq }
     ensures retains_again { SecondRetainsRemoveNothing K V }
@@ -70,8 +71,7 @@ pub fn capacity_law<K, V, T: Touches>()
     ensures nothing { PresentCapacityChangesNothing K V T.may_count }
 {}
 
-/// Each call can be made in every state, so that none of their definitions asks for what cannot
-/// be.
+/// Each call has an outcome in every state: no definition asks for what cannot be done.
 pub fn call_law<K, V, T: Touches>()
     ensures writes { WritesCanBeMade K V T.may_count }
     ensures makes_or_meets { PlaceholdersCanBeTaken K V }
@@ -89,26 +89,25 @@ pub fn entry_law<K, V, T: Touches>()
     ensures tickets { EntriesAreRefusedForTickets K V T.may_count }
 {}
 
-/// What a cache of one thread may do, a cache whose readers share it may do.
+/// Each step that a cache of one thread may make, a cache that readers share may make.
 pub fn shared_law<K, V, Lone: Touches, Shared: Touches>()
     ensures writes { LoneWritesAreShared K V Lone.may_count Shared.may_count }
     ensures fills { LoneFillsAreShared K V Lone.may_count Shared.may_count }
     ensures sets_capacity { LoneCapacitiesAreShared K V Lone.may_count Shared.may_count }
 {}
 
-/// A query finds something in each state, be it nothing.
+/// A query finds an item, a placeholder, a ghost or nothing.
 pub fn finding_law<K, V>()
     ensures { QueriesFindSomething K V }
 {}
 
-/// A query has at most one entry in a valid state, so a look at a key and a look-up show the
-/// same.
+/// In a valid state a query has at most one entry, so a peek and a look-up show the same value.
 pub fn query_law<K: Eq, V>()
     ensures one_entry { QueriesHaveOneEntry K V K.eq }
     ensures same { LooksShowTheSame K V K.eq }
 {}
 
-/// Each call leads from a valid state to a valid one.
+/// Each call, and each list of calls, leads from a valid state to a valid one.
 pub fn valid_law<K: Eq, V, T: Touches>()
     ensures starts { NewCachesAreValid K V K.eq }
     ensures orders { OtherOrdersAreValid K V K.eq }

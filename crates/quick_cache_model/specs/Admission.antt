@@ -1,4 +1,5 @@
--- The admission check: a pair that is heavier than the hot target is not kept, unless it is pinned or can be lightened.
+-- The admission check: a pair that is heavier than the hot target is not kept, unless it is pinned
+-- or can be lightened.
 use Rattle.std.specs.Prelude.{◌≡◌, ℕ, ◌<◌, ◌≤◌, true, false, List, [], ◌∷◌, ◌++◌}
 use Rattle.quick_cache_model.specs.Hooks.{Rules, HookCall, BeforeEvict}
 
@@ -8,13 +9,14 @@ pub data Admission (V : Type 0) : Type 0 where
   TooHeavy : (value : V) → Admission V
 
 module _ {K V : Type 0} (rules : Rules K V) (hot_target : ℕ) (key : K) (value : V) where
-  -- A pair of at most the target's weight is admitted, and so is a pinned one. Else `before_evict` is called on it, and
-  -- the value that it leaves is weighed.
+  -- A pair of at most the target's weight is admitted, and so is a pinned one. Else `before_evict`
+  -- is called on it, and the value that it leaves is weighed.
   pub data ChecksAdmission : List (HookCall K V) → Admission V → Type 0 where
     is_light : rules.weight key value ≤ hot_target → ChecksAdmission [] (Admitted value)
     is_pinned : hot_target < rules.weight key value → rules.pinned key value ≡ true
         → ChecksAdmission [] (Admitted value)
-    was_lightened : (left : V) → hot_target < rules.weight key value → rules.pinned key value ≡ false
+    was_lightened : (left : V) → hot_target < rules.weight key value
+        → rules.pinned key value ≡ false
         → rules.weight key left ≤ hot_target
         → ChecksAdmission (BeforeEvict key value left ∷ []) (Admitted left)
     is_too_heavy : (left : V) → hot_target < rules.weight key value → rules.pinned key value ≡ false
