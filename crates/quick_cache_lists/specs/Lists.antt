@@ -28,8 +28,9 @@ pub record HeldLoading (K P : Type 0) : Type 0 where
   pub placeholder : P
 
 -- the item changed, if it has that token
-abbrev pub changed_held : {K V : Type 0} → (token : ℕ) → (Item K V → Item K V) → HeldItem K V → HeldItem K V
-changed_held token change held = cond (eqb held.token token) (record held { item = change held.item }) held
+abbrev pub changed_held : {K V : Type 0} → ℕ → (Item K V → Item K V) → HeldItem K V → HeldItem K V
+changed_held token change held =
+    cond (eqb held.token token) (record held { item = change held.item }) held
 
 -- the item with another mark and another count of reads
 abbrev pub with_counts : {K V : Type 0} → (mark reads : ℕ) → Item K V → Item K V
@@ -52,9 +53,9 @@ pub record HeldGhost : Type 0 where
   pub token : ℕ
   pub hash : ℕ
 
--- The hot and the cold ring, the next to be visited first, and the ghosts, the oldest first; without order the items of
--- weight 0 and the keys that are being loaded; the token that the next entry gets; and how many more entries fit with
--- no allocation.
+-- The hot and the cold ring, the next to be visited first, and the ghosts, the oldest first; without
+-- order the items of weight 0 and the keys that are being loaded; the token that the next entry gets;
+-- and how many more entries fit with no allocation.
 pub record Lists (K V P : Type 0) : Type 0 where
   pub hot : List (HeldItem K V)
   pub cold : List (HeldItem K V)
@@ -73,7 +74,8 @@ pub record StandsIn {X : Type 0} (xs : List X) (x : X) : Type 0 where
 -- the list without the elements of that token
 abbrev pub dropped : {X : Type 0} → (X → ℕ) → ℕ → List X → List X
 dropped name token [] = []
-dropped name token (x ∷ xs) = cond (eqb (name x) token) (dropped name token xs) (x ∷ dropped name token xs)
+dropped name token (x ∷ xs) =
+    cond (eqb (name x) token) (dropped name token xs) (x ∷ dropped name token xs)
 
 -- what stands before the first element of that token, or all where there is none
 abbrev pub ahead_of : {X : Type 0} → (X → ℕ) → ℕ → List X → List X
@@ -106,12 +108,16 @@ turned (x ∷ xs) = xs ++ x ∷ []
 
 -- a token is that of the first element, if there is one
 abbrev pub IsFirstOf : {X : Type 0} → (X → ℕ) → List X → Option Token → Type 0
-IsFirstOf {X} name xs first = MatchOption first (xs ≡ []) (λ token. (x : X) × (rest : List X) × (xs ≡ x ∷ rest) × (name x ≡ non_zero_u32_get token))
+IsFirstOf {X} name xs first =
+    MatchOption first
+    (xs ≡ [])
+    (λ token. (x : X) × (rest : List X) × (xs ≡ x ∷ rest) × (name x ≡ non_zero_u32_get token))
 
 module _ {K V P : Type 0} where
   -- no entries, and no room
   abbrev pub no_lists : Lists K V P
-  no_lists = record { hot = []; cold = []; still = []; loading = []; ghosts = []; next = 1; room = 0 }
+  no_lists =
+      record { hot = []; cold = []; still = []; loading = []; ghosts = []; next = 1; room = 0 }
 
   -- the items of a place
   abbrev pub items_at : Place → Lists K V P → List (HeldItem K V)
@@ -131,7 +137,10 @@ module _ {K V P : Type 0} where
 
   -- the item was put last at its place
   abbrev pub entered : HeldItem K V → Lists K V P → Lists K V P
-  entered held lists = with_items (place_of_item held.item) (items_at (place_of_item held.item) lists ++ held ∷ []) lists
+  entered held lists =
+      with_items (place_of_item held.item)
+      (items_at (place_of_item held.item) lists ++ held ∷ [])
+      lists
 
   -- the same lists, but for the order of what has none
   pub record SameButOrder (old new : Lists K V P) : Type 0 where
@@ -142,9 +151,12 @@ module _ {K V P : Type 0} where
   -- no item and no placeholder of that hash has a key that passes
   pub record HasNoKey (stands_for : K → Bool) (hash : ℕ) (lists : Lists K V P) : Type 0 where
     pub hot : AllByRecursion (λ held. held.hash ≡ hash → stands_for held.item.key ≡ false) lists.hot
-    pub cold : AllByRecursion (λ held. held.hash ≡ hash → stands_for held.item.key ≡ false) lists.cold
-    pub still : AllByRecursion (λ held. held.hash ≡ hash → stands_for held.item.key ≡ false) lists.still
-    pub loading : AllByRecursion (λ waiting. waiting.hash ≡ hash → stands_for waiting.key ≡ false) lists.loading
+    pub cold : AllByRecursion
+        (λ held. held.hash ≡ hash → stands_for held.item.key ≡ false) lists.cold
+    pub still : AllByRecursion
+        (λ held. held.hash ≡ hash → stands_for held.item.key ≡ false) lists.still
+    pub loading : AllByRecursion
+        (λ waiting. waiting.hash ≡ hash → stands_for waiting.key ≡ false) lists.loading
 
   -- no item has such a key, nor a placeholder, and there is no ghost of that hash
   pub record HasNothing (stands_for : K → Bool) (hash : ℕ) (lists : Lists K V P) : Type 0 where
@@ -152,13 +164,15 @@ module _ {K V P : Type 0} where
     pub ghosts : AllByRecursion (λ shade. shade.hash ≢ hash) lists.ghosts
 
   -- the item of that token has the hash, and a key that passes
-  pub record FindsItem (stands_for : K → Bool) (hash : ℕ) (lists : Lists K V P) (token : ℕ) : Type 0 where
+  pub record FindsItem (stands_for : K → Bool) (hash : ℕ) (lists : Lists K V P) (token : ℕ)
+      : Type 0 where
     pub item : Item K V
     pub stands : HasItem lists (record { token = token; hash = hash; item = item })
     pub passes : stands_for item.key ≡ true
 
   -- the same of a placeholder
-  pub record FindsLoading (stands_for : K → Bool) (hash : ℕ) (lists : Lists K V P) (token : ℕ) : Type 0 where
+  pub record FindsLoading (stands_for : K → Bool) (hash : ℕ) (lists : Lists K V P) (token : ℕ)
+      : Type 0 where
     pub waiting : HeldLoading K P
     pub named : waiting.token ≡ token
     pub hashed : waiting.hash ≡ hash
@@ -167,10 +181,13 @@ module _ {K V P : Type 0} where
 
   -- what a query finds
   abbrev pub Finds : (stands_for : K → Bool) (hash : ℕ) → Lists K V P → Found → Type 0
-  Finds stands_for hash lists (found_item token) = FindsItem stands_for hash lists (non_zero_u32_get token)
-  Finds stands_for hash lists (found_loading token) = FindsLoading stands_for hash lists (non_zero_u32_get token)
+  Finds stands_for hash lists (found_item token) =
+      FindsItem stands_for hash lists (non_zero_u32_get token)
+  Finds stands_for hash lists (found_loading token) =
+      FindsLoading stands_for hash lists (non_zero_u32_get token)
   Finds stands_for hash lists (found_ghost token) =
-      HasNoKey stands_for hash lists × StandsIn lists.ghosts (record { token = non_zero_u32_get token; hash = hash })
+      HasNoKey stands_for hash lists
+      × StandsIn lists.ghosts (record { token = non_zero_u32_get token; hash = hash })
   Finds stands_for hash lists found_nothing = HasNothing stands_for hash lists
 
   -- an entry has the token
@@ -182,12 +199,20 @@ module _ {K V P : Type 0} where
 
   -- the entry of that token is this one, under that hash
   abbrev pub IsEntry : {T : Type 0} → Lists K V P → (token hash : ℕ) → Entry K V P T → Type 0
-  IsEntry lists token hash (item_variant item) = HasItem lists (record { token = token; hash = hash; item = item })
+  IsEntry lists token hash (item_variant item) =
+      HasItem lists (record { token = token; hash = hash; item = item })
   IsEntry lists token hash (loading_variant awaited) =
-      StandsIn lists.loading (record { token = token; hash = hash; key = awaited.key; queue = awaited.queue; placeholder = awaited.placeholder })
-  IsEntry lists token hash ghost_variant = StandsIn lists.ghosts (record { token = token; hash = hash })
+      StandsIn lists.loading (record {
+        token = token;
+        hash = hash;
+        key = awaited.key;
+        queue = awaited.queue;
+        placeholder = awaited.placeholder;
+      })
+  IsEntry lists token hash ghost_variant =
+      StandsIn lists.ghosts (record { token = token; hash = hash })
 
-  -- the lists without the entry of that token, the ring of which keeps its order or begins behind it
+  -- the lists without the entry of that token, whose ring keeps its order or begins behind it
   abbrev pub without_entry : (restarts : Bool) → (token : ℕ) → Lists K V P → Lists K V P
   without_entry restarts token lists = record {
     hot = left_by restarts (λ held. held.token) token lists.hot;
@@ -201,10 +226,20 @@ module _ {K V P : Type 0} where
 
   -- the lists with the entry put last: in its ring, or among those that stand in none
   abbrev pub with_last : {T : Type 0} → (token hash : ℕ) → Entry K V P T → Lists K V P → Lists K V P
-  with_last token hash (item_variant item) lists = entered (record { token = token; hash = hash; item = item }) lists
+  with_last token hash (item_variant item) lists =
+      entered (record { token = token; hash = hash; item = item }) lists
   with_last token hash (loading_variant awaited) lists =
-      record lists { loading = lists.loading ++ record { token = token; hash = hash; key = awaited.key; queue = awaited.queue; placeholder = awaited.placeholder } ∷ [] }
-  with_last token hash ghost_variant lists = record lists { ghosts = lists.ghosts ++ record { token = token; hash = hash } ∷ [] }
+      record lists {
+        loading = lists.loading ++ record {
+          token = token;
+          hash = hash;
+          key = awaited.key;
+          queue = awaited.queue;
+          placeholder = awaited.placeholder;
+        } ∷ [];
+      }
+  with_last token hash ghost_variant lists =
+      record lists { ghosts = lists.ghosts ++ record { token = token; hash = hash } ∷ [] }
 
   -- the entry stands in a ring
   abbrev pub is_in_ring : {T : Type 0} → Entry K V P T → Bool
@@ -212,31 +247,45 @@ module _ {K V P : Type 0} where
   is_in_ring (loading_variant awaited) = false
   is_in_ring ghost_variant = true
 
-  -- The entry was put last under that token. Where it stands in no ring, those that stand in none may be in another
-  -- order.
-  pub record PutsLast {T : Type 0} (old : Lists K V P) (token hash : ℕ) (entry : Entry K V P T) (new : Lists K V P) : Type 0 where
-    pub put : SameButOrder (record (with_last token hash entry old) { next = new.next; room = new.room }) new
-    pub in_ring : is_in_ring entry ≡ true → new ≡ record (with_last token hash entry old) { next = new.next; room = new.room }
+  -- The entry was put last under that token. Where it stands in no ring, those that stand in none may
+  -- be in another order.
+  pub record PutsLast {T : Type 0} (old : Lists K V P) (token hash : ℕ) (entry : Entry K V P T)
+      (new : Lists K V P) : Type 0 where
+    pub put : SameButOrder
+        (record (with_last token hash entry old) { next = new.next; room = new.room })
+        new
+    pub in_ring : is_in_ring entry ≡ true
+        → new ≡ record (with_last token hash entry old) { next = new.next; room = new.room }
 
-  -- The entry of that token left its list, its ring kept its order or began behind it, and another was put last under
-  -- the same token and hash, in the same room.
-  pub record Replaces {T : Type 0} (old : Lists K V P) (token : ℕ) (restarts : Bool) (entry was : Entry K V P T) (new : Lists K V P) : Type 0 where
+  -- The entry of that token left its list, its ring kept its order or began behind it, and another was
+  -- put last under the same token and hash, in the same room.
+  pub record Replaces {T : Type 0} (old : Lists K V P) (token : ℕ) (restarts : Bool)
+      (entry was : Entry K V P T) (new : Lists K V P) : Type 0 where
     pub hash : ℕ
     pub taken : IsEntry old token hash was
     pub last : PutsLast (without_entry restarts token old) token hash entry new
     pub room : new.room ≡ old.room
 
-  -- The item was put last under that token. Where it weighs nothing, those that stand in no ring may be in another order.
-  pub record PutsItem (old : Lists K V P) (token hash : ℕ) (item : Item K V) (new : Lists K V P) : Type 0 where
+  -- The item was put last under that token. Where it weighs nothing, those that stand in no ring may
+  -- be in another order.
+  pub record PutsItem (old : Lists K V P) (token hash : ℕ) (item : Item K V) (new : Lists K V P)
+      : Type 0 where
     pub put : SameButOrder
-        (record (entered (record { token = token; hash = hash; item = item }) old) { next = new.next; room = new.room })
+        (record (entered (record { token = token; hash = hash; item = item }) old) {
+          next = new.next;
+          room = new.room;
+        })
         new
     pub in_ring : 0 < item.weight
-        → new ≡ record (entered (record { token = token; hash = hash; item = item }) old) { next = new.next; room = new.room }
+        → new ≡ record (entered (record { token = token; hash = hash; item = item }) old) {
+          next = new.next;
+          room = new.room;
+        }
 
-  -- The item of that token left its list, its ring kept its order or began behind it, and once changed it was put last
-  -- under the same token and hash, in the same room.
-  pub record Requeues (old : Lists K V P) (token : ℕ) (restarts : Bool) (change : Item K V → Item K V) (new : Lists K V P) : Type 0 where
+  -- The item of that token left its list, its ring kept its order or began behind it, and once changed
+  -- it was put last under the same token and hash, in the same room.
+  pub record Requeues (old : Lists K V P) (token : ℕ) (restarts : Bool)
+      (change : Item K V → Item K V) (new : Lists K V P) : Type 0 where
     pub hash : ℕ
     pub item : Item K V
     pub taken : HasItem old (record { token = token; hash = hash; item = item })
@@ -250,12 +299,16 @@ module _ {K V P : Type 0} where
   -- an item of that ring has the token
   abbrev pub HasRingToken : Queue → Lists K V P → ℕ → Type 0
   HasRingToken queue lists token =
-      (held : HeldItem K V) × StandsIn (items_at (ring_place queue) lists) held × (held.token ≡ token)
+      (held : HeldItem K V)
+      × StandsIn (items_at (ring_place queue) lists) held
+      × (held.token ≡ token)
 
   -- the token behind this one in that ring: itself, where no other item stands there
   abbrev pub next_in_ring : Queue → Lists K V P → ℕ → ℕ
   next_in_ring queue lists token =
-      first_or token (map (λ held. held.token) (restarted (λ held. held.token) token (items_at (ring_place queue) lists)))
+      first_or token
+      (map (λ held. held.token)
+      (restarted (λ held. held.token) token (items_at (ring_place queue) lists)))
 
   -- the result is the least token of an item above that token, or nothing where there is none
   pub record IsFirstAbove (lists : Lists K V P) (token : ℕ) (result : Option Token) : Type 0 where
@@ -276,7 +329,8 @@ module _ {K V P : Type 0} where
 
   -- the item of that token is this one
   abbrev pub IsItemOf : Lists K V P → (token : ℕ) → Item K V → Type 0
-  IsItemOf lists token item = (hash : ℕ) × HasItem lists (record { token = token; hash = hash; item = item })
+  IsItemOf lists token item =
+      (hash : ℕ) × HasItem lists (record { token = token; hash = hash; item = item })
 
   -- the item of that token stays in its list with that weight: both weights are 0, or neither is
   abbrev pub StaysInList : Lists K V P → (token weight : ℕ) → Type 0
@@ -285,7 +339,8 @@ module _ {K V P : Type 0} where
 
   -- the item of that token has this pair
   abbrev pub HadPair : Lists K V P → (token : ℕ) → K × V → Type 0
-  HadPair lists token pair = (item : Item K V) × IsItemOf lists token item × (pair ≡ (item.key, item.value))
+  HadPair lists token pair =
+      (item : Item K V) × IsItemOf lists token item × (pair ≡ (item.key, item.value))
 
   -- the lists once this ring begins one further on
   abbrev pub ring_turned : Queue → Lists K V P → Lists K V P
@@ -303,13 +358,17 @@ module _ {K V P : Type 0} where
   -- how many entries have the token
   abbrev pub entries_of : ℕ → Lists K V P → ℕ
   entries_of token lists =
-      times token (map (λ held. held.token) lists.hot) + times token (map (λ held. held.token) lists.cold)
-      + times token (map (λ held. held.token) lists.still) + times token (map (λ waiting. waiting.token) lists.loading)
+      times token (map (λ held. held.token) lists.hot)
+      + times token (map (λ held. held.token) lists.cold)
+      + times token (map (λ held. held.token) lists.still)
+      + times token (map (λ waiting. waiting.token) lists.loading)
       + times token (map (λ shade. shade.token) lists.ghosts)
 
   -- how many entries there are
   abbrev pub entry_count : Lists K V P → ℕ
-  entry_count lists = length lists.hot + length lists.cold + length lists.still + length lists.loading + length lists.ghosts
+  entry_count lists =
+      length lists.hot + length lists.cold + length lists.still + length lists.loading
+      + length lists.ghosts
 
   -- how many more entries there can be, with memory for them
   abbrev pub slots_left : Lists K V P → ℕ

@@ -1,6 +1,8 @@
-//! The representation of a shard: its entries in the slots of one slab, linked into rings and found by their hashes.
+//! The representation of a shard: its entries in the slots of one slab, linked into rings and found
+//! by their hashes.
 //!
-//! No policy stands here. It knows nothing of weighers, hooks or hash functions: weights and hashes are handed in.
+//! No policy stands here. It knows nothing of weighers, hooks or hash functions: weights and hashes
+//! are handed in.
 #![tactic(auto)]
 
 mod entry;

@@ -64,8 +64,8 @@ impl<K, V, P, T, A: Allocator> Lists<K, V, P, T, A> {
 
     /// Makes room for so many more entries, or for all that can still come.
     ///
-    /// The slots grow first, then the table. A refusal is for want of memory: it may keep room that it got, and
-    /// changes nothing else.
+    /// The slots grow first, then the table. A refusal is for want of memory: it may keep room that
+    /// it got, and changes nothing else.
     pub fn reserve(&mut self, additional: usize) -> Result<(), Refusal>
         ensures lists { self.new ≡ record self.old { room = self.new.room } }
         ensures room { OnOk result (min additional (slots_left self.old) ≤ self.new.room) }
@@ -87,8 +87,8 @@ impl<K, V, P, T, A: Allocator> Lists<K, V, P, T, A> {
         ensures room { OnOk result (0 < self.new.room) }
         ensures grows { self.old.room ≤ self.new.room }
 
-        // Where there is room it succeeds, and nothing changes. It is refused where all slots are taken, or
-        // for want of memory.
+        // Where there is room it succeeds, and nothing changes. It is refused where all slots are
+        // taken, or for want of memory.
         ensures had_room { 0 < self.old.room → IsOk result × (self.new ≡ self.old) }
         ensures full { (result ≡ Err Refusal.SlotsFull) ↔ (slots_left self.old ≡ 0) }
         ensures refusals { IfErr result

@@ -8,7 +8,8 @@ use quick_cache_model::Queue;
 use std::marker::Model;
 use std::mem::replace;
 
-/// An item: its pair, the weight that it counts for, how often it was used lately and read, and its ring.
+/// An item: its pair, the weight that it counts for, how often it was used lately and read, and its
+/// ring.
 #[derive(Drop)]
 pub struct Resident<K, V, T> {
     key: K,

@@ -32,7 +32,8 @@ pub(crate) fn join<S, A: Allocator>(
     ring.weight += u128::from(weight);
 }
 
-/// Takes a token out of a ring's count, and begins the ring behind it if it restarts or began there.
+/// Takes a token out of a ring's count, and begins the ring behind it if it restarts or began
+/// there.
 pub(crate) fn leave(ring: &mut Ring, token: Token, next: Option<Token>, restarts: bool, weight: u64)
     requires { CanLeave ring.old weight }
     ensures { IsLeft ring.old ring.new token next restarts weight }

@@ -57,8 +57,8 @@ impl Rings {
         }
     }
 
-    /// Takes a token out of the counts of the ring of that list, if it is one. The ring begins behind the
-    /// token where it restarts, or where it began with the token.
+    /// Takes a token out of the counts of the ring of that list, if it is one. The ring begins
+    /// behind the token where it restarts, or where it began with the token.
     pub(crate) fn leave(
         &mut self,
         token: Token,

@@ -11,8 +11,8 @@ use quick_cache_model::{Queue, Token};
 use std::alloc::Allocator;
 
 impl<K, V, P, T, A: Allocator> Lists<K, V, P, T, A> {
-    /// Puts an entry last in its ring, or beside the rings where it is a placeholder or an item that weighs
-    /// nothing. It takes one of the room, and no memory.
+    /// Puts an entry last in its ring, or beside the rings where it is a placeholder or an item
+    /// that weighs nothing. It takes one of the room, and no memory.
     pub fn put(&mut self, hash: u64, entry: Entry<K, V, P, T>) -> Token
         requires { 0 < self.old.room }
         ensures token { number result ≡ self.old.next }
@@ -28,7 +28,8 @@ impl<K, V, P, T, A: Allocator> Lists<K, V, P, T, A> {
         token
     }
 
-    /// Takes an entry out. Its ring keeps the order of the rest, or begins behind it where it restarts.
+    /// Takes an entry out. Its ring keeps the order of the rest, or begins behind it where it
+    /// restarts.
     pub fn take(&mut self, token: Token, restarts: bool) -> Slot<K, V, P, T>
         requires { HasEntry self.old (number token) }
         ensures taken { IsEntry self.old (number token) result.hash result.entry }
@@ -63,8 +64,8 @@ impl<K, V, P, T, A: Allocator> Lists<K, V, P, T, A> {
         slot.set_counts(mark, reads);
     }
 
-    /// Gives the item of a token another weight, where it stays in its list: both weights are 0, or neither is.
-    /// `requeue` is for the other cases.
+    /// Gives the item of a token another weight, where it stays in its list: both weights are 0, or
+    /// neither is. `requeue` is for the other cases.
     pub fn set_weight(&mut self, token: Token, weight: u64)
         requires { StaysInList self.old (number token) weight }
         ensures { self.new ≡ with_change (number token) (with_weight weight) self.old }
@@ -77,7 +78,8 @@ impl<K, V, P, T, A: Allocator> Lists<K, V, P, T, A> {
         self.rings.reweigh(stand, was, weight);
     }
 
-    /// Gives the item of a token another pair, and the old pair back. The item keeps its place and its weight.
+    /// Gives the item of a token another pair, and the old pair back. The item keeps its place and
+    /// its weight.
     pub fn write(&mut self, token: Token, key: K, value: V) -> (K, V)
         requires { HasItemToken self.old (number token) }
         ensures written { self.new ≡ with_change (number token) (with_pair key value) self.old }

@@ -13,8 +13,8 @@ use std::alloc::Allocator;
 use std::hash::Hash;
 
 impl<K, V, P, T, A: Allocator> Lists<K, V, P, T, A> {
-    /// The item or the placeholder of that hash whose key the query stands for; else some ghost of that
-    /// hash; else nothing.
+    /// The item or the placeholder of that hash whose key the query stands for; else some ghost of
+    /// that hash; else nothing.
     pub fn find<Q: Equivalent<K>>(&self, hash: u64, query: &Q) -> Found
     where
         K: Eq + Hash,

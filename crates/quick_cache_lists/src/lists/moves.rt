@@ -8,8 +8,8 @@ use quick_cache_model::{Queue, Token};
 use std::alloc::Allocator;
 
 impl<K, V, P, T, A: Allocator> Lists<K, V, P, T, A> {
-    /// Puts another entry under a token, and answers the old one. The old one leaves its list as with `take`,
-    /// the new one is put last as with `put`; the hash stays, and no room is needed.
+    /// Puts another entry under a token, and answers the old one. The old one leaves its list as
+    /// with `take`, the new one is put last as with `put`; the hash stays, and no room is needed.
     pub fn replace(
         &mut self,
         token: Token,
@@ -33,9 +33,9 @@ impl<K, V, P, T, A: Allocator> Lists<K, V, P, T, A> {
         was
     }
 
-    /// Gives the item of a token another queue, mark and weight, and puts it last in its ring, or beside the
-    /// rings where it then weighs nothing. The ring that it leaves keeps the order of the rest, or begins
-    /// behind it where it restarts.
+    /// Gives the item of a token another queue, mark and weight, and puts it last in its ring, or
+    /// beside the rings where it then weighs nothing. The ring that it leaves keeps the order of
+    /// the rest, or begins behind it where it restarts.
     pub fn requeue(&mut self, token: Token, restarts: bool, queue: Queue, mark: u8, weight: u64)
         requires { HasItemToken self.old (number token) }
         ensures { Requeues self.old (number token) restarts (requeued queue mark weight) self.new }
