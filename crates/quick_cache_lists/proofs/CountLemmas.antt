@@ -1,5 +1,5 @@
 -- How many entries there are, once one came or went.
-use Rattle.std.proofs.Common.{◌≡◌, ℕ, ◌+◌, ◌<◌, ◌≤◌, ◌==◌, if◌then◌else◌, Bool, true, false, List, [], ◌∷◌, ◌++◌, map, length, Option, Some, None, refl, sym, ap, ◌∙◌, inl, inr, arith}
+use Rattle.std.proofs.Common.{◌≡◌, ℕ, ◌+◌, ◌<◌, ◌≤◌, ◌==◌, if◌then◌else◌, Bool, true, false, List, [], ◌∷◌, ◌++◌, map, length, refl, ap, ◌∙◌, inl, inr, arith}
 use Rattle.std.proofs.lemmas.Bool.Decides.{nat_tests}
 use Rattle.std.proofs.lemmas.Bool.{cases_eq, eq-eqb, ne_eqb}
 use Rattle.std.proofs.lemmas.List.{length-append, length-map, map-append}
@@ -12,7 +12,7 @@ use Rattle.quick_cache_slab.proofs.TokenCounts.{times-here, times-other, times-a
 use Rattle.quick_cache_lists.specs.declared.entry.Entry.{Entry}
 use Rattle.quick_cache_lists.specs.declared.entry.Slot.{Slot}
 use Rattle.quick_cache_lists.specs.declared.entry.Entry.TheVariants.{Item as item_variant, Loading as loading_variant, Ghost as ghost_variant}
-use Rattle.quick_cache_lists.specs.Lists.{HeldItem, Lists, StandsIn, items_at, with_items, SameButOrder, PutsLast, PutsItem, HasEntry, IsEntry, AreApart, dropped, ahead_of, behind, restarted, left_by, without_entry, entries_of, entry_count, changed_held, with_change}
+use Rattle.quick_cache_lists.specs.Lists.{HeldItem, Lists, StandsIn, items_at, with_items, SameButOrder, PutsLast, PutsItem, HasEntry, IsEntry, AreApart, dropped, ahead_of, behind, left_by, without_entry, entries_of, entry_count, changed_held, with_change}
 use Rattle.quick_cache_lists.specs.Slots.{AmongStill, ring_stand, stand_in, loading_in}
 
 module _ {Y : Type 0} (name : Y → ℕ) (t : ℕ) where

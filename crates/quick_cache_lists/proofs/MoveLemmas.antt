@@ -11,7 +11,7 @@ use Rattle.quick_cache_table.specs.Table.{Table, has_pair}
 use Rattle.quick_cache_lists.specs.declared.entry.Slot.{Slot}
 use Rattle.quick_cache_lists.specs.declared.rings.Rings.{Rings}
 use Rattle.quick_cache_lists.specs.Frames.{IsPlaced, IsRemoved, CanEnter, EntersRing, LeavesRingOf}
-use Rattle.quick_cache_lists.specs.Lists.{Lists, PutsLast, without_entry, entry_count}
+use Rattle.quick_cache_lists.specs.Lists.{Lists, PutsLast, without_entry}
 use Rattle.quick_cache_lists.specs.Slots.{Stand, stand_of, stand_in, has_hash, weight_in, weight_at, loading_in}
 use Rattle.quick_cache_lists.specs.Sound.{lists_of, room_of, IsKeyed, IsStanding, IsSound}
 use Rattle.quick_cache_lists.proofs.ApartLemmas.{apart_by}

@@ -1,5 +1,5 @@
 -- The token behind another in a ring, and the first item above a token.
-use Rattle.std.proofs.Common.{◌≡◌, ◌≢◌, ℕ, zero, suc, ◌+◌, ◌-◌, ◌<◌, ◌≤◌, Bool, true, false, true≢false, List, [], ◌∷◌, drop, get_or, length, Option, Some, None, MatchOption, refl, sym, ap, subst, ◌∙◌, inl, inr, arith}
+use Rattle.std.proofs.Common.{◌≡◌, ℕ, zero, suc, ◌+◌, ◌-◌, ◌<◌, Bool, true, false, true≢false, List, [], ◌∷◌, drop, get_or, Option, Some, None, MatchOption, refl, sym, ap, subst, ◌∙◌, inl, arith}
 use Rattle.std.specs.Int.NonZero.{non_zero_u32_get}
 use Rattle.std.specs.declared.num.NonZeroU32.{NonZeroU32 as Token}
 use Rattle.std.proofs.lemmas.List.{get_or-drop}
@@ -12,9 +12,9 @@ use Rattle.quick_cache_lists.specs.declared.entry.Entry.{Entry}
 use Rattle.quick_cache_lists.specs.declared.entry.Entry.TheVariants.{Item as item_variant, Loading as loading_variant, Ghost as ghost_variant}
 use Rattle.quick_cache_lists.specs.declared.entry.Slot.{Slot}
 use Rattle.quick_cache_lists.specs.declared.ring.Ring.{Ring}
-use Rattle.quick_cache_lists.specs.Lists.{HeldItem, Lists, HasItem, HasItemToken, HasRingToken, next_in_ring, number_or_zero, IsFirstAbove}
+use Rattle.quick_cache_lists.specs.Lists.{HasItemToken, HasRingToken, next_in_ring, number_or_zero, IsFirstAbove}
 use Rattle.quick_cache_lists.specs.Slots.{AmongHot, AmongCold, item_of, is_item, first_item}
-use Rattle.quick_cache_lists.specs.Sound.{gather, tokens_of, lists_of, IsStanding}
+use Rattle.quick_cache_lists.specs.Sound.{tokens_of, lists_of, IsStanding}
 use Rattle.quick_cache_lists.proofs.GatherLemmas.{gather-from}
 use Rattle.quick_cache_lists.proofs.ItemLemmas.{item_by_token}
 use Rattle.quick_cache_lists.proofs.StandLemmas.{HasItem-from}

@@ -4,7 +4,7 @@ use Rattle.std.specs.Int.NonZero.{non_zero_u32_get}
 use Rattle.std.specs.declared.num.NonZeroU32.{NonZeroU32 as Token}
 use Rattle.std.proofs.lemmas.Bool.{cases_eq, eq-eqb, ne_eqb}
 use Rattle.std.proofs.lemmas.List.{length_push}
-use Rattle.quick_cache_slab.specs.LinkedSlab.{LinkedSlab, at_token, times, joined, item_at, ring_from, spare, IsAlone, IsParted}
+use Rattle.quick_cache_slab.specs.LinkedSlab.{LinkedSlab, at_token, times, joined, item_at, ring_from, spare, IsAlone}
 use Rattle.quick_cache_table.specs.Table.{Table, has_pair, AddsPair}
 use Rattle.quick_cache_slab.proofs.AtTokens.{at_token-past}
 use Rattle.quick_cache_slab.proofs.TokenCounts.{zero_from_none, times-here, times-other, times-append, length_once}

@@ -53,9 +53,9 @@ pub record HeldGhost : Type 0 where
   pub token : ℕ
   pub hash : ℕ
 
--- The hot and the cold ring, the next to be visited first, and the ghosts, the oldest first; without
--- order the items of weight 0 and the keys that are being loaded; the token that the next entry gets;
--- and how many more entries fit with no allocation.
+-- The hot and the cold ring, the next to be visited first, and the ghosts, the oldest first;
+-- without order the items of weight 0 and the keys that are being loaded; the token that the next
+-- entry gets; and how many more entries fit with no allocation.
 pub record Lists (K V P : Type 0) : Type 0 where
   pub hot : List (HeldItem K V)
   pub cold : List (HeldItem K V)
@@ -247,8 +247,8 @@ module _ {K V P : Type 0} where
   is_in_ring (loading_variant awaited) = false
   is_in_ring ghost_variant = true
 
-  -- The entry was put last under that token. Where it stands in no ring, those that stand in none may
-  -- be in another order.
+  -- The entry was put last under that token. Where it stands in no ring, those that stand in none
+  -- may be in another order.
   pub record PutsLast {T : Type 0} (old : Lists K V P) (token hash : ℕ) (entry : Entry K V P T)
       (new : Lists K V P) : Type 0 where
     pub put : SameButOrder
@@ -257,8 +257,8 @@ module _ {K V P : Type 0} where
     pub in_ring : is_in_ring entry ≡ true
         → new ≡ record (with_last token hash entry old) { next = new.next; room = new.room }
 
-  -- The entry of that token left its list, its ring kept its order or began behind it, and another was
-  -- put last under the same token and hash, in the same room.
+  -- The entry of that token left its list, its ring kept its order or began behind it, and another
+  -- was put last under the same token and hash, in the same room.
   pub record Replaces {T : Type 0} (old : Lists K V P) (token : ℕ) (restarts : Bool)
       (entry was : Entry K V P T) (new : Lists K V P) : Type 0 where
     pub hash : ℕ
@@ -266,8 +266,8 @@ module _ {K V P : Type 0} where
     pub last : PutsLast (without_entry restarts token old) token hash entry new
     pub room : new.room ≡ old.room
 
-  -- The item was put last under that token. Where it weighs nothing, those that stand in no ring may
-  -- be in another order.
+  -- The item was put last under that token. Where it weighs nothing, those that stand in no ring
+  -- may be in another order.
   pub record PutsItem (old : Lists K V P) (token hash : ℕ) (item : Item K V) (new : Lists K V P)
       : Type 0 where
     pub put : SameButOrder
@@ -282,8 +282,8 @@ module _ {K V P : Type 0} where
           room = new.room;
         }
 
-  -- The item of that token left its list, its ring kept its order or began behind it, and once changed
-  -- it was put last under the same token and hash, in the same room.
+  -- The item of that token left its list, its ring kept its order or began behind it, and once
+  -- changed it was put last under the same token and hash, in the same room.
   pub record Requeues (old : Lists K V P) (token : ℕ) (restarts : Bool)
       (change : Item K V → Item K V) (new : Lists K V P) : Type 0 where
     pub hash : ℕ

@@ -1,8 +1,6 @@
-use Rattle.std.proofs.Common.{◌≡◌, ◌∙◌, sym, ap, refl, Option, Some, None}
-use Rattle.std.specs.declared.num.NonZeroU32.{NonZeroU32 as Token}
+use Rattle.std.proofs.Common.{◌∙◌, sym, ap, refl}
 use Rattle.quick_cache_lists.specs.Lists.{number_or_zero}
 use Rattle.quick_cache_lists.specs.Slots.{first_item}
-use Rattle.quick_cache_slab.specs.LinkedSlab.{LinkedSlab, entries_after}
 use Rattle.quick_cache_lists.proofs.NextLemmas.{IsFirstAbove-none, IsFirstAbove-some, entries_from}
 use Rattle.quick_cache_lists.proofs.lists.Lists.first_above.Goals as goal
 

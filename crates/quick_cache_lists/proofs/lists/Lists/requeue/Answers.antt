@@ -10,7 +10,7 @@ use Rattle.quick_cache_lists.specs.Lists.{PutsLast, requeued, without_entry}
 use Rattle.quick_cache_lists.specs.Sound.{lists_of}
 use Rattle.quick_cache_lists.proofs.ItemLemmas.{item_by_token, slot_is}
 use Rattle.quick_cache_lists.proofs.ChangeLemmas.{changed_slot}
-use Rattle.quick_cache_lists.proofs.CountLemmas.{loading_in-item, loading_in-slot, PutsItem-from}
+use Rattle.quick_cache_lists.proofs.CountLemmas.{loading_in-slot, PutsItem-from}
 use Rattle.quick_cache_lists.proofs.StandLemmas.{HasItem-from}
 use Rattle.quick_cache_lists.proofs.lists.Lists.requeue.Goals as goal
 

@@ -1,6 +1,6 @@
 use Rattle.std.proofs.Common.{◌∙◌, refl}
 use Rattle.std.specs.Int.NonZero.{non_zero_u32_get as number}
-use Rattle.quick_cache_lists.specs.Lists.{with_counts, with_pair}
+use Rattle.quick_cache_lists.specs.Lists.{with_counts}
 use Rattle.quick_cache_lists.proofs.ItemLemmas.{item_by_token}
 use Rattle.quick_cache_lists.proofs.ChangeLemmas.{changed_slot, IsSound-changed, lists-changed}
 use Rattle.quick_cache_lists.proofs.lists.Lists.set_counts.Goals as goal

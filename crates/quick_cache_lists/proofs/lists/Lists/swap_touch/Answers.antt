@@ -1,4 +1,4 @@
-use Rattle.std.proofs.Common.{◌∙◌, ◌≡◌, refl, sym, ap, Some}
+use Rattle.std.proofs.Common.{◌∙◌, refl}
 use Rattle.std.specs.Int.NonZero.{non_zero_u32_get as number}
 use Rattle.quick_cache_lists.proofs.ItemLemmas.{item_by_token}
 use Rattle.quick_cache_lists.proofs.ChangeLemmas.{changed_slot, with_item-same, lists-same}
