@@ -3,3 +3,4 @@ pub mod KeptTickets
 pub mod Tickets
 pub mod Sized
 pub mod Valid
+pub mod MarkCut

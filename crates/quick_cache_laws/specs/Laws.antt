@@ -11,7 +11,7 @@ use Rattle.quick_cache_model.specs.Writes.{Strategy, Writes}
 use Rattle.quick_cache_model.specs.Placeholders.{MakesPlaceholder, MeetsPlaceholder}
 use Rattle.quick_cache_model.specs.Placeholders.{FillsPlaceholder, GivesUpPlaceholder}
 use Rattle.quick_cache_model.specs.Lookups.{Sees, LooksUp}
-use Rattle.quick_cache_model.specs.Removal.{Removes, RemovesIf, Retains, emptied}
+use Rattle.quick_cache_model.specs.Removal.{Removes, RemovesIf, Retains, cleared}
 use Rattle.quick_cache_model.specs.Entries.{EntryChoice, ReplaceWithGuard, ActsOnEntry}
 use Rattle.quick_cache_model.specs.Entries.{EntryOutcome, Refused, outcome_of}
 use Rattle.quick_cache_model.specs.Refusals.{HasTicket, last_ticket}
@@ -62,10 +62,15 @@ LeavesSo leaves (EvictCold _ _) = Unit {0}
 abbrev pub LeavesBy : {K V : Type 0} → (K → V → V) → List (HookCall K V) → Type 0
 LeavesBy leaves calls = AllByRecursion (LeavesSo leaves) calls
 
--- a query stands for the keys that are equal to one for which it stands
+-- two keys that a query stands for are equal
 abbrev pub IsQuery : {K : Type 0} → (equal : K → K → Bool) (stands_for : K → Bool) → Type 0
 IsQuery {K} equal stands_for = (first second : K) → stands_for first ≡ true
-    → stands_for second ≡ equal first second
+    → stands_for second ≡ true → equal first second ≡ true
+
+-- a query stands for exactly the keys that are equal to this one
+abbrev pub IsQueryOf : {K : Type 0} → (equal : K → K → Bool) (stands_for : K → Bool) (key : K)
+    → Type 0
+IsQueryOf {K} equal stands_for key = (other : K) → stands_for other ≡ equal key other
 
 module _ (K V : Type 0) where
   -- whatever the rules of a cache in which these counts of touches may be
@@ -194,10 +199,11 @@ module _ (K V : Type 0) where
       → (calls : List (HookCall K V)) × (answer : Option V) × (new : CacheState K V)
       × FillsPlaceholder ticket old rules marked value calls answer new)
 
-  -- where a query finds no item, a placeholder can be made or met
+  -- where a query finds no item, a placeholder can be made for a key that it stands for, or met
   abbrev pub PlaceholdersCanBeTaken : Type 0
   PlaceholdersCanBeTaken =
-      (stands_for : K → Bool) (hash : ℕ) (key : K) (old : CacheState K V) → HasNoItem stands_for old
+      (stands_for : K → Bool) (hash : ℕ) (key : K) (old : CacheState K V) → stands_for key ≡ true
+      → HasNoItem stands_for old
       → ((new : CacheState K V) × MakesPlaceholder stands_for old hash key new)
       ⊎ ((ticket : ℕ) × (new : CacheState K V) × MeetsPlaceholder stands_for old ticket new)
 
@@ -306,7 +312,7 @@ module _ (K V : Type 0) where
     abbrev pub PlaceholdersStayValid : Type 0
     PlaceholdersStayValid =
         (stands_for : K → Bool) (hash : ℕ) (key : K) (old new : CacheState K V)
-        → IsQuery equal stands_for → stands_for key ≡ true
+        → IsQueryOf equal stands_for key
         → MakesPlaceholder stands_for old hash key new → IsValid equal old → IsValid equal new
 
     -- one that is met
@@ -351,7 +357,7 @@ module _ (K V : Type 0) where
 
     -- a clear or a drain
     abbrev pub EmptiedCachesAreValid : Type 0
-    EmptiedCachesAreValid = (state : CacheState K V) → IsValid equal (emptied state)
+    EmptiedCachesAreValid = (state : CacheState K V) → IsValid equal (cleared state)
 
     -- a retain
     abbrev pub RetainsStayValid : Type 0

@@ -13,7 +13,7 @@ use Rattle.quick_cache_model.specs.Removal.{Removes, RemovesIf, Retains, Drains,
 use Rattle.quick_cache_model.specs.Entries.{EntryChoice, EntryOutcome, ActsOnEntry}
 use Rattle.quick_cache_model.specs.Sizes.{IsSized, hot_target_of, ghost_limit_of}
 use Rattle.quick_cache_model.specs.Capacity.{SetsCapacity}
-use Rattle.quick_cache_laws.specs.Laws.{WhateverRules, IsQuery}
+use Rattle.quick_cache_laws.specs.Laws.{WhateverRules, IsQueryOf}
 
 module _ {K V : Type 0} (equal : K → K → Bool) (rules : Rules K V) where
   -- one call, or another order of what has none
@@ -22,7 +22,7 @@ module _ {K V : Type 0} (equal : K → K → Bool) (rules : Rules K V) where
         (answer : Option (K × V)) (new : CacheState K V)
         → Writes rules (equal key) key strategy old value calls answer new → Step old new
     makes : (stands_for : K → Bool) (hash : ℕ) (key : K) (new : CacheState K V)
-        → IsQuery equal stands_for → stands_for key ≡ true
+        → IsQueryOf equal stands_for key
         → MakesPlaceholder stands_for old hash key new → Step old new
     meets : (stands_for : K → Bool) (ticket : ℕ) (new : CacheState K V)
         → MeetsPlaceholder stands_for old ticket new → Step old new
@@ -82,6 +82,12 @@ module _ (K V : Type 0) where
     StepsStaySized =
         WhateverRules K V may_count (λ rules. (old new : CacheState K V) → Steps equal rules old new
         → IsSized old → IsSized new)
+
+    -- and never change the greatest mark
+    abbrev pub StepsKeepTheCut : Type 0
+    StepsKeepTheCut =
+        WhateverRules K V may_count (λ rules. (old new : CacheState K V) → Steps equal rules old new
+        → new.mark_cut ≡ old.mark_cut)
 
     -- A placeholder has a ticket. Once it is gone, whichever way, none has that ticket again.
     abbrev pub TicketsNeverReturn : Type 0

@@ -6,6 +6,7 @@ ghost use Rattle.quick_cache_laws.specs.Admitted.{WritesStayWithinCapacity};
 ghost use Rattle.quick_cache_laws.specs.Steps.{NewCachesAreSized, NewWeightsStayValid};
 ghost use Rattle.quick_cache_laws.specs.Steps.{StepsStaySized, StepsStayValid};
 ghost use Rattle.quick_cache_laws.specs.Steps.{TicketsNeverReturn};
+ghost use Rattle.quick_cache_laws.specs.Steps.{StepsKeepTheCut};
 ghost use Rattle.quick_cache_laws.specs.Laws.{AdvancesLowerTheMeasure, CapacitiesCanBeSet};
 ghost use Rattle.quick_cache_laws.specs.Laws.{CapacitiesStayValid, EmptiedCachesAreValid};
 ghost use Rattle.quick_cache_laws.specs.Laws.{EntriesAreRefusedForMemory};
@@ -137,4 +138,9 @@ pub fn size_law<K: Eq, V, T: Touches>()
 /// Once a placeholder is gone, no placeholder has its ticket again, whatever calls follow.
 pub fn ticket_law<K: Eq, V, T: Touches>()
     ensures { TicketsNeverReturn K V K.eq T.may_count }
+{}
+
+/// No call changes the greatest mark.
+pub fn mark_law<K: Eq, V, T: Touches>()
+    ensures { StepsKeepTheCut K V K.eq T.may_count }
 {}

@@ -22,6 +22,7 @@ module _ {K V : Type 0} where
     pub capacity : new.capacity ≡ old.capacity
     pub hot_target : new.hot_target ≡ old.hot_target
     pub ghost_limit : new.ghost_limit ≡ old.ghost_limit
+    pub mark_cut : new.mark_cut ≡ old.mark_cut
     pub hits : new.hits ≡ old.hits
     pub misses : new.misses ≡ old.misses
     pub still : (more : List (Item K V)) × (new.still ≡ old.still ++ more)
@@ -35,6 +36,7 @@ module _ {K V : Type 0} where
     capacity = refl;
     hot_target = refl;
     ghost_limit = refl;
+    mark_cut = refl;
     hits = refl;
     misses = refl;
     still = ([], sym (append-nil state.still));
@@ -50,6 +52,7 @@ module _ {K V : Type 0} where
     capacity = b.capacity ∙ a.capacity;
     hot_target = b.hot_target ∙ a.hot_target;
     ghost_limit = b.ghost_limit ∙ a.ghost_limit;
+    mark_cut = b.mark_cut ∙ a.mark_cut;
     hits = b.hits ∙ a.hits;
     misses = b.misses ∙ a.misses;
     still = (
@@ -69,6 +72,7 @@ module _ {K V : Type 0} where
     capacity = refl;
     hot_target = refl;
     ghost_limit = refl;
+    mark_cut = refl;
     hits = refl;
     misses = refl;
     still = ([], sym (append-nil state.still));
@@ -86,6 +90,7 @@ module _ {K V : Type 0} (rules : Rules K V) where
     capacity = refl;
     hot_target = refl;
     ghost_limit = refl;
+    mark_cut = refl;
     hits = refl;
     misses = refl;
     still = (record item { value = left; weight = 0 } ∷ [], refl);
@@ -98,6 +103,7 @@ module _ {K V : Type 0} (rules : Rules K V) where
     capacity = refl;
     hot_target = refl;
     ghost_limit = refl;
+    mark_cut = refl;
     hits = refl;
     misses = refl;
     still = ([], sym (append-nil old.still));

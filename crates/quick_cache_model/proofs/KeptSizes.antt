@@ -7,6 +7,7 @@ use Rattle.quick_cache_model.specs.CacheState.{InStill, with_items, entered, rew
 use Rattle.quick_cache_model.specs.CacheState.{place_of_item, restarted_behind, SameButOrder}
 use Rattle.quick_cache_model.specs.declared.queue.Queue.TheVariants.{Hot, Cold}
 use Rattle.quick_cache_model.specs.Hooks.{Rules, HookCall}
+use Rattle.quick_cache_model.specs.Touches.{first_mark}
 use Rattle.quick_cache_model.specs.Eviction.{EvictsToCapacity}
 use Rattle.quick_cache_model.specs.Writes.{Strategy, WritesAdmitted, TakesOutItem, RejectsTooHeavy}
 use Rattle.quick_cache_model.specs.Writes.{new_item, queue_for, Writes}
@@ -168,7 +169,7 @@ module _ {K V : Type 0} where
       with_items-sizes place _ old old (HasSameSizes-refl old)
   Removes-sizes stands_for hash old _ _ (Removes.of_loading before entry after there) =
       record { capacity = refl; hot_target = refl; ghost_limit = refl }
-  Removes-sizes stands_for hash old _ _ (Removes.of_ghost before after none split) =
+  Removes-sizes stands_for hash old _ _ (Removes.of_ghost before after there) =
       record { capacity = refl; hot_target = refl; ghost_limit = refl }
   Removes-sizes stands_for hash old _ _ (Removes.of_nothing nothing) = HasSameSizes-refl old
 
@@ -197,10 +198,10 @@ module _ {K V : Type 0} where
   pub MakesPlaceholder-sizes : (stands_for : K → Bool) (hash : ℕ) (key : K)
       (old new : CacheState K V) → MakesPlaceholder stands_for old hash key new
       → HasSameSizes old new
-  MakesPlaceholder-sizes stands_for hash key old _ (MakesPlaceholder.on_nothing nothing) =
+  MakesPlaceholder-sizes stands_for hash key old _ (MakesPlaceholder.on_nothing stands nothing) =
       record { capacity = refl; hot_target = refl; ghost_limit = refl }
   MakesPlaceholder-sizes stands_for hash key old _
-      (MakesPlaceholder.on_ghost before after none split) =
+      (MakesPlaceholder.on_ghost before after stands there) =
       record { capacity = refl; hot_target = refl; ghost_limit = refl }
 
   -- one that is met
@@ -240,7 +241,7 @@ module _ {K V : Type 0} where
         (left : V) (choice : EntryChoice) (outcome : EntryOutcome) (new : CacheState K V)
         → ActsOnEntry rules stands_for old item left choice outcome new → HasSameSizes old new
     ActsOnEntry-sizes stands_for old item left _ _ _ (ActsOnEntry.kept place before after there) =
-        let same = reweighed-sizes place before (looked_up item) after left old in
+        let same = reweighed-sizes place before (looked_up old.mark_cut item) after left old in
         record
         { capacity = same.capacity; hot_target = same.hot_target; ghost_limit = same.ghost_limit }
     ActsOnEntry-sizes stands_for old item left _ _ _
@@ -267,7 +268,7 @@ module _ {K V : Type 0} where
         room _ _ rest new
         (entered-sizes (new_item rules entry.key left
         (queue_for rules old entry.key left entry.queue)
-        (if marked then 1 else 0)) old (record old { loading = before ++ after })
+        (if marked then first_mark old.mark_cut else 0)) old (record old { loading = before ++ after })
         (record { capacity = refl; hot_target = refl; ghost_limit = refl })) makes
       where
         room : (weight : ℕ) (mid : CacheState K V) (calls : List (HookCall K V))
@@ -320,7 +321,7 @@ module _ {K V : Type 0} where
           (WritesAdmitted.overwrites place before item touched after calls new there takes evicts) =
           EvictsToCapacity-sizes 0 old _ new calls evicts (rewritten-sizes place before _ after old)
       WritesAdmitted-sizes strategy old value _ _ _
-          (WritesAdmitted.inserts_over_ghost before after calls new inserts none split evicts) =
+          (WritesAdmitted.inserts_over_ghost before after calls new inserts there evicts) =
           EvictsToCapacity-sizes 0 old _ new calls evicts
           (entered-sizes (new_item rules key value Hot 0) old
           (record old { ghosts = before ++ after })
@@ -328,14 +329,14 @@ module _ {K V : Type 0} where
       WritesAdmitted-sizes strategy old value _ _ _
           (WritesAdmitted.inserts_over_loading before entry after calls new inserts there evicts) =
           EvictsToCapacity-sizes 0 old _ new calls evicts
-          (entered-sizes (new_item rules key value entry.queue 1) old
+          (entered-sizes (new_item rules key value entry.queue (first_mark old.mark_cut)) old
           (record old { loading = before ++ after })
           (record { capacity = refl; hot_target = refl; ghost_limit = refl }))
       WritesAdmitted-sizes strategy old value _ _ _ (WritesAdmitted.gives_back replaces none) =
           HasSameSizes-refl old
 
       TakesOutItem-sizes : (old : CacheState K V) (calls : List (HookCall K V))
-          (new : CacheState K V) → TakesOutItem rules equal_to key old calls new
+          (new : CacheState K V) → TakesOutItem equal_to old calls new
           → HasSameSizes old new
       TakesOutItem-sizes old _ _ (TakesOutItem.was_there place before item after there) =
           with_items-sizes place _ old old (HasSameSizes-refl old)
@@ -353,7 +354,7 @@ module _ {K V : Type 0} where
           rejected rest answer new rejects
         where
           rejected : (calls : List (HookCall K V)) (answer : Option (K × V)) (last : CacheState K V)
-              → RejectsTooHeavy rules equal_to key strategy old left calls answer last
+              → RejectsTooHeavy equal_to key strategy old left calls answer last
               → HasSameSizes old last
           rejected _ _ _ (RejectsTooHeavy.reports calls last inserts takes) =
               TakesOutItem-sizes old calls last takes

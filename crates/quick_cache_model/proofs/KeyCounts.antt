@@ -2,7 +2,7 @@
 use Rattle.std.proofs.Common.{◌≡◌, ℕ, ◌+◌, ◌≤◌, Bool, true, false, cond, List, [], ◌∷◌, ◌++◌, map, refl, ap, ◌∙◌, arith}
 use Rattle.std.specs.List.{AllByRecursion, count_by}
 use Rattle.std.proofs.lemmas.List.Sums.{sum_by-append, sum_by-cons}
-use Rattle.quick_cache_model.specs.CacheState.{Item, LoadingEntry}
+use Rattle.quick_cache_model.specs.CacheState.{CacheState, Item, LoadingEntry, keys_by}
 use Rattle.quick_cache_model.specs.Eviction.{lowered}
 use Rattle.quick_cache_model.specs.Touches.{RaisesMarks}
 use Rattle.quick_cache_model.proofs.TouchLaws.{with_touches-key}
@@ -50,13 +50,13 @@ module _ {K V : Type 0} (test : K → Bool) where
   keys-lowered n (x ∷ xs) = omega (arith, keys-cons (lowered n x) (map (lowered n) xs), keys-cons x xs, keys-lowered n xs)
 
   -- nor do touches
-  pub keys-raised : (may_count : ℕ → Type 0) (old new : List (Item K V)) → RaisesMarks may_count old new → keys new ≡ keys old
-  keys-raised may_count [] [] raised = refl
-  keys-raised may_count [] (y ∷ ys) raised = absurd raised
-  keys-raised may_count (x ∷ xs) [] raised = absurd raised
-  keys-raised may_count (x ∷ xs) (y ∷ ys) raised =
-      let same : y.key ≡ x.key = ap (λ (i : Item K V). i.key) raised.0.2 ∙ with_touches-key raised.0.0 x in
-      omega (arith, keys-cons x xs, keys-cons y ys, ap (one test) same, keys-raised may_count xs ys raised.1)
+  pub keys-raised : (cut : ℕ) (may_count : ℕ → Type 0) (old new : List (Item K V)) → RaisesMarks cut may_count old new → keys new ≡ keys old
+  keys-raised cut may_count [] [] raised = refl
+  keys-raised cut may_count [] (y ∷ ys) raised = absurd raised
+  keys-raised cut may_count (x ∷ xs) [] raised = absurd raised
+  keys-raised cut may_count (x ∷ xs) (y ∷ ys) raised =
+      let same : y.key ≡ x.key = ap (λ (i : Item K V). i.key) raised.0.2 ∙ with_touches-key cut raised.0.0 x in
+      omega (arith, keys-cons x xs, keys-cons y ys, ap (one test) same, keys-raised cut may_count xs ys raised.1)
 
   -- no key passes where each fails
   pub keys-none : (items : List (Item K V)) → AllByRecursion (λ item. test item.key ≡ false) items → keys items ≡ 0
@@ -101,3 +101,29 @@ module _ {K : Type 0} (test : K → Bool) where
   loading_none-from_keys [] e = tt
   loading_none-from_keys (x ∷ xs) e =
       (false-from_one_if (test x.key) (omega (arith, e, loading_keys-cons x xs)), loading_none-from_keys xs (omega (arith, e, loading_keys-cons x xs)))
+
+module _ {K : Type 0} (few many : K → Bool) (more : (k : K) → few k ≡ true → many k ≡ true) where
+  -- what passes the one test passes the other, and counts there too
+  one-fewer : (k : K) → one few k ≤ one many k
+  one-fewer k = go (few k) refl
+    where
+      go : (b : Bool) → few k ≡ b → one_if b ≤ one many k
+      go true is = omega (arith, ap one_if (more k is))
+      go false is = omega arith
+
+  -- so of the items of a list
+  keys-fewer : {V : Type 0} (items : List (Item K V)) → keys few items ≤ keys many items
+  keys-fewer [] = omega arith
+  keys-fewer (x ∷ xs) =
+      omega (arith, keys-cons few x xs, keys-cons many x xs, one-fewer x.key, keys-fewer xs)
+
+  -- of the loading entries
+  loading_keys-fewer : (entries : List (LoadingEntry K)) → loading_keys few entries ≤ loading_keys many entries
+  loading_keys-fewer [] = omega arith
+  loading_keys-fewer (x ∷ xs) =
+      omega (arith, loading_keys-cons few x xs, loading_keys-cons many x xs, one-fewer x.key, loading_keys-fewer xs)
+
+  -- and of a state
+  pub keys_by-fewer : {V : Type 0} (state : CacheState K V) → keys_by few state ≤ keys_by many state
+  keys_by-fewer state =
+      omega (arith, keys-fewer state.hot, keys-fewer state.cold, keys-fewer state.still, loading_keys-fewer state.loading)

@@ -1,12 +1,14 @@
--- What a cache holds: items in two rings and outside of them, keys that are being loaded, and ghosts.
-use Rattle.std.specs.Prelude.{◌≡◌, ℕ, ◌+◌, ◌<◌, ◌≤◌, Bool, List, [], ◌∷◌, ◌++◌, length, sum_by, count_by, if◌then◌else◌, ◌==◌}
+-- What a cache holds: items in two rings and outside of them, keys that are being loaded, and
+-- ghosts.
+use Rattle.std.specs.Prelude.{◌≡◌, ℕ, ◌+◌, ◌<◌, ◌≤◌, Bool, List, [], ◌∷◌, ◌++◌, length, sum_by}
+use Rattle.std.specs.Prelude.{count_by, if◌then◌else◌, ◌==◌}
 use Rattle.std.specs.List.{AllByRecursion}
 use Rattle.std.specs.List.Sorted.{IsPermutation}
 use Rattle.quick_cache_model.specs.declared.queue.Queue.{Queue}
 use Rattle.quick_cache_model.specs.declared.queue.Queue.TheVariants.{Hot, Cold}
 
--- An entry that can be found: its pair, the weight that it counts for, how often it was used lately (its mark), how
--- often it was read, and the ring that it is of.
+-- An entry that can be found: its pair, the weight that it counts for, how often it was used lately
+-- (its mark), how often it was read, and the ring that it is of.
 pub record Item (K V : Type 0) : Type 0 where
   pub key : K
   pub value : V
@@ -21,9 +23,9 @@ pub record LoadingEntry (K : Type 0) : Type 0 where
   pub queue : Queue
   pub ticket : ℕ
 
--- Three lists: the items of the hot and of the cold ring, the next to be visited first, and the hashes of items that
--- left the cold ring lately, the oldest first. Beside them, without order, the items of weight 0 and the keys that are
--- being loaded; and the numbers of the cache.
+-- Three lists: the items of the hot and of the cold ring, the next to be visited first, and the
+-- hashes of items that left the cold ring lately, the oldest first. Beside them, without order, the
+-- items of weight 0 and the keys that are being loaded; and the numbers of the cache.
 pub record CacheState (K V : Type 0) : Type 0 where
   pub hot : List (Item K V)
   pub cold : List (Item K V)
@@ -33,13 +35,14 @@ pub record CacheState (K V : Type 0) : Type 0 where
   pub capacity : ℕ
   pub hot_target : ℕ
   pub ghost_limit : ℕ
+  pub mark_cut : ℕ
   pub hits : ℕ
   pub misses : ℕ
   pub next_ticket : ℕ
 
--- the greatest mark
-abbrev pub mark_cut : ℕ
-mark_cut = 2
+-- the greatest mark of an item, where none is set
+abbrev pub default_mark_cut : ℕ
+default_mark_cut = 2
 
 -- a cache that nothing was put into
 abbrev pub empty_state : {K V : Type 0} → (capacity hot_target ghost_limit : ℕ) → CacheState K V
@@ -52,6 +55,7 @@ empty_state capacity hot_target ghost_limit = record {
   capacity = capacity;
   hot_target = hot_target;
   ghost_limit = ghost_limit;
+  mark_cut = default_mark_cut;
   hits = 0;
   misses = 0;
   next_ticket = 1;
@@ -106,16 +110,19 @@ module _ {K V : Type 0} where
 
   -- the state once the item was put last at its place
   abbrev pub entered : Item K V → CacheState K V → CacheState K V
-  entered item state = with_items (place_of_item item) (items_at (place_of_item item) state ++ item ∷ []) state
+  entered item state = with_items (place_of_item item)
+      (items_at (place_of_item item) state ++ item ∷ []) state
 
-  -- a ring that an item left: it begins with what stood behind the item, and ends with what stood before it
+  -- a ring that an item left: it begins with what stood behind the item, and ends with what stood
+  -- before it
   abbrev pub restarted_behind : (before after : List (Item K V)) → List (Item K V)
   restarted_behind before after = after ++ before
 
-  -- The item stands in for the one between these two lists, and its weight decides where: it keeps its place where both
-  -- or neither weigh nothing; one that lost its weight leaves its ring, which begins behind it; and one that gained
-  -- weight is put last in its ring.
-  abbrev pub rewritten : Place → (before : List (Item K V)) (item : Item K V) (after : List (Item K V)) → CacheState K V → CacheState K V
+  -- The item stands in for the one between these two lists, and its weight decides where: it keeps
+  -- its place where both or neither weigh nothing; one that lost its weight leaves its ring, which
+  -- begins behind it; and one that gained weight is put last in its ring.
+  abbrev pub rewritten : Place → (before : List (Item K V)) (item : Item K V)
+      (after : List (Item K V)) → CacheState K V → CacheState K V
   rewritten InStill before item after state =
       if item.weight == 0 then with_items InStill (before ++ item ∷ after) state
       else entered item (with_items InStill (before ++ after) state)
@@ -123,36 +130,39 @@ module _ {K V : Type 0} where
       if item.weight == 0 then entered item (with_items InHot (restarted_behind before after) state)
       else with_items InHot (before ++ item ∷ after) state
   rewritten InCold before item after state =
-      if item.weight == 0 then entered item (with_items InCold (restarted_behind before after) state)
+      if item.weight == 0
+      then entered item (with_items InCold (restarted_behind before after) state)
       else with_items InCold (before ++ item ∷ after) state
 
   -- how many items and loading entries have a key that passes the test
   abbrev pub keys_by : (K → Bool) → CacheState K V → ℕ
   keys_by test state =
       count_by (λ item. test item.key) state.hot + count_by (λ item. test item.key) state.cold
-      + count_by (λ item. test item.key) state.still + count_by (λ entry. test entry.key) state.loading
+      + count_by (λ item. test item.key) state.still
+      + count_by (λ entry. test entry.key) state.loading
 
-  -- an item that stands in the ring of this queue
-  pub record IsRingItem (queue : Queue) (item : Item K V) : Type 0 where
+  -- an item that stands in the ring of this queue, with a mark up to the greatest
+  pub record IsRingItem (cut : ℕ) (queue : Queue) (item : Item K V) : Type 0 where
     pub weighs : 0 < item.weight
     pub of_queue : item.queue ≡ queue
-    pub marked : item.mark ≤ mark_cut
+    pub marked : item.mark ≤ cut
 
   -- an item that stands in no ring
-  pub record IsStillItem (item : Item K V) : Type 0 where
+  pub record IsStillItem (cut : ℕ) (item : Item K V) : Type 0 where
     pub weightless : item.weight ≡ 0
-    pub marked : item.mark ≤ mark_cut
+    pub marked : item.mark ≤ cut
 
-  -- What holds of every state of a cache. Each key has one entry, and each ticket one, below the next one; the ghosts
-  -- are within their limit; and each item stands where its weight and its queue say, with a mark up to the greatest.
+  -- What holds of every state of a cache. Each key has one entry, and each ticket one, below the
+  -- next one; the ghosts are within their limit; and each item stands where its weight and its
+  -- queue say, with a mark up to the greatest.
   pub record IsValid (equal : K → K → Bool) (state : CacheState K V) : Type 0 where
     pub one_entry_a_key : (k : K) → keys_by (equal k) state ≤ 1
     pub one_entry_a_ticket : (n : ℕ) → count_by (λ entry. entry.ticket == n) state.loading ≤ 1
     pub tickets_given : AllByRecursion (λ entry. entry.ticket < state.next_ticket) state.loading
     pub ghosts_within : length state.ghosts ≤ state.ghost_limit
-    pub in_hot : AllByRecursion (IsRingItem Hot) state.hot
-    pub in_cold : AllByRecursion (IsRingItem Cold) state.cold
-    pub in_still : AllByRecursion IsStillItem state.still
+    pub in_hot : AllByRecursion (IsRingItem state.mark_cut Hot) state.hot
+    pub in_cold : AllByRecursion (IsRingItem state.mark_cut Cold) state.cold
+    pub in_still : AllByRecursion (IsStillItem state.mark_cut) state.still
 
   -- the same state, but for the order of what has none
   pub record SameButOrder (old new : CacheState K V) : Type 0 where

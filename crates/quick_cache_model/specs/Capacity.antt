@@ -16,5 +16,6 @@ module _ {K V : Type 0} (rules : Rules K V) (capacity : ℕ) where
 
   -- new numbers, then eviction down to the capacity, and then the oldest ghosts go
   pub data SetsCapacity (old : CacheState K V) : List (HookCall K V) → CacheState K V → Type 0 where
-    sets : (mid : CacheState K V) (calls : List (HookCall K V)) → EvictsToCapacity rules 0 (resized old) calls mid
+    sets : (mid : CacheState K V) (calls : List (HookCall K V))
+        → EvictsToCapacity rules 0 (resized old) calls mid
         → SetsCapacity old calls (record mid { ghosts = newest mid.ghost_limit mid.ghosts })

@@ -38,7 +38,7 @@ module _ {K V : Type 0} (rules : Rules K V) (stands_for : K → Bool) where
     kept : (place : Place) (before after : List (Item K V))
         → IsItemAt stands_for old place before item after
         → ActsOnEntry old item left Retain Kept
-        (after_hit (reweighed rules place before (looked_up item) after left old))
+        (after_hit (reweighed rules place before (looked_up old.mark_cut item) after left old))
     removed : (place : Place) (before after : List (Item K V))
         (now : Place) (front back : List (Item K V))
         → IsItemAt stands_for old place before item after

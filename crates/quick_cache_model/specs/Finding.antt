@@ -5,20 +5,24 @@ use Rattle.quick_cache_model.specs.CacheState.{CacheState, Item, LoadingEntry, P
 
 -- what was found, and what stands before and behind it
 pub data Found (K V : Type 0) : Type 0 where
-  FoundItem : (place : Place) (before : List (Item K V)) (item : Item K V) (after : List (Item K V)) → Found K V
-  FoundLoading : (before : List (LoadingEntry K)) (entry : LoadingEntry K) (after : List (LoadingEntry K)) → Found K V
+  FoundItem : (place : Place) (before : List (Item K V)) (item : Item K V) (after : List (Item K V))
+      → Found K V
+  FoundLoading : (before : List (LoadingEntry K)) (entry : LoadingEntry K)
+      (after : List (LoadingEntry K)) → Found K V
   FoundGhost : (before after : List ℕ) → Found K V
   FoundNothing : Found K V
 
 -- A query is known by the keys that it stands for and by its hash.
 module _ {K V : Type 0} (stands_for : K → Bool) where
   -- at the place stands an item whose key the query stands for
-  pub record IsItemAt (state : CacheState K V) (place : Place) (before : List (Item K V)) (item : Item K V) (after : List (Item K V)) : Type 0 where
+  pub record IsItemAt (state : CacheState K V) (place : Place) (before : List (Item K V))
+      (item : Item K V) (after : List (Item K V)) : Type 0 where
     pub split : items_at place state ≡ before ++ item ∷ after
     pub passes : stands_for item.key ≡ true
 
   -- such a key is being loaded
-  pub record IsLoadingAt (state : CacheState K V) (before : List (LoadingEntry K)) (entry : LoadingEntry K) (after : List (LoadingEntry K)) : Type 0 where
+  pub record IsLoadingAt (state : CacheState K V) (before : List (LoadingEntry K))
+      (entry : LoadingEntry K) (after : List (LoadingEntry K)) : Type 0 where
     pub split : state.loading ≡ before ++ entry ∷ after
     pub passes : stands_for entry.key ≡ true
 
@@ -38,10 +42,15 @@ module _ {K V : Type 0} (stands_for : K → Bool) where
     pub keys : HasNoKey state
     pub ghosts : AllByRecursion (λ ghost_hash. ghost_hash ≢ hash) state.ghosts
 
-  -- The item or the loading entry whose key the query stands for; else some ghost of equal hash, any of several; else
-  -- nothing.
+  -- no item and no placeholder has such a key, but here is a ghost of the query's hash
+  pub record IsGhostAt (hash : ℕ) (state : CacheState K V) (before after : List ℕ) : Type 0 where
+    pub keys : HasNoKey state
+    pub split : state.ghosts ≡ before ++ hash ∷ after
+
+  -- The item or the loading entry whose key the query stands for; else some ghost of equal hash,
+  -- any of several; else nothing. Each call goes by one of these four.
   abbrev pub Finds : ℕ → CacheState K V → Found K V → Type 0
   Finds hash state (FoundItem place before item after) = IsItemAt state place before item after
   Finds hash state (FoundLoading before entry after) = IsLoadingAt state before entry after
-  Finds hash state (FoundGhost before after) = HasNoKey state × (state.ghosts ≡ before ++ hash ∷ after)
+  Finds hash state (FoundGhost before after) = IsGhostAt hash state before after
   Finds hash state FoundNothing = HasNothing hash state

@@ -1,5 +1,6 @@
 //! Queries that stand for keys.
 ghost use Rattle.std.specs.Prelude.{◌≡◌, Bool, IsTrue, IfOk, IfErr, IsOk};
+ghost use Rattle.std.proofs.Common.{sym, ◌∙◌};
 ghost use Rattle.quick_cache_model.specs.declared.refusal.Refusal.TheVariants.{Memory};
 
 use crate::refusal::Refusal;
@@ -20,9 +21,10 @@ pub trait Equivalent<K: Eq + Hash>: Hash {
     ghost same_hash: { (query : Self) (key : K) → IsTrue (equivalent query key)
         → Self.hash_input query ≡ K.hash_input key };
 
-    /// Two keys that one query stands for are equal, and it stands for each key that is equal to one of them.
+    /// Two keys that one query stands for are equal. It need not stand for each key that is equal
+    /// to one of them.
     ghost same_key: { (query : Self) (first second : K) → IsTrue (equivalent query first)
-        → equivalent query second ≡ K.eq first second };
+        → IsTrue (equivalent query second) → IsTrue (K.eq first second) };
 }
 
 impl<K: Eq + Hash> Equivalent<K> for K {
@@ -30,7 +32,8 @@ impl<K: Eq + Hash> Equivalent<K> for K {
 
     ghost same_hash = { K.respects_eq };
 
-    ghost same_key = { K.Eq.laws.congr };
+    ghost same_key = { λ query first second stands also.
+        sym (K.Eq.laws.congr query first second stands) ∙ also };
 
     fn equivalent(&self, key: &K) -> bool {
         self == key
@@ -41,7 +44,8 @@ impl<K: Eq + Hash> Equivalent<K> for K {
 ///
 /// Each `K: Eq + Hash + Clone` gives its clone.
 pub trait ToKey<K: Eq + Hash>: Equivalent<K> {
-    /// The keys that the query may give. A call that takes one asks that the query stands for each of them.
+    /// The keys that the query may give. A call that takes one asks that the query stands for
+    /// each of them.
     ghost to_key_gives: { Self → K → Type 0 };
 
     /// Whether the query gives a key without fail.
@@ -52,10 +56,19 @@ pub trait ToKey<K: Eq + Hash>: Equivalent<K> {
         ensures gives { IfOk result (to_key_gives self.now) }
         ensures succeeds { to_key_is_infallible self.now → IsOk result }
         ensures refused { IfErr result (λ refusal. refusal ≡ Memory) };
+
+    /// A query that stands for a key that it gives stands for each key that is equal to that one.
+    /// So a key that is made where the query found nothing is equal to none that is there.
+    ghost same_given: { (query : Self) (given other : K) → to_key_gives query given
+        → IsTrue (Self.equivalent query given) → IsTrue (K.eq given other)
+        → IsTrue (Self.equivalent query other) };
 }
 
 impl<K: Eq + Hash + Clone> ToKey<K> for K {
     ghost to_key_gives = { K.is_clone };
+
+    ghost same_given = { λ query given other _ stands equal.
+        K.Eq.laws.congr query given other stands ∙ equal };
 
     ghost to_key_is_infallible = { K.is_infallible };
 

@@ -1,7 +1,8 @@
 //! What readers count beside each other.
 ghost use Rattle.std.specs.Prelude.{ℕ};
 
-/// Counts what readers add to a mark and to reads, where they share the cache. A new one counts nothing.
+/// Counts what readers add to a mark and to reads, where they share the cache. A new one counts
+/// nothing.
 pub trait Touches: Default + Drop {
     /// What the count may be: anything where readers share it, and 0 where there is one thread.
     ghost may_count: { ℕ → Type 0 };

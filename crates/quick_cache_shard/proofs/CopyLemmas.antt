@@ -5,7 +5,7 @@ use Rattle.std.specs.Cmp.{IsEquivalence, nat_eq_equiv}
 use Rattle.std.specs.List.{AllZip}
 use Rattle.quick_cache_model.specs.declared.queue.Queue.{Queue}
 use Rattle.quick_cache_model.specs.declared.queue.Queue.TheVariants.{Hot, Cold}
-use Rattle.quick_cache_model.specs.CacheState.{CacheState, Item, mark_cut}
+use Rattle.quick_cache_model.specs.CacheState.{CacheState, Item, default_mark_cut}
 use Rattle.quick_cache_shard.specs.Copies.{ClonesAreEqual, IsItemCopy, IsCopyOf}
 use Rattle.quick_cache_shard.specs.Rings.{IsUnitItem, AllUnit, IsPlain, plain_state}
 use Rattle.quick_cache_shard.specs.Shard.{ClonesExactly}
@@ -18,7 +18,7 @@ module _ {K V : Type 0} (clones_key : K → K → Type 0) (clones_value : V → 
   unit-copied queue item copy is unit = record {
     weighs = ap (λ (i : Item K V). i.weight) is.same ∙ unit.weighs;
     of_queue = ap (λ (i : Item K V). i.queue) is.same ∙ unit.of_queue;
-    marked = subst (λ (i : Item K V). i.mark ≤ mark_cut) (sym is.same) unit.marked;
+    marked = subst (λ (i : Item K V). i.mark ≤ default_mark_cut) (sym is.same) unit.marked;
   }
 
   pub AllUnit-copied : (queue : Queue) (xs ys : List (Item K V))

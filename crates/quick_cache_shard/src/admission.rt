@@ -29,8 +29,7 @@ impl<K: Eq + Hash + Drop, V: Drop, P: SharedPlaceholder<K>, A: Allocator> Rings<
         requires sound { IsSound K.eq self.old }
         requires found { IsFoundAt (K.eq key.now) hash (state_of self.old) location }
         ensures takes { Calls (M.hooks terms.now)
-            (λ calls. TakesOutItem (unit_rules P.Touch.may_count (M.hashed terms.now))
-            (K.eq key.now) key.now (state_of self.old) calls (state_of self.new))
+            (λ calls. TakesOutItem (K.eq key.now) (state_of self.old) calls (state_of self.new))
             state.old state.new }
         ensures sound { IsSound K.eq self.new }
         ensures room { (n : ℕ) → HasRoom n self.old → HasRoom n self.new }

@@ -1,6 +1,6 @@
 //! Writes: inserts and replaces.
 ghost use Rattle.std.specs.Prelude.{◌≡◌, ℕ, ◌<◌, List, [], ◌∷◌, None, nat_eq, vec_len, vec_capacity, ◌+◌, ◌≤◌, OnErr, Some, IfErr};
-ghost use Rattle.quick_cache_model.specs.CacheState.{Item};
+ghost use Rattle.quick_cache_model.specs.CacheState.{default_mark_cut, Item};
 ghost use Rattle.quick_cache_model.specs.Finding.{HasNoKey, HasNothing};
 ghost use Rattle.quick_cache_model.specs.Hooks.{Calls, RunsHooks, evicted};
 ghost use Rattle.quick_cache_model.specs.Refusals.{slots_taken};
@@ -9,7 +9,7 @@ ghost use Rattle.quick_cache_shard.specs.Changes.{WritesOverAt, is_insert, IsRea
 ghost use Rattle.quick_cache_shard.specs.Places.{IsFoundAt};
 ghost use Rattle.quick_cache_shard.specs.Policies.{rules_by, IsPlainPolicy};
 ghost use Rattle.quick_cache_shard.specs.Rings.{HasRoom, IsSound, state_of, unit_rules, room_of};
-ghost use Rattle.quick_cache_shard.specs.Shard.{strategy_of, Answers};
+ghost use Rattle.quick_cache_shard.specs.Shard.{strategy_of, AnswersWrite};
 ghost use Rattle.quick_cache_shard.specs.Split.{IsFirst, IsSplit};
 ghost use Rattle.quick_cache_model.specs.declared.refusal.Refusal.TheVariants.{Memory};
 
@@ -35,7 +35,7 @@ pub enum InsertStrategy {
 impl InsertStrategy {
     /// The mark of an item that is written over.
     pub(crate) fn mark_after(self, mark: u8) -> u8
-        ensures { result ≡ mark_after (strategy_of self) mark }
+        ensures { result ≡ mark_after default_mark_cut (strategy_of self) mark }
     {
         match self {
             InsertStrategy::Insert => mark.min(1) + 1,
@@ -231,7 +231,7 @@ impl<K: Eq + Hash + Drop, V: Drop, P: SharedPlaceholder<K>, A: Allocator> Rings<
         requires sound { IsSound K.eq self.old }
         requires plain { IsPlainPolicy M.Policy terms.now }
         requires hash_is { hash ≡ M.hashed terms.now key }
-        ensures answers { Answers (M.hooks terms.now)
+        ensures answers { AnswersWrite (M.hooks terms.now)
             (rules_by M.Policy P.Touch.may_count terms.now)
             K.eq (strategy_of strategy) (state_of self.old) state.old key value result
             (state_of self.new) state.new }

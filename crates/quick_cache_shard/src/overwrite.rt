@@ -1,6 +1,6 @@
 //! A pair over an item, and what its hook is told.
 ghost use Rattle.std.specs.Prelude.{◌≡◌, ◌<◌, List, [], ◌∷◌, None, vec_len, vec_capacity, ℕ};
-ghost use Rattle.quick_cache_model.specs.CacheState.{Item};
+ghost use Rattle.quick_cache_model.specs.CacheState.{Item, default_mark_cut};
 ghost use Rattle.quick_cache_model.specs.Hooks.{Calls, RunsHooks, evicted};
 ghost use Rattle.quick_cache_model.specs.Writes.{WritesAdmitted};
 ghost use Rattle.quick_cache_shard.specs.Changes.{WritesOverAt};
@@ -44,7 +44,7 @@ fn write_over_at<K, V, T: Touches, A: Allocator>(
     requires { at < vec_len items.old }
     ensures writes { (before : List (Item K V)) (item : Item K V) (after : List (Item K V))
         → IsSplit items.old.items at before item after
-        → WritesOverAt T.may_count (strategy_of strategy) key value
+        → WritesOverAt default_mark_cut T.may_count (strategy_of strategy) key value
         before item after result items.new.items }
     ensures len { vec_len items.new ≡ vec_len items.old }
     ensures capacity { vec_capacity items.new ≡ vec_capacity items.old }

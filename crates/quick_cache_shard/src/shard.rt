@@ -13,7 +13,7 @@ ghost use Rattle.quick_cache_model.specs.Removal.{Removes, pair_of};
 ghost use Rattle.quick_cache_model.specs.Sizes.{hot_target_of, ghost_limit_of};
 ghost use Rattle.quick_cache_shard.specs.Copies.{ClonesAreEqual, IsCopyOf};
 ghost use Rattle.quick_cache_shard.specs.Places.{IsLookedUp, IsMissed, IsPlaced, IsKeyAt, IsValueAt};
-ghost use Rattle.quick_cache_shard.specs.Shard.{rules_of, hooks_of, strategy_of, Answers, UpToOrder, IsPlainCache, IsSoundShard, HasItem, no_work};
+ghost use Rattle.quick_cache_shard.specs.Shard.{rules_of, hooks_of, strategy_of, AnswersWrite, UpToOrder, IsPlainCache, IsSoundShard, HasItem, no_work};
 ghost use Rattle.quick_cache_model.specs.Refusals.{slots_taken, slot_count};
 
 use crate::find::Location;
@@ -215,7 +215,7 @@ impl<K: Eq + Hash, V, We, B: BuildHasher, L, P: SharedPlaceholder<K>, A: Allocat
         requires hash_is { hash
             ≡ hash_of B.BuildHasher B.Hasher.Hasher self.old.builder (K.hash_input key) }
         requires plain { IsPlainCache We.Weighter L.Lifecycle self.old }
-        ensures answers { Answers (hooks_of L.Lifecycle self.old)
+        ensures answers { AnswersWrite (hooks_of L.Lifecycle self.old)
             (rules_of P.Touch.may_count K.Hash.hash_input We.Weighter B.BuildHasher
             B.Hasher.Hasher L.Lifecycle self.old)
             K.eq (strategy_of strategy) self.old.state state.old key value result

@@ -2,6 +2,8 @@
 #![tactic(auto)]
 
 #[cfg(test)]
+mod any_case;
+#[cfg(test)]
 mod clones;
 pub mod halves;
 #[cfg(test)]

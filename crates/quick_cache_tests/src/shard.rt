@@ -12,10 +12,13 @@ use std::hash::Hash;
 use std::test::Fail;
 
 /// A shard of unit weights.
-type Tested<K, V> = CacheShard<K, V, UnitWeighter, Thousand, Counting, Placeholder>;
+pub(crate) type Tested<K, V> = CacheShard<K, V, UnitWeighter, Thousand, Counting, Placeholder>;
 
 /// An empty shard for so many items, with the default shares.
-fn empty<K: Eq + Hash, V>(rt: &HostRuntime, capacity: usize) -> Result<Tested<K, V>, Refusal> {
+pub(crate) fn empty<K: Eq + Hash, V>(
+    rt: &HostRuntime,
+    capacity: usize,
+) -> Result<Tested<K, V>, Refusal> {
     CacheShard::new(
         rt.alloc(),
         970000,

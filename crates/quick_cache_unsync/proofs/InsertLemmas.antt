@@ -15,12 +15,12 @@ module _ {K V : Type 0} (rules : Rules K V) (equal_to : K → Bool) (key : K) wh
       → WritesAdmitted rules equal_to key Insert old value calls answer new → answer ≡ None
   admitted-none (WritesAdmitted.inserts_new mid calls is_insert nothing evicts) = refl
   admitted-none (WritesAdmitted.overwrites place before item touched after calls new there touches evicts) = refl
-  admitted-none (WritesAdmitted.inserts_over_ghost before after calls new is_insert no_key split evicts) = refl
+  admitted-none (WritesAdmitted.inserts_over_ghost before after calls new is_insert there evicts) = refl
   admitted-none (WritesAdmitted.inserts_over_loading before entry after calls new is_insert there evicts) = refl
   admitted-none (WritesAdmitted.gives_back is_replace no_item) = absurd is_replace
 
   pub too_heavy-none : {old : CacheState K V} {value : V} {calls : List (HookCall K V)} {answer : Option (K × V)} {new : CacheState K V}
-      → RejectsTooHeavy rules equal_to key Insert old value calls answer new → answer ≡ None
+      → RejectsTooHeavy equal_to key Insert old value calls answer new → answer ≡ None
   too_heavy-none (RejectsTooHeavy.reports calls new is_insert takes) = refl
   too_heavy-none (RejectsTooHeavy.gives_back calls new is_replace takes) = absurd is_replace
 

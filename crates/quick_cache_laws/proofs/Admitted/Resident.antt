@@ -126,9 +126,9 @@ module _ {K V : Type 0} where
         none
         = absurd (no_item_at equal_to old place before item after none.keys.items there)
     WritesAdmitted-holds old value _ _ _
-        (WritesAdmitted.inserts_over_ghost before after calls new inserts keys split evicts) none =
+        (WritesAdmitted.inserts_over_ghost before after calls new inserts there evicts) none =
         absurd (all-middle (λ h. h ≢ rules.hash key) before (rules.hash key) after
-        (subst (AllByRecursion (λ h. h ≢ rules.hash key)) split none.ghosts) refl)
+        (subst (AllByRecursion (λ h. h ≢ rules.hash key)) there.split none.ghosts) refl)
     WritesAdmitted-holds old value _ _ _
         (WritesAdmitted.inserts_over_loading before entry after calls new inserts there evicts) none
         = absurd (true≢false (sym there.passes

@@ -94,7 +94,7 @@ module _ {K V : Type 0} (rules : Rules K V) where
       sized =
       evicted-within _ new calls evicts
   WritesAdmitted-within equal_to key strategy old value left first _ _ passed
-      (WritesAdmitted.inserts_over_ghost before after calls new inserts none split evicts) sized =
+      (WritesAdmitted.inserts_over_ghost before after calls new inserts there evicts) sized =
       evicted-within _ new calls evicts
   WritesAdmitted-within equal_to key strategy old value left first _ _ passed
       (WritesAdmitted.inserts_over_loading before entry after calls new inserts there evicts)

@@ -9,25 +9,25 @@ use Rattle.quick_cache_model.specs.Touches.{TakesTouches, RaisesMarks}
 use Rattle.quick_cache_model.specs.Eviction.{EvictsVictim, AdvancesHot, EvictsToTarget}
 use Rattle.quick_cache_model.specs.Eviction.{AdvancesCold, EvictsToCapacity}
 use Rattle.quick_cache_model.specs.Admission.{Admission, ChecksAdmission}
-use Rattle.quick_cache_model.specs.Writes.{Strategy, WritesAdmitted, TakesOutItem, RejectsTooHeavy}
+use Rattle.quick_cache_model.specs.Writes.{Strategy, WritesAdmitted}
 use Rattle.quick_cache_model.specs.Writes.{Writes}
 use Rattle.quick_cache_model.specs.Placeholders.{MakesRoomFor, FillsPlaceholder}
 use Rattle.quick_cache_model.specs.Capacity.{SetsCapacity}
 
 module _ {K V : Type 0} (few many : ℕ → Type 0) (more : (n : ℕ) → few n → many n) where
   -- touches that may be taken in where fewer may be
-  pub TakesTouches-more : (old new : Item K V) → TakesTouches few old new
-      → TakesTouches many old new
-  TakesTouches-more old new takes = (takes.0, more takes.0 takes.1, takes.2)
+  pub TakesTouches-more : (cut : ℕ) (old new : Item K V) → TakesTouches cut few old new
+      → TakesTouches cut many old new
+  TakesTouches-more cut old new takes = (takes.0, more takes.0 takes.1, takes.2)
 
   -- at each item of a list
-  pub RaisesMarks-more : (old new : List (Item K V)) → RaisesMarks few old new
-      → RaisesMarks many old new
-  RaisesMarks-more [] [] raised = tt
-  RaisesMarks-more [] (y ∷ ys) raised = absurd raised
-  RaisesMarks-more (x ∷ xs) [] raised = absurd raised
-  RaisesMarks-more (x ∷ xs) (y ∷ ys) raised =
-      (TakesTouches-more x y raised.0, RaisesMarks-more xs ys raised.1)
+  pub RaisesMarks-more : (cut : ℕ) (old new : List (Item K V)) → RaisesMarks cut few old new
+      → RaisesMarks cut many old new
+  RaisesMarks-more cut [] [] raised = tt
+  RaisesMarks-more cut [] (y ∷ ys) raised = absurd raised
+  RaisesMarks-more cut (x ∷ xs) [] raised = absurd raised
+  RaisesMarks-more cut (x ∷ xs) (y ∷ ys) raised =
+      (TakesTouches-more cut x y raised.0, RaisesMarks-more cut xs ys raised.1)
 
 module _ {K V : Type 0} (rules : Rules K V) (many : ℕ → Type 0)
     (more : (n : ℕ) → rules.may_count n → many n) where
@@ -49,12 +49,12 @@ module _ {K V : Type 0} (rules : Rules K V) (many : ℕ → Type 0)
       → AdvancesHot rules old answer calls new
       → AdvancesHot (record rules { may_count = many }) old answer calls new
   AdvancesHot-more old _ _ _ (AdvancesHot.all_pinned hot raised pinned) =
-      AdvancesHot.all_pinned hot (RaisesMarks-more rules.may_count many more old.hot hot raised)
+      AdvancesHot.all_pinned hot (RaisesMarks-more rules.may_count many more old.mark_cut old.hot hot raised)
       pinned
   AdvancesHot-more old _ _ _ (AdvancesHot.evicts hot before item after calls new raised split first
       evicts) =
       AdvancesHot.evicts hot before item after calls new
-      (RaisesMarks-more rules.may_count many more old.hot hot raised) split
+      (RaisesMarks-more rules.may_count many more old.mark_cut old.hot hot raised) split
       (record { unpinned = first.unpinned; earlier = first.earlier; later = first.later })
       (EvictsVictim-more Hot _ _ calls new evicts)
 
@@ -78,18 +78,18 @@ module _ {K V : Type 0} (rules : Rules K V) (many : ℕ → Type 0)
   AdvancesCold-more old _ _ _ (AdvancesCold.promotes cold before item after calls new raised split
       passed marked goes) =
       AdvancesCold.promotes cold before item after calls new
-      (RaisesMarks-more rules.may_count many more old.cold cold raised) split passed marked
+      (RaisesMarks-more rules.may_count many more old.mark_cut old.cold cold raised) split passed marked
       (EvictsToTarget-more _ calls new goes)
   AdvancesCold-more old _ _ _ (AdvancesCold.evicts cold before item after calls new raised split
       passed unmarked unpinned evicts) =
       AdvancesCold.evicts cold before item after calls new
-      (RaisesMarks-more rules.may_count many more old.cold cold raised)
+      (RaisesMarks-more rules.may_count many more old.mark_cut old.cold cold raised)
       split passed unmarked unpinned
       (EvictsVictim-more Cold _ _ calls new evicts)
   AdvancesCold-more old _ _ _ (AdvancesCold.passes_all cold answer calls new raised passed advances)
       =
       AdvancesCold.passes_all cold answer calls new
-      (RaisesMarks-more rules.may_count many more old.cold cold raised) passed
+      (RaisesMarks-more rules.may_count many more old.mark_cut old.cold cold raised) passed
       (AdvancesHot-more _ answer calls new advances)
 
   -- room that can be made by one thread can be made beside shared reads
@@ -145,11 +145,11 @@ module _ {K V : Type 0} (rules : Rules K V) (many : ℕ → Type 0)
     WritesAdmitted-more strategy old value _ _ _
         (WritesAdmitted.overwrites place before item touched after calls new there takes evicts) =
         WritesAdmitted.overwrites place before item touched after calls new there
-        (TakesTouches-more rules.may_count many more item touched takes)
+        (TakesTouches-more rules.may_count many more old.mark_cut item touched takes)
         (EvictsToCapacity-more 0 _ calls new evicts)
     WritesAdmitted-more strategy old value _ _ _
-        (WritesAdmitted.inserts_over_ghost before after calls new inserts none split evicts) =
-        WritesAdmitted.inserts_over_ghost before after calls new inserts none split
+        (WritesAdmitted.inserts_over_ghost before after calls new inserts there evicts) =
+        WritesAdmitted.inserts_over_ghost before after calls new inserts there
         (EvictsToCapacity-more 0 _ calls new evicts)
     WritesAdmitted-more strategy old value _ _ _
         (WritesAdmitted.inserts_over_loading before entry after calls new inserts there evicts) =
@@ -157,26 +157,6 @@ module _ {K V : Type 0} (rules : Rules K V) (many : ℕ → Type 0)
         (EvictsToCapacity-more 0 _ calls new evicts)
     WritesAdmitted-more strategy old value _ _ _ (WritesAdmitted.gives_back replaces none) =
         WritesAdmitted.gives_back replaces none
-
-    -- nor does an item that is taken out
-    TakesOutItem-more : (old : CacheState K V) (calls : List (HookCall K V)) (new : CacheState K V)
-        → TakesOutItem rules equal_to key old calls new
-        → TakesOutItem (record rules { may_count = many }) equal_to key old calls new
-    TakesOutItem-more old _ _ (TakesOutItem.was_there place before item after there) =
-        TakesOutItem.was_there place before item after there
-    TakesOutItem-more old _ _ (TakesOutItem.was_absent none) = TakesOutItem.was_absent none
-
-    -- nor does a rejection
-    RejectsTooHeavy-more : (strategy : Strategy) (old : CacheState K V) (value : V)
-        (calls : List (HookCall K V)) (answer : Option (K × V)) (new : CacheState K V)
-        → RejectsTooHeavy rules equal_to key strategy old value calls answer new
-        → RejectsTooHeavy (record rules { may_count = many })
-        equal_to key strategy old value calls answer new
-    RejectsTooHeavy-more strategy old value _ _ _ (RejectsTooHeavy.reports calls new inserts takes)
-        = RejectsTooHeavy.reports calls new inserts (TakesOutItem-more old calls new takes)
-    RejectsTooHeavy-more strategy old value _ _ _
-        (RejectsTooHeavy.gives_back calls new replaces takes) =
-        RejectsTooHeavy.gives_back calls new replaces (TakesOutItem-more old calls new takes)
 
     -- and a pair be written
     pub Writes-more : (strategy : Strategy) (old : CacheState K V) (value : V)
@@ -193,7 +173,7 @@ module _ {K V : Type 0} (rules : Rules K V) (many : ℕ → Type 0)
         rejects) =
         Writes.too_heavy first rest left answer new
         (ChecksAdmission-more old.hot_target key value first _ checks)
-        (RejectsTooHeavy-more strategy old left rest answer new rejects)
+        rejects
 
   -- the room that a filled placeholder takes
   MakesRoomFor-more : (ticket : ℕ) (old : CacheState K V) (weight : ℕ) (mid : CacheState K V)

@@ -7,8 +7,8 @@ use Rattle.quick_cache_model.specs.Finding.{FoundNothing, Finds}
 use Rattle.quick_cache_model.specs.Lookups.{Sees, LooksUp}
 use Rattle.quick_cache_laws.specs.Laws.{IsQuery}
 use Rattle.quick_cache_laws.proofs.Eviction.Keys.{keys_by-none}
-use Rattle.quick_cache_laws.proofs.Calls.EqualKeys.{keys_by-agree}
 use Rattle.quick_cache_laws.proofs.CanBeMade.Finding.{Finds-some}
+use Rattle.quick_cache_model.proofs.KeyCounts.{keys_by-fewer}
 use Rattle.quick_cache_model.proofs.LookupLaws.{Sees-LooksUp}
 
 module _ {K V : Type 0} (equal : K → K → Bool) (stands_for : K → Bool)
@@ -20,8 +20,8 @@ module _ {K V : Type 0} (equal : K → K → Bool) (stands_for : K → Bool)
       omega (
         arith,
         valid.one_entry_a_key key,
-        keys_by-agree stands_for (equal key)
-            (λ x. query key x stands) state,
+        keys_by-fewer stands_for (equal key)
+            (λ other also. query key other stands also) state,
       )
 
   -- whatever the query finds, it has at most one entry
@@ -32,7 +32,7 @@ module _ {K V : Type 0} (equal : K → K → Bool) (stands_for : K → Bool)
   single_from_found (FoundLoading before entry after) state there valid =
       single_from_key entry.key state there.passes valid
   single_from_found (FoundGhost before after) state there valid =
-      omega (arith, keys_by-none stands_for state there.0)
+      omega (arith, keys_by-none stands_for state there.keys)
   single_from_found FoundNothing state there valid =
       omega (arith, keys_by-none stands_for state there.keys)
 

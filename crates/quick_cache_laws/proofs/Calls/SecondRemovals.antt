@@ -37,8 +37,8 @@ module _ {K V : Type 0} (equal : K → K → Bool) (stands_for : K → Bool)
             before entry after old there.split,
         ap one_if there.passes,
       )
-  Removes-keys hash old _ _ (Removes.of_ghost before after none split) valid =
-      omega (arith, keys_by-none stands_for old none)
+  Removes-keys hash old _ _ (Removes.of_ghost before after there) valid =
+      omega (arith, keys_by-none stands_for old there.keys)
   Removes-keys hash old _ _ (Removes.of_nothing nothing) valid =
       keys_by-none stands_for old nothing.keys
 
@@ -68,7 +68,7 @@ module _ {K V : Type 0} (equal : K → K → Bool) (stands_for : K → Bool)
             InStill before item after at,
       )
   none_to_give hash old _ _ none (Removes.of_loading before entry after there) = refl
-  none_to_give hash old _ _ none (Removes.of_ghost before after no_key split) = refl
+  none_to_give hash old _ _ none (Removes.of_ghost before after there) = refl
   none_to_give hash old _ _ none (Removes.of_nothing nothing) = refl
 
   -- so a second removal gives nothing, whatever order the first left

@@ -93,7 +93,7 @@ module _ {K V : Type 0} (stands_for : K → Bool) where
       → (left : V) (choice : EntryChoice) → (new : CacheState K V)
       × ActsOnEntry rules stands_for old item left choice (outcome_of choice) new
   ActsOnEntry-exists rules old place before item after there ticket left Retain = (
-    after_hit (reweighed rules place before (looked_up item) after left old),
+    after_hit (reweighed rules place before (looked_up old.mark_cut item) after left old),
     ActsOnEntry.kept place before after there,
   )
   ActsOnEntry-exists rules old place before item after there ticket left Remove =

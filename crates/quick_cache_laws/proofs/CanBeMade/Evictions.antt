@@ -87,7 +87,7 @@ module _ {K V S : Type 0} (rules : Rules K V) (may : rules.may_count 0) (hooks :
         calls = [];
         new = record old { hot = map (lowered 1) old.hot };
         last = first;
-        holds = AdvancesHot.all_pinned old.hot (RaisesMarks-same rules.may_count may old.hot) all;
+        holds = AdvancesHot.all_pinned old.hot (RaisesMarks-same old.mark_cut rules.may_count may old.hot) all;
         runs = refl;
       }
       go (Victim.is_there before item after split is) =
@@ -104,7 +104,7 @@ module _ {K V S : Type 0} (rules : Rules K V) (may : rules.may_count 0) (hooks :
             new = fate.new;
             last = fate.last;
             holds = AdvancesHot.evicts old.hot before item after fate.calls fate.new
-                (RaisesMarks-same rules.may_count may old.hot) split is fate.holds;
+                (RaisesMarks-same old.mark_cut rules.may_count may old.hot) split is fate.holds;
             runs = fate.runs;
           }
 
@@ -180,7 +180,7 @@ module _ {K V S : Type 0} (rules : Rules K V) (may : rules.may_count 0) (hooks :
             new = rest.new;
             last = rest.last;
             holds = AdvancesCold.promotes old.cold before item after rest.calls rest.new
-                (RaisesMarks-same rules.may_count may old.cold) split passed marked rest.holds;
+                (RaisesMarks-same old.mark_cut rules.may_count may old.cold) split passed marked rest.holds;
             runs = rest.runs;
           }
       go (Candidate.is_victim before item after split passed unmarked unpinned) =
@@ -192,7 +192,7 @@ module _ {K V S : Type 0} (rules : Rules K V) (may : rules.may_count 0) (hooks :
             new = fate.new;
             last = fate.last;
             holds = AdvancesCold.evicts old.cold before item after fate.calls fate.new
-                (RaisesMarks-same rules.may_count may old.cold)
+                (RaisesMarks-same old.mark_cut rules.may_count may old.cold)
                 split passed unmarked unpinned fate.holds;
             runs = fate.runs;
           }
@@ -204,7 +204,7 @@ module _ {K V S : Type 0} (rules : Rules K V) (may : rules.may_count 0) (hooks :
             new = step.new;
             last = step.last;
             holds = AdvancesCold.passes_all old.cold step.answer step.calls step.new
-                (RaisesMarks-same rules.may_count may old.cold) all step.holds;
+                (RaisesMarks-same old.mark_cut rules.may_count may old.cold) all step.holds;
             runs = step.runs;
           }
 

@@ -41,11 +41,10 @@ module _ {K V : Type 0} (stands_for : K → Bool) (hash : ℕ) (state : CacheSta
   in_ghosts : HasNoKey stands_for state → Searched (λ ghost. ghost == hash) state.ghosts → FindsSome
   in_ghosts none (is_there before ghost after split passes) = (
     FoundGhost before after,
-    (
-      none,
-      split ∙ ap (λ g. before ++ g ∷ after)
-          (eqb-true ghost hash passes),
-    ),
+    record {
+      keys = none;
+      split = split ∙ ap (λ g. before ++ g ∷ after) (eqb-true ghost hash passes);
+    },
   )
   in_ghosts none (is_absent others) = (
     FoundNothing,

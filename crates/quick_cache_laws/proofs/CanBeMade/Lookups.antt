@@ -61,7 +61,7 @@ module _ {K V : Type 0} (stands_for : K → Bool) (old : CacheState K V) where
           × LooksUp stands_for old of shown new
       go (item_there place before item after there) = (
         Some (of item),
-        with_items place (before ++ looked_up item ∷ after)
+        with_items place (before ++ looked_up old.mark_cut item ∷ after)
             (after_hit old),
         LooksUp.hit place before item after there,
       )
@@ -89,7 +89,7 @@ module _ {K V : Type 0} (stands_for : K → Bool) (old : CacheState K V) where
       go (FoundGhost before after) there = (
         None,
         record old { ghosts = before ++ after },
-        Removes.of_ghost before after there.0 there.1,
+        Removes.of_ghost before after there,
       )
       go FoundNothing nothing = (None, old, Removes.of_nothing nothing)
 
@@ -138,12 +138,12 @@ GivesUpPlaceholder-exists {K} {V} ticket old =
           (λ entry fails. eqb-false entry.ticket ticket fails) old.loading others),
     )
 
--- where a query finds no item, a placeholder is made or one is met
+-- where a query finds no item, a placeholder is made for a key that it stands for, or one is met
 pub Placeholder-exists : {K V : Type 0} (stands_for : K → Bool) (hash : ℕ) (key : K)
-    (old : CacheState K V) → HasNoItem stands_for old
+    (old : CacheState K V) → stands_for key ≡ true → HasNoItem stands_for old
     → ((new : CacheState K V) × MakesPlaceholder stands_for old hash key new)
     ⊎ ((ticket : ℕ) × (new : CacheState K V) × MeetsPlaceholder stands_for old ticket new)
-Placeholder-exists {K} {V} stands_for hash key old none =
+Placeholder-exists {K} {V} stands_for hash key old stands none =
     by_loading (search_list (λ entry. stands_for entry.key) old.loading)
   where
     by_ghosts : HasNoKey stands_for old → Searched (λ ghost. ghost == hash) old.ghosts
@@ -152,13 +152,15 @@ Placeholder-exists {K} {V} stands_for hash key old none =
     by_ghosts no_key (is_there before ghost after split passes) =
         inl (
           with_placeholder key Hot (after_miss (record old { ghosts = before ++ after })),
-          MakesPlaceholder.on_ghost before after no_key
-              (split ∙ ap (λ g. before ++ g ∷ after) (eqb-true ghost hash passes)),
+          MakesPlaceholder.on_ghost before after stands (record {
+            keys = no_key;
+            split = split ∙ ap (λ g. before ++ g ∷ after) (eqb-true ghost hash passes);
+          }),
         )
     by_ghosts no_key (is_absent others) =
         inl (
           with_placeholder key Cold (after_miss old),
-          MakesPlaceholder.on_nothing (record {
+          MakesPlaceholder.on_nothing stands (record {
             keys = no_key;
             ghosts = all-weaker (λ ghost. (ghost == hash) ≡ false)
                 (λ ghost. ghost ≡ hash → ⊥) (λ ghost fails. eqb-false ghost hash fails)

@@ -13,6 +13,7 @@ use Rattle.quick_cache_model.specs.Finding.{FoundNothing, IsItemAt, Finds}
 use Rattle.quick_cache_model.specs.Eviction.{newest}
 use Rattle.quick_cache_model.specs.Admission.{Admission, Admitted, TooHeavy, ChecksAdmission}
 use Rattle.quick_cache_model.specs.Writes.{Strategy, Insert, Replace, SoftReplace, IsReplace}
+use Rattle.quick_cache_model.specs.Touches.{first_mark}
 use Rattle.quick_cache_model.specs.Writes.{mark_after, new_item, queue_for, WritesAdmitted}
 use Rattle.quick_cache_model.specs.Writes.{TakesOutItem, RejectsTooHeavy, Writes}
 use Rattle.quick_cache_model.specs.Placeholders.{IsLoadingTicket, MakesRoomFor, FillsPlaceholder}
@@ -55,7 +56,7 @@ module _ {K V S : Type 0} (rules : Rules K V) (may : rules.may_count 0) (hooks :
         (place : Place) (before : List (Item K V)) (item : Item K V) (after : List (Item K V))
         → IsItemAt equal_to old place before item after → Written strategy old value first
     overwritten strategy old value first place before item after there =
-        let new = new_item rules key value item.queue (mark_after strategy item.mark) in
+        let new = new_item rules key value item.queue (mark_after old.mark_cut strategy item.mark) in
         let gone = told rules may hooks can item.queue first item.key item.value in
         let room = EvictsToCapacity-exists rules may hooks can 0
         (rewritten place before new after old) gone.0 in
@@ -77,7 +78,7 @@ module _ {K V S : Type 0} (rules : Rules K V) (may : rules.may_count 0) (hooks :
         overwritten Insert old value first place before item after there
     inserted old value first (FoundLoading before entry after) there =
         let room = EvictsToCapacity-exists rules may hooks can 0
-        (entered (new_item rules key value entry.queue 1)
+        (entered (new_item rules key value entry.queue (first_mark old.mark_cut))
         (record old { loading = before ++ after })) first in
         record {
           answer = None;
@@ -97,8 +98,8 @@ module _ {K V S : Type 0} (rules : Rules K V) (may : rules.may_count 0) (hooks :
           calls = room.calls;
           new = room.new;
           last = room.last;
-          holds = WritesAdmitted.inserts_over_ghost before after room.calls room.new refl there.0
-              there.1 room.holds;
+          holds = WritesAdmitted.inserts_over_ghost before after room.calls room.new refl there
+              room.holds;
           runs = room.runs;
         }
     inserted old value first FoundNothing nothing =
@@ -141,10 +142,10 @@ module _ {K V S : Type 0} (rules : Rules K V) (may : rules.may_count 0) (hooks :
 
     -- the item under a key can be taken out
     pub TakesOutItem-exists : (old : CacheState K V) (first : S)
-        → Leads hooks (TakesOutItem rules equal_to key old) first
+        → Leads hooks (TakesOutItem equal_to old) first
     TakesOutItem-exists old first = go (find_item equal_to old)
       where
-        go : ItemFound equal_to old → Leads hooks (TakesOutItem rules equal_to key old) first
+        go : ItemFound equal_to old → Leads hooks (TakesOutItem equal_to old) first
         go (item_there place before item after there) =
             let gone = told rules may hooks can item.queue first item.key item.value in
             record {
@@ -166,7 +167,7 @@ module _ {K V S : Type 0} (rules : Rules K V) (may : rules.may_count 0) (hooks :
     -- a pair that is too heavy can be rejected
     pub RejectsTooHeavy-exists : (strategy : Strategy) (old : CacheState K V) (value : V)
         (first : S)
-        → Answers hooks (λ answer calls new. RejectsTooHeavy rules equal_to key strategy old value
+        → Answers hooks (λ answer calls new. RejectsTooHeavy equal_to key strategy old value
         calls answer new) first
     RejectsTooHeavy-exists Insert old value first =
         let out = TakesOutItem-exists old first in
@@ -279,7 +280,7 @@ module _ {K V S : Type 0} (rules : Rules K V) (may : rules.may_count 0) (hooks :
           answer new) first
       fill before entry after there (Admitted left) calls last checks runs =
           let item = new_item rules entry.key left (queue_for rules old entry.key left entry.queue)
-          (if marked then 1 else 0) in
+          (if marked then first_mark old.mark_cut else 0) in
           let room = MakesRoomFor-exists ticket old (rules.weight entry.key left)
           (entered item (record old { loading = before ++ after })) last in
           record {

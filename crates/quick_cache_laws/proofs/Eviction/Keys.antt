@@ -33,12 +33,12 @@ module _ {K V : Type 0} (rules : Rules K V) (test : K → Bool) where
   pub AdvancesHot-keys : (old new : CacheState K V) (answer : Bool) (calls : List (HookCall K V))
       → AdvancesHot rules old answer calls new → keys_by test new ≤ keys_by test old
   AdvancesHot-keys old _ _ _ (AdvancesHot.all_pinned hot raised pinned) =
-      omega (arith, keys-lowered test 1 hot, keys-raised test rules.may_count old.hot hot raised)
+      omega (arith, keys-lowered test 1 hot, keys-raised test old.mark_cut rules.may_count old.hot hot raised)
   AdvancesHot-keys old _ _ _ (AdvancesHot.evicts hot before item after calls new raised split first
       evicts) =
       omega (
         arith,
-        keys-raised test rules.may_count old.hot hot raised,
+        keys-raised test old.mark_cut rules.may_count old.hot hot raised,
         ap (keys test) split,
         keys-split test before item after,
         EvictsVictim-keys Hot _ new (lowered item.mark item) calls evicts,
@@ -69,7 +69,7 @@ module _ {K V : Type 0} (rules : Rules K V) (test : K → Bool) where
       let moved = record item { mark = item.mark - 1; queue = Hot } in
       omega (
         arith,
-        keys-raised test rules.may_count old.cold cold raised,
+        keys-raised test old.mark_cut rules.may_count old.cold cold raised,
         ap (keys test) split,
         keys-split test before item after,
         EvictsToTarget-keys _ new calls goes,
@@ -81,7 +81,7 @@ module _ {K V : Type 0} (rules : Rules K V) (test : K → Bool) where
       passed unmarked unpinned evicts) =
       omega (
         arith,
-        keys-raised test rules.may_count old.cold cold raised,
+        keys-raised test old.mark_cut rules.may_count old.cold cold raised,
         ap (keys test) split,
         keys-split test before item after,
         EvictsVictim-keys Cold _ new item calls evicts,
@@ -91,7 +91,7 @@ module _ {K V : Type 0} (rules : Rules K V) (test : K → Bool) where
       =
       omega (
         arith,
-        keys-raised test rules.may_count old.cold cold raised,
+        keys-raised test old.mark_cut rules.may_count old.cold cold raised,
         AdvancesHot-keys _ new
             answer calls advances,
       )

@@ -14,13 +14,13 @@ use Rattle.quick_cache_laws.specs.Laws.{ring_measure}
 
 module _ {K V : Type 0} where
   -- touches leave a list as long
-  pub length-raised : (may_count : ℕ → Type 0) (old new : List (Item K V))
-      → RaisesMarks may_count old new → length new ≡ length old
-  length-raised may_count [] [] raised = refl
-  length-raised may_count [] (y ∷ ys) raised = absurd raised
-  length-raised may_count (x ∷ xs) [] raised = absurd raised
-  length-raised may_count (x ∷ xs) (y ∷ ys) raised =
-      omega (arith, length-raised may_count xs ys raised.1)
+  pub length-raised : (cut : ℕ) (may_count : ℕ → Type 0) (old new : List (Item K V))
+      → RaisesMarks cut may_count old new → length new ≡ length old
+  length-raised cut may_count [] [] raised = refl
+  length-raised cut may_count [] (y ∷ ys) raised = absurd raised
+  length-raised cut may_count (x ∷ xs) [] raised = absurd raised
+  length-raised cut may_count (x ∷ xs) (y ∷ ys) raised =
+      omega (arith, length-raised cut may_count xs ys raised.1)
 
   -- a list is one longer than its parts before and behind an item
   pub length-split : (items before : List (Item K V)) (item : Item K V) (after : List (Item K V))
@@ -45,7 +45,7 @@ module _ {K V : Type 0} (rules : Rules K V) where
       evicts) =
       omega (
         arith,
-        length-raised rules.may_count old.hot hot raised,
+        length-raised old.mark_cut rules.may_count old.hot hot raised,
         length-split hot before item after split,
         EvictsVictim-measure Hot _ new (lowered item.mark item) calls evicts,
         length-append (map (lowered item.mark) after) (map (lowered (item.mark + 1)) before),
@@ -60,7 +60,7 @@ module _ {K V : Type 0} (rules : Rules K V) where
   AdvancesHot-measure_le old new true calls advances =
       omega (arith, AdvancesHot-measure old new calls advances)
   AdvancesHot-measure_le old _ false _ (AdvancesHot.all_pinned hot raised pinned) =
-      omega (arith, length-raised rules.may_count old.hot hot raised, length-map hot (lowered 1))
+      omega (arith, length-raised old.mark_cut rules.may_count old.hot hot raised, length-map hot (lowered 1))
 
   -- nor does any grow when the hot ring is brought to its target
   pub EvictsToTarget-measure_le : (old new : CacheState K V) (calls : List (HookCall K V))
@@ -84,7 +84,7 @@ module _ {K V : Type 0} (rules : Rules K V) where
       passed marked goes) =
       omega (
         arith,
-        length-raised rules.may_count old.cold cold raised,
+        length-raised old.mark_cut rules.may_count old.cold cold raised,
         length-split cold before item after split,
         EvictsToTarget-measure_le _ new calls goes,
         length-append old.hot (record item { mark = item.mark - 1; queue = Hot } ∷ []),
@@ -94,7 +94,7 @@ module _ {K V : Type 0} (rules : Rules K V) where
       passed unmarked unpinned evicts) =
       omega (
         arith,
-        length-raised rules.may_count old.cold cold raised,
+        length-raised old.mark_cut rules.may_count old.cold cold raised,
         length-split cold before item after split,
         EvictsVictim-measure Cold _ new item calls evicts,
         length-append after before,
@@ -102,7 +102,7 @@ module _ {K V : Type 0} (rules : Rules K V) where
   AdvancesCold-measure old _ _ (AdvancesCold.passes_all cold _ calls new raised passed advances) =
       omega (
         arith,
-        length-raised rules.may_count old.cold cold raised,
+        length-raised old.mark_cut rules.may_count old.cold cold raised,
         AdvancesHot-measure _ new
             calls advances,
       )
@@ -117,7 +117,7 @@ module _ {K V : Type 0} (rules : Rules K V) where
       advances) =
       omega (
         arith,
-        length-raised rules.may_count old.cold cold raised,
+        length-raised old.mark_cut rules.may_count old.cold cold raised,
         AdvancesHot-measure_le _ new
             false calls advances,
       )

@@ -77,14 +77,14 @@ module _ {K V : Type 0} (rules : Rules K V) (leaves : K → V → V) where
 
   module _ (untouched : (n : ℕ) → rules.may_count n → n ≡ 0) where
     -- an advance starts from the items as they are
-    pub items_as_they_are : (olds news : List (Item K V)) → RaisesMarks rules.may_count olds news
-        → news ≡ olds
-    items_as_they_are [] [] raises = refl
-    items_as_they_are [] (_ ∷ _) raises = absurd raises
-    items_as_they_are (_ ∷ _) [] raises = absurd raises
-    items_as_they_are (old ∷ olds) (new ∷ news) ((n, may, is_touched), raises) =
-        let same : new ≡ old = is_touched ∙ ap (λ n. with_touches n old) (untouched n may) in
-        let rest : news ≡ olds = items_as_they_are olds news raises in
+    pub items_as_they_are : (cut : ℕ) (olds news : List (Item K V))
+        → RaisesMarks cut rules.may_count olds news → news ≡ olds
+    items_as_they_are cut [] [] raises = refl
+    items_as_they_are cut [] (_ ∷ _) raises = absurd raises
+    items_as_they_are cut (_ ∷ _) [] raises = absurd raises
+    items_as_they_are cut (old ∷ olds) (new ∷ news) ((n, may, is_touched), raises) =
+        let same : new ≡ old = is_touched ∙ ap (λ n. with_touches cut n old) (untouched n may) in
+        let rest : news ≡ olds = items_as_they_are cut olds news raises in
         λ i. same i ∷ rest i
 
     -- a hot advance
@@ -96,21 +96,21 @@ module _ {K V : Type 0} (rules : Rules K V) (leaves : K → V → V) where
         → LeaveSo calls' → IsSameOutcome answer calls new answer' calls' new'
     one_hot_advance old _ _ _ _ _ _ (AdvancesHot.all_pinned hot raises all)
         (AdvancesHot.all_pinned hot' raises' all') so so' =
-        let same : hot ≡ hot' = items_as_they_are old.hot hot raises ∙ sym
-        (items_as_they_are old.hot hot' raises') in
+        let same : hot ≡ hot' = items_as_they_are old.mark_cut old.hot hot raises ∙ sym
+        (items_as_they_are old.mark_cut old.hot hot' raises') in
         (refl, refl, (λ i. record old { hot = map (lowered 1) (same i) }))
     one_hot_advance old _ _ _ _ _ _ (AdvancesHot.all_pinned hot raises all)
         (AdvancesHot.evicts hot' before item after calls new raises' split victim fate) so so' =
-        let same : hot ≡ hot' = items_as_they_are old.hot hot raises ∙ sym
-        (items_as_they_are old.hot hot' raises') in
+        let same : hot ≡ hot' = items_as_they_are old.mark_cut old.hot hot raises ∙ sym
+        (items_as_they_are old.mark_cut old.hot hot' raises') in
         absurd (true≢false (sym (holds_between (λ item. pinned rules item ≡ true) before item after
         (subst (AllByRecursion (λ item. pinned rules item ≡ true)) (same ∙ split) all))
         ∙ victim.unpinned))
     one_hot_advance old _ _ _ _ _ _ (AdvancesHot.evicts hot' before item after calls new raises'
         split victim fate)
         (AdvancesHot.all_pinned hot raises all) so so' =
-        let same : hot ≡ hot' = items_as_they_are old.hot hot raises ∙ sym
-        (items_as_they_are old.hot hot' raises') in
+        let same : hot ≡ hot' = items_as_they_are old.mark_cut old.hot hot raises ∙ sym
+        (items_as_they_are old.mark_cut old.hot hot' raises') in
         absurd (true≢false (sym (holds_between (λ item. pinned rules item ≡ true) before item after
         (subst (AllByRecursion (λ item. pinned rules item ≡ true)) (same ∙ split) all))
         ∙ victim.unpinned))
@@ -118,8 +118,8 @@ module _ {K V : Type 0} (rules : Rules K V) (leaves : K → V → V) where
         victim fate)
         (AdvancesHot.evicts hot' before' item' after' calls' new' raises' split' victim' fate')
         so so' =
-        let same : hot ≡ hot' = items_as_they_are old.hot hot raises ∙ sym
-        (items_as_they_are old.hot hot' raises') in
+        let same : hot ≡ hot' = items_as_they_are old.mark_cut old.hot hot raises ∙ sym
+        (items_as_they_are old.mark_cut old.hot hot' raises') in
         let one = the_first_victim_is_one rules before item after before' item' after'
         (sym split ∙ same ∙ split') victim victim' in
         let ends = one_fate Hot _ _ _ _ calls calls' new new'
@@ -176,16 +176,16 @@ module _ {K V : Type 0} (rules : Rules K V) (leaves : K → V → V) where
     one_taken
         : (old : CacheState K V) (cold cold' before before' : List (Item K V))
         (item item' : Item K V)
-        (after after' : List (Item K V)) → RaisesMarks rules.may_count old.cold cold
-        → RaisesMarks rules.may_count old.cold cold' → cold ≡ before ++ item ∷ after
+        (after after' : List (Item K V)) → RaisesMarks old.mark_cut rules.may_count old.cold cold
+        → RaisesMarks old.mark_cut rules.may_count old.cold cold' → cold ≡ before ++ item ∷ after
         → cold' ≡ before' ++ item' ∷ after'
         → AllByRecursion (IsPassed rules) before → AllByRecursion (IsPassed rules) before'
         → (IsPassed rules item → ⊥)
         → (IsPassed rules item' → ⊥) → (before ≡ before') × (item ≡ item') × (after ≡ after')
     one_taken old cold cold' before before' item item' after after' raises raises' split split'
         passed passed' taken taken' =
-        let same : cold ≡ cold' = items_as_they_are old.cold cold raises ∙ sym
-        (items_as_they_are old.cold cold' raises') in
+        let same : cold ≡ cold' = items_as_they_are old.mark_cut old.cold cold raises ∙ sym
+        (items_as_they_are old.mark_cut old.cold cold' raises') in
         the_first_taken_is_one (IsPassed rules) before item after before' item' after'
         (sym split ∙ same ∙ split') passed
         taken passed' taken'
@@ -194,12 +194,12 @@ module _ {K V : Type 0} (rules : Rules K V) (leaves : K → V → V) where
     none_taken
         : (old : CacheState K V) (cold cold' before : List (Item K V)) (item : Item K V)
         (after : List (Item K V))
-        → RaisesMarks rules.may_count old.cold cold → RaisesMarks rules.may_count old.cold cold'
+        → RaisesMarks old.mark_cut rules.may_count old.cold cold → RaisesMarks old.mark_cut rules.may_count old.cold cold'
         → cold ≡ before ++ item ∷ after → AllByRecursion (IsPassed rules) cold'
         → (IsPassed rules item → ⊥) → ⊥
     none_taken old cold cold' before item after raises raises' split all taken =
-        let same : cold ≡ cold' = items_as_they_are old.cold cold raises ∙ sym
-        (items_as_they_are old.cold cold' raises') in
+        let same : cold ≡ cold' = items_as_they_are old.mark_cut old.cold cold raises ∙ sym
+        (items_as_they_are old.mark_cut old.cold cold' raises') in
         taken (holds_between (IsPassed rules) before item after
         (subst (AllByRecursion (IsPassed rules)) (sym same ∙ split) all))
 
@@ -278,8 +278,8 @@ module _ {K V : Type 0} (rules : Rules K V) (leaves : K → V → V) where
     one_cold_advance old _ _ _ _ _ _ (AdvancesCold.passes_all cold answer calls new raises all
         advance)
         (AdvancesCold.passes_all cold' answer' calls' new' raises' all' advance') so so' =
-        let same : cold ≡ cold' = items_as_they_are old.cold cold raises ∙ sym
-        (items_as_they_are old.cold cold' raises') in
+        let same : cold ≡ cold' = items_as_they_are old.mark_cut old.cold cold raises ∙ sym
+        (items_as_they_are old.mark_cut old.cold cold' raises') in
         one_hot_advance (record old { cold = cold }) answer answer' calls calls' new new' advance
         (subst (λ cold. AdvancesHot rules (record old { cold = cold }) answer' calls' new')
         (sym same) advance') so so'

@@ -62,23 +62,23 @@ module _ {K V : Type 0} (test : K → V → Bool) where
   )
 
   -- touches change no pair
-  pub pairs-raised : (may_count : ℕ → Type 0) (old new : List (Item K V))
-      → RaisesMarks may_count old new → pairs new ≡ pairs old
-  pairs-raised may_count [] [] raised = refl
-  pairs-raised may_count [] (y ∷ ys) raised = absurd raised
-  pairs-raised may_count (x ∷ xs) [] raised = absurd raised
-  pairs-raised may_count (x ∷ xs) (y ∷ ys) raised =
+  pub pairs-raised : (cut : ℕ) (may_count : ℕ → Type 0) (old new : List (Item K V))
+      → RaisesMarks cut may_count old new → pairs new ≡ pairs old
+  pairs-raised cut may_count [] [] raised = refl
+  pairs-raised cut may_count [] (y ∷ ys) raised = absurd raised
+  pairs-raised cut may_count (x ∷ xs) [] raised = absurd raised
+  pairs-raised cut may_count (x ∷ xs) (y ∷ ys) raised =
       let key : y.key ≡ x.key = ap (λ (i : Item K V). i.key)
-      raised.0.2 ∙ with_touches-key raised.0.0 x in
+      raised.0.2 ∙ with_touches-key cut raised.0.0 x in
       let value : y.value ≡ x.value = ap (λ (i : Item K V). i.value)
-      raised.0.2 ∙ with_touches-value raised.0.0 x in
+      raised.0.2 ∙ with_touches-value cut raised.0.0 x in
       omega (
         arith,
         pairs-cons x xs,
         pairs-cons y ys,
         ap₂ (λ k v. one_if (test k v))
             key value,
-        pairs-raised may_count xs ys raised.1,
+        pairs-raised cut may_count xs ys raised.1,
       )
 
 module _ {K V : Type 0} (rules : Rules K V) (test : K → V → Bool)
@@ -105,12 +105,12 @@ module _ {K V : Type 0} (rules : Rules K V) (test : K → V → Bool)
   pub AdvancesHot-pairs : (old new : CacheState K V) (answer : Bool) (calls : List (HookCall K V))
       → AdvancesHot rules old answer calls new → pairs_by test old ≤ pairs_by test new
   AdvancesHot-pairs old _ _ _ (AdvancesHot.all_pinned hot raised pinned) =
-      omega (arith, pairs-lowered test 1 hot, pairs-raised test rules.may_count old.hot hot raised)
+      omega (arith, pairs-lowered test 1 hot, pairs-raised test old.mark_cut rules.may_count old.hot hot raised)
   AdvancesHot-pairs old _ _ _ (AdvancesHot.evicts hot before item after calls new raised split first
       evicts) =
       omega (
         arith,
-        pairs-raised test rules.may_count old.hot hot raised,
+        pairs-raised test old.mark_cut rules.may_count old.hot hot raised,
         ap (pairs test) split,
         pairs-split test before item after,
         unpinned_fails item.key item.value first.unpinned,
@@ -142,7 +142,7 @@ module _ {K V : Type 0} (rules : Rules K V) (test : K → V → Bool)
       let moved = record item { mark = item.mark - 1; queue = Hot } in
       omega (
         arith,
-        pairs-raised test rules.may_count old.cold cold raised,
+        pairs-raised test old.mark_cut rules.may_count old.cold cold raised,
         ap (pairs test) split,
         pairs-split test before item after,
         EvictsToTarget-pairs _ new calls goes,
@@ -154,7 +154,7 @@ module _ {K V : Type 0} (rules : Rules K V) (test : K → V → Bool)
       passed unmarked unpinned evicts) =
       omega (
         arith,
-        pairs-raised test rules.may_count old.cold cold raised,
+        pairs-raised test old.mark_cut rules.may_count old.cold cold raised,
         ap (pairs test) split,
         pairs-split test before item after,
         unpinned_fails item.key item.value unpinned,
@@ -165,7 +165,7 @@ module _ {K V : Type 0} (rules : Rules K V) (test : K → V → Bool)
       advances) =
       omega (
         arith,
-        pairs-raised test rules.may_count old.cold cold raised,
+        pairs-raised test old.mark_cut rules.may_count old.cold cold raised,
         AdvancesHot-pairs _ new
             answer calls advances,
       )

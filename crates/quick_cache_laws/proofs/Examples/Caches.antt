@@ -1,7 +1,7 @@
 -- The caches of the examples: keys and values are numbers.
 use Rattle.std.proofs.Common.{◌≡◌, ℕ, Bool, List, [], ◌∷◌, refl, ◌==◌, ◌/◌, ◌%◌, false}
 use Rattle.quick_cache_model.specs.declared.queue.Queue.TheVariants.{Hot, Cold}
-use Rattle.quick_cache_model.specs.CacheState.{Item}
+use Rattle.quick_cache_model.specs.CacheState.{Item, default_mark_cut}
 use Rattle.quick_cache_model.specs.Hooks.{Rules}
 use Rattle.quick_cache_model.specs.Touches.{RaisesMarks}
 
@@ -55,6 +55,6 @@ cold_item key value weight mark = record {
 }
 
 -- where no reader leaves touches, an advance starts from the items as they are
-pub untouched : (items : List (Item ℕ ℕ)) → RaisesMarks no_touches items items
+pub untouched : (items : List (Item ℕ ℕ)) → RaisesMarks default_mark_cut no_touches items items
 untouched [] = tt
 untouched (item ∷ items) = ((0, refl, refl), untouched items)

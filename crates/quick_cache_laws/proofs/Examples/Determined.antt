@@ -73,7 +73,7 @@ a_lookup_of_an_item_is_no_miss _ (LooksUp.miss none) = true≢false none.hot.0
 -- an item is found before a ghost of its hash
 pub an_item_is_found_before_its_ghost
     : Finds (is 1) 1 (record full_state { ghosts = 1 ∷ [] }) (FoundGhost [] []) → ⊥
-an_item_is_found_before_its_ghost (none, _) = true≢false none.items.hot.0
+an_item_is_found_before_its_ghost found = true≢false found.keys.items.hot.0
 
 -- where there is room nothing is evicted
 pub room_evicts_nothing

@@ -1,7 +1,9 @@
 -- Placeholders: made, met, filled and given up.
-use Rattle.std.proofs.Common.{ℕ, [], ◌∷◌, refl, lit<, lit≤, true, false, Some, None}
+use Rattle.std.proofs.Common.{ℕ, [], ◌∷◌, ◌≡◌, refl, sym, ap, ◌∙◌, lit<, lit≤}
+use Rattle.std.proofs.Common.{◌==◌, ◌/◌, true, false, true≢false, Some, None}
+use Rattle.std.proofs.lemmas.Bool.{eqb-true, eq-eqb}
 use Rattle.quick_cache_model.specs.declared.queue.Queue.TheVariants.{Hot, Cold}
-use Rattle.quick_cache_model.specs.CacheState.{LoadingEntry, empty_state}
+use Rattle.quick_cache_model.specs.CacheState.{CacheState, LoadingEntry, empty_state}
 use Rattle.quick_cache_model.specs.Hooks.{BeforeEvict, EvictHot, EvictCold}
 use Rattle.quick_cache_model.specs.Eviction.{EvictsToCapacity, AdvancesHot, AdvancesCold}
 use Rattle.quick_cache_model.specs.Eviction.{EvictsVictim}
@@ -9,6 +11,7 @@ use Rattle.quick_cache_model.specs.Admission.{ChecksAdmission}
 use Rattle.quick_cache_model.specs.Writes.{Insert, Writes, WritesAdmitted}
 use Rattle.quick_cache_model.specs.Placeholders.{MakesPlaceholder, MeetsPlaceholder}
 use Rattle.quick_cache_model.specs.Placeholders.{GivesUpPlaceholder, FillsPlaceholder, MakesRoomFor}
+use Rattle.quick_cache_laws.specs.Laws.{IsQuery, IsQueryOf}
 use Rattle.quick_cache_laws.proofs.Examples.Caches.{unit_rules, digit_rules, is, hot_item}
 use Rattle.quick_cache_laws.proofs.Examples.Caches.{cold_item, untouched}
 
@@ -24,7 +27,7 @@ pub an_unknown_key_gets_a_cold_placeholder
     : MakesPlaceholder (is 4) (empty_state {K = ℕ} {V = ℕ} 100 97 50) 4 4
     (record (empty_state 100 97 50) { loading = cold_entry 4 1 ∷ []; misses = 1; next_ticket = 2 })
 an_unknown_key_gets_a_cold_placeholder =
-    MakesPlaceholder.on_nothing
+    MakesPlaceholder.on_nothing refl
     (record {
       keys = record { items = record { hot = tt; cold = tt; still = tt }; loading = tt };
       ghosts = tt;
@@ -42,8 +45,18 @@ pub a_ghost_gets_a_hot_placeholder
       next_ticket = 2;
     })
 a_ghost_gets_a_hot_placeholder =
-    MakesPlaceholder.on_ghost (3 ∷ []) (5 ∷ [])
-    (record { items = record { hot = tt; cold = tt; still = tt }; loading = tt }) refl
+    MakesPlaceholder.on_ghost (3 ∷ []) (5 ∷ []) refl
+    (record {
+      keys = record { items = record { hot = tt; cold = tt; still = tt }; loading = tt };
+      split = refl;
+    })
+
+-- a query gets no placeholder for a key that it does not stand for
+pub no_placeholder_for_another_key
+    : (new : CacheState ℕ ℕ) → MakesPlaceholder (is 4) (empty_state 100 97 50) 4 5 new → ⊥
+no_placeholder_for_another_key _ (MakesPlaceholder.on_nothing stands _) = true≢false (sym stands)
+no_placeholder_for_another_key _ (MakesPlaceholder.on_ghost before after stands _) =
+    true≢false (sym stands)
 
 -- a second call for the key meets the placeholder by its ticket, which is a hit
 pub a_second_call_meets_the_placeholder
@@ -180,3 +193,13 @@ a_weightless_insert_makes_room =
     (record { unpinned = refl; earlier = tt; later = ((λ _. lit≤ tt), tt) })
     (EvictsVictim.leaves 60 (lit< tt))))
     (EvictsToCapacity.has_room _ (lit≤ tt))))
+
+-- Keys are equal up to their last bit, as letters are up to their case. A query that stands for one
+-- of two such keys alone is lawful, and stands for no key exactly.
+pub one_of_two_equal_keys_can_be_asked_for : IsQuery (λ one other. one / 2 == other / 2) (is 4)
+one_of_two_equal_keys_can_be_asked_for first second stands also =
+    let same : first ≡ second = eqb-true first 4 stands ∙ sym (eqb-true second 4 also) in
+    eq-eqb (first / 2) (second / 2) (ap (λ k. k / 2) same)
+
+pub such_a_query_is_not_exact : IsQueryOf (λ one other. one / 2 == other / 2) (is 4) 4 → ⊥
+such_a_query_is_not_exact exact = true≢false (sym (exact 5))

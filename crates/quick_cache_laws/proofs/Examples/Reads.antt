@@ -31,6 +31,18 @@ pub the_greatest_mark_stays
 the_greatest_mark_stays = LooksUp.hit InHot [] (hot_item 1 10 1 2) []
     (record { split = refl; passes = refl })
 
+-- the greatest mark is the cache's own: where it is 5, a mark of 2 still rises
+pub a_mark_rises_to_the_greatest_of_the_cache
+    : LooksUp (is 1) (record (empty_state 5 4 2) { hot = hot_item 1 10 1 2 ∷ []; mark_cut = 5 })
+    (λ item. item.value) (Some 10)
+    (record (empty_state 5 4 2) {
+      hot = record (hot_item 1 10 1 3) { reads = 1 } ∷ [];
+      mark_cut = 5;
+      hits = 1;
+    })
+a_mark_rises_to_the_greatest_of_the_cache = LooksUp.hit InHot [] (hot_item 1 10 1 2) []
+    (record { split = refl; passes = refl })
+
 -- what is shown of an item's reads, as after three look-ups
 pub an_item_shows_its_reads
     : Sees (is 1) (record (empty_state 5 4 2)
@@ -46,10 +58,9 @@ pub a_removal_takes_the_ghost
     (record (empty_state 5 4 2) { ghosts = 3 ∷ [] })
 a_removal_takes_the_ghost =
     Removes.of_ghost (3 ∷ []) [] (record {
-      items =
-          record { hot = tt; cold = tt; still = tt };
-      loading = tt;
-    }) refl
+      keys = record { items = record { hot = tt; cold = tt; still = tt }; loading = tt };
+      split = refl;
+    })
 
 -- an item that is removed leaves the order of the rest
 pub a_removal_keeps_the_order

@@ -89,8 +89,13 @@ pub a_ghost_returns_hot
 a_ghost_returns_hot =
     Writes.admitted [] _ 1 None _ (ChecksAdmission.is_light (lit≤ tt))
     (WritesAdmitted.inserts_over_ghost [] [] _ _ refl
-    (record { items = record { hot = (refl, tt); cold = (refl, tt); still = tt }; loading = tt })
-    refl
+    (record {
+      keys = record {
+        items = record { hot = (refl, tt); cold = (refl, tt); still = tt };
+        loading = tt;
+      };
+      split = refl;
+    })
     (EvictsToCapacity.goes_on _ _ _ (BeforeEvict 3 1 1 ∷ EvictCold 3 1 ∷ []) [] (lit< tt)
     (AdvancesCold.evicts _ [] (cold_item 3 1 1 0) [] _ _ (untouched (cold_item 3 1 1 0 ∷ []))
     refl tt refl refl
@@ -115,8 +120,13 @@ pub another_key_of_equal_hash_takes_the_ghost
 another_key_of_equal_hash_takes_the_ghost =
     Writes.admitted [] _ 1 None _ (ChecksAdmission.is_light (lit≤ tt))
     (WritesAdmitted.inserts_over_ghost [] [] _ _ refl
-    (record { items = record { hot = (refl, tt); cold = (refl, tt); still = tt }; loading = tt })
-    refl
+    (record {
+      keys = record {
+        items = record { hot = (refl, tt); cold = (refl, tt); still = tt };
+        loading = tt;
+      };
+      split = refl;
+    })
     (EvictsToCapacity.goes_on _ _ _ (BeforeEvict 6 1 1 ∷ EvictCold 6 1 ∷ []) [] (lit< tt)
     (AdvancesCold.evicts _ [] (cold_item 6 1 1 0) [] _ _ (untouched (cold_item 6 1 1 0 ∷ []))
     refl tt refl refl

@@ -5,7 +5,7 @@ use Rattle.quick_cache_model.specs.CacheState.{empty_state}
 use Rattle.quick_cache_model.specs.Placeholders.{HasNoTicket, MakesPlaceholder}
 use Rattle.quick_cache_model.specs.Placeholders.{GivesUpPlaceholder}
 use Rattle.quick_cache_model.specs.Sizes.{IsSized}
-use Rattle.quick_cache_laws.specs.Laws.{IsQuery}
+use Rattle.quick_cache_laws.specs.Laws.{IsQueryOf}
 use Rattle.quick_cache_laws.specs.Steps.{Step, Steps}
 use Rattle.quick_cache_laws.proofs.Examples.Caches.{digit_rules, is}
 use Rattle.quick_cache_laws.proofs.Examples.LoadingKeys.{cold_entry}
@@ -16,21 +16,21 @@ pub a_new_placeholder_has_a_new_ticket
     : Steps (λ one other. other == one) digit_rules (empty_state 5 4 2)
     (record (empty_state 5 4 2) { loading = cold_entry 1 2 ∷ []; misses = 2; next_ticket = 3 })
 a_new_placeholder_has_a_new_ticket =
-    Steps.goes_on _ _ _ (Step.makes (is 1) 1 1 _ query refl (MakesPlaceholder.on_nothing (record {
+    Steps.goes_on _ _ _ (Step.makes (is 1) 1 1 _ query (MakesPlaceholder.on_nothing refl (record {
       keys = record { items = record { hot = tt; cold = tt; still = tt }; loading = tt };
       ghosts = tt;
     })))
     (Steps.goes_on _ _ _ (Step.gives_up 1 _
     (GivesUpPlaceholder.was_there [] (cold_entry 1 1) []
     (record { split = refl; is_of_ticket = refl })))
-    (Steps.goes_on _ _ _ (Step.makes (is 1) 1 1 _ query refl (MakesPlaceholder.on_nothing (record {
+    (Steps.goes_on _ _ _ (Step.makes (is 1) 1 1 _ query (MakesPlaceholder.on_nothing refl (record {
       keys = record { items = record { hot = tt; cold = tt; still = tt }; loading = tt };
       ghosts = tt;
     })))
     (Steps.done _)))
   where
-    query : IsQuery (λ one other. other == one) (is 1)
-    query first second passes = ap (λ k. second == k) (sym (eqb-true first 1 passes))
+    query : IsQueryOf (λ one other. other == one) (is 1) 1
+    query other = refl
 
 -- so the holder of the first ticket can no longer fill
 pub the_first_ticket_is_gone

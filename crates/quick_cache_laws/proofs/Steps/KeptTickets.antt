@@ -7,6 +7,7 @@ use Rattle.quick_cache_model.specs.declared.queue.Queue.TheVariants.{Hot, Cold}
 use Rattle.quick_cache_model.specs.CacheState.{CacheState, Item, LoadingEntry, Place}
 use Rattle.quick_cache_model.specs.CacheState.{with_items, entered, rewritten, SameButOrder}
 use Rattle.quick_cache_model.specs.Hooks.{Rules, HookCall}
+use Rattle.quick_cache_model.specs.Touches.{first_mark}
 use Rattle.quick_cache_model.specs.Eviction.{EvictsToCapacity}
 use Rattle.quick_cache_model.specs.Writes.{Strategy, new_item, queue_for, WritesAdmitted}
 use Rattle.quick_cache_model.specs.Writes.{TakesOutItem, RejectsTooHeavy, Writes}
@@ -116,7 +117,7 @@ module _ {K V : Type 0} where
       kept-with place _ old
   Removes-tickets stands_for hash old _ _ (Removes.of_loading before entry after there) =
       kept-unloaded before entry after old there.split
-  Removes-tickets stands_for hash old _ _ (Removes.of_ghost before after none split) =
+  Removes-tickets stands_for hash old _ _ (Removes.of_ghost before after there) =
       kept-same old _ refl refl
   Removes-tickets stands_for hash old _ _ (Removes.of_nothing nothing) = kept-same old _ refl refl
 
@@ -133,10 +134,10 @@ module _ {K V : Type 0} where
   pub MakesPlaceholder-tickets : (stands_for : K → Bool) (hash : ℕ) (key : K)
       (old new : CacheState K V) → MakesPlaceholder stands_for old hash key new
       → KeepsTickets old new
-  MakesPlaceholder-tickets stands_for hash key old _ (MakesPlaceholder.on_nothing nothing) =
+  MakesPlaceholder-tickets stands_for hash key old _ (MakesPlaceholder.on_nothing stands nothing) =
       let same = kept-loaded key Cold old in record { grows = same.grows; gone = same.gone }
   MakesPlaceholder-tickets stands_for hash key old _
-      (MakesPlaceholder.on_ghost before after none split) =
+      (MakesPlaceholder.on_ghost before after stands there) =
       let same = kept-loaded key Hot old in record { grows = same.grows; gone = same.gone }
 
   -- one that is met
@@ -174,7 +175,7 @@ module _ {K V : Type 0} where
         (left : V) (choice : EntryChoice) (outcome : EntryOutcome) (new : CacheState K V)
         → ActsOnEntry rules stands_for old item left choice outcome new → KeepsTickets old new
     ActsOnEntry-tickets stands_for old item left _ _ _ (ActsOnEntry.kept place before after there) =
-        let same = reweighed-tickets place before (looked_up item) after left old in
+        let same = reweighed-tickets place before (looked_up old.mark_cut item) after left old in
         record { grows = same.grows; gone = same.gone }
     ActsOnEntry-tickets stands_for old item left _ _ _
         (ActsOnEntry.removed place before after now front back there written) =
@@ -200,7 +201,7 @@ module _ {K V : Type 0} where
         (kept-unloaded before entry after old there.split)
         (kept-entered (new_item rules entry.key left
         (queue_for rules old entry.key left entry.queue)
-        (if marked then 1 else 0)) (record old { loading = before ++ after })))
+        (if marked then first_mark old.mark_cut else 0)) (record old { loading = before ++ after })))
         makes
       where
         room : (weight : ℕ) (mid : CacheState K V) (calls : List (HookCall K V))
@@ -236,7 +237,7 @@ module _ {K V : Type 0} where
           kept-trans old _ new (kept-rewritten place before _ after old)
           (kept-evicted 0 _ new calls evicts)
       WritesAdmitted-tickets strategy old value _ _ _
-          (WritesAdmitted.inserts_over_ghost before after calls new inserts none split evicts) =
+          (WritesAdmitted.inserts_over_ghost before after calls new inserts there evicts) =
           kept-trans old _ new
           (kept-trans old (record old { ghosts = before ++ after }) _ (kept-same old _ refl refl)
           (kept-entered (new_item rules key value Hot 0) (record old { ghosts = before ++ after })))
@@ -246,14 +247,14 @@ module _ {K V : Type 0} where
           kept-trans old _ new
           (kept-trans old (record old { loading = before ++ after }) _
           (kept-unloaded before entry after old there.split)
-          (kept-entered (new_item rules key value entry.queue 1)
+          (kept-entered (new_item rules key value entry.queue (first_mark old.mark_cut))
           (record old { loading = before ++ after })))
           (kept-evicted 0 _ new calls evicts)
       WritesAdmitted-tickets strategy old value _ _ _ (WritesAdmitted.gives_back replaces none) =
           kept-same old _ refl refl
 
       TakesOutItem-tickets : (old : CacheState K V) (calls : List (HookCall K V))
-          (new : CacheState K V) → TakesOutItem rules equal_to key old calls new
+          (new : CacheState K V) → TakesOutItem equal_to old calls new
           → KeepsTickets old new
       TakesOutItem-tickets old _ _ (TakesOutItem.was_there place before item after there) =
           kept-with place _ old
@@ -271,7 +272,7 @@ module _ {K V : Type 0} where
           rejected rest answer new rejects
         where
           rejected : (calls : List (HookCall K V)) (answer : Option (K × V)) (last : CacheState K V)
-              → RejectsTooHeavy rules equal_to key strategy old left calls answer last
+              → RejectsTooHeavy equal_to key strategy old left calls answer last
               → KeepsTickets old last
           rejected _ _ _ (RejectsTooHeavy.reports calls last inserts takes) =
               TakesOutItem-tickets old calls last takes

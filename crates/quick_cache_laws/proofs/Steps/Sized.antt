@@ -17,7 +17,7 @@ module _ {K V : Type 0} (equal : K → K → Bool) (rules : Rules K V) where
   Step-sized old _ (Step.writes key strategy value calls answer new writes) =
       IsSized-kept old new (Writes-sizes rules (equal key) key strategy old value calls answer new
       writes)
-  Step-sized old _ (Step.makes stands_for hash key new query stands makes) =
+  Step-sized old _ (Step.makes stands_for hash key new exact makes) =
       IsSized-kept old new (MakesPlaceholder-sizes stands_for hash key old new makes)
   Step-sized old _ (Step.meets stands_for ticket new meets) =
       IsSized-kept old new (MeetsPlaceholder-sizes stands_for ticket old new meets)

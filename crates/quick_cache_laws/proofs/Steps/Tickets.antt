@@ -21,7 +21,7 @@ module _ {K V : Type 0} (equal : K → K → Bool) (rules : Rules K V) where
   pub Step-tickets : (old new : CacheState K V) → Step equal rules old new → KeepsTickets old new
   Step-tickets old _ (Step.writes key strategy value calls answer new writes) =
       Writes-tickets rules (equal key) key strategy old value calls answer new writes
-  Step-tickets old _ (Step.makes stands_for hash key new query stands makes) =
+  Step-tickets old _ (Step.makes stands_for hash key new exact makes) =
       MakesPlaceholder-tickets stands_for hash key old new makes
   Step-tickets old _ (Step.meets stands_for ticket new meets) =
       MeetsPlaceholder-tickets stands_for ticket old new meets

@@ -35,8 +35,8 @@ module _ {K V : Type 0} (equal : K → K → Bool) (laws : IsEquivalence equal)
       → IsValid equal new
   Step-valid old _ (Step.writes key strategy value calls answer new writes) =
       Writes-valid equal laws rules key strategy old value new calls answer writes
-  Step-valid old _ (Step.makes stands_for hash key new query stands makes) =
-      MakesPlaceholder-valid equal laws stands_for hash key old new (λ x. query key x stands) makes
+  Step-valid old _ (Step.makes stands_for hash key new exact makes) =
+      MakesPlaceholder-valid equal laws stands_for hash key old new exact makes
   Step-valid old _ (Step.meets stands_for ticket new meets) =
       MeetsPlaceholder-valid equal laws stands_for ticket old new meets
   Step-valid old _ (Step.fills ticket marked value calls answer new filled) =

@@ -7,10 +7,10 @@ use Rattle.quick_cache_model.specs.declared.queue.Queue.{Queue}
 use Rattle.quick_cache_model.specs.declared.queue.Queue.TheVariants.{Hot, Cold}
 use Rattle.quick_cache_model.specs.CacheState.{CacheState, Item, LoadingEntry, Place, InHot, InCold}
 use Rattle.quick_cache_model.specs.CacheState.{InStill, items_at, with_items, entered, rewritten}
-use Rattle.quick_cache_model.specs.CacheState.{keys_by, mark_cut, IsRingItem, IsStillItem, IsValid}
+use Rattle.quick_cache_model.specs.CacheState.{keys_by, IsRingItem, IsStillItem, IsValid}
 use Rattle.quick_cache_model.specs.Lookups.{after_hit, after_miss}
 use Rattle.quick_cache_model.specs.Placeholders.{with_placeholder}
-use Rattle.quick_cache_model.specs.Removal.{emptied, retained}
+use Rattle.quick_cache_model.specs.Removal.{cleared, retained}
 use Rattle.quick_cache_laws.proofs.EachElement.{all-middle, all-instead, all-filter}
 use Rattle.quick_cache_model.proofs.KeyCounts.{one, one_if, keys, keys-cons, loading_keys}
 use Rattle.quick_cache_model.proofs.KeyCounts.{loading_keys-cons, loading_keys-append}
@@ -30,19 +30,19 @@ module _ {K V : Type 0} where
   pub instead-in_place : (place : Place) (before : List (Item K V)) (item new : Item K V)
       (after : List (Item K V)) (state : CacheState K V)
       → items_at place state ≡ before ++ item ∷ after → new.queue ≡ item.queue
-      → new.weight ≡ item.weight → new.mark ≤ mark_cut
+      → new.weight ≡ item.weight → new.mark ≤ state.mark_cut
       → IsInPlace state → IsInPlace (with_items place (before ++ new ∷ after) state)
   instead-in_place InHot before item new after state split queue weight marked all = record {
-    in_hot = ring (subst (λ (xs : List (Item K V)). AllByRecursion (IsRingItem Hot) xs)
+    in_hot = ring (subst (λ (xs : List (Item K V)). AllByRecursion (IsRingItem state.mark_cut Hot) xs)
         split all.in_hot);
     in_cold = all.in_cold;
     in_still = all.in_still;
   }
     where
-      ring : AllByRecursion (IsRingItem Hot) (before ++ item ∷ after)
-          → AllByRecursion (IsRingItem Hot) (before ++ new ∷ after)
-      ring was = let h = all-middle (IsRingItem Hot) before item after was in all-instead
-          (IsRingItem Hot) before item new after
+      ring : AllByRecursion (IsRingItem state.mark_cut Hot) (before ++ item ∷ after)
+          → AllByRecursion (IsRingItem state.mark_cut Hot) (before ++ new ∷ after)
+      ring was = let h = all-middle (IsRingItem state.mark_cut Hot) before item after was in all-instead
+          (IsRingItem state.mark_cut Hot) before item new after
           (record {
             weighs = omega (arith, h.weighs, weight);
             of_queue =
@@ -51,15 +51,15 @@ module _ {K V : Type 0} where
           }) was
   instead-in_place InCold before item new after state split queue weight marked all = record {
     in_hot = all.in_hot;
-    in_cold = ring (subst (λ (xs : List (Item K V)). AllByRecursion (IsRingItem Cold) xs)
+    in_cold = ring (subst (λ (xs : List (Item K V)). AllByRecursion (IsRingItem state.mark_cut Cold) xs)
         split all.in_cold);
     in_still = all.in_still;
   }
     where
-      ring : AllByRecursion (IsRingItem Cold) (before ++ item ∷ after)
-          → AllByRecursion (IsRingItem Cold) (before ++ new ∷ after)
-      ring was = let h = all-middle (IsRingItem Cold) before item after was in all-instead
-          (IsRingItem Cold) before item new after
+      ring : AllByRecursion (IsRingItem state.mark_cut Cold) (before ++ item ∷ after)
+          → AllByRecursion (IsRingItem state.mark_cut Cold) (before ++ new ∷ after)
+      ring was = let h = all-middle (IsRingItem state.mark_cut Cold) before item after was in all-instead
+          (IsRingItem state.mark_cut Cold) before item new after
           (record {
             weighs = omega (arith, h.weighs, weight);
             of_queue =
@@ -69,13 +69,13 @@ module _ {K V : Type 0} where
   instead-in_place InStill before item new after state split queue weight marked all = record {
     in_hot = all.in_hot;
     in_cold = all.in_cold;
-    in_still = ring (subst (λ (xs : List (Item K V)). AllByRecursion IsStillItem xs)
+    in_still = ring (subst (λ (xs : List (Item K V)). AllByRecursion (IsStillItem state.mark_cut) xs)
         split all.in_still);
   }
     where
-      ring : AllByRecursion IsStillItem (before ++ item ∷ after)
-          → AllByRecursion IsStillItem (before ++ new ∷ after)
-      ring was = let h = all-middle IsStillItem before item after was in all-instead IsStillItem
+      ring : AllByRecursion (IsStillItem state.mark_cut) (before ++ item ∷ after)
+          → AllByRecursion (IsStillItem state.mark_cut) (before ++ new ∷ after)
+      ring was = let h = all-middle (IsStillItem state.mark_cut) before item after was in all-instead (IsStillItem state.mark_cut)
           before item new after (record { weightless = weight ∙ h.weightless; marked = marked }) was
 
   -- a filter brings no key
@@ -168,7 +168,7 @@ module _ {K V : Type 0} (equal : K → K → Bool) where
   pub instead-valid : (place : Place) (before : List (Item K V)) (item new : Item K V)
       (after : List (Item K V)) (state : CacheState K V)
       → items_at place state ≡ before ++ item ∷ after → new.key ≡ item.key → new.queue ≡ item.queue
-      → new.weight ≡ item.weight → new.mark ≤ mark_cut
+      → new.weight ≡ item.weight → new.mark ≤ state.mark_cut
       → IsValid equal state → IsValid equal (with_items place (before ++ new ∷ after) state)
   instead-valid place before item new after state split key queue weight marked valid =
       IsValid-items equal state (with_items place (before ++ new ∷ after) state)
@@ -211,17 +211,17 @@ module _ {K V : Type 0} (equal : K → K → Bool) where
       (IsValid-tickets equal state valid)
       valid.ghosts_within
       (record {
-        in_hot = all-filter (IsRingItem Hot) (λ item. keeps item.key item.value)
+        in_hot = all-filter (IsRingItem state.mark_cut Hot) (λ item. keeps item.key item.value)
             state.hot valid.in_hot;
-        in_cold = all-filter (IsRingItem Cold) (λ item. keeps item.key item.value)
+        in_cold = all-filter (IsRingItem state.mark_cut Cold) (λ item. keeps item.key item.value)
             state.cold valid.in_cold;
-        in_still = all-filter IsStillItem (λ item. keeps item.key item.value)
+        in_still = all-filter (IsStillItem state.mark_cut) (λ item. keeps item.key item.value)
             state.still valid.in_still;
       })
 
   -- all goes
-  pub emptied-valid : (state : CacheState K V) → IsValid equal (emptied state)
-  emptied-valid state = record {
+  pub cleared-valid : (state : CacheState K V) → IsValid equal (cleared state)
+  cleared-valid state = record {
     one_entry_a_key = λ k. omega arith;
     one_entry_a_ticket = λ n. omega arith;
     tickets_given = tt;
@@ -234,7 +234,7 @@ module _ {K V : Type 0} (equal : K → K → Bool) where
   module _ (laws : IsEquivalence equal) where
     -- an item enters whose key is equal to none
     pub entered-valid : (item : Item K V) (state : CacheState K V)
-        → keys_by (equal item.key) state ≡ 0 → item.mark ≤ mark_cut
+        → keys_by (equal item.key) state ≡ 0 → item.mark ≤ state.mark_cut
         → IsValid equal state → IsValid equal (entered item state)
     entered-valid item state none marked valid =
         IsValid-items equal state (entered item state) (entered-same item state) valid
@@ -250,7 +250,7 @@ module _ {K V : Type 0} (equal : K → K → Bool) where
     pub rewritten-valid : (place : Place) (before : List (Item K V)) (item new : Item K V)
         (after : List (Item K V)) (state : CacheState K V)
         → items_at place state ≡ before ++ item ∷ after → equal new.key item.key ≡ true
-        → new.queue ≡ item.queue → new.mark ≤ mark_cut
+        → new.queue ≡ item.queue → new.mark ≤ state.mark_cut
         → IsValid equal state → IsValid equal (rewritten place before new after state)
     rewritten-valid place before item new after state split same queue marked valid =
         IsValid-items equal state (rewritten place before new after state)

@@ -4,7 +4,7 @@ use Rattle.std.proofs.Common.{◌≡◌, ℕ, ◌≤◌, Bool, true, List, ◌�
 use Rattle.std.proofs.Common.{◌∙◌, arith}
 use Rattle.std.specs.Cmp.{IsEquivalence}
 use Rattle.quick_cache_model.specs.CacheState.{CacheState, Item, Place, InHot, InCold, InStill}
-use Rattle.quick_cache_model.specs.CacheState.{items_at, with_items, mark_cut, IsValid}
+use Rattle.quick_cache_model.specs.CacheState.{items_at, with_items, IsValid}
 use Rattle.quick_cache_model.specs.Hooks.{Rules}
 use Rattle.quick_cache_model.specs.Lookups.{looked_up, after_hit, LooksUp}
 use Rattle.quick_cache_model.specs.Removal.{Removes, RemovesIf, Retains, Drains, weighed, reweighed}
@@ -13,7 +13,7 @@ use Rattle.quick_cache_laws.proofs.Valid.Places.{keys_by-without, IsInPlace-mark
 use Rattle.quick_cache_laws.proofs.Valid.States.{IsValid-in_place}
 use Rattle.quick_cache_laws.proofs.Valid.Edits.{after_hit-valid, after_miss-valid, instead-valid}
 use Rattle.quick_cache_laws.proofs.Valid.Edits.{without-valid, without_ghost-valid, unloaded-valid}
-use Rattle.quick_cache_laws.proofs.Valid.Edits.{retained-valid, emptied-valid, rewritten-valid}
+use Rattle.quick_cache_laws.proofs.Valid.Edits.{retained-valid, cleared-valid, rewritten-valid}
 use Rattle.quick_cache_laws.proofs.Valid.Edits.{with_placeholder-valid, keys_by-taken}
 
 module _ {K V : Type 0} (equal : K → K → Bool) where
@@ -29,7 +29,7 @@ module _ {K V : Type 0} (equal : K → K → Bool) where
       (old new : CacheState K V) (shown : Option X)
       → LooksUp stands_for old of shown new → IsValid equal old → IsValid equal new
   LooksUp-valid stands_for of old _ _ (LooksUp.hit place before item after there) valid =
-      instead-valid equal place before item (looked_up item) after (after_hit old)
+      instead-valid equal place before item (looked_up old.mark_cut item) after (after_hit old)
       (items_at-after_hit place old ∙ there.split) refl refl refl (omega arith)
       (after_hit-valid equal old valid)
   LooksUp-valid stands_for of old _ _ (LooksUp.miss none) valid = after_miss-valid equal old valid
@@ -42,8 +42,8 @@ module _ {K V : Type 0} (equal : K → K → Bool) where
       without-valid equal place before item after old there.split valid
   Removes-valid stands_for hash old _ _ (Removes.of_loading before entry after there) valid =
       unloaded-valid equal before entry after old there.split valid
-  Removes-valid stands_for hash old _ _ (Removes.of_ghost before after none split) valid =
-      without_ghost-valid equal before hash after old split valid
+  Removes-valid stands_for hash old _ _ (Removes.of_ghost before after there) valid =
+      without_ghost-valid equal before hash after old there.split valid
   Removes-valid stands_for hash old _ _ (Removes.of_nothing nothing) valid = valid
 
   -- a removal by a test
@@ -67,14 +67,14 @@ module _ {K V : Type 0} (equal : K → K → Bool) where
   pub Drains-valid : (old new : CacheState K V) (pairs : List (K × V)) → Drains old pairs new
       → IsValid equal new
   Drains-valid old new pairs drains = subst (λ (s : CacheState K V). IsValid equal s) (sym drains.1)
-      (emptied-valid equal old)
+      (cleared-valid equal old)
 
   module _ (laws : IsEquivalence equal) (rules : Rules K V) where
     -- an item that is weighed anew
     pub reweighed-valid : (place : Place) (before : List (Item K V)) (was now : Item K V)
         (after : List (Item K V)) (left : V) (old : CacheState K V)
         → items_at place old ≡ before ++ was ∷ after → now.key ≡ was.key → now.queue ≡ was.queue
-        → now.mark ≤ mark_cut
+        → now.mark ≤ old.mark_cut
         → IsValid equal old → IsValid equal (reweighed rules place before now after left old)
     reweighed-valid place before was now after left old split key queue marked valid =
         rewritten-valid equal laws place before was (weighed rules now left) after old split
@@ -87,8 +87,8 @@ module _ {K V : Type 0} (equal : K → K → Bool) where
         → IsValid equal new
     ActsOnEntry-valid stands_for old item left _ _ _ (ActsOnEntry.kept place before after there)
         valid =
-        after_hit-valid equal (reweighed rules place before (looked_up item) after left old)
-        (reweighed-valid place before item (looked_up item) after left old there.split refl refl
+        after_hit-valid equal (reweighed rules place before (looked_up old.mark_cut item) after left old)
+        (reweighed-valid place before item (looked_up old.mark_cut item) after left old there.split refl refl
         (omega arith) valid)
     ActsOnEntry-valid stands_for old item left _ _ _
         (ActsOnEntry.removed place before after now front back there written) valid =

@@ -3,10 +3,11 @@ use Rattle.std.proofs.Common.{◌≡◌, ℕ, ◌≤◌, Bool, true, false, if�
 use Rattle.std.proofs.Common.{arith}
 use Rattle.std.specs.Cmp.{IsEquivalence}
 use Rattle.quick_cache_model.specs.declared.queue.Queue.TheVariants.{Hot, Cold}
-use Rattle.quick_cache_model.specs.CacheState.{CacheState, entered, mark_cut, IsValid}
+use Rattle.quick_cache_model.specs.CacheState.{CacheState, entered, IsValid}
 use Rattle.quick_cache_model.specs.Hooks.{Rules, HookCall}
 use Rattle.quick_cache_model.specs.Lookups.{after_miss}
 use Rattle.quick_cache_model.specs.Writes.{new_item, queue_for}
+use Rattle.quick_cache_model.specs.Touches.{first_mark}
 use Rattle.quick_cache_model.specs.Placeholders.{MakesPlaceholder, MeetsPlaceholder}
 use Rattle.quick_cache_model.specs.Placeholders.{GivesUpPlaceholder, MakesRoomFor, FillsPlaceholder}
 use Rattle.quick_cache_laws.proofs.Calls.EqualKeys.{keys_by-absent}
@@ -22,17 +23,17 @@ module _ {K V : Type 0} (equal : K → K → Bool) (laws : IsEquivalence equal) 
   pub MakesPlaceholder-valid : (stands_for : K → Bool) (hash : ℕ) (key : K)
       (old new : CacheState K V) → ((x : K) → stands_for x ≡ equal key x)
       → MakesPlaceholder stands_for old hash key new → IsValid equal old → IsValid equal new
-  MakesPlaceholder-valid stands_for hash key old _ stands (MakesPlaceholder.on_nothing nothing)
+  MakesPlaceholder-valid stands_for hash key old _ exact (MakesPlaceholder.on_nothing stands nothing)
       valid =
       with_placeholder-valid equal laws key Cold (after_miss old)
-      (keys_by-absent equal laws stands_for key stands old nothing.keys)
+      (keys_by-absent equal laws stands_for key exact old nothing.keys)
       (after_miss-valid equal old valid)
-  MakesPlaceholder-valid stands_for hash key old _ stands
-      (MakesPlaceholder.on_ghost before after none split) valid =
+  MakesPlaceholder-valid stands_for hash key old _ exact
+      (MakesPlaceholder.on_ghost before after stands there) valid =
       let mid : CacheState K V = record old { ghosts = before ++ after } in
       with_placeholder-valid equal laws key Hot (after_miss mid)
-      (keys_by-absent equal laws stands_for key stands old none)
-      (after_miss-valid equal mid (without_ghost-valid equal before hash after old split valid))
+      (keys_by-absent equal laws stands_for key exact old there.keys)
+      (after_miss-valid equal mid (without_ghost-valid equal before hash after old there.split valid))
 
   -- one that is there is met
   pub MeetsPlaceholder-valid : (stands_for : K → Bool) (ticket : ℕ) (old new : CacheState K V)
@@ -68,7 +69,7 @@ module _ {K V : Type 0} (equal : K → K → Bool) (laws : IsEquivalence equal) 
       (FillsPlaceholder.fills before entry after left first rest new there checks makes) valid =
       let mid : CacheState K V = record old { loading = before ++ after } in
       let item = new_item rules entry.key left (queue_for rules old entry.key left entry.queue)
-      (if marked then 1 else 0) in
+      (if marked then first_mark old.mark_cut else 0) in
       MakesRoomFor-valid ticket old rules (rules.weight entry.key left) (entered item mid)
       new rest makes
       (entered-valid equal laws item mid
@@ -76,7 +77,7 @@ module _ {K V : Type 0} (equal : K → K → Bool) (laws : IsEquivalence equal) 
       (keys_by-unloaded (equal entry.key) before entry after old there.split) valid)
       (mark-le marked) (unloaded-valid equal before entry after old there.split valid))
     where
-      mark-le : (b : Bool) → (if b then 1 else 0) ≤ mark_cut
+      mark-le : (b : Bool) → (if b then first_mark old.mark_cut else 0) ≤ old.mark_cut
       mark-le true = omega arith
       mark-le false = omega arith
   FillsPlaceholder-valid ticket rules marked old _ value _ _

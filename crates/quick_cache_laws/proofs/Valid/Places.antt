@@ -9,7 +9,7 @@ use Rattle.quick_cache_model.specs.declared.queue.Queue.TheVariants.{Hot, Cold}
 use Rattle.quick_cache_model.specs.CacheState.{CacheState, Item, Place, InHot, InCold, InStill}
 use Rattle.quick_cache_model.specs.CacheState.{ring_place, items_at, with_items, place_of_item}
 use Rattle.quick_cache_model.specs.CacheState.{entered, restarted_behind, rewritten, keys_by}
-use Rattle.quick_cache_model.specs.CacheState.{IsRingItem, IsStillItem, mark_cut}
+use Rattle.quick_cache_model.specs.CacheState.{IsRingItem, IsStillItem}
 use Rattle.quick_cache_laws.proofs.EachElement.{all-middle, all-without, all-instead, all-restarted}
 use Rattle.quick_cache_laws.proofs.EachElement.{all-push}
 use Rattle.quick_cache_model.proofs.KeyCounts.{one, keys, keys-cons, keys-append, keys-split}
@@ -215,18 +215,18 @@ module _ {K V : Type 0} where
   -- an item of a place has a mark up to the greatest
   pub IsInPlace-marked : (place : Place) (before : List (Item K V)) (item : Item K V)
       (after : List (Item K V)) (state : CacheState K V)
-      → items_at place state ≡ before ++ item ∷ after → IsInPlace state → item.mark ≤ mark_cut
+      → items_at place state ≡ before ++ item ∷ after → IsInPlace state → item.mark ≤ state.mark_cut
   IsInPlace-marked InHot before item after state split all =
-      (all-middle (IsRingItem Hot) before item after
-      (subst (λ (xs : List (Item K V)). AllByRecursion (IsRingItem Hot) xs)
+      (all-middle (IsRingItem state.mark_cut Hot) before item after
+      (subst (λ (xs : List (Item K V)). AllByRecursion (IsRingItem state.mark_cut Hot) xs)
       split all.in_hot)).marked
   IsInPlace-marked InCold before item after state split all =
-      (all-middle (IsRingItem Cold) before item after
-      (subst (λ (xs : List (Item K V)). AllByRecursion (IsRingItem Cold) xs)
+      (all-middle (IsRingItem state.mark_cut Cold) before item after
+      (subst (λ (xs : List (Item K V)). AllByRecursion (IsRingItem state.mark_cut Cold) xs)
       split all.in_cold)).marked
   IsInPlace-marked InStill before item after state split all =
-      (all-middle IsStillItem before item after
-      (subst (λ (xs : List (Item K V)). AllByRecursion IsStillItem xs) split all.in_still)).marked
+      (all-middle (IsStillItem state.mark_cut) before item after
+      (subst (λ (xs : List (Item K V)). AllByRecursion (IsStillItem state.mark_cut) xs) split all.in_still)).marked
 
   -- an item taken out leaves the others in place
   pub without-in_place : (place : Place) (before : List (Item K V)) (item : Item K V)
@@ -234,40 +234,40 @@ module _ {K V : Type 0} where
       → items_at place state ≡ before ++ item ∷ after → IsInPlace state
       → IsInPlace (with_items place (before ++ after) state)
   without-in_place InHot before item after state split all = record {
-    in_hot = all-without (IsRingItem Hot) before item after
-        (subst (λ (xs : List (Item K V)). AllByRecursion (IsRingItem Hot) xs) split all.in_hot);
+    in_hot = all-without (IsRingItem state.mark_cut Hot) before item after
+        (subst (λ (xs : List (Item K V)). AllByRecursion (IsRingItem state.mark_cut Hot) xs) split all.in_hot);
     in_cold = all.in_cold;
     in_still = all.in_still;
   }
   without-in_place InCold before item after state split all = record {
     in_hot = all.in_hot;
-    in_cold = all-without (IsRingItem Cold) before item after
-        (subst (λ (xs : List (Item K V)). AllByRecursion (IsRingItem Cold) xs) split all.in_cold);
+    in_cold = all-without (IsRingItem state.mark_cut Cold) before item after
+        (subst (λ (xs : List (Item K V)). AllByRecursion (IsRingItem state.mark_cut Cold) xs) split all.in_cold);
     in_still = all.in_still;
   }
   without-in_place InStill before item after state split all = record {
     in_hot = all.in_hot;
     in_cold = all.in_cold;
-    in_still = all-without IsStillItem before item after
-        (subst (λ (xs : List (Item K V)). AllByRecursion IsStillItem xs) split all.in_still);
+    in_still = all-without (IsStillItem state.mark_cut) before item after
+        (subst (λ (xs : List (Item K V)). AllByRecursion (IsStillItem state.mark_cut) xs) split all.in_still);
   }
 
   -- an item that enters goes where its weight and its queue say
-  pub entered-in_place : (item : Item K V) (state : CacheState K V) → item.mark ≤ mark_cut
+  pub entered-in_place : (item : Item K V) (state : CacheState K V) → item.mark ≤ state.mark_cut
       → IsInPlace state → IsInPlace (entered item state)
   entered-in_place item state marked all = go (item.weight == 0) refl
     where
       ring : (queue : Queue) → item.queue ≡ queue → 0 < item.weight
           → IsInPlace (put (ring_place queue) item state)
       ring Hot is weighs = record {
-        in_hot = all-push (IsRingItem Hot) state.hot item all.in_hot
+        in_hot = all-push (IsRingItem state.mark_cut Hot) state.hot item all.in_hot
             (record { weighs = weighs; of_queue = is; marked = marked });
         in_cold = all.in_cold;
         in_still = all.in_still;
       }
       ring Cold is weighs = record {
         in_hot = all.in_hot;
-        in_cold = all-push (IsRingItem Cold) state.cold item all.in_cold
+        in_cold = all-push (IsRingItem state.mark_cut Cold) state.cold item all.in_cold
             (record { weighs = weighs; of_queue = is; marked = marked });
         in_still = all.in_still;
       }
@@ -277,7 +277,7 @@ module _ {K V : Type 0} where
       go true is = record {
         in_hot = all.in_hot;
         in_cold = all.in_cold;
-        in_still = all-push IsStillItem state.still item all.in_still
+        in_still = all-push (IsStillItem state.mark_cut) state.still item all.in_still
             (record { weightless = eqb-true item.weight 0 is; marked = marked });
       }
       go false is = let some = eqb-false item.weight 0 is in ring item.queue refl (omega arith)
@@ -285,7 +285,7 @@ module _ {K V : Type 0} where
   -- so does one that is written over another of its queue
   pub rewritten-in_place : (place : Place) (before : List (Item K V)) (item new : Item K V)
       (after : List (Item K V)) (state : CacheState K V)
-      → items_at place state ≡ before ++ item ∷ after → new.queue ≡ item.queue → new.mark ≤ mark_cut
+      → items_at place state ≡ before ++ item ∷ after → new.queue ≡ item.queue → new.mark ≤ state.mark_cut
       → IsInPlace state → IsInPlace (rewritten place before new after state)
   rewritten-in_place InStill before item new after state split queue marked all =
       go (new.weight == 0) refl
@@ -296,34 +296,34 @@ module _ {K V : Type 0} where
       go true is = record {
         in_hot = all.in_hot;
         in_cold = all.in_cold;
-        in_still = all-instead IsStillItem before item new after
+        in_still = all-instead (IsStillItem state.mark_cut) before item new after
             (record { weightless = eqb-true new.weight 0 is; marked = marked })
-            (subst (λ (xs : List (Item K V)). AllByRecursion IsStillItem xs) split all.in_still);
+            (subst (λ (xs : List (Item K V)). AllByRecursion (IsStillItem state.mark_cut) xs) split all.in_still);
       }
       go false is = entered-in_place new (record state { still = before ++ after }) marked
           (without-in_place InStill before item after state split all)
   rewritten-in_place InHot before item new after state split queue marked all =
       go (new.weight == 0) refl
     where
-      ring : AllByRecursion (IsRingItem Hot) (before ++ item ∷ after)
-      ring = subst (λ (xs : List (Item K V)). AllByRecursion (IsRingItem Hot) xs) split all.in_hot
+      ring : AllByRecursion (IsRingItem state.mark_cut Hot) (before ++ item ∷ after)
+      ring = subst (λ (xs : List (Item K V)). AllByRecursion (IsRingItem state.mark_cut Hot) xs) split all.in_hot
 
       go : (b : Bool) → (new.weight == 0) ≡ b
           → IsInPlace (if b then entered new (with_items InHot (restarted_behind before after)
           state) else with_items InHot (before ++ new ∷ after) state)
       go true is = entered-in_place new (record state { hot = after ++ before }) marked
           (record {
-            in_hot = all-restarted (IsRingItem Hot) before item after ring;
+            in_hot = all-restarted (IsRingItem state.mark_cut Hot) before item after ring;
             in_cold =
                 all.in_cold;
             in_still = all.in_still;
           })
       go false is = let some = eqb-false new.weight 0 is in record {
-        in_hot = all-instead (IsRingItem Hot) before item new after
+        in_hot = all-instead (IsRingItem state.mark_cut Hot) before item new after
             (record {
               weighs = omega arith;
               of_queue =
-                  queue ∙ (all-middle (IsRingItem Hot) before item after ring).of_queue;
+                  queue ∙ (all-middle (IsRingItem state.mark_cut Hot) before item after ring).of_queue;
               marked =
                   marked;
             }) ring;
@@ -333,8 +333,8 @@ module _ {K V : Type 0} where
   rewritten-in_place InCold before item new after state split queue marked all =
       go (new.weight == 0) refl
     where
-      ring : AllByRecursion (IsRingItem Cold) (before ++ item ∷ after)
-      ring = subst (λ (xs : List (Item K V)). AllByRecursion (IsRingItem Cold) xs) split all.in_cold
+      ring : AllByRecursion (IsRingItem state.mark_cut Cold) (before ++ item ∷ after)
+      ring = subst (λ (xs : List (Item K V)). AllByRecursion (IsRingItem state.mark_cut Cold) xs) split all.in_cold
 
       go : (b : Bool) → (new.weight == 0) ≡ b
           → IsInPlace (if b then entered new (with_items InCold (restarted_behind before after)
@@ -343,16 +343,16 @@ module _ {K V : Type 0} where
           (record {
             in_hot = all.in_hot;
             in_cold =
-                all-restarted (IsRingItem Cold) before item after ring;
+                all-restarted (IsRingItem state.mark_cut Cold) before item after ring;
             in_still = all.in_still;
           })
       go false is = let some = eqb-false new.weight 0 is in record {
         in_hot = all.in_hot;
-        in_cold = all-instead (IsRingItem Cold) before item new after
+        in_cold = all-instead (IsRingItem state.mark_cut Cold) before item new after
             (record {
               weighs = omega arith;
               of_queue =
-                  queue ∙ (all-middle (IsRingItem Cold) before item after ring).of_queue;
+                  queue ∙ (all-middle (IsRingItem state.mark_cut Cold) before item after ring).of_queue;
               marked =
                   marked;
             }) ring;

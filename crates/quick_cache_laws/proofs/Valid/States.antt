@@ -4,7 +4,7 @@ use Rattle.std.proofs.Common.{◌≡◌, ℕ, ◌+◌, ◌<◌, ◌≤◌, ◌==
 use Rattle.std.proofs.Common.{arith}
 use Rattle.std.specs.List.{AllByRecursion, count_by}
 use Rattle.quick_cache_model.specs.declared.queue.Queue.{Queue}
-use Rattle.quick_cache_model.specs.CacheState.{CacheState, Item, LoadingEntry, keys_by, mark_cut}
+use Rattle.quick_cache_model.specs.CacheState.{CacheState, Item, LoadingEntry, keys_by}
 use Rattle.quick_cache_model.specs.CacheState.{IsValid, empty_state}
 use Rattle.quick_cache_model.specs.Hooks.{Rules, HookCall}
 use Rattle.quick_cache_model.specs.Eviction.{EvictsVictim, AdvancesHot, EvictsToTarget}
@@ -111,7 +111,7 @@ module _ {K V : Type 0} (equal : K → K → Bool) where
     -- greatest
     pub EvictsVictim-valid : (queue : Queue) (old new : CacheState K V) (item : Item K V)
         (calls : List (HookCall K V)) → EvictsVictim rules queue old item calls new
-        → item.mark ≤ mark_cut → ((k : K) → keys_by (equal k) old + one (equal k) item.key ≤ 1)
+        → item.mark ≤ old.mark_cut → ((k : K) → keys_by (equal k) old + one (equal k) item.key ≤ 1)
         → IsValid equal old → IsValid equal new
     EvictsVictim-valid queue old new item calls evicts marked single valid =
         IsValid-beside old new (EvictsVictim-beside rules queue old new item calls evicts) valid

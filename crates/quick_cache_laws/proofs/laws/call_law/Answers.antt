@@ -10,8 +10,8 @@ returns-clause-writes g c = λ hash weight pinned equal_to key strategy old valu
     Writes-ends _ g.T.Touches.none_counted equal_to key strategy old value
 
 pub returns-clause-makes_or_meets : goal.returns-clause-makes_or_meets
-returns-clause-makes_or_meets g c = λ stands_for hash key old none. Placeholder-exists stands_for
-    hash key old none
+returns-clause-makes_or_meets g c = λ stands_for hash key old stands none.
+    Placeholder-exists stands_for hash key old stands none
 
 pub returns-clause-fills : goal.returns-clause-fills
 returns-clause-fills g c = λ hash weight pinned ticket marked old value.

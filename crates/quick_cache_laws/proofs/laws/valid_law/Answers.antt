@@ -1,6 +1,6 @@
 use Rattle.quick_cache_laws.proofs.Valid.Orders.{SameButOrder-valid}
 use Rattle.quick_cache_laws.proofs.Valid.States.{empty_state-valid, SetsCapacity-valid}
-use Rattle.quick_cache_laws.proofs.Valid.Edits.{emptied-valid}
+use Rattle.quick_cache_laws.proofs.Valid.Edits.{cleared-valid}
 use Rattle.quick_cache_laws.proofs.Valid.Writes.{Writes-valid}
 use Rattle.quick_cache_laws.proofs.Valid.Placeholders.{MakesPlaceholder-valid}
 use Rattle.quick_cache_laws.proofs.Valid.Placeholders.{MeetsPlaceholder-valid}
@@ -17,9 +17,8 @@ returns-clause-writes g c = λ hash weight pinned key strategy old value new cal
     Writes-valid _ g.met.K.Eq.laws _ key strategy old value new calls answer writes valid
 
 pub returns-clause-makes : goal.returns-clause-makes
-returns-clause-makes g c = λ stands_for hash key old new query stands makes valid.
-    MakesPlaceholder-valid _ g.met.K.Eq.laws stands_for hash key old new (λ x. query key x stands)
-    makes valid
+returns-clause-makes g c = λ stands_for hash key old new exact makes valid.
+    MakesPlaceholder-valid _ g.met.K.Eq.laws stands_for hash key old new exact makes valid
 
 pub returns-clause-fills : goal.returns-clause-fills
 returns-clause-fills g c = λ hash weight pinned ticket marked old new value calls answer
@@ -64,7 +63,7 @@ returns-clause-removes_if g c = λ stands_for passes old new answer removes vali
     stands_for passes old new answer removes valid
 
 pub returns-clause-empties : goal.returns-clause-empties
-returns-clause-empties g c = λ state. emptied-valid _ state
+returns-clause-empties g c = λ state. cleared-valid _ state
 
 pub returns-clause-orders : goal.returns-clause-orders
 returns-clause-orders g c = λ old new order valid. SameButOrder-valid _ old new order valid

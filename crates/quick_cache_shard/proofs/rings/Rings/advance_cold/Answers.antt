@@ -1,6 +1,6 @@
 use Rattle.std.proofs.Common.{◌≡◌, ◌<◌, ◌∙◌, [], ◌∷◌, ◌++◌, ap, sym, subst, refl, arith, length}
 use Rattle.quick_cache_model.specs.declared.queue.Queue.TheVariants.{Hot, Cold}
-use Rattle.quick_cache_model.specs.CacheState.{Item}
+use Rattle.quick_cache_model.specs.CacheState.{default_mark_cut, Item}
 use Rattle.quick_cache_model.specs.Eviction.{newest}
 use Rattle.quick_cache_model.specs.Hooks.{BeforeEvict, EvictCold}
 use Rattle.quick_cache_model.specs.Touches.{TakesTouches}
@@ -27,14 +27,13 @@ evict_to_target-requires g c =
     let b = begins c.args.self.now.cold.items some in
     let r = c.restart-item.ensures.restarts [] b.first b.after
     (first_split c.args.self.now.cold.items b) in
-    let t = subst (λ (i : Item g.row.K.Denot g.row.V.Denot). TakesTouches
-    g.P.Touch.Touches.may_count i c.take_touches.new.self) r.0 c.take_touches.ensures in
+    let t = subst (λ (i : Item g.row.K.Denot g.row.V.Denot). TakesTouches default_mark_cut g.P.Touch.Touches.may_count i c.take_touches.new.self) r.0 c.take_touches.ensures in
     let unit = unit-touched g.P.Touch.Touches.may_count Cold b.first c.take_touches.new.self t
     (subst (AllUnit Cold) b.is c.requires.plain.cold).0 in
     record {
       plain = plain-moved g.K.PartialEq.eq _ _ _ _ _ _ _ _ c.requires.plain b c.promote.new.self _ _
           (ap (λ (i : Item g.row.K.Denot g.row.V.Denot). i.key) c.promote.ensures
-          ∙ (same_but_counts g.P.Touch.Touches.may_count b.first c.take_touches.new.self t).key)
+          ∙ (same_but_counts default_mark_cut g.P.Touch.Touches.may_count b.first c.take_touches.new.self t).key)
           (subst (IsUnitItem Hot) (sym c.promote.ensures)
           (record {
             weighs = unit.weighs;
@@ -77,8 +76,7 @@ returns-then-mark-gt0-clause-advances g c =
     let b = begins c.args.self.now.cold.items some in
     let r = c.restart-item.ensures.restarts [] b.first b.after
     (first_split c.args.self.now.cold.items b) in
-    let t = subst (λ (i : Item g.row.K.Denot g.row.V.Denot). TakesTouches
-    g.P.Touch.Touches.may_count i c.take_touches.new.self) r.0 c.take_touches.ensures in
+    let t = subst (λ (i : Item g.row.K.Denot g.row.V.Denot). TakesTouches default_mark_cut g.P.Touch.Touches.may_count i c.take_touches.new.self) r.0 c.take_touches.ensures in
     let e = c.evict_to_target.ensures.evicts in
     let marked : 0 < c.take_touches.new.self.mark = omega arith in
     let pushed = c.push_reserved.ensures.items
@@ -111,8 +109,7 @@ returns-clause-advances g c =
     let b = begins c.args.self.now.cold.items some in
     let r = c.restart-item.ensures.restarts [] b.first b.after
     (first_split c.args.self.now.cold.items b) in
-    let t = subst (λ (i : Item g.row.K.Denot g.row.V.Denot). TakesTouches
-    g.P.Touch.Touches.may_count i c.take_touches.new.self) r.0 c.take_touches.ensures in
+    let t = subst (λ (i : Item g.row.K.Denot g.row.V.Denot). TakesTouches default_mark_cut g.P.Touch.Touches.may_count i c.take_touches.new.self) r.0 c.take_touches.ensures in
     let unmarked : c.take_touches.new.self.mark ≡ 0 = omega arith in
     let leave = c.leave_cold.ensures in
     let hash = g.M.Policy.hashed c.args.terms.now in

@@ -1,6 +1,6 @@
 use Rattle.std.proofs.Common.{[], ◌∷◌, refl, subst, ap, ◌∙◌, ◌≡◌, arith, length}
 use Rattle.quick_cache_model.specs.declared.queue.Queue.TheVariants.{Hot}
-use Rattle.quick_cache_model.specs.CacheState.{Item}
+use Rattle.quick_cache_model.specs.CacheState.{default_mark_cut, Item}
 use Rattle.quick_cache_model.specs.Hooks.{BeforeEvict, EvictHot, RunsHooks}
 use Rattle.quick_cache_shard.specs.Rings.{state_of}
 use Rattle.quick_cache_shard.proofs.ListLemmas.{get_or-split}
@@ -63,8 +63,7 @@ returns-clause-sound g c =
             arith,
             keys_of-advanced
                 (g.K.PartialEq.eq k) xs c.in-Some.at l _ _ a,
-            keys_of-raised _
-                (g.K.PartialEq.eq k) c.args.self.now.hot.items xs c.take_all_touches.ensures.raises,
+            keys_of-raised _ default_mark_cut (g.K.PartialEq.eq k) c.args.self.now.hot.items xs c.take_all_touches.ensures.raises,
           ));
       sized = c.requires.sized;
       room = record {
@@ -111,8 +110,7 @@ returns-in_default-clause-sound g c =
           (unit-raised _ Hot _ xs c.take_all_touches.ensures.raises c.requires.plain.hot)
           (λ k. omega (
             arith,
-            keys_of-raised _
-                (g.K.PartialEq.eq k) c.args.self.now.hot.items xs c.take_all_touches.ensures.raises,
+            keys_of-raised _ default_mark_cut (g.K.PartialEq.eq k) c.args.self.now.hot.items xs c.take_all_touches.ensures.raises,
           ));
       sized = c.requires.sized;
       room = record {

@@ -27,9 +27,7 @@ returns-in-InHot-clause-takes g c =
     (λ j. (queue j, pair j)) c.report.ensures in
     record {
       calls = evicted f.element.queue f.element.key f.element.value ∷ [];
-      holds = takes_hot (g.M.Policy.hashed c.args.terms.now)
-          (g.K.PartialEq.eq c.args.key.now) c.args.key.now
-          (state_of c.args.self.now) _ c.in-InHot.at f
+      holds = takes_hot (g.K.PartialEq.eq c.args.key.now) (state_of c.args.self.now) _ c.in-InHot.at f
           (λ j. record (state_of c.args.self.now) { hot = taken.1 j });
       runs = told;
     }
@@ -69,9 +67,7 @@ returns-in-InCold-clause-takes g c =
     (λ j. (queue j, pair j)) c.report-in-InCold.ensures in
     record {
       calls = evicted f.element.queue f.element.key f.element.value ∷ [];
-      holds = takes_cold (g.M.Policy.hashed c.args.terms.now)
-          (g.K.PartialEq.eq c.args.key.now) c.args.key.now
-          (state_of c.args.self.now) _ c.in-InCold.at f
+      holds = takes_cold (g.K.PartialEq.eq c.args.key.now) (state_of c.args.self.now) _ c.in-InCold.at f
           (λ j. record (state_of c.args.self.now) { cold = taken.1 j });
       runs = told;
     }
