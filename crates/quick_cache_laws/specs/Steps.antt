@@ -1,5 +1,5 @@
 -- A step of a cache is one call of any kind. What holds over any list of steps.
-use Rattle.std.specs.Prelude.{◌≡◌, ℕ, Bool, true, List, Option}
+use Rattle.std.specs.Prelude.{◌≡◌, ℕ, Bool, List, Option}
 use Rattle.quick_cache_model.specs.CacheState.{CacheState, Item, LoadingEntry, Place, IsValid}
 use Rattle.quick_cache_model.specs.CacheState.{empty_state, SameButOrder}
 use Rattle.quick_cache_model.specs.Hooks.{Rules, HookCall}

@@ -1,6 +1,5 @@
 -- Lists of steps: tickets that never return, and sizes that stay.
-use Rattle.std.proofs.Common.{ℕ, ◌==◌, [], ◌∷◌, refl, sym, ap, arith}
-use Rattle.std.proofs.lemmas.Bool.{eqb-true}
+use Rattle.std.proofs.Common.{ℕ, ◌==◌, [], ◌∷◌, refl, arith}
 use Rattle.quick_cache_model.specs.CacheState.{empty_state}
 use Rattle.quick_cache_model.specs.Placeholders.{HasNoTicket, MakesPlaceholder}
 use Rattle.quick_cache_model.specs.Placeholders.{GivesUpPlaceholder}

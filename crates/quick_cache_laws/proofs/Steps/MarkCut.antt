@@ -3,7 +3,7 @@ use Rattle.std.proofs.Common.{◌≡◌, ℕ, Bool, true, false, List, ◌∷◌
 use Rattle.std.proofs.Common.{if◌then◌else◌, ◌==◌}
 use Rattle.quick_cache_model.specs.declared.queue.Queue.TheVariants.{Hot, Cold}
 use Rattle.quick_cache_model.specs.CacheState.{CacheState, Item, Place, InHot, InCold, InStill}
-use Rattle.quick_cache_model.specs.CacheState.{with_items, items_at, place_of_item, entered}
+use Rattle.quick_cache_model.specs.CacheState.{with_items, place_of_item, entered}
 use Rattle.quick_cache_model.specs.CacheState.{rewritten, restarted_behind}
 use Rattle.quick_cache_model.specs.Hooks.{Rules, HookCall}
 use Rattle.quick_cache_model.specs.Eviction.{EvictsToCapacity}
