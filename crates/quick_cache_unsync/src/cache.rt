@@ -1,5 +1,5 @@
 //! The cache for one thread.
-ghost use Rattle.std.specs.Prelude.{◌≡◌, ◌≤◌, ◌+◌, ◌^◌, ◌-◌, ◌↔◌, min, IsTrue, IfOk, IfErr, IsOk, option_copied, OnOk};
+ghost use Rattle.std.specs.Prelude.{◌≡◌, ◌≤◌, ◌+◌, ◌^◌, ◌-◌, ◌↔◌, min, IsTrue, IfOk, IfErr, IsOk, Some, codes, option_copied, OnOk};
 ghost use Rattle.std.specs.Borrow.{sem};
 ghost use Rattle.quick_cache_model.specs.declared.refusal.Refusal.TheVariants.{Memory};
 ghost use Rattle.quick_cache_model.specs.CacheState.{empty_state, item_count, total_weight};
@@ -337,6 +337,8 @@ impl<K: Eq + Hash, V, We, B: BuildHasher, L, A: Allocator> Cache<K, V, We, B, L,
 }
 
 impl<K: Eq + Hash, V, We, B, L, A: Allocator> Debug for Cache<K, V, We, B, L, A> {
+    ghost debug_output = { λ _. Some (codes "Cache { .. }") };
+
     fn fmt<W: Write>(&self, f: &mut Formatter<W>) -> std::fmt::Result {
         f.write_str("Cache { .. }")
     }

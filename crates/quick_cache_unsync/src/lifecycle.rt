@@ -1,5 +1,5 @@
 //! The lifecycle that a cache for one thread has by default.
-ghost use Rattle.std.specs.Prelude.{◌≡◌};
+ghost use Rattle.std.specs.Prelude.{◌≡◌, ⊤, Some, codes};
 
 use quick_cache_model::Lifecycle;
 use std::fmt::{Debug, Formatter, Write};
@@ -27,12 +27,16 @@ impl<K, V> Default for DefaultLifecycle<K, V> {
 impl<K, V> Clone for DefaultLifecycle<K, V> {
     ghost is_clone = { λ old new. new ≡ old };
 
+    ghost is_infallible = { λ _. ⊤ };
+
     fn clone(&self) -> Result<Self, std::alloc::AllocError> {
         Ok(DefaultLifecycle::new())
     }
 }
 
 impl<K, V> Debug for DefaultLifecycle<K, V> {
+    ghost debug_output = { λ _. Some (codes "DefaultLifecycle") };
+
     fn fmt<W: Write>(&self, f: &mut Formatter<W>) -> std::fmt::Result {
         f.write_str("DefaultLifecycle")
     }

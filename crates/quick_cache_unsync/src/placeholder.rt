@@ -1,5 +1,5 @@
 //! What stands at a key that is being loaded, and the count of touches, where a cache has one thread.
-ghost use Rattle.std.specs.Prelude.{◌≡◌, refl};
+ghost use Rattle.std.specs.Prelude.{◌≡◌, refl, IfOk, IsOk};
 ghost use Rattle.std.specs.Int.NonZero.{non_zero_u32_get};
 ghost use Rattle.quick_cache_unsync.specs.Touches.{no_touches};
 
@@ -44,7 +44,13 @@ impl<K: Eq + Hash> SharedPlaceholder<K> for Placeholder {
 
     ghost ticket_of = { λ placeholder. placeholder.ticket };
 
-    fn new<Q: ToKey<K>>(hash: u64, idx: Token, ticket: u64, _query: &Q) -> Result<Self, Refusal> {
+    fn new<Q: ToKey<K>>(hash: u64, idx: Token, ticket: u64, _query: &Q) -> Result<Self, Refusal>
+        // It holds no key, so it takes no memory.
+        ensures succeeds { IsOk result }
+        ensures hash { IfOk result (λ made. made.hash ≡ hash) }
+        ensures idx { IfOk result (λ made. made.idx ≡ idx) }
+        ensures ticket { IfOk result (λ made. made.ticket ≡ ticket) }
+    {
         Ok(Placeholder { hash, idx, ticket })
     }
 
