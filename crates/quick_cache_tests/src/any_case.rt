@@ -39,7 +39,7 @@ impl Equivalent<Letter> for Small {
 
 #[test]
 fn a_query_may_stand_for_one_of_two_equal_keys(rt: HostRuntime) -> Result<(), Fail> {
-    let mut shard: Tested<Letter, u64> = empty(&rt, 4)?;
+    let mut shard: Tested<Letter, u64> = empty(rt.alloc(), 4)?;
     let mut told = Told::default();
     let small = Letter {
         number: 3,

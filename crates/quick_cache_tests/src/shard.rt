@@ -4,23 +4,32 @@ ghost use Rattle.std.specs.Cmp.Rules.{comparing, hashing};
 ghost use Rattle.std.proofs.Common.{rules};
 
 pub(crate) mod parts;
+mod touches;
 
-use parts::{Counting, Placeholder, Thousand, Told};
+use parts::{Counting, NoTouches, Placeholder, Thousand, Told};
 use quick_cache_base::{Equivalent, Refusal, UnitWeighter};
-use quick_cache_shard::{CacheShard, InsertStrategy};
+use quick_cache_shard::{CacheShard, InsertStrategy, Touches};
+use std::alloc::Global;
 use std::hash::Hash;
 use std::test::Fail;
 
-/// A shard of unit weights.
-pub(crate) type Tested<K, V> = CacheShard<K, V, UnitWeighter, Thousand, Counting, Placeholder>;
+/// A shard of unit weights, whose items count touches so.
+pub(crate) type Tested<K, V, T = NoTouches> = CacheShard<
+    K,
+    V,
+    UnitWeighter,
+    Thousand,
+    Counting,
+    Placeholder<T>,
+>;
 
 /// An empty shard for so many items, with the default shares.
-pub(crate) fn empty<K: Eq + Hash, V>(
-    rt: &HostRuntime,
+pub(crate) fn empty<K: Eq + Hash, V, T: Touches>(
+    alloc: Global,
     capacity: usize,
-) -> Result<Tested<K, V>, Refusal> {
+) -> Result<Tested<K, V, T>, Refusal> {
     CacheShard::new(
-        rt.alloc(),
+        alloc,
         970000,
         500000,
         capacity,
@@ -32,7 +41,7 @@ pub(crate) fn empty<K: Eq + Hash, V>(
 }
 
 /// Inserts a pair, and counts what was told.
-fn put(shard: &mut Tested<u64, u64>, told: &mut Told, key: u64, value: u64) -> bool {
+fn put<T: Touches>(shard: &mut Tested<u64, u64, T>, told: &mut Told, key: u64, value: u64) -> bool {
     let hash = shard.hash(&key);
     shard
         .insert(told, hash, key, value, InsertStrategy::Insert)
@@ -46,7 +55,7 @@ fn got(shard: &mut Tested<u64, u64>, key: u64) -> Option<u64> {
 }
 
 /// Whether a walk over a ring shows exactly these keys and marks.
-fn walks_hot(shard: &Tested<u64, u64>, want: &[(u64, u8)]) -> bool {
+fn walks_hot<T: Touches>(shard: &Tested<u64, u64, T>, want: &[(u64, u8)]) -> bool {
     let mut at = 0;
     for (key, _, mark) in shard.iter_hot() {
         if at >= want.len() || want[at] != (*key, mark) {
@@ -58,7 +67,7 @@ fn walks_hot(shard: &Tested<u64, u64>, want: &[(u64, u8)]) -> bool {
 }
 
 /// The same of the cold ring.
-fn walks_cold(shard: &Tested<u64, u64>, want: &[(u64, u8)]) -> bool {
+fn walks_cold<T: Touches>(shard: &Tested<u64, u64, T>, want: &[(u64, u8)]) -> bool {
     let mut at = 0;
     for (key, _, mark) in shard.iter_cold() {
         if at >= want.len() || want[at] != (*key, mark) {
@@ -70,7 +79,7 @@ fn walks_cold(shard: &Tested<u64, u64>, want: &[(u64, u8)]) -> bool {
 }
 
 /// The same of the ghosts.
-fn walks_ghosts(shard: &Tested<u64, u64>, want: &[u64]) -> bool {
+fn walks_ghosts<T: Touches>(shard: &Tested<u64, u64, T>, want: &[u64]) -> bool {
     let mut at = 0;
     for hash in shard.iter_ghosts() {
         if at >= want.len() || want[at] != hash {
@@ -83,7 +92,7 @@ fn walks_ghosts(shard: &Tested<u64, u64>, want: &[u64]) -> bool {
 
 #[test]
 fn a_cache_of_one_holds_the_last_pair(rt: HostRuntime) -> Result<(), Fail> {
-    let mut shard = empty(&rt, 1)?;
+    let mut shard: Tested<u64, u64> = empty(rt.alloc(), 1)?;
     let mut told = Told::default();
     assert!(rt; put(&mut shard, &mut told, 1, 10));
     assert_eq!(rt; got(&mut shard, 1), Some(10));
@@ -96,7 +105,7 @@ fn a_cache_of_one_holds_the_last_pair(rt: HostRuntime) -> Result<(), Fail> {
 
 #[test]
 fn a_cache_of_none_reports_each_pair(rt: HostRuntime) -> Result<(), Fail> {
-    let mut shard = empty(&rt, 0)?;
+    let mut shard: Tested<u64, u64> = empty(rt.alloc(), 0)?;
     let mut told = Told::default();
     assert!(rt; put(&mut shard, &mut told, 1, 10));
     assert_eq!(rt;
@@ -113,7 +122,7 @@ fn a_cache_of_none_reports_each_pair(rt: HostRuntime) -> Result<(), Fail> {
 
 #[test]
 fn equal_hashes_meet_one_ghost(rt: HostRuntime) -> Result<(), Fail> {
-    let mut shard = empty(&rt, 2)?;
+    let mut shard: Tested<u64, u64> = empty(rt.alloc(), 2)?;
     let mut told = Told::default();
     for key in [1, 5, 6, 1005] {
         assert!(rt; put(&mut shard, &mut told, key, key));
@@ -127,7 +136,7 @@ fn equal_hashes_meet_one_ghost(rt: HostRuntime) -> Result<(), Fail> {
 
 #[test]
 fn a_key_that_left_returns_hot(rt: HostRuntime) -> Result<(), Fail> {
-    let mut shard = empty(&rt, 2)?;
+    let mut shard: Tested<u64, u64> = empty(rt.alloc(), 2)?;
     let mut told = Told::default();
     for key in [1, 2, 3, 2] {
         assert!(rt; put(&mut shard, &mut told, key, key));
@@ -140,7 +149,7 @@ fn a_key_that_left_returns_hot(rt: HostRuntime) -> Result<(), Fail> {
 
 #[test]
 fn a_used_cold_item_takes_the_place_of_a_hot_one(rt: HostRuntime) -> Result<(), Fail> {
-    let mut shard = empty(&rt, 2)?;
+    let mut shard: Tested<u64, u64> = empty(rt.alloc(), 2)?;
     let mut told = Told::default();
     assert!(rt; put(&mut shard, &mut told, 1, 10));
     assert!(rt; put(&mut shard, &mut told, 2, 20));
@@ -162,7 +171,7 @@ fn a_used_cold_item_takes_the_place_of_a_hot_one(rt: HostRuntime) -> Result<(), 
 
 #[test]
 fn a_used_hot_item_outlives_a_promoted_one(rt: HostRuntime) -> Result<(), Fail> {
-    let mut shard = empty(&rt, 2)?;
+    let mut shard: Tested<u64, u64> = empty(rt.alloc(), 2)?;
     let mut told = Told::default();
     for key in [1, 2] {
         assert!(rt; put(&mut shard, &mut told, key, key));
@@ -175,8 +184,8 @@ fn a_used_hot_item_outlives_a_promoted_one(rt: HostRuntime) -> Result<(), Fail> 
 }
 
 /// Replaces a value, as a use of the item or not.
-fn replaced(
-    shard: &mut Tested<u64, u64>,
+fn replaced<T: Touches>(
+    shard: &mut Tested<u64, u64, T>,
     told: &mut Told,
     key: u64,
     value: u64,
@@ -210,7 +219,7 @@ fn taken(shard: &mut Tested<u64, u64>, key: u64) -> Option<(u64, u64)> {
 
 #[test]
 fn a_soft_replace_is_no_use_of_the_item(rt: HostRuntime) -> Result<(), Fail> {
-    let mut shard = empty(&rt, 4)?;
+    let mut shard: Tested<u64, u64> = empty(rt.alloc(), 4)?;
     let mut told = Told::default();
     assert!(rt; put(&mut shard, &mut told, 1, 10));
     for (soft, mark) in [(true, 0), (false, 1)] {
@@ -232,7 +241,7 @@ fn a_soft_replace_is_no_use_of_the_item(rt: HostRuntime) -> Result<(), Fail> {
 
 #[test]
 fn a_look_is_no_use_and_a_removal_gives_the_pair(rt: HostRuntime) -> Result<(), Fail> {
-    let mut shard = empty(&rt, 4)?;
+    let mut shard: Tested<u64, u64> = empty(rt.alloc(), 4)?;
     let mut told = Told::default();
     assert!(rt; put(&mut shard, &mut told, 1, 10));
     assert_eq!(rt; seen(&shard, 1), (Some(10), true));
@@ -247,7 +256,7 @@ fn a_look_is_no_use_and_a_removal_gives_the_pair(rt: HostRuntime) -> Result<(), 
 
 #[test]
 fn a_clone_keeps_marks_and_counts(rt: HostRuntime) -> Result<(), Fail> {
-    let mut shard = empty(&rt, 4)?;
+    let mut shard: Tested<u64, u64> = empty(rt.alloc(), 4)?;
     let mut told = Told::default();
     assert!(rt; put(&mut shard, &mut told, 1, 10));
     assert_eq!(rt; got(&mut shard, 1), Some(10));
@@ -288,7 +297,7 @@ impl<'a> Equivalent<Whole> for Halves<'a> {
 
 #[test]
 fn two_borrowed_halves_find_a_whole(rt: HostRuntime) -> Result<(), Fail> {
-    let mut shard: Tested<Whole, u64> = empty(&rt, 4)?;
+    let mut shard: Tested<Whole, u64> = empty(rt.alloc(), 4)?;
     let mut told = Told::default();
     let key = Whole {
         first: 3,

@@ -1,6 +1,8 @@
 //! The traits of the cache: queries that stand for keys, the weigher, the hash builder.
 use crate::halves::{Halves, Shape};
-use quick_cache_base::{DefaultHashBuilder, Equivalent, ToKey, UnitWeighter, Weighter, hash_of};
+use quick_cache_base::{
+    DefaultHashBuilder, Equivalent, Refusal, ToKey, UnitWeighter, Weighter, hash_of,
+};
 use std::test::Fail;
 
 #[test]
@@ -43,4 +45,17 @@ fn defaults_are_told_plainly(rt: HostRuntime) -> Result<(), Fail> {
     let text = format!(in rt.alloc(); "{builder:?}")?;
     assert_eq!(rt; text.as_str(), "DefaultHashBuilder { .. }");
     Ok(())
+}
+
+#[test]
+fn refusals_are_numbered_from_one(rt: HostRuntime) {
+    let refusals = [
+        Refusal::Memory,
+        Refusal::SlotsFull,
+        Refusal::TicketsSpent,
+        Refusal::Finished,
+    ];
+    for (at, refusal) in refusals.into_iter().enumerate() {
+        assert_eq!(rt; refusal as usize, at.saturating_add(1));
+    }
 }

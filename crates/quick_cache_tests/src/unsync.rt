@@ -1,4 +1,7 @@
 //! The cache for one thread: first examples, lists of calls, and refused growths.
+mod large;
+mod memory;
+
 use quick_cache_base::{DefaultHashBuilder, Refusal, UnitWeighter};
 use quick_cache_unsync::{Cache, Call, DefaultLifecycle, Reply, run};
 use rationed::Rationed;
@@ -31,6 +34,8 @@ fn the_counts_and_the_clone_tell_what_is_there(rt: HostRuntime) -> Result<(), Fa
     assert_eq!(rt; (cache.len(), cache.weight(), cache.capacity()), (2, 2, 5));
     assert_eq!(rt; (copy.len(), copy.hits(), copy.misses()), (1, 1, 1));
     assert_eq!(rt; cache.shard().hot_target(), 4);
+    let text = format!(in rt.alloc(); "{cache:?}, {:?}", DefaultLifecycle::<u64, u64>::new())?;
+    assert_eq!(rt; text.as_str(), "Cache { .. }, DefaultLifecycle");
     Ok(())
 }
 

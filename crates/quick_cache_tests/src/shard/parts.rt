@@ -1,11 +1,13 @@
 //! What a shard of the tests is made of: its hashes, its hooks and its placeholders.
-ghost use Rattle.std.specs.Prelude.{◌≡◌, ◌+◌, ◌*◌, ◌%◌, fold};
+ghost use Rattle.std.specs.Prelude.{◌≡◌, ◌+◌, ◌*◌, ◌%◌, ⊤, tt, fold};
 ghost use Rattle.std.specs.Int.NonZero.{non_zero_u32_get};
 ghost use Rattle.std.proofs.Common.{refl};
 
 use quick_cache_base::{Lifecycle, Refusal, ToKey};
 use quick_cache_shard::{SharedPlaceholder, Token, Touches};
 use std::hash::{BuildHasher, Hash, Hasher};
+use std::marker::PhantomData;
+use std::mem::replace;
 
 /// Reads bytes as a number, the lowest first, and keeps what is left of it by a thousand.
 #[derive(Drop)]
@@ -114,16 +116,45 @@ impl Touches for NoTouches {
     }
 }
 
-/// A placeholder that is its three numbers.
+/// As if so many readers had touched an item as soon as it came.
 #[derive(Drop)]
-pub struct Placeholder {
+pub struct Touched<const COUNT: u64> {
+    count: u64,
+}
+
+impl<const COUNT: u64> Default for Touched<COUNT> {
+    fn default() -> Self {
+        Touched { count: COUNT }
+    }
+}
+
+impl<const COUNT: u64> Touches for Touched<COUNT> {
+    ghost may_count = { λ _. ⊤ };
+
+    ghost none_counted = { tt };
+
+    fn add(&self) {}
+
+    fn seen(&self) -> u64 {
+        self.count
+    }
+
+    fn take(&mut self) -> u64 {
+        replace(&mut self.count, 0)
+    }
+}
+
+/// A placeholder that is its three numbers, in a cache whose items count touches so.
+#[derive(Drop)]
+pub struct Placeholder<T = NoTouches> {
     hash: u64,
     idx: Token,
     ticket: u64,
+    touch: PhantomData<T>,
 }
 
-impl<K: Eq + Hash> SharedPlaceholder<K> for Placeholder {
-    type Touch = NoTouches;
+impl<K: Eq + Hash, T: Touches> SharedPlaceholder<K> for Placeholder<T> {
+    type Touch = T;
 
     ghost hash_of = { λ placeholder. placeholder.hash };
 
@@ -132,7 +163,12 @@ impl<K: Eq + Hash> SharedPlaceholder<K> for Placeholder {
     ghost ticket_of = { λ placeholder. placeholder.ticket };
 
     fn new<Q: ToKey<K>>(hash: u64, idx: Token, ticket: u64, _query: &Q) -> Result<Self, Refusal> {
-        Ok(Placeholder { hash, idx, ticket })
+        Ok(Placeholder {
+            hash,
+            idx,
+            ticket,
+            touch: PhantomData,
+        })
     }
 
     fn same_as(&self, other: &Self) -> bool {
@@ -152,6 +188,7 @@ impl<K: Eq + Hash> SharedPlaceholder<K> for Placeholder {
             hash: self.hash,
             idx: self.idx,
             ticket: self.ticket,
+            touch: PhantomData,
         }
     }
 }

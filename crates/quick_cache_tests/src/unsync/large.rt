@@ -1,0 +1,79 @@
+//! Ten thousand entries, and lists of ten thousand calls: nothing is refused past some size.
+use quick_cache_unsync::{Cache, Call, Reply, run};
+use std::alloc::Global;
+use std::process::Abort;
+use std::test::Fail;
+
+/// How many entries or calls a test makes.
+const MANY: u64 = 10000;
+
+/// A cache that holds the numbers below this one, each with its double.
+fn doubles(alloc: Global, count: u64) -> Result<Cache<u64, u64>, Fail> {
+    let mut cache = Cache::new(alloc, count as usize)?;
+    for key in 0..count {
+        cache.insert(key, key.saturating_mul(2))?;
+    }
+    Ok(cache)
+}
+
+#[test]
+fn ten_thousand_entries_are_found_and_taken_out(rt: HostRuntime) -> Result<(), Fail> {
+    let mut cache = doubles(rt.alloc(), MANY)?;
+    assert_eq!(rt; cache.len(), MANY as usize);
+    for key in 0..MANY {
+        let double = key.saturating_mul(2);
+        assert_eq!(rt; cache.get(&key).copied(), Some(double));
+        assert_eq!(rt; cache.insert(key, double), Ok(()));
+        assert_eq!(rt; cache.remove(&key), Some((key, double)));
+    }
+    assert!(rt; cache.is_empty());
+    assert_eq!(rt; (cache.hits(), cache.misses()), (MANY, 0));
+    Ok(())
+}
+
+#[test]
+fn a_clone_has_ten_thousand_entries(rt: HostRuntime) -> Result<(), Fail> {
+    let cache = doubles(rt.alloc(), MANY)?;
+    let mut copy = cache.try_clone()?;
+    assert_eq!(rt; copy.len(), MANY as usize);
+    for key in 0..MANY {
+        assert_eq!(rt; copy.remove(&key), Some((key, key.saturating_mul(2))));
+    }
+    assert_eq!(rt; (cache.len(), copy.len()), (MANY as usize, 0));
+    Ok(())
+}
+
+/// Makes so many calls by one `run`, by threes: an insert, a look-up of what it inserted, and its removal.
+fn run_by_threes(rt: &impl Abort, alloc: Global, count: u64) -> Result<(), Fail> {
+    let mut cache: Cache<u64, u64> = Cache::new(alloc, 3)?;
+    let mut calls = Vec::new(alloc);
+    for number in 0..count {
+        let key = number / 3;
+        calls.push(match number % 3 {
+            0 => Call::Insert(key, number),
+            1 => Call::Get(key),
+            _ => Call::Remove(key),
+        })?;
+    }
+    let Ok(replies) = run(alloc, &mut cache, calls, &mut ()) else {
+        panic!(rt; "there is memory");
+    };
+    assert_eq!(rt; replies.len() as u64, count);
+    for (at, reply) in replies.into_iter().enumerate() {
+        let key = at as u64 / 3;
+        let value = key.saturating_mul(3);
+        let wanted = match at % 3 {
+            0 => Reply::Done,
+            1 => Reply::Value(Some(value)),
+            _ => Reply::Pair(Some((key, value))),
+        };
+        assert!(rt; reply == wanted, "at {at}");
+    }
+    Ok(())
+}
+
+#[test]
+fn twenty_and_ten_thousand_calls_are_made(rt: HostRuntime) -> Result<(), Fail> {
+    run_by_threes(&rt, rt.alloc(), 20)?;
+    run_by_threes(&rt, rt.alloc(), MANY)
+}
