@@ -1,10 +1,10 @@
--- What a command does to the cache that stands, and what is printed for it.
-use Rattle.std.specs.Prelude.{◌≡◌, ℕ, List, [], ◌∷◌, ◌++◌, Option, Some, None, Result, nat_eq, IfOk, OnOk, IfSome}
-use Rattle.std.specs.Io.KnownBytes.{Appends}
+-- What a command does to the cache that stands, and what became of it.
+use Rattle.std.specs.Prelude.{◌≡◌, ℕ, Option, Some, None, nat_eq}
 use Rattle.quick_cache_model.specs.declared.refusal.Refusal.TheVariants.{Memory}
 use Rattle.quick_cache_model.specs.CacheState.{CacheState, empty_state}
 use Rattle.quick_cache_model.specs.Hooks.{Rules}
-use Rattle.quick_cache_model.specs.Sizes.{hot_target_of, ghost_limit_of, default_hot_share, default_ghost_share}
+use Rattle.quick_cache_model.specs.Sizes.{hot_target_of, ghost_limit_of}
+use Rattle.quick_cache_model.specs.Sizes.{default_hot_share, default_ghost_share}
 use Rattle.quick_cache_shard.specs.Shard.{Shard}
 use Rattle.quick_cache_unsync.specs.declared.calls.Call.{Call}
 use Rattle.quick_cache_unsync.specs.declared.calls.Call.TheVariants as call
@@ -14,8 +14,8 @@ use Rattle.qcrun.specs.declared.command.Command.TheVariants.{Cache, Insert, Get,
 use Rattle.qcrun.specs.declared.reply.Answer.{Answer}
 use Rattle.qcrun.specs.declared.reply.Answer.TheVariants.{Done, Refused}
 use Rattle.qcrun.specs.declared.session.Outcome.{Outcome}
-use Rattle.qcrun.specs.declared.session.Outcome.TheVariants.{Served, NoCache}
-use Rattle.qcrun.specs.Answers.{answer_of, text_of}
+use Rattle.qcrun.specs.declared.session.Outcome.TheVariants.{Answered, Shows, NoCache}
+use Rattle.qcrun.specs.Answers.{answer_of}
 use Rattle.qcrun.specs.Served.{Serves}
 
 -- the command that asks for a call
@@ -24,37 +24,32 @@ command_of (call.Insert key value) = Insert key value
 command_of (call.Get key) = Get key
 command_of (call.Remove key) = Remove key
 
--- the line that is printed for an answer
-abbrev pub line_of : Answer → List ℕ
-line_of answer = text_of answer ++ 10 ∷ []
+-- an empty cache for so many items and so much weight, with the default shares
+abbrev pub new_state : (items weight : ℕ) → CacheState ℕ ℕ
+new_state items weight =
+    empty_state weight (hot_target_of weight default_hot_share)
+    (ghost_limit_of items default_ghost_share)
 
 module _ {We B L : Type 0} where
-  -- An empty cache with the default shares stands in the place of the old one, or there was no memory and the old one stands.
-  pub data MakesCache (items weight : ℕ) (old : Option (Shard ℕ ℕ We B L)) : Answer → Option (Shard ℕ ℕ We B L) → Type 0 where
-    makes : (cache : Shard ℕ ℕ We B L)
-        → cache.state ≡ empty_state weight (hot_target_of weight default_hot_share) (ghost_limit_of items default_ghost_share)
+  -- An empty cache stands in the place of the old one, or there was no memory and the old one
+  -- stands.
+  pub data MakesCache (items weight : ℕ) (old : Option (Shard ℕ ℕ We B L))
+      : Answer → Option (Shard ℕ ℕ We B L) → Type 0 where
+    makes : (cache : Shard ℕ ℕ We B L) → cache.state ≡ new_state items weight
         → MakesCache items weight old Done (Some cache)
     lacks_memory : MakesCache items weight old (Refused Memory) old
 
-  -- The cache that stood, the command, what became of it, the cache that stands, and what is printed. Of what `show`
-  -- prints nothing is said.
+  -- The cache that stood, the command, what became of it, and the cache that stands.
   pub data ServesCommand (rules : Shard ℕ ℕ We B L → Rules ℕ ℕ)
-      : Option (Shard ℕ ℕ We B L) → Command → Outcome → Option (Shard ℕ ℕ We B L) → Option (List ℕ) → Type 0 where
-    makes_cache : (items weight : ℕ) (old : Option (Shard ℕ ℕ We B L)) (answer : Answer) (new : Option (Shard ℕ ℕ We B L))
-        → MakesCache items weight old answer new → ServesCommand rules old (Cache items weight) Served new (Some (line_of answer))
+      : Option (Shard ℕ ℕ We B L) → Command → Outcome → Option (Shard ℕ ℕ We B L) → Type 0 where
+    makes_cache : (items weight : ℕ) (old new : Option (Shard ℕ ℕ We B L)) (answer : Answer)
+        → MakesCache items weight old answer new
+        → ServesCommand rules old (Cache items weight) (Answered answer) new
     makes_call : (cache new : Shard ℕ ℕ We B L) (call : Call ℕ ℕ) (reply : Reply ℕ ℕ)
         → new ≡ record cache { state = new.state; room = new.room; work = new.work }
         → Serves (rules cache) nat_eq cache.state call reply new.state
-        → ServesCommand rules (Some cache) (command_of call) Served (Some new) (Some (line_of (answer_of reply)))
-    shows : (cache : Shard ℕ ℕ We B L) → ServesCommand rules (Some cache) Show Served (Some cache) None
-    lacks_cache_for_call : (call : Call ℕ ℕ) → ServesCommand rules None (command_of call) NoCache None (Some [])
-    lacks_cache_to_show : ServesCommand rules None Show NoCache None (Some [])
-
-  -- The command was served, and where all was written, the answer tells its outcome and the writer has what is printed.
-  pub record IsServed {E : Type 0} (rules : Shard ℕ ℕ We B L → Rules ℕ ℕ) (old : Option (Shard ℕ ℕ We B L)) (command : Command)
-      (answer : Result Outcome E) (new : Option (Shard ℕ ℕ We B L)) (before after : Option (List ℕ)) : Type 0 where
-    pub outcome : Outcome
-    pub text : Option (List ℕ)
-    pub serves : ServesCommand rules old command outcome new text
-    pub told : IfOk answer (λ told. told ≡ outcome)
-    pub written : OnOk answer (IfSome text (Appends before after))
+        → ServesCommand rules (Some cache) (command_of call) (Answered (answer_of reply)) (Some new)
+    shows : (cache : Shard ℕ ℕ We B L) → ServesCommand rules (Some cache) Show Shows (Some cache)
+    lacks_cache_for_call : (call : Call ℕ ℕ)
+        → ServesCommand rules None (command_of call) NoCache None
+    lacks_cache_to_show : ServesCommand rules None Show NoCache None

@@ -1,8 +1,9 @@
 //! Lines of bytes, of a bounded length.
-ghost use Rattle.std.specs.Prelude.{◌≤◌, IfOk, vec_len};
+ghost use Rattle.std.specs.Prelude.{IfOk};
+ghost use Rattle.qcrun.specs.Lines.{GivesByte, ReadsLine};
 
 use std::alloc::Allocator;
-use std::io::{self, BufRead, Read};
+use std::io::{self, ErrorKind, Read};
 
 /// The most bytes that a line has, without its line feed.
 const LONGEST: usize = 200;
@@ -24,22 +25,33 @@ pub enum Line {
 /// # Errors
 ///
 /// A read that failed, or no memory for the line.
-pub fn read_line<R: BufRead, A: Allocator>(
-    reader: &mut R,
-    line: &mut Vec<u8, A>,
-) -> io::Result<Line> {
+pub fn read_line<R: Read, A: Allocator>(reader: &mut R, line: &mut Vec<u8, A>) -> io::Result<Line>
+    ensures { IfOk result
+        (ReadsLine (R.remaining reader.old) line.new.items (R.remaining reader.new)) }
+{
     line.clear();
-    let mut limited = Read::take(&mut *reader, LONGEST as u64 + 1);
-    let read = limited.read_until(b'\n', line)?;
-    if read == 0 {
-        return Ok(Line::End);
+    while line.len() <= LONGEST {
+        match next_byte(reader)? {
+            None if line.is_empty() => return Ok(Line::End),
+            None | Some(b'\n') => return Ok(Line::Whole),
+            Some(byte) => line.push(byte)?,
+        }
     }
-    if line.last() == Some(&b'\n') {
-        let _ = line.pop();
-        return Ok(Line::Whole);
+    Ok(Line::TooLong)
+}
+
+/// The next byte of a reader, or that it is at its end.
+fn next_byte<R: Read>(reader: &mut R) -> io::Result<Option<u8>>
+    ensures gives { IfOk result (GivesByte (R.remaining reader.old) (R.remaining reader.new)) }
+{
+    let mut byte = [0];
+    for _ in 0..u64::MAX {
+        match reader.read(&mut byte) {
+            Ok(0) => return Ok(None),
+            Ok(_) => return Ok(Some(byte[0])),
+            Err(error) if error.kind() == ErrorKind::Interrupted => {}
+            Err(error) => return Err(error),
+        }
     }
-    if line.len() > LONGEST {
-        return Ok(Line::TooLong);
-    }
-    Ok(Line::Whole)
+    Err(io::Error::from(ErrorKind::Interrupted))
 }

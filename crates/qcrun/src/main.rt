@@ -4,6 +4,7 @@
 mod command;
 mod hash;
 mod lines;
+mod print;
 mod reply;
 mod serve;
 mod session;
@@ -15,6 +16,6 @@ use std::process::ExitCode;
 
 /// Serves standard input to standard output. It looks at no arguments.
 fn main(rt: HostRuntime) -> ExitCode {
-    let status = serve::serve(rt.alloc(), rt.reader(), io::writer(&rt));
-    ExitCode::from(status)
+    let mut writer = io::writer(&rt);
+    serve::serve(rt.alloc(), rt.reader(), &mut writer)
 }

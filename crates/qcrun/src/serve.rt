@@ -1,11 +1,23 @@
 //! Serves the commands that a reader gives, to a writer.
+ghost use Rattle.std.specs.Io.KnownBytes.{Appends};
+ghost use Rattle.std.specs.Prelude.{◌≡◌, ℕ, Bool, List, None, IfOk, OnOk};
+ghost use Rattle.std.specs.Process.{exit_status};
+ghost use Rattle.quick_cache_shard.specs.Shard.{rules_of};
+ghost use Rattle.quick_cache_unsync.specs.Touches.{no_touches};
 ghost use Rattle.qcrun.specs.Commands.{IsLineOf, IsOkExactly};
+ghost use Rattle.qcrun.specs.Runs.{PrintsLine, ServesKnown, ServesLine, bad_line, status_of};
 
 use crate::command::{Command, NotACommand};
+use crate::hash::{RemainderBuilder, RemainderHasher};
 use crate::lines::{Line, read_line};
+use crate::print::print;
 use crate::session::{Outcome, Session};
+use quick_cache_model::{Lifecycle, UnitWeighter, Weighter};
+use quick_cache_unsync::DefaultLifecycle;
 use std::alloc::Allocator;
-use std::io::{self, BufReader, Read, Write};
+use std::hash::{BuildHasher, Hash, Hasher};
+use std::io::{self, BufReader, ErrorKind, Read, Write};
+use std::process::ExitCode;
 use std::str::from_utf8;
 
 /// How serving came to its end.
@@ -17,52 +29,97 @@ enum Ending {
     BadLine,
 }
 
+/// What serves lines, one after another.
+trait LineServer {
+    /// What stood, a line, whether it could be served, what stands, and what is printed for it.
+    ghost serves_line: { Self → List ℕ → Bool → Self → List ℕ → Type 0 };
+
+    /// Serves a line, prints its reply, and tells whether it could be served.
+    fn serve_line<W: Write>(&mut self, line: &[u8], writer: &mut W) -> io::Result<bool>
+        ensures { IfOk result (λ served. PrintsLine (serves_line self.old line.now) served
+            self.new (W.contents writer.old) (W.contents writer.new)) };
+}
+
+impl<A: Allocator + Copy> LineServer for Session<A> {
+    ghost serves_line = { λ old line served new printed. ServesLine
+        (rules_of no_touches ⟦<u64 as Hash>⟧.hash_input
+        ⟦<UnitWeighter as Weighter<u64, u64>>⟧ ⟦<RemainderBuilder as BuildHasher>⟧
+        ⟦<RemainderHasher as Hasher>⟧ ⟦<DefaultLifecycle<u64, u64> as Lifecycle<u64, u64>>⟧)
+        old.cache line served new.cache printed };
+
+    fn serve_line<W: Write>(&mut self, line: &[u8], writer: &mut W) -> io::Result<bool> {
+        // An empty line asks for nothing.
+        if line.is_empty() {
+            return Ok(true);
+        }
+        let Ok(command) = command_of(line) else {
+            return Ok(false);
+        };
+        match self.serve(command) {
+            Outcome::NoCache => Ok(false),
+            outcome => {
+                print(outcome, self, writer)?;
+                Ok(true)
+            }
+        }
+    }
+}
+
 /// Serves the commands of a reader, one a line, writes their replies, and gives the status to end with.
 ///
 /// 0 at the end of the input; 1 where a read or a write failed, or where there was no memory to read into, and then
 /// nothing more is written; 2 behind a line that could not be served, which is told by its number.
-pub fn serve<A: Allocator + Copy, R: Read + Drop, W: Write + Drop>(
-    alloc: A,
-    reader: R,
-    writer: W,
-) -> u8 {
-    let mut writer = writer;
-    match serve_lines(alloc, reader, &mut writer) {
-        Ok(Ending::EndOfInput) => 0,
-        Ok(Ending::BadLine) => 2,
-        Err(_) => 1,
-    }
-}
-
-fn serve_lines<A: Allocator + Copy, R: Read + Drop, W: Write>(
+pub fn serve<A: Allocator + Copy, R: Read + Drop, W: Write>(
     alloc: A,
     reader: R,
     writer: &mut W,
-) -> io::Result<Ending> {
+) -> ExitCode
+    ensures { (exit_status result ≡ 1 → ⊥) → ServesKnown ⟦<Session<A> as LineServer>⟧.serves_line
+        (record { alloc = alloc; cache = None }) (R.remaining reader) (exit_status result)
+        (W.contents writer.old) (W.contents writer.new) }
+{
+    match serve_lines(alloc, Session::new(alloc), reader, writer) {
+        Ok(Ending::EndOfInput) => ExitCode::from(0),
+        Ok(Ending::BadLine) => ExitCode::from(2),
+        Err(_) => ExitCode::from(1),
+    }
+}
+
+/// Serves the lines of a reader up to its end, or up to the first bad one.
+fn serve_lines<A: Allocator + Copy, S: LineServer + Drop, R: Read + Drop, W: Write>(
+    alloc: A,
+    mut server: S,
+    reader: R,
+    writer: &mut W,
+) -> io::Result<Ending>
+    ensures { IfOk result (λ ending. ServesKnown S.serves_line server (R.remaining reader)
+        (status_of ending) (W.contents writer.old) (W.contents writer.new)) }
+{
     let mut reader = BufReader::new(alloc, reader)?;
     let mut line = Vec::new(alloc);
-    let mut session = Session::new(alloc);
-    for number in 1..=u64::MAX {
-        let command = match read_line(&mut reader, &mut line)? {
+    for number in 1..u64::MAX {
+        match read_line(&mut reader, &mut line)? {
             Line::End => return Ok(Ending::EndOfInput),
-            Line::TooLong => Err(NotACommand),
+            Line::TooLong => return tell_bad_line(number, writer),
             Line::Whole => {
-                if line.is_empty() {
-                    continue;
+                if !server.serve_line(&line, writer)? {
+                    return tell_bad_line(number, writer);
                 }
-                command_of(&line)
             }
-        };
-        let outcome = match command {
-            Ok(command) => session.serve(command, writer)?,
-            Err(NotACommand) => Outcome::NoCache,
-        };
-        if outcome == Outcome::NoCache {
-            writeln!(writer, "bad line {number}")?;
-            return Ok(Ending::BadLine);
         }
     }
-    Ok(Ending::EndOfInput)
+    // There are more lines than can be counted.
+    Err(io::Error::from(ErrorKind::OutOfMemory))
+}
+
+/// Tells which line is bad.
+fn tell_bad_line<W: Write>(number: u64, writer: &mut W) -> io::Result<Ending>
+    ensures ends { IfOk result (λ ending. ending ≡ Ending.BadLine) }
+    ensures tells { OnOk result (Appends (W.contents writer.old) (W.contents writer.new)
+        (bad_line number)) }
+{
+    writeln!(writer, "bad line {number}")?;
+    Ok(Ending::BadLine)
 }
 
 /// The command of a line, which is text.

@@ -1,9 +1,9 @@
 //! The cache that stands, and what commands do to it.
-ghost use Rattle.std.specs.Prelude.{◌≡◌, None};
+ghost use Rattle.std.specs.Prelude.{◌≡◌, None, option_copied};
 ghost use Rattle.quick_cache_shard.specs.Shard.{rules_of, ClonesExactly, IsPlainCache};
 ghost use Rattle.quick_cache_unsync.specs.Touches.{no_touches};
 ghost use Rattle.qcrun.specs.Served.{Serves, first_reply};
-ghost use Rattle.qcrun.specs.Sessions.{IsServed, MakesCache};
+ghost use Rattle.qcrun.specs.Sessions.{MakesCache, ServesCommand};
 
 use crate::command::Command;
 use crate::hash::{RemainderBuilder, RemainderHasher};
@@ -12,7 +12,6 @@ use quick_cache_model::{Lifecycle, Refusal, UnitWeighter, Weighter};
 use quick_cache_unsync::{Cache, Call, DefaultLifecycle, Reply, run};
 use std::alloc::Allocator;
 use std::hash::{BuildHasher, Hash, Hasher};
-use std::io::{self, Write};
 
 /// A cache of numbers.
 pub type NumberCache<A> = Cache<
@@ -107,8 +106,10 @@ fn make_call<
 /// What became of a command.
 #[derive(Debug, Clone, Copy, PartialEq, Eq)]
 pub enum Outcome {
-    /// It was served, and its reply written.
-    Served,
+    /// It was served, and this is its answer.
+    Answered(Answer),
+    /// The cache is to be shown.
+    Shows,
     /// It asked for a cache, and none stands.
     NoCache,
 }
@@ -123,43 +124,39 @@ pub struct Session<A: Allocator> {
 impl<A: Allocator + Copy> Session<A> {
     /// A session in which no cache stands.
     pub fn new(alloc: A) -> Self
-        ensures { result.cache ≡ None }
+        ensures { result ≡ record { alloc = alloc; cache = None } }
     {
         Session { alloc, cache: None }
     }
 
-    /// Serves a command, and writes its reply.
-    ///
-    /// # Errors
-    ///
-    /// A write that failed.
-    pub fn serve<W: Write>(&mut self, command: Command, writer: &mut W) -> io::Result<Outcome>
-        ensures { IsServed
+    /// Serves a command. It prints nothing.
+    pub fn serve(&mut self, command: Command) -> Outcome
+        ensures { ServesCommand
             (rules_of no_touches ⟦<u64 as Hash>⟧.hash_input ⟦<UnitWeighter as Weighter<u64, u64>>⟧
             ⟦<RemainderBuilder as BuildHasher>⟧ ⟦<RemainderHasher as Hasher>⟧
             ⟦<DefaultLifecycle<u64, u64> as Lifecycle<u64, u64>>⟧)
-            self.old.cache command result self.new.cache (W.contents writer.old) (W.contents writer.new) }
+            self.old.cache command result self.new.cache }
     {
         if let Command::Cache(items, weight) = command {
-            let answer = self.make_cache(items, weight);
-            writeln!(writer, "{answer}")?;
-            return Ok(Outcome::Served);
+            return Outcome::Answered(self.make_cache(items, weight));
         }
         let Some(cache) = &mut self.cache else {
-            return Ok(Outcome::NoCache);
+            return Outcome::NoCache;
         };
         let call = match command {
             Command::Insert(key, value) => Call::Insert(key, value),
             Command::Get(key) => Call::Get(key),
             Command::Remove(key) => Call::Remove(key),
-            Command::Cache(..) | Command::Show => {
-                show(cache, writer)?;
-                return Ok(Outcome::Served);
-            }
+            Command::Cache(..) | Command::Show => return Outcome::Shows,
         };
-        let answer = Answer::from(make_call(self.alloc, cache, call, &mut ()));
-        writeln!(writer, "{answer}")?;
-        Ok(Outcome::Served)
+        Outcome::Answered(Answer::from(make_call(self.alloc, cache, call, &mut ())))
+    }
+
+    /// The cache that stands.
+    pub fn cache(&self) -> Option<&NumberCache<A>>
+        ensures { option_copied result ≡ self.now.cache }
+    {
+        self.cache.as_ref()
     }
 
     /// Puts an empty cache in the place of the one that stood, which stays where there is no memory.
@@ -182,24 +179,4 @@ impl<A: Allocator + Copy> Session<A> {
             Err(refusal) => Answer::Refused(refusal),
         }
     }
-}
-
-/// Writes what the cache holds: the rings from the head, the ghosts from the oldest, and the counts.
-fn show<A: Allocator, W: Write>(cache: &NumberCache<A>, writer: &mut W) -> io::Result<()> {
-    let shard = cache.shard();
-    write!(writer, "hot")?;
-    for (key, value, mark) in shard.iter_hot() {
-        write!(writer, " {key}:{value}:{mark}")?;
-    }
-    write!(writer, "\ncold")?;
-    for (key, value, mark) in shard.iter_cold() {
-        write!(writer, " {key}:{value}:{mark}")?;
-    }
-    write!(writer, "\nghosts")?;
-    for hash in shard.iter_ghosts() {
-        write!(writer, " {hash}")?;
-    }
-    let (len, weight) = (shard.len(), shard.weight());
-    let (target, limit) = (shard.hot_target(), shard.ghost_limit());
-    writeln!(writer, "\ncount {len} {weight} {target} {limit}")
 }

@@ -2,21 +2,26 @@
 use crate::serve::serve;
 use std::alloc::Global;
 use std::io::{self, ErrorKind, Read, Write};
-use std::process::Abort;
+use std::ops::RangeInclusive;
+use std::process::{Abort, ExitCode};
 use std::test::Fail;
 
 /// Serves a script, and checks what is written and the status.
 fn check(rt: &impl Abort, alloc: Global, script: &[u8], wanted: &str, status: u8) {
     let mut written = Vec::new(alloc);
     let ended = serve(alloc, script, &mut written);
-    assert_eq!(rt; ended, status);
+    assert_eq!(rt; ended, ExitCode::from(status));
     assert_eq!(rt; written.as_slice(), wanted.as_bytes());
 }
 
 #[test]
 fn scripts_print_their_replies(rt: HostRuntime) {
-    let scripts: [(&str, &str); 6] = [
+    let scripts: [(&str, &str); 7] = [
         ("", ""),
+        (
+            "cache 1 1\ninsert 18446744073709551615 18446744073709551601\nget 18446744073709551615",
+            "ok\nok\nsome 18446744073709551601\n",
+        ),
         ("\n\ncache 1 1\n\nget 00000000000000000001", "ok\nnone\n"),
         (
             "cache 1 1\ninsert 1 1\nget 1\ninsert 2 401\nget 2\nget 1\nremove 2\nremove 2\n",
@@ -43,7 +48,9 @@ fn scripts_print_their_replies(rt: HostRuntime) {
 #[test]
 fn a_bad_line_ends_the_script(rt: HostRuntime) {
     check(&rt, rt.alloc(), b"get 1\n", "bad line 1\n", 2);
-    let lines: [&str; 12] = [
+    let lines: [&str; 14] = [
+        "get 1\r",
+        "\r",
         "get  1",
         "get 1 ",
         " get 1",
@@ -70,6 +77,54 @@ fn a_bad_line_ends_the_script(rt: HostRuntime) {
         "ok\nbad line 2\n",
         2,
     );
+}
+
+/// Writes a command with each of the numbers, one a line; the second number of an insert is 1.
+fn write_each(
+    script: &mut Vec<u8>,
+    name: &str,
+    numbers: RangeInclusive<u64>,
+    end: &str,
+) -> io::Result<()> {
+    for number in numbers {
+        writeln!(script, "{name} {number}{end}")?;
+    }
+    Ok(())
+}
+
+#[test]
+fn a_bad_line_is_told_by_its_number(rt: HostRuntime) -> Result<(), Fail> {
+    let mut script = Vec::new(rt.alloc());
+    let mut wanted = Vec::new(rt.alloc());
+    write!(script, "cache 200 200\n")?;
+    write!(wanted, "ok\n")?;
+    write_each(&mut script, "insert", 2..=150, " 1")?;
+    for _ in 2..=150 {
+        writeln!(wanted, "ok")?;
+    }
+    write!(script, "\nget\nget 2\n")?;
+    writeln!(wanted, "bad line 152")?;
+    let mut written = Vec::new(rt.alloc());
+    let ended = serve(rt.alloc(), script.as_slice(), &mut written);
+    assert_eq!(rt; ended, ExitCode::from(2));
+    assert_eq!(rt; written.as_slice(), wanted.as_slice());
+    Ok(())
+}
+
+#[test]
+fn two_of_each_are_shown_in_order(rt: HostRuntime) -> Result<(), Fail> {
+    let mut script = Vec::new(rt.alloc());
+    write!(script, "cache 34 34\n")?;
+    write_each(&mut script, "insert", 1..=36, " 1")?;
+    write_each(&mut script, "remove", 1..=30, "")?;
+    write!(script, "get 32\nget 36\nshow\n")?;
+    let mut written = Vec::new(rt.alloc());
+    let ended = serve(rt.alloc(), script.as_slice(), &mut written);
+    assert_eq!(rt; ended, ExitCode::from(0));
+    let shown =
+        "some 1\nsome 1\nhot 31:1:0 32:1:1\ncold 35:1:0 36:1:1\nghosts 33 34\ncount 4 4 32 17\n";
+    assert!(rt; written.as_slice().ends_with(shown.as_bytes()));
+    Ok(())
 }
 
 #[test]
@@ -112,7 +167,7 @@ fn a_failed_read_ends_it(rt: HostRuntime) {
         is_read: false,
     };
     let status = serve(rt.alloc(), reader, &mut written);
-    assert_eq!(rt; status, 1);
+    assert_eq!(rt; status, ExitCode::from(1));
     assert_eq!(rt; written.as_slice(), b"ok\nnone\n".as_slice());
 }
 
@@ -148,6 +203,6 @@ fn a_failed_write_ends_it(rt: HostRuntime) {
         b"cache 1 1\nget 1\nget x\n".as_slice(),
         &mut writer,
     );
-    assert_eq!(rt; status, 1);
+    assert_eq!(rt; status, ExitCode::from(1));
     assert_eq!(rt; writer.writes, 2);
 }

@@ -1,0 +1,53 @@
+-- The text that is printed for what became of a command.
+use Rattle.std.specs.Prelude.{ℕ, ◌-◌, ◌^◌, List, [], ◌∷◌, ◌++◌, Option, Some, None, codes, map, min}
+use Rattle.std.specs.Fmt.{decimal}
+use Rattle.quick_cache_model.specs.CacheState.{CacheState, item_count, total_weight}
+use Rattle.quick_cache_shard.specs.Shard.{Shard, shown}
+use Rattle.qcrun.specs.declared.session.Outcome.{Outcome}
+use Rattle.qcrun.specs.declared.session.Outcome.TheVariants.{Answered, Shows, NoCache}
+use Rattle.qcrun.specs.Answers.{text_of}
+
+-- a text and the end of its line
+abbrev pub line_of : List ℕ → List ℕ
+line_of text = text ++ 10 ∷ []
+
+-- an item's key, value and mark, behind a space
+abbrev pub item_text : ℕ × ℕ × ℕ → List ℕ
+item_text item =
+    codes " " ++ decimal item.0 ++ codes ":" ++ decimal item.1 ++ codes ":" ++ decimal item.2
+
+-- the items of a ring, one after another
+unfoldable pub items_text : List (ℕ × ℕ × ℕ) → List ℕ
+items_text [] = []
+items_text (item ∷ items) = item_text item ++ items_text items
+
+-- a number behind a space
+abbrev pub spaced_number : ℕ → List ℕ
+spaced_number number = codes " " ++ decimal number
+
+-- the hashes of ghosts, each behind a space
+unfoldable pub ghosts_text : List ℕ → List ℕ
+ghosts_text [] = []
+ghosts_text (hash ∷ hashes) = spaced_number hash ++ ghosts_text hashes
+
+-- how many items there are, their weight, the hot target and the ghost limit
+abbrev pub counts_text : CacheState ℕ ℕ → List ℕ
+counts_text state =
+    codes "count" ++ spaced_number (item_count state)
+    ++ spaced_number (min (total_weight state) (2 ^ 64 - 1))
+    ++ spaced_number state.hot_target ++ spaced_number state.ghost_limit
+
+-- what a cache holds: the rings from the head, the ghosts from the oldest, and the counts
+abbrev pub shown_text : CacheState ℕ ℕ → List ℕ
+shown_text state =
+    line_of (codes "hot" ++ items_text (map shown state.hot))
+    ++ line_of (codes "cold" ++ items_text (map shown state.cold))
+    ++ line_of (codes "ghosts" ++ ghosts_text state.ghosts)
+    ++ line_of (counts_text state)
+
+-- the text for what became of a command, where this cache stands behind it
+abbrev pub outcome_text : {We B L : Type 0} → Outcome → Option (Shard ℕ ℕ We B L) → List ℕ
+outcome_text (Answered answer) cache = line_of (text_of answer)
+outcome_text Shows (Some cache) = shown_text cache.state
+outcome_text Shows None = []
+outcome_text NoCache cache = []

@@ -1,0 +1,89 @@
+//! Prints what became of a command.
+ghost use Rattle.std.specs.Prelude.{◌++◌, OnOk, codes};
+ghost use Rattle.std.specs.Io.KnownBytes.{Appends};
+ghost use Rattle.qcrun.specs.Printed.{ghosts_text, items_text, line_of, outcome_text, shown_text};
+
+use crate::session::{NumberCache, Outcome, Session};
+use quick_cache_shard::{GhostIter, RingIter};
+use std::alloc::Allocator;
+use std::io::{self, Write};
+
+/// Prints what became of a command.
+///
+/// # Errors
+///
+/// A write that failed.
+pub fn print<A: Allocator + Copy, W: Write>(
+    outcome: Outcome,
+    session: &Session<A>,
+    writer: &mut W,
+) -> io::Result<()>
+    ensures { OnOk result (Appends (W.contents writer.old) (W.contents writer.new)
+        (outcome_text outcome session.now.cache)) }
+{
+    match (outcome, session.cache()) {
+        (Outcome::Answered(answer), _) => writeln!(writer, "{answer}"),
+        (Outcome::Shows, Some(cache)) => show(cache, writer),
+        (Outcome::Shows, None) | (Outcome::NoCache, _) => Ok(()),
+    }
+}
+
+/// Prints what a cache holds: the rings from the head, the ghosts from the oldest, and the counts.
+fn show<A: Allocator, W: Write>(cache: &NumberCache<A>, writer: &mut W) -> io::Result<()>
+    ensures { OnOk result (Appends (W.contents writer.old) (W.contents writer.new)
+        (shown_text cache.now.state)) }
+{
+    let shard = cache.shard();
+    print_ring("hot", shard.iter_hot(), writer)?;
+    print_ring("cold", shard.iter_cold(), writer)?;
+    print_ghosts(shard.iter_ghosts(), writer)?;
+    let (len, weight) = (shard.len(), shard.weight());
+    let (target, limit) = (shard.hot_target(), shard.ghost_limit());
+    writeln!(writer, "count {len} {weight} {target} {limit}")
+}
+
+/// Prints the line of a ring: its name and its items.
+fn print_ring<T, W: Write>(
+    name: &str,
+    items: RingIter<'_, u64, u64, T>,
+    writer: &mut W,
+) -> io::Result<()>
+    ensures { OnOk result (Appends (W.contents writer.old) (W.contents writer.new)
+        (line_of (name.now ++ items_text items.entry))) }
+{
+    write!(writer, "{name}")?;
+    print_items(items, writer)?;
+    writeln!(writer)
+}
+
+/// Prints the line of the ghosts.
+fn print_ghosts<W: Write>(hashes: GhostIter<'_>, writer: &mut W) -> io::Result<()>
+    ensures { OnOk result (Appends (W.contents writer.old) (W.contents writer.new)
+        (line_of (codes "ghosts" ++ ghosts_text hashes.entry))) }
+{
+    write!(writer, "ghosts")?;
+    print_hashes(hashes, writer)?;
+    writeln!(writer)
+}
+
+/// Prints the items of a ring.
+fn print_items<T, W: Write>(items: RingIter<'_, u64, u64, T>, writer: &mut W) -> io::Result<()>
+    ensures { OnOk result (Appends (W.contents writer.old) (W.contents writer.new)
+        (items_text items.entry)) }
+{
+    for (key, value, mark) in items {
+        write!(writer, " {key}:{value}:{mark}")?;
+    }
+    Ok(())
+}
+
+/// Prints hashes.
+fn print_hashes<W: Write>(hashes: GhostIter<'_>, writer: &mut W) -> io::Result<()>
+    ensures { OnOk result (Appends (W.contents writer.old) (W.contents writer.new)
+        (ghosts_text hashes.entry)) }
+{
+    for hash in hashes {
+        write!(writer, " {hash}")?;
+    }
+    Ok(())
+}
