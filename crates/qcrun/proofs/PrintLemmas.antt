@@ -70,13 +70,15 @@ ghosts_text-nil hashes none = ap ghosts_text none
 
 -- an item's text is appended, as its parts are printed
 pub Appends-item : (old new : Option (List ℕ)) (key value mark : ℕ)
-    → Appends old new (codes " " ++ (decimal key ++ (codes ":" ++ (decimal value ++ (codes ":" ++ decimal mark)))))
+    → Appends old new (codes " " ++ (decimal key
+    ++ (codes ":" ++ (decimal value ++ (codes ":" ++ decimal mark)))))
     → Appends old new (item_text (key, value, mark))
 Appends-item old new key value mark appended =
     let third = codes ":" ++ decimal mark in
     let second = decimal value ++ third in
     let parts : item_text (key, value, mark) ≡ codes " " ++ (decimal key ++ (codes ":" ++ second)) =
-    ap (λ text. 32 ∷ text) (append_assoc ((decimal key ++ codes ":") ++ decimal value) (codes ":") (decimal mark)
+    ap (λ text. 32 ∷ text) (append_assoc ((decimal key ++ codes ":") ++ decimal value) (codes ":")
+    (decimal mark)
     ∙ append_assoc (decimal key ++ codes ":") (decimal value) third
     ∙ append_assoc (decimal key) (codes ":") second) in
     subst (Appends old new) (sym parts) appended

@@ -79,7 +79,12 @@ first_line text line long =
           (long.begins ∙ ap (λ (bs : List ℕ). line ++ bs) e
           ∙ sym (append_assoc line end.front (10 ∷ end.left))))
           (λ e. IsFirstLine.is_last (All-append IsInLine line end.front long.is_line end.is_line)
-          (λ none. absurd (omega (arith, ap length none, length-append line end.front, long.longer)))
+          (λ none. absurd (omega (
+            arith,
+            ap length none,
+            length-append line end.front,
+            long.longer,
+          )))
           (long.begins ∙ ap (λ (bs : List ℕ). line ++ bs) e.0) e.1)
           end.ends;
       longer = omega (arith, length-append line end.front);
@@ -95,8 +100,8 @@ module _ {We B L : Type 0} (rules : Shard ℕ ℕ We B L → Rules ℕ ℕ) wher
       (subst (λ outcome. ServesCommand rules old command outcome new) lacks serves)
 
 module _ {S : Type 0} (serves_line : S → List ℕ → Bool → S → List ℕ → Type 0) where
-  -- The lines before this one were served: whatever the rest of the text will give comes behind what
-  -- was printed for them.
+  -- The lines before this one were served: whatever the rest of the text will give comes behind
+  -- what was printed for them.
   pub record IsServing (first : S) (text : List ℕ) (before : Option (List ℕ)) (number : ℕ) (now : S)
       (left after : Option (List ℕ)) : Type 0 where
     pub rest : List ℕ
@@ -225,6 +230,7 @@ module _ {S : Type 0} (serves_line : S → List ℕ → Bool → S → List ℕ 
   ServesKnown-told-long first text before number old left after line last now (Ok ending) is serving
       reads tells =
       subst (λ ending. ServesKnown serves_line first text (status_of ending) before now) (sym is)
-      (ServesKnown-too_long first text before number old left after line last now serving reads tells)
+      (ServesKnown-too_long first text before number old left after line last now serving reads
+      tells)
   ServesKnown-told-long first text before number old left after line last now (Err error) is serving
       reads tells = tt

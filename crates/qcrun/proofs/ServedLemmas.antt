@@ -11,25 +11,35 @@ use Rattle.quick_cache_unsync.specs.CacheRun.{CacheRun}
 use Rattle.quick_cache_unsync.proofs.ShownLemmas.{CacheStep-wider}
 use Rattle.qcrun.specs.Served.{Serves, first_reply}
 
--- of a list of one item that is made of two parts, the first item is the one, and nothing stands behind it
-pub one-append : {X : Type 0} (x y : X) (ys back : List X) → x ∷ [] ≡ (y ∷ ys) ++ back → (y ≡ x) × (ys ≡ [])
+-- of a list of one item that is made of two parts, the first item is the one, and nothing stands
+-- behind it
+pub one-append : {X : Type 0} (x y : X) (ys back : List X) → x ∷ [] ≡ (y ∷ ys) ++ back → (y ≡ x)
+    × (ys ≡ [])
 one-append x y [] back e = (cc, refl)
 one-append x y (z ∷ zs) back e = absurd (omega (arith, ap length e, length-append zs back))
 
 module _ {K V : Type 0} (rules : Rules K V) (equal : K → K → Bool) (shows : V → V → Type 0) where
   -- a run of no call changes nothing
-  pub CacheRun-none : {old : CacheState K V} {calls : List (Call K V)} {replies : List (Reply K V)} {hook_calls : List (HookCall K V)} {new : CacheState K V}
+  pub CacheRun-none : {old : CacheState K V} {calls : List (Call K V)} {replies : List (Reply K V)}
+      {hook_calls : List (HookCall K V)} {new : CacheState K V}
       → CacheRun rules equal shows old calls replies hook_calls new → calls ≡ [] → new ≡ old
   CacheRun-none (CacheRun.ends state) none = refl
-  CacheRun-none (CacheRun.goes_on old mid new call reply calls replies first rest step run) none = absurd (omega (arith, ap length none))
+  CacheRun-none (CacheRun.goes_on old mid new call reply calls replies first rest step run) none =
+      absurd (omega (arith, ap length none))
 
   -- A run of some of the list of one insert serves it.
-  pub CacheRun-one : ((v w : V) → shows v w → w ≡ v) → {old : CacheState K V} {calls : List (Call K V)} {replies : List (Reply K V)} {hook_calls : List (HookCall K V)} {new : CacheState K V}
-      → CacheRun rules equal shows old calls replies hook_calls new → (key : K) (value : V) (back : List (Call K V)) → Insert key value ∷ [] ≡ calls ++ back
+  pub CacheRun-one : ((v w : V) → shows v w → w ≡ v)
+      → {old : CacheState K V} {calls : List (Call K V)} {replies : List (Reply K V)}
+      {hook_calls : List (HookCall K V)} {new : CacheState K V}
+      → CacheRun rules equal shows old calls replies hook_calls new
+      → (key : K) (value : V) (back : List (Call K V)) → Insert key value ∷ [] ≡ calls ++ back
       → Serves rules equal old (Insert key value) (first_reply replies) new
   CacheRun-one exact (CacheRun.ends state) key value back one = Serves.lacks_memory key value
-  CacheRun-one exact (CacheRun.goes_on old mid new head reply calls replies first rest step run) key value back one =
+  CacheRun-one exact (CacheRun.goes_on old mid new head reply calls replies first rest step run) key
+      value back one =
       let parts = one-append (Insert key value) head calls back one in
-      let made = Serves.inserts key value reply first mid (subst (λ c. CacheStep rules equal IsItself old c reply first mid) parts.0
+      let made = Serves.inserts key value reply first mid
+      (subst (λ c. CacheStep rules equal IsItself old c reply first mid) parts.0
       (CacheStep-wider shows IsItself exact rules equal step)) in
-      subst (λ last. Serves rules equal old (Insert key value) reply last) (sym (CacheRun-none run parts.1)) made
+      subst (λ last. Serves rules equal old (Insert key value) reply last)
+      (sym (CacheRun-none run parts.1)) made

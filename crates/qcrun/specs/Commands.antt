@@ -8,7 +8,8 @@ use Rattle.qcrun.specs.declared.command.Command.TheVariants.{Cache, Insert, Get,
 abbrev pub IsNumeralInRange : List ℕ → Type 0
 IsNumeralInRange word = IsNumeral 10 word × (length word ≤ 20) × (digits_value 10 word < 2 ^ 64)
 
--- The answer is Ok of a value exactly where P holds of that value. So it is Err exactly where P holds of none.
+-- The answer is Ok of a value exactly where P holds of that value. So it is Err exactly where P
+-- holds of none.
 abbrev pub IsOkExactly : {X E : Type 0} → Result X E → (X → Type 0) → Type 0
 IsOkExactly {X} answer P = (value : X) → P value ↔ (answer ≡ Ok value)
 
@@ -22,7 +23,8 @@ spaced first second = first ++ 32 ∷ second
 
 -- two words, with one space between, write these numbers
 abbrev pub AreNumbers : List ℕ → ℕ × ℕ → Type 0
-AreNumbers words numbers = (first : List ℕ) × (second : List ℕ) × IsNumber first numbers.0 × IsNumber second numbers.1
+AreNumbers words numbers = (first : List ℕ) × (second : List ℕ) × IsNumber first numbers.0
+    × IsNumber second numbers.1
     × (words ≡ spaced first second)
 
 -- a value of weight 1, which is of none of the kinds that are not served yet
@@ -31,9 +33,12 @@ IsPlainValue value = (value % 100 ≡ 1) × ((1 ≤ value / 100) × (value / 100
 
 -- the line of a command: its name, and its numbers behind it
 abbrev pub IsLineOf : List ℕ → Command → Type 0
-IsLineOf line (Cache items weight) = (words : List ℕ) × (line ≡ spaced (codes "cache") words) × AreNumbers words (items, weight)
+IsLineOf line (Cache items weight) = (words : List ℕ) × (line ≡ spaced (codes "cache") words)
+    × AreNumbers words (items, weight)
 IsLineOf line (Insert key value) =
-    (words : List ℕ) × (line ≡ spaced (codes "insert") words) × AreNumbers words (key, value) × IsPlainValue value
+    (words : List ℕ) × (line ≡ spaced (codes "insert") words) × AreNumbers words (key, value)
+    × IsPlainValue value
 IsLineOf line (Get key) = (word : List ℕ) × (line ≡ spaced (codes "get") word) × IsNumber word key
-IsLineOf line (Remove key) = (word : List ℕ) × (line ≡ spaced (codes "remove") word) × IsNumber word key
+IsLineOf line (Remove key) = (word : List ℕ) × (line ≡ spaced (codes "remove") word)
+    × IsNumber word key
 IsLineOf line Show = line ≡ codes "show"

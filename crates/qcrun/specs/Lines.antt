@@ -11,7 +11,8 @@ IsInLine byte = byte ≡ 10 → ⊥
 -- last line may lack.
 pub data IsFirstLine (text line rest : List ℕ) : Type 0 where
   has_end : All IsInLine line → text ≡ line ++ 10 ∷ rest → IsFirstLine text line rest
-  is_last : All IsInLine line → (line ≡ [] → ⊥) → text ≡ line → rest ≡ [] → IsFirstLine text line rest
+  is_last : All IsInLine line → (line ≡ [] → ⊥) → text ≡ line → rest ≡ []
+      → IsFirstLine text line rest
 
 -- What is known of the bytes that are left, once a byte was asked for: it is the first of them, or
 -- there was none.

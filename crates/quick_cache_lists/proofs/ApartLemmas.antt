@@ -18,12 +18,14 @@ use Rattle.quick_cache_lists.proofs.GatherLemmas.{times-upto, times-upto_past}
 use Rattle.quick_cache_lists.proofs.SoundLemmas.{out_of_ring}
 use Rattle.quick_cache_lists.proofs.TakeLemmas.{named_item, named_still, named_loading, named_ghost}
 
-module _ {Y : Type 0} (name : Y → ℕ) (f : ℕ → Option Y) (named : (u : ℕ) (y : Y) → f u ≡ Some y → name y ≡ u) (t : ℕ) where
+module _ {Y : Type 0} (name : Y → ℕ) (f : ℕ → Option Y)
+    (named : (u : ℕ) (y : Y) → f u ≡ Some y → name y ≡ u) (t : ℕ) where
   times-gather : (xs : List ℕ) → times t (map name (gather f xs)) ≤ times t xs
   times-gather [] = omega arith
   times-gather (x ∷ xs) = by_here (times-gather xs) (f x) refl
     where
-      by_here : times t (map name (gather f xs)) ≤ times t xs → (o : Option Y) → f x ≡ o → times t (map name (put o (gather f xs))) ≤ times t (x ∷ xs)
+      by_here : times t (map name (gather f xs)) ≤ times t xs → (o : Option Y) → f x ≡ o
+          → times t (map name (put o (gather f xs))) ≤ times t (x ∷ xs)
       by_here rest None at = omega arith
       by_here rest (Some y) at = rw (named x y at) (omega arith)
 
@@ -31,17 +33,29 @@ module _ {Y : Type 0} (name : Y → ℕ) (f : ℕ → Option Y) (named : (u : �
   times-nothing none [] = refl
   times-nothing none (x ∷ xs) = by_here (times-nothing none xs) (f x) refl
     where
-      by_here : times t (map name (gather f xs)) ≡ 0 → (o : Option Y) → f x ≡ o → times t (map name (put o (gather f xs))) ≡ 0
+      by_here : times t (map name (gather f xs)) ≡ 0 → (o : Option Y) → f x ≡ o
+          → times t (map name (put o (gather f xs))) ≡ 0
       by_here rest None at = rest
       by_here rest (Some y) at = elim (cases_eq x t) [
         | inl same ↦ let e : f t ≡ Some y = ap f (sym same) ∙ at in absurd (cc)
-        | inr differs ↦ omega (arith, times-other t (name y) (map name (gather f xs)) (λ e. differs (sym (named x y at) ∙ e)), rest)
+        | inr differs ↦ omega (
+          arith,
+          times-other t (name y) (map name (gather f xs))
+              (λ e. differs (sym (named x y at) ∙ e)),
+          rest,
+        )
       ]
 
 times-upto_zero : (n : ℕ) → times 0 (upto n) ≡ 0
 times-upto_zero zero = refl
 times-upto_zero (suc n) =
-    omega (arith, times-append 0 (upto n) (suc n ∷ []), times-upto_zero n, times-other 0 (suc n) [] (λ e. omega (arith, e)))
+    omega (
+      arith,
+      times-append 0 (upto n) (suc n ∷ []),
+      times-upto_zero n,
+      times-other 0 (suc n) []
+          (λ e. omega (arith, e)),
+    )
 
 once_upto : (t n : ℕ) → times t (upto n) ≤ 1
 once_upto zero n = omega (arith, times-upto_zero n)
@@ -51,29 +65,41 @@ once_upto (suc t) n = elim (cases_lt n (suc t)) [
 ]
 
 module _ {K V P T : Type 0} where
-  still_none : (t : ℕ) (o : Option (Slot K V P T)) → stand_of o ≢ Some AmongStill → still_of t o ≡ None
+  still_none : (t : ℕ) (o : Option (Slot K V P T)) → stand_of o ≢ Some AmongStill
+      → still_of t o ≡ None
   still_none t None off = refl
   still_none t (Some slot) off = by_entry slot.hash slot.entry off
     where
-      by_weight : (b : Bool) (q : Queue) (held : HeldItem K V) → Some (if b then AmongStill else ring_stand q) ≢ Some AmongStill → (if b then Some held else None) ≡ None
+      by_weight : (b : Bool) (q : Queue) (held : HeldItem K V)
+          → Some (if b then AmongStill else ring_stand q) ≢ Some AmongStill
+          → (if b then Some held else None) ≡ None
       by_weight true q held off' = absurd (off' refl)
       by_weight false q held off' = refl
 
-      by_entry : (hash : ℕ) (entry : Entry K V P T) → stand_of (Some (record { hash = hash; entry = entry })) ≢ Some AmongStill → still_of t (Some (record { hash = hash; entry = entry })) ≡ None
-      by_entry hash (item_variant item) off' = by_weight (item.weight == 0) item.queue (record { token = t; hash = hash; item = item }) off'
+      by_entry : (hash : ℕ) (entry : Entry K V P T)
+          → stand_of (Some (record { hash = hash; entry = entry })) ≢ Some AmongStill
+          → still_of t (Some (record { hash = hash; entry = entry })) ≡ None
+      by_entry hash (item_variant item) off' =
+          by_weight (item.weight == 0) item.queue
+          (record { token = t; hash = hash; item = item }) off'
       by_entry hash (loading_variant awaited) off' = refl
       by_entry hash ghost_variant off' = refl
 
-  waiting_none : (t : ℕ) (o : Option (Slot K V P T)) → stand_of o ≢ Some AmongLoading → loading_of t o ≡ None
+  waiting_none : (t : ℕ) (o : Option (Slot K V P T)) → stand_of o ≢ Some AmongLoading
+      → loading_of t o ≡ None
   waiting_none t None off = refl
   waiting_none t (Some slot) off = by_entry slot.hash slot.entry off
     where
-      by_entry : (hash : ℕ) (entry : Entry K V P T) → stand_of (Some (record { hash = hash; entry = entry })) ≢ Some AmongLoading → loading_of t (Some (record { hash = hash; entry = entry })) ≡ None
+      by_entry : (hash : ℕ) (entry : Entry K V P T)
+          → stand_of (Some (record { hash = hash; entry = entry })) ≢ Some AmongLoading
+          → loading_of t (Some (record { hash = hash; entry = entry })) ≡ None
       by_entry hash (item_variant item) off' = refl
       by_entry hash (loading_variant awaited) off' = absurd (off' refl)
       by_entry hash ghost_variant off' = refl
 
-module _ {K V P T : Type 0} (slab : LinkedSlab (Slot K V P T)) (table : Table) (hot cold ghosts : Ring) (parted : IsParted slab) (sound : IsStanding slab hot cold ghosts) where
+module _ {K V P T : Type 0} (slab : LinkedSlab (Slot K V P T)) (table : Table)
+    (hot cold ghosts : Ring) (parted : IsParted slab)
+    (sound : IsStanding slab hot cold ghosts) where
   once_ring : (o : Option Token) (t : ℕ) → times t (tokens_of slab o) ≤ 1
   once_ring None t = omega arith
   once_ring (Some head) t = parted.once (non_zero_u32_get head) t
@@ -81,28 +107,129 @@ module _ {K V P T : Type 0} (slab : LinkedSlab (Slot K V P T)) (table : Table) (
   pub apart_by : AreApart (lists_of slab table hot cold ghosts)
   apart_by t = by_stand (stand_of (item_at slab t)) refl
     where
-      held_le : (ring : Ring) → times t (map (λ h. h.token) (gather (λ u. item_of u (item_at slab u)) (tokens_of slab ring.head))) ≤ times t (tokens_of slab ring.head)
-      held_le ring = times-gather (λ h. h.token) (λ u. item_of u (item_at slab u)) (λ u y is. named_item u (item_at slab u) y is) t (tokens_of slab ring.head)
+      held_le : (ring : Ring) → times t
+          (map (λ h. h.token) (gather (λ u. item_of u (item_at slab u)) (tokens_of slab ring.head)))
+          ≤ times t (tokens_of slab ring.head)
+      held_le ring = times-gather (λ h. h.token) (λ u. item_of u (item_at slab u))
+          (λ u y is. named_item u (item_at slab u) y is) t (tokens_of slab ring.head)
 
-      shade_le : times t (map (λ h. h.token) (gather (λ u. ghost_of u (item_at slab u)) (tokens_of slab ghosts.head))) ≤ times t (tokens_of slab ghosts.head)
-      shade_le = times-gather (λ h. h.token) (λ u. ghost_of u (item_at slab u)) (λ u y is. named_ghost u (item_at slab u) y is) t (tokens_of slab ghosts.head)
+      shade_le : times t (map (λ h. h.token)
+          (gather (λ u. ghost_of u (item_at slab u)) (tokens_of slab ghosts.head)))
+          ≤ times t (tokens_of slab ghosts.head)
+      shade_le = times-gather (λ h. h.token) (λ u. ghost_of u (item_at slab u))
+          (λ u y is. named_ghost u (item_at slab u) y is) t (tokens_of slab ghosts.head)
 
-      still_le : times t (map (λ h. h.token) (gather (λ u. still_of u (item_at slab u)) (upto (length slab.slots)))) ≤ times t (upto (length slab.slots))
-      still_le = times-gather (λ h. h.token) (λ u. still_of u (item_at slab u)) (λ u y is. named_still u (item_at slab u) y is) t (upto (length slab.slots))
+      still_le : times t (map (λ h. h.token)
+          (gather (λ u. still_of u (item_at slab u)) (upto (length slab.slots))))
+          ≤ times t (upto (length slab.slots))
+      still_le = times-gather (λ h. h.token) (λ u. still_of u (item_at slab u))
+          (λ u y is. named_still u (item_at slab u) y is) t (upto (length slab.slots))
 
-      loading_le : times t (map (λ h. h.token) (gather (λ u. loading_of u (item_at slab u)) (upto (length slab.slots)))) ≤ times t (upto (length slab.slots))
-      loading_le = times-gather (λ h. h.token) (λ u. loading_of u (item_at slab u)) (λ u y is. named_loading u (item_at slab u) y is) t (upto (length slab.slots))
+      loading_le : times t (map (λ h. h.token)
+          (gather (λ u. loading_of u (item_at slab u)) (upto (length slab.slots))))
+          ≤ times t (upto (length slab.slots))
+      loading_le = times-gather (λ h. h.token) (λ u. loading_of u (item_at slab u))
+          (λ u y is. named_loading u (item_at slab u) y is) t (upto (length slab.slots))
 
-      no_still : stand_of (item_at slab t) ≢ Some AmongStill → times t (map (λ h. h.token) (gather (λ u. still_of u (item_at slab u)) (upto (length slab.slots)))) ≡ 0
-      no_still off = times-nothing (λ h. h.token) (λ u. still_of u (item_at slab u)) (λ u y is. named_still u (item_at slab u) y is) t (still_none t (item_at slab t) off) (upto (length slab.slots))
+      no_still : stand_of (item_at slab t) ≢ Some AmongStill
+          → times t (map (λ h. h.token) (gather (λ u. still_of u (item_at slab u))
+          (upto (length slab.slots)))) ≡ 0
+      no_still off = times-nothing (λ h. h.token) (λ u. still_of u (item_at slab u))
+          (λ u y is. named_still u (item_at slab u) y is) t (still_none t (item_at slab t) off)
+          (upto (length slab.slots))
 
-      no_loading : stand_of (item_at slab t) ≢ Some AmongLoading → times t (map (λ h. h.token) (gather (λ u. loading_of u (item_at slab u)) (upto (length slab.slots)))) ≡ 0
-      no_loading off = times-nothing (λ h. h.token) (λ u. loading_of u (item_at slab u)) (λ u y is. named_loading u (item_at slab u) y is) t (waiting_none t (item_at slab t) off) (upto (length slab.slots))
+      no_loading : stand_of (item_at slab t) ≢ Some AmongLoading
+          → times t (map (λ h. h.token) (gather (λ u. loading_of u (item_at slab u))
+          (upto (length slab.slots)))) ≡ 0
+      no_loading off = times-nothing (λ h. h.token) (λ u. loading_of u (item_at slab u))
+          (λ u y is. named_loading u (item_at slab u) y is) t (waiting_none t (item_at slab t) off)
+          (upto (length slab.slots))
 
-      by_stand : (o : Option Stand) → stand_of (item_at slab t) ≡ o → entries_of t (lists_of slab table hot cold ghosts) ≤ 1
-      by_stand None e = omega (arith, held_le hot, held_le cold, shade_le, out_of_ring slab hot _ t sound.hot_ring (λ f. cc), out_of_ring slab cold _ t sound.cold_ring (λ f. cc), out_of_ring slab ghosts _ t sound.ghost_ring (λ f. cc), no_still (λ f. cc), no_loading (λ f. cc))
-      by_stand (Some AmongHot) e = omega (arith, held_le hot, once_ring hot.head t, held_le cold, shade_le, out_of_ring slab cold _ t sound.cold_ring (λ f. cc), out_of_ring slab ghosts _ t sound.ghost_ring (λ f. cc), no_still (λ f. cc), no_loading (λ f. cc))
-      by_stand (Some AmongCold) e = omega (arith, held_le hot, held_le cold, once_ring cold.head t, shade_le, out_of_ring slab hot _ t sound.hot_ring (λ f. cc), out_of_ring slab ghosts _ t sound.ghost_ring (λ f. cc), no_still (λ f. cc), no_loading (λ f. cc))
-      by_stand (Some AmongStill) e = omega (arith, held_le hot, held_le cold, shade_le, still_le, once_upto t (length slab.slots), out_of_ring slab hot _ t sound.hot_ring (λ f. cc), out_of_ring slab cold _ t sound.cold_ring (λ f. cc), out_of_ring slab ghosts _ t sound.ghost_ring (λ f. cc), no_loading (λ f. cc))
-      by_stand (Some AmongLoading) e = omega (arith, held_le hot, held_le cold, shade_le, loading_le, once_upto t (length slab.slots), out_of_ring slab hot _ t sound.hot_ring (λ f. cc), out_of_ring slab cold _ t sound.cold_ring (λ f. cc), out_of_ring slab ghosts _ t sound.ghost_ring (λ f. cc), no_still (λ f. cc))
-      by_stand (Some AmongGhosts) e = omega (arith, held_le hot, held_le cold, shade_le, once_ring ghosts.head t, out_of_ring slab hot _ t sound.hot_ring (λ f. cc), out_of_ring slab cold _ t sound.cold_ring (λ f. cc), no_still (λ f. cc), no_loading (λ f. cc))
+      by_stand : (o : Option Stand) → stand_of (item_at slab t) ≡ o
+          → entries_of t (lists_of slab table hot cold ghosts) ≤ 1
+      by_stand None e = omega (
+        arith,
+        held_le hot,
+        held_le cold,
+        shade_le,
+        out_of_ring slab hot _ t
+            sound.hot_ring (λ f. cc),
+        out_of_ring slab cold _ t sound.cold_ring
+            (λ f. cc),
+        out_of_ring slab ghosts _ t sound.ghost_ring (λ f. cc),
+        no_still
+            (λ f. cc),
+        no_loading (λ f. cc),
+      )
+      by_stand (Some AmongHot) e = omega (
+        arith,
+        held_le hot,
+        once_ring hot.head t,
+        held_le cold,
+        shade_le,
+        out_of_ring slab cold _
+            t sound.cold_ring (λ f. cc),
+        out_of_ring slab ghosts _ t sound.ghost_ring
+            (λ f. cc),
+        no_still (λ f. cc),
+        no_loading (λ f. cc),
+      )
+      by_stand (Some AmongCold) e = omega (
+        arith,
+        held_le hot,
+        held_le cold,
+        once_ring cold.head t,
+        shade_le,
+        out_of_ring slab hot _
+            t sound.hot_ring (λ f. cc),
+        out_of_ring slab ghosts _ t sound.ghost_ring
+            (λ f. cc),
+        no_still (λ f. cc),
+        no_loading (λ f. cc),
+      )
+      by_stand (Some AmongStill) e =
+          omega (
+            arith,
+            held_le hot,
+            held_le cold,
+            shade_le,
+            still_le,
+            once_upto t
+                (length slab.slots),
+            out_of_ring slab hot _ t sound.hot_ring
+                (λ f. cc),
+            out_of_ring slab cold _ t sound.cold_ring
+                (λ f. cc),
+            out_of_ring slab ghosts _ t sound.ghost_ring (λ f. cc),
+            no_loading (λ f. cc),
+          )
+      by_stand (Some AmongLoading) e =
+          omega (
+            arith,
+            held_le hot,
+            held_le cold,
+            shade_le,
+            loading_le,
+            once_upto t
+                (length slab.slots),
+            out_of_ring slab hot _ t sound.hot_ring
+                (λ f. cc),
+            out_of_ring slab cold _ t sound.cold_ring
+                (λ f. cc),
+            out_of_ring slab ghosts _ t sound.ghost_ring (λ f. cc),
+            no_still (λ f. cc),
+          )
+      by_stand (Some AmongGhosts) e =
+          omega (
+            arith,
+            held_le hot,
+            held_le cold,
+            shade_le,
+            once_ring ghosts.head t,
+            out_of_ring
+                slab hot _ t sound.hot_ring (λ f. cc),
+            out_of_ring slab cold _ t sound.cold_ring
+                (λ f. cc),
+            no_still (λ f. cc),
+            no_loading (λ f. cc),
+          )

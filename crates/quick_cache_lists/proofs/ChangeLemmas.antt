@@ -29,60 +29,93 @@ module _ {K V : Type 0} where
   some_held : (t hash : ℕ) (item : Item K V) → Some (held_with t hash item) ≡ None → ⊥
   some_held t hash item e = cc
 
-  still_some : (b c : Bool) → c ≡ b → (t hash : ℕ) (item : Item K V) (change : Item K V → Item K V) (y : HeldItem K V) → (if b then Some (held_with t hash item) else None) ≡ Some y → (if c then Some (held_with t hash (change item)) else None) ≡ Some (record y { item = change y.item })
+  still_some : (b c : Bool) → c ≡ b
+      → (t hash : ℕ) (item : Item K V) (change : Item K V → Item K V) (y : HeldItem K V)
+      → (if b then Some (held_with t hash item) else None) ≡ Some y
+      → (if c then Some (held_with t hash (change item)) else None)
+      ≡ Some (record y { item = change y.item })
   still_some true c kept t hash item change y e =
       let same : held_with t hash item ≡ y = cc in
       rw kept (ap (λ (h : HeldItem K V). Some (record h { item = change h.item })) same)
   still_some false c kept t hash item change y e = absurd (cc)
 
-  still_none : (b c : Bool) → c ≡ b → (t hash : ℕ) (item other : Item K V) → (if b then Some (held_with t hash item) else None) ≡ None → (if c then Some (held_with t hash other) else None) ≡ None
+  still_none : (b c : Bool) → c ≡ b → (t hash : ℕ) (item other : Item K V)
+      → (if b then Some (held_with t hash item) else None) ≡ None
+      → (if c then Some (held_with t hash other) else None) ≡ None
   still_none true c kept t hash item other e = absurd (some_held t hash item e)
   still_none false c kept t hash item other e = rw kept refl
 
 module _ {K V P T : Type 0} where
   -- what a slot that is known to have this item becomes
-  pub changed_slot : (o : Option (Slot K V P T)) (slot : Slot K V P T) (hash : ℕ) (item : Item K V) (change : Item K V → Item K V) → o ≡ Some (record { hash = hash; entry = item_variant item }) → o ≡ Some slot → (is_item slot ≡ true) × (slot_changed change slot ≡ record { hash = hash; entry = item_variant (change item) })
+  pub changed_slot : (o : Option (Slot K V P T)) (slot : Slot K V P T) (hash : ℕ) (item : Item K V)
+      (change : Item K V → Item K V) → o ≡ Some (record { hash = hash; entry = item_variant item })
+      → o ≡ Some slot → (is_item slot ≡ true)
+      × (slot_changed change slot ≡ record { hash = hash; entry = item_variant (change item) })
   changed_slot o slot hash item change is at =
       let same : slot ≡ record { hash = hash; entry = item_variant item } = cc in
       (ap is_item same, ap (slot_changed change) same)
 
-  abbrev pub written : (hash : ℕ) (item : Item K V) (t : ℕ) → LinkedSlab (Slot K V P T) → LinkedSlab (Slot K V P T)
+  abbrev pub written : (hash : ℕ) (item : Item K V) (t : ℕ) → LinkedSlab (Slot K V P T)
+      → LinkedSlab (Slot K V P T)
   written hash item t old = with_item old t (record { hash = hash; entry = item_variant item })
 
-  module _ (old : LinkedSlab (Slot K V P T)) (t hash : ℕ) (item : Item K V) (change : Item K V → Item K V) (heavy : ((change item).weight == 0) ≡ (item.weight == 0)) (queue : (change item).queue ≡ item.queue) (at : item_at old t ≡ Some (record { hash = hash; entry = item_variant item })) where
-    stand_same : stand_of {K = K} {V = V} {P = P} {T = T} (Some (record { hash = hash; entry = item_variant (change item) })) ≡ stand_of {K = K} {V = V} {P = P} {T = T} (Some (record { hash = hash; entry = item_variant item }))
+  module _ (old : LinkedSlab (Slot K V P T)) (t hash : ℕ) (item : Item K V)
+      (change : Item K V → Item K V) (heavy : ((change item).weight == 0) ≡ (item.weight == 0))
+      (queue : (change item).queue ≡ item.queue)
+      (at : item_at old t ≡ Some (record { hash = hash; entry = item_variant item })) where
+    stand_same : stand_of {K = K} {V = V} {P = P} {T = T}
+        (Some (record { hash = hash; entry = item_variant (change item) }))
+        ≡ stand_of {K = K} {V = V} {P = P} {T = T}
+        (Some (record { hash = hash; entry = item_variant item }))
     stand_same = rw (heavy, queue) refl
 
-    here : at_token (with_token old.slots t (Some (record { hash = hash; entry = item_variant (change item) }))) t None ≡ Some (record { hash = hash; entry = item_variant (change item) })
-    here = let within = occupied_within old.slots t _ at in at_token-with_same old.slots t _ None within.0 within.1
+    here : at_token (with_token old.slots t
+        (Some (record { hash = hash; entry = item_variant (change item) }))) t None
+        ≡ Some (record { hash = hash; entry = item_variant (change item) })
+    here = let within = occupied_within old.slots t _ at in at_token-with_same old.slots t _ None
+        within.0 within.1
 
-    others : (u : ℕ) → u ≢ t → at_token (with_token old.slots t (Some (record { hash = hash; entry = item_variant (change item) }))) u None ≡ item_at old u
+    others : (u : ℕ) → u ≢ t → at_token
+        (with_token old.slots t (Some (record { hash = hash; entry = item_variant (change item) })))
+        u None ≡ item_at old u
     others u differs = at_token-with_other old.slots t u _ None differs
 
-    long : length (with_token old.slots t (Some (record { hash = hash; entry = item_variant (change item) }))) ≡ length old.slots
+    long : length (with_token old.slots t
+        (Some (record { hash = hash; entry = item_variant (change item) }))) ≡ length old.slots
     long = length-with_token old.slots t _
 
     -- what is said of a slot and does not speak of its mark
-    alike : {X : Type 0} (says : Option (Slot K V P T) → X) → says (Some (record { hash = hash; entry = item_variant (change item) })) ≡ says (Some (record { hash = hash; entry = item_variant item })) → (u : ℕ) → says (item_at (written hash (change item) t old) u) ≡ says (item_at old u)
+    alike : {X : Type 0} (says : Option (Slot K V P T) → X)
+        → says (Some (record { hash = hash; entry = item_variant (change item) }))
+        ≡ says (Some (record { hash = hash; entry = item_variant item })) → (u : ℕ)
+        → says (item_at (written hash (change item) t old) u) ≡ says (item_at old u)
     alike says same u = elim (cases_eq u t) [
       | inl is ↦ rw is (ap says here ∙ same ∙ ap says (sym at))
       | inr differs ↦ ap says (others u differs)
     ]
 
-    IsRingOf-changed : (change item).weight ≡ item.weight → (ring : Ring) (s : Stand) → IsRingOf old ring s → IsRingOf (written hash (change item) t old) ring s
+    IsRingOf-changed : (change item).weight ≡ item.weight → (ring : Ring) (s : Stand)
+        → IsRingOf old ring s → IsRingOf (written hash (change item) t old) ring s
     IsRingOf-changed weight ring s is = record {
       headed = by_head ring.head is.headed;
       members = λ u some. alike stand_of stand_same u ∙ is.members u some;
       all = λ u stands. is.all u (sym (alike stand_of stand_same u) ∙ stands);
-      weighed = is.weighed ∙ sym (weigh-same (λ u. weight_at (item_at old u)) (λ u. weight_at (item_at (written hash (change item) t old) u)) (tokens_of old ring.head) (λ u some. alike weight_at weight u));
+      weighed = is.weighed ∙ sym (weigh-same (λ u. weight_at (item_at old u))
+          (λ u. weight_at (item_at (written hash (change item) t old) u)) (tokens_of old ring.head)
+          (λ u some. alike weight_at weight u));
       counted = is.counted;
     }
       where
-        by_head : (o : Option Token) → IfSome o (λ head. stand_of (item_at old (non_zero_u32_get head)) ≡ Some s) → IfSome o (λ head. stand_of (item_at (written hash (change item) t old) (non_zero_u32_get head)) ≡ Some s)
+        by_head : (o : Option Token) → IfSome o
+            (λ head. stand_of (item_at old (non_zero_u32_get head)) ≡ Some s)
+            → IfSome o (λ head. stand_of (item_at (written hash (change item) t old)
+            (non_zero_u32_get head)) ≡ Some s)
         by_head None headed = tt
         by_head (Some h) headed = alike stand_of stand_same (non_zero_u32_get h) ∙ headed
 
-    pub IsStanding-changed : (change item).weight ≡ item.weight → (hot cold ghosts : Ring) → IsStanding old hot cold ghosts → IsStanding (written hash (change item) t old) hot cold ghosts
+    pub IsStanding-changed : (change item).weight ≡ item.weight → (hot cold ghosts : Ring)
+        → IsStanding old hot cold ghosts
+        → IsStanding (written hash (change item) t old) hot cold ghosts
     IsStanding-changed weight hot cold ghosts sound = record {
       hot_ring = IsRingOf-changed weight hot _ sound.hot_ring;
       cold_ring = IsRingOf-changed weight cold _ sound.cold_ring;
@@ -91,7 +124,8 @@ module _ {K V P T : Type 0} where
       loading = λ u stands. sound.loading u (sym (alike stand_of stand_same u) ∙ stands);
     }
 
-    pub IsKeyed-changed : (change item).weight < 18446744073709551616 → (table : Table) → IsKeyed old table → IsKeyed (written hash (change item) t old) table
+    pub IsKeyed-changed : (change item).weight < 18446744073709551616 → (table : Table)
+        → IsKeyed old table → IsKeyed (written hash (change item) t old) table
     IsKeyed-changed light table keyed = record {
       pairs = λ h u. keyed.pairs h u ∙ sym (alike (has_hash h) refl u);
       few = rw long keyed.few;
@@ -102,40 +136,76 @@ module _ {K V P T : Type 0} where
       counted = keyed.counted ∙ sym long;
     }
 
-    view-changed : (tokens : List ℕ) → gather (λ u. item_of u (item_at (written hash (change item) t old) u)) tokens ≡ map (λ y. cond (eqb y.token t) (record y { item = change y.item }) y) (gather (λ u. item_of u (item_at old u)) tokens)
+    view-changed : (tokens : List ℕ)
+        → gather (λ u. item_of u (item_at (written hash (change item) t old) u)) tokens
+        ≡ map (λ y. cond (eqb y.token t) (record y { item = change y.item }) y)
+        (gather (λ u. item_of u (item_at old u)) tokens)
     view-changed tokens =
-        gather-changed (λ h. h.token) (λ u. item_of u (item_at old u)) (λ u. item_of u (item_at (written hash (change item) t old) u)) t (λ y. record y { item = change y.item })
+        gather-changed (λ h. h.token) (λ u. item_of u (item_at old u))
+        (λ u. item_of u (item_at (written hash (change item) t old) u)) t
+        (λ y. record y { item = change y.item })
         (λ u y is. named_item u (item_at old u) y is)
         (λ u differs. ap (item_of u) (others u differs))
         (λ y is.
         let was : Some (held_with t hash item) ≡ Some y = sym (ap (item_of t) at) ∙ is in
         let same : held_with t hash item ≡ y = cc in
-        ap (item_of t) here ∙ ap (λ (h : HeldItem K V). Some (record h { item = change h.item })) same)
+        ap (item_of t) here ∙ ap (λ (h : HeldItem K V). Some (record h { item = change h.item }))
+        same)
         (λ none. absurd (some_held t hash item (sym (ap (item_of t) at) ∙ none)))
         tokens
 
-    view-still : (tokens : List ℕ) → gather (λ u. still_of u (item_at (written hash (change item) t old) u)) tokens ≡ map (λ y. cond (eqb y.token t) (record y { item = change y.item }) y) (gather (λ u. still_of u (item_at old u)) tokens)
+    view-still : (tokens : List ℕ)
+        → gather (λ u. still_of u (item_at (written hash (change item) t old) u)) tokens
+        ≡ map (λ y. cond (eqb y.token t) (record y { item = change y.item }) y)
+        (gather (λ u. still_of u (item_at old u)) tokens)
     view-still tokens =
-        gather-changed (λ h. h.token) (λ u. still_of u (item_at old u)) (λ u. still_of u (item_at (written hash (change item) t old) u)) t (λ y. record y { item = change y.item })
+        gather-changed (λ h. h.token) (λ u. still_of u (item_at old u))
+        (λ u. still_of u (item_at (written hash (change item) t old) u)) t
+        (λ y. record y { item = change y.item })
         (λ u y is. named_still u (item_at old u) y is)
         (λ u differs. ap (still_of u) (others u differs))
-        (λ y is. ap (still_of t) here ∙ still_some (item.weight == 0) ((change item).weight == 0) heavy t hash item change y (sym (ap (still_of t) at) ∙ is))
-        (λ none. ap (still_of t) here ∙ still_none (item.weight == 0) ((change item).weight == 0) heavy t hash item (change item) (sym (ap (still_of t) at) ∙ none))
+        (λ y is. ap (still_of t) here ∙ still_some (item.weight == 0)
+        ((change item).weight == 0) heavy t hash item change y (sym (ap (still_of t) at) ∙ is))
+        (λ none. ap (still_of t) here ∙ still_none (item.weight == 0)
+        ((change item).weight == 0) heavy t hash item (change item)
+        (sym (ap (still_of t) at) ∙ none))
         tokens
 
-    pub lists-changed : (table : Table) (hot cold ghosts : Ring) → lists_of (written hash (change item) t old) table hot cold ghosts ≡ with_change t change (lists_of old table hot cold ghosts)
+    pub lists-changed : (table : Table) (hot cold ghosts : Ring)
+        → lists_of (written hash (change item) t old) table hot cold ghosts
+        ≡ with_change t change (lists_of old table hot cold ghosts)
     lists-changed table hot cold ghosts =
         let hot_is = view-changed (tokens_of old hot.head) in
         let cold_is = view-changed (tokens_of old cold.head) in
-        let still_is = ap (λ n. gather (λ u. still_of u (item_at (written hash (change item) t old) u)) (upto n)) long ∙ view-still (upto (length old.slots)) in
-        let loading_is = ap (λ n. gather (λ u. loading_of u (item_at (written hash (change item) t old) u)) (upto n)) long
-        ∙ gather-neither (λ u. loading_of u (item_at old u)) (λ u. loading_of u (item_at (written hash (change item) t old) u)) t (upto (length old.slots)) (λ u differs. ap (loading_of u) (others u differs)) (ap (loading_of t) at) (ap (loading_of t) here) in
-        let ghosts_is = gather-neither (λ u. ghost_of u (item_at old u)) (λ u. ghost_of u (item_at (written hash (change item) t old) u)) t (tokens_of old ghosts.head) (λ u differs. ap (ghost_of u) (others u differs)) (ap (ghost_of t) at) (ap (ghost_of t) here) in
-        let next_is : next_token (written hash (change item) t old) ≡ next_token old = rw long refl in
+        let still_is = ap (λ n. gather
+        (λ u. still_of u (item_at (written hash (change item) t old) u)) (upto n)) long
+        ∙ view-still (upto (length old.slots)) in
+        let loading_is = ap (λ n. gather
+        (λ u. loading_of u (item_at (written hash (change item) t old) u)) (upto n)) long
+        ∙ gather-neither (λ u. loading_of u (item_at old u))
+        (λ u. loading_of u (item_at (written hash (change item) t old) u)) t
+        (upto (length old.slots)) (λ u differs. ap (loading_of u) (others u differs))
+        (ap (loading_of t) at) (ap (loading_of t) here) in
+        let ghosts_is = gather-neither (λ u. ghost_of u (item_at old u))
+        (λ u. ghost_of u (item_at (written hash (change item) t old) u)) t
+        (tokens_of old ghosts.head) (λ u differs. ap (ghost_of u) (others u differs))
+        (ap (ghost_of t) at) (ap (ghost_of t) here) in
+        let next_is : next_token (written hash (change item) t old) ≡ next_token old =
+        rw long refl in
         let room_is : room_of (written hash (change item) t old) table ≡ room_of old table = refl in
-        λ i. record { hot = hot_is i; cold = cold_is i; still = still_is i; loading = loading_is i; ghosts = ghosts_is i; next = next_is i; room = room_is i }
+        λ i. record {
+          hot = hot_is i;
+          cold = cold_is i;
+          still = still_is i;
+          loading = loading_is i;
+          ghosts = ghosts_is i;
+          next = next_is i;
+          room = room_is i;
+        }
 
-    pub IsSound-changed : (change item).weight ≡ item.weight → (table : Table) (rings : Rings) (loading : ℕ) → IsSound old table rings loading → IsSound (written hash (change item) t old) table rings loading
+    pub IsSound-changed : (change item).weight ≡ item.weight
+        → (table : Table) (rings : Rings) (loading : ℕ) → IsSound old table rings loading
+        → IsSound (written hash (change item) t old) table rings loading
     IsSound-changed weight table rings loading sound =
         let same = lists-changed table rings.hot rings.cold rings.ghosts in
         let before = lists_of old table rings.hot rings.cold rings.ghosts in
@@ -143,7 +213,8 @@ module _ {K V P T : Type 0} where
         let all = ap entry_count same in
         record {
           standing = IsStanding-changed weight rings.hot rings.cold rings.ghosts sound.standing;
-          keyed = IsKeyed-changed (omega (arith, weight, sound.keyed.light t, ap weight_at at)) table sound.keyed;
+          keyed = IsKeyed-changed (omega (arith, weight, sound.keyed.light t, ap weight_at at))
+              table sound.keyed;
           loading_counted = sound.loading_counted ∙ sym waiting;
           all_counted = all ∙ entry_count-change t change before ∙ sound.all_counted;
         }
@@ -155,113 +226,193 @@ module _ {K V P T : Type 0} where
       once_in None = omega arith
       once_in (Some h) = single (non_zero_u32_get h) t
 
-      weigh-one : (xs : List ℕ) → times t xs ≡ 1 → weigh (λ u. weight_at (item_at (written hash (change item) t old) u)) xs + item.weight ≡ weigh (λ u. weight_at (item_at old u)) xs + (change item).weight
+      weigh-one : (xs : List ℕ) → times t xs ≡ 1
+          → weigh (λ u. weight_at (item_at (written hash (change item) t old) u)) xs + item.weight
+          ≡ weigh (λ u. weight_at (item_at old u)) xs + (change item).weight
       weigh-one [] one = absurd (omega (arith, one))
       weigh-one (x ∷ xs) one = elim (cases_eq x t) [
         | inl is ↦
-            let out : times t xs ≡ 0 = omega (arith, one, ap (times t) (ap (λ (n : ℕ). n ∷ xs) is), times-here t xs) in
-            let rest = weigh-same (λ u. weight_at (item_at old u)) (λ u. weight_at (item_at (written hash (change item) t old) u)) xs (λ u some. ap weight_at (others u (λ e. omega (arith, some, subst (λ (w : ℕ). times w xs ≡ 0) (sym e) out)))) in
-            omega (arith, rest, ap (λ u. weight_at (item_at old u)) is, ap weight_at at, ap (λ u. weight_at (item_at (written hash (change item) t old) u)) is, ap weight_at here)
-        | inr differs ↦ omega (arith, weigh-one xs (omega (arith, one, times-other t x xs differs)), ap weight_at (others x differs))
+            let out : times t xs ≡ 0 = omega
+            (arith, one, ap (times t) (ap (λ (n : ℕ). n ∷ xs) is), times-here t xs) in
+            let rest = weigh-same (λ u. weight_at (item_at old u))
+            (λ u. weight_at (item_at (written hash (change item) t old) u)) xs
+            (λ u some. ap weight_at (others u
+            (λ e. omega (arith, some, subst (λ (w : ℕ). times w xs ≡ 0) (sym e) out)))) in
+            omega (
+              arith,
+              rest,
+              ap (λ u. weight_at (item_at old u)) is,
+              ap weight_at at,
+              ap
+                  (λ u. weight_at (item_at (written hash (change item) t old) u)) is,
+              ap weight_at
+                  here,
+            )
+        | inr differs ↦ omega (
+          arith,
+          weigh-one xs
+              (omega (arith, one, times-other t x xs differs)),
+          ap weight_at (others x differs),
+        )
       ]
 
-      IsRingOf-own : (ring after : Ring) (s : Stand) → stand_of (item_at old t) ≡ Some s → after.head ≡ ring.head → after.count ≡ ring.count → after.weight + item.weight ≡ ring.weight + (change item).weight → IsRingOf old ring s → IsRingOf (written hash (change item) t old) after s
+      IsRingOf-own : (ring after : Ring) (s : Stand) → stand_of (item_at old t) ≡ Some s
+          → after.head ≡ ring.head → after.count ≡ ring.count
+          → after.weight + item.weight ≡ ring.weight + (change item).weight → IsRingOf old ring s
+          → IsRingOf (written hash (change item) t old) after s
       IsRingOf-own ring after s own head count weighs is =
-          let tokens : tokens_of old after.head ≡ tokens_of old ring.head = ap (tokens_of old) head in
+          let tokens : tokens_of old after.head ≡ tokens_of old ring.head =
+          ap (tokens_of old) head in
           record {
             headed = rw head (by_head ring.head is.headed);
             members = λ u some. alike stand_of stand_same u ∙ is.members u (rw tokens at some);
             all = λ u stands. rw tokens (is.all u (sym (alike stand_of stand_same u) ∙ stands));
             counted = count ∙ is.counted ∙ ap length (sym tokens);
             weighed =
-                let one : times t (tokens_of old ring.head) ≡ 1 = omega (arith, is.all t own, once_in ring.head) in
-                let same = ap (weigh (λ u. weight_at (item_at (written hash (change item) t old) u))) tokens in
+                let one : times t (tokens_of old ring.head) ≡ 1 =
+                omega (arith, is.all t own, once_in ring.head) in
+                let same = ap (weigh (λ u. weight_at
+                (item_at (written hash (change item) t old) u))) tokens in
                 omega (arith, weigh-one (tokens_of old ring.head) one, weighs, is.weighed, same);
           }
         where
-          by_head : (o : Option Token) → IfSome o (λ head. stand_of (item_at old (non_zero_u32_get head)) ≡ Some s) → IfSome o (λ head. stand_of (item_at (written hash (change item) t old) (non_zero_u32_get head)) ≡ Some s)
+          by_head : (o : Option Token) → IfSome o
+              (λ head. stand_of (item_at old (non_zero_u32_get head)) ≡ Some s)
+              → IfSome o (λ head. stand_of (item_at (written hash (change item) t old)
+              (non_zero_u32_get head)) ≡ Some s)
           by_head None headed = tt
           by_head (Some h) headed = alike stand_of stand_same (non_zero_u32_get h) ∙ headed
 
-      IsRingOf-off : (ring : Ring) (s : Stand) → stand_of (item_at old t) ≢ Some s → IsRingOf old ring s → IsRingOf (written hash (change item) t old) ring s
+      IsRingOf-off : (ring : Ring) (s : Stand) → stand_of (item_at old t) ≢ Some s
+          → IsRingOf old ring s → IsRingOf (written hash (change item) t old) ring s
       IsRingOf-off ring s off is = record {
         headed = by_head ring.head is.headed;
         members = λ u some. alike stand_of stand_same u ∙ is.members u some;
         all = λ u stands. is.all u (sym (alike stand_of stand_same u) ∙ stands);
         counted = is.counted;
-        weighed = is.weighed ∙ sym (weigh-same (λ u. weight_at (item_at old u)) (λ u. weight_at (item_at (written hash (change item) t old) u)) (tokens_of old ring.head) (λ u some. ap weight_at (others u (λ e. off (subst (λ (w : ℕ). stand_of (item_at old w) ≡ Some s) e (is.members u some))))));
+        weighed = is.weighed ∙ sym (weigh-same (λ u. weight_at (item_at old u))
+            (λ u. weight_at (item_at (written hash (change item) t old) u))
+            (tokens_of old ring.head) (λ u some. ap weight_at
+            (others u (λ e. off (subst (λ (w : ℕ). stand_of (item_at old w) ≡ Some s) e
+            (is.members u some))))));
       }
         where
-          by_head : (o : Option Token) → IfSome o (λ head. stand_of (item_at old (non_zero_u32_get head)) ≡ Some s) → IfSome o (λ head. stand_of (item_at (written hash (change item) t old) (non_zero_u32_get head)) ≡ Some s)
+          by_head : (o : Option Token) → IfSome o
+              (λ head. stand_of (item_at old (non_zero_u32_get head)) ≡ Some s)
+              → IfSome o (λ head. stand_of (item_at (written hash (change item) t old)
+              (non_zero_u32_get head)) ≡ Some s)
           by_head None headed = tt
           by_head (Some h) headed = alike stand_of stand_same (non_zero_u32_get h) ∙ headed
 
-      off_of : (s r : Stand) → stand_of (item_at old t) ≡ Some s → s ≢ r → stand_of (item_at old t) ≢ Some r
+      off_of : (s r : Stand) → stand_of (item_at old t) ≡ Some s → s ≢ r
+          → stand_of (item_at old t) ≢ Some r
       off_of s r is differs same = differs (some_stand s r (sym is ∙ same))
         where
           some_stand : (a b : Stand) → Some a ≡ Some b → a ≡ b
           some_stand a b e = cc
 
-      beside : {rings : Rings} {s : Stand} → stand_of (item_at old t) ≡ Some s → IsStanding old rings.hot rings.cold rings.ghosts → s ≢ AmongHot → s ≢ AmongCold → s ≢ AmongGhosts → IsStanding (written hash (change item) t old) rings.hot rings.cold rings.ghosts
+      beside : {rings : Rings} {s : Stand} → stand_of (item_at old t) ≡ Some s
+          → IsStanding old rings.hot rings.cold rings.ghosts → s ≢ AmongHot → s ≢ AmongCold
+          → s ≢ AmongGhosts → IsStanding
+          (written hash (change item) t old) rings.hot rings.cold rings.ghosts
       beside {rings = rings} {s = s} is sound off_hot off_cold off_ghosts = record {
         hot_ring = IsRingOf-off rings.hot AmongHot (off_of s AmongHot is off_hot) sound.hot_ring;
-        cold_ring = IsRingOf-off rings.cold AmongCold (off_of s AmongCold is off_cold) sound.cold_ring;
-        ghost_ring = IsRingOf-off rings.ghosts AmongGhosts (off_of s AmongGhosts is off_ghosts) sound.ghost_ring;
+        cold_ring = IsRingOf-off rings.cold AmongCold
+            (off_of s AmongCold is off_cold) sound.cold_ring;
+        ghost_ring = IsRingOf-off rings.ghosts AmongGhosts
+            (off_of s AmongGhosts is off_ghosts) sound.ghost_ring;
         still = λ u stands. sound.still u (sym (alike stand_of stand_same u) ∙ stands);
         loading = λ u stands. sound.loading u (sym (alike stand_of stand_same u) ∙ stands);
       }
 
-      pub IsStanding-reweighed : (rings after : Rings) (s : Stand) → stand_of (item_at old t) ≡ Some s → ReweighsRing rings after item.weight (change item).weight s → IsStanding old rings.hot rings.cold rings.ghosts → IsStanding (written hash (change item) t old) after.hot after.cold after.ghosts
+      pub IsStanding-reweighed : (rings after : Rings) (s : Stand)
+          → stand_of (item_at old t) ≡ Some s
+          → ReweighsRing rings after item.weight (change item).weight s
+          → IsStanding old rings.hot rings.cold rings.ghosts
+          → IsStanding (written hash (change item) t old) after.hot after.cold after.ghosts
       IsStanding-reweighed rings after AmongHot is same sound = rw (same.1) (record {
-        hot_ring = IsRingOf-own rings.hot (record rings.hot { weight = after.hot.weight }) AmongHot is refl refl same.0 sound.hot_ring;
-        cold_ring = IsRingOf-off rings.cold AmongCold (off_of AmongHot AmongCold is (λ e. cc)) sound.cold_ring;
-        ghost_ring = IsRingOf-off rings.ghosts AmongGhosts (off_of AmongHot AmongGhosts is (λ e. cc)) sound.ghost_ring;
+        hot_ring = IsRingOf-own rings.hot
+            (record rings.hot { weight = after.hot.weight }) AmongHot is refl refl same.0
+            sound.hot_ring;
+        cold_ring = IsRingOf-off rings.cold AmongCold
+            (off_of AmongHot AmongCold is (λ e. cc)) sound.cold_ring;
+        ghost_ring = IsRingOf-off rings.ghosts AmongGhosts
+            (off_of AmongHot AmongGhosts is (λ e. cc)) sound.ghost_ring;
         still = λ u stands. sound.still u (sym (alike stand_of stand_same u) ∙ stands);
         loading = λ u stands. sound.loading u (sym (alike stand_of stand_same u) ∙ stands);
       })
       IsStanding-reweighed rings after AmongCold is same sound = rw (same.1) (record {
-        hot_ring = IsRingOf-off rings.hot AmongHot (off_of AmongCold AmongHot is (λ e. cc)) sound.hot_ring;
-        cold_ring = IsRingOf-own rings.cold (record rings.cold { weight = after.cold.weight }) AmongCold is refl refl same.0 sound.cold_ring;
-        ghost_ring = IsRingOf-off rings.ghosts AmongGhosts (off_of AmongCold AmongGhosts is (λ e. cc)) sound.ghost_ring;
+        hot_ring = IsRingOf-off rings.hot AmongHot
+            (off_of AmongCold AmongHot is (λ e. cc)) sound.hot_ring;
+        cold_ring = IsRingOf-own rings.cold
+            (record rings.cold { weight = after.cold.weight }) AmongCold is refl refl same.0
+            sound.cold_ring;
+        ghost_ring = IsRingOf-off rings.ghosts AmongGhosts
+            (off_of AmongCold AmongGhosts is (λ e. cc)) sound.ghost_ring;
         still = λ u stands. sound.still u (sym (alike stand_of stand_same u) ∙ stands);
         loading = λ u stands. sound.loading u (sym (alike stand_of stand_same u) ∙ stands);
       })
-      IsStanding-reweighed rings after AmongGhosts is same sound = absurd (not_ghosts (item.weight == 0) item.queue (some_stand (sym (ap stand_of at) ∙ is)))
+      IsStanding-reweighed rings after AmongGhosts is same sound =
+          absurd (not_ghosts (item.weight == 0) item.queue (some_stand (sym (ap stand_of at) ∙ is)))
         where
           some_stand : {a b : Stand} → Some a ≡ Some b → a ≡ b
           some_stand e = cc
-      IsStanding-reweighed rings after AmongStill is same sound = rw same (beside is sound (λ e. cc) (λ e. cc) (λ e. cc))
-      IsStanding-reweighed rings after AmongLoading is same sound = rw same (beside is sound (λ e. cc) (λ e. cc) (λ e. cc))
+      IsStanding-reweighed rings after AmongStill is same sound =
+          rw same (beside is sound (λ e. cc) (λ e. cc) (λ e. cc))
+      IsStanding-reweighed rings after AmongLoading is same sound =
+          rw same (beside is sound (λ e. cc) (λ e. cc) (λ e. cc))
 
     -- no list changes but for the item
-    pub lists-reweighed : (table : Table) (rings after : Rings) (s : Stand) → ReweighsRing rings after item.weight (change item).weight s → lists_of (written hash (change item) t old) table after.hot after.cold after.ghosts ≡ with_change t change (lists_of old table rings.hot rings.cold rings.ghosts)
-    lists-reweighed table rings after AmongHot same = rw same.1 (lists-changed table rings.hot rings.cold rings.ghosts)
-    lists-reweighed table rings after AmongCold same = rw same.1 (lists-changed table rings.hot rings.cold rings.ghosts)
-    lists-reweighed table rings after AmongGhosts same = rw same (lists-changed table rings.hot rings.cold rings.ghosts)
-    lists-reweighed table rings after AmongStill same = rw same (lists-changed table rings.hot rings.cold rings.ghosts)
-    lists-reweighed table rings after AmongLoading same = rw same (lists-changed table rings.hot rings.cold rings.ghosts)
+    pub lists-reweighed : (table : Table) (rings after : Rings) (s : Stand)
+        → ReweighsRing rings after item.weight (change item).weight s
+        → lists_of (written hash (change item) t old) table after.hot after.cold after.ghosts
+        ≡ with_change t change (lists_of old table rings.hot rings.cold rings.ghosts)
+    lists-reweighed table rings after AmongHot same =
+        rw same.1 (lists-changed table rings.hot rings.cold rings.ghosts)
+    lists-reweighed table rings after AmongCold same =
+        rw same.1 (lists-changed table rings.hot rings.cold rings.ghosts)
+    lists-reweighed table rings after AmongGhosts same =
+        rw same (lists-changed table rings.hot rings.cold rings.ghosts)
+    lists-reweighed table rings after AmongStill same =
+        rw same (lists-changed table rings.hot rings.cold rings.ghosts)
+    lists-reweighed table rings after AmongLoading same =
+        rw same (lists-changed table rings.hot rings.cold rings.ghosts)
 
-    pub IsSound-reweighed : ((u w : ℕ) → times w (ring_from old u) ≤ 1) → (change item).weight < 18446744073709551616 → (table : Table) (rings after : Rings) (loading : ℕ) (s : Stand) → stand_of (item_at old t) ≡ Some s → ReweighsRing rings after item.weight (change item).weight s → IsSound old table rings loading → IsSound (written hash (change item) t old) table after loading
+    pub IsSound-reweighed : ((u w : ℕ) → times w (ring_from old u) ≤ 1)
+        → (change item).weight < 18446744073709551616
+        → (table : Table) (rings after : Rings) (loading : ℕ) (s : Stand)
+        → stand_of (item_at old t) ≡ Some s
+        → ReweighsRing rings after item.weight (change item).weight s
+        → IsSound old table rings loading
+        → IsSound (written hash (change item) t old) table after loading
     IsSound-reweighed single light table rings after loading s is reweighs sound =
         let same = lists-reweighed table rings after s reweighs in
         let before = lists_of old table rings.hot rings.cold rings.ghosts in
         record {
           standing = IsStanding-reweighed single rings after s is reweighs sound.standing;
           keyed = IsKeyed-changed light table sound.keyed;
-          loading_counted = sound.loading_counted ∙ sym (ap (λ (l : Lists K V P). length l.loading) same);
-          all_counted = ap entry_count same ∙ entry_count-change t change before ∙ sound.all_counted;
+          loading_counted = sound.loading_counted
+              ∙ sym (ap (λ (l : Lists K V P). length l.loading) same);
+          all_counted = ap entry_count same ∙ entry_count-change t change before
+              ∙ sound.all_counted;
         }
 
 module _ {S : Type 0} where
-  slots_same : (slots : List (Option S)) (t : ℕ) (x : Option S) → at_token slots t None ≡ x → with_token slots t x ≡ slots
+  slots_same : (slots : List (Option S)) (t : ℕ) (x : Option S) → at_token slots t None ≡ x
+      → with_token slots t x ≡ slots
   slots_same slots zero x is = refl
-  slots_same slots (suc i) x is = subst (λ (y : Option S). with_token slots (suc i) y ≡ slots) is (set-get_or slots i None)
+  slots_same slots (suc i) x is =
+      subst (λ (y : Option S). with_token slots (suc i) y ≡ slots) is (set-get_or slots i None)
 
   -- an item that is written as it was
-  pub with_item-same : (slab : LinkedSlab S) (t : ℕ) (x : S) → item_at slab t ≡ Some x → with_item slab t x ≡ slab
+  pub with_item-same : (slab : LinkedSlab S) (t : ℕ) (x : S) → item_at slab t ≡ Some x
+      → with_item slab t x ≡ slab
   with_item-same slab t x is = λ i. record slab { slots = slots_same slab.slots t (Some x) is i }
 
 module _ {K V P T : Type 0} where
-  pub lists-same : (slab : LinkedSlab (Slot K V P T)) (table : Table) (hot cold ghosts : Ring) (t : ℕ) (x y : Slot K V P T) → item_at slab t ≡ Some x → y ≡ x → lists_of (with_item slab t y) table hot cold ghosts ≡ lists_of slab table hot cold ghosts
+  pub lists-same : (slab : LinkedSlab (Slot K V P T)) (table : Table) (hot cold ghosts : Ring)
+      (t : ℕ) (x y : Slot K V P T) → item_at slab t ≡ Some x → y ≡ x
+      → lists_of (with_item slab t y) table hot cold ghosts ≡ lists_of slab table hot cold ghosts
   lists-same slab table hot cold ghosts t x y at same =
-      ap (λ (s : LinkedSlab (Slot K V P T)). lists_of s table hot cold ghosts) (ap (λ (z : Slot K V P T). with_item slab t z) same ∙ with_item-same slab t x at)
+      ap (λ (s : LinkedSlab (Slot K V P T)). lists_of s table hot cold ghosts)
+      (ap (λ (z : Slot K V P T). with_item slab t z) same ∙ with_item-same slab t x at)

@@ -26,14 +26,17 @@ times-count t (x ∷ xs) =
     elim (cases_Bool (eqb x t)) [
       | inl hit ↦
           let here : times t (x ∷ xs) ≡ 1 + times t xs = rw hit refl in
-          here ∙ ap (λ n. 1 + n) (times-count t xs) ∙ sym (counted ∙ ap (λ n. n + count_by (λ k. eqb k t) xs) (ap bit hit))
+          here ∙ ap (λ n. 1 + n) (times-count t xs)
+          ∙ sym (counted ∙ ap (λ n. n + count_by (λ k. eqb k t) xs) (ap bit hit))
       | inr miss ↦
           let here : times t (x ∷ xs) ≡ 0 + times t xs = rw miss refl in
-          here ∙ ap (λ n. 0 + n) (times-count t xs) ∙ sym (counted ∙ ap (λ n. n + count_by (λ k. eqb k t) xs) (ap bit miss))
+          here ∙ ap (λ n. 0 + n) (times-count t xs)
+          ∙ sym (counted ∙ ap (λ n. n + count_by (λ k. eqb k t) xs) (ap bit miss))
     ]
 
 module _ {K V : Type 0} where
-  pub held_still : (o : Option (HeldItem K V)) (held : HeldItem K V) → if_still o ≡ Some held → o ≡ Some held
+  pub held_still : (o : Option (HeldItem K V)) (held : HeldItem K V) → if_still o ≡ Some held
+      → o ≡ Some held
   held_still None held is = absurd (cc)
   held_still (Some y) held is = by_weight (y.item.weight == 0) is
     where
@@ -42,83 +45,163 @@ module _ {K V : Type 0} where
       by_weight false e = absurd (cc)
 
 module _ {K V P T : Type 0} where
-  under_held : (stands_for : K → Bool) (t : ℕ) (o : Option (Slot K V P T)) (held : HeldItem K V) → item_of t o ≡ Some held → (is_under_at stands_for o ≡ stands_for held.item.key) × ((h : ℕ) → has_hash h o ≡ eqb held.hash h)
+  under_held : (stands_for : K → Bool) (t : ℕ) (o : Option (Slot K V P T)) (held : HeldItem K V)
+      → item_of t o ≡ Some held → (is_under_at stands_for o ≡ stands_for held.item.key)
+      × ((h : ℕ) → has_hash h o ≡ eqb held.hash h)
   under_held stands_for t None held is = absurd (cc)
   under_held stands_for t (Some slot) held is = by_entry slot.hash slot.entry is
     where
-      by_entry : (hash : ℕ) (entry : Entry K V P T) → item_of t (Some (record { hash = hash; entry = entry })) ≡ Some held → (is_under_at stands_for (Some (record { hash = hash; entry = entry })) ≡ stands_for held.item.key) × ((h : ℕ) → has_hash h (Some (record { hash = hash; entry = entry })) ≡ eqb held.hash h)
-      by_entry hash (item_variant item) e = let same : record { token = t; hash = hash; item = item } ≡ held = cc in (ap (λ (y : HeldItem K V). stands_for y.item.key) same, λ h. ap (λ (y : HeldItem K V). eqb y.hash h) same)
+      by_entry : (hash : ℕ) (entry : Entry K V P T)
+          → item_of t (Some (record { hash = hash; entry = entry })) ≡ Some held
+          → (is_under_at stands_for (Some (record { hash = hash; entry = entry }))
+          ≡ stands_for held.item.key) × ((h : ℕ)
+          → has_hash h (Some (record { hash = hash; entry = entry })) ≡ eqb held.hash h)
+      by_entry hash (item_variant item) e =
+          let same : record { token = t; hash = hash; item = item } ≡ held =
+          cc in (
+            ap (λ (y : HeldItem K V). stands_for y.item.key) same,
+            λ h. ap
+                (λ (y : HeldItem K V). eqb y.hash h) same,
+          )
       by_entry hash (loading_variant awaited) e = absurd (cc)
       by_entry hash ghost_variant e = absurd (cc)
 
-  under_waiting : (stands_for : K → Bool) (t : ℕ) (o : Option (Slot K V P T)) (waiting : HeldLoading K P) → loading_of t o ≡ Some waiting → (is_under_at stands_for o ≡ stands_for waiting.key) × ((h : ℕ) → has_hash h o ≡ eqb waiting.hash h)
+  under_waiting : (stands_for : K → Bool) (t : ℕ) (o : Option (Slot K V P T))
+      (waiting : HeldLoading K P) → loading_of t o ≡ Some waiting
+      → (is_under_at stands_for o ≡ stands_for waiting.key)
+      × ((h : ℕ) → has_hash h o ≡ eqb waiting.hash h)
   under_waiting stands_for t None waiting is = absurd (cc)
   under_waiting stands_for t (Some slot) waiting is = by_entry slot.hash slot.entry is
     where
-      by_entry : (hash : ℕ) (entry : Entry K V P T) → loading_of t (Some (record { hash = hash; entry = entry })) ≡ Some waiting → (is_under_at stands_for (Some (record { hash = hash; entry = entry })) ≡ stands_for waiting.key) × ((h : ℕ) → has_hash h (Some (record { hash = hash; entry = entry })) ≡ eqb waiting.hash h)
+      by_entry : (hash : ℕ) (entry : Entry K V P T)
+          → loading_of t (Some (record { hash = hash; entry = entry })) ≡ Some waiting
+          → (is_under_at stands_for (Some (record { hash = hash; entry = entry }))
+          ≡ stands_for waiting.key) × ((h : ℕ)
+          → has_hash h (Some (record { hash = hash; entry = entry })) ≡ eqb waiting.hash h)
       by_entry hash (item_variant item) e = absurd (cc)
-      by_entry hash (loading_variant awaited) e = let same : record { token = t; hash = hash; key = awaited.key; queue = awaited.queue; placeholder = awaited.placeholder } ≡ waiting = cc in (ap (λ (y : HeldLoading K P). stands_for y.key) same, λ h. ap (λ (y : HeldLoading K P). eqb y.hash h) same)
+      by_entry hash (loading_variant awaited) e =
+          let same : record {
+            token = t;
+            hash = hash;
+            key = awaited.key;
+            queue = awaited.queue;
+            placeholder = awaited.placeholder;
+          }
+          ≡ waiting = cc in (
+            ap (λ (y : HeldLoading K P). stands_for y.key) same,
+            λ h. ap
+                (λ (y : HeldLoading K P). eqb y.hash h) same,
+          )
       by_entry hash ghost_variant e = absurd (cc)
 
-  ghost_shade : (t : ℕ) (o : Option (Slot K V P T)) (shade : HeldGhost) → ghost_of t o ≡ Some shade → (is_ghost_at o ≡ true) × ((h : ℕ) → has_hash h o ≡ eqb shade.hash h)
+  ghost_shade : (t : ℕ) (o : Option (Slot K V P T)) (shade : HeldGhost) → ghost_of t o ≡ Some shade
+      → (is_ghost_at o ≡ true) × ((h : ℕ) → has_hash h o ≡ eqb shade.hash h)
   ghost_shade t None shade is = absurd (cc)
   ghost_shade t (Some slot) shade is = by_entry slot.hash slot.entry is
     where
-      by_entry : (hash : ℕ) (entry : Entry K V P T) → ghost_of t (Some (record { hash = hash; entry = entry })) ≡ Some shade → (is_ghost_at (Some (record { hash = hash; entry = entry })) ≡ true) × ((h : ℕ) → has_hash h (Some (record { hash = hash; entry = entry })) ≡ eqb shade.hash h)
+      by_entry : (hash : ℕ) (entry : Entry K V P T)
+          → ghost_of t (Some (record { hash = hash; entry = entry })) ≡ Some shade
+          → (is_ghost_at (Some (record { hash = hash; entry = entry })) ≡ true)
+          × ((h : ℕ) → has_hash h (Some (record { hash = hash; entry = entry })) ≡ eqb shade.hash h)
       by_entry hash (item_variant item) e = absurd (cc)
       by_entry hash (loading_variant awaited) e = absurd (cc)
-      by_entry hash ghost_variant e = let same : record { token = t; hash = hash } ≡ shade = cc in (refl, λ h. ap (λ (y : HeldGhost). eqb y.hash h) same)
+      by_entry hash ghost_variant e = let same : record { token = t; hash = hash } ≡ shade =
+          cc in (refl, λ h. ap (λ (y : HeldGhost). eqb y.hash h) same)
 
-  module _ (slab : LinkedSlab (Slot K V P T)) (table : Table) (hot cold ghosts : Ring) (sound : IsStanding slab hot cold ghosts) (keyed : IsKeyed slab table) (stands_for : K → Bool) (hash : ℕ) where
-    hashed : (t h : ℕ) (o : Option (Slot K V P T)) → item_at slab t ≡ o → has_hash hash o ≡ eqb h hash → h ≡ hash → HasPair table hash t
+  module _ (slab : LinkedSlab (Slot K V P T)) (table : Table) (hot cold ghosts : Ring)
+      (sound : IsStanding slab hot cold ghosts) (keyed : IsKeyed slab table) (stands_for : K → Bool)
+      (hash : ℕ) where
+    hashed : (t h : ℕ) (o : Option (Slot K V P T)) → item_at slab t ≡ o
+        → has_hash hash o ≡ eqb h hash → h ≡ hash → HasPair table hash t
     hashed t h o at is same = keyed.pairs hash t ∙ ap (has_hash hash) at ∙ is ∙ eq-eqb h hash same
 
-    pub HasNoKey-from : ((t : ℕ) → HasPair table hash t → is_under_at stands_for (item_at slab t) ≡ false) → HasNoKey stands_for hash (lists_of slab table hot cold ghosts)
+    pub HasNoKey-from : ((t : ℕ) → HasPair table hash t
+        → is_under_at stands_for (item_at slab t) ≡ false)
+        → HasNoKey stands_for hash (lists_of slab table hot cold ghosts)
     HasNoKey-from none = record {
-      hot = gather-all (λ held. held.hash ≡ hash → stands_for held.item.key ≡ false) (λ token. item_of token (item_at slab token)) (tokens_of slab hot.head) (λ t y some is. of_held t y is);
-      cold = gather-all (λ held. held.hash ≡ hash → stands_for held.item.key ≡ false) (λ token. item_of token (item_at slab token)) (tokens_of slab cold.head) (λ t y some is. of_held t y is);
-      still = gather-all (λ held. held.hash ≡ hash → stands_for held.item.key ≡ false) (λ token. still_of token (item_at slab token)) (upto (length slab.slots)) (λ t y some is. of_held t y (held_still _ y is));
-      loading = gather-all (λ waiting. waiting.hash ≡ hash → stands_for waiting.key ≡ false) (λ token. loading_of token (item_at slab token)) (upto (length slab.slots)) (λ t y some is same.
+      hot = gather-all (λ held. held.hash ≡ hash → stands_for held.item.key ≡ false)
+          (λ token. item_of token (item_at slab token)) (tokens_of slab hot.head)
+          (λ t y some is. of_held t y is);
+      cold = gather-all (λ held. held.hash ≡ hash → stands_for held.item.key ≡ false)
+          (λ token. item_of token (item_at slab token)) (tokens_of slab cold.head)
+          (λ t y some is. of_held t y is);
+      still = gather-all (λ held. held.hash ≡ hash → stands_for held.item.key ≡ false)
+          (λ token. still_of token (item_at slab token)) (upto (length slab.slots))
+          (λ t y some is. of_held t y (held_still _ y is));
+      loading = gather-all (λ waiting. waiting.hash ≡ hash → stands_for waiting.key ≡ false)
+          (λ token. loading_of token (item_at slab token)) (upto (length slab.slots))
+          (λ t y some is same.
           let meant = under_waiting stands_for t (item_at slab t) y is in
           sym meant.0 ∙ none t (hashed t y.hash (item_at slab t) refl (meant.1 hash) same));
     }
       where
-        of_held : (t : ℕ) (held : HeldItem K V) → item_of t (item_at slab t) ≡ Some held → held.hash ≡ hash → stands_for held.item.key ≡ false
+        of_held : (t : ℕ) (held : HeldItem K V) → item_of t (item_at slab t) ≡ Some held
+            → held.hash ≡ hash → stands_for held.item.key ≡ false
         of_held t held is same =
             let meant = under_held stands_for t (item_at slab t) held is in
             sym meant.0 ∙ none t (hashed t held.hash (item_at slab t) refl (meant.1 hash) same)
 
-    pub HasNothing-from : ((t : ℕ) → HasPair table hash t → is_under_at stands_for (item_at slab t) ≡ false) → ((t : ℕ) → HasPair table hash t → is_ghost_at (item_at slab t) ≡ false) → HasNothing stands_for hash (lists_of slab table hot cold ghosts)
+    pub HasNothing-from : ((t : ℕ) → HasPair table hash t
+        → is_under_at stands_for (item_at slab t) ≡ false)
+        → ((t : ℕ) → HasPair table hash t → is_ghost_at (item_at slab t) ≡ false)
+        → HasNothing stands_for hash (lists_of slab table hot cold ghosts)
     HasNothing-from none no_ghost = record {
       keys = HasNoKey-from none;
-      ghosts = gather-all (λ shade. shade.hash ≢ hash) (λ token. ghost_of token (item_at slab token)) (tokens_of slab ghosts.head) (λ t y some is same.
+      ghosts = gather-all (λ shade. shade.hash ≢ hash)
+          (λ token. ghost_of token (item_at slab token)) (tokens_of slab ghosts.head)
+          (λ t y some is same.
           let meant = ghost_shade t (item_at slab t) y is in
-          true≢false (sym meant.0 ∙ no_ghost t (hashed t y.hash (item_at slab t) refl (meant.1 hash) same)));
+          true≢false (sym meant.0 ∙ no_ghost t
+          (hashed t y.hash (item_at slab t) refl (meant.1 hash) same)));
     }
 
-    pub FindsItem-from : (t : ℕ) → HasPair table hash t → is_under_at stands_for (item_at slab t) ≡ true → is_item_at (item_at slab t) ≡ true → FindsItem stands_for hash (lists_of slab table hot cold ghosts) t
-    FindsItem-from t has passes item = by_slot (item_at slab t) refl (sym (keyed.pairs hash t) ∙ has) passes item
+    pub FindsItem-from : (t : ℕ) → HasPair table hash t
+        → is_under_at stands_for (item_at slab t) ≡ true → is_item_at (item_at slab t) ≡ true
+        → FindsItem stands_for hash (lists_of slab table hot cold ghosts) t
+    FindsItem-from t has passes item =
+        by_slot (item_at slab t) refl (sym (keyed.pairs hash t) ∙ has) passes item
       where
-        by_entry : (h : ℕ) (entry : Entry K V P T) → item_at slab t ≡ Some (record { hash = h; entry = entry }) → eqb h hash ≡ true → is_under_at stands_for (Some (record { hash = h; entry = entry })) ≡ true → is_item_at (Some (record { hash = h; entry = entry })) ≡ true → FindsItem stands_for hash (lists_of slab table hot cold ghosts) t
+        by_entry : (h : ℕ) (entry : Entry K V P T)
+            → item_at slab t ≡ Some (record { hash = h; entry = entry }) → eqb h hash ≡ true
+            → is_under_at stands_for (Some (record { hash = h; entry = entry })) ≡ true
+            → is_item_at (Some (record { hash = h; entry = entry })) ≡ true
+            → FindsItem stands_for hash (lists_of slab table hot cold ghosts) t
         by_entry h (item_variant i) at same under is = record {
           item = i;
-          stands = HasItem-from slab table hot cold ghosts sound t hash i (at ∙ ap (λ n. Some (record { hash = n; entry = item_variant i })) (eqb-true h hash same));
+          stands = HasItem-from slab table hot cold ghosts sound t hash i
+              (at ∙ ap (λ n. Some (record { hash = n; entry = item_variant i }))
+              (eqb-true h hash same));
           passes = under;
         }
         by_entry h (loading_variant w) at same under is = absurd (true≢false (sym is))
         by_entry h ghost_variant at same under is = absurd (true≢false (sym is))
 
-        by_slot : (o : Option (Slot K V P T)) → item_at slab t ≡ o → has_hash hash o ≡ true → is_under_at stands_for o ≡ true → is_item_at o ≡ true → FindsItem stands_for hash (lists_of slab table hot cold ghosts) t
+        by_slot : (o : Option (Slot K V P T)) → item_at slab t ≡ o → has_hash hash o ≡ true
+            → is_under_at stands_for o ≡ true → is_item_at o ≡ true
+            → FindsItem stands_for hash (lists_of slab table hot cold ghosts) t
         by_slot None at same under is = absurd (true≢false (sym is))
         by_slot (Some slot) at same under is = by_entry slot.hash slot.entry at same under is
 
-    pub FindsLoading-from : (t : ℕ) → HasPair table hash t → is_under_at stands_for (item_at slab t) ≡ true → is_item_at (item_at slab t) ≡ false → FindsLoading stands_for hash (lists_of slab table hot cold ghosts) t
-    FindsLoading-from t has passes item = by_slot (item_at slab t) refl (sym (keyed.pairs hash t) ∙ has) passes item
+    pub FindsLoading-from : (t : ℕ) → HasPair table hash t
+        → is_under_at stands_for (item_at slab t) ≡ true → is_item_at (item_at slab t) ≡ false
+        → FindsLoading stands_for hash (lists_of slab table hot cold ghosts) t
+    FindsLoading-from t has passes item =
+        by_slot (item_at slab t) refl (sym (keyed.pairs hash t) ∙ has) passes item
       where
-        by_entry : (h : ℕ) (entry : Entry K V P T) → item_at slab t ≡ Some (record { hash = h; entry = entry }) → eqb h hash ≡ true → is_under_at stands_for (Some (record { hash = h; entry = entry })) ≡ true → is_item_at (Some (record { hash = h; entry = entry })) ≡ false → FindsLoading stands_for hash (lists_of slab table hot cold ghosts) t
+        by_entry : (h : ℕ) (entry : Entry K V P T)
+            → item_at slab t ≡ Some (record { hash = h; entry = entry }) → eqb h hash ≡ true
+            → is_under_at stands_for (Some (record { hash = h; entry = entry })) ≡ true
+            → is_item_at (Some (record { hash = h; entry = entry })) ≡ false
+            → FindsLoading stands_for hash (lists_of slab table hot cold ghosts) t
         by_entry h (item_variant i) at same under is = absurd (true≢false is)
         by_entry h (loading_variant w) at same under is = record {
-          waiting = record { token = t; hash = h; key = w.key; queue = w.queue; placeholder = w.placeholder };
+          waiting = record {
+            token = t;
+            hash = h;
+            key = w.key;
+            queue = w.queue;
+            placeholder = w.placeholder;
+          };
           named = refl;
           hashed = eqb-true h hash same;
           stands = StandsIn-loading slab table hot cold ghosts sound t _ _ at refl;
@@ -126,31 +209,49 @@ module _ {K V P T : Type 0} where
         }
         by_entry h ghost_variant at same under is = absurd (true≢false (sym under))
 
-        by_slot : (o : Option (Slot K V P T)) → item_at slab t ≡ o → has_hash hash o ≡ true → is_under_at stands_for o ≡ true → is_item_at o ≡ false → FindsLoading stands_for hash (lists_of slab table hot cold ghosts) t
+        by_slot : (o : Option (Slot K V P T)) → item_at slab t ≡ o → has_hash hash o ≡ true
+            → is_under_at stands_for o ≡ true → is_item_at o ≡ false
+            → FindsLoading stands_for hash (lists_of slab table hot cold ghosts) t
         by_slot None at same under is = absurd (true≢false (sym under))
         by_slot (Some slot) at same under is = by_entry slot.hash slot.entry at same under is
 
-    pub StandsIn-found : (t : ℕ) → HasPair table hash t → is_ghost_at (item_at slab t) ≡ true → StandsIn (gather (λ token. ghost_of token (item_at slab token)) (tokens_of slab ghosts.head)) (record { token = t; hash = hash })
-    StandsIn-found t has is_ghost = by_slot (item_at slab t) refl (sym (keyed.pairs hash t) ∙ has) is_ghost
+    pub StandsIn-found : (t : ℕ) → HasPair table hash t → is_ghost_at (item_at slab t) ≡ true
+        → StandsIn (gather (λ token. ghost_of token (item_at slab token))
+        (tokens_of slab ghosts.head)) (record { token = t; hash = hash })
+    StandsIn-found t has is_ghost =
+        by_slot (item_at slab t) refl (sym (keyed.pairs hash t) ∙ has) is_ghost
       where
-        by_entry : (h : ℕ) (entry : Entry K V P T) → item_at slab t ≡ Some (record { hash = h; entry = entry }) → eqb h hash ≡ true → is_ghost_at (Some (record { hash = h; entry = entry })) ≡ true → StandsIn (gather (λ token. ghost_of token (item_at slab token)) (tokens_of slab ghosts.head)) (record { token = t; hash = hash })
+        by_entry : (h : ℕ) (entry : Entry K V P T)
+            → item_at slab t ≡ Some (record { hash = h; entry = entry }) → eqb h hash ≡ true
+            → is_ghost_at (Some (record { hash = h; entry = entry })) ≡ true
+            → StandsIn (gather (λ token. ghost_of token (item_at slab token))
+            (tokens_of slab ghosts.head)) (record { token = t; hash = hash })
         by_entry h (item_variant i) at same is = absurd (true≢false (sym is))
         by_entry h (loading_variant w) at same is = absurd (true≢false (sym is))
         by_entry h ghost_variant at same is =
-            StandsIn-ghosts slab table hot cold ghosts sound t hash (at ∙ ap (λ n. Some (record { hash = n; entry = ghost_variant })) (eqb-true h hash same))
+            StandsIn-ghosts slab table hot cold ghosts sound t hash
+            (at ∙ ap (λ n. Some (record { hash = n; entry = ghost_variant }))
+            (eqb-true h hash same))
 
-        by_slot : (o : Option (Slot K V P T)) → item_at slab t ≡ o → has_hash hash o ≡ true → is_ghost_at o ≡ true → StandsIn (gather (λ token. ghost_of token (item_at slab token)) (tokens_of slab ghosts.head)) (record { token = t; hash = hash })
+        by_slot : (o : Option (Slot K V P T)) → item_at slab t ≡ o → has_hash hash o ≡ true
+            → is_ghost_at o ≡ true → StandsIn
+            (gather (λ token. ghost_of token (item_at slab token)) (tokens_of slab ghosts.head))
+            (record { token = t; hash = hash })
         by_slot None at same is = absurd (true≢false (sym is))
         by_slot (Some slot) at same is = by_entry slot.hash slot.entry at same is
 
-  module _ (slab : LinkedSlab (Slot K V P T)) (table : Table) (hash : ℕ) (stands_for : K → Bool) where
-    counted_pair : (tokens : List ℕ) (t : ℕ) → IsTokensOf table hash tokens → ((has_pair table hash t ≡ true) × (times t tokens ≡ 1)) ⊎ ((has_pair table hash t ≡ false) × (times t tokens ≡ 0))
+  module _ (slab : LinkedSlab (Slot K V P T)) (table : Table) (hash : ℕ)
+      (stands_for : K → Bool) where
+    counted_pair : (tokens : List ℕ) (t : ℕ) → IsTokensOf table hash tokens
+        → ((has_pair table hash t ≡ true) × (times t tokens ≡ 1))
+        ⊎ ((has_pair table hash t ≡ false) × (times t tokens ≡ 0))
     counted_pair tokens t are = elim (cases_Bool (has_pair table hash t)) [
       | inl has ↦ inl (has, times-count t tokens ∙ are t ∙ rw has refl)
       | inr misses ↦ inr (misses, times-count t tokens ∙ are t ∙ rw misses refl)
     ]
 
-    pub IsWalked-start : (tokens : List ℕ) → IsTokensOf table hash tokens → IsWalked slab table hash stands_for tokens None
+    pub IsWalked-start : (tokens : List ℕ) → IsTokensOf table hash tokens
+        → IsWalked slab table hash stands_for tokens None
     IsWalked-start tokens are = record {
       left_has = λ t some. elim (counted_pair tokens t are) [
         | inl has ↦ has.0
@@ -163,34 +264,61 @@ module _ {K V P T : Type 0} where
       noted = tt;
     }
 
-    pub IsWalked-past : (tokens rest : List ℕ) (token : Token) (shade noted : Option Token) → tokens ≡ non_zero_u32_get token ∷ rest → is_under_at stands_for (item_at slab (non_zero_u32_get token)) ≡ false → (is_ghost_at (item_at slab (non_zero_u32_get token)) ≡ true → noted ≢ None) → (shade ≢ None → noted ≢ None) → IfSome noted (λ t. HasPair table hash (non_zero_u32_get t) × (is_ghost_at (item_at slab (non_zero_u32_get t)) ≡ true)) → IsWalked slab table hash stands_for tokens shade → IsWalked slab table hash stands_for rest noted
+    pub IsWalked-past : (tokens rest : List ℕ) (token : Token) (shade noted : Option Token)
+        → tokens ≡ non_zero_u32_get token ∷ rest
+        → is_under_at stands_for (item_at slab (non_zero_u32_get token)) ≡ false
+        → (is_ghost_at (item_at slab (non_zero_u32_get token)) ≡ true → noted ≢ None)
+        → (shade ≢ None → noted ≢ None)
+        → IfSome noted (λ t. HasPair table hash (non_zero_u32_get t)
+        × (is_ghost_at (item_at slab (non_zero_u32_get t)) ≡ true))
+        → IsWalked slab table hash stands_for tokens shade
+        → IsWalked slab table hash stands_for rest noted
     IsWalked-past tokens rest token shade noted first differs here still notes walked = record {
       left_has = λ t some. walked.left_has t (rw first (omega arith));
       passed = λ t has none. elim (cases_eq (non_zero_u32_get token) t) [
-        | inl same ↦ (subst (λ (u : ℕ). is_under_at stands_for (item_at slab u) ≡ false) same differs, subst (λ (u : ℕ). is_ghost_at (item_at slab u) ≡ true → noted ≢ None) same here)
+        | inl same ↦ (
+          subst (λ (u : ℕ). is_under_at stands_for (item_at slab u) ≡ false) same
+              differs,
+          subst (λ (u : ℕ). is_ghost_at (item_at slab u) ≡ true → noted ≢ None) same
+              here,
+        )
         | inr other ↦
-            let was = walked.passed t has (rw first (omega (arith, times-other t (non_zero_u32_get token) rest other))) in
+            let was = walked.passed t has (rw first
+            (omega (arith, times-other t (non_zero_u32_get token) rest other))) in
             (was.0, λ is. still (was.1 is))
       ];
       noted = notes;
     }
 
-    pub IsWalked-has : (tokens rest : List ℕ) (token : Token) (shade : Option Token) → tokens ≡ non_zero_u32_get token ∷ rest → IsWalked slab table hash stands_for tokens shade → HasPair table hash (non_zero_u32_get token)
+    pub IsWalked-has : (tokens rest : List ℕ) (token : Token) (shade : Option Token)
+        → tokens ≡ non_zero_u32_get token ∷ rest → IsWalked slab table hash stands_for tokens shade
+        → HasPair table hash (non_zero_u32_get token)
     IsWalked-has tokens rest token shade first walked =
-        walked.left_has (non_zero_u32_get token) (rw first (omega (arith, times-here (non_zero_u32_get token) rest)))
+        walked.left_has (non_zero_u32_get token)
+        (rw first (omega (arith, times-here (non_zero_u32_get token) rest)))
 
-    pub IsWalked-none : (tokens : List ℕ) (shade : Option Token) → tokens ≡ [] → IsWalked slab table hash stands_for tokens shade → (t : ℕ) → HasPair table hash t → is_under_at stands_for (item_at slab t) ≡ false
+    pub IsWalked-none : (tokens : List ℕ) (shade : Option Token) → tokens ≡ []
+        → IsWalked slab table hash stands_for tokens shade → (t : ℕ) → HasPair table hash t
+        → is_under_at stands_for (item_at slab t) ≡ false
     IsWalked-none tokens shade end walked t has = (walked.passed t has (rw end refl)).0
 
-    pub IsWalked-ghostless : (tokens : List ℕ) (shade : Option Token) → tokens ≡ [] → shade ≡ None → IsWalked slab table hash stands_for tokens shade → (t : ℕ) → HasPair table hash t → is_ghost_at (item_at slab t) ≡ false
-    IsWalked-ghostless tokens shade end unseen walked t has = elim (cases_Bool (is_ghost_at (item_at slab t))) [
-      | inl is ↦ absurd ((walked.passed t has (rw end refl)).1 is unseen)
-      | inr isnt ↦ isnt
-    ]
+    pub IsWalked-ghostless : (tokens : List ℕ) (shade : Option Token) → tokens ≡ [] → shade ≡ None
+        → IsWalked slab table hash stands_for tokens shade → (t : ℕ) → HasPair table hash t
+        → is_ghost_at (item_at slab t) ≡ false
+    IsWalked-ghostless tokens shade end unseen walked t has =
+        elim (cases_Bool (is_ghost_at (item_at slab t))) [
+          | inl is ↦ absurd ((walked.passed t has (rw end refl)).1 is unseen)
+          | inr isnt ↦ isnt
+        ]
 
-    pub IsWalked-noted : (tokens : List ℕ) (shade : Option Token) (token : Token) → shade ≡ Some token → IsWalked slab table hash stands_for tokens shade → HasPair table hash (non_zero_u32_get token) × (is_ghost_at (item_at slab (non_zero_u32_get token)) ≡ true)
+    pub IsWalked-noted : (tokens : List ℕ) (shade : Option Token) (token : Token)
+        → shade ≡ Some token → IsWalked slab table hash stands_for tokens shade
+        → HasPair table hash (non_zero_u32_get token)
+        × (is_ghost_at (item_at slab (non_zero_u32_get token)) ≡ true)
     IsWalked-noted tokens shade token seen walked =
-        subst (λ (o : Option Token). IfSome o (λ t. HasPair table hash (non_zero_u32_get t) × (is_ghost_at (item_at slab (non_zero_u32_get t)) ≡ true))) seen walked.noted
+        subst (λ (o : Option Token). IfSome o
+        (λ t. HasPair table hash (non_zero_u32_get t)
+        × (is_ghost_at (item_at slab (non_zero_u32_get t)) ≡ true))) seen walked.noted
 
 module _ {K V P T : Type 0} where
   hashed_some : (hash : ℕ) (o : Option (Slot K V P T)) → has_hash hash o ≡ true → IsSome o
@@ -198,5 +326,7 @@ module _ {K V P T : Type 0} where
   hashed_some hash (Some slot) is = refl
 
   -- a token of the table has an entry
-  pub occupied_by_pair : (slab : LinkedSlab (Slot K V P T)) (table : Table) → IsKeyed slab table → (hash t : ℕ) → HasPair table hash t → IsOccupied slab t
-  occupied_by_pair slab table keyed hash t has = hashed_some hash (item_at slab t) (sym (keyed.pairs hash t) ∙ has)
+  pub occupied_by_pair : (slab : LinkedSlab (Slot K V P T)) (table : Table) → IsKeyed slab table
+      → (hash t : ℕ) → HasPair table hash t → IsOccupied slab t
+  occupied_by_pair slab table keyed hash t has =
+      hashed_some hash (item_at slab t) (sym (keyed.pairs hash t) ∙ has)

@@ -18,42 +18,66 @@ use Rattle.quick_cache_lists.proofs.StandLemmas.{HasItem-from}
 use Rattle.quick_cache_lists.proofs.TakeLemmas.{named_item}
 
 module _ {K V P T : Type 0} where
-  slot_by_held : (u : ℕ) (o : Option (Slot K V P T)) (held : HeldItem K V) → item_of u o ≡ Some held → (hash : ℕ) × (item : Item K V) × (o ≡ Some (record { hash = hash; entry = item_variant item }))
+  slot_by_held : (u : ℕ) (o : Option (Slot K V P T)) (held : HeldItem K V) → item_of u o ≡ Some held
+      → (hash : ℕ) × (item : Item K V)
+      × (o ≡ Some (record { hash = hash; entry = item_variant item }))
   slot_by_held u None held is = absurd (cc)
   slot_by_held u (Some slot) held is = by_entry slot.hash slot.entry is
     where
-      by_entry : (hash : ℕ) (entry : Entry K V P T) → item_of u (Some (record { hash = hash; entry = entry })) ≡ Some held → (h : ℕ) × (item : Item K V) × ◌≡◌ {A = Option (Slot K V P T)} (Some (record { hash = hash; entry = entry })) (Some (record { hash = h; entry = item_variant item }))
+      by_entry : (hash : ℕ) (entry : Entry K V P T)
+          → item_of u (Some (record { hash = hash; entry = entry })) ≡ Some held → (h : ℕ)
+          × (item : Item K V) × ◌≡◌ {A = Option (Slot K V P T)}
+          (Some (record { hash = hash; entry = entry }))
+          (Some (record { hash = h; entry = item_variant item }))
       by_entry hash (item_variant item) e = (hash, item, refl)
       by_entry hash (loading_variant awaited) e = absurd (cc)
       by_entry hash ghost_variant e = absurd (cc)
 
   module _ (slab : LinkedSlab (Slot K V P T)) (table : Table) (hot cold ghosts : Ring) where
-    pub item_by_token : (t : ℕ) → HasItemToken (lists_of slab table hot cold ghosts) t → (hash : ℕ) × (item : Item K V) × (item_at slab t ≡ Some (record { hash = hash; entry = item_variant item }))
+    pub item_by_token : (t : ℕ) → HasItemToken (lists_of slab table hot cold ghosts) t → (hash : ℕ)
+        × (item : Item K V) × (item_at slab t
+        ≡ Some (record { hash = hash; entry = item_variant item }))
     item_by_token t has = by_place has.0 has.1.place has.1.stands has.2
       where
-        found : (u : ℕ) (held : HeldItem K V) → item_of u (item_at slab u) ≡ Some held → held.token ≡ t → (hash : ℕ) × (item : Item K V) × (item_at slab t ≡ Some (record { hash = hash; entry = item_variant item }))
-        found u held is at = rw (sym (named_item u (item_at slab u) held is) ∙ at) at (slot_by_held u (item_at slab u) held is)
+        found : (u : ℕ) (held : HeldItem K V) → item_of u (item_at slab u) ≡ Some held
+            → held.token ≡ t → (hash : ℕ) × (item : Item K V)
+            × (item_at slab t ≡ Some (record { hash = hash; entry = item_variant item }))
+        found u held is at = rw (sym (named_item u (item_at slab u) held is) ∙ at) at
+            (slot_by_held u (item_at slab u) held is)
 
-        by_place : (held : HeldItem K V) (place : Place) → StandsIn (items_at place (lists_of slab table hot cold ghosts)) held → held.token ≡ t → (hash : ℕ) × (item : Item K V) × (item_at slab t ≡ Some (record { hash = hash; entry = item_variant item }))
+        by_place : (held : HeldItem K V) (place : Place)
+            → StandsIn (items_at place (lists_of slab table hot cold ghosts)) held → held.token ≡ t
+            → (hash : ℕ) × (item : Item K V)
+            × (item_at slab t ≡ Some (record { hash = hash; entry = item_variant item }))
         by_place held InHot there e =
-            let at = gather-from (λ u. item_of u (item_at slab u)) (tokens_of slab hot.head) held there in
+            let at = gather-from (λ u. item_of u (item_at slab u))
+            (tokens_of slab hot.head) held there in
             found at.0 held at.2 e
         by_place held InCold there e =
-            let at = gather-from (λ u. item_of u (item_at slab u)) (tokens_of slab cold.head) held there in
+            let at = gather-from (λ u. item_of u (item_at slab u))
+            (tokens_of slab cold.head) held there in
             found at.0 held at.2 e
         by_place held InStill there e =
-            let at = gather-from (λ u. still_of u (item_at slab u)) (upto (length slab.slots)) held there in
+            let at = gather-from (λ u. still_of u (item_at slab u))
+            (upto (length slab.slots)) held there in
             found at.0 held (held_still (item_of at.0 (item_at slab at.0)) held at.2) e
 
-  pub item_is : (o : Option (Slot K V P T)) (slot : Slot K V P T) (hash : ℕ) (item : Item K V) → o ≡ Some (record { hash = hash; entry = item_variant item }) → o ≡ Some slot → slot.entry ≡ item_variant item
+  pub item_is : (o : Option (Slot K V P T)) (slot : Slot K V P T) (hash : ℕ) (item : Item K V)
+      → o ≡ Some (record { hash = hash; entry = item_variant item }) → o ≡ Some slot
+      → slot.entry ≡ item_variant item
   item_is o slot hash item is at =
       let same : slot ≡ record { hash = hash; entry = item_variant item } = cc in
       ap (λ (s : Slot K V P T). s.entry) same
 
-  pub slot_is : (o : Option (Slot K V P T)) (slot : Slot K V P T) (hash : ℕ) (item : Item K V) → o ≡ Some (record { hash = hash; entry = item_variant item }) → o ≡ Some slot → slot ≡ record { hash = hash; entry = item_variant item }
+  pub slot_is : (o : Option (Slot K V P T)) (slot : Slot K V P T) (hash : ℕ) (item : Item K V)
+      → o ≡ Some (record { hash = hash; entry = item_variant item }) → o ≡ Some slot
+      → slot ≡ record { hash = hash; entry = item_variant item }
   slot_is o slot hash item is at = cc
 
-  pub lists-reserved : (old new : LinkedSlab (Slot K V P T)) (told tnew : Table) (hot cold ghosts : Ring) → new ≡ record old { room = new.room } → lists_of new tnew hot cold ghosts ≡ record (lists_of old told hot cold ghosts) { room = room_of new tnew }
+  pub lists-reserved : (old new : LinkedSlab (Slot K V P T)) (told tnew : Table)
+      (hot cold ghosts : Ring) → new ≡ record old { room = new.room }
+      → lists_of new tnew hot cold ghosts
+      ≡ record (lists_of old told hot cold ghosts) { room = room_of new tnew }
   lists-reserved old new told tnew hot cold ghosts kept = λ i. record {
     hot = gather (λ u. item_of u (item_at (kept i) u)) (tokens_of (kept i) hot.head);
     cold = gather (λ u. item_of u (item_at (kept i) u)) (tokens_of (kept i) cold.head);
@@ -64,7 +88,9 @@ module _ {K V P T : Type 0} where
     room = room_of new tnew;
   }
 
-  pub IsSound-room : (slab : LinkedSlab (Slot K V P T)) (room : ℕ) (told tnew : Table) (rings : Rings) (loading : ℕ) → tnew.pairs ≡ told.pairs → IsSound slab told rings loading → IsSound (record slab { room = room }) tnew rings loading
+  pub IsSound-room : (slab : LinkedSlab (Slot K V P T)) (room : ℕ) (told tnew : Table)
+      (rings : Rings) (loading : ℕ) → tnew.pairs ≡ told.pairs → IsSound slab told rings loading
+      → IsSound (record slab { room = room }) tnew rings loading
   IsSound-room slab room told tnew rings loading same_pairs sound = record {
     standing = record {
       hot_ring = kept rings.hot AmongHot sound.standing.hot_ring;
@@ -80,14 +106,25 @@ module _ {K V P T : Type 0} where
       counted = rw same_pairs sound.keyed.counted;
     };
     loading_counted = sound.loading_counted;
-    all_counted = omega (arith, sound.all_counted, ap length same_pairs, ap (λ xs. length (gather (λ t. item_of t (item_at slab t)) xs)) (same rings.hot.head), ap (λ xs. length (gather (λ t. item_of t (item_at slab t)) xs)) (same rings.cold.head), ap (λ xs. length (gather (λ t. ghost_of t (item_at slab t)) xs)) (same rings.ghosts.head));
+    all_counted = omega (
+      arith,
+      sound.all_counted,
+      ap length same_pairs,
+      ap
+          (λ xs. length (gather (λ t. item_of t (item_at slab t)) xs)) (same rings.hot.head),
+      ap
+          (λ xs. length (gather (λ t. item_of t (item_at slab t)) xs)) (same rings.cold.head),
+      ap
+          (λ xs. length (gather (λ t. ghost_of t (item_at slab t)) xs)) (same rings.ghosts.head),
+    );
   }
     where
       same : (o : Option Token) → tokens_of (record slab { room = room }) o ≡ tokens_of slab o
       same None = refl
       same (Some head) = refl
 
-      kept : (ring : Ring) (s : Stand) → IsRingOf slab ring s → IsRingOf (record slab { room = room }) ring s
+      kept : (ring : Ring) (s : Stand) → IsRingOf slab ring s
+          → IsRingOf (record slab { room = room }) ring s
       kept ring s is = record {
         headed = is.headed;
         members = λ t some. is.members t (rw (same ring.head) at some);
@@ -96,36 +133,65 @@ module _ {K V P T : Type 0} where
         weighed = is.weighed ∙ ap (weigh (λ t. weight_at (item_at slab t))) (sym (same ring.head));
       }
 
-  pub IsSound-grown : (old new : LinkedSlab (Slot K V P T)) (told tnew : Table) (rings : Rings) (loading : ℕ) → new ≡ record old { room = new.room } → tnew.pairs ≡ told.pairs → IsSound old told rings loading → IsSound new tnew rings loading
+  pub IsSound-grown : (old new : LinkedSlab (Slot K V P T)) (told tnew : Table) (rings : Rings)
+      (loading : ℕ) → new ≡ record old { room = new.room } → tnew.pairs ≡ told.pairs
+      → IsSound old told rings loading → IsSound new tnew rings loading
   IsSound-grown old new told tnew rings loading kept same_pairs sound =
-      subst (λ (s : LinkedSlab (Slot K V P T)). IsSound s tnew rings loading) (sym kept) (IsSound-room old new.room told tnew rings loading same_pairs sound)
+      subst (λ (s : LinkedSlab (Slot K V P T)). IsSound s tnew rings loading) (sym kept)
+      (IsSound-room old new.room told tnew rings loading same_pairs sound)
 
-  pub had_pair : (slab : LinkedSlab (Slot K V P T)) (table : Table) (hot cold ghosts : Ring) (standing : IsStanding slab hot cold ghosts) (t hash : ℕ) (item : Item K V) (at : item_at slab t ≡ Some (record { hash = hash; entry = item_variant item })) (slot : Slot K V P T) → item_at slab t ≡ Some slot → (pair : K × V) → HasPair slot.entry pair → HadPair (lists_of slab table hot cold ghosts) t pair
+  pub had_pair : (slab : LinkedSlab (Slot K V P T)) (table : Table) (hot cold ghosts : Ring)
+      (standing : IsStanding slab hot cold ghosts) (t hash : ℕ) (item : Item K V)
+      (at : item_at slab t ≡ Some (record { hash = hash; entry = item_variant item }))
+      (slot : Slot K V P T) → item_at slab t ≡ Some slot → (pair : K × V) → HasPair slot.entry pair
+      → HadPair (lists_of slab table hot cold ghosts) t pair
   had_pair slab table hot cold ghosts standing t hash item at slot is pair has =
-      let same : slot.entry ≡ item_variant item = item_is (item_at slab t) slot hash item at is in
-      (item, (hash, HasItem-from slab table hot cold ghosts standing t hash item at), subst (λ (e : Entry K V P T). HasPair e pair) same has)
+      let same : slot.entry ≡ item_variant item = item_is (item_at slab t) slot hash item at is in (
+        item,
+        (hash, HasItem-from slab table hot cold ghosts standing t hash item at),
+        subst
+            (λ (e : Entry K V P T). HasPair e pair) same has,
+      )
 
-  slot_of_held : (u : ℕ) (o : Option (Slot K V P T)) (held : HeldItem K V) → item_of u o ≡ Some held → o ≡ Some (record { hash = held.hash; entry = item_variant held.item })
+  slot_of_held : (u : ℕ) (o : Option (Slot K V P T)) (held : HeldItem K V) → item_of u o ≡ Some held
+      → o ≡ Some (record { hash = held.hash; entry = item_variant held.item })
   slot_of_held u None held is = absurd (cc)
   slot_of_held u (Some slot) held is = by_entry slot.hash slot.entry is
     where
-      by_entry : (hash : ℕ) (entry : Entry K V P T) → item_of u (Some (record { hash = hash; entry = entry })) ≡ Some held → ◌≡◌ {A = Option (Slot K V P T)} (Some (record { hash = hash; entry = entry })) (Some (record { hash = held.hash; entry = item_variant held.item }))
-      by_entry hash (item_variant item) e = let same : record { token = u; hash = hash; item = item } ≡ held = cc in ap (λ (h : HeldItem K V). Some (record { hash = h.hash; entry = item_variant h.item })) same
+      by_entry : (hash : ℕ) (entry : Entry K V P T)
+          → item_of u (Some (record { hash = hash; entry = entry })) ≡ Some held
+          → ◌≡◌ {A = Option (Slot K V P T)} (Some (record { hash = hash; entry = entry }))
+          (Some (record { hash = held.hash; entry = item_variant held.item }))
+      by_entry hash (item_variant item) e =
+          let same : record { token = u; hash = hash; item = item } ≡ held =
+          cc in ap (λ (h : HeldItem K V). Some
+          (record { hash = h.hash; entry = item_variant h.item })) same
       by_entry hash (loading_variant awaited) e = absurd (cc)
       by_entry hash ghost_variant e = absurd (cc)
 
   -- an item is in the slot of its token
-  pub item_at-held : (slab : LinkedSlab (Slot K V P T)) (table : Table) (hot cold ghosts : Ring) (held : HeldItem K V) → HasItem (lists_of slab table hot cold ghosts) held → item_at slab held.token ≡ Some (record { hash = held.hash; entry = item_variant held.item })
+  pub item_at-held : (slab : LinkedSlab (Slot K V P T)) (table : Table) (hot cold ghosts : Ring)
+      (held : HeldItem K V) → HasItem (lists_of slab table hot cold ghosts) held
+      → item_at slab held.token ≡ Some (record { hash = held.hash; entry = item_variant held.item })
   item_at-held slab table hot cold ghosts held has = by_place has.place has.stands
     where
-      found : (u : ℕ) → item_of u (item_at slab u) ≡ Some held → item_at slab held.token ≡ Some (record { hash = held.hash; entry = item_variant held.item })
-      found u is = ap (item_at slab) (named_item u (item_at slab u) held is) ∙ slot_of_held u (item_at slab u) held is
+      found : (u : ℕ) → item_of u (item_at slab u) ≡ Some held
+          → item_at slab held.token ≡ Some
+          (record { hash = held.hash; entry = item_variant held.item })
+      found u is = ap (item_at slab) (named_item u (item_at slab u) held is)
+          ∙ slot_of_held u (item_at slab u) held is
 
-      by_place : (place : Place) → StandsIn (items_at place (lists_of slab table hot cold ghosts)) held → item_at slab held.token ≡ Some (record { hash = held.hash; entry = item_variant held.item })
+      by_place : (place : Place) → StandsIn
+          (items_at place (lists_of slab table hot cold ghosts)) held
+          → item_at slab held.token ≡ Some
+          (record { hash = held.hash; entry = item_variant held.item })
       by_place InHot there =
-          let at = gather-from (λ u. item_of u (item_at slab u)) (tokens_of slab hot.head) held there in found at.0 at.2
+          let at = gather-from (λ u. item_of u (item_at slab u))
+          (tokens_of slab hot.head) held there in found at.0 at.2
       by_place InCold there =
-          let at = gather-from (λ u. item_of u (item_at slab u)) (tokens_of slab cold.head) held there in found at.0 at.2
+          let at = gather-from (λ u. item_of u (item_at slab u))
+          (tokens_of slab cold.head) held there in found at.0 at.2
       by_place InStill there =
-          let at = gather-from (λ u. still_of u (item_at slab u)) (upto (length slab.slots)) held there in
+          let at = gather-from (λ u. still_of u (item_at slab u))
+          (upto (length slab.slots)) held there in
           found at.0 (held_still (item_of at.0 (item_at slab at.0)) held at.2)

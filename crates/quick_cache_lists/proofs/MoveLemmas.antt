@@ -1,5 +1,5 @@
--- An entry left its list, and another came to its token and was put last. It is told by way of a slab that has nothing
--- at the token.
+-- An entry left its list, and another came to its token and was put last. It is told by way of a
+-- slab that has nothing at the token.
 use Rattle.std.proofs.Common.{◌≡◌, ◌≢◌, ℕ, ◌+◌, ◌-◌, ◌<◌, ◌≤◌, length, Bool, eqb, map, [], ◌∷◌, Option, Some, None, refl, sym, ap, subst, ◌∙◌, inl, inr, arith}
 use Rattle.std.specs.Int.NonZero.{non_zero_u32_get}
 use Rattle.std.specs.declared.num.NonZeroU32.{NonZeroU32 as Token}
@@ -21,7 +21,16 @@ use Rattle.quick_cache_lists.proofs.PutLemmas.{can_enter, IsPut-by, IsKeyed-ente
 use Rattle.quick_cache_lists.proofs.SlabFrames.{occupied_within, IsRemoved-from, times-without_same, times-without_other}
 use Rattle.quick_cache_lists.proofs.TakeLemmas.{IsEntry-from}
 
-module _ {K V P T : Type 0} (old alone : LinkedSlab (Slot K V P T)) (told : Table) (token : Token) (next : Option Token) (restarts : Bool) (rings left : Rings) (loading : ℕ) (sound : IsSound old told rings loading) (parted : IsParted old) (is_next : IsNextOf old (non_zero_u32_get token) next) (x y : Slot K V P T) (at : item_at old (non_zero_u32_get token) ≡ Some x) (same_hash : y.hash ≡ x.hash) (unlinks : alone ≡ unlinked old (non_zero_u32_get token)) (is_alone : IsAlone alone (non_zero_u32_get token)) (light : weight_in y.entry < 18446744073709551616) (s : Stand) (v : ℕ) (s_is : s ≡ stand_in x.entry) (v_is : v ≡ weight_in x.entry) (leaves : LeavesRingOf rings left token next restarts v s) where
+module _ {K V P T : Type 0} (old alone : LinkedSlab (Slot K V P T)) (told : Table) (token : Token)
+    (next : Option Token) (restarts : Bool) (rings left : Rings) (loading : ℕ)
+    (sound : IsSound old told rings loading) (parted : IsParted old)
+    (is_next : IsNextOf old (non_zero_u32_get token) next) (x y : Slot K V P T)
+    (at : item_at old (non_zero_u32_get token) ≡ Some x) (same_hash : y.hash ≡ x.hash)
+    (unlinks : alone ≡ unlinked old (non_zero_u32_get token))
+    (is_alone : IsAlone alone (non_zero_u32_get token))
+    (light : weight_in y.entry < 18446744073709551616) (s : Stand) (v : ℕ)
+    (s_is : s ≡ stand_in x.entry) (v_is : v ≡ weight_in x.entry)
+    (leaves : LeavesRingOf rings left token next restarts v s) where
   t : ℕ
   t = non_zero_u32_get token
 
@@ -45,10 +54,14 @@ module _ {K V P T : Type 0} (old alone : LinkedSlab (Slot K V P T)) (told : Tabl
   stands : stand_of (item_at old (non_zero_u32_get token)) ≡ Some s
   stands = ap stand_of at ∙ ap (λ (r : Stand). Some r) (sym s_is)
 
-  is_gone : IsGone old mid told tmid token next restarts rings left sound.standing parted gone_from is_next room_mid left
+  is_gone : IsGone old mid told tmid token next restarts rings left sound.standing parted gone_from
+      is_next room_mid left
   is_gone =
-      let weighs : v ≡ weight_at (item_at old (non_zero_u32_get token)) = v_is ∙ sym (ap weight_at at) in
-      IsGone-by old mid told tmid token next restarts rings left sound.standing parted gone_from is_next room_mid s stands (subst (λ (w : ℕ). LeavesRingOf rings left token next restarts w s) weighs leaves)
+      let weighs : v ≡ weight_at (item_at old (non_zero_u32_get token)) = v_is
+      ∙ sym (ap weight_at at) in
+      IsGone-by old mid told tmid token next restarts rings left sound.standing parted gone_from
+      is_next room_mid s stands (subst
+      (λ (w : ℕ). LeavesRingOf rings left token next restarts w s) weighs leaves)
 
   slots_are : alone.slots ≡ old.slots
   slots_are = ap (λ (l : LinkedSlab (Slot K V P T)). l.slots) unlinks
@@ -60,10 +73,12 @@ module _ {K V P T : Type 0} (old alone : LinkedSlab (Slot K V P T)) (told : Tabl
   within = occupied_within old.slots (non_zero_u32_get token) x at
 
   here : item_at other (non_zero_u32_get token) ≡ Some y
-  here = at_token-with_same alone.slots (non_zero_u32_get token) (Some y) None within.0 (rw slots_are within.1)
+  here = at_token-with_same alone.slots (non_zero_u32_get token) (Some y) None within.0
+      (rw slots_are within.1)
 
   others : (u : ℕ) → u ≢ non_zero_u32_get token → item_at other u ≡ item_at old u
-  others u differs = at_token-with_other alone.slots (non_zero_u32_get token) u (Some y) None differs ∙ ap (λ ss. at_token ss u None) slots_are
+  others u differs = at_token-with_other alone.slots (non_zero_u32_get token) u
+      (Some y) None differs ∙ ap (λ ss. at_token ss u None) slots_are
 
   placed : IsPlaced mid other (non_zero_u32_get token) y
   placed = record {
@@ -73,11 +88,13 @@ module _ {K V P T : Type 0} (old alone : LinkedSlab (Slot K V P T)) (told : Tabl
     alone = is_alone;
     rings = λ u differs.
         ap (λ (l : LinkedSlab (Slot K V P T)). ring_from l u) unlinks
-        ∙ at_token-with_other (map (without (non_zero_u32_get token)) old.rings) (non_zero_u32_get token) u (non_zero_u32_get token ∷ []) [] differs
+        ∙ at_token-with_other (map (without (non_zero_u32_get token)) old.rings)
+        (non_zero_u32_get token) u (non_zero_u32_get token ∷ []) [] differs
         ∙ at_token-map (without (non_zero_u32_get token)) old.rings u []
         ∙ sym (gone_from.rings u differs);
     grows = inl (
-      length-with_token alone.slots (non_zero_u32_get token) (Some y) ∙ ap length slots_are ∙ sym gone_from.long,
+      length-with_token alone.slots (non_zero_u32_get token) (Some y) ∙ ap length slots_are
+          ∙ sym gone_from.long,
       within.0,
       omega (arith, within.1, gone_from.long),
       omega (arith, ap length free_are),
@@ -86,17 +103,36 @@ module _ {K V P T : Type 0} (old alone : LinkedSlab (Slot K V P T)) (told : Tabl
 
   single : (u w : ℕ) → times w (ring_from mid u) ≤ 1
   single u w = elim (cases_eq u (non_zero_u32_get token)) [
-    | inl same ↦ subst (λ (z : ℕ). times w (ring_from mid z) ≤ 1) (sym same) (rw (at_token-with_here) (omega arith))
+    | inl same ↦ subst (λ (z : ℕ). times w (ring_from mid z) ≤ 1) (sym same)
+        (rw (at_token-with_here) (omega arith))
     | inr differs ↦ rw (gone_from.rings u differs) (fewer w)
   ]
     where
       at_token-with_here : ring_from mid (non_zero_u32_get token) ≡ []
-      at_token-with_here = at_token-with_same (map (without (non_zero_u32_get token)) old.rings) (non_zero_u32_get token) [] [] within.0 (omega (arith, within.1, parted.ring_each, length-map old.rings (without (non_zero_u32_get token))))
+      at_token-with_here = at_token-with_same (map (without (non_zero_u32_get token)) old.rings)
+          (non_zero_u32_get token) [] [] within.0
+          (omega (
+            arith,
+            within.1,
+            parted.ring_each,
+            length-map old.rings
+                (without (non_zero_u32_get token)),
+          ))
 
       fewer : (w : ℕ) → times w (without (non_zero_u32_get token) (ring_from old u)) ≤ 1
       fewer w = elim (cases_eq w (non_zero_u32_get token)) [
-        | inl same ↦ subst (λ (z : ℕ). times z (without (non_zero_u32_get token) (ring_from old u)) ≤ 1) (sym same) (omega (arith, times-without_same (non_zero_u32_get token) (ring_from old u)))
-        | inr differs ↦ omega (arith, times-without_other (non_zero_u32_get token) w (ring_from old u) differs, parted.once u w)
+        | inl same ↦ subst (λ (z : ℕ). times z (without (non_zero_u32_get token) (ring_from old u))
+            ≤ 1) (sym same) (omega (
+              arith,
+              times-without_same (non_zero_u32_get token)
+                  (ring_from old u),
+            ))
+        | inr differs ↦ omega (
+          arith,
+          times-without_other (non_zero_u32_get token) w
+              (ring_from old u) differs,
+          parted.once u w,
+        )
       ]
 
   lean : (u : ℕ) → weight_at (item_at mid u) < 18446744073709551616
@@ -105,46 +141,85 @@ module _ {K V P T : Type 0} (old alone : LinkedSlab (Slot K V P T)) (told : Tabl
     | inr differs ↦ rw (gone_from.others u differs) (sound.keyed.light u)
   ]
 
-  pub can_enter-moved : (w : ℕ) → w < 18446744073709551616 → (r : Stand) → CanEnter other left token w r
-  can_enter-moved w lightly r = can_enter mid other token y left is_gone.0 single (omega (arith, gone_from.long, sound.keyed.few)) lean placed w lightly r
+  pub can_enter-moved : (w : ℕ) → w < 18446744073709551616 → (r : Stand)
+      → CanEnter other left token w r
+  can_enter-moved w lightly r = can_enter mid other token y left is_gone.0 single
+      (omega (arith, gone_from.long, sound.keyed.few)) lean placed w lightly r
 
   keyed : IsKeyed other told
   keyed = record {
     pairs = λ h u. elim (cases_eq u (non_zero_u32_get token)) [
       | inl same ↦
           let was = sound.keyed.pairs h (non_zero_u32_get token) ∙ ap (has_hash h) at in
-          subst (λ (z : ℕ). has_pair told h z ≡ has_hash h (item_at other z)) (sym same) (was ∙ ap (λ n. eqb n h) (sym same_hash) ∙ ap (has_hash h) (sym here))
+          subst (λ (z : ℕ). has_pair told h z ≡ has_hash h (item_at other z)) (sym same)
+          (was ∙ ap (λ n. eqb n h) (sym same_hash) ∙ ap (has_hash h) (sym here))
       | inr differs ↦ sound.keyed.pairs h u ∙ ap (has_hash h) (sym (others u differs))
     ];
-    few = omega (arith, sound.keyed.few, length-with_token alone.slots (non_zero_u32_get token) (Some y), ap length slots_are);
+    few = omega (
+      arith,
+      sound.keyed.few,
+      length-with_token alone.slots (non_zero_u32_get token)
+          (Some y),
+      ap length slots_are,
+    );
     light = λ u. elim (cases_eq u (non_zero_u32_get token)) [
       | inl same ↦ rw (same, here) light
       | inr differs ↦ rw (others u differs) (sound.keyed.light u)
     ];
-    counted = omega (arith, sound.keyed.counted, length-with_token alone.slots (non_zero_u32_get token) (Some y), ap length slots_are, ap length free_are);
+    counted = omega (
+      arith,
+      sound.keyed.counted,
+      length-with_token alone.slots
+          (non_zero_u32_get token) (Some y),
+      ap length slots_are,
+      ap length free_are,
+    );
   }
 
-  module _ (new : LinkedSlab (Slot K V P T)) (grown : Rings) (r : Stand) (w : ℕ) (r_is : r ≡ stand_in y.entry) (w_is : w ≡ weight_in y.entry) (enters : EntersRing other new left grown token w r) where
-    is_put : IsStanding new grown.hot grown.cold grown.ghosts × PutsLast (lists_of mid tmid left.hot left.cold left.ghosts) (non_zero_u32_get token) y.hash y.entry (lists_of new told grown.hot grown.cold grown.ghosts)
-    is_put = IsPut-by mid other new tmid told token y.hash left grown is_gone.0 y.entry placed (rw (r_is, w_is) at enters)
+  module _ (new : LinkedSlab (Slot K V P T)) (grown : Rings) (r : Stand) (w : ℕ)
+      (r_is : r ≡ stand_in y.entry) (w_is : w ≡ weight_in y.entry)
+      (enters : EntersRing other new left grown token w r) where
+    is_put : IsStanding new grown.hot grown.cold grown.ghosts
+        × PutsLast (lists_of mid tmid left.hot left.cold left.ghosts)
+        (non_zero_u32_get token) y.hash y.entry
+        (lists_of new told grown.hot grown.cold grown.ghosts)
+    is_put = IsPut-by mid other new tmid told token y.hash left grown is_gone.0 y.entry placed
+        (rw (r_is, w_is) at enters)
 
-    pub last-moved : PutsLast (without_entry restarts (non_zero_u32_get token) (lists_of old told rings.hot rings.cold rings.ghosts)) (non_zero_u32_get token) y.hash y.entry (lists_of new told grown.hot grown.cold grown.ghosts)
-    last-moved = subst (λ (l : Lists K V P). PutsLast l (non_zero_u32_get token) y.hash y.entry (lists_of new told grown.hot grown.cold grown.ghosts)) is_gone.1 is_put.1
+    pub last-moved : PutsLast (without_entry restarts (non_zero_u32_get token)
+        (lists_of old told rings.hot rings.cold rings.ghosts))
+        (non_zero_u32_get token) y.hash y.entry
+        (lists_of new told grown.hot grown.cold grown.ghosts)
+    last-moved = subst (λ (l : Lists K V P). PutsLast l (non_zero_u32_get token) y.hash y.entry
+        (lists_of new told grown.hot grown.cold grown.ghosts)) is_gone.1 is_put.1
 
     pub room-moved : room_of new told ≡ room_of old told
     room-moved =
         let room_are = ap (λ (l : LinkedSlab (Slot K V P T)). l.room) unlinks in
         room-entered other new told left grown token w r enters ∙ rw (free_are, room_are) refl
 
-    pub IsSound-moved : (fewer more : ℕ) → fewer ≡ loading_in s → more ≡ loading_in r → IsSound new told grown (loading - fewer + more)
+    pub IsSound-moved : (fewer more : ℕ) → fewer ≡ loading_in s → more ≡ loading_in r
+        → IsSound new told grown (loading - fewer + more)
     IsSound-moved fewer more fewer_is more_is =
         let before = lists_of old told rings.hot rings.cold rings.ghosts in
-        let less = IsLess-without before (non_zero_u32_get token) x.hash x.entry restarts (apart_by old told rings.hot rings.cold rings.ghosts parted sound.standing) (IsEntry-from old told rings.hot rings.cold rings.ghosts sound.standing (non_zero_u32_get token) x at) in
+        let less = IsLess-without before (non_zero_u32_get token) x.hash x.entry restarts
+        (apart_by old told rings.hot rings.cold rings.ghosts parted sound.standing)
+        (IsEntry-from old told rings.hot rings.cold rings.ghosts sound.standing
+        (non_zero_u32_get token) x at) in
         let counted = IsMore-put _ _ (non_zero_u32_get token) y.hash y.entry last-moved in
         record {
           standing = is_put.0;
           keyed = IsKeyed-entered other new told left grown token w r enters keyed;
-          loading_counted = omega (arith, sound.loading_counted, less.waiting, counted.waiting, fewer_is, more_is, ap loading_in s_is, ap loading_in r_is);
+          loading_counted = omega (
+            arith,
+            sound.loading_counted,
+            less.waiting,
+            counted.waiting,
+            fewer_is,
+            more_is,
+            ap loading_in s_is,
+            ap loading_in r_is,
+          );
           all_counted = omega (arith, sound.all_counted, less.all, counted.all);
         }
 
@@ -162,5 +237,8 @@ module _ {K V P T : Type 0} (old alone : LinkedSlab (Slot K V P T)) (told : Tabl
   pub loading-kept : loading_in s ≤ loading
   loading-kept =
       let before = lists_of old told rings.hot rings.cold rings.ghosts in
-      let less = IsLess-without before (non_zero_u32_get token) x.hash x.entry restarts (apart_by old told rings.hot rings.cold rings.ghosts parted sound.standing) (IsEntry-from old told rings.hot rings.cold rings.ghosts sound.standing (non_zero_u32_get token) x at) in
+      let less = IsLess-without before (non_zero_u32_get token) x.hash x.entry restarts
+      (apart_by old told rings.hot rings.cold rings.ghosts parted sound.standing)
+      (IsEntry-from old told rings.hot rings.cold rings.ghosts sound.standing
+      (non_zero_u32_get token) x at) in
       omega (arith, less.waiting, sound.loading_counted, ap loading_in s_is)

@@ -23,24 +23,38 @@ use Rattle.quick_cache_lists.proofs.ViewLemmas.{same_lists, IsStanding-put_hot, 
 module _ {K V P T : Type 0} where
   -- ---- the table knows nothing of rings
 
-  module _ (mid new : LinkedSlab (Slot K V P T)) (table : Table) (rings grown : Rings) (token : Token) (w : ℕ) where
-    pub IsKeyed-entered : (s : Stand) → EntersRing mid new rings grown token w s → IsKeyed mid table → IsKeyed new table
-    IsKeyed-entered AmongHot enters keyed = IsKeyed-joined mid new table rings.hot grown.hot token w enters.0 keyed
-    IsKeyed-entered AmongCold enters keyed = IsKeyed-joined mid new table rings.cold grown.cold token w enters.0 keyed
-    IsKeyed-entered AmongGhosts enters keyed = IsKeyed-joined mid new table rings.ghosts grown.ghosts token w enters.0 keyed
+  module _ (mid new : LinkedSlab (Slot K V P T)) (table : Table) (rings grown : Rings)
+      (token : Token) (w : ℕ) where
+    pub IsKeyed-entered : (s : Stand) → EntersRing mid new rings grown token w s → IsKeyed mid table
+        → IsKeyed new table
+    IsKeyed-entered AmongHot enters keyed =
+        IsKeyed-joined mid new table rings.hot grown.hot token w enters.0 keyed
+    IsKeyed-entered AmongCold enters keyed =
+        IsKeyed-joined mid new table rings.cold grown.cold token w enters.0 keyed
+    IsKeyed-entered AmongGhosts enters keyed =
+        IsKeyed-joined mid new table rings.ghosts grown.ghosts token w enters.0 keyed
     IsKeyed-entered AmongStill enters keyed = rw enters.0 keyed
     IsKeyed-entered AmongLoading enters keyed = rw enters.0 keyed
 
-    pub room-entered : (s : Stand) → EntersRing mid new rings grown token w s → room_of new table ≡ room_of mid table
+    pub room-entered : (s : Stand) → EntersRing mid new rings grown token w s
+        → room_of new table ≡ room_of mid table
     room-entered AmongHot enters = room-joined mid new table rings.hot grown.hot token w enters.0
     room-entered AmongCold enters = room-joined mid new table rings.cold grown.cold token w enters.0
-    room-entered AmongGhosts enters = room-joined mid new table rings.ghosts grown.ghosts token w enters.0
-    room-entered AmongStill enters = ap (λ (s : LinkedSlab (Slot K V P T)). room_of s table) enters.0
-    room-entered AmongLoading enters = ap (λ (s : LinkedSlab (Slot K V P T)). room_of s table) enters.0
+    room-entered AmongGhosts enters =
+        room-joined mid new table rings.ghosts grown.ghosts token w enters.0
+    room-entered AmongStill enters =
+        ap (λ (s : LinkedSlab (Slot K V P T)). room_of s table) enters.0
+    room-entered AmongLoading enters =
+        ap (λ (s : LinkedSlab (Slot K V P T)). room_of s table) enters.0
 
   -- ---- it can enter its ring
 
-  module _ (old mid : LinkedSlab (Slot K V P T)) (token : Token) (x : Slot K V P T) (rings : Rings) (standing : IsStanding old rings.hot rings.cold rings.ghosts) (single : (t u : ℕ) → times u (ring_from old t) ≤ 1) (short : length old.slots ≤ 4294967295) (lean : (t : ℕ) → weight_at (item_at old t) < 18446744073709551616) (placed : IsPlaced old mid (non_zero_u32_get token) x) (w : ℕ) (light : w < 18446744073709551616) where
+  module _ (old mid : LinkedSlab (Slot K V P T)) (token : Token) (x : Slot K V P T) (rings : Rings)
+      (standing : IsStanding old rings.hot rings.cold rings.ghosts)
+      (single : (t u : ℕ) → times u (ring_from old t) ≤ 1) (short : length old.slots ≤ 4294967295)
+      (lean : (t : ℕ) → weight_at (item_at old t) < 18446744073709551616)
+      (placed : IsPlaced old mid (non_zero_u32_get token) x) (w : ℕ)
+      (light : w < 18446744073709551616) where
     can_join : (ring : Ring) (r : Stand) → IsRingOf old ring r → CanJoin mid ring token w
     can_join ring r is = record {
       occupied = rw placed.here refl;
@@ -51,14 +65,20 @@ module _ {K V P T : Type 0} where
       light = omega (arith, ring_light old ring r single short lean is, light);
     }
       where
-        heads : (o : Option Token) → IfSome o (λ head. stand_of (item_at old (non_zero_u32_get head)) ≡ Some r) → IfSome o (λ head. IsOccupied mid (non_zero_u32_get head))
+        heads : (o : Option Token) → IfSome o
+            (λ head. stand_of (item_at old (non_zero_u32_get head)) ≡ Some r)
+            → IfSome o (λ head. IsOccupied mid (non_zero_u32_get head))
         heads None headed = tt
-        heads (Some h) headed = stand-some (item_at mid (non_zero_u32_get h)) r (stand-placed old mid (non_zero_u32_get token) x placed (non_zero_u32_get h) r headed)
+        heads (Some h) headed = stand-some (item_at mid (non_zero_u32_get h)) r
+            (stand-placed old mid (non_zero_u32_get token) x placed (non_zero_u32_get h) r headed)
 
-        aparts : (o : Option Token) → IfSome o (λ head. stand_of (item_at old (non_zero_u32_get head)) ≡ Some r) → IfSome o (λ head. non_zero_u32_get head ≢ non_zero_u32_get token)
+        aparts : (o : Option Token) → IfSome o
+            (λ head. stand_of (item_at old (non_zero_u32_get head)) ≡ Some r)
+            → IfSome o (λ head. non_zero_u32_get head ≢ non_zero_u32_get token)
         aparts None headed = tt
         aparts (Some h) headed =
-            λ same. vacant-stand old (non_zero_u32_get token) r placed.vacant (subst (λ (u : ℕ). stand_of (item_at old u) ≡ Some r) same headed)
+            λ same. vacant-stand old (non_zero_u32_get token) r placed.vacant
+            (subst (λ (u : ℕ). stand_of (item_at old u) ≡ Some r) same headed)
 
     pub can_enter : (s : Stand) → CanEnter mid rings token w s
     can_enter AmongHot = can_join rings.hot AmongHot standing.hot_ring
@@ -69,7 +89,8 @@ module _ {K V P T : Type 0} where
 
   -- ---- it stands last
 
-  module _ (old new : LinkedSlab (Slot K V P T)) (told tnew : Table) (token : Token) (hash : ℕ) (rings : Rings) where
+  module _ (old new : LinkedSlab (Slot K V P T)) (told tnew : Table) (token : Token) (hash : ℕ)
+      (rings : Rings) where
     abbrev before : Lists K V P
     before = lists_of old told rings.hot rings.cold rings.ghosts
 
@@ -78,70 +99,115 @@ module _ {K V P T : Type 0} where
 
     abbrev pub IsPut : Entry K V P T → Rings → Type 0
     IsPut entry grown =
-        IsStanding new grown.hot grown.cold grown.ghosts × PutsLast before (non_zero_u32_get token) hash entry (after grown)
+        IsStanding new grown.hot grown.cold grown.ghosts
+        × PutsLast before (non_zero_u32_get token) hash entry (after grown)
 
-    in_ring : (entry : Entry K V P T) (grown : Rings) → after grown ≡ record (with_last (non_zero_u32_get token) hash entry before) { next = next_token new; room = room_of new tnew } → PutsLast before (non_zero_u32_get token) hash entry (after grown)
+    in_ring : (entry : Entry K V P T) (grown : Rings)
+        → after grown ≡ record (with_last (non_zero_u32_get token) hash entry before)
+        { next = next_token new; room = room_of new tnew }
+        → PutsLast before (non_zero_u32_get token) hash entry (after grown)
     in_ring entry grown same =
         let last = with_last (non_zero_u32_get token) hash entry before in
         record {
           put = record {
             still = rw (ap (λ (l : Lists K V P). l.still) same) (IsPermutation-refl last.still);
-            loading = rw (ap (λ (l : Lists K V P). l.loading) same) (IsPermutation-refl last.loading);
-            same = same_lists (record last { next = next_token new; room = room_of new tnew }) (after grown) (ap (λ (l : Lists K V P). l.hot) same) (ap (λ (l : Lists K V P). l.cold) same) (ap (λ (l : Lists K V P). l.ghosts) same) refl refl;
+            loading = rw (ap (λ (l : Lists K V P). l.loading) same)
+                (IsPermutation-refl last.loading);
+            same = same_lists (record last { next = next_token new; room = room_of new tnew })
+                (after grown) (ap (λ (l : Lists K V P). l.hot) same)
+                (ap (λ (l : Lists K V P). l.cold) same)
+                (ap (λ (l : Lists K V P). l.ghosts) same) refl refl;
           };
           in_ring = λ _. same;
         }
 
-  module _ (old mid new : LinkedSlab (Slot K V P T)) (told tnew : Table) (token : Token) (hash : ℕ) (rings grown : Rings) (standing : IsStanding old rings.hot rings.cold rings.ghosts) where
-    pub IsPut-by : (entry : Entry K V P T) → IsPlaced old mid (non_zero_u32_get token) (record { hash = hash; entry = entry }) → EntersRing mid new rings grown token (weight_in entry) (stand_in entry) → IsPut old new told tnew token hash rings entry grown
+  module _ (old mid new : LinkedSlab (Slot K V P T)) (told tnew : Table) (token : Token) (hash : ℕ)
+      (rings grown : Rings) (standing : IsStanding old rings.hot rings.cold rings.ghosts) where
+    pub IsPut-by : (entry : Entry K V P T)
+        → IsPlaced old mid (non_zero_u32_get token) (record { hash = hash; entry = entry })
+        → EntersRing mid new rings grown token (weight_in entry) (stand_in entry)
+        → IsPut old new told tnew token hash rings entry grown
     IsPut-by (item_variant item) placed enters = by_weight (item.weight == 0) refl
       where
-        by_queue : (q : Queue) → item.queue ≡ q → (item.weight == 0) ≡ false → IsPut old new told tnew token hash rings (item_variant item) grown
+        by_queue : (q : Queue) → item.queue ≡ q → (item.weight == 0) ≡ false
+            → IsPut old new told tnew token hash rings (item_variant item) grown
         by_queue Hot of weighs =
-            let joins : EntersRing mid new rings grown token item.weight AmongHot = rw (weighs, of) at enters in
-            subst (λ (r : Rings). IsPut old new told tnew token hash rings (item_variant item) r) (sym joins.1) (
-              IsStanding-put_hot old mid new told tnew token hash item rings.hot rings.cold rings.ghosts grown.hot standing placed weighs of joins.0,
-              in_ring old new told tnew token hash rings (item_variant item) (record rings { hot = grown.hot }) (lists-put_hot old mid new told tnew token hash item rings.hot rings.cold rings.ghosts grown.hot standing placed weighs of joins.0),
+            let joins : EntersRing mid new rings grown token item.weight AmongHot =
+            rw (weighs, of) at enters in
+            subst (λ (r : Rings). IsPut old new told tnew token hash rings (item_variant item) r)
+            (sym joins.1) (
+              IsStanding-put_hot old mid new told tnew token hash item rings.hot rings.cold
+                  rings.ghosts grown.hot standing placed weighs of joins.0,
+              in_ring old new told tnew token hash rings (item_variant item)
+                  (record rings { hot = grown.hot })
+                  (lists-put_hot old mid new told tnew token hash item rings.hot rings.cold
+                  rings.ghosts grown.hot standing placed weighs of joins.0),
             )
         by_queue Cold of weighs =
-            let joins : EntersRing mid new rings grown token item.weight AmongCold = rw (weighs, of) at enters in
-            subst (λ (r : Rings). IsPut old new told tnew token hash rings (item_variant item) r) (sym joins.1) (
-              IsStanding-put_cold old mid new told tnew token hash item rings.hot rings.cold rings.ghosts grown.cold standing placed weighs of joins.0,
-              in_ring old new told tnew token hash rings (item_variant item) (record rings { cold = grown.cold }) (lists-put_cold old mid new told tnew token hash item rings.hot rings.cold rings.ghosts grown.cold standing placed weighs of joins.0),
+            let joins : EntersRing mid new rings grown token item.weight AmongCold =
+            rw (weighs, of) at enters in
+            subst (λ (r : Rings). IsPut old new told tnew token hash rings (item_variant item) r)
+            (sym joins.1) (
+              IsStanding-put_cold old mid new told tnew token hash item rings.hot rings.cold
+                  rings.ghosts grown.cold standing placed weighs of joins.0,
+              in_ring old new told tnew token hash rings (item_variant item)
+                  (record rings { cold = grown.cold })
+                  (lists-put_cold old mid new told tnew token hash item rings.hot rings.cold
+                  rings.ghosts grown.cold standing placed weighs of joins.0),
             )
 
-        by_weight : (b : Bool) → (item.weight == 0) ≡ b → IsPut old new told tnew token hash rings (item_variant item) grown
+        by_weight : (b : Bool) → (item.weight == 0) ≡ b
+            → IsPut old new told tnew token hash rings (item_variant item) grown
         by_weight false weighs = by_queue item.queue refl weighs
         by_weight true none =
-            let beside : EntersRing mid new rings grown token item.weight AmongStill = rw none at enters in
-            let here : IsPlaced old new (non_zero_u32_get token) (record { hash = hash; entry = item_variant item }) = rw beside.0 placed in
+            let beside : EntersRing mid new rings grown token item.weight AmongStill =
+            rw none at enters in
+            let here : IsPlaced old new (non_zero_u32_get token)
+            (record { hash = hash; entry = item_variant item }) = rw beside.0 placed in
             rw beside.1 (
-              IsStanding-put_still old new told tnew token hash item rings.hot rings.cold rings.ghosts standing here none,
+              IsStanding-put_still old new told tnew token hash item rings.hot rings.cold
+                  rings.ghosts standing here none,
               record {
-                put = SameButOrder-put_still old new told tnew token hash item rings.hot rings.cold rings.ghosts standing here none;
+                put = SameButOrder-put_still old new told tnew token hash item rings.hot rings.cold
+                    rings.ghosts standing here none;
                 in_ring = λ is. absurd (true≢false (sym (rw none at is)));
               },
             )
     IsPut-by (loading_variant awaited) placed enters =
-        let here : IsPlaced old new (non_zero_u32_get token) (record { hash = hash; entry = loading_variant awaited }) = rw enters.0 placed in
+        let here : IsPlaced old new (non_zero_u32_get token)
+        (record { hash = hash; entry = loading_variant awaited }) = rw enters.0 placed in
         rw enters.1 (
-          IsStanding-put_loading old new told tnew token hash awaited rings.hot rings.cold rings.ghosts standing here,
+          IsStanding-put_loading old new told tnew token hash awaited rings.hot rings.cold
+              rings.ghosts standing here,
           record {
-            put = SameButOrder-put_loading old new told tnew token hash awaited rings.hot rings.cold rings.ghosts standing here;
+            put = SameButOrder-put_loading old new told tnew token hash awaited rings.hot rings.cold
+                rings.ghosts standing here;
             in_ring = λ is. absurd (true≢false (sym is));
           },
         )
     IsPut-by ghost_variant placed enters =
-        subst (λ (r : Rings). IsPut old new told tnew token hash rings ghost_variant r) (sym enters.1) (
-          IsStanding-put_ghost old mid new told tnew token hash rings.hot rings.cold rings.ghosts grown.ghosts standing placed enters.0,
-          in_ring old new told tnew token hash rings ghost_variant (record rings { ghosts = grown.ghosts }) (lists-put_ghost old mid new told tnew token hash rings.hot rings.cold rings.ghosts grown.ghosts standing placed enters.0),
+        subst (λ (r : Rings). IsPut old new told tnew token hash rings ghost_variant r)
+        (sym enters.1) (
+          IsStanding-put_ghost old mid new told tnew token hash rings.hot rings.cold rings.ghosts
+              grown.ghosts standing placed enters.0,
+          in_ring old new told tnew token hash rings ghost_variant
+              (record rings { ghosts = grown.ghosts })
+              (lists-put_ghost old mid new told tnew token hash rings.hot rings.cold rings.ghosts
+              grown.ghosts standing placed enters.0),
         )
 
   -- ---- and is counted
 
-  module _ (old mid new : LinkedSlab (Slot K V P T)) (told tnew : Table) (token : Token) (hash : ℕ) (rings grown : Rings) (loading : ℕ) (sound : IsSound old told rings loading) (entry : Entry K V P T) (placed : IsPlaced old mid (non_zero_u32_get token) (record { hash = hash; entry = entry })) (keyed : IsKeyed mid tnew) (count : pair_count tnew ≡ pair_count told + 1) (s : Stand) (w : ℕ) (stands : s ≡ stand_in entry) (weighs : w ≡ weight_in entry) (enters : EntersRing mid new rings grown token w s) where
+  module _ (old mid new : LinkedSlab (Slot K V P T)) (told tnew : Table) (token : Token) (hash : ℕ)
+      (rings grown : Rings) (loading : ℕ) (sound : IsSound old told rings loading)
+      (entry : Entry K V P T) (placed : IsPlaced old mid (non_zero_u32_get token)
+      (record { hash = hash; entry = entry })) (keyed : IsKeyed mid tnew)
+      (count : pair_count tnew ≡ pair_count told + 1) (s : Stand) (w : ℕ)
+      (stands : s ≡ stand_in entry) (weighs : w ≡ weight_in entry)
+      (enters : EntersRing mid new rings grown token w s) where
     pub IsPut-entered : IsPut old new told tnew token hash rings entry grown
-    IsPut-entered = IsPut-by old mid new told tnew token hash rings grown sound.standing entry placed (rw (stands, weighs) at enters)
+    IsPut-entered = IsPut-by old mid new told tnew token hash rings grown sound.standing entry
+        placed (rw (stands, weighs) at enters)
 
     pub IsSound-put : (more : ℕ) → more ≡ loading_in s → IsSound new tnew grown (loading + more)
     IsSound-put more is =
@@ -150,6 +216,13 @@ module _ {K V P T : Type 0} where
         record {
           standing = put.0;
           keyed = IsKeyed-entered mid new tnew rings grown token w s enters keyed;
-          loading_counted = omega (arith, sound.loading_counted, counted.waiting, is, ap loading_in stands);
+          loading_counted = omega (
+            arith,
+            sound.loading_counted,
+            counted.waiting,
+            is,
+            ap
+                loading_in stands,
+          );
           all_counted = omega (arith, sound.all_counted, counted.all, count);
         }

@@ -14,36 +14,55 @@ use Rattle.quick_cache_lists.specs.Sound.{gather, upto, tokens_of, lists_of, IsS
 use Rattle.quick_cache_lists.proofs.GatherLemmas.{gather-has, times-upto}
 use Rattle.quick_cache_lists.proofs.SlabFrames.{occupied_within}
 
-module _ {K V P T : Type 0} (slab : LinkedSlab (Slot K V P T)) (table : Table) (hot cold ghosts : Ring) (sound : IsStanding slab hot cold ghosts) where
-  in_upto : (t : ℕ) (slot : Slot K V P T) → item_at slab t ≡ Some slot → 0 < times t (upto (length slab.slots))
+module _ {K V P T : Type 0} (slab : LinkedSlab (Slot K V P T)) (table : Table)
+    (hot cold ghosts : Ring) (sound : IsStanding slab hot cold ghosts) where
+  in_upto : (t : ℕ) (slot : Slot K V P T) → item_at slab t ≡ Some slot
+      → 0 < times t (upto (length slab.slots))
   in_upto t slot at =
       let within = occupied_within slab.slots t slot at in
       omega (arith, times-upto t (length slab.slots) within.0 within.1)
 
-  pub HasItem-from : (t hash : ℕ) (item : Item K V) → item_at slab t ≡ Some (record { hash = hash; entry = item_variant item }) → HasItem (lists_of slab table hot cold ghosts) (record { token = t; hash = hash; item = item })
+  pub HasItem-from : (t hash : ℕ) (item : Item K V)
+      → item_at slab t ≡ Some (record { hash = hash; entry = item_variant item })
+      → HasItem (lists_of slab table hot cold ghosts)
+      (record { token = t; hash = hash; item = item })
   HasItem-from t hash item at = by_weight (item.weight == 0) refl
     where
-      by_queue : (queue : Queue) → item.queue ≡ queue → (item.weight == 0) ≡ false → HasItem (lists_of slab table hot cold ghosts) (record { token = t; hash = hash; item = item })
+      by_queue : (queue : Queue) → item.queue ≡ queue → (item.weight == 0) ≡ false
+          → HasItem (lists_of slab table hot cold ghosts)
+          (record { token = t; hash = hash; item = item })
       by_queue Hot of weighs = record {
         place = InHot;
-        stands = gather-has (λ token. item_of token (item_at slab token)) _ t _ (sound.hot_ring.all t (rw (at, weighs, of) refl)) (rw at refl);
+        stands = gather-has (λ token. item_of token (item_at slab token)) _ t _
+            (sound.hot_ring.all t (rw (at, weighs, of) refl)) (rw at refl);
       }
       by_queue Cold of weighs = record {
         place = InCold;
-        stands = gather-has (λ token. item_of token (item_at slab token)) _ t _ (sound.cold_ring.all t (rw (at, weighs, of) refl)) (rw at refl);
+        stands = gather-has (λ token. item_of token (item_at slab token)) _ t _
+            (sound.cold_ring.all t (rw (at, weighs, of) refl)) (rw at refl);
       }
 
-      by_weight : (b : Bool) → (item.weight == 0) ≡ b → HasItem (lists_of slab table hot cold ghosts) (record { token = t; hash = hash; item = item })
+      by_weight : (b : Bool) → (item.weight == 0) ≡ b
+          → HasItem (lists_of slab table hot cold ghosts)
+          (record { token = t; hash = hash; item = item })
       by_weight true none = record {
         place = InStill;
-        stands = gather-has (λ token. still_of token (item_at slab token)) _ t _ (in_upto t _ at) (rw (at, none) refl);
+        stands = gather-has (λ token. still_of token (item_at slab token)) _ t _ (in_upto t _ at)
+            (rw (at, none) refl);
       }
       by_weight false weighs = by_queue item.queue refl weighs
 
-  pub StandsIn-loading : (t : ℕ) (slot : Slot K V P T) (waiting : HeldLoading K P) → item_at slab t ≡ Some slot → loading_of t (Some slot) ≡ Some waiting → StandsIn (gather (λ token. loading_of token (item_at slab token)) (upto (length slab.slots))) waiting
+  pub StandsIn-loading : (t : ℕ) (slot : Slot K V P T) (waiting : HeldLoading K P)
+      → item_at slab t ≡ Some slot → loading_of t (Some slot) ≡ Some waiting
+      → StandsIn (gather (λ token. loading_of token (item_at slab token))
+      (upto (length slab.slots))) waiting
   StandsIn-loading t slot waiting at is =
       gather-has (λ token. loading_of token (item_at slab token)) _ t _ (in_upto t _ at) (rw at is)
 
-  pub StandsIn-ghosts : (t hash : ℕ) → item_at slab t ≡ Some (record { hash = hash; entry = ghost_variant }) → StandsIn (gather (λ token. ghost_of token (item_at slab token)) (tokens_of slab ghosts.head)) (record { token = t; hash = hash })
+  pub StandsIn-ghosts : (t hash : ℕ)
+      → item_at slab t ≡ Some (record { hash = hash; entry = ghost_variant })
+      → StandsIn (gather (λ token. ghost_of token (item_at slab token))
+      (tokens_of slab ghosts.head)) (record { token = t; hash = hash })
   StandsIn-ghosts t hash at =
-      gather-has (λ token. ghost_of token (item_at slab token)) _ t _ (sound.ghost_ring.all t (rw at refl)) (rw at refl)
+      gather-has (λ token. ghost_of token (item_at slab token)) _ t _
+      (sound.ghost_ring.all t (rw at refl)) (rw at refl)

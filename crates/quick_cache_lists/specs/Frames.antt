@@ -16,7 +16,10 @@ module _ {S : Type 0} where
     pub others : (u : ℕ) → u ≢ t → item_at new u ≡ item_at old u
     pub alone : ring_from new t ≡ t ∷ []
     pub rings : (u : ℕ) → u ≢ t → ring_from new u ≡ ring_from old u
-    pub grows : ((length new.slots ≡ length old.slots) × (0 < t) × (t ≤ length old.slots) × (length new.free + 1 ≡ length old.free)) ⊎ ((length new.slots ≡ suc (length old.slots)) × (t ≡ suc (length old.slots)) × (old.free ≡ []) × (new.free ≡ []))
+    pub grows : ((length new.slots ≡ length old.slots) × (0 < t) × (t ≤ length old.slots)
+        × (length new.free + 1 ≡ length old.free))
+        ⊎ ((length new.slots ≡ suc (length old.slots)) × (t ≡ suc (length old.slots))
+        × (old.free ≡ []) × (new.free ≡ []))
 
   -- an item left
   pub record IsRemoved (old new : LinkedSlab S) (t : ℕ) : Type 0 where
@@ -36,14 +39,16 @@ module _ {S : Type 0} where
     pub joins : ring_from new head ≡ ring_from old head ++ t ∷ []
 
   -- the token came to the end of the ring, and the ring begins with it where there was none
-  pub record IsJoined (old new : LinkedSlab S) (ring grown : Ring) (token : Token) (weight : ℕ) : Type 0 where
+  pub record IsJoined (old new : LinkedSlab S) (ring grown : Ring) (token : Token)
+      (weight : ℕ) : Type 0 where
     pub counted : grown.count ≡ ring.count + 1
     pub weighed : grown.weight ≡ ring.weight + weight
     pub head : Token
     pub begins : grown.head ≡ Some head
     pub by_head : MatchOption ring.head
         ((new ≡ old) × (non_zero_u32_get head ≡ non_zero_u32_get token))
-        (λ first. IsLinked old new (non_zero_u32_get token) (non_zero_u32_get first) × (non_zero_u32_get head ≡ non_zero_u32_get first))
+        (λ first. IsLinked old new (non_zero_u32_get token) (non_zero_u32_get first)
+        × (non_zero_u32_get head ≡ non_zero_u32_get first))
 
   -- the token is a ring of its own, of an entry that can join that ring
   pub record CanJoin (slab : LinkedSlab S) (ring : Ring) (token : Token) (weight : ℕ) : Type 0 where
@@ -67,18 +72,25 @@ module _ {S : Type 0} where
   EntersRing old new rings grown token weight AmongHot =
       IsJoined old new rings.hot grown.hot token weight × (grown ≡ record rings { hot = grown.hot })
   EntersRing old new rings grown token weight AmongCold =
-      IsJoined old new rings.cold grown.cold token weight × (grown ≡ record rings { cold = grown.cold })
+      IsJoined old new rings.cold grown.cold token weight
+      × (grown ≡ record rings { cold = grown.cold })
   EntersRing old new rings grown token weight AmongGhosts =
-      IsJoined old new rings.ghosts grown.ghosts token weight × (grown ≡ record rings { ghosts = grown.ghosts })
+      IsJoined old new rings.ghosts grown.ghosts token weight
+      × (grown ≡ record rings { ghosts = grown.ghosts })
   EntersRing old new rings grown token weight AmongStill = (new ≡ old) × (grown ≡ rings)
   EntersRing old new rings grown token weight AmongLoading = (new ≡ old) × (grown ≡ rings)
 
--- a token left the ring, which begins with the token behind it if it is to, or if it began with that token
-pub record IsLeft (ring left : Ring) (token : Token) (next : Option Token) (restarts : Bool) (weight : ℕ) : Type 0 where
+-- a token left the ring, which begins with the token behind it if it is to, or if it began with
+-- that token
+pub record IsLeft (ring left : Ring) (token : Token) (next : Option Token) (restarts : Bool)
+    (weight : ℕ) : Type 0 where
   pub counted : left.count + 1 ≡ ring.count
   pub weighed : left.weight + weight ≡ ring.weight
-  pub head : ((left.head ≡ next) × ((restarts ≡ true) ⊎ IfSome ring.head (λ head. non_zero_u32_get head ≡ non_zero_u32_get token)))
-      ⊎ ((restarts ≡ false) × (left.head ≡ ring.head) × IfSome ring.head (λ head. non_zero_u32_get head ≢ non_zero_u32_get token))
+  pub head : ((left.head ≡ next)
+      × ((restarts ≡ true) ⊎ IfSome ring.head
+      (λ head. non_zero_u32_get head ≡ non_zero_u32_get token)))
+      ⊎ ((restarts ≡ false) × (left.head ≡ ring.head)
+      × IfSome ring.head (λ head. non_zero_u32_get head ≢ non_zero_u32_get token))
 
 -- the ring has an entry, and weighs no less than this one
 pub record CanLeave (ring : Ring) (weight : ℕ) : Type 0 where
@@ -98,13 +110,16 @@ abbrev pub LeavesRingOf : Rings → Rings → Token → Option Token → Bool �
 LeavesRingOf rings left token next restarts weight AmongHot =
     IsLeft rings.hot left.hot token next restarts weight × (left ≡ record rings { hot = left.hot })
 LeavesRingOf rings left token next restarts weight AmongCold =
-    IsLeft rings.cold left.cold token next restarts weight × (left ≡ record rings { cold = left.cold })
+    IsLeft rings.cold left.cold token next restarts weight
+    × (left ≡ record rings { cold = left.cold })
 LeavesRingOf rings left token next restarts weight AmongGhosts =
-    IsLeft rings.ghosts left.ghosts token next restarts weight × (left ≡ record rings { ghosts = left.ghosts })
+    IsLeft rings.ghosts left.ghosts token next restarts weight
+    × (left ≡ record rings { ghosts = left.ghosts })
 LeavesRingOf rings left token next restarts weight AmongStill = left ≡ rings
 LeavesRingOf rings left token next restarts weight AmongLoading = left ≡ rings
 
--- an item of that list has another weight: its ring, if it stands in one, weighs so much less and more
+-- an item of that list has another weight: its ring, if it stands in one, weighs so much less and
+-- more
 abbrev pub ReweighsRing : Rings → Rings → ℕ → ℕ → Stand → Type 0
 ReweighsRing rings after from to AmongHot = (after.hot.weight + from ≡ rings.hot.weight + to)
     × (after ≡ record rings { hot = record rings.hot { weight = after.hot.weight } })
@@ -130,4 +145,5 @@ pub record IsTurned {S : Type 0} (slab : LinkedSlab S) (ring turned : Ring) : Ty
   pub weighed : turned.weight ≡ ring.weight
   pub head : MatchOption ring.head
       (turned.head ≡ None)
-      (λ head. (next : Token) × (turned.head ≡ Some next) × (non_zero_u32_get next ≡ successor slab (non_zero_u32_get head)))
+      (λ head. (next : Token) × (turned.head ≡ Some next)
+      × (non_zero_u32_get next ≡ successor slab (non_zero_u32_get head)))

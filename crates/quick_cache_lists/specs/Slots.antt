@@ -130,7 +130,14 @@ module _ {K V P T : Type 0} where
 
   abbrev pub placeholder_in : ℕ → ℕ → Entry K V P T → Option (HeldLoading K P)
   placeholder_in token hash (item_variant item) = None
-  placeholder_in token hash (loading_variant awaited) = Some (record { token = token; hash = hash; key = awaited.key; queue = awaited.queue; placeholder = awaited.placeholder })
+  placeholder_in token hash (loading_variant awaited) =
+      Some (record {
+        token = token;
+        hash = hash;
+        key = awaited.key;
+        queue = awaited.queue;
+        placeholder = awaited.placeholder;
+      })
   placeholder_in token hash ghost_variant = None
 
   abbrev pub loading_of : ℕ → Option (Slot K V P T) → Option (HeldLoading K P)

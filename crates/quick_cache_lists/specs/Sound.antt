@@ -53,16 +53,22 @@ module _ {K V P T : Type 0} where
   }
 
   -- the ring with that head has the entries of that list, and so many
-  pub record IsRingOf (slab : LinkedSlab (Slot K V P T)) (ring : Ring) (stand : Stand) : Type 0 where
-    pub headed : IfSome ring.head (λ head. stand_of (item_at slab (non_zero_u32_get head)) ≡ Some stand)
-    pub members : (token : ℕ) → 0 < times token (tokens_of slab ring.head) → stand_of (item_at slab token) ≡ Some stand
-    pub all : (token : ℕ) → stand_of (item_at slab token) ≡ Some stand → 0 < times token (tokens_of slab ring.head)
+  pub record IsRingOf (slab : LinkedSlab (Slot K V P T)) (ring : Ring)
+      (stand : Stand) : Type 0 where
+    pub headed : IfSome ring.head (λ head. stand_of (item_at slab (non_zero_u32_get head))
+        ≡ Some stand)
+    pub members : (token : ℕ) → 0 < times token (tokens_of slab ring.head)
+        → stand_of (item_at slab token) ≡ Some stand
+    pub all : (token : ℕ) → stand_of (item_at slab token) ≡ Some stand
+        → 0 < times token (tokens_of slab ring.head)
     pub counted : ring.count ≡ length (tokens_of slab ring.head)
-    pub weighed : ring.weight ≡ weigh (λ token. weight_at (item_at slab token)) (tokens_of slab ring.head)
+    pub weighed : ring.weight ≡ weigh (λ token. weight_at (item_at slab token))
+        (tokens_of slab ring.head)
 
   -- the entries of that list stand in no ring
   abbrev pub AreAlone : LinkedSlab (Slot K V P T) → Stand → Type 0
-  AreAlone slab stand = (token : ℕ) → stand_of (item_at slab token) ≡ Some stand → IsAlone slab token
+  AreAlone slab stand = (token : ℕ) → stand_of (item_at slab token) ≡ Some stand
+      → IsAlone slab token
 
   -- each entry is found by its hash, and each slot is taken or free
   pub record IsKeyed (slab : LinkedSlab (Slot K V P T)) (table : Table) : Type 0 where
@@ -79,15 +85,24 @@ module _ {K V P T : Type 0} where
     pub still : AreAlone slab AmongStill
     pub loading : AreAlone slab AmongLoading
 
-  -- What always holds of the slots: each entry stands in its list, is found by its hash, and is counted.
-  pub record IsSound (slab : LinkedSlab (Slot K V P T)) (table : Table) (rings : Rings) (loading : ℕ) : Type 0 where
+  -- What always holds of the slots: each entry stands in its list, is found by its hash, and is
+  -- counted.
+  pub record IsSound (slab : LinkedSlab (Slot K V P T)) (table : Table) (rings : Rings)
+      (loading : ℕ) : Type 0 where
     pub standing : IsStanding slab rings.hot rings.cold rings.ghosts
     pub keyed : IsKeyed slab table
-    pub loading_counted : loading ≡ length (lists_of slab table rings.hot rings.cold rings.ghosts).loading
-    pub all_counted : entry_count (lists_of slab table rings.hot rings.cold rings.ghosts) ≡ pair_count table
+    pub loading_counted : loading ≡ length
+        (lists_of slab table rings.hot rings.cold rings.ghosts).loading
+    pub all_counted : entry_count (lists_of slab table rings.hot rings.cold rings.ghosts)
+        ≡ pair_count table
 
-  -- a walk along the tokens of a hash, with these left: it passed no key, and noted a ghost if it passed one
-  pub record IsWalked (slab : LinkedSlab (Slot K V P T)) (table : Table) (hash : ℕ) (stands_for : K → Bool) (left : List ℕ) (shade : Option Token) : Type 0 where
+  -- a walk along the tokens of a hash, with these left: it passed no key, and noted a ghost if it
+  -- passed one
+  pub record IsWalked (slab : LinkedSlab (Slot K V P T)) (table : Table) (hash : ℕ)
+      (stands_for : K → Bool) (left : List ℕ) (shade : Option Token) : Type 0 where
     pub left_has : (t : ℕ) → 0 < times t left → HasPair table hash t
-    pub passed : (t : ℕ) → HasPair table hash t → times t left ≡ 0 → (is_under_at stands_for (item_at slab t) ≡ false) × (is_ghost_at (item_at slab t) ≡ true → shade ≢ None)
-    pub noted : IfSome shade (λ t. HasPair table hash (non_zero_u32_get t) × (is_ghost_at (item_at slab (non_zero_u32_get t)) ≡ true))
+    pub passed : (t : ℕ) → HasPair table hash t → times t left ≡ 0
+        → (is_under_at stands_for (item_at slab t) ≡ false)
+        × (is_ghost_at (item_at slab t) ≡ true → shade ≢ None)
+    pub noted : IfSome shade (λ t. HasPair table hash (non_zero_u32_get t)
+        × (is_ghost_at (item_at slab (non_zero_u32_get t)) ≡ true))

@@ -17,7 +17,8 @@ loading_entry ticket_of waiting =
     record { key = waiting.key; queue = waiting.queue; ticket = ticket_of waiting.placeholder }
 
 -- the loading entries of these placeholders
-abbrev pub loading_entries : {K P : Type 0} → (P → ℕ) → List (HeldLoading K P) → List (LoadingEntry K)
+abbrev pub loading_entries : {K P : Type 0} → (P → ℕ) → List (HeldLoading K P)
+    → List (LoadingEntry K)
 loading_entries ticket_of entries = map (loading_entry ticket_of) entries
 
 -- a list without the element between these two, in its order or begun behind that element

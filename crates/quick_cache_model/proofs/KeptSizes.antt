@@ -268,7 +268,8 @@ module _ {K V : Type 0} where
         room _ _ rest new
         (entered-sizes (new_item rules entry.key left
         (queue_for rules old entry.key left entry.queue)
-        (if marked then first_mark old.mark_cut else 0)) old (record old { loading = before ++ after })
+        (if marked then first_mark old.mark_cut else 0)) old
+        (record old { loading = before ++ after })
         (record { capacity = refl; hot_target = refl; ghost_limit = refl })) makes
       where
         room : (weight : ℕ) (mid : CacheState K V) (calls : List (HookCall K V))

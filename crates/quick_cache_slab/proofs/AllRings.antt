@@ -20,11 +20,13 @@ next_held next held head rest ring = by_rest rest ring.leads.0 ring.held
 before_end : (next : ℕ → ℕ) (e x : ℕ) (xs : List ℕ) → Leads next (x ∷ xs) e
     → (p : ℕ) × (0 < times p (x ∷ xs)) × (next p ≡ e)
 before_end next e x [] leads = (x, omega (arith, times-here x []), leads.0)
-before_end next e x (y ∷ ys) leads = let found = before_end next e y ys leads.1 in (found.0, omega (arith, found.1), found.2)
+before_end next e x (y ∷ ys) leads = let found =
+    before_end next e y ys leads.1 in (found.0, omega (arith, found.1), found.2)
 
 pub held-next : (next prev : ℕ → ℕ) (held : ℕ → Bool) → AreRings next prev held → (t : ℕ)
     → held t ≡ true → held (next t) ≡ true
-held-next next prev held rings t taken = let ring = rings.ring t taken in next_held next held t ring.0 ring.1
+held-next next prev held rings t taken = let ring =
+    rings.ring t taken in next_held next held t ring.0 ring.1
 
 -- `next` leads back from the token that `prev` leads to
 pub before : (next prev : ℕ → ℕ) (held : ℕ → Bool) → AreRings next prev held → (t : ℕ)
@@ -54,7 +56,12 @@ AreRings-unlinked next prev next' prev' held a taken rings links = record {
   ];
   ring = λ t there. elim (cases_eq t a) [
     | inl same ↦ rw same ([], IsRing-alone next' held a links.next_own taken)
-    | inr differs ↦ let ring = rings.ring t there in (without a ring.0, IsRing-without next next' held a t ring.0 links.next_others differs ring.1)
+    | inr differs ↦ let ring = rings.ring t there
+        in (
+          without a ring.0,
+          IsRing-without next next' held a t ring.0 links.next_others differs
+              ring.1,
+        )
   ];
 }
   where
@@ -62,14 +69,19 @@ AreRings-unlinked next prev next' prev' held a taken rings links = record {
     back_other t there differs =
         elim (cases_eq (next t) a) [
           | inl last ↦
-              let to : next' t ≡ next a = links.next_others t there differs ∙ rw (eq-eqb (next t) a last) refl in
+              let to : next' t ≡ next a = links.next_others t there differs
+              ∙ rw (eq-eqb (next t) a last) refl in
               let from : prev a ≡ t = ap prev (sym last) ∙ rings.back t there in
-              let off : next a ≢ a = λ same. differs (sym from ∙ ap prev (sym same) ∙ rings.back a taken) in
-              let turned = links.prev_others (next a) (held-next next prev held rings a taken) off in
+              let off : next a ≢ a = λ same. differs
+              (sym from ∙ ap prev (sym same) ∙ rings.back a taken) in
+              let turned = links.prev_others (next a)
+              (held-next next prev held rings a taken) off in
               ap prev' to ∙ turned ∙ rw (eq-eqb (prev (next a)) a (rings.back a taken)) from
           | inr more ↦
-              let to : next' t ≡ next t = links.next_others t there differs ∙ rw (ne_eqb (next t) a more) refl in
-              let turned = links.prev_others (next t) (held-next next prev held rings t there) more in
+              let to : next' t ≡ next t = links.next_others t there differs
+              ∙ rw (ne_eqb (next t) a more) refl in
+              let turned = links.prev_others (next t)
+              (held-next next prev held rings t there) more in
               ap prev' to ∙ turned ∙ rw (rings.back t there, ne_eqb t a differs) refl
         ]
 
@@ -82,19 +94,33 @@ pub record IsLinkedIn (next prev next' prev' : ℕ → ℕ) (held : ℕ → Bool
 
 pub only_itself : (next prev : ℕ → ℕ) (held : ℕ → Bool) (a : ℕ) → AreRings next prev held
     → held a ≡ true → next a ≡ a → (t : ℕ) → held t ≡ true → next t ≡ a → t ≡ a
-only_itself next prev held a rings taken own t there to = sym (rings.back t there) ∙ ap prev to ∙ ap prev (sym own) ∙ rings.back a taken
+only_itself next prev held a rings taken own t there to = sym (rings.back t there) ∙ ap prev to
+    ∙ ap prev (sym own) ∙ rings.back a taken
 
 pub AreRings-linked : (next prev next' prev' : ℕ → ℕ) (held : ℕ → Bool) (a head : ℕ) → held a ≡ true
     → held head ≡ true → next a ≡ a → head ≢ a → AreRings next prev held
     → IsLinkedIn next prev next' prev' held a head → AreRings next' prev' held
 AreRings-linked next prev next' prev' held a head taken there_head own apart rings links = record {
   back = λ t there. elim (cases_eq t a) [
-    | inl same ↦ rw same (ap prev' links.next_own ∙ links.prev_others head there_head apart ∙ rw (eq-eqb head head refl) refl)
+    | inl same ↦ rw same (ap prev' links.next_own ∙ links.prev_others head there_head apart
+        ∙ rw (eq-eqb head head refl) refl)
     | inr differs ↦ back_other t there differs
   ];
   ring = λ t there. elim (cases_eq t a) [
-    | inl same ↦ let ring = rings.ring head there_head in rw same (head ∷ ring.0, IsRing-of_joined next next' held a head ring.0 links.next_others links.next_own taken (out_of_ring next held a head ring.0 ring.1 (only_itself next prev held a rings taken own) apart) ring.1)
-    | inr differs ↦ let ring = rings.ring t there in (before_head a head ring.0 ++ cond (eqb t head) (a ∷ []) [], IsRing-joined next next' held a head t ring.0 links.next_others links.next_own taken (out_of_ring next held a t ring.0 ring.1 (only_itself next prev held a rings taken own) differs) ring.1)
+    | inl same ↦ let ring = rings.ring head there_head in rw same (
+      head ∷ ring.0,
+      IsRing-of_joined next next' held a head ring.0 links.next_others
+          links.next_own taken (out_of_ring next held a head ring.0 ring.1
+          (only_itself next prev held a rings taken own) apart) ring.1,
+    )
+    | inr differs ↦ let ring = rings.ring t there
+        in (
+          before_head a head ring.0 ++ cond (eqb t head)
+              (a ∷ []) [],
+          IsRing-joined next next' held a head t ring.0 links.next_others links.next_own
+              taken (out_of_ring next held a t ring.0 ring.1
+              (only_itself next prev held a rings taken own) differs) ring.1,
+        )
   ];
 }
   where
@@ -102,12 +128,16 @@ AreRings-linked next prev next' prev' held a head taken there_head own apart rin
     back_other t there differs =
         elim (cases_eq (next t) head) [
           | inl last ↦
-              let to : next' t ≡ a = links.next_others t there differs ∙ rw (eq-eqb (next t) head last) refl in
+              let to : next' t ≡ a = links.next_others t there differs
+              ∙ rw (eq-eqb (next t) head last) refl in
               ap prev' to ∙ links.prev_own ∙ ap prev (sym last) ∙ rings.back t there
           | inr more ↦
-              let to : next' t ≡ next t = links.next_others t there differs ∙ rw (ne_eqb (next t) head more) refl in
-              let off : next t ≢ a = λ same. differs (only_itself next prev held a rings taken own t there same) in
-              ap prev' to ∙ links.prev_others (next t) (held-next next prev held rings t there) off ∙ rw (ne_eqb (next t) head more) (rings.back t there)
+              let to : next' t ≡ next t = links.next_others t there differs
+              ∙ rw (ne_eqb (next t) head more) refl in
+              let off : next t ≢ a = λ same. differs
+              (only_itself next prev held a rings taken own t there same) in
+              ap prev' to ∙ links.prev_others (next t) (held-next next prev held rings t there) off
+              ∙ rw (ne_eqb (next t) head more) (rings.back t there)
         ]
 
 -- a free token becomes a ring of its own
@@ -125,8 +155,11 @@ pub IsRing-placed : (next prev next' prev' : ℕ → ℕ) (held held' : ℕ → 
     → IsPlaced next prev next' prev' held held' a → IsRing next held t rest
     → IsRing next' held' t rest
 IsRing-placed next prev next' prev' held held' a t rest placed ring =
-    let off : (u : ℕ) → 0 < times u (t ∷ rest) → u ≢ a = λ u some same. true≢false (sym (ring.held u some) ∙ ap held same ∙ placed.was_free) in
-    IsRing-frame next next' held held' t rest (λ u some. placed.next_others u (off u some)) (λ u some. placed.held_others u (off u some) ∙ ring.held u some) ring
+    let off : (u : ℕ) → 0 < times u (t ∷ rest)
+    → u ≢ a = λ u some same. true≢false
+    (sym (ring.held u some) ∙ ap held same ∙ placed.was_free) in
+    IsRing-frame next next' held held' t rest (λ u some. placed.next_others u (off u some))
+    (λ u some. placed.held_others u (off u some) ∙ ring.held u some) ring
 
 pub AreRings-placed : (next prev next' prev' : ℕ → ℕ) (held held' : ℕ → Bool) (a : ℕ)
     → AreRings next prev held → IsPlaced next prev next' prev' held held' a
@@ -136,7 +169,8 @@ AreRings-placed next prev next' prev' held held' a rings placed = record {
     | inl same ↦ rw same (ap prev' placed.next_own ∙ placed.prev_own)
     | inr differs ↦
         let was = sym (placed.held_others t differs) ∙ there in
-        let off : next t ≢ a = λ same. true≢false (sym (held-next next prev held rings t was) ∙ ap held same ∙ placed.was_free) in
+        let off : next t ≢ a = λ same. true≢false
+        (sym (held-next next prev held rings t was) ∙ ap held same ∙ placed.was_free) in
         ap prev' (placed.next_others t differs) ∙ placed.prev_others (next t) off ∙ rings.back t was
   ];
   ring = λ t there. elim (cases_eq t a) [
@@ -159,17 +193,26 @@ pub IsRing-vacated : (next prev next' : ℕ → ℕ) (held held' : ℕ → Bool)
     → AreRings next prev held → IsVacated next next' held held' a → t ≢ a → IsRing next held t rest
     → IsRing next' held' t rest
 IsRing-vacated next prev next' held held' a t rest rings left differs ring =
-    let out = out_of_ring next held a t rest ring (only_itself next prev held a rings left.was_held left.was_alone) differs in
-    let off : (u : ℕ) → 0 < times u (t ∷ rest) → u ≢ a = λ u some same. omega (arith, subst (λ (v : ℕ). 0 < times v (t ∷ rest)) same some) in
-    IsRing-frame next next' held held' t rest (λ u some. left.next_others u (off u some)) (λ u some. left.held_others u (off u some) ∙ ring.held u some) ring
+    let out = out_of_ring next held a t rest ring
+    (only_itself next prev held a rings left.was_held left.was_alone) differs in
+    let off : (u : ℕ) → 0 < times u (t ∷ rest)
+    → u ≢ a = λ u some same. omega
+    (arith, subst (λ (v : ℕ). 0 < times v (t ∷ rest)) same some) in
+    IsRing-frame next next' held held' t rest (λ u some. left.next_others u (off u some))
+    (λ u some. left.held_others u (off u some) ∙ ring.held u some) ring
 
 pub AreRings-vacated : (next prev next' : ℕ → ℕ) (held held' : ℕ → Bool) (a : ℕ)
     → AreRings next prev held → IsVacated next next' held held' a → AreRings next' prev held'
 AreRings-vacated next prev next' held held' a rings left =
-    let differs : (t : ℕ) → held' t ≡ true → t ≢ a = λ t there same. true≢false (sym there ∙ ap held' same ∙ left.now_free) in
+    let differs : (t : ℕ) → held' t ≡ true
+    → t ≢ a = λ t there same. true≢false (sym there ∙ ap held' same ∙ left.now_free) in
     record {
-      back = λ t there. ap prev (left.next_others t (differs t there)) ∙ rings.back t (sym (left.held_others t (differs t there)) ∙ there);
+      back = λ t there. ap prev (left.next_others t (differs t there))
+          ∙ rings.back t (sym (left.held_others t (differs t there)) ∙ there);
       ring = λ t there.
-          let ring = rings.ring t (sym (left.held_others t (differs t there)) ∙ there) in
-          (ring.0, IsRing-vacated next prev next' held held' a t ring.0 rings left (differs t there) ring.1);
+          let ring = rings.ring t (sym (left.held_others t (differs t there)) ∙ there) in (
+            ring.0,
+            IsRing-vacated next prev next' held held' a t ring.0 rings left
+                (differs t there) ring.1,
+          );
     }

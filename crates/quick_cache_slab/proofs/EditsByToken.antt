@@ -12,13 +12,21 @@ use Rattle.quick_cache_slab.proofs.PartedRings.{before_head_none}
 -- taking out a token that stands once joins what stands before and after it
 without-split : (t : ℕ) (before after : List ℕ) → times t (before ++ t ∷ after) ≤ 1
     → without t (before ++ t ∷ after) ≡ before ++ after
-without-split t [] after once = rw (eq-eqb t t refl) (without_none t after (omega (arith, once, times-here t after)))
+without-split t [] after once =
+    rw (eq-eqb t t refl) (without_none t after (omega (arith, once, times-here t after)))
 without-split t (x ∷ before) after once =
     elim (cases_Bool (eqb x t)) [
       | inl hit ↦
-          absurd (omega (arith, rw hit at once, times-append t before (t ∷ after), times-here t after))
+          absurd (omega (
+            arith,
+            rw hit at once,
+            times-append t before
+                (t ∷ after),
+            times-here t after,
+          ))
       | inr miss ↦
-          rw miss (ap (λ xs. x ∷ xs) (without-split t before after (omega (arith, rw miss at once))))
+          rw miss (ap (λ xs. x ∷ xs) (without-split t before after
+          (omega (arith, rw miss at once))))
     ]
 
 joined-other : (t head : ℕ) (xs : List ℕ) → times head xs ≡ 0 → joined t head xs ≡ xs
@@ -60,9 +68,13 @@ module _ {T : Type 0} where
           record {
             vacant = at_token-past old.slots t None (omega arith);
             here = rw (slots, here) (at_token-push_same old.slots (Some item) None);
-            alone = rw (rings, ← here) (subst (λ n. at_token (old.rings ++ (t ∷ []) ∷ []) n [] ≡ t ∷ []) last (at_token-push_same old.rings (t ∷ []) []));
-            items = λ u differs. rw slots (at_token-push_other old.slots u (Some item) None (λ same. differs (same ∙ sym here)));
-            rings = λ u differs. rw rings (at_token-push_other old.rings u ((length old.slots + 1) ∷ []) [] (λ same. differs (same ∙ last)));
+            alone = rw (rings, ← here) (subst
+                (λ n. at_token (old.rings ++ (t ∷ []) ∷ []) n [] ≡ t ∷ []) last
+                (at_token-push_same old.rings (t ∷ []) []));
+            items = λ u differs. rw slots (at_token-push_other old.slots u (Some item) None
+                (λ same. differs (same ∙ sym here)));
+            rings = λ u differs. rw rings (at_token-push_other old.rings u
+                ((length old.slots + 1) ∷ []) [] (λ same. differs (same ∙ last)));
             within = (omega arith, rw slots (omega arith));
             slots = rw slots (omega arith);
             free = rw (free, none, slots) (omega arith);
@@ -79,8 +91,10 @@ module _ {T : Type 0} where
           rw here (record {
             vacant = first.2;
             here = rw slots (at_token-with_same old.slots x (Some item) None first.0 first.1);
-            alone = rw rings (at_token-with_same old.rings x (x ∷ []) [] first.0 (omega (arith, first.1, parted.ring_each)));
-            items = λ u differs. rw slots (at_token-with_other old.slots x u (Some item) None differs);
+            alone = rw rings (at_token-with_same old.rings x (x ∷ []) [] first.0
+                (omega (arith, first.1, parted.ring_each)));
+            items = λ u differs. rw slots (at_token-with_other old.slots x u
+                (Some item) None differs);
             rings = λ u differs. rw rings (at_token-with_other old.rings x u (x ∷ []) [] differs);
             within = (first.0, rw slots (omega (arith, first.1)));
             slots = rw slots (omega arith);
@@ -106,7 +120,8 @@ module _ {T : Type 0} where
           let free : new.free ≡ rest = ap (λ (s : LinkedSlab T). s.free) done ∙ rw some refl in
           let left : length new.free ≡ length rest = ap length free in
           let had : length old.free ≡ length rest + 1 = ap length some ∙ omega arith in
-          let room = free_taken (λ (none : old.free ≡ []). let e : x ∷ rest ≡ [] = sym some ∙ none in cc) in
+          let room = free_taken (λ (none : old.free ≡ []). let e : x ∷ rest ≡ [] = sym some
+          ∙ none in cc) in
           omega arith
 
   pub RemovesItem-from : (old new : LinkedSlab T) (t : ℕ) → IsParted old → IsOccupied old t
@@ -116,9 +131,12 @@ module _ {T : Type 0} where
       let long = length-map old.rings (without t) in
       record {
         vacant = rw done (at_token-with_same old.slots t None None within.0 within.1);
-        ringless = rw done (at_token-with_same (map (without t) old.rings) t [] [] within.0 (omega (arith, within.1, parted.ring_each)));
+        ringless = rw done (at_token-with_same (map (without t) old.rings) t [] [] within.0
+            (omega (arith, within.1, parted.ring_each)));
         items = λ u differs. rw done (at_token-with_other old.slots t u None None differs);
-        rings = LeavesRings-from old new t parted (λ u differs. rw done (at_token-with_other (map (without t) old.rings) t u [] [] differs ∙ at_token-map (without t) old.rings u []));
+        rings = LeavesRings-from old new t parted
+            (λ u differs. rw done (at_token-with_other (map (without t) old.rings) t u [] [] differs
+            ∙ at_token-map (without t) old.rings u []));
         slots = rw done (length-with_token old.slots t None);
         free = rw done refl;
         room = rw done refl;
@@ -130,8 +148,11 @@ module _ {T : Type 0} where
       let within = taken_within old.slots t taken in
       let long = length-map old.rings (without t) in
       record {
-        alone = rw done (at_token-with_same (map (without t) old.rings) t (t ∷ []) [] within.0 (omega (arith, within.1, parted.ring_each)));
-        rings = LeavesRings-from old new t parted (λ u differs. rw done (at_token-with_other (map (without t) old.rings) t u (t ∷ []) [] differs ∙ at_token-map (without t) old.rings u []));
+        alone = rw done (at_token-with_same (map (without t) old.rings) t (t ∷ []) [] within.0
+            (omega (arith, within.1, parted.ring_each)));
+        rings = LeavesRings-from old new t parted
+            (λ u differs. rw done (at_token-with_other (map (without t) old.rings) t u
+            (t ∷ []) [] differs ∙ at_token-map (without t) old.rings u []));
         slots = rw done refl;
         free = rw done refl;
         room = rw done refl;
@@ -145,8 +166,12 @@ module _ {T : Type 0} where
       let long = length-map old.rings (joined t head) in
       record {
         joins = joins;
-        begins = rw done (at_token-with_same (map (joined t head) old.rings) t (t ∷ ring_from old head) [] within.0 (omega (arith, within.1, parted.ring_each)));
-        kept = λ u differs out. rw done (at_token-with_other (map (joined t head) old.rings) t u (t ∷ ring_from old head) [] differs ∙ at_token-map (joined t head) old.rings u [] ∙ joined-other t head (ring_from old u) out);
+        begins = rw done (at_token-with_same (map (joined t head) old.rings) t
+            (t ∷ ring_from old head) [] within.0 (omega (arith, within.1, parted.ring_each)));
+        kept = λ u differs out. rw done
+            (at_token-with_other (map (joined t head) old.rings) t u
+            (t ∷ ring_from old head) [] differs ∙ at_token-map (joined t head) old.rings u []
+            ∙ joined-other t head (ring_from old u) out);
         slots = rw done refl;
         free = rw done refl;
         room = rw done refl;

@@ -12,18 +12,24 @@ use Rattle.quick_cache_slab.proofs.SlotRings.{taken_within}
 LeadsFree-frame : (next next' : ℕ → ℕ) (xs : List ℕ) → ((t : ℕ) → 0 < times t xs → next' t ≡ next t)
     → LeadsFree next xs → LeadsFree next' xs
 LeadsFree-frame next next' [] agree leads = tt
-LeadsFree-frame next next' (x ∷ xs) agree leads =
-    (agree x (omega (arith, times-here x xs)) ∙ leads.0, LeadsFree-frame next next' xs (λ t some. agree t (omega arith)) leads.1)
+LeadsFree-frame next next' (x ∷ xs) agree leads = (
+  agree x (omega (arith, times-here x xs))
+      ∙ leads.0,
+  LeadsFree-frame next next' xs (λ t some. agree t (omega arith)) leads.1,
+)
 
 module _ {T : Type 0} where
   -- the walk from the first free token finds them all
   pub free_of-is : (slots : List (Option T)) (nexts : List ℕ) (first : ℕ) (free : List ℕ)
       → length nexts ≡ length slots → AreFree slots nexts first free → free_of nexts first ≡ free
-  free_of-is slots nexts first [] long free = rw (lt-ltb (length nexts) first (omega (arith, free.begins))) refl
+  free_of-is slots nexts first [] long free =
+      rw (lt-ltb (length nexts) first (omega (arith, free.begins))) refl
   free_of-is slots nexts first (x ∷ xs) long free =
       let here = free.within x (omega (arith, times-here x xs)) in
-      let short = length_once (x ∷ xs) (length slots) free.once (λ t some. let at = free.within t some in (at.0, at.1)) in
-      rw (free.begins, le-ltb (length nexts) x (omega (arith, here.1))) (walk_free_list (link_of nexts) (length nexts) x xs free.leads free.once (omega arith))
+      let short = length_once (x ∷ xs) (length slots) free.once
+      (λ t some. let at = free.within t some in (at.0, at.1)) in
+      rw (free.begins, le-ltb (length nexts) x (omega (arith, here.1)))
+      (walk_free_list (link_of nexts) (length nexts) x xs free.leads free.once (omega arith))
 
   -- a link of an occupied token is none of theirs
   pub AreFree-kept : (slots : List (Option T)) (nexts nexts' : List ℕ) (first : ℕ) (free : List ℕ)
@@ -31,7 +37,8 @@ module _ {T : Type 0} where
       → AreFree slots nexts first free → AreFree slots nexts' first free
   AreFree-kept slots nexts nexts' first free kept are = record {
     begins = are.begins;
-    leads = LeadsFree-frame (link_of nexts) (link_of nexts') free (λ t some. kept t (are.within t some).2) are.leads;
+    leads = LeadsFree-frame (link_of nexts) (link_of nexts') free
+        (λ t some. kept t (are.within t some).2) are.leads;
     once = are.once;
     within = are.within;
     all = are.all;
@@ -44,7 +51,13 @@ module _ {T : Type 0} where
       (link_of nexts a) ≡ first_or (length slots + 1) free
   begins_after slots nexts a [] are = rw (are.leads.0, eq-eqb a a refl) refl
   begins_after slots nexts a (y ∷ ys) are =
-      let differs : y ≢ a = λ same. omega (arith, subst (λ (u : ℕ). times a (a ∷ u ∷ ys) ≤ 1) same (are.once a), times-here a (a ∷ ys), times-here a ys) in
+      let differs : y ≢ a = λ same. omega (
+        arith,
+        subst (λ (u : ℕ). times a (a ∷ u ∷ ys) ≤ 1) same (are.once a),
+        times-here a
+            (a ∷ ys),
+        times-here a ys,
+      ) in
       rw (are.leads.0, ne_eqb y a differs) refl
 
   pub AreFree-reuse : (slots : List (Option T)) (nexts : List ℕ) (a : ℕ) (free : List ℕ) (item : T)
@@ -53,14 +66,22 @@ module _ {T : Type 0} where
       → AreFree (with_token slots a (Some item)) (with_token nexts a a) first free
   AreFree-reuse slots nexts a free item first begins are = record {
     begins = begins ∙ ap (λ n. first_or (n + 1) free) (sym (length-with_token slots a (Some item)));
-    leads = LeadsFree-frame (link_of nexts) (link_of (with_token nexts a a)) free (λ t some. at_token-with_other nexts a t a 0 (off t some)) are.leads.1;
+    leads = LeadsFree-frame (link_of nexts) (link_of (with_token nexts a a)) free
+        (λ t some. at_token-with_other nexts a t a 0 (off t some)) are.leads.1;
     once = λ t. omega (arith, are.once t);
     within = λ t some.
-        let at = are.within t (omega arith) in
-        (at.0, omega (arith, at.1, length-with_token slots a (Some item)), ap is_some (at_token-with_other slots a t (Some item) None (off t some)) ∙ at.2);
+        let at = are.within t (omega arith) in (
+          at.0,
+          omega (arith, at.1, length-with_token slots a (Some item)),
+          ap is_some
+              (at_token-with_other slots a t (Some item) None (off t some)) ∙ at.2,
+        );
     all = λ t positive within out.
-        let differs : t ≢ a = λ same. true≢false (sym (ap is_some (at_token-with_same slots a (Some item) None here.0 here.1)) ∙ ap (is_taken (with_token slots a (Some item))) (sym same) ∙ out) in
-        let was = are.all t positive (omega (arith, length-with_token slots a (Some item))) (sym (ap is_some (at_token-with_other slots a t (Some item) None differs)) ∙ out) in
+        let differs : t ≢ a = λ same. true≢false
+        (sym (ap is_some (at_token-with_same slots a (Some item) None here.0 here.1))
+        ∙ ap (is_taken (with_token slots a (Some item))) (sym same) ∙ out) in
+        let was = are.all t positive (omega (arith, length-with_token slots a (Some item)))
+        (sym (ap is_some (at_token-with_other slots a t (Some item) None differs)) ∙ out) in
         omega (arith, times-other t a free (λ same. differs (sym same)));
   }
     where
@@ -83,8 +104,11 @@ module _ {T : Type 0} where
     within = λ t some. absurd (omega arith);
     all = λ t positive within out.
         elim (cases_eq t (length slots + 1)) [
-          | inl same ↦ absurd (true≢false (sym (ap is_some (at_token-push_same slots (Some item) None)) ∙ ap (is_taken (slots ++ Some item ∷ [])) (sym same) ∙ out))
-          | inr differs ↦ are.all t positive (omega (arith, length_push slots (Some item))) (sym (ap is_some (at_token-push_other slots t (Some item) None differs)) ∙ out)
+          | inl same ↦ absurd (true≢false
+              (sym (ap is_some (at_token-push_same slots (Some item) None))
+              ∙ ap (is_taken (slots ++ Some item ∷ [])) (sym same) ∙ out))
+          | inr differs ↦ are.all t positive (omega (arith, length_push slots (Some item)))
+              (sym (ap is_some (at_token-push_other slots t (Some item) None differs)) ∙ out)
         ];
   }
 
@@ -94,21 +118,34 @@ module _ {T : Type 0} where
       → AreFree (with_token slots a None) (with_token nexts a link) a (a ∷ free)
   AreFree-vacate slots nexts first a link free long taken links are = record {
     begins = refl;
-    leads = (at_token-with_same nexts a link 0 here.0 (omega (arith, here.1)) ∙ links, LeadsFree-frame (link_of nexts) (link_of (with_token nexts a link)) free (λ t some. at_token-with_other nexts a t link 0 (off t some)) are.leads);
+    leads = (
+      at_token-with_same nexts a link 0 here.0 (omega (arith, here.1))
+          ∙ links,
+      LeadsFree-frame (link_of nexts) (link_of (with_token nexts a link)) free
+          (λ t some. at_token-with_other nexts a t link 0 (off t some)) are.leads,
+    );
     once = λ t. elim (cases_eq a t) [
-      | inl same ↦ let zero = subst (λ (u : ℕ). times u free ≡ 0) same none in rw (eq-eqb a t same) (omega arith)
+      | inl same ↦ let zero = subst (λ (u : ℕ). times u free ≡ 0) same none in rw (eq-eqb a t same)
+          (omega arith)
       | inr differs ↦ rw (ne_eqb a t differs) (omega (arith, are.once t))
     ];
     within = λ t some. elim (cases_eq t a) [
       | inl same ↦ rw same (here.0, omega (arith, here.1, length-with_token slots a None), gone)
       | inr differs ↦
-          let at = are.within t (omega (arith, times-other t a free (λ same. differs (sym same)))) in
-          (at.0, omega (arith, at.1, length-with_token slots a None), ap is_some (at_token-with_other slots a t None None differs) ∙ at.2)
+          let at = are.within t (omega (arith, times-other t a free (λ same. differs (sym same))))
+          in (
+            at.0,
+            omega (arith, at.1, length-with_token slots a None),
+            ap is_some
+                (at_token-with_other slots a t None None differs) ∙ at.2,
+          )
     ];
     all = λ t positive within out. elim (cases_eq a t) [
       | inl same ↦ rw (eq-eqb a t same) (omega arith)
       | inr differs ↦
-          let was = are.all t positive (omega (arith, length-with_token slots a None)) (sym (ap is_some (at_token-with_other slots a t None None (λ same. differs (sym same)))) ∙ out) in
+          let was = are.all t positive (omega (arith, length-with_token slots a None))
+          (sym (ap is_some (at_token-with_other slots a t None None
+          (λ same. differs (sym same)))) ∙ out) in
           omega arith
     ];
   }
@@ -120,7 +157,8 @@ module _ {T : Type 0} where
       gone = ap is_some (at_token-with_same slots a None None here.0 here.1)
 
       off : (t : ℕ) → 0 < times t free → t ≢ a
-      off t some same = true≢false (sym taken ∙ ap (is_taken slots) (sym same) ∙ (are.within t some).2)
+      off t some same = true≢false (sym taken ∙ ap (is_taken slots) (sym same)
+          ∙ (are.within t some).2)
 
       none : times a free ≡ 0
       none = zero_from_none (times a free) (λ some. off a some refl)

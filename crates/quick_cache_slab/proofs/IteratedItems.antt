@@ -15,16 +15,22 @@ module _ {T : Type 0} where
       → entries_past at (slots_of (take (length nodes - at) (drop at nodes)))
       ≡ entries_past passed (drop passed (slots_of nodes))
   entries_rest nodes passed at is_min =
-      let front : slots_of (take (length nodes - at) (drop at nodes)) ≡ drop at (slots_of nodes) = ap slots_of (take_rest nodes at) ∙ sym (drop-map (λ (n : Node T). n.item) at nodes) in
+      let front : slots_of (take (length nodes - at) (drop at nodes)) ≡ drop at (slots_of nodes) =
+      ap slots_of (take_rest nodes at) ∙ sym (drop-map (λ (n : Node T). n.item) at nodes) in
       ap (entries_past at) front ∙ by_order
     where
-      by_order : entries_past at (drop at (slots_of nodes)) ≡ entries_past passed (drop passed (slots_of nodes))
+      by_order : entries_past at (drop at (slots_of nodes))
+          ≡ entries_past passed (drop passed (slots_of nodes))
       by_order =
           elim (cases_lt passed (length nodes)) [
             | inl below ↦ let same : at ≡ passed = omega arith in rw same refl
             | inr above ↦
                 let long = length-map nodes (λ (n : Node T). n.item) in
-                rw (drop_all at (slots_of nodes) (omega arith), drop_all passed (slots_of nodes) (omega arith)) refl
+                rw (
+                  drop_all at (slots_of nodes) (omega arith),
+                  drop_all passed (slots_of nodes)
+                      (omega arith),
+                ) refl
           ]
 
   none_left : (slots : List (Option T)) → ((i : ℕ) → get_or slots i None ≡ None)
@@ -38,7 +44,8 @@ module _ {T : Type 0} where
   first_item [] i item none found = absurd (cc)
   first_item (slot ∷ rest) zero item none found = rw found refl
   first_item (slot ∷ rest) (suc i) item none found =
-      rw (none 0 (omega arith)) (first_item rest i item (λ j below. none (suc j) (omega arith)) found)
+      rw (none 0 (omega arith)) (first_item rest i item
+      (λ j below. none (suc j) (omega arith)) found)
 
   -- the first item that is left is that of the first token with one
   pub first_left : (slots : List (Option T)) (passed token : ℕ) (item : T) → token ≡ passed + 1
@@ -48,13 +55,19 @@ module _ {T : Type 0} where
       (with_token slots token None)
   first_left slots passed token item last none found =
       let read = sym (at_token-suc slots token passed None (omega arith)) ∙ found in
-      first_item slots passed item (λ j below. none (suc j) (omega arith)) read ∙ ap (λ xs. item ∷ filter_map (λ slot. slot) xs) (sym (with_token-suc slots token passed None (omega arith)))
+      first_item slots passed item (λ j below. none (suc j) (omega arith)) read
+      ∙ ap (λ xs. item ∷ filter_map (λ slot. slot) xs)
+      (sym (with_token-suc slots token passed None (omega arith)))
 
   -- once each slot was passed, no item is left
   pub none_left_past : (slots : List (Option T)) (passed : ℕ) → length slots ≤ passed
       → ((t : ℕ) → t ≤ passed → at_token slots t None ≡ None) → filter_map (λ slot. slot) slots ≡ []
   none_left_past slots passed past none =
-      none_left slots (λ i. elim (cases_lt i passed) [ inl below ↦ none (suc i) (omega arith) | inr above ↦ get_or_past slots i None (omega arith) ])
+      none_left slots (λ i. elim (cases_lt i passed) [
+        | inl below ↦ none (suc i) (omega arith)
+        | inr above ↦ get_or_past slots i None
+            (omega arith)
+      ])
 
   pub none_passed_more : (slots : List (Option T)) (passed token : ℕ) → token ≡ passed + 1
       → token ≤ length slots → ((t : ℕ) → t ≤ passed → at_token slots t None ≡ None) → (t : ℕ)
@@ -62,7 +75,8 @@ module _ {T : Type 0} where
   none_passed_more slots passed token last within none t below =
       elim (cases_eq t token) [
         | inl same ↦ rw same (at_token-with_same slots token None None (omega arith) within)
-        | inr differs ↦ at_token-with_other slots token t None None differs ∙ none t (by_other t below differs)
+        | inr differs ↦ at_token-with_other slots token t None None differs
+            ∙ none t (by_other t below differs)
       ]
     where
       by_other : (t : ℕ) → t ≤ passed + 1 → (t ≡ token → ⊥) → t ≤ passed
@@ -72,7 +86,11 @@ module _ {T : Type 0} where
       → at_token slots token None ≡ None → ((t : ℕ) → t ≤ passed → at_token slots t None ≡ None)
       → (t : ℕ) → t ≤ passed + 1 → at_token slots t None ≡ None
   none_passed_same slots passed token last here none t below =
-      elim (cases_eq t token) [ inl same ↦ rw same here | inr differs ↦ none t (by_other t below differs) ]
+      elim (cases_eq t token) [
+        | inl same ↦ rw same here
+        | inr differs ↦ none t
+            (by_other t below differs)
+      ]
     where
       by_other : (t : ℕ) → t ≤ passed + 1 → (t ≡ token → ⊥) → t ≤ passed
       by_other t below differs = omega arith

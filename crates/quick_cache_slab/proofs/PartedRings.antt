@@ -39,10 +39,20 @@ IsRing-turned next held t u rest [] after split ring =
     rw (append-nil after, ← same, ← others) ring
 IsRing-turned next held t u rest (b ∷ bs) after split ring =
     let same : t ≡ b = cc in
-    let leads : Leads next ((b ∷ bs) ++ u ∷ after) b = subst (λ (xs : List ℕ). Leads next xs b) split (subst (λ (v : ℕ). Leads next (t ∷ rest) v) same ring.leads) in
-    let counts : (v : ℕ) → times v ((u ∷ after) ++ b ∷ bs) ≡ times v (t ∷ rest) = λ v. omega (arith, times-append v (u ∷ after) (b ∷ bs), times-append v (b ∷ bs) (u ∷ after), ap (times v) split) in
+    let leads : Leads next ((b ∷ bs) ++ u ∷ after) b =
+    subst (λ (xs : List ℕ). Leads next xs b) split
+    (subst (λ (v : ℕ). Leads next (t ∷ rest) v) same ring.leads) in
+    let counts : (v : ℕ) → times v ((u ∷ after) ++ b ∷ bs) ≡ times v (t ∷ rest) =
+    λ v. omega (
+      arith,
+      times-append v (u ∷ after) (b ∷ bs),
+      times-append v (b ∷ bs)
+          (u ∷ after),
+      ap (times v) split,
+    ) in
     record {
-      leads = Leads-both next (u ∷ after) (b ∷ bs) u (Leads-right next (b ∷ bs) (u ∷ after) b leads) (Leads-left next (b ∷ bs) (u ∷ after) b leads);
+      leads = Leads-both next (u ∷ after) (b ∷ bs) u (Leads-right next (b ∷ bs) (u ∷ after) b leads)
+          (Leads-left next (b ∷ bs) (u ∷ after) b leads);
       once = λ v. omega (arith, counts v, ring.once v);
       held = λ v some. ring.held v (omega (arith, counts v));
     }
@@ -52,7 +62,8 @@ before_head_none a head [] none = refl
 before_head_none a head (x ∷ xs) none =
     elim (cases_Bool (eqb x head)) [
       | inl hit ↦ absurd (omega (arith, rw hit at none))
-      | inr miss ↦ rw miss (ap (λ ys. x ∷ ys) (before_head_none a head xs (omega (arith, rw miss at none))))
+      | inr miss ↦ rw miss (ap (λ ys. x ∷ ys)
+          (before_head_none a head xs (omega (arith, rw miss at none))))
     ]
 
 module _ {T : Type 0} where
@@ -63,12 +74,20 @@ module _ {T : Type 0} where
     few = few;
     ring_each = length-rings_of slots nexts;
     within = λ t taken. taken_within slots t taken;
-    ringless = λ t none. at_token-rings_of slots nexts t ∙ ring_at-free slots nexts t (ap is_some none);
-    free_all = λ t positive within none. rw (free_is slots nexts prevs first s) (s.are_free.all t positive within (ap is_some none));
-    begins = λ t taken. let ring = s.linked.rings.ring t taken in (ring.0, at_token-rings_of slots nexts t ∙ ring_at-is slots nexts t ring.0 ring.1);
+    ringless = λ t none. at_token-rings_of slots nexts t
+        ∙ ring_at-free slots nexts t (ap is_some none);
+    free_all = λ t positive within none. rw (free_is slots nexts prevs first s)
+        (s.are_free.all t positive within (ap is_some none));
+    begins = λ t taken. let ring =
+        s.linked.rings.ring t taken in (
+          ring.0,
+          at_token-rings_of slots nexts t
+              ∙ ring_at-is slots nexts t ring.0 ring.1,
+        );
     once = λ t u. rw (at_token-rings_of slots nexts t) (once t u);
     held = λ t u some. held t u (rw (at_token-rings_of slots nexts t) at some);
-    turned = λ t u before after split. turned t u before after (sym (at_token-rings_of slots nexts t) ∙ split);
+    turned = λ t u before after split. turned t u before after
+        (sym (at_token-rings_of slots nexts t) ∙ split);
     free_once = λ t. rw (free_is slots nexts prevs first s) (s.are_free.once t);
     free_within = λ t some.
         let at = s.are_free.within t (rw (free_is slots nexts prevs first s) at some) in
@@ -78,14 +97,16 @@ module _ {T : Type 0} where
       once : (t u : ℕ) → times u (ring_at slots nexts t) ≤ 1
       once t u =
           elim (cases_Bool (is_taken slots t)) [
-            | inl taken ↦ let ring = s.linked.rings.ring t taken in rw (ring_at-is slots nexts t ring.0 ring.1) (ring.1.once u)
+            | inl taken ↦ let ring = s.linked.rings.ring t taken
+                in rw (ring_at-is slots nexts t ring.0 ring.1) (ring.1.once u)
             | inr out ↦ rw (ring_at-free slots nexts t out) (omega arith)
           ]
 
       held : (t u : ℕ) → 0 < times u (ring_at slots nexts t) → is_taken slots u ≡ true
       held t u some =
           elim (cases_Bool (is_taken slots t)) [
-            | inl taken ↦ let ring = s.linked.rings.ring t taken in ring.1.held u (rw (ring_at-is slots nexts t ring.0 ring.1) at some)
+            | inl taken ↦ let ring = s.linked.rings.ring t taken in ring.1.held u
+                (rw (ring_at-is slots nexts t ring.0 ring.1) at some)
             | inr out ↦ absurd (omega (arith, rw (ring_at-free slots nexts t out) at some))
           ]
 
@@ -95,7 +116,10 @@ module _ {T : Type 0} where
           elim (cases_Bool (is_taken slots t)) [
             | inl taken ↦
                 let ring = s.linked.rings.ring t taken in
-                at_token-rings_of slots nexts u ∙ ring_at-is slots nexts u (after ++ before) (IsRing-turned (link_of nexts) (is_taken slots) t u ring.0 before after (sym (ring_at-is slots nexts t ring.0 ring.1) ∙ split) ring.1)
+                at_token-rings_of slots nexts u
+                ∙ ring_at-is slots nexts u (after ++ before)
+                (IsRing-turned (link_of nexts) (is_taken slots) t u ring.0 before after
+                (sym (ring_at-is slots nexts t ring.0 ring.1) ∙ split) ring.1)
             | inr out ↦ absurd (no_place before (sym (ring_at-free slots nexts t out) ∙ split))
           ]
         where
@@ -122,14 +146,22 @@ module _ {T : Type 0} where
       at_token-with_other (map (joined a head) (rings_of slots nexts)) a head _ [] apart
       ∙ at_token-map (joined a head) (rings_of slots nexts) head []
       ∙ ap (joined a head) read
-      ∙ rw (eq-eqb head head refl, before_head_none a head ring.0 none) (ap (λ xs. xs ++ a ∷ []) (sym read))
+      ∙ rw (eq-eqb head head refl, before_head_none a head ring.0 none)
+      (ap (λ xs. xs ++ a ∷ []) (sym read))
 
   -- the token is left a ring of its own
   pub ring_from-unlinked : (slots : List (Option T)) (nexts : List ℕ) (first room a : ℕ)
       → is_taken slots a ≡ true → ring_from (unlinked (view_of slots nexts first room) a) a ≡ a ∷ []
   ring_from-unlinked slots nexts first room a taken =
       let here = taken_within slots a taken in
-      at_token-with_same (map (without a) (rings_of slots nexts)) a (a ∷ []) [] here.0 (omega (arith, here.1, length-map (rings_of slots nexts) (without a), length-rings_of slots nexts))
+      at_token-with_same (map (without a) (rings_of slots nexts)) a (a ∷ []) [] here.0
+      (omega (
+        arith,
+        here.1,
+        length-map (rings_of slots nexts)
+            (without a),
+        length-rings_of slots nexts,
+      ))
 
   -- the look-up's token is its own successor exactly in a ring of one
   pub alone_found : {X : Type 0} (slots : List (Option T)) (nexts prevs : List ℕ)
@@ -137,7 +169,8 @@ module _ {T : Type 0} where
       → AreLinked slots nexts prevs
       → IfSome answer (λ found. at_token slots t None ≡ Some (value found.0))
       → IfSome answer (λ found. non_zero_u32_get found.1 ≡ link_of nexts t)
-      → IfSome answer (λ found. (non_zero_u32_get found.1 ≡ t) ↔ (ring_from (view_of slots nexts first room) t ≡ t ∷ []))
+      → IfSome answer (λ found. (non_zero_u32_get found.1 ≡ t) ↔
+      (ring_from (view_of slots nexts first room) t ≡ t ∷ []))
   alone_found slots nexts prevs first room t value None linked item next = tt
   alone_found slots nexts prevs first room t value (Some found) linked item next = (
     λ own. alone-from_link slots nexts prevs first room t linked (ap is_some item) (sym next ∙ own),
@@ -150,5 +183,7 @@ module _ {T : Type 0} where
       → IsParted (view_of (slots_of nodes) (nexts_of nodes) first (room_of capacity len))
   IsParted-nodes nodes first capacity len long s =
       let slots = length-slots_of nodes in
-      let few : length (slots_of nodes) + room_of capacity len ≤ 4294967294 = omega (arith, s.few) in
-      IsParted-of (slots_of nodes) (nexts_of nodes) (prevs_of nodes) first (room_of capacity len) few s
+      let few : length (slots_of nodes) + room_of capacity len ≤ 4294967294 =
+      omega (arith, s.few) in
+      IsParted-of (slots_of nodes) (nexts_of nodes) (prevs_of nodes) first
+      (room_of capacity len) few s

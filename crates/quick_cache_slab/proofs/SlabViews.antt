@@ -30,8 +30,11 @@ AreRings-same : (next prev : ℕ → ℕ) (held held' : ℕ → Bool) → ((t : 
 AreRings-same next prev held held' same rings = record {
   back = λ t there. rings.back t (sym (same t) ∙ there);
   ring = λ t there.
-      let ring = rings.ring t (sym (same t) ∙ there) in
-      (ring.0, IsRing-frame next next held held' t ring.0 (λ u some. refl) (λ u some. same u ∙ ring.1.held u some) ring.1);
+      let ring = rings.ring t (sym (same t) ∙ there) in (
+        ring.0,
+        IsRing-frame next next held held' t ring.0 (λ u some. refl)
+            (λ u some. same u ∙ ring.1.held u some) ring.1,
+      );
 }
 
 module _ {T : Type 0} where
@@ -39,11 +42,13 @@ module _ {T : Type 0} where
 
   pub free_is : (slots : List (Option T)) (nexts prevs : List ℕ) (first : ℕ)
       → (s : IsSound slots nexts prevs first) → free_of nexts first ≡ s.free
-  free_is slots nexts prevs first s = free_of-is slots nexts first s.free s.linked.next_each s.are_free
+  free_is slots nexts prevs first s =
+      free_of-is slots nexts first s.free s.linked.next_each s.are_free
 
   pub next_token-is : (slots : List (Option T)) (nexts prevs : List ℕ) (first room : ℕ)
       → IsSound slots nexts prevs first → first ≡ next_token (view_of slots nexts first room)
-  next_token-is slots nexts prevs first room s = s.are_free.begins ∙ ap (first_or (length slots + 1)) (sym (free_is slots nexts prevs first s))
+  next_token-is slots nexts prevs first room s = s.are_free.begins
+      ∙ ap (first_or (length slots + 1)) (sym (free_is slots nexts prevs first s))
 
   -- the next token is past the end exactly where none is free
   first_past : (slots : List (Option T)) (nexts : List ℕ) (first : ℕ) (free : List ℕ)
@@ -58,13 +63,17 @@ module _ {T : Type 0} where
       → IsSound slots nexts prevs first → length slots < first
       → (free_of nexts first ≡ []) × (first ≡ length slots + 1)
   none_free slots nexts prevs first s past =
-      let none = first_past slots nexts first s.free s.are_free past in
-      (free_is slots nexts prevs first s ∙ none, s.are_free.begins ∙ ap (first_or (length slots + 1)) none)
+      let none = first_past slots nexts first s.free s.are_free past in (
+        free_is slots nexts prevs first s ∙ none,
+        s.are_free.begins
+            ∙ ap (first_or (length slots + 1)) none,
+      )
 
   pub some_free : (slots : List (Option T)) (nexts prevs : List ℕ) (first : ℕ)
       → IsSound slots nexts prevs first → first ≤ length slots → free_of nexts first ≢ []
   some_free slots nexts prevs first s within none =
-      let begins : first ≡ length slots + 1 = s.are_free.begins ∙ ap (first_or (length slots + 1)) (sym (free_is slots nexts prevs first s) ∙ none) in
+      let begins : first ≡ length slots + 1 = s.are_free.begins
+      ∙ ap (first_or (length slots + 1)) (sym (free_is slots nexts prevs first s) ∙ none) in
       absurd (omega arith)
 
   pub first_vacant : (slots : List (Option T)) (nexts prevs : List ℕ) (first : ℕ)
@@ -75,7 +84,8 @@ module _ {T : Type 0} where
       by_free : (free : List ℕ) → AreFree slots nexts first free
           → (0 < first) × (is_taken slots first ≡ false)
       by_free [] are = let begins = are.begins in absurd (omega arith)
-      by_free (x ∷ xs) are = let at = are.within x (omega (arith, times-here x xs)) in rw are.begins (at.0, at.2)
+      by_free (x ∷ xs) are = let at =
+          are.within x (omega (arith, times-here x xs)) in rw are.begins (at.0, at.2)
 
   pub full-is : (slots : List (Option T)) (nexts prevs : List ℕ) (first room : ℕ)
       → IsSound slots nexts prevs first
@@ -83,11 +93,14 @@ module _ {T : Type 0} where
   full-is slots nexts prevs first room s = (to, from)
     where
       to : first ≡ 4294967295 → IsFull (view_of slots nexts first room)
-      to last = let few = s.few in let none = none_free slots nexts prevs first s (omega arith) in (none.0, omega (arith, none.1))
+      to last = let few = s.few in let none =
+          none_free slots nexts prevs first s (omega arith) in (none.0, omega (arith, none.1))
 
       from : IsFull (view_of slots nexts first room) → first ≡ 4294967295
       from full =
-          let begins : first ≡ length slots + 1 = s.are_free.begins ∙ ap (first_or (length slots + 1)) (sym (free_is slots nexts prevs first s) ∙ full.0) in
+          let begins : first ≡ length slots + 1 = s.are_free.begins
+          ∙ ap (first_or (length slots + 1))
+          (sym (free_is slots nexts prevs first s) ∙ full.0) in
           omega (arith, full.1)
 
   pub ring_from-is : (slots : List (Option T)) (nexts : List ℕ) (first room t : ℕ)
@@ -97,7 +110,8 @@ module _ {T : Type 0} where
   pub successor-view : (slots : List (Option T)) (nexts prevs : List ℕ) (first room t : ℕ)
       → AreLinked slots nexts prevs → is_taken slots t ≡ true
       → successor (view_of slots nexts first room) t ≡ link_of nexts t
-  successor-view slots nexts prevs first room t linked taken = rw (at_token-rings_of slots nexts t) (successor-is slots nexts prevs t linked taken)
+  successor-view slots nexts prevs first room t linked taken =
+      rw (at_token-rings_of slots nexts t) (successor-is slots nexts prevs t linked taken)
 
   -- a ring of one leads to itself
   pub alone-to_link : (slots : List (Option T)) (nexts prevs : List ℕ) (first room t : ℕ)
@@ -105,7 +119,8 @@ module _ {T : Type 0} where
       → ring_from (view_of slots nexts first room) t ≡ t ∷ [] → link_of nexts t ≡ t
   alone-to_link slots nexts prevs first room t linked taken alone =
       let ring = linked.rings.ring t taken in
-      let same : t ∷ ring.0 ≡ t ∷ [] = sym (ring_at-is slots nexts t ring.0 ring.1) ∙ sym (at_token-rings_of slots nexts t) ∙ alone in
+      let same : t ∷ ring.0 ≡ t ∷ [] = sym (ring_at-is slots nexts t ring.0 ring.1)
+      ∙ sym (at_token-rings_of slots nexts t) ∙ alone in
       let none : ring.0 ≡ [] = cc in
       ring.1.leads.0 ∙ ap (first_or t) none
 
@@ -114,11 +129,18 @@ module _ {T : Type 0} where
       → ring_from (view_of slots nexts first room) t ≡ t ∷ []
   alone-from_link slots nexts prevs first room t linked taken own =
       let ring = linked.rings.ring t taken in
-      at_token-rings_of slots nexts t ∙ ring_at-is slots nexts t ring.0 ring.1 ∙ ap (λ xs. t ∷ xs) (by_rest ring.0 (sym ring.1.leads.0 ∙ own) (ring.1.once t))
+      at_token-rings_of slots nexts t ∙ ring_at-is slots nexts t ring.0 ring.1
+      ∙ ap (λ xs. t ∷ xs) (by_rest ring.0 (sym ring.1.leads.0 ∙ own) (ring.1.once t))
     where
       by_rest : (xs : List ℕ) → first_or t xs ≡ t → times t (t ∷ xs) ≤ 1 → xs ≡ []
       by_rest [] same once = refl
-      by_rest (y ∷ ys) same once = absurd (omega (arith, times-here t (y ∷ ys), subst (λ (u : ℕ). 0 < times u (y ∷ ys)) same (omega (arith, times-here y ys))))
+      by_rest (y ∷ ys) same once = absurd
+          (omega (
+            arith,
+            times-here t (y ∷ ys),
+            subst (λ (u : ℕ). 0 < times u (y ∷ ys)) same
+                (omega (arith, times-here y ys)),
+          ))
 
   -- ---- unlink and link
 
@@ -127,7 +149,12 @@ module _ {T : Type 0} where
       → IsSound slots nexts prevs first → Unlinks slots nexts prevs a nexts' prevs'
       → IsSound slots nexts' prevs' first
   IsSound-unlinked slots nexts prevs first a nexts' prevs' s done =
-      record { few = s.few; linked = done.linked; free = s.free; are_free = AreFree-kept slots nexts nexts' first s.free done.free_kept s.are_free }
+      record {
+        few = s.few;
+        linked = done.linked;
+        free = s.free;
+        are_free = AreFree-kept slots nexts nexts' first s.free done.free_kept s.are_free;
+      }
 
   pub view-unlinked : (slots : List (Option T)) (nexts prevs : List ℕ) (first room a : ℕ)
       (nexts' prevs' : List ℕ)
@@ -135,7 +162,10 @@ module _ {T : Type 0} where
       → view_of slots nexts' first room ≡ unlinked (view_of slots nexts first room) a
   unfolding IsSound-unlinked
   view-unlinked slots nexts prevs first room a nexts' prevs' s done =
-      let free : free_of nexts' first ≡ free_of nexts first = free_is slots nexts' prevs' first (IsSound-unlinked slots nexts prevs first a nexts' prevs' s done) ∙ sym (free_is slots nexts prevs first s) in
+      let free : free_of nexts' first ≡ free_of nexts first =
+      free_is slots nexts' prevs' first
+      (IsSound-unlinked slots nexts prevs first a nexts' prevs' s done)
+      ∙ sym (free_is slots nexts prevs first s) in
       λ i. record { slots = slots; rings = done.rings i; free = free i; room = room }
 
   pub IsSound-linked : (slots : List (Option T)) (nexts prevs : List ℕ) (first a head : ℕ)
@@ -143,7 +173,12 @@ module _ {T : Type 0} where
       → IsSound slots nexts prevs first → Links slots nexts prevs a head nexts' prevs'
       → IsSound slots nexts' prevs' first
   IsSound-linked slots nexts prevs first a head nexts' prevs' s done =
-      record { few = s.few; linked = done.linked; free = s.free; are_free = AreFree-kept slots nexts nexts' first s.free done.free_kept s.are_free }
+      record {
+        few = s.few;
+        linked = done.linked;
+        free = s.free;
+        are_free = AreFree-kept slots nexts nexts' first s.free done.free_kept s.are_free;
+      }
 
   pub view-linked : (slots : List (Option T)) (nexts prevs : List ℕ) (first room a head : ℕ)
       (nexts' prevs' : List ℕ)
@@ -151,18 +186,30 @@ module _ {T : Type 0} where
       → view_of slots nexts' first room ≡ linked (view_of slots nexts first room) a head
   unfolding IsSound-linked
   view-linked slots nexts prevs first room a head nexts' prevs' s done =
-      let free : free_of nexts' first ≡ free_of nexts first = free_is slots nexts' prevs' first (IsSound-linked slots nexts prevs first a head nexts' prevs' s done) ∙ sym (free_is slots nexts prevs first s) in
-      let rings : rings_of slots nexts' ≡ with_token (map (joined a head) (rings_of slots nexts)) a (a ∷ at_token (rings_of slots nexts) head []) =
-      done.rings ∙ ap (λ xs. with_token (map (joined a head) (rings_of slots nexts)) a (a ∷ xs)) (sym (at_token-rings_of slots nexts head)) in
+      let free : free_of nexts' first ≡ free_of nexts first =
+      free_is slots nexts' prevs' first
+      (IsSound-linked slots nexts prevs first a head nexts' prevs' s done)
+      ∙ sym (free_is slots nexts prevs first s) in
+      let rings : rings_of slots nexts'
+      ≡ with_token (map (joined a head) (rings_of slots nexts)) a
+      (a ∷ at_token (rings_of slots nexts) head []) =
+      done.rings ∙ ap (λ xs. with_token (map (joined a head) (rings_of slots nexts)) a (a ∷ xs))
+      (sym (at_token-rings_of slots nexts head)) in
       λ i. record { slots = slots; rings = rings i; free = free i; room = room }
 
   -- ---- an insert at a free token
 
-  pub record Reused (slots : List (Option T)) (nexts prevs : List ℕ) (first room : ℕ) (item : T) (first' : ℕ) : Type 0 where
-    pub sound : IsSound (with_token slots first (Some item)) (with_token nexts first first) (with_token prevs first first) first'
-    pub view : view_of (with_token slots first (Some item)) (with_token nexts first first) first' room ≡ record (placed (free_of nexts first) (view_of slots nexts first room) item) { room = room }
+  pub record Reused (slots : List (Option T)) (nexts prevs : List ℕ) (first room : ℕ) (item : T)
+      (first' : ℕ) : Type 0 where
+    pub sound : IsSound (with_token slots first (Some item)) (with_token nexts first first)
+        (with_token prevs first first) first'
+    pub view : view_of (with_token slots first (Some item))
+        (with_token nexts first first) first' room
+        ≡ record (placed (free_of nexts first) (view_of slots nexts first room) item)
+        { room = room }
     pub holds : at_token (with_token slots first (Some item)) first None ≡ Some item
-    pub alone : at_token (rings_of (with_token slots first (Some item)) (with_token nexts first first)) first [] ≡ first ∷ []
+    pub alone : at_token (rings_of (with_token slots first (Some item))
+        (with_token nexts first first)) first [] ≡ first ∷ []
 
   pub Reused-at : (slots : List (Option T)) (nexts prevs : List ℕ) (first room : ℕ) (item : T)
       (first' : ℕ)
@@ -177,32 +224,57 @@ module _ {T : Type 0} where
       by_rest : (rest : List ℕ) → AreFree slots nexts first (first ∷ rest)
           → Reused slots nexts prevs first room item first'
       by_rest rest are =
-          let reuses = Reuses-written slots nexts prevs first item s.linked vacant.0 within vacant.1 in
+          let reuses = Reuses-written slots nexts prevs first item s.linked vacant.0 within vacant.1
+          in
           let after = begins ∙ begins_after slots nexts first rest are in
           let free = AreFree-reuse slots nexts first rest item first' after are in
-          let found : free_of (with_token nexts first first) first' ≡ rest = free_of-is (with_token slots first (Some item)) (with_token nexts first first) first' rest reuses.linked.next_each free in
-          let was : free_of nexts first ≡ first ∷ rest = free_of-is slots nexts first (first ∷ rest) s.linked.next_each are in
-          let same : view_of (with_token slots first (Some item)) (with_token nexts first first) first' room ≡ record (placed (first ∷ rest) (view_of slots nexts first room) item) { room = room } =
-          λ i. record { slots = with_token slots first (Some item); rings = reuses.rings i; free = found i; room = room } in
+          let found : free_of (with_token nexts first first) first' ≡ rest =
+          free_of-is (with_token slots first (Some item))
+          (with_token nexts first first) first' rest reuses.linked.next_each free in
+          let was : free_of nexts first ≡ first ∷ rest =
+          free_of-is slots nexts first (first ∷ rest) s.linked.next_each are in
+          let same : view_of (with_token slots first (Some item))
+          (with_token nexts first first) first' room
+          ≡ record (placed (first ∷ rest) (view_of slots nexts first room) item)
+          { room = room } =
+          λ i. record {
+            slots = with_token slots first (Some item);
+            rings = reuses.rings i;
+            free = found i;
+            room = room;
+          } in
           record {
-            sound = record { few = omega (arith, s.few, length-with_token slots first (Some item)); linked = reuses.linked; free = rest; are_free = free };
-            view = same ∙ ap (λ xs. record (placed xs (view_of slots nexts first room) item) { room = room }) (sym was);
+            sound = record {
+              few = omega (arith, s.few, length-with_token slots first (Some item));
+              linked = reuses.linked;
+              free = rest;
+              are_free = free;
+            };
+            view = same ∙ ap (λ xs. record (placed xs (view_of slots nexts first room) item)
+                { room = room }) (sym was);
             holds = at_token-with_same slots first (Some item) None vacant.0 within;
-            alone = ap (λ rs. at_token rs first []) reuses.rings ∙ at_token-with_same (rings_of slots nexts) first (first ∷ []) [] vacant.0 (omega (arith, length-rings_of slots nexts));
+            alone = ap (λ rs. at_token rs first []) reuses.rings
+                ∙ at_token-with_same (rings_of slots nexts) first (first ∷ []) [] vacant.0
+                (omega (arith, length-rings_of slots nexts));
           }
 
       by_free : (free : List ℕ) → AreFree slots nexts first free
           → Reused slots nexts prevs first room item first'
       by_free [] are = let start = are.begins in absurd (omega arith)
-      by_free (x ∷ rest) are = by_rest rest (subst (λ (u : ℕ). AreFree slots nexts first (u ∷ rest)) (sym are.begins) are)
+      by_free (x ∷ rest) are = by_rest rest
+          (subst (λ (u : ℕ). AreFree slots nexts first (u ∷ rest)) (sym are.begins) are)
 
   -- ---- an insert at a new token
 
-  pub record Grown (slots : List (Option T)) (nexts prevs : List ℕ) (first room room' : ℕ) (item : T) (first' : ℕ) : Type 0 where
+  pub record Grown (slots : List (Option T)) (nexts prevs : List ℕ) (first room room' : ℕ)
+      (item : T) (first' : ℕ) : Type 0 where
     pub sound : IsSound (slots ++ Some item ∷ []) (nexts ++ first ∷ []) (prevs ++ first ∷ []) first'
-    pub view : view_of (slots ++ Some item ∷ []) (nexts ++ first ∷ []) first' room' ≡ record (placed (free_of nexts first) (view_of slots nexts first room) item) { room = room' }
+    pub view : view_of (slots ++ Some item ∷ []) (nexts ++ first ∷ []) first' room'
+        ≡ record (placed (free_of nexts first) (view_of slots nexts first room) item)
+        { room = room' }
     pub holds : at_token (slots ++ Some item ∷ []) first None ≡ Some item
-    pub alone : at_token (rings_of (slots ++ Some item ∷ []) (nexts ++ first ∷ [])) first [] ≡ first ∷ []
+    pub alone : at_token (rings_of (slots ++ Some item ∷ []) (nexts ++ first ∷ [])) first [] ≡ first
+        ∷ []
 
   pub Grown-at : (slots : List (Option T)) (nexts prevs : List ℕ) (first room room' : ℕ) (item : T)
       (first' : ℕ)
@@ -212,15 +284,27 @@ module _ {T : Type 0} where
       let none = first_past slots nexts first s.free s.are_free past in
       let last = none_free slots nexts prevs first s past in
       let grows = Grows-written slots nexts prevs first item s.linked last.1 in
-      let free = AreFree-grow slots nexts first first' item (subst (AreFree slots nexts first) none s.are_free) begins in
-      let found : free_of (nexts ++ first ∷ []) first' ≡ free_of nexts first = free_of-is (slots ++ Some item ∷ []) (nexts ++ first ∷ []) first' [] grows.linked.next_each free ∙ sym last.0 in
-      let rings : rings_of (slots ++ Some item ∷ []) (nexts ++ first ∷ []) ≡ rings_of slots nexts ++ ((length slots + 1) ∷ []) ∷ [] =
+      let free = AreFree-grow slots nexts first first' item
+      (subst (AreFree slots nexts first) none s.are_free) begins in
+      let found : free_of (nexts ++ first ∷ []) first' ≡ free_of nexts first =
+      free_of-is (slots ++ Some item ∷ [])
+      (nexts ++ first ∷ []) first' [] grows.linked.next_each free ∙ sym last.0 in
+      let rings : rings_of (slots ++ Some item ∷ []) (nexts ++ first ∷ []) ≡ rings_of slots nexts
+      ++ ((length slots + 1) ∷ []) ∷ [] =
       grows.rings ∙ ap (λ n. rings_of slots nexts ++ (n ∷ []) ∷ []) last.1 in
-      let same : view_of (slots ++ Some item ∷ []) (nexts ++ first ∷ []) first' room' ≡ record (placed [] (view_of slots nexts first room) item) { room = room' } =
-      λ i. record { slots = slots ++ Some item ∷ []; rings = rings i; free = found i; room = room' } in
+      let same : view_of (slots ++ Some item ∷ []) (nexts ++ first ∷ []) first' room'
+      ≡ record (placed [] (view_of slots nexts first room) item) { room = room' } =
+      λ i. record { slots = slots ++ Some item ∷ []; rings = rings i; free = found i; room = room' }
+      in
       record {
-        sound = record { few = omega (arith, length_push slots (Some item)); linked = grows.linked; free = []; are_free = free };
-        view = same ∙ ap (λ xs. record (placed xs (view_of slots nexts first room) item) { room = room' }) (sym last.0);
+        sound = record {
+          few = omega (arith, length_push slots (Some item));
+          linked = grows.linked;
+          free = [];
+          are_free = free;
+        };
+        view = same ∙ ap (λ xs. record (placed xs (view_of slots nexts first room) item)
+            { room = room' }) (sym last.0);
         holds = rw last.1 (at_token-push_same slots (Some item) None);
         alone = ap (λ rs. at_token rs first []) grows.rings ∙ pushed_ring last.1;
       }
@@ -228,23 +312,29 @@ module _ {T : Type 0} where
       pushed_ring : first ≡ length slots + 1
           → at_token (rings_of slots nexts ++ (first ∷ []) ∷ []) first [] ≡ first ∷ []
       pushed_ring at =
-          let place : length (rings_of slots nexts) + 1 ≡ first = omega (arith, length-rings_of slots nexts) in
-          subst (λ (n : ℕ). at_token (rings_of slots nexts ++ (first ∷ []) ∷ []) n [] ≡ first ∷ []) place (at_token-push_same (rings_of slots nexts) (first ∷ []) [])
+          let place : length (rings_of slots nexts) + 1 ≡ first =
+          omega (arith, length-rings_of slots nexts) in
+          subst (λ (n : ℕ). at_token (rings_of slots nexts ++ (first ∷ []) ∷ []) n [] ≡ first ∷ [])
+          place (at_token-push_same (rings_of slots nexts) (first ∷ []) [])
 
   -- ---- a removal
 
-  pub record Removes (slots : List (Option T)) (nexts prevs : List ℕ) (first room a : ℕ) (nexts' prevs' : List ℕ) (link : ℕ) : Type 0 where
+  pub record Removes (slots : List (Option T)) (nexts prevs : List ℕ) (first room a : ℕ)
+      (nexts' prevs' : List ℕ) (link : ℕ) : Type 0 where
     pub sound : IsSound (with_token slots a None) (with_token nexts' a link) prevs' a
-    pub view : view_of (with_token slots a None) (with_token nexts' a link) a room ≡ removed (view_of slots nexts first room) a
+    pub view : view_of (with_token slots a None) (with_token nexts' a link) a room
+        ≡ removed (view_of slots nexts first room) a
 
   -- the link that a slot gets when it is freed
   pub link_is_first : (slots : List (Option T)) (nexts prevs : List ℕ) (first a : ℕ)
       → (s : IsSound slots nexts prevs first)
-      → ((first ≤ length slots) → first ≡ first_or a s.free) × ((length slots < first) → a ≡ first_or a s.free)
+      → ((first ≤ length slots) → first ≡ first_or a s.free)
+      × ((length slots < first) → a ≡ first_or a s.free)
   link_is_first slots nexts prevs first a s = by_free s.free s.are_free
     where
       by_free : (free : List ℕ) → AreFree slots nexts first free
-          → ((first ≤ length slots) → first ≡ first_or a free) × ((length slots < first) → a ≡ first_or a free)
+          → ((first ≤ length slots) → first ≡ first_or a free)
+          × ((length slots < first) → a ≡ first_or a free)
       by_free [] are = let begins = are.begins in (λ within. absurd (omega arith), λ past. refl)
       by_free (x ∷ xs) are =
           let at = (are.within x (omega (arith, times-here x xs))).1 in
@@ -260,13 +350,29 @@ module _ {T : Type 0} where
   Removes-at slots nexts prevs first room a nexts' prevs' link s taken done links =
       let mid = IsSound-unlinked slots nexts prevs first a nexts' prevs' s done in
       let vacates = Vacates-written slots nexts' prevs' a link done.linked taken done.alone in
-      let free = AreFree-vacate slots nexts' first a link s.free done.linked.next_each taken links mid.are_free in
-      let found : free_of (with_token nexts' a link) a ≡ a ∷ free_of nexts first = free_of-is (with_token slots a None) (with_token nexts' a link) a (a ∷ s.free) vacates.linked.next_each free ∙ ap (λ xs. a ∷ xs) (sym (free_is slots nexts prevs first s)) in
-      let rings : rings_of (with_token slots a None) (with_token nexts' a link) ≡ with_token (map (without a) (rings_of slots nexts)) a [] =
-      vacates.rings ∙ ap (λ xs. with_token xs a []) done.rings ∙ with_token-with_token (map (without a) (rings_of slots nexts)) a (a ∷ []) [] in
+      let free = AreFree-vacate slots nexts' first a link s.free done.linked.next_each taken links
+      mid.are_free in
+      let found : free_of (with_token nexts' a link) a ≡ a ∷ free_of nexts first =
+      free_of-is (with_token slots a None) (with_token nexts' a link) a
+      (a ∷ s.free) vacates.linked.next_each free
+      ∙ ap (λ xs. a ∷ xs) (sym (free_is slots nexts prevs first s)) in
+      let rings : rings_of (with_token slots a None) (with_token nexts' a link)
+      ≡ with_token (map (without a) (rings_of slots nexts)) a [] =
+      vacates.rings ∙ ap (λ xs. with_token xs a []) done.rings
+      ∙ with_token-with_token (map (without a) (rings_of slots nexts)) a (a ∷ []) [] in
       record {
-        sound = record { few = omega (arith, s.few, length-with_token slots a None); linked = vacates.linked; free = a ∷ s.free; are_free = free };
-        view = λ i. record { slots = with_token slots a None; rings = rings i; free = found i; room = room };
+        sound = record {
+          few = omega (arith, s.few, length-with_token slots a None);
+          linked = vacates.linked;
+          free = a ∷ s.free;
+          are_free = free;
+        };
+        view = λ i. record {
+          slots = with_token slots a None;
+          rings = rings i;
+          free = found i;
+          room = room;
+        };
       }
 
   -- ---- answers
@@ -277,7 +383,8 @@ module _ {T : Type 0} where
       → MatchOption answer (link_of nexts t ≡ t)
       (λ next. (non_zero_u32_get next ≡ link_of nexts t) × (non_zero_u32_get next ≢ t))
       → IsNextOf (view_of slots nexts first room) t answer
-  IsNextOf-is slots nexts prevs first room t None linked taken told = alone-from_link slots nexts prevs first room t linked taken told
+  IsNextOf-is slots nexts prevs first room t None linked taken told =
+      alone-from_link slots nexts prevs first room t linked taken told
   IsNextOf-is slots nexts prevs first room t (Some next) linked taken told =
       (told.0 ∙ sym (successor-view slots nexts prevs first room t linked taken), told.1)
 
@@ -286,7 +393,8 @@ module _ {T : Type 0} where
       → AreLinked slots nexts prevs
       → IfSome answer (λ found. at_token slots t None ≡ Some (value found.0))
       → IfSome answer (λ found. non_zero_u32_get found.1 ≡ link_of nexts t)
-      → IfSome answer (λ found. non_zero_u32_get found.1 ≡ successor (view_of slots nexts first room) t)
+      → IfSome answer (λ found. non_zero_u32_get found.1
+      ≡ successor (view_of slots nexts first room) t)
   successor_found slots nexts prevs first room t value None linked item next = tt
   successor_found slots nexts prevs first room t value (Some found) linked item next =
       next ∙ sym (successor-view slots nexts prevs first room t linked (ap is_some item))
@@ -301,9 +409,11 @@ module _ {T : Type 0} where
       → ((first ≤ length slots) × (link ≡ first)) ⊎ ((length slots < first) × (link ≡ a))
       → Removes slots nexts prevs first room a nexts' prevs' link
   Removes-by slots nexts prevs first room a nexts' prevs' link s taken done (inl some) =
-      Removes-at slots nexts prevs first room a nexts' prevs' link s taken done (some.1 ∙ (link_is_first slots nexts prevs first a s).0 some.0)
+      Removes-at slots nexts prevs first room a nexts' prevs' link s taken done
+      (some.1 ∙ (link_is_first slots nexts prevs first a s).0 some.0)
   Removes-by slots nexts prevs first room a nexts' prevs' link s taken done (inr none) =
-      Removes-at slots nexts prevs first room a nexts' prevs' link s taken done (none.1 ∙ (link_is_first slots nexts prevs first a s).1 none.0)
+      Removes-at slots nexts prevs first room a nexts' prevs' link s taken done
+      (none.1 ∙ (link_is_first slots nexts prevs first a s).1 none.0)
 
   -- ---- another item at an occupied token
 
@@ -311,7 +421,8 @@ module _ {T : Type 0} where
       → is_taken (with_token slots t (Some item)) u ≡ is_taken slots u
   taken_same slots t u item taken =
       elim (cases_eq u t) [
-        | inl same ↦ let here = taken_within slots t taken in rw same (ap is_some (at_token-with_same slots t (Some item) None here.0 here.1) ∙ sym taken)
+        | inl same ↦ let here = taken_within slots t taken in rw same
+            (ap is_some (at_token-with_same slots t (Some item) None here.0 here.1) ∙ sym taken)
         | inr differs ↦ ap is_some (at_token-with_other slots t u (Some item) None differs)
       ]
 
@@ -325,15 +436,19 @@ module _ {T : Type 0} where
         linked = record {
           next_each = s.linked.next_each ∙ sym long;
           prev_each = s.linked.prev_each ∙ sym long;
-          rings = AreRings-same (link_of nexts) (link_of prevs) (is_taken slots) (is_taken (with_token slots t (Some item))) (λ u. taken_same slots t u item taken) s.linked.rings;
+          rings = AreRings-same (link_of nexts) (link_of prevs) (is_taken slots)
+              (is_taken (with_token slots t (Some item)))
+              (λ u. taken_same slots t u item taken) s.linked.rings;
         };
         free = s.free;
         are_free = record {
           begins = s.are_free.begins ∙ ap (λ n. first_or (n + 1) s.free) (sym long);
           leads = s.are_free.leads;
           once = s.are_free.once;
-          within = λ u some. let at = s.are_free.within u some in (at.0, omega (arith, at.1), taken_same slots t u item taken ∙ at.2);
-          all = λ u positive within out. s.are_free.all u positive (omega arith) (sym (taken_same slots t u item taken) ∙ out);
+          within = λ u some. let at = s.are_free.within u some
+              in (at.0, omega (arith, at.1), taken_same slots t u item taken ∙ at.2);
+          all = λ u positive within out. s.are_free.all u positive (omega arith)
+              (sym (taken_same slots t u item taken) ∙ out);
         };
       }
 
@@ -344,5 +459,13 @@ module _ {T : Type 0} where
   view-rewritten slots nexts first room t item taken =
       let long = length-with_token slots t (Some item) in
       let rings : rings_of (with_token slots t (Some item)) nexts ≡ rings_of slots nexts =
-      rings_of-is (with_token slots t (Some item)) nexts (rings_of slots nexts) (length-rings_of slots nexts ∙ sym long) (λ u positive. rw (taken_same slots t u item taken, long) (sym (at_token-rings_of slots nexts u))) in
-      λ i. record { slots = with_token slots t (Some item); rings = rings i; free = free_of nexts first; room = room }
+      rings_of-is (with_token slots t (Some item)) nexts (rings_of slots nexts)
+      (length-rings_of slots nexts ∙ sym long)
+      (λ u positive. rw (taken_same slots t u item taken, long)
+      (sym (at_token-rings_of slots nexts u))) in
+      λ i. record {
+        slots = with_token slots t (Some item);
+        rings = rings i;
+        free = free_of nexts first;
+        room = room;
+      }

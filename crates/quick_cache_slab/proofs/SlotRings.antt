@@ -24,7 +24,8 @@ module _ {T : Type 0} where
   ring_at-is slots nexts t rest ring =
       let taken = ring.held t (omega (arith, times-here t rest)) in
       let none : times t rest ≡ 0 = omega (arith, ring.once t, times-here t rest) in
-      let short = length_once (t ∷ rest) (length slots) ring.once (λ u some. taken_within slots u (ring.held u some)) in
+      let short = length_once (t ∷ rest) (length slots) ring.once
+      (λ u some. taken_within slots u (ring.held u some)) in
       let found = walk_ring (link_of nexts) t (length slots) rest ring.leads.1 none (omega arith) in
       rw (taken, ring.leads.0) (ap (λ xs. t ∷ xs) found)
 
@@ -41,10 +42,13 @@ module _ {T : Type 0} where
   at_token-rings_of slots nexts zero = refl
   at_token-rings_of slots nexts (suc i) =
       elim (cases_lt i (length slots)) [
-        | inl below ↦ get_or-map-range_with_len (ring_at slots nexts) 1 (length slots) i (suc i) [] below (omega arith)
+        | inl below ↦ get_or-map-range_with_len (ring_at slots nexts) 1 (length slots) i
+            (suc i) [] below (omega arith)
         | inr above ↦
-            let past : is_taken slots (suc i) ≡ false = ap is_some (get_or_past slots i None above) in
-            get_or_past (rings_of slots nexts) i [] (omega (arith, length-rings_of slots nexts)) ∙ sym (ring_at-free slots nexts (suc i) past)
+            let past : is_taken slots (suc i) ≡ false =
+            ap is_some (get_or_past slots i None above) in
+            get_or_past (rings_of slots nexts) i [] (omega (arith, length-rings_of slots nexts))
+            ∙ sym (ring_at-free slots nexts (suc i) past)
       ]
 
   -- a list with the ring of each token is the list of rings
@@ -52,7 +56,8 @@ module _ {T : Type 0} where
       → length rs ≡ length slots → ((t : ℕ) → 0 < t → ring_at slots nexts t ≡ at_token rs t [])
       → rings_of slots nexts ≡ rs
   rings_of-is slots nexts rs long each =
-      ext_get_or [] (rings_of slots nexts) rs (length-rings_of slots nexts ∙ sym long) (λ i below. at_token-rings_of slots nexts (suc i) ∙ each (suc i) (omega arith))
+      ext_get_or [] (rings_of slots nexts) rs (length-rings_of slots nexts ∙ sym long)
+      (λ i below. at_token-rings_of slots nexts (suc i) ∙ each (suc i) (omega arith))
 
   pub successor-is : (slots : List (Option T)) (nexts prevs : List ℕ) (t : ℕ)
       → AreLinked slots nexts prevs → is_taken slots t ≡ true
@@ -60,4 +65,5 @@ module _ {T : Type 0} where
   successor-is slots nexts prevs t linked taken =
       let ring = linked.rings.ring t taken in
       let none : times t ring.0 ≡ 0 = omega (arith, ring.1.once t, times-here t ring.0) in
-      rw (ring_at-is slots nexts t ring.0 ring.1, eq-eqb t t refl, without_none t ring.0 none) (sym ring.1.leads.0)
+      rw (ring_at-is slots nexts t ring.0 ring.1, eq-eqb t t refl, without_none t ring.0 none)
+      (sym ring.1.leads.0)

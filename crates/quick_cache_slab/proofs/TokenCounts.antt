@@ -47,34 +47,50 @@ apart_from_none x [] none = tt
 apart_from_none x (y ∷ ys) none =
     elim (cases_Bool (eqb y x)) [
       | inl hit ↦ absurd (omega (arith, rw hit at none))
-      | inr miss ↦ (ne_eqb x y (λ e. eqb-false y x miss (sym e)), apart_from_none x ys (omega (arith, rw miss at none)))
+      | inr miss ↦ (
+        ne_eqb x y (λ e. eqb-false y x miss (sym e)),
+        apart_from_none x ys
+            (omega (arith, rw miss at none)),
+      )
     ]
 
 distinct_from_once : (xs : List ℕ) → ((t : ℕ) → times t xs ≤ 1) → IsDistinct eqb xs
 unfolding IsDistinct
 distinct_from_once [] once = tt
-distinct_from_once (x ∷ xs) once =
-    (apart_from_none x xs (omega (arith, once x, times-here x xs)), distinct_from_once xs (λ t. omega (arith, once t)))
+distinct_from_once (x ∷ xs) once = (
+  apart_from_none x xs (omega (arith, once x, times-here x xs)),
+  distinct_from_once xs
+      (λ t. omega (arith, once t)),
+)
 
 times_from_any : (t : ℕ) (xs : List ℕ) → list_any (eqb t) xs ≡ true → 0 < times t xs
 times_from_any t [] found = absurd (true≢false (sym found))
 times_from_any t (x ∷ xs) found =
     elim (cases_eq x t) [
       | inl same ↦ rw (eq-eqb x t same) (omega arith)
-      | inr differs ↦ omega (arith, times_from_any t xs (rw (ne_eqb t x (λ e. differs (sym e))) at found))
+      | inr differs ↦ omega (
+        arith,
+        times_from_any t xs
+            (rw (ne_eqb t x (λ e. differs (sym e))) at found),
+      )
     ]
 
 -- tokens from 1 to n, each once, are at most n
 pub length_once : (xs : List ℕ) (n : ℕ) → ((t : ℕ) → times t xs ≤ 1)
     → ((t : ℕ) → 0 < times t xs → (0 < t) × (t ≤ n)) → length xs ≤ n
 length_once xs n once within =
-    let none : times 0 xs ≡ 0 = zero_from_none (times 0 xs) (λ some. omega (arith, (within 0 some).0)) in
+    let none : times 0 xs ≡ 0 = zero_from_none (times 0 xs)
+    (λ some. omega (arith, (within 0 some).0)) in
     let whole : (t : ℕ) → times t (0 ∷ xs) ≤ 1 =
     λ t. elim (cases_eq 0 t) [
       | inl same ↦ subst (λ (u : ℕ). times u (0 ∷ xs) ≤ 1) same (omega (arith, times-here 0 xs))
       | inr differs ↦ omega (arith, times-other t 0 xs differs, once t)
     ] in
-    omega (arith, length-le_from_distinct_below (0 ∷ xs) (n + 1) (distinct_from_once (0 ∷ xs) whole) (λ q found. below q (times_from_any q (0 ∷ xs) found)))
+    omega (
+      arith,
+      length-le_from_distinct_below (0 ∷ xs) (n + 1) (distinct_from_once (0 ∷ xs) whole)
+          (λ q found. below q (times_from_any q (0 ∷ xs) found)),
+    )
   where
     below : (q : ℕ) → 0 < times q (0 ∷ xs) → q < n + 1
     below q found =

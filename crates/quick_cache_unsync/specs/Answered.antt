@@ -17,6 +17,7 @@ IsAnswered (Pair answer) = ⊤
 IsAnswered (Refused refusal) = ⊥
 
 -- the replies of a run, be they all or those for which there was room
-abbrev pub replies_of : {K V M : Type 0} → Result (Vec (Reply K V) M) (Vec (Reply K V) M × Vec (Call K V) M) → List (Reply K V)
+abbrev pub replies_of : {K V M : Type 0}
+    → Result (Vec (Reply K V) M) (Vec (Reply K V) M × Vec (Call K V) M) → List (Reply K V)
 replies_of (Ok replies) = replies.items
 replies_of (Err back) = back.0.items

@@ -8,23 +8,30 @@ use Rattle.quick_cache_unsync.specs.CacheStep.{CacheStep}
 
 module _ {K V : Type 0} (rules : Rules K V) (equal : K → K → Bool) (shows : V → V → Type 0) where
   -- from a state, by these calls with these replies, which call these hooks, to a state
-  pub data CacheRun : CacheState K V → List (Call K V) → List (Reply K V) → List (HookCall K V) → CacheState K V → Type 0 where
+  pub data CacheRun : CacheState K V → List (Call K V) → List (Reply K V) → List (HookCall K V)
+      → CacheState K V → Type 0 where
     ends : (state : CacheState K V) → CacheRun state [] [] [] state
-    goes_on : (old mid new : CacheState K V) (call : Call K V) (reply : Reply K V) (calls : List (Call K V)) (replies : List (Reply K V))
-        (first rest : List (HookCall K V)) → CacheStep rules equal shows old call reply first mid → CacheRun mid calls replies rest new
+    goes_on : (old mid new : CacheState K V) (call : Call K V) (reply : Reply K V)
+        (calls : List (Call K V)) (replies : List (Reply K V))
+        (first rest : List (HookCall K V)) → CacheStep rules equal shows old call reply first mid
+        → CacheRun mid calls replies rest new
         → CacheRun old (call ∷ calls) (reply ∷ replies) (first ++ rest) new
 
-  -- a run of these calls with these replies, whose hooks lead the request state from the first to the last
-  pub record IsRun {S : Type 0} (hooks : Hooks K V S) (old : CacheState K V) (first : S) (calls : List (Call K V)) (replies : List (Reply K V))
+  -- a run of these calls with these replies, whose hooks lead the request state from the first to
+  -- the last
+  pub record IsRun {S : Type 0} (hooks : Hooks K V S) (old : CacheState K V) (first : S)
+      (calls : List (Call K V)) (replies : List (Reply K V))
       (new : CacheState K V) (last : S) : Type 0 where
     pub hook_calls : List (HookCall K V)
     pub steps : CacheRun old calls replies hook_calls new
     pub runs : RunsHooks hooks hook_calls first last
 
-  -- The list of replies was full before it had the reply to one of the calls: those before that one were made, and it
-  -- comes back with those behind it.
-  pub record StopsWhereFull {S M : Type 0} (hooks : Hooks K V S) (old : CacheState K V) (first : S) (calls : List (Call K V))
-      (replies : Vec (Reply K V) M) (back : Vec (Call K V) M) (new : CacheState K V) (last : S) : Type 0 where
+  -- The list of replies was full before it had the reply to one of the calls: those before that one
+  -- were made, and it comes back with those behind it.
+  pub record StopsWhereFull {S M : Type 0} (hooks : Hooks K V S) (old : CacheState K V) (first : S)
+      (calls : List (Call K V))
+      (replies : Vec (Reply K V) M) (back : Vec (Call K V) M) (new : CacheState K V)
+      (last : S) : Type 0 where
     pub made : List (Call K V)
     pub unmade : Call K V
     pub behind : List (Call K V)
@@ -35,6 +42,9 @@ module _ {K V : Type 0} (rules : Rules K V) (equal : K → K → Bool) (shows : 
 
   -- All calls were made, or those before the first for whose reply there was no room.
   abbrev pub RunsCalls : {S M : Type 0} → Hooks K V S → CacheState K V → S → List (Call K V)
-      → Result (Vec (Reply K V) M) (Vec (Reply K V) M × Vec (Call K V) M) → CacheState K V → S → Type 0
-  RunsCalls hooks old first calls (Ok replies) new last = IsRun hooks old first calls replies.items new last
-  RunsCalls hooks old first calls (Err back) new last = StopsWhereFull hooks old first calls back.0 back.1 new last
+      → Result (Vec (Reply K V) M) (Vec (Reply K V) M × Vec (Call K V) M) → CacheState K V → S
+      → Type 0
+  RunsCalls hooks old first calls (Ok replies) new last =
+      IsRun hooks old first calls replies.items new last
+  RunsCalls hooks old first calls (Err back) new last =
+      StopsWhereFull hooks old first calls back.0 back.1 new last

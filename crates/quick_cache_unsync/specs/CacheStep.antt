@@ -24,13 +24,16 @@ IsShown shows _ _ = ⊥
 abbrev pub IsItself : {V : Type 0} → V → V → Type 0
 IsItself value shown = shown ≡ value
 
--- Values are shown by others: the second of `shows` may stand in a reply for the first, as a clone does.
+-- Values are shown by others: the second of `shows` may stand in a reply for the first, as a clone
+-- does.
 module _ {K V : Type 0} (rules : Rules K V) (equal : K → K → Bool) (shows : V → V → Type 0) where
-  -- The state before, the call, its reply, the hooks that it calls and the state after, up to the order of what has
-  -- none. An insert is refused where nothing stands under its key and a slot or memory for it ran out: then the pair
-  -- comes back. A look-up shows what it finds, and is refused only where an item stands under its key, of which the
-  -- reply needs a clone. A removal is never refused. A refused call calls no hook and changes nothing.
-  pub data CacheStep (old : CacheState K V) : Call K V → Reply K V → List (HookCall K V) → CacheState K V → Type 0 where
+  -- The state before, the call, its reply, the hooks that it calls and the state after, up to the
+  -- order of what has none. An insert is refused where nothing stands under its key and a slot or
+  -- memory for it ran out: then the pair comes back. A look-up shows what it finds, and is refused
+  -- only where an item stands under its key, of which the reply needs a clone. A removal is never
+  -- refused. A refused call calls no hook and changes nothing.
+  pub data CacheStep (old : CacheState K V) : Call K V → Reply K V → List (HookCall K V)
+      → CacheState K V → Type 0 where
     inserts : (key : K) (value : V) (calls : List (HookCall K V)) (new : CacheState K V)
         → IsProvided (needs_of_insert (equal key) (rules.hash key) old) old
         → UpToOrder (Writes rules (equal key) key insertion old value calls None) new
@@ -39,9 +42,11 @@ module _ {K V : Type 0} (rules : Rules K V) (equal : K → K → Bool) (shows : 
         → MayRefuse (needs_of_insert (equal key) (rules.hash key) old) old refusal
         → CacheStep old (Insert key value) (RefusedPair key value refusal) [] old
     gets : (key : K) (found shown : Option V) (new : CacheState K V)
-        → UpToOrder (LooksUp (equal key) old (λ item. item.value) found) new → IsShown shows found shown
+        → UpToOrder (LooksUp (equal key) old (λ item. item.value) found) new
+        → IsShown shows found shown
         → CacheStep old (Get key) (Value shown) [] new
-    refuses_get : (key : K) (refusal : Refusal) (place : Place) (before : List (Item K V)) (item : Item K V) (after : List (Item K V))
+    refuses_get : (key : K) (refusal : Refusal) (place : Place) (before : List (Item K V))
+        (item : Item K V) (after : List (Item K V))
         → IsItemAt (equal key) old place before item after → MayRefuse needs_of_clone old refusal
         → CacheStep old (Get key) (Refused refusal) [] old
     removes : (key : K) (answer : Option (K × V)) (new : CacheState K V)

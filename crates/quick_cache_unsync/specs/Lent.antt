@@ -1,4 +1,5 @@
--- What a cache ends as, once a reference into it has ended. This module alone names the row of its type parameters.
+-- What a cache ends as, once a reference into it has ended. This module alone names the row of its
+-- type parameters.
 use Rattle.std.specs.Prelude.{ℕ, Bool, List, ⊤}
 use Rattle.std.specs.Borrow.{Fml, RattleType, MutBor, follows_so}
 use Rattle.std.specs.declared.alloc.Allocator.{Ghosts}
@@ -6,10 +7,13 @@ use mathlib.Core.Option.{none}
 use Rattle.quick_cache_shard.specs.Shard.{Shard}
 use Rattle.quick_cache_unsync.specs.contracts.cache.Cache.{the_row}
 
-module _ (K V We B L A : RattleType) (equal : K.Denot → K.Denot → Bool) (writes : K.Denot → List (List ℕ)) (alloc : Ghosts A.Denot) where
+module _ (K V We B L A : RattleType) (equal : K.Denot → K.Denot → Bool)
+    (writes : K.Denot → List (List ℕ)) (alloc : Ghosts A.Denot) where
   abbrev row_of : RattleType
-  row_of = the_row K V We B L A (record {}) (record { eq = equal }) (record { hash_input = writes }) alloc
+  row_of = the_row K V We B L A (record {}) (record { eq = equal })
+      (record { hash_input = writes }) alloc
 
   -- P holds of it
-  abbrev pub ends_so : MutBor (Shard K.Denot V.Denot We.Denot B.Denot L.Denot) → (Shard K.Denot V.Denot We.Denot B.Denot L.Denot → Type 0) → Fml
+  abbrev pub ends_so : MutBor (Shard K.Denot V.Denot We.Denot B.Denot L.Denot)
+      → (Shard K.Denot V.Denot We.Denot B.Denot L.Denot → Type 0) → Fml
   ends_so cache P = follows_so row_of row_of cache.ghost_name none (λ _ _. ⊤) P

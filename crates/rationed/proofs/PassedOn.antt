@@ -1,5 +1,6 @@
--- A method that a ration passes on meets the contract of the inner allocator's method at the loan of the field:
--- lifetimes, sizes, block and answer are the same, and only the `&` to the ration becomes a `&` to the field.
+-- A method that a ration passes on meets the contract of the inner allocator's method at the loan
+-- of the field: lifetimes, sizes, block and answer are the same, and only the `&` to the ration
+-- becomes a `&` to the field.
 use Prim.Native.Nat.{◌+◌}
 use mathlib.Core.List.{List, [], ◌∷◌, ◌++◌}
 use mathlib.Core.Path.{refl, subst}
@@ -64,20 +65,27 @@ module _ (B : RattleType) where
 
   -- the `&` to the field, of a `&` to the ration
   abbrev pub inner : Bor Ration.Denot → Bor B.Denot
-  inner r = record { ref_ptr = (r.ref_ptr.0, r.ref_ptr.1 + up (align (layout B)) 0); now = r.now.inner }
+  inner r = record {
+    ref_ptr = (r.ref_ptr.0, r.ref_ptr.1 + up (align (layout B)) 0);
+    now = r.now.inner;
+  }
 
   module _ {M : Type 1} {𝓤 : Ura M} (𝓛 : Logic 𝓤) where
     -- a loan of the ration is one of the field too
     lends : Laws B → (κ : Lft) (r : Bor Ration.Denot)
-        → ent 𝓤 (sem 𝓛 (lent Ration κ r)) (sep 𝓤 (sem 𝓛 (lent Ration κ r)) (sem 𝓛 (lent (param 0 B) κ (inner r))))
+        → ent 𝓤 (sem 𝓛 (lent Ration κ r))
+        (sep 𝓤 (sem 𝓛 (lent Ration κ r)) (sem 𝓛 (lent (param 0 B) κ (inner r))))
     lends laws κ r =
         qed 𝓛 (‵ (lent Ration κ r) ∷ []) ∵ fsplit ! $ move ! (1 ∷ []) $
-        shr_dup ! Ration (the_row_laws (param 0 B) (param_laws 0 B laws)).shr_laws r.now r.ref_ptr.0 r.ref_ptr.1 κ $
-        unhide ! $ fsplit ! $ fsplit ! $ hide ! $ feq_i ! _ (shr_vals (inner r)) (shr_vals (inner r)) refl $ fjoin ! $
+        shr_dup ! Ration (the_row_laws (param 0 B) (param_laws 0 B laws)).shr_laws r.now r.ref_ptr.0
+        r.ref_ptr.1 κ $
+        unhide ! $ fsplit ! $ fsplit ! $ hide ! $ feq_i ! _ (shr_vals (inner r))
+        (shr_vals (inner r)) refl $ fjoin ! $
         -- [the field's; the rest of the ration, twice; the ration's, and where it lies]
         move ! (4 ∷ 3 ∷ []) $ fjoin ! $ keep ! (0 ∷ 1 ∷ []) $ done !
 
-    module _ (others : List (Slot 2)) (answer : Slot 2) (c : Spec 𝓤 (Method others answer (param 0 B))) where
+    module _ (others : List (Slot 2)) (answer : Slot 2)
+        (c : Spec 𝓤 (Method others answer (param 0 B))) where
       abbrev Inner : Contract 𝓤
       Inner = triple_of 𝓛 (Method others answer (param 0 B)) c
 
@@ -90,20 +98,25 @@ module _ (B : RattleType) where
       abbrev Outer : Contract 𝓤
       Outer = triple_of 𝓛 (Method others answer Ration) at_field
 
-      module _ (told : (κs : Lfts 2) → Spells (types_at others κs)) (𝓜 : Model 𝓤 𝓛.H) (𝓡 : Running 𝓤 𝓛.H 𝓜) (body : Fn) where
+      module _ (told : (κs : Lfts 2) → Spells (types_at others κs)) (𝓜 : Model 𝓤 𝓛.H)
+          (𝓡 : Running 𝓤 𝓛.H 𝓜) (body : Fn) where
         abbrev 𝓣 : MachineTables 𝓤 𝓛.H 𝓜
         𝓣 = tables 𝓤 𝓛.H 𝓜 𝓡 𝓡.env
 
         -- the body goes from the ration's loan and the inner call's premise to what that call gives
         abbrev Walk : Type 1
-        Walk = (κs : Lfts 2) (qs : Shares 2) (bounds : AllOutlive 2 (Method others answer Ration).outlives κs)
-            → (r : Bor Ration.Denot) (a : Denots (types_at others κs)) → let vss = valss (types_at others κs) (told κs) a in
-            Are (types_at others κs) (Ises (types_at others κs)) a vss → (g : (c κs (inner r, a)).ghost) →
+        Walk = (κs : Lfts 2) (qs : Shares 2)
+            (bounds : AllOutlive 2 (Method others answer Ration).outlives κs)
+            → (r : Bor Ration.Denot) (a : Denots (types_at others κs))
+            → let vss = valss (types_at others κs) (told κs) a in
+            Are (types_at others κs) (Ises (types_at others κs)) a vss
+            → (g : (c κs (inner r, a)).ghost) →
             let x : Inner.Ghost = ((κs, qs, bounds, (inner r, a), (shr_vals (inner r), vss)), g) in
             ent 𝓤 (sep 𝓤 (sem 𝓛 (lent Ration κs.0 r)) (Inner.pre x))
             (WpFn 𝓤 𝓛.H 𝓣.C 𝓣.Λ body (shr_vals r ++ flat (types_at others κs) vss) (Inner.post x))
 
-        pub passed_on : Laws B → ((κs : Lfts 2) → Tellss (types_at others κs) (Ises (types_at others κs)) (told κs))
+        pub passed_on : Laws B → ((κs : Lfts 2)
+            → Tellss (types_at others κs) (Ises (types_at others κs)) (told κs))
             → {name : Callee} → Closed 𝓤 𝓛.H 𝓣.C 𝓣.Λ name body
             → Walk → Meets 𝓛 (Method others answer Ration) (𝓣.C name) at_field
         passed_on laws tells {name} closed walk = entered 𝓤 𝓛.H Outer 𝓣.C 𝓣.Λ name body closed (λ y.
@@ -117,12 +130,16 @@ module _ (B : RattleType) where
             -- the machine values are written out
             split ! $ move ! (1 ∷ []) $ fsplit ! $ fsplit ! $ feq_l ! (λ one. move ! (1 ∷ []) $
             use1 𝓛 (given (Are Rs (Ises Rs) a y.0.4.1) (‵ (owns Rs a y.0.4.1)))
-            (fact_use 𝓤 _ (owns_show 𝓛 Rs (Ises Rs) (showss 𝓛 Rs) a y.0.4.1) (λ are. guard_i 𝓤 _ _ are)) $ learn ! (λ are.
+            (fact_use 𝓤 _ (owns_show 𝓛 Rs (Ises Rs) (showss 𝓛 Rs) a y.0.4.1)
+            (λ are. guard_i 𝓤 _ _ are)) $ learn ! (λ are.
             let more = all_tell Rs (Ises Rs) (told y.0.0) (tells y.0.0) a y.0.4.1 are in
             rewrite ! 0 (λ vss. ‵ (owns Rs a vss)) more refl $
-            regoal ! (λ vs. prop (WpFn 𝓤 𝓛.H 𝓣.C 𝓣.Λ body vs (Outer.post y))) (λ i. one i ++ flat Rs (more i)) refl $
+            regoal ! (λ vs. prop (WpFn 𝓤 𝓛.H 𝓣.C 𝓣.Λ body vs (Outer.post y)))
+            (λ i. one i ++ flat Rs (more i)) refl $
             -- the loan of the field takes the place of the ration's
             move ! (1 ∷ []) $ feq_i ! _ (shr_vals r) (shr_vals r) refl $ fjoin ! $
-            use1 𝓛 (‵ (lent Ration y.0.0.0 r) ⊛ ‵ (lent (param 0 B) y.0.0.0 (inner r))) (lends laws y.0.0.0 r) $ split ! $
-            move ! (1 ∷ 2 ∷ []) $ fjoin ! $ move ! (2 ∷ 0 ∷ []) $ join ! $ move ! (0 ∷ 2 ∷ []) $ join ! $ move ! (1 ∷ 0 ∷ []) $
+            use1 𝓛 (‵ (lent Ration y.0.0.0 r) ⊛ ‵ (lent (param 0 B) y.0.0.0 (inner r)))
+            (lends laws y.0.0.0 r) $ split ! $
+            move ! (1 ∷ 2 ∷ []) $ fjoin ! $ move ! (2 ∷ 0 ∷ []) $ join ! $ move !
+            (0 ∷ 2 ∷ []) $ join ! $ move ! (1 ∷ 0 ∷ []) $
             by ! (walk y.0.0 y.0.1 y.0.2 r a (subst (Are Rs (Ises Rs) a) more are) y.1))))

@@ -49,7 +49,8 @@ module _ {K V : Type 0} (rules : Rules K V) (many : ℕ → Type 0)
       → AdvancesHot rules old answer calls new
       → AdvancesHot (record rules { may_count = many }) old answer calls new
   AdvancesHot-more old _ _ _ (AdvancesHot.all_pinned hot raised pinned) =
-      AdvancesHot.all_pinned hot (RaisesMarks-more rules.may_count many more old.mark_cut old.hot hot raised)
+      AdvancesHot.all_pinned hot (RaisesMarks-more rules.may_count many more old.mark_cut old.hot
+      hot raised)
       pinned
   AdvancesHot-more old _ _ _ (AdvancesHot.evicts hot before item after calls new raised split first
       evicts) =
@@ -78,7 +79,8 @@ module _ {K V : Type 0} (rules : Rules K V) (many : ℕ → Type 0)
   AdvancesCold-more old _ _ _ (AdvancesCold.promotes cold before item after calls new raised split
       passed marked goes) =
       AdvancesCold.promotes cold before item after calls new
-      (RaisesMarks-more rules.may_count many more old.mark_cut old.cold cold raised) split passed marked
+      (RaisesMarks-more rules.may_count many more old.mark_cut old.cold cold raised) split passed
+      marked
       (EvictsToTarget-more _ calls new goes)
   AdvancesCold-more old _ _ _ (AdvancesCold.evicts cold before item after calls new raised split
       passed unmarked unpinned evicts) =

@@ -87,7 +87,8 @@ module _ {K V S : Type 0} (rules : Rules K V) (may : rules.may_count 0) (hooks :
         calls = [];
         new = record old { hot = map (lowered 1) old.hot };
         last = first;
-        holds = AdvancesHot.all_pinned old.hot (RaisesMarks-same old.mark_cut rules.may_count may old.hot) all;
+        holds = AdvancesHot.all_pinned old.hot
+            (RaisesMarks-same old.mark_cut rules.may_count may old.hot) all;
         runs = refl;
       }
       go (Victim.is_there before item after split is) =
@@ -180,7 +181,8 @@ module _ {K V S : Type 0} (rules : Rules K V) (may : rules.may_count 0) (hooks :
             new = rest.new;
             last = rest.last;
             holds = AdvancesCold.promotes old.cold before item after rest.calls rest.new
-                (RaisesMarks-same old.mark_cut rules.may_count may old.cold) split passed marked rest.holds;
+                (RaisesMarks-same old.mark_cut rules.may_count may old.cold) split passed marked
+                rest.holds;
             runs = rest.runs;
           }
       go (Candidate.is_victim before item after split passed unmarked unpinned) =

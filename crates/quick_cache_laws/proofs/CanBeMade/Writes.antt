@@ -56,7 +56,8 @@ module _ {K V S : Type 0} (rules : Rules K V) (may : rules.may_count 0) (hooks :
         (place : Place) (before : List (Item K V)) (item : Item K V) (after : List (Item K V))
         → IsItemAt equal_to old place before item after → Written strategy old value first
     overwritten strategy old value first place before item after there =
-        let new = new_item rules key value item.queue (mark_after old.mark_cut strategy item.mark) in
+        let new = new_item rules key value item.queue
+        (mark_after old.mark_cut strategy item.mark) in
         let gone = told rules may hooks can item.queue first item.key item.value in
         let room = EvictsToCapacity-exists rules may hooks can 0
         (rewritten place before new after old) gone.0 in

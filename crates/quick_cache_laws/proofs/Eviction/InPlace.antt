@@ -46,7 +46,8 @@ module _ {K V : Type 0} where
   )
 
   -- so do lowered marks
-  pub IsRingItem-lowered : (cut : ℕ) (queue : Queue) (n : ℕ) (item : Item K V) → IsRingItem cut queue item
+  pub IsRingItem-lowered : (cut : ℕ) (queue : Queue) (n : ℕ) (item : Item K V)
+      → IsRingItem cut queue item
       → IsRingItem cut queue (lowered n item)
   IsRingItem-lowered cut queue n item ring = record
       { weighs = ring.weighs; of_queue = ring.of_queue; marked = omega (arith, ring.marked) }
@@ -71,7 +72,8 @@ module _ {K V : Type 0} (rules : Rules K V) where
   EvictsVictim-in_place queue old _ item _ (EvictsVictim.stays left light) marked place = record {
     in_hot = place.in_hot;
     in_cold = place.in_cold;
-    in_still = all-push (IsStillItem old.mark_cut) old.still (record item { value = left; weight = 0 })
+    in_still = all-push (IsStillItem old.mark_cut) old.still
+        (record item { value = left; weight = 0 })
         place.in_still (record { weightless = refl; marked = marked });
   }
   EvictsVictim-in_place Hot old _ item _ (EvictsVictim.leaves left heavy) marked place = place
@@ -83,7 +85,8 @@ module _ {K V : Type 0} (rules : Rules K V) where
       (calls : List (HookCall K V))
       → AdvancesHot rules old answer calls new → IsInPlace old → IsInPlace new
   AdvancesHot-in_place old _ _ _ (AdvancesHot.all_pinned hot raised pinned) place = record {
-    in_hot = all-lowered old.mark_cut Hot 1 hot (all-raised old.mark_cut Hot rules.may_count old.hot hot raised place.in_hot);
+    in_hot = all-lowered old.mark_cut Hot 1 hot
+        (all-raised old.mark_cut Hot rules.may_count old.hot hot raised place.in_hot);
     in_cold = place.in_cold;
     in_still = place.in_still;
   }
@@ -97,7 +100,8 @@ module _ {K V : Type 0} (rules : Rules K V) where
       (record {
         in_hot = all-append (IsRingItem old.mark_cut Hot) (map (lowered item.mark) after)
             (map (lowered (item.mark + 1)) before)
-            (all-lowered old.mark_cut Hot item.mark after (all-right (IsRingItem old.mark_cut Hot) before (item ∷ after)
+            (all-lowered old.mark_cut Hot item.mark after
+            (all-right (IsRingItem old.mark_cut Hot) before (item ∷ after)
             ring).1)
             (all-lowered old.mark_cut Hot (item.mark + 1) before
             (all-left (IsRingItem old.mark_cut Hot) before (item ∷ after) ring));
@@ -126,7 +130,8 @@ module _ {K V : Type 0} (rules : Rules K V) where
       subst (λ (xs : List (Item K V)). AllByRecursion (IsRingItem old.mark_cut Cold) xs) split
       (all-raised old.mark_cut Cold rules.may_count old.cold cold raised place.in_cold)
       in
-      let was : IsRingItem old.mark_cut Cold item = all-middle (IsRingItem old.mark_cut Cold) before item after ring in
+      let was : IsRingItem old.mark_cut Cold item =
+      all-middle (IsRingItem old.mark_cut Cold) before item after ring in
       EvictsToTarget-in_place _ new calls goes
       (record {
         in_hot = all-push (IsRingItem old.mark_cut Hot) old.hot

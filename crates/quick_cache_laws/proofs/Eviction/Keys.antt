@@ -33,7 +33,12 @@ module _ {K V : Type 0} (rules : Rules K V) (test : K → Bool) where
   pub AdvancesHot-keys : (old new : CacheState K V) (answer : Bool) (calls : List (HookCall K V))
       → AdvancesHot rules old answer calls new → keys_by test new ≤ keys_by test old
   AdvancesHot-keys old _ _ _ (AdvancesHot.all_pinned hot raised pinned) =
-      omega (arith, keys-lowered test 1 hot, keys-raised test old.mark_cut rules.may_count old.hot hot raised)
+      omega (
+        arith,
+        keys-lowered test 1 hot,
+        keys-raised test old.mark_cut rules.may_count old.hot
+            hot raised,
+      )
   AdvancesHot-keys old _ _ _ (AdvancesHot.evicts hot before item after calls new raised split first
       evicts) =
       omega (

@@ -60,7 +60,12 @@ module _ {K V : Type 0} (rules : Rules K V) where
   AdvancesHot-measure_le old new true calls advances =
       omega (arith, AdvancesHot-measure old new calls advances)
   AdvancesHot-measure_le old _ false _ (AdvancesHot.all_pinned hot raised pinned) =
-      omega (arith, length-raised old.mark_cut rules.may_count old.hot hot raised, length-map hot (lowered 1))
+      omega (
+        arith,
+        length-raised old.mark_cut rules.may_count old.hot hot raised,
+        length-map hot
+            (lowered 1),
+      )
 
   -- nor does any grow when the hot ring is brought to its target
   pub EvictsToTarget-measure_le : (old new : CacheState K V) (calls : List (HookCall K V))

@@ -194,7 +194,8 @@ module _ {K V : Type 0} (rules : Rules K V) (leaves : K → V → V) where
     none_taken
         : (old : CacheState K V) (cold cold' before : List (Item K V)) (item : Item K V)
         (after : List (Item K V))
-        → RaisesMarks old.mark_cut rules.may_count old.cold cold → RaisesMarks old.mark_cut rules.may_count old.cold cold'
+        → RaisesMarks old.mark_cut rules.may_count old.cold cold
+        → RaisesMarks old.mark_cut rules.may_count old.cold cold'
         → cold ≡ before ++ item ∷ after → AllByRecursion (IsPassed rules) cold'
         → (IsPassed rules item → ⊥) → ⊥
     none_taken old cold cold' before item after raises raises' split all taken =

@@ -105,7 +105,12 @@ module _ {K V : Type 0} (rules : Rules K V) (test : K → V → Bool)
   pub AdvancesHot-pairs : (old new : CacheState K V) (answer : Bool) (calls : List (HookCall K V))
       → AdvancesHot rules old answer calls new → pairs_by test old ≤ pairs_by test new
   AdvancesHot-pairs old _ _ _ (AdvancesHot.all_pinned hot raised pinned) =
-      omega (arith, pairs-lowered test 1 hot, pairs-raised test old.mark_cut rules.may_count old.hot hot raised)
+      omega (
+        arith,
+        pairs-lowered test 1 hot,
+        pairs-raised test old.mark_cut rules.may_count old.hot
+            hot raised,
+      )
   AdvancesHot-pairs old _ _ _ (AdvancesHot.evicts hot before item after calls new raised split first
       evicts) =
       omega (

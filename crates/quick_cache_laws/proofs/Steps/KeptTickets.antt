@@ -201,7 +201,8 @@ module _ {K V : Type 0} where
         (kept-unloaded before entry after old there.split)
         (kept-entered (new_item rules entry.key left
         (queue_for rules old entry.key left entry.queue)
-        (if marked then first_mark old.mark_cut else 0)) (record old { loading = before ++ after })))
+        (if marked then first_mark old.mark_cut else 0))
+        (record old { loading = before ++ after })))
         makes
       where
         room : (weight : ℕ) (mid : CacheState K V) (calls : List (HookCall K V))

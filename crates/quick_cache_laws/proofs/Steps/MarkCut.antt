@@ -124,7 +124,8 @@ module _ {K V : Type 0} (rules : Rules K V) where
 
   -- a write
   module _ (equal_to : K → Bool) (key : K) where
-    WritesAdmitted-cut : (strategy : Strategy) (old : CacheState K V) (value : V) (new : CacheState K V)
+    WritesAdmitted-cut : (strategy : Strategy) (old : CacheState K V) (value : V)
+        (new : CacheState K V)
         (calls : List (HookCall K V)) (answer : Option (K × V))
         → WritesAdmitted rules equal_to key strategy old value calls answer new
         → KeepsTheCut old new
@@ -152,7 +153,8 @@ module _ {K V : Type 0} (rules : Rules K V) where
         with_items-cut place (before ++ after) old
     TakesOutItem-cut old _ _ (TakesOutItem.was_absent none) = refl
 
-    RejectsTooHeavy-cut : (strategy : Strategy) (old : CacheState K V) (value : V) (new : CacheState K V)
+    RejectsTooHeavy-cut : (strategy : Strategy) (old : CacheState K V) (value : V)
+        (new : CacheState K V)
         (calls : List (HookCall K V)) (answer : Option (K × V))
         → RejectsTooHeavy equal_to key strategy old value calls answer new → KeepsTheCut old new
     RejectsTooHeavy-cut strategy old value _ _ _

@@ -33,7 +33,8 @@ module _ {K V : Type 0} where
       → new.weight ≡ item.weight → new.mark ≤ state.mark_cut
       → IsInPlace state → IsInPlace (with_items place (before ++ new ∷ after) state)
   instead-in_place InHot before item new after state split queue weight marked all = record {
-    in_hot = ring (subst (λ (xs : List (Item K V)). AllByRecursion (IsRingItem state.mark_cut Hot) xs)
+    in_hot = ring (subst (λ (xs : List (Item K V)). AllByRecursion
+        (IsRingItem state.mark_cut Hot) xs)
         split all.in_hot);
     in_cold = all.in_cold;
     in_still = all.in_still;
@@ -41,7 +42,8 @@ module _ {K V : Type 0} where
     where
       ring : AllByRecursion (IsRingItem state.mark_cut Hot) (before ++ item ∷ after)
           → AllByRecursion (IsRingItem state.mark_cut Hot) (before ++ new ∷ after)
-      ring was = let h = all-middle (IsRingItem state.mark_cut Hot) before item after was in all-instead
+      ring was = let h = all-middle (IsRingItem state.mark_cut Hot) before item after was
+          in all-instead
           (IsRingItem state.mark_cut Hot) before item new after
           (record {
             weighs = omega (arith, h.weighs, weight);
@@ -51,14 +53,16 @@ module _ {K V : Type 0} where
           }) was
   instead-in_place InCold before item new after state split queue weight marked all = record {
     in_hot = all.in_hot;
-    in_cold = ring (subst (λ (xs : List (Item K V)). AllByRecursion (IsRingItem state.mark_cut Cold) xs)
+    in_cold = ring (subst (λ (xs : List (Item K V)). AllByRecursion
+        (IsRingItem state.mark_cut Cold) xs)
         split all.in_cold);
     in_still = all.in_still;
   }
     where
       ring : AllByRecursion (IsRingItem state.mark_cut Cold) (before ++ item ∷ after)
           → AllByRecursion (IsRingItem state.mark_cut Cold) (before ++ new ∷ after)
-      ring was = let h = all-middle (IsRingItem state.mark_cut Cold) before item after was in all-instead
+      ring was = let h = all-middle (IsRingItem state.mark_cut Cold) before item after was
+          in all-instead
           (IsRingItem state.mark_cut Cold) before item new after
           (record {
             weighs = omega (arith, h.weighs, weight);
@@ -69,13 +73,15 @@ module _ {K V : Type 0} where
   instead-in_place InStill before item new after state split queue weight marked all = record {
     in_hot = all.in_hot;
     in_cold = all.in_cold;
-    in_still = ring (subst (λ (xs : List (Item K V)). AllByRecursion (IsStillItem state.mark_cut) xs)
+    in_still = ring (subst (λ (xs : List (Item K V)). AllByRecursion
+        (IsStillItem state.mark_cut) xs)
         split all.in_still);
   }
     where
       ring : AllByRecursion (IsStillItem state.mark_cut) (before ++ item ∷ after)
           → AllByRecursion (IsStillItem state.mark_cut) (before ++ new ∷ after)
-      ring was = let h = all-middle (IsStillItem state.mark_cut) before item after was in all-instead (IsStillItem state.mark_cut)
+      ring was = let h = all-middle (IsStillItem state.mark_cut) before item after was
+          in all-instead (IsStillItem state.mark_cut)
           before item new after (record { weightless = weight ∙ h.weightless; marked = marked }) was
 
   -- a filter brings no key

@@ -87,8 +87,10 @@ module _ {K V : Type 0} (equal : K → K → Bool) where
         → IsValid equal new
     ActsOnEntry-valid stands_for old item left _ _ _ (ActsOnEntry.kept place before after there)
         valid =
-        after_hit-valid equal (reweighed rules place before (looked_up old.mark_cut item) after left old)
-        (reweighed-valid place before item (looked_up old.mark_cut item) after left old there.split refl refl
+        after_hit-valid equal (reweighed rules place before
+        (looked_up old.mark_cut item) after left old)
+        (reweighed-valid place before item
+        (looked_up old.mark_cut item) after left old there.split refl refl
         (omega arith) valid)
     ActsOnEntry-valid stands_for old item left _ _ _
         (ActsOnEntry.removed place before after now front back there written) valid =

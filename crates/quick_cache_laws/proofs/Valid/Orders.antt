@@ -97,5 +97,6 @@ module _ {K V : Type 0} where
         in_hot = valid.in_hot;
         in_cold = valid.in_cold;
         in_still =
-            all-permutation (IsStillItem old.mark_cut) old.still new.still order.still valid.in_still;
+            all-permutation (IsStillItem old.mark_cut) old.still new.still order.still
+            valid.in_still;
       }))

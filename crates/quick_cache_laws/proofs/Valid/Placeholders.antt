@@ -23,7 +23,8 @@ module _ {K V : Type 0} (equal : K → K → Bool) (laws : IsEquivalence equal) 
   pub MakesPlaceholder-valid : (stands_for : K → Bool) (hash : ℕ) (key : K)
       (old new : CacheState K V) → ((x : K) → stands_for x ≡ equal key x)
       → MakesPlaceholder stands_for old hash key new → IsValid equal old → IsValid equal new
-  MakesPlaceholder-valid stands_for hash key old _ exact (MakesPlaceholder.on_nothing stands nothing)
+  MakesPlaceholder-valid stands_for hash key old _ exact
+      (MakesPlaceholder.on_nothing stands nothing)
       valid =
       with_placeholder-valid equal laws key Cold (after_miss old)
       (keys_by-absent equal laws stands_for key exact old nothing.keys)
@@ -33,7 +34,8 @@ module _ {K V : Type 0} (equal : K → K → Bool) (laws : IsEquivalence equal) 
       let mid : CacheState K V = record old { ghosts = before ++ after } in
       with_placeholder-valid equal laws key Hot (after_miss mid)
       (keys_by-absent equal laws stands_for key exact old there.keys)
-      (after_miss-valid equal mid (without_ghost-valid equal before hash after old there.split valid))
+      (after_miss-valid equal mid (without_ghost-valid equal before hash after old there.split
+      valid))
 
   -- one that is there is met
   pub MeetsPlaceholder-valid : (stands_for : K → Bool) (ticket : ℕ) (old new : CacheState K V)

@@ -226,7 +226,8 @@ module _ {K V : Type 0} where
       split all.in_cold)).marked
   IsInPlace-marked InStill before item after state split all =
       (all-middle (IsStillItem state.mark_cut) before item after
-      (subst (λ (xs : List (Item K V)). AllByRecursion (IsStillItem state.mark_cut) xs) split all.in_still)).marked
+      (subst (λ (xs : List (Item K V)). AllByRecursion (IsStillItem state.mark_cut) xs) split
+      all.in_still)).marked
 
   -- an item taken out leaves the others in place
   pub without-in_place : (place : Place) (before : List (Item K V)) (item : Item K V)
@@ -235,21 +236,24 @@ module _ {K V : Type 0} where
       → IsInPlace (with_items place (before ++ after) state)
   without-in_place InHot before item after state split all = record {
     in_hot = all-without (IsRingItem state.mark_cut Hot) before item after
-        (subst (λ (xs : List (Item K V)). AllByRecursion (IsRingItem state.mark_cut Hot) xs) split all.in_hot);
+        (subst (λ (xs : List (Item K V)). AllByRecursion (IsRingItem state.mark_cut Hot) xs) split
+        all.in_hot);
     in_cold = all.in_cold;
     in_still = all.in_still;
   }
   without-in_place InCold before item after state split all = record {
     in_hot = all.in_hot;
     in_cold = all-without (IsRingItem state.mark_cut Cold) before item after
-        (subst (λ (xs : List (Item K V)). AllByRecursion (IsRingItem state.mark_cut Cold) xs) split all.in_cold);
+        (subst (λ (xs : List (Item K V)). AllByRecursion (IsRingItem state.mark_cut Cold) xs) split
+        all.in_cold);
     in_still = all.in_still;
   }
   without-in_place InStill before item after state split all = record {
     in_hot = all.in_hot;
     in_cold = all.in_cold;
     in_still = all-without (IsStillItem state.mark_cut) before item after
-        (subst (λ (xs : List (Item K V)). AllByRecursion (IsStillItem state.mark_cut) xs) split all.in_still);
+        (subst (λ (xs : List (Item K V)). AllByRecursion (IsStillItem state.mark_cut) xs) split
+        all.in_still);
   }
 
   -- an item that enters goes where its weight and its queue say
@@ -285,7 +289,8 @@ module _ {K V : Type 0} where
   -- so does one that is written over another of its queue
   pub rewritten-in_place : (place : Place) (before : List (Item K V)) (item new : Item K V)
       (after : List (Item K V)) (state : CacheState K V)
-      → items_at place state ≡ before ++ item ∷ after → new.queue ≡ item.queue → new.mark ≤ state.mark_cut
+      → items_at place state ≡ before ++ item ∷ after → new.queue ≡ item.queue
+      → new.mark ≤ state.mark_cut
       → IsInPlace state → IsInPlace (rewritten place before new after state)
   rewritten-in_place InStill before item new after state split queue marked all =
       go (new.weight == 0) refl
@@ -298,7 +303,8 @@ module _ {K V : Type 0} where
         in_cold = all.in_cold;
         in_still = all-instead (IsStillItem state.mark_cut) before item new after
             (record { weightless = eqb-true new.weight 0 is; marked = marked })
-            (subst (λ (xs : List (Item K V)). AllByRecursion (IsStillItem state.mark_cut) xs) split all.in_still);
+            (subst (λ (xs : List (Item K V)). AllByRecursion (IsStillItem state.mark_cut) xs) split
+            all.in_still);
       }
       go false is = entered-in_place new (record state { still = before ++ after }) marked
           (without-in_place InStill before item after state split all)
@@ -306,7 +312,8 @@ module _ {K V : Type 0} where
       go (new.weight == 0) refl
     where
       ring : AllByRecursion (IsRingItem state.mark_cut Hot) (before ++ item ∷ after)
-      ring = subst (λ (xs : List (Item K V)). AllByRecursion (IsRingItem state.mark_cut Hot) xs) split all.in_hot
+      ring = subst (λ (xs : List (Item K V)). AllByRecursion (IsRingItem state.mark_cut Hot) xs)
+          split all.in_hot
 
       go : (b : Bool) → (new.weight == 0) ≡ b
           → IsInPlace (if b then entered new (with_items InHot (restarted_behind before after)
@@ -323,7 +330,8 @@ module _ {K V : Type 0} where
             (record {
               weighs = omega arith;
               of_queue =
-                  queue ∙ (all-middle (IsRingItem state.mark_cut Hot) before item after ring).of_queue;
+                  queue ∙ (all-middle (IsRingItem state.mark_cut Hot) before item after
+                  ring).of_queue;
               marked =
                   marked;
             }) ring;
@@ -334,7 +342,8 @@ module _ {K V : Type 0} where
       go (new.weight == 0) refl
     where
       ring : AllByRecursion (IsRingItem state.mark_cut Cold) (before ++ item ∷ after)
-      ring = subst (λ (xs : List (Item K V)). AllByRecursion (IsRingItem state.mark_cut Cold) xs) split all.in_cold
+      ring = subst (λ (xs : List (Item K V)). AllByRecursion (IsRingItem state.mark_cut Cold) xs)
+          split all.in_cold
 
       go : (b : Bool) → (new.weight == 0) ≡ b
           → IsInPlace (if b then entered new (with_items InCold (restarted_behind before after)
@@ -352,7 +361,8 @@ module _ {K V : Type 0} where
             (record {
               weighs = omega arith;
               of_queue =
-                  queue ∙ (all-middle (IsRingItem state.mark_cut Cold) before item after ring).of_queue;
+                  queue ∙ (all-middle (IsRingItem state.mark_cut Cold) before item after
+                  ring).of_queue;
               marked =
                   marked;
             }) ring;

@@ -54,9 +54,11 @@ module _ {K V : Type 0} (equal : K → K → Bool) (laws : IsEquivalence equal) 
   WritesAdmitted-valid strategy old value _ _ _
       (WritesAdmitted.overwrites place before item touched after calls new there takes evicts)
       valid =
-      let marked : item.mark ≤ old.mark_cut = IsInPlace-marked place before item after old there.split
+      let marked : item.mark ≤ old.mark_cut =
+      IsInPlace-marked place before item after old there.split
       (IsValid-in_place equal old valid) in
-      let written = new_item rules key value item.queue (mark_after old.mark_cut strategy touched.mark) in
+      let written = new_item rules key value item.queue
+      (mark_after old.mark_cut strategy touched.mark) in
       EvictsToCapacity-valid equal rules 0 (rewritten place before written after old)
       new calls evicts
       (rewritten-valid equal laws place before item written after old there.split there.passes refl

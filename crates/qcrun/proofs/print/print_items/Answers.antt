@@ -9,7 +9,8 @@ loop-key-preserved g c =
     HasPrinted-more _ (g.W.Write.contents c.loop-key.writer) _ _ _
     (item_text (c.in-Some.key.now, c.in-Some.value.now, c.in-Some.mark)) _ c.loop-key.invariant
     (ap items_text c.in-Some.ensures.steps ∙ items_text-cons _ _)
-    (Appends-item _ _ c.in-Some.key.now c.in-Some.value.now c.in-Some.mark c.in_ok-write.ensures.bytes)
+    (Appends-item _ _ c.in-Some.key.now c.in-Some.value.now c.in-Some.mark
+    c.in_ok-write.ensures.bytes)
 
 -- no item is left
 pub returns : goal.returns

@@ -12,14 +12,20 @@ returns-in_default-clause-serves g c = Serves.lacks_memory c.args.key c.args.val
 pub returns-in-Ok-run-clause-serves : goal.returns-in-Ok-run-clause-serves
 returns-in-Ok-run-clause-serves g c =
     let one : Insert c.args.key c.args.value ∷ [] ≡ c.push.new.self.items ++ [] =
-    sym (append-nil c.push.new.self.items ∙ (c.in-Ok.ensures.items ∙ ap (λ xs. xs ++ Insert c.args.key c.args.value ∷ []) c.new-calls.ensures.items)) in
-    rw c.first_reply.ensures (CacheRun-one _ g.K.PartialEq.eq g.V.Clone.is_clone c.requires.clones c.in-Ok-run.ensures.runs.steps c.args.key c.args.value [] one)
+    sym (append-nil c.push.new.self.items
+    ∙ (c.in-Ok.ensures.items ∙ ap (λ xs. xs ++ Insert c.args.key c.args.value ∷ [])
+    c.new-calls.ensures.items)) in
+    rw c.first_reply.ensures (CacheRun-one _ g.K.PartialEq.eq g.V.Clone.is_clone c.requires.clones
+    c.in-Ok-run.ensures.runs.steps c.args.key c.args.value [] one)
 
 -- the calls that were made and those that come back are the list of the one
 pub returns-clause-serves : goal.returns-clause-serves
 returns-clause-serves g c =
     let back = c.in-Err.ensures.runs in
     let one : Insert c.args.key c.args.value ∷ [] ≡ back.made ++ c.in-Err.field-0-1.items =
-    sym (c.in-Ok.ensures.items ∙ ap (λ xs. xs ++ Insert c.args.key c.args.value ∷ []) c.new-calls.ensures.items)
+    sym (c.in-Ok.ensures.items ∙ ap
+    (λ xs. xs ++ Insert c.args.key c.args.value ∷ []) c.new-calls.ensures.items)
     ∙ (back.parts ∙ ap (λ xs. back.made ++ xs) (sym back.comes_back)) in
-    rw c.first_reply-in-Err.ensures (CacheRun-one _ g.K.PartialEq.eq g.V.Clone.is_clone c.requires.clones back.runs.steps c.args.key c.args.value c.in-Err.field-0-1.items one)
+    rw c.first_reply-in-Err.ensures
+    (CacheRun-one _ g.K.PartialEq.eq g.V.Clone.is_clone c.requires.clones back.runs.steps
+    c.args.key c.args.value c.in-Err.field-0-1.items one)

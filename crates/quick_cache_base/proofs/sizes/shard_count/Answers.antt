@@ -17,7 +17,8 @@ loop-shards-init c =
           absurd (omega (arith, positive, doubled, first.lower_bound, within));
     }
 
--- no power of two stands between half of the count and the count, at which a shard has too few items
+-- no power of two stands between half of the count and the count, at which a shard has too few
+-- items
 pub loop-shards-preserved : goal.loop-shards-preserved
 loop-shards-preserved c =
     let kept = c.loop-shards.invariant in

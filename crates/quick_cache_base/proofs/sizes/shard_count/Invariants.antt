@@ -8,7 +8,8 @@ abbrev pub invariant-loop-shards : goal.invariant-loop-shards
 invariant-loop-shards l = record {
   power : IsPowerOfTwo l.shards;
   within_asked : IsWithinAsked l.asked l.shards;
-  greatest : (more : ℕ) → IsPowerOfTwo more → l.shards < more → IsWithinAsked l.asked more → shard_part l.items more < 32;
+  greatest : (more : ℕ) → IsPowerOfTwo more → l.shards < more → IsWithinAsked l.asked more
+      → shard_part l.items more < 32;
 }
 
 abbrev pub decreases-loop-shards : goal.decreases-loop-shards

@@ -24,7 +24,8 @@ returns-clause-measure g c = λ hash weight pinned old new calls advances.
     AdvancesCold-measure _ old new calls advances
 
 pub returns-clause-ends : goal.returns-clause-ends
-returns-clause-ends g c = λ hash weight pinned need old. EvictsToCapacity-ends _ g.T.Touches.none_counted
+returns-clause-ends g c = λ hash weight pinned need old. EvictsToCapacity-ends _
+    g.T.Touches.none_counted
     need old
 
 pub returns-clause-makes_room : goal.returns-clause-makes_room

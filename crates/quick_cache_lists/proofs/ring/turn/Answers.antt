@@ -2,4 +2,8 @@ use Rattle.std.proofs.Common.{refl}
 use Rattle.quick_cache_lists.proofs.ring.turn.Goals as goal
 
 pub returns-in-Some : goal.returns-in-Some
-returns-in-Some g c = record { counted = refl; weighed = refl; head = rw c.in-Some.is (c.get_unchecked.result.1, refl, c.get_unchecked.ensures.next) }
+returns-in-Some g c = record {
+  counted = refl;
+  weighed = refl;
+  head = rw c.in-Some.is (c.get_unchecked.result.1, refl, c.get_unchecked.ensures.next);
+}

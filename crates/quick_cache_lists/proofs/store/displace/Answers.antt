@@ -11,26 +11,36 @@ pub returns-clause-keyed : goal.returns-clause-keyed
 returns-clause-keyed g c =
     let slot = c.in-Some.slot in
     let was = c.in-Some.ensures.item in
-    let has : HasPair c.args.table.now slot.hash (number c.args.token) = c.requires.keyed.pairs slot.hash (number c.args.token) ∙ ap (has_hash slot.hash) was ∙ eq-eqb slot.hash slot.hash refl in
+    let has : HasPair c.args.table.now slot.hash (number c.args.token) =
+    c.requires.keyed.pairs slot.hash (number c.args.token) ∙ ap (has_hash slot.hash) was
+    ∙ eq-eqb slot.hash slot.hash refl in
     let found = c.remove-in-Some.ensures.found.1 has in
-    let removed = IsRemoved-from c.args.slab.now c.remove.new.self (number c.args.token) slot was c.in-Some.ensures.removed in
-    IsKeyed-removed c.args.slab.now c.remove.new.self (number c.args.token) removed c.args.table.now c.remove-in-Some.new.self slot was c.requires.keyed (rw found at c.remove-in-Some.ensures.removes)
+    let removed = IsRemoved-from c.args.slab.now c.remove.new.self
+    (number c.args.token) slot was c.in-Some.ensures.removed in
+    IsKeyed-removed c.args.slab.now c.remove.new.self
+    (number c.args.token) removed c.args.table.now c.remove-in-Some.new.self slot was
+    c.requires.keyed (rw found at c.remove-in-Some.ensures.removes)
 
 pub returns-clause-removed : goal.returns-clause-removed
 returns-clause-removed g c =
-    IsRemoved-from c.args.slab.now c.remove.new.self (number c.args.token) c.in-Some.slot c.in-Some.ensures.item c.in-Some.ensures.removed
+    IsRemoved-from c.args.slab.now c.remove.new.self
+    (number c.args.token) c.in-Some.slot c.in-Some.ensures.item c.in-Some.ensures.removed
 
 -- the pair was there, so it left
 pub returns-clause-count : goal.returns-clause-count
 returns-clause-count g c =
     let slot = c.in-Some.slot in
-    let has : HasPair c.args.table.now slot.hash (number c.args.token) = c.requires.keyed.pairs slot.hash (number c.args.token) ∙ ap (has_hash slot.hash) c.in-Some.ensures.item ∙ eq-eqb slot.hash slot.hash refl in
+    let has : HasPair c.args.table.now slot.hash (number c.args.token) =
+    c.requires.keyed.pairs slot.hash (number c.args.token)
+    ∙ ap (has_hash slot.hash) c.in-Some.ensures.item ∙ eq-eqb slot.hash slot.hash refl in
     (rw (c.remove-in-Some.ensures.found.1 has) at c.remove-in-Some.ensures.removes).count
 
 pub returns-clause-room : goal.returns-clause-room
 returns-clause-room g c =
     let slot = c.in-Some.slot in
-    let has : HasPair c.args.table.now slot.hash (number c.args.token) = c.requires.keyed.pairs slot.hash (number c.args.token) ∙ ap (has_hash slot.hash) c.in-Some.ensures.item ∙ eq-eqb slot.hash slot.hash refl in
+    let has : HasPair c.args.table.now slot.hash (number c.args.token) =
+    c.requires.keyed.pairs slot.hash (number c.args.token)
+    ∙ ap (has_hash slot.hash) c.in-Some.ensures.item ∙ eq-eqb slot.hash slot.hash refl in
     let gained = rw (c.remove-in-Some.ensures.found.1 has) at c.remove-in-Some.ensures.room in
     let removed = returns-clause-removed g c in
     omega (arith, gained, ap length removed.free, removed.room)

@@ -7,18 +7,23 @@ use Rattle.quick_cache_unsync.proofs.calls.get.Goals as goal
 -- nothing was seen, so the look-up shows nothing
 pub returns-in-None-clause-step : goal.returns-in-None-clause-step
 returns-in-None-clause-step g c =
-    CacheStep.gets c.args.key None None _ (LooksUp-seen (g.K.PartialEq.eq c.args.key) c.args.cache.now.state (λ item. item.value)
-    (c.in-None.ensures.sound.valid.one_entry_a_key c.args.key) c.in-None.ensures.sees c.get.follows.holds-at-none.0) tt
+    CacheStep.gets c.args.key None None _
+    (LooksUp-seen (g.K.PartialEq.eq c.args.key) c.args.cache.now.state (λ item. item.value)
+    (c.in-None.ensures.sound.valid.one_entry_a_key c.args.key) c.in-None.ensures.sees
+    c.get.follows.holds-at-none.0) tt
 
 -- the copy is a clone of the value that was seen, which the look-up finds
 pub returns-in-Ok-clause-step : goal.returns-in-Ok-clause-step
 returns-in-Ok-clause-step g c =
     let test = g.K.PartialEq.eq c.args.key in
     let of : Item g.row.K.Denot g.row.V.Denot → g.row.V.Denot = λ item. item.value in
-    CacheStep.gets c.args.key (Some c.in-Some.value.now) (Some c.in-Ok.copy) _ (LooksUp-seen test c.args.cache.now.state of
-    (c.in-Some.ensures.sound.valid.one_entry_a_key c.args.key) c.in-Some.ensures.sees c.get-in-Ok.follows.holds-at-none.0)
+    CacheStep.gets c.args.key (Some c.in-Some.value.now) (Some c.in-Ok.copy) _
+    (LooksUp-seen test c.args.cache.now.state of
+    (c.in-Some.ensures.sound.valid.one_entry_a_key c.args.key) c.in-Some.ensures.sees
+    c.get-in-Ok.follows.holds-at-none.0)
     c.in-Ok.ensures.cases
 
 -- an item was seen, so there was something to clone
 pub returns-clause-step : goal.returns-clause-step
-returns-clause-step g c = refused_clone _ g.K.PartialEq.eq g.V.Clone.is_clone c.args.cache.now.state (λ item. item.value) c.args.key c.in-Some.ensures.sees refl
+returns-clause-step g c = refused_clone _ g.K.PartialEq.eq g.V.Clone.is_clone c.args.cache.now.state
+    (λ item. item.value) c.args.key c.in-Some.ensures.sees refl

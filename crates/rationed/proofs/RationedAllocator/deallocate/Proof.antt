@@ -30,13 +30,30 @@ deallocate_spec 𝓤 𝓛 𝓜 𝓡 wired B laws ghosts methods drops met _ =
     passed_on B 𝓛 others S.result c told 𝓜 𝓡 (inst_fn (over B methods drops) code.function)
     laws (λ κs. (rawptr_Tells, sizes_tell κs)) (code.unfolded 𝓤 𝓛.H 𝓜 𝓡 wired (B, tt) methods drops)
     (λ κs qs bounds r a are ty.
-    let x : Inner.Ghost = ((κs, qs, bounds, (inner B r, a), (shr_vals (inner B r), valss (types_at others κs) (told κs) a)), ty) in
+    let x : Inner.Ghost = (
+      (
+        κs,
+        qs,
+        bounds,
+        (inner B r, a),
+        (shr_vals (inner B r), valss (types_at others κs) (told κs) a),
+      ),
+      ty,
+    ) in
     let block_fits = ((rawptr_Lawful 𝓛).typed a.0 _ refl).0 in
-    qed 𝓛 (‵ (lent (Ration B) κs.0 r) ∷ raw (Inner.pre x) ∷ []) ∵ drop ! $ enter ! _ _ _ _ _ $ alloc_all ! (λ l.
-    pass_all ! refl ((tt, tt), (block_fits, ((tt, record { fits = are.1.0.1 }), ((tt, record { fits = are.1.1.0.1 }), tt)))) $
+    qed 𝓛 (‵ (lent (Ration B) κs.0 r) ∷ raw (Inner.pre x) ∷ []) ∵ drop ! $ enter ! _ _ _ _ _ $
+    alloc_all ! (λ l.
+    pass_all ! refl (
+      (tt, tt),
+      (
+        block_fits,
+        ((tt, record { fits = are.1.0.1 }), ((tt, record { fits = are.1.1.0.1 }), tt)),
+      ),
+    ) $
     sets ! (addr ! (through ! refl (fld ! refl (stop !)))) refl (tt, tt) $
     calls 𝓛 S c 𝓜 𝓡 ! (met.deallocate drops) x
-    (and_then ! (get ! refl) (and_then ! (get ! refl) (and_then ! (get ! refl) (and_then ! (get ! refl) (no_more !)))))
+    (and_then ! (get ! refl) (and_then ! (get ! refl)
+    (and_then ! (get ! refl) (and_then ! (get ! refl) (no_more !)))))
     (λ v done is. rewrite ! 1 (λ (u : Val). ‵ (unit.own_val done (u ∷ []))) (ap only is) refl $
     lands_as ! (ap only is) refl (tt, tt) $ sets ! (of_opd ! (unit_lit !)) refl (tt, tt) $
     returns ! (look_at ! 0 refl) $ free_all ! refl $ by ! (gives 𝓛 S c x done vunit))))

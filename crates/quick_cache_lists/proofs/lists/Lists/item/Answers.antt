@@ -7,25 +7,36 @@ use Rattle.quick_cache_lists.proofs.lists.Lists.item.Goals as goal
 pub get_unchecked-requires : goal.get_unchecked-requires
 get_unchecked-requires g c =
     let i = c.self.inside in
-    let has = item_by_token i.slab i.table i.rings.hot i.rings.cold i.rings.ghosts (number c.args.token) (rw (← c.self.view_is) at c.requires) in
+    let has = item_by_token i.slab i.table i.rings.hot i.rings.cold i.rings.ghosts
+    (number c.args.token) (rw (← c.self.view_is) at c.requires) in
     rw has.2 refl
 
 pub unreachable-requires : goal.unreachable-requires
 unreachable-requires g c =
     let i = c.self.inside in
-    let has = item_by_token i.slab i.table i.rings.hot i.rings.cold i.rings.ghosts (number c.args.token) (rw (← c.self.view_is) at c.requires) in
-    let is = item_is _ c.get_unchecked.result.0.now has.0 has.1 has.2 c.get_unchecked.ensures.item in
+    let has = item_by_token i.slab i.table i.rings.hot i.rings.cold i.rings.ghosts
+    (number c.args.token) (rw (← c.self.view_is) at c.requires) in
+    let is = item_is _ c.get_unchecked.result.0.now has.0 has.1 has.2 c.get_unchecked.ensures.item
+    in
     cc (is, c.in-Loading.is)
 
 pub unreachable-requires-in-Ghost : goal.unreachable-requires-in-Ghost
 unreachable-requires-in-Ghost g c =
     let i = c.self.inside in
-    let has = item_by_token i.slab i.table i.rings.hot i.rings.cold i.rings.ghosts (number c.args.token) (rw (← c.self.view_is) at c.requires) in
-    let is = item_is _ c.get_unchecked.result.0.now has.0 has.1 has.2 c.get_unchecked.ensures.item in
+    let has = item_by_token i.slab i.table i.rings.hot i.rings.cold i.rings.ghosts
+    (number c.args.token) (rw (← c.self.view_is) at c.requires) in
+    let is = item_is _ c.get_unchecked.result.0.now has.0 has.1 has.2 c.get_unchecked.ensures.item
+    in
     cc (is, c.in-Ghost.is)
 
 pub returns : goal.returns
 returns g c =
     let i = c.self.inside in
-    let at = c.get_unchecked.ensures.item ∙ ap (λ entry. Some (record c.get_unchecked.result.0.now { entry = entry })) c.in-Item.is in
-    (c.get_unchecked.result.0.now.hash, rw (← c.self.view_is) (HasItem-from i.slab i.table i.rings.hot i.rings.cold i.rings.ghosts c.self.invariant.standing (number c.args.token) c.get_unchecked.result.0.now.hash c.in-Item.resident at))
+    let at = c.get_unchecked.ensures.item
+    ∙ ap (λ entry. Some (record c.get_unchecked.result.0.now { entry = entry })) c.in-Item.is in (
+      c.get_unchecked.result.0.now.hash,
+      rw (← c.self.view_is)
+          (HasItem-from i.slab i.table i.rings.hot i.rings.cold i.rings.ghosts
+          c.self.invariant.standing (number c.args.token) c.get_unchecked.result.0.now.hash
+          c.in-Item.resident at),
+    )

@@ -6,16 +6,34 @@ pub overflow_sub-result : goal.overflow_sub-result
 overflow_sub-result g c =
     let i = c.self.inside in
     let ghosts = count_ghosts i.slab i.rings.ghosts c.self.invariant.standing.ghost_ring in
-    omega (arith, c.self.invariant.all_counted, c.self.invariant.loading_counted, ghosts, c.len.ensures)
+    omega (
+      arith,
+      c.self.invariant.all_counted,
+      c.self.invariant.loading_counted,
+      ghosts,
+      c.len.ensures,
+    )
 
 pub overflow_sub-result-2 : goal.overflow_sub-result-2
 overflow_sub-result-2 g c =
     let i = c.self.inside in
     let ghosts = count_ghosts i.slab i.rings.ghosts c.self.invariant.standing.ghost_ring in
-    omega (arith, c.self.invariant.all_counted, c.self.invariant.loading_counted, ghosts, c.len.ensures)
+    omega (
+      arith,
+      c.self.invariant.all_counted,
+      c.self.invariant.loading_counted,
+      ghosts,
+      c.len.ensures,
+    )
 
 pub returns : goal.returns
 returns g c =
     let i = c.self.inside in
     let ghosts = count_ghosts i.slab i.rings.ghosts c.self.invariant.standing.ghost_ring in
-    rw (← c.self.view_is) (omega (arith, c.self.invariant.all_counted, c.self.invariant.loading_counted, ghosts, c.len.ensures))
+    rw (← c.self.view_is) (omega (
+      arith,
+      c.self.invariant.all_counted,
+      c.self.invariant.loading_counted,
+      ghosts,
+      c.len.ensures,
+    ))

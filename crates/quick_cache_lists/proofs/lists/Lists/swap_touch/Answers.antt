@@ -7,21 +7,31 @@ use Rattle.quick_cache_lists.proofs.lists.Lists.swap_touch.Goals as goal
 pub get_mut_unchecked-requires : goal.get_mut_unchecked-requires
 get_mut_unchecked-requires g c =
     let i = c.self.inside in
-    let has = item_by_token i.slab i.table i.rings.hot i.rings.cold i.rings.ghosts (number c.args.token) (rw (← c.self.view_is) at c.requires) in
+    let has = item_by_token i.slab i.table i.rings.hot i.rings.cold i.rings.ghosts
+    (number c.args.token) (rw (← c.self.view_is) at c.requires) in
     rw has.2 refl
 
 pub swap_touch-requires : goal.swap_touch-requires
 swap_touch-requires g c =
     let i = c.self.inside in
-    let has = item_by_token i.slab i.table i.rings.hot i.rings.cold i.rings.ghosts (number c.args.token) (rw (← c.self.view_is) at c.requires) in
-    (changed_slot _ c.get_mut_unchecked.result.0.now has.0 has.1 (λ item. item) has.2 c.get_mut_unchecked.ensures.item).0
+    let has = item_by_token i.slab i.table i.rings.hot i.rings.cold i.rings.ghosts
+    (number c.args.token) (rw (← c.self.view_is) at c.requires) in
+    (changed_slot _ c.get_mut_unchecked.result.0.now has.0 has.1
+    (λ item. item) has.2 c.get_mut_unchecked.ensures.item).0
 
 pub invariant_of-self : goal.invariant_of-self
 invariant_of-self g c =
     let i = c.self.inside in
-    rw (c.swap_touch.ensures, with_item-same i.slab (number c.args.token) c.get_mut_unchecked.result.0.now c.get_mut_unchecked.ensures.item) c.self.invariant
+    rw (
+      c.swap_touch.ensures,
+      with_item-same i.slab
+          (number c.args.token) c.get_mut_unchecked.result.0.now c.get_mut_unchecked.ensures.item,
+    )
+    c.self.invariant
 
 pub returns : goal.returns
 returns g c =
     let i = c.self.inside in
-    lists-same i.slab i.table i.rings.hot i.rings.cold i.rings.ghosts (number c.args.token) c.get_mut_unchecked.result.0.now _ c.get_mut_unchecked.ensures.item c.swap_touch.ensures ∙ c.self.view_is
+    lists-same i.slab i.table i.rings.hot i.rings.cold i.rings.ghosts
+    (number c.args.token) c.get_mut_unchecked.result.0.now _ c.get_mut_unchecked.ensures.item
+    c.swap_touch.ensures ∙ c.self.view_is

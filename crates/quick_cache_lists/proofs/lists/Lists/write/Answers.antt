@@ -8,31 +8,48 @@ use Rattle.quick_cache_lists.proofs.lists.Lists.write.Goals as goal
 pub get_mut_unchecked-requires : goal.get_mut_unchecked-requires
 get_mut_unchecked-requires g c =
     let i = c.self.inside in
-    let has = item_by_token i.slab i.table i.rings.hot i.rings.cold i.rings.ghosts (number c.args.token) (rw (← c.self.view_is) at c.requires) in
+    let has = item_by_token i.slab i.table i.rings.hot i.rings.cold i.rings.ghosts
+    (number c.args.token) (rw (← c.self.view_is) at c.requires) in
     rw has.2 refl
 
 pub write-requires : goal.write-requires
 write-requires g c =
     let i = c.self.inside in
-    let has = item_by_token i.slab i.table i.rings.hot i.rings.cold i.rings.ghosts (number c.args.token) (rw (← c.self.view_is) at c.requires) in
-    (changed_slot _ c.get_mut_unchecked.result.0.now has.0 has.1 (with_pair c.args.key c.args.value) has.2 c.get_mut_unchecked.ensures.item).0
+    let has = item_by_token i.slab i.table i.rings.hot i.rings.cold i.rings.ghosts
+    (number c.args.token) (rw (← c.self.view_is) at c.requires) in
+    (changed_slot _ c.get_mut_unchecked.result.0.now has.0 has.1
+    (with_pair c.args.key c.args.value) has.2 c.get_mut_unchecked.ensures.item).0
 
 pub invariant_of-self : goal.invariant_of-self
 invariant_of-self g c =
     let i = c.self.inside in
-    let has = item_by_token i.slab i.table i.rings.hot i.rings.cold i.rings.ghosts (number c.args.token) (rw (← c.self.view_is) at c.requires) in
-    let is = c.write.ensures.written ∙ (changed_slot _ c.get_mut_unchecked.result.0.now has.0 has.1 (with_pair c.args.key c.args.value) has.2 c.get_mut_unchecked.ensures.item).1 in
-    rw is (IsSound-changed i.slab (number c.args.token) has.0 has.1 (with_pair c.args.key c.args.value) refl refl has.2 refl i.table i.rings i.loading c.self.invariant)
+    let has = item_by_token i.slab i.table i.rings.hot i.rings.cold i.rings.ghosts
+    (number c.args.token) (rw (← c.self.view_is) at c.requires) in
+    let is = c.write.ensures.written
+    ∙ (changed_slot _ c.get_mut_unchecked.result.0.now has.0 has.1
+    (with_pair c.args.key c.args.value) has.2 c.get_mut_unchecked.ensures.item).1 in
+    rw is (IsSound-changed i.slab (number c.args.token) has.0 has.1
+    (with_pair c.args.key c.args.value) refl refl has.2 refl i.table i.rings i.loading
+    c.self.invariant)
 
 pub returns-clause-written : goal.returns-clause-written
 returns-clause-written g c =
     let i = c.self.inside in
-    let has = item_by_token i.slab i.table i.rings.hot i.rings.cold i.rings.ghosts (number c.args.token) (rw (← c.self.view_is) at c.requires) in
-    let is = c.write.ensures.written ∙ (changed_slot _ c.get_mut_unchecked.result.0.now has.0 has.1 (with_pair c.args.key c.args.value) has.2 c.get_mut_unchecked.ensures.item).1 in
-    rw (← c.self.view_is, is) (lists-changed i.slab (number c.args.token) has.0 has.1 (with_pair c.args.key c.args.value) refl refl has.2 i.table i.rings.hot i.rings.cold i.rings.ghosts)
+    let has = item_by_token i.slab i.table i.rings.hot i.rings.cold i.rings.ghosts
+    (number c.args.token) (rw (← c.self.view_is) at c.requires) in
+    let is = c.write.ensures.written
+    ∙ (changed_slot _ c.get_mut_unchecked.result.0.now has.0 has.1
+    (with_pair c.args.key c.args.value) has.2 c.get_mut_unchecked.ensures.item).1 in
+    rw (← c.self.view_is, is) (lists-changed i.slab (number c.args.token) has.0 has.1
+    (with_pair c.args.key c.args.value) refl refl has.2 i.table i.rings.hot i.rings.cold
+    i.rings.ghosts)
 
 pub returns-clause-old : goal.returns-clause-old
 returns-clause-old g c =
     let i = c.self.inside in
-    let has = item_by_token i.slab i.table i.rings.hot i.rings.cold i.rings.ghosts (number c.args.token) (rw (← c.self.view_is) at c.requires) in
-    rw (← c.self.view_is) (had_pair i.slab i.table i.rings.hot i.rings.cold i.rings.ghosts c.self.invariant.standing (number c.args.token) has.0 has.1 has.2 c.get_mut_unchecked.result.0.now c.get_mut_unchecked.ensures.item c.write.result c.write.ensures.old)
+    let has = item_by_token i.slab i.table i.rings.hot i.rings.cold i.rings.ghosts
+    (number c.args.token) (rw (← c.self.view_is) at c.requires) in
+    rw (← c.self.view_is) (had_pair i.slab i.table i.rings.hot i.rings.cold i.rings.ghosts
+    c.self.invariant.standing (number c.args.token) has.0 has.1 has.2
+    c.get_mut_unchecked.result.0.now c.get_mut_unchecked.ensures.item c.write.result
+    c.write.ensures.old)

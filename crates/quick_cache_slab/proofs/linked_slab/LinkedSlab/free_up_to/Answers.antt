@@ -8,8 +8,11 @@ use Rattle.quick_cache_slab.proofs.linked_slab.LinkedSlab.free_up_to.Goals as go
 pub loop-found-init : goal.loop-found-init
 loop-found-init g c =
     let s = c.self.invariant in
-    let free = free_is _ _ _ c.self.inside.next_free.value s in
-    (rw (← c.self.view_is, c.as_slice-nodes.ensures.value, free) (IsFreeRest-start _ _ _ _ s.are_free), omega arith)
+    let free = free_is _ _ _ c.self.inside.next_free.value s in (
+      rw (← c.self.view_is, c.as_slice-nodes.ensures.value, free)
+          (IsFreeRest-start _ _ _ _ s.are_free),
+      omega arith,
+    )
 
 pub returns-then-get : goal.returns-then-get
 returns-then-get g c =

@@ -9,16 +9,21 @@ returns-clause-next g c =
     let nodes = c.self.inside.nodes in
     let item = rw c.as_slice.ensures.value at c.get.ensures.item in
     let next = rw c.as_slice.ensures.value at c.get.ensures.next in
-    rw (← c.self.view_is) (successor_found _ _ _ c.self.inside.next_free.value (room_of (vec_capacity nodes) (vec_len nodes)) c.args.token.value (λ (x : Bor g.row.T.Denot). x.now) _ c.self.invariant.linked item next)
+    rw (← c.self.view_is) (successor_found _ _ _ c.self.inside.next_free.value
+    (room_of (vec_capacity nodes) (vec_len nodes)) c.args.token.value
+    (λ (x : Bor g.row.T.Denot). x.now) _ c.self.invariant.linked item next)
 
 pub returns-clause-alone : goal.returns-clause-alone
 returns-clause-alone g c =
     let nodes = c.self.inside.nodes in
     let item = rw c.as_slice.ensures.value at c.get.ensures.item in
     let next = rw c.as_slice.ensures.value at c.get.ensures.next in
-    rw (← c.self.view_is) (alone_found _ _ _ c.self.inside.next_free.value (room_of (vec_capacity nodes) (vec_len nodes)) c.args.token.value (λ (x : Bor g.row.T.Denot). x.now) _ c.self.invariant.linked item next)
+    rw (← c.self.view_is) (alone_found _ _ _ c.self.inside.next_free.value
+    (room_of (vec_capacity nodes) (vec_len nodes)) c.args.token.value
+    (λ (x : Bor g.row.T.Denot). x.now) _ c.self.invariant.linked item next)
 
 pub returns-clause-parted : goal.returns-clause-parted
 returns-clause-parted g c =
     let nodes = c.self.inside.nodes in
-    rw (← c.self.view_is) (IsParted-nodes nodes.items c.self.inside.next_free.value (vec_capacity nodes) (vec_len nodes) (omega arith) c.self.invariant)
+    rw (← c.self.view_is) (IsParted-nodes nodes.items c.self.inside.next_free.value
+    (vec_capacity nodes) (vec_len nodes) (omega arith) c.self.invariant)

@@ -8,20 +8,26 @@ pub unreachable-requires : goal.unreachable-requires
 unreachable-requires g c =
     let nodes = c.self.inside.nodes.items in
     let taken = rw (← c.self.view_is) at c.requires in
-    let read = item_read nodes c.args.token.value c.place.result c.index-node.result.now c.place.ensures (taken_in_nodes nodes c.args.token.value taken) in
-    true≢false (sym taken ∙ ap is_some (read ∙ ap (λ n. n.item) (sym c.index-node.ensures) ∙ c.in-None.is))
+    let read = item_read nodes c.args.token.value c.place.result c.index-node.result.now
+    c.place.ensures (taken_in_nodes nodes c.args.token.value taken) in
+    true≢false (sym taken ∙ ap is_some
+    (read ∙ ap (λ n. n.item) (sym c.index-node.ensures) ∙ c.in-None.is))
 
 pub returns-clause-item : goal.returns-clause-item
 returns-clause-item g c =
     let nodes = c.self.inside.nodes.items in
     let taken = rw (← c.self.view_is) at c.requires in
-    let read = item_read nodes c.args.token.value c.place.result c.index-node.result.now c.place.ensures (taken_in_nodes nodes c.args.token.value taken) in
+    let read = item_read nodes c.args.token.value c.place.result c.index-node.result.now
+    c.place.ensures (taken_in_nodes nodes c.args.token.value taken) in
     rw (← c.self.view_is) (read ∙ ap (λ n. n.item) (sym c.index-node.ensures) ∙ c.in-Some.is)
 
 pub returns-clause-next : goal.returns-clause-next
 returns-clause-next g c =
     let nodes = c.self.inside.nodes in
     let taken = rw (← c.self.view_is) at c.requires in
-    let read = next_read nodes.items c.args.token.value c.place.result c.index-node.result.now c.place.ensures (taken_in_nodes nodes.items c.args.token.value taken) in
-    let next = successor-view _ _ _ c.self.inside.next_free.value (room_of (vec_capacity nodes) (vec_len nodes)) c.args.token.value c.self.invariant.linked taken in
+    let read = next_read nodes.items c.args.token.value c.place.result c.index-node.result.now
+    c.place.ensures (taken_in_nodes nodes.items c.args.token.value taken) in
+    let next = successor-view _ _ _ c.self.inside.next_free.value
+    (room_of (vec_capacity nodes) (vec_len nodes)) c.args.token.value c.self.invariant.linked
+    taken in
     rw (← c.self.view_is) (ap (λ n. n.next.value) c.index-node.ensures ∙ read ∙ sym next)

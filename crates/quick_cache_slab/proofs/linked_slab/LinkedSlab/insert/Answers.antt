@@ -16,14 +16,29 @@ invariant_of-self g c =
     let items = with_items_is nodes c.fill-link.new.nodes (omega arith) in
     let long = length-slots_of nodes.items in
     let link = rw c.as_mut_slice.ensures.value at c.fill-link.ensures.link in
-    let choice : ((c.fill-link.result.value ≡ first) × (c.if-get.self.value ≡ length (slots_of nodes.items) + 1)) ⊎ ((c.fill-link.result.value ≢ first) × (c.if-get.self.value ≡ c.fill-link.result.value)) =
+    let choice : ((c.fill-link.result.value ≡ first)
+    × (c.if-get.self.value ≡ length (slots_of nodes.items) + 1))
+    ⊎ ((c.fill-link.result.value ≢ first) × (c.if-get.self.value ≡ c.fill-link.result.value)) =
     elim c.if-get.branch [
-      | then-get w ↦ inl (omega (arith, w.if-get.true), rw w.self-is (omega (arith, w.past-self-inside.ensures)))
+      | then-get w ↦ inl (
+        omega (arith, w.if-get.true),
+        rw w.self-is
+            (omega (arith, w.past-self-inside.ensures)),
+      )
       | else-get w ↦ inr (λ same. omega (arith, w.if-get.false), rw w.self-is)
     ] in
-    let after = rw link at (next_after c.fill-link.result.value first (length (slots_of nodes.items) + 1) c.if-get.self.value choice) in
-    let reused = Reused-at _ _ _ first (room_of (vec_capacity nodes) (vec_len nodes)) c.args.item c.if-get.self.value c.self.invariant (omega arith) after in
-    rw (items, c.fill-link.ensures.slots, c.fill-link.ensures.nexts, c.fill-link.ensures.prevs, c.as_mut_slice.ensures.value) reused.sound
+    let after = rw link at (next_after c.fill-link.result.value first
+    (length (slots_of nodes.items) + 1) c.if-get.self.value choice) in
+    let reused = Reused-at _ _ _ first
+    (room_of (vec_capacity nodes) (vec_len nodes)) c.args.item c.if-get.self.value
+    c.self.invariant (omega arith) after in
+    rw (
+      items,
+      c.fill-link.ensures.slots,
+      c.fill-link.ensures.nexts,
+      c.fill-link.ensures.prevs,
+      c.as_mut_slice.ensures.value,
+    ) reused.sound
 
 pub returns-then-get-len-clause-placed : goal.returns-then-get-len-clause-placed
 returns-then-get-len-clause-placed g c =
@@ -32,14 +47,29 @@ returns-then-get-len-clause-placed g c =
     let items = with_items_is nodes c.fill-link.new.nodes (omega arith) in
     let long = length-slots_of nodes.items in
     let link = rw c.as_mut_slice.ensures.value at c.fill-link.ensures.link in
-    let choice : ((c.fill-link.result.value ≡ first) × (c.if-get.self.value ≡ length (slots_of nodes.items) + 1)) ⊎ ((c.fill-link.result.value ≢ first) × (c.if-get.self.value ≡ c.fill-link.result.value)) =
+    let choice : ((c.fill-link.result.value ≡ first)
+    × (c.if-get.self.value ≡ length (slots_of nodes.items) + 1))
+    ⊎ ((c.fill-link.result.value ≢ first) × (c.if-get.self.value ≡ c.fill-link.result.value)) =
     elim c.if-get.branch [
-      | then-get w ↦ inl (omega (arith, w.if-get.true), rw w.self-is (omega (arith, w.past-self-inside.ensures)))
+      | then-get w ↦ inl (
+        omega (arith, w.if-get.true),
+        rw w.self-is
+            (omega (arith, w.past-self-inside.ensures)),
+      )
       | else-get w ↦ inr (λ same. omega (arith, w.if-get.false), rw w.self-is)
     ] in
-    let after = rw link at (next_after c.fill-link.result.value first (length (slots_of nodes.items) + 1) c.if-get.self.value choice) in
-    let reused = Reused-at _ _ _ first (room_of (vec_capacity nodes) (vec_len nodes)) c.args.item c.if-get.self.value c.self.invariant (omega arith) after in
-    rw (← c.self.view_is, items, c.fill-link.ensures.slots, c.fill-link.ensures.nexts, c.as_mut_slice.ensures.value) reused.view
+    let after = rw link at (next_after c.fill-link.result.value first
+    (length (slots_of nodes.items) + 1) c.if-get.self.value choice) in
+    let reused = Reused-at _ _ _ first
+    (room_of (vec_capacity nodes) (vec_len nodes)) c.args.item c.if-get.self.value
+    c.self.invariant (omega arith) after in
+    rw (
+      ← c.self.view_is,
+      items,
+      c.fill-link.ensures.slots,
+      c.fill-link.ensures.nexts,
+      c.as_mut_slice.ensures.value,
+    ) reused.view
 
 pub returns-then-get-len-clause-item : goal.returns-then-get-len-clause-item
 returns-then-get-len-clause-item g c =
@@ -48,13 +78,22 @@ returns-then-get-len-clause-item g c =
     let items = with_items_is nodes c.fill-link.new.nodes (omega arith) in
     let long = length-slots_of nodes.items in
     let link = rw c.as_mut_slice.ensures.value at c.fill-link.ensures.link in
-    let choice : ((c.fill-link.result.value ≡ first) × (c.if-get.self.value ≡ length (slots_of nodes.items) + 1)) ⊎ ((c.fill-link.result.value ≢ first) × (c.if-get.self.value ≡ c.fill-link.result.value)) =
+    let choice : ((c.fill-link.result.value ≡ first)
+    × (c.if-get.self.value ≡ length (slots_of nodes.items) + 1))
+    ⊎ ((c.fill-link.result.value ≢ first) × (c.if-get.self.value ≡ c.fill-link.result.value)) =
     elim c.if-get.branch [
-      | then-get w ↦ inl (omega (arith, w.if-get.true), rw w.self-is (omega (arith, w.past-self-inside.ensures)))
+      | then-get w ↦ inl (
+        omega (arith, w.if-get.true),
+        rw w.self-is
+            (omega (arith, w.past-self-inside.ensures)),
+      )
       | else-get w ↦ inr (λ same. omega (arith, w.if-get.false), rw w.self-is)
     ] in
-    let after = rw link at (next_after c.fill-link.result.value first (length (slots_of nodes.items) + 1) c.if-get.self.value choice) in
-    let reused = Reused-at _ _ _ first (room_of (vec_capacity nodes) (vec_len nodes)) c.args.item c.if-get.self.value c.self.invariant (omega arith) after in
+    let after = rw link at (next_after c.fill-link.result.value first
+    (length (slots_of nodes.items) + 1) c.if-get.self.value choice) in
+    let reused = Reused-at _ _ _ first
+    (room_of (vec_capacity nodes) (vec_len nodes)) c.args.item c.if-get.self.value
+    c.self.invariant (omega arith) after in
     rw (items, c.fill-link.ensures.slots, c.as_mut_slice.ensures.value) reused.holds
 
 pub returns-then-get-len-clause-alone : goal.returns-then-get-len-clause-alone
@@ -64,20 +103,33 @@ returns-then-get-len-clause-alone g c =
     let items = with_items_is nodes c.fill-link.new.nodes (omega arith) in
     let long = length-slots_of nodes.items in
     let link = rw c.as_mut_slice.ensures.value at c.fill-link.ensures.link in
-    let choice : ((c.fill-link.result.value ≡ first) × (c.if-get.self.value ≡ length (slots_of nodes.items) + 1)) ⊎ ((c.fill-link.result.value ≢ first) × (c.if-get.self.value ≡ c.fill-link.result.value)) =
+    let choice : ((c.fill-link.result.value ≡ first)
+    × (c.if-get.self.value ≡ length (slots_of nodes.items) + 1))
+    ⊎ ((c.fill-link.result.value ≢ first) × (c.if-get.self.value ≡ c.fill-link.result.value)) =
     elim c.if-get.branch [
-      | then-get w ↦ inl (omega (arith, w.if-get.true), rw w.self-is (omega (arith, w.past-self-inside.ensures)))
+      | then-get w ↦ inl (
+        omega (arith, w.if-get.true),
+        rw w.self-is
+            (omega (arith, w.past-self-inside.ensures)),
+      )
       | else-get w ↦ inr (λ same. omega (arith, w.if-get.false), rw w.self-is)
     ] in
-    let after = rw link at (next_after c.fill-link.result.value first (length (slots_of nodes.items) + 1) c.if-get.self.value choice) in
-    let reused = Reused-at _ _ _ first (room_of (vec_capacity nodes) (vec_len nodes)) c.args.item c.if-get.self.value c.self.invariant (omega arith) after in
-    rw (items, c.fill-link.ensures.slots, c.fill-link.ensures.nexts, c.as_mut_slice.ensures.value) reused.alone
+    let after = rw link at (next_after c.fill-link.result.value first
+    (length (slots_of nodes.items) + 1) c.if-get.self.value choice) in
+    let reused = Reused-at _ _ _ first
+    (room_of (vec_capacity nodes) (vec_len nodes)) c.args.item c.if-get.self.value
+    c.self.invariant (omega arith) after in
+    rw (items, c.fill-link.ensures.slots, c.fill-link.ensures.nexts, c.as_mut_slice.ensures.value)
+    reused.alone
 
 -- a free token is there, so the slab is not full
 pub returns-then-get-len-clause-full : goal.returns-then-get-len-clause-full
 returns-then-get-len-clause-full g c =
-    let long = length-slots_of c.self.inside.nodes.items in
-    (λ e. absurd (cc), λ full. absurd (some_free _ _ _ _ c.self.invariant (omega arith) (rw (← c.self.view_is) at full.0)))
+    let long = length-slots_of c.self.inside.nodes.items in (
+      λ e. absurd (cc),
+      λ full. absurd
+          (some_free _ _ _ _ c.self.invariant (omega arith) (rw (← c.self.view_is) at full.0)),
+    )
 
 pub invariant_of-self-then-is_err : goal.invariant_of-self-then-is_err
 invariant_of-self-then-is_err g c = rw c.make_room.ensures.items c.self.invariant
@@ -87,8 +139,17 @@ invariant_of-self-2 g c =
     let nodes = c.self.inside.nodes in
     let long = length-slots_of nodes.items in
     let last = none_free _ _ _ _ c.self.invariant (omega arith) in
-    let grown = Grown-at _ _ _ c.self.inside.next_free.value (room_of (vec_capacity nodes) (vec_len nodes)) (room_of (vec_capacity nodes) (vec_len nodes)) c.args.item c.past-self-inside-2.result.value c.self.invariant (omega arith) (omega arith) (omega (arith, last.1)) in
-    rw (c.push_reserved.ensures.items, c.make_room.ensures.items, slots_of-push, nexts_of-push, prevs_of-push) grown.sound
+    let grown = Grown-at _ _ _ c.self.inside.next_free.value
+    (room_of (vec_capacity nodes) (vec_len nodes))
+    (room_of (vec_capacity nodes) (vec_len nodes)) c.args.item c.past-self-inside-2.result.value
+    c.self.invariant (omega arith) (omega arith) (omega (arith, last.1)) in
+    rw (
+      c.push_reserved.ensures.items,
+      c.make_room.ensures.items,
+      slots_of-push,
+      nexts_of-push,
+      prevs_of-push,
+    ) grown.sound
 
 pub returns-clause-placed : goal.returns-clause-placed
 returns-clause-placed g c =
@@ -96,8 +157,18 @@ returns-clause-placed g c =
     let grown_nodes = c.push_reserved.new.self in
     let long = length-slots_of nodes.items in
     let last = none_free _ _ _ _ c.self.invariant (omega arith) in
-    let grown = Grown-at _ _ _ c.self.inside.next_free.value (room_of (vec_capacity nodes) (vec_len nodes)) (room_of (vec_capacity grown_nodes) (vec_len grown_nodes)) c.args.item c.past-self-inside-2.result.value c.self.invariant (omega arith) (omega arith) (omega (arith, last.1)) in
-    rw (← c.self.view_is, c.push_reserved.ensures.items, c.make_room.ensures.items, slots_of-push, nexts_of-push) grown.view
+    let grown = Grown-at _ _ _ c.self.inside.next_free.value
+    (room_of (vec_capacity nodes) (vec_len nodes))
+    (room_of (vec_capacity grown_nodes) (vec_len grown_nodes)) c.args.item
+    c.past-self-inside-2.result.value c.self.invariant (omega arith) (omega arith)
+    (omega (arith, last.1)) in
+    rw (
+      ← c.self.view_is,
+      c.push_reserved.ensures.items,
+      c.make_room.ensures.items,
+      slots_of-push,
+      nexts_of-push,
+    ) grown.view
 
 pub returns-clause-item : goal.returns-clause-item
 returns-clause-item g c =
@@ -105,7 +176,11 @@ returns-clause-item g c =
     let grown_nodes = c.push_reserved.new.self in
     let long = length-slots_of nodes.items in
     let last = none_free _ _ _ _ c.self.invariant (omega arith) in
-    let grown = Grown-at _ _ _ c.self.inside.next_free.value (room_of (vec_capacity nodes) (vec_len nodes)) (room_of (vec_capacity grown_nodes) (vec_len grown_nodes)) c.args.item c.past-self-inside-2.result.value c.self.invariant (omega arith) (omega arith) (omega (arith, last.1)) in
+    let grown = Grown-at _ _ _ c.self.inside.next_free.value
+    (room_of (vec_capacity nodes) (vec_len nodes))
+    (room_of (vec_capacity grown_nodes) (vec_len grown_nodes)) c.args.item
+    c.past-self-inside-2.result.value c.self.invariant (omega arith) (omega arith)
+    (omega (arith, last.1)) in
     rw (c.push_reserved.ensures.items, c.make_room.ensures.items, slots_of-push) grown.holds
 
 pub returns-clause-alone : goal.returns-clause-alone
@@ -114,16 +189,24 @@ returns-clause-alone g c =
     let grown_nodes = c.push_reserved.new.self in
     let long = length-slots_of nodes.items in
     let last = none_free _ _ _ _ c.self.invariant (omega arith) in
-    let grown = Grown-at _ _ _ c.self.inside.next_free.value (room_of (vec_capacity nodes) (vec_len nodes)) (room_of (vec_capacity grown_nodes) (vec_len grown_nodes)) c.args.item c.past-self-inside-2.result.value c.self.invariant (omega arith) (omega arith) (omega (arith, last.1)) in
-    rw (c.push_reserved.ensures.items, c.make_room.ensures.items, slots_of-push, nexts_of-push) grown.alone
+    let grown = Grown-at _ _ _ c.self.inside.next_free.value
+    (room_of (vec_capacity nodes) (vec_len nodes))
+    (room_of (vec_capacity grown_nodes) (vec_len grown_nodes)) c.args.item
+    c.past-self-inside-2.result.value c.self.invariant (omega arith) (omega arith)
+    (omega (arith, last.1)) in
+    rw (c.push_reserved.ensures.items, c.make_room.ensures.items, slots_of-push, nexts_of-push)
+    grown.alone
 
 pub returns-then-get-len-clause-edit : goal.returns-then-get-len-clause-edit
 returns-then-get-len-clause-edit g c =
     let nodes = c.self.inside.nodes in
-    let at = next_token-is _ _ _ c.self.inside.next_free.value (room_of (vec_capacity nodes) (vec_len nodes)) c.self.invariant in
+    let at = next_token-is _ _ _ c.self.inside.next_free.value
+    (room_of (vec_capacity nodes) (vec_len nodes)) c.self.invariant in
     let parted : IsParted c.args.self.now =
-    rw (← c.self.view_is) (IsParted-nodes nodes.items c.self.inside.next_free.value (vec_capacity nodes) (vec_len nodes) (omega arith) c.self.invariant) in
-    PlacesItem-from c.args.self.now _ c.self.inside.next_free.value c.args.item parted (rw (← c.self.view_is) at) (returns-then-get-len-clause-placed g c)
+    rw (← c.self.view_is) (IsParted-nodes nodes.items c.self.inside.next_free.value
+    (vec_capacity nodes) (vec_len nodes) (omega arith) c.self.invariant) in
+    PlacesItem-from c.args.self.now _ c.self.inside.next_free.value c.args.item parted
+    (rw (← c.self.view_is) at) (returns-then-get-len-clause-placed g c)
 
 pub returns-then-get-len-clause-parted : goal.returns-then-get-len-clause-parted
 returns-then-get-len-clause-parted g c =
@@ -135,24 +218,30 @@ returns-then-get-len-clause-spare g c =
     let nodes = c.self.inside.nodes in
     let long = length-slots_of nodes.items in
     let some = some_free _ _ _ _ c.self.invariant (omega arith) in
-    spare-placed c.args.self.now _ c.args.item (returns-then-get-len-clause-placed g c) (λ _. rw (← c.self.view_is) refl) (λ none. absurd (some (rw (← c.self.view_is) at none)))
+    spare-placed c.args.self.now _ c.args.item (returns-then-get-len-clause-placed g c)
+    (λ _. rw (← c.self.view_is) refl) (λ none. absurd (some (rw (← c.self.view_is) at none)))
 
 pub returns-then-len-ge-MAX_SLOTS-clause-parted : goal.returns-then-len-ge-MAX_SLOTS-clause-parted
 returns-then-len-ge-MAX_SLOTS-clause-parted g c =
     let nodes = c.self.inside.nodes in
-    rw (← c.self.view_is) (IsParted-nodes nodes.items c.self.inside.next_free.value (vec_capacity nodes) (vec_len nodes) (omega arith) c.self.invariant)
+    rw (← c.self.view_is) (IsParted-nodes nodes.items c.self.inside.next_free.value
+    (vec_capacity nodes) (vec_len nodes) (omega arith) c.self.invariant)
 
 pub returns-then-is_err-clause-parted : goal.returns-then-is_err-clause-parted
 returns-then-is_err-clause-parted g c =
-    IsParted-nodes _ _ _ _ (omega (arith, ap length c.make_room.ensures.items)) (invariant_of-self-then-is_err g c)
+    IsParted-nodes _ _ _ _ (omega (arith, ap length c.make_room.ensures.items))
+    (invariant_of-self-then-is_err g c)
 
 pub returns-clause-edit : goal.returns-clause-edit
 returns-clause-edit g c =
     let nodes = c.self.inside.nodes in
-    let at = next_token-is _ _ _ c.self.inside.next_free.value (room_of (vec_capacity nodes) (vec_len nodes)) c.self.invariant in
+    let at = next_token-is _ _ _ c.self.inside.next_free.value
+    (room_of (vec_capacity nodes) (vec_len nodes)) c.self.invariant in
     let parted : IsParted c.args.self.now =
-    rw (← c.self.view_is) (IsParted-nodes nodes.items c.self.inside.next_free.value (vec_capacity nodes) (vec_len nodes) (omega arith) c.self.invariant) in
-    PlacesItem-from c.args.self.now _ c.self.inside.next_free.value c.args.item parted (rw (← c.self.view_is) at) (returns-clause-placed g c)
+    rw (← c.self.view_is) (IsParted-nodes nodes.items c.self.inside.next_free.value
+    (vec_capacity nodes) (vec_len nodes) (omega arith) c.self.invariant) in
+    PlacesItem-from c.args.self.now _ c.self.inside.next_free.value c.args.item parted
+    (rw (← c.self.view_is) at) (returns-clause-placed g c)
 
 pub returns-clause-parted : goal.returns-clause-parted
 returns-clause-parted g c =
@@ -163,5 +252,8 @@ returns-clause-spare g c =
     let nodes = c.self.inside.nodes in
     let long = length-slots_of nodes.items in
     let last = none_free _ _ _ _ c.self.invariant (omega arith) in
-    let room : c.args.self.now.room ≡ room_of (vec_capacity nodes) (vec_len nodes) = rw (← c.self.view_is) refl in
-    spare-placed c.args.self.now _ c.args.item (returns-clause-placed g c) (λ more. absurd (more (rw (← c.self.view_is) last.0))) (λ _ some. let same = (c.make_room.ensures.had_room (omega arith)).1 in omega arith)
+    let room : c.args.self.now.room ≡ room_of (vec_capacity nodes) (vec_len nodes) =
+    rw (← c.self.view_is) refl in
+    spare-placed c.args.self.now _ c.args.item (returns-clause-placed g c)
+    (λ more. absurd (more (rw (← c.self.view_is) last.0)))
+    (λ _ some. let same = (c.make_room.ensures.had_room (omega arith)).1 in omega arith)

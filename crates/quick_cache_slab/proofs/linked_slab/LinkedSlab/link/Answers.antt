@@ -15,14 +15,18 @@ link-requires-clause-alone g c =
     let nodes = c.self.inside.nodes in
     let taken = rw (← c.self.view_is) at c.requires.occupied in
     let alone = rw (← c.self.view_is) at c.requires.alone in
-    rw c.as_mut_slice.ensures.value (alone-to_link _ _ _ c.self.inside.next_free.value (room_of (vec_capacity nodes) (vec_len nodes)) c.args.token.value c.self.invariant.linked taken alone)
+    rw c.as_mut_slice.ensures.value
+    (alone-to_link _ _ _ c.self.inside.next_free.value
+    (room_of (vec_capacity nodes) (vec_len nodes)) c.args.token.value c.self.invariant.linked
+    taken alone)
 
 pub invariant_of-self : goal.invariant_of-self
 invariant_of-self g c =
     let items = with_items_is c.self.inside.nodes c.link.new.nodes (omega arith) in
     let done = rw c.as_mut_slice.ensures.value at c.link.ensures.links in
     let slots = rw c.as_mut_slice.ensures.value at c.link.ensures.slots in
-    rw (items, slots) (IsSound-linked _ _ _ _ c.args.token.value c.in-Some.head.value _ _ c.self.invariant done)
+    rw (items, slots) (IsSound-linked _ _ _ _ c.args.token.value c.in-Some.head.value _ _
+    c.self.invariant done)
 
 pub returns-clause-linked : goal.returns-clause-linked
 returns-clause-linked g c =
@@ -30,7 +34,9 @@ returns-clause-linked g c =
     let items = with_items_is nodes c.link.new.nodes (omega arith) in
     let done = rw c.as_mut_slice.ensures.value at c.link.ensures.links in
     let slots = rw c.as_mut_slice.ensures.value at c.link.ensures.slots in
-    rw (c.in-Some.is, ← c.self.view_is, items, slots) (view-linked _ _ _ _ (room_of (vec_capacity nodes) (vec_len nodes)) c.args.token.value c.in-Some.head.value _ _ c.self.invariant done)
+    rw (c.in-Some.is, ← c.self.view_is, items, slots)
+    (view-linked _ _ _ _ (room_of (vec_capacity nodes) (vec_len nodes)) c.args.token.value
+    c.in-Some.head.value _ _ c.self.invariant done)
 
 pub returns-clause-ring : goal.returns-clause-ring
 returns-clause-ring g c =
@@ -38,19 +44,26 @@ returns-clause-ring g c =
     let items = with_items_is nodes c.link.new.nodes (omega arith) in
     let done = rw c.as_mut_slice.ensures.value at c.link.ensures.links in
     let slots = rw c.as_mut_slice.ensures.value at c.link.ensures.slots in
-    let view = view-linked _ _ _ _ (room_of (vec_capacity nodes) (vec_len nodes)) c.args.token.value c.in-Some.head.value _ _ c.self.invariant done in
+    let view = view-linked _ _ _ _
+    (room_of (vec_capacity nodes) (vec_len nodes)) c.args.token.value c.in-Some.head.value _ _
+    c.self.invariant done in
     let taken = rw (c.in-Some.is, ← c.self.view_is) at c.requires.head in
     let apart = rw c.in-Some.is at c.requires.apart in
-    rw (c.in-Some.is, ← c.self.view_is, items, slots) (ap (λ s. ring_from s c.in-Some.head.value) view ∙ ring_from-linked _ _ _ _ (room_of (vec_capacity nodes) (vec_len nodes)) c.args.token.value c.in-Some.head.value c.self.invariant taken apart)
+    rw (c.in-Some.is, ← c.self.view_is, items, slots)
+    (ap (λ s. ring_from s c.in-Some.head.value) view
+    ∙ ring_from-linked _ _ _ _ (room_of (vec_capacity nodes) (vec_len nodes)) c.args.token.value
+    c.in-Some.head.value c.self.invariant taken apart)
 
 pub returns-clause-edit : goal.returns-clause-edit
 returns-clause-edit g c =
     let nodes = c.self.inside.nodes in
     let parted : IsParted c.args.self.now =
-    rw (← c.self.view_is) (IsParted-nodes nodes.items c.self.inside.next_free.value (vec_capacity nodes) (vec_len nodes) (omega arith) c.self.invariant) in
+    rw (← c.self.view_is) (IsParted-nodes nodes.items c.self.inside.next_free.value
+    (vec_capacity nodes) (vec_len nodes) (omega arith) c.self.invariant) in
     let joins = rw c.in-Some.is at (returns-clause-ring g c) in
     let done = rw c.in-Some.is at (returns-clause-linked g c) in
-    rw c.in-Some.is (LinksToken-from c.args.self.now _ c.args.token.value c.in-Some.head.value parted c.requires.occupied joins done)
+    rw c.in-Some.is (LinksToken-from c.args.self.now _ c.args.token.value c.in-Some.head.value
+    parted c.requires.occupied joins done)
 
 pub returns-clause-parted : goal.returns-clause-parted
 returns-clause-parted g c =

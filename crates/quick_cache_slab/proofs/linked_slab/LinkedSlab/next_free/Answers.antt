@@ -6,4 +6,5 @@ use Rattle.quick_cache_slab.proofs.linked_slab.LinkedSlab.next_free.Goals as goa
 pub returns-clause-full : goal.returns-clause-full
 returns-clause-full g c =
     let nodes = c.self.inside.nodes in
-    rw (← c.self.view_is) (full-is _ _ _ _ (room_of (vec_capacity nodes) (vec_len nodes)) c.self.invariant)
+    rw (← c.self.view_is) (full-is _ _ _ _
+    (room_of (vec_capacity nodes) (vec_len nodes)) c.self.invariant)

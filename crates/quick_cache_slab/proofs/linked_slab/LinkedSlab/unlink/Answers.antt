@@ -23,14 +23,18 @@ returns-clause-unlinked g c =
     let items = with_items_is nodes c.unlink.new.nodes (omega arith) in
     let done = rw c.as_mut_slice.ensures.value at c.unlink.ensures.unlinks in
     let slots = rw c.as_mut_slice.ensures.value at c.unlink.ensures.slots in
-    rw (← c.self.view_is, items, slots) (view-unlinked _ _ _ _ (room_of (vec_capacity nodes) (vec_len nodes)) c.args.token.value _ _ c.self.invariant done)
+    rw (← c.self.view_is, items, slots)
+    (view-unlinked _ _ _ _ (room_of (vec_capacity nodes) (vec_len nodes)) c.args.token.value _ _
+    c.self.invariant done)
 
 pub returns-clause-next : goal.returns-clause-next
 returns-clause-next g c =
     let nodes = c.self.inside.nodes in
     let taken = rw (← c.self.view_is) at c.requires in
     let told = rw c.as_mut_slice.ensures.value at c.unlink.ensures.next in
-    rw (← c.self.view_is) (IsNextOf-is _ _ _ c.self.inside.next_free.value (room_of (vec_capacity nodes) (vec_len nodes)) c.args.token.value _ c.self.invariant.linked taken told)
+    rw (← c.self.view_is) (IsNextOf-is _ _ _ c.self.inside.next_free.value
+    (room_of (vec_capacity nodes) (vec_len nodes)) c.args.token.value _ c.self.invariant.linked
+    taken told)
 
 pub returns-clause-alone : goal.returns-clause-alone
 returns-clause-alone g c =
@@ -39,15 +43,21 @@ returns-clause-alone g c =
     let done = rw c.as_mut_slice.ensures.value at c.unlink.ensures.unlinks in
     let slots = rw c.as_mut_slice.ensures.value at c.unlink.ensures.slots in
     let taken = rw (← c.self.view_is) at c.requires in
-    let view = view-unlinked _ _ _ _ (room_of (vec_capacity nodes) (vec_len nodes)) c.args.token.value _ _ c.self.invariant done in
-    rw (items, slots) (ap (λ s. ring_from s c.args.token.value) view ∙ ring_from-unlinked _ _ c.self.inside.next_free.value (room_of (vec_capacity nodes) (vec_len nodes)) c.args.token.value taken)
+    let view = view-unlinked _ _ _ _
+    (room_of (vec_capacity nodes) (vec_len nodes)) c.args.token.value _ _ c.self.invariant done
+    in
+    rw (items, slots) (ap (λ s. ring_from s c.args.token.value) view
+    ∙ ring_from-unlinked _ _ c.self.inside.next_free.value
+    (room_of (vec_capacity nodes) (vec_len nodes)) c.args.token.value taken)
 
 pub returns-clause-edit : goal.returns-clause-edit
 returns-clause-edit g c =
     let nodes = c.self.inside.nodes in
     let parted : IsParted c.args.self.now =
-    rw (← c.self.view_is) (IsParted-nodes nodes.items c.self.inside.next_free.value (vec_capacity nodes) (vec_len nodes) (omega arith) c.self.invariant) in
-    UnlinksToken-from c.args.self.now _ c.args.token.value parted c.requires (returns-clause-unlinked g c)
+    rw (← c.self.view_is) (IsParted-nodes nodes.items c.self.inside.next_free.value
+    (vec_capacity nodes) (vec_len nodes) (omega arith) c.self.invariant) in
+    UnlinksToken-from c.args.self.now _ c.args.token.value parted c.requires
+    (returns-clause-unlinked g c)
 
 pub returns-clause-parted : goal.returns-clause-parted
 returns-clause-parted g c =

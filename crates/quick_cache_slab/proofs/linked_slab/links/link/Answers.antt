@@ -8,10 +8,22 @@ prev_of-last-requires g c = taken_in_nodes c.args.nodes.now c.args.head.value c.
 
 pub set_next-requires : goal.set_next-requires
 set_next-requires g c =
-    let within = prev_in_nodes c.args.nodes.now c.args.head.value c.requires.linked c.requires.head in
+    let within = prev_in_nodes c.args.nodes.now c.args.head.value c.requires.linked c.requires.head
+    in
     omega arith
 
 pub returns-clause-links : goal.returns-clause-links
 returns-clause-links g c =
-    let written = Links-written _ _ _ c.args.token.value c.args.head.value c.prev_of-last.result.value c.prev_of-last.ensures c.requires.linked c.requires.taken c.requires.head c.requires.alone c.requires.apart in
-    rw (c.set_prev-2.ensures.nexts, c.set_next-2.ensures.nexts, c.set_next.ensures.nexts, c.set_prev.ensures.nexts, c.set_prev-2.ensures.prevs, c.set_next-2.ensures.prevs, c.set_next.ensures.prevs, c.set_prev.ensures.prevs) written
+    let written = Links-written _ _ _ c.args.token.value c.args.head.value
+    c.prev_of-last.result.value c.prev_of-last.ensures c.requires.linked c.requires.taken
+    c.requires.head c.requires.alone c.requires.apart in
+    rw (
+      c.set_prev-2.ensures.nexts,
+      c.set_next-2.ensures.nexts,
+      c.set_next.ensures.nexts,
+      c.set_prev.ensures.nexts,
+      c.set_prev-2.ensures.prevs,
+      c.set_next-2.ensures.prevs,
+      c.set_next.ensures.prevs,
+      c.set_prev.ensures.prevs,
+    ) written

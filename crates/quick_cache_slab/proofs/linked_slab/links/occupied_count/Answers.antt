@@ -13,12 +13,24 @@ loop-node-preserved g c =
     let i = c.loop-node.node-index in
     let below : i < length (slots_of nodes) = omega (arith, length-slots_of nodes) in
     let read : is_some c.node-item.result.item ≡ is_some (get_or (slots_of nodes) i None) =
-    ap (λ n. is_some n.item) c.node-item.is ∙ ap is_some (sym (get_or-map (λ n. n.item) nodes i c.node-item.result None (omega arith))) in
+    ap (λ n. is_some n.item) c.node-item.is
+    ∙ ap is_some (sym (get_or-map (λ n. n.item) nodes i c.node-item.result None (omega arith)))
+    in
     elim c.if-is_some.branch [
       | then-is_some w ↦
-          let more = count_by_more_yes is_some (slots_of nodes) i None below (sym read ∙ sym c.is_some.ensures ∙ w.if-is_some.true) in
-          rw w.count-is (omega (arith, c.loop-node.invariant.0), omega (arith, c.loop-node.invariant.1))
+          let more = count_by_more_yes is_some (slots_of nodes) i None below
+          (sym read ∙ sym c.is_some.ensures ∙ w.if-is_some.true) in
+          rw w.count-is (
+            omega (arith, c.loop-node.invariant.0),
+            omega
+                (arith, c.loop-node.invariant.1),
+          )
       | else-is_some w ↦
-          let same = count_by_more_no is_some (slots_of nodes) i None below (sym read ∙ sym c.is_some.ensures ∙ w.if-is_some.false) in
-          rw w.count-is (omega (arith, c.loop-node.invariant.0), omega (arith, c.loop-node.invariant.1))
+          let same = count_by_more_no is_some (slots_of nodes) i None below
+          (sym read ∙ sym c.is_some.ensures ∙ w.if-is_some.false) in
+          rw w.count-is (
+            omega (arith, c.loop-node.invariant.0),
+            omega
+                (arith, c.loop-node.invariant.1),
+          )
     ]

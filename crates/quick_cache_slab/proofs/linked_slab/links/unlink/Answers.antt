@@ -9,7 +9,8 @@ next_of-next-requires g c = taken_in_nodes c.args.nodes.now c.args.token.value c
 
 pub returns-then-get-clause-unlinks : goal.returns-then-get-clause-unlinks
 returns-then-get-clause-unlinks g c =
-    let own : link_of (nexts_of c.args.nodes.now) c.args.token.value ≡ c.args.token.value = sym c.next_of-next.ensures ∙ omega arith in
+    let own : link_of (nexts_of c.args.nodes.now) c.args.token.value ≡ c.args.token.value =
+    sym c.next_of-next.ensures ∙ omega arith in
     Unlinks-alone _ _ _ c.args.token.value c.requires.linked c.requires.taken own
 
 pub prev_of-prev-requires : goal.prev_of-prev-requires
@@ -22,11 +23,23 @@ set_prev-requires g c =
 
 pub set_next-requires-2 : goal.set_next-requires-2
 set_next-requires-2 g c =
-    let within = prev_in_nodes c.args.nodes.now c.args.token.value c.requires.linked c.requires.taken in
+    let within = prev_in_nodes c.args.nodes.now c.args.token.value c.requires.linked
+    c.requires.taken in
     omega arith
 
 pub returns-clause-unlinks : goal.returns-clause-unlinks
 returns-clause-unlinks g c =
     let more : c.next_of-next.result.value ≢ c.args.token.value = λ same. omega arith in
-    let written = Unlinks-written _ _ _ c.args.token.value c.next_of-next.result.value c.prev_of-prev.result.value c.next_of-next.ensures c.prev_of-prev.ensures c.requires.linked c.requires.taken more in
-    rw (c.set_next-2.ensures.nexts, c.set_prev-2.ensures.nexts, c.set_prev.ensures.nexts, c.set_next.ensures.nexts, c.set_next-2.ensures.prevs, c.set_prev-2.ensures.prevs, c.set_prev.ensures.prevs, c.set_next.ensures.prevs) written
+    let written = Unlinks-written _ _ _ c.args.token.value c.next_of-next.result.value
+    c.prev_of-prev.result.value c.next_of-next.ensures c.prev_of-prev.ensures c.requires.linked
+    c.requires.taken more in
+    rw (
+      c.set_next-2.ensures.nexts,
+      c.set_prev-2.ensures.nexts,
+      c.set_prev.ensures.nexts,
+      c.set_next.ensures.nexts,
+      c.set_next-2.ensures.prevs,
+      c.set_prev-2.ensures.prevs,
+      c.set_prev.ensures.prevs,
+      c.set_next.ensures.prevs,
+    ) written

@@ -12,7 +12,8 @@ returns-then-contains-clause-steps g c =
     let token = c.past-token.result.value in
     let long = length-with_token slots token None in
     let taken = c.in_ok-item.ensures in
-    let took = first_left slots at.passed token c.in_ok-item.item c.past-token.ensures kept.0 taken.item in
+    let took = first_left slots at.passed token c.in_ok-item.item c.past-token.ensures kept.0
+    taken.item in
     let ready = none_passed_more slots at.passed token c.past-token.ensures (omega arith) kept.0 in
     rw (← kept.1, taken.removed) (took, (refl, omega arith), ready)
 
@@ -23,11 +24,15 @@ returns-then-contains-clause-goes g c =
     let slots = at.slab.now.slots in
     let token = c.past-token.result.value in
     let taken = c.in_ok-item.ensures in
-    let took = first_left slots at.passed token c.in_ok-item.item c.past-token.ensures kept.0 taken.item in
+    let took = first_left slots at.passed token c.in_ok-item.item c.past-token.ensures kept.0
+    taken.item in
     let none = none_passed_more slots at.passed token c.past-token.ensures (omega arith) kept.0 in
-    let ready : (t : ℕ) → t ≤ at.passed + 1 → item_at c.remove.new.self t ≡ None = rw taken.removed none in
-    let fewer : length (items at.slab.now) ≡ suc (length (items c.remove.new.self)) = rw taken.removed (ap length took) in
-    let before : length (items c.args.self.now.slab.now) ≡ length (items at.slab.now) = rw kept.1 refl in
+    let ready : (t : ℕ) → t ≤ at.passed + 1
+    → item_at c.remove.new.self t ≡ None = rw taken.removed none in
+    let fewer : length (items at.slab.now) ≡ suc (length (items c.remove.new.self)) =
+    rw taken.removed (ap length took) in
+    let before : length (items c.args.self.now.slab.now) ≡ length (items at.slab.now) =
+    rw kept.1 refl in
     record { on = λ finite. (ready, finite, omega arith); keeps = ready; rests = λ _. tt }
 
 pub returns-clause-steps : goal.returns-clause-steps
