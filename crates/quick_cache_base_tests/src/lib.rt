@@ -3,6 +3,8 @@
 #![tactic(auto)]
 
 #[cfg(test)]
+mod asked_memory;
+#[cfg(test)]
 mod linked_slab;
 #[cfg(test)]
 mod options;
