@@ -4,7 +4,7 @@ ghost use Rattle.quick_cache_lists.specs.Slots.{is_under, is_ghost, is_item, wei
 ghost use Rattle.quick_cache_lists.specs.Lists.{with_counts, with_pair, with_weight, requeued};
 
 use crate::resident::Resident;
-use quick_cache_model::{Equivalent, Queue};
+use quick_cache_model::{Equivalent, Queue, Touches};
 use std::hash::Hash;
 use std::mem::replace;
 
@@ -148,13 +148,16 @@ impl<K, V, P, T> Slot<K, V, P, T> {
         }
     }
 
-    /// Gives an item another count of touches, and the old one back.
-    pub(crate) fn swap_touch(&mut self, touch: T) -> T
+    /// Takes the count of touches of an item, which begins anew.
+    pub(crate) fn take_touch(&mut self) -> u64
+    where
+        T: Touches,
         requires { is_item self.old ≡ true }
-        ensures { self.new ≡ self.old }
+        ensures counted { T.may_count result }
+        ensures same { self.new ≡ self.old }
     {
         match &mut self.entry {
-            Entry::Item(resident) => resident.swap_touch(touch),
+            Entry::Item(resident) => resident.take_touch(),
             Entry::Loading(_) => unreachable!(),
             Entry::Ghost => unreachable!(),
         }

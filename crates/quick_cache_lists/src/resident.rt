@@ -4,7 +4,7 @@ ghost use Rattle.quick_cache_lists.specs.Slots.{stand_of_item};
 ghost use Rattle.quick_cache_lists.specs.Lists.{with_counts, with_pair, with_weight, requeued};
 
 use crate::entry::Stand;
-use quick_cache_model::Queue;
+use quick_cache_model::{Queue, Touches};
 use std::marker::Model;
 use std::mem::replace;
 
@@ -146,11 +146,14 @@ impl<K, V, T> Resident<K, V, T> {
         (replace(&mut self.key, key), replace(&mut self.value, value))
     }
 
-    /// Takes another count of touches, and gives the old one back.
-    pub(crate) fn swap_touch(&mut self, touch: T) -> T
-        ensures { self.new ≡ self.old }
+    /// Takes the count of touches, which begins anew.
+    pub(crate) fn take_touch(&mut self) -> u64
+    where
+        T: Touches,
+        ensures counted { T.may_count result }
+        ensures same { self.new ≡ self.old }
     {
-        replace(&mut self.touch, touch)
+        self.touch.take()
     }
 
     /// The pair, taken apart.

@@ -7,7 +7,7 @@ use crate::entry::{Entry, Slot};
 use crate::lists::Lists;
 use crate::ring::turn;
 use crate::store::{displace, place};
-use quick_cache_model::{Queue, Token};
+use quick_cache_model::{Queue, Token, Touches};
 use std::alloc::Allocator;
 
 impl<K, V, P, T, A: Allocator> Lists<K, V, P, T, A> {
@@ -89,12 +89,15 @@ impl<K, V, P, T, A: Allocator> Lists<K, V, P, T, A> {
         slot.write(key, value)
     }
 
-    /// Gives the item of a token another count of touches, and the old one back.
-    pub fn swap_touch(&mut self, token: Token, touch: T) -> T
+    /// Takes what readers counted at the item of a token. The count begins anew.
+    pub fn take_touch(&mut self, token: Token) -> u64
+    where
+        T: Touches,
         requires { HasItemToken self.old (number token) }
-        ensures { self.new ≡ self.old }
+        ensures counted { T.may_count result }
+        ensures same { self.new ≡ self.old }
     {
         let (slot, _) = unsafe { self.slab.get_mut_unchecked(token) };
-        slot.swap_touch(touch)
+        slot.take_touch()
     }
 }

@@ -2,7 +2,7 @@ use Rattle.std.proofs.Common.{◌∙◌, refl}
 use Rattle.std.specs.Int.NonZero.{non_zero_u32_get as number}
 use Rattle.quick_cache_lists.proofs.ItemLemmas.{item_by_token}
 use Rattle.quick_cache_lists.proofs.ChangeLemmas.{changed_slot, with_item-same, lists-same}
-use Rattle.quick_cache_lists.proofs.lists.Lists.swap_touch.Goals as goal
+use Rattle.quick_cache_lists.proofs.lists.Lists.take_touch.Goals as goal
 
 pub get_mut_unchecked-requires : goal.get_mut_unchecked-requires
 get_mut_unchecked-requires g c =
@@ -11,8 +11,8 @@ get_mut_unchecked-requires g c =
     (number c.args.token) (rw (← c.self.view_is) at c.requires) in
     rw has.2 refl
 
-pub swap_touch-requires : goal.swap_touch-requires
-swap_touch-requires g c =
+pub take_touch-requires : goal.take_touch-requires
+take_touch-requires g c =
     let i = c.self.inside in
     let has = item_by_token i.slab i.table i.rings.hot i.rings.cold i.rings.ghosts
     (number c.args.token) (rw (← c.self.view_is) at c.requires) in
@@ -23,15 +23,15 @@ pub invariant_of-self : goal.invariant_of-self
 invariant_of-self g c =
     let i = c.self.inside in
     rw (
-      c.swap_touch.ensures,
+      c.take_touch.ensures.same,
       with_item-same i.slab
           (number c.args.token) c.get_mut_unchecked.result.0.now c.get_mut_unchecked.ensures.item,
     )
     c.self.invariant
 
-pub returns : goal.returns
-returns g c =
+pub returns-clause-same : goal.returns-clause-same
+returns-clause-same g c =
     let i = c.self.inside in
     lists-same i.slab i.table i.rings.hot i.rings.cold i.rings.ghosts
     (number c.args.token) c.get_mut_unchecked.result.0.now _ c.get_mut_unchecked.ensures.item
-    c.swap_touch.ensures ∙ c.self.view_is
+    c.take_touch.ensures.same ∙ c.self.view_is
