@@ -3,4 +3,5 @@ pub mod HookLaws
 pub mod KeptSizes
 pub mod KeyCounts
 pub mod LookupLaws
+pub mod OrderLaws
 pub mod TouchLaws
