@@ -60,6 +60,32 @@ impl<K, V, T> Resident<K, V, T> {
         }
     }
 
+    /// The same item, read so often.
+    pub fn with_reads(self, reads: u64) -> Self
+    where
+        T: Drop,
+        ensures { result ≡ record self { reads = reads } }
+    {
+        let Resident {
+            key,
+            value,
+            weight,
+            mark,
+            reads: _,
+            queue,
+            touch,
+        } = self;
+        Resident {
+            key,
+            value,
+            weight,
+            mark,
+            reads,
+            queue,
+            touch,
+        }
+    }
+
     pub fn queue(&self) -> Queue
         ensures { result ≡ self.now.queue }
     {

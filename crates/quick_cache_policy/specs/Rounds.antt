@@ -1,0 +1,2 @@
+-- One round over the hot ring.
+use Rattle.std.specs.Prelude.{ℕ}
