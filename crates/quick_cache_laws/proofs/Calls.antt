@@ -3,4 +3,3 @@ pub mod SecondRemovals
 pub mod Queries
 pub mod Capacities
 pub mod MoreTouches
-pub mod EqualKeys

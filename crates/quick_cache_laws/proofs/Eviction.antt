@@ -1,6 +1,4 @@
 -- What eviction keeps and what it ends in.
-pub mod Keys
-pub mod InPlace
 pub mod PinnedPairs
 pub mod Measure
 pub mod OneVictim

@@ -276,4 +276,5 @@ module _ {K V P T : Type 0} where
   PutsItem-from old new token hash item last = record {
     put = last.put;
     in_ring = λ heavy. last.in_ring (in_ring-heavy item.weight heavy);
+    loading_stays = last.loading_stays refl;
   }

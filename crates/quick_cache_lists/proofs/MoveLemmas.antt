@@ -5,7 +5,7 @@ use Rattle.std.specs.Int.NonZero.{non_zero_u32_get}
 use Rattle.std.specs.declared.num.NonZeroU32.{NonZeroU32 as Token}
 use Rattle.std.proofs.lemmas.Bool.{cases_eq}
 use Rattle.std.proofs.lemmas.List.{length-map}
-use Rattle.quick_cache_slab.specs.LinkedSlab.{LinkedSlab, at_token, times, without, item_at, ring_from, with_item, removed, unlinked, IsAlone, IsNextOf, IsParted}
+use Rattle.quick_cache_slab.specs.LinkedSlab.{LinkedSlab, at_token, times, first_or, next_token, without, item_at, ring_from, with_item, removed, unlinked, IsAlone, IsNextOf, IsParted}
 use Rattle.quick_cache_slab.proofs.AtTokens.{length-with_token, at_token-with_same, at_token-with_other, at_token-map}
 use Rattle.quick_cache_table.specs.Table.{Table, has_pair}
 use Rattle.quick_cache_lists.specs.declared.entry.Slot.{Slot}
@@ -17,7 +17,7 @@ use Rattle.quick_cache_lists.specs.Sound.{lists_of, room_of, IsKeyed, IsStanding
 use Rattle.quick_cache_lists.proofs.ApartLemmas.{apart_by}
 use Rattle.quick_cache_lists.proofs.CountLemmas.{IsMore-put, IsLess-without}
 use Rattle.quick_cache_lists.proofs.LeaveLemmas.{IsGone, IsGone-by}
-use Rattle.quick_cache_lists.proofs.PutLemmas.{can_enter, IsPut-by, IsKeyed-entered, room-entered}
+use Rattle.quick_cache_lists.proofs.PutLemmas.{can_enter, IsPut-by, IsKeyed-entered, room-entered, next-entered}
 use Rattle.quick_cache_lists.proofs.SlabFrames.{occupied_within, IsRemoved-from, times-without_same, times-without_other}
 use Rattle.quick_cache_lists.proofs.TakeLemmas.{IsEntry-from}
 
@@ -197,6 +197,13 @@ module _ {K V P T : Type 0} (old alone : LinkedSlab (Slot K V P T)) (told : Tabl
     room-moved =
         let room_are = ap (λ (l : LinkedSlab (Slot K V P T)). l.room) unlinks in
         room-entered other new told left grown token w r enters ∙ rw (free_are, room_are) refl
+
+    pub next-moved : next_token new ≡ next_token old
+    next-moved =
+        next-entered other new told left grown token w r enters
+        ∙ ap (λ n. first_or (n + 1) alone.free) (length-with_token alone.slots
+        (non_zero_u32_get token) (Some y) ∙ ap length slots_are)
+        ∙ ap (first_or (length old.slots + 1)) free_are
 
     pub IsSound-moved : (fewer more : ℕ) → fewer ≡ loading_in s → more ≡ loading_in r
         → IsSound new told grown (loading - fewer + more)

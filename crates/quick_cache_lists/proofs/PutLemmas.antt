@@ -1,8 +1,9 @@
 -- An entry was put last.
-use Rattle.std.proofs.Common.{◌≡◌, ◌≢◌, ℕ, ◌+◌, ◌<◌, ◌≤◌, length, ◌==◌, Bool, true, false, Option, Some, None, IfSome, refl, sym, ap, subst, arith, true≢false}
+use Rattle.std.proofs.Common.{◌≡◌, ◌≢◌, ℕ, ◌+◌, ◌<◌, ◌≤◌, List, [], ◌∷◌, ◌++◌, length, ◌==◌, if◌then◌else◌, Bool, true, false, Option, Some, None, IfSome, MatchOption, refl, sym, ap, subst, ◌∙◌, arith, true≢false}
 use Rattle.std.specs.Int.NonZero.{non_zero_u32_get}
 use Rattle.std.specs.declared.num.NonZeroU32.{NonZeroU32 as Token}
 use Rattle.std.proofs.lemmas.List.Sorted.{IsPermutation-refl}
+use Rattle.quick_cache_model.specs.CacheState.{Place, InHot, InCold, InStill, place_of_item, ring_place}
 use Rattle.quick_cache_model.specs.declared.queue.Queue.{Queue}
 use Rattle.quick_cache_model.specs.declared.queue.Queue.TheVariants.{Hot, Cold}
 use Rattle.quick_cache_slab.specs.LinkedSlab.{LinkedSlab, item_at, ring_from, times, next_token, IsOccupied}
@@ -12,13 +13,28 @@ use Rattle.quick_cache_lists.specs.declared.entry.Entry.TheVariants.{Item as ite
 use Rattle.quick_cache_lists.specs.declared.entry.Slot.{Slot}
 use Rattle.quick_cache_lists.specs.declared.ring.Ring.{Ring}
 use Rattle.quick_cache_lists.specs.declared.rings.Rings.{Rings}
-use Rattle.quick_cache_lists.specs.Frames.{IsPlaced, CanJoin, CanEnter, EntersRing}
-use Rattle.quick_cache_lists.specs.Lists.{Lists, with_last, PutsLast}
+use Rattle.quick_cache_lists.specs.Frames.{IsPlaced, IsLinked, IsJoined, CanJoin, CanEnter, EntersRing}
+use Rattle.quick_cache_lists.specs.Lists.{HeldItem, Lists, items_at, with_items, with_last, is_placeholder, is_weightless, PutsLast}
 use Rattle.quick_cache_lists.specs.Slots.{Stand, AmongHot, AmongCold, AmongStill, AmongLoading, AmongGhosts, stand_of, stand_in, weight_in, weight_at, loading_in}
 use Rattle.quick_cache_lists.specs.Sound.{lists_of, room_of, IsRingOf, IsKeyed, IsStanding, IsSound}
 use Rattle.quick_cache_lists.proofs.CountLemmas.{IsMore-put}
 use Rattle.quick_cache_lists.proofs.SoundLemmas.{stand-some, stand-placed, vacant-stand, ring_light, ring_short, IsKeyed-joined, room-joined}
-use Rattle.quick_cache_lists.proofs.ViewLemmas.{same_lists, IsStanding-put_hot, IsStanding-put_cold, IsStanding-put_still, IsStanding-put_loading, IsStanding-put_ghost, lists-put_hot, lists-put_cold, lists-put_ghost, SameButOrder-put_still, SameButOrder-put_loading}
+use Rattle.quick_cache_lists.proofs.ViewLemmas.{same_lists, IsStanding-put_hot, IsStanding-put_cold, IsStanding-put_still, IsStanding-put_loading, IsStanding-put_ghost, lists-put_hot, lists-put_cold, lists-put_ghost, SameButOrder-put_still, SameButOrder-put_loading, loading-put_still, still-put_loading}
+
+module _ {K V P : Type 0} where
+  with_items-loading : (p : Place) (xs : List (HeldItem K V)) (lists : Lists K V P)
+      → (with_items p xs lists).loading ≡ lists.loading
+  with_items-loading InHot xs lists = refl
+  with_items-loading InCold xs lists = refl
+  with_items-loading InStill xs lists = refl
+
+  with_items-still : (b : Bool) (q : Queue) (xs : Place → List (HeldItem K V))
+      (lists : Lists K V P) → b ≡ false
+      → (with_items (if b then InStill else ring_place q)
+      (xs (if b then InStill else ring_place q)) lists).still ≡ lists.still
+  with_items-still true q xs lists weighs = absurd (true≢false weighs)
+  with_items-still false Hot xs lists weighs = refl
+  with_items-still false Cold xs lists weighs = refl
 
 module _ {K V P T : Type 0} where
   -- ---- the table knows nothing of rings
@@ -46,6 +62,27 @@ module _ {K V P T : Type 0} where
         ap (λ (s : LinkedSlab (Slot K V P T)). room_of s table) enters.0
     room-entered AmongLoading enters =
         ap (λ (s : LinkedSlab (Slot K V P T)). room_of s table) enters.0
+
+    -- the next token is that of the free tokens and the slots
+    next-joined : (ring after : Ring) → IsJoined mid new ring after token w
+        → next_token new ≡ next_token mid
+    next-joined ring after joined = by_head ring.head joined.by_head
+      where
+        by_head : (o : Option Token) → MatchOption o
+            ((new ≡ mid) × (non_zero_u32_get joined.head ≡ non_zero_u32_get token))
+            (λ h. IsLinked mid new (non_zero_u32_get token) (non_zero_u32_get h)
+            × (non_zero_u32_get joined.head ≡ non_zero_u32_get h))
+            → next_token new ≡ next_token mid
+        by_head None done = ap next_token done.0
+        by_head (Some h) done = rw (done.0.slots, done.0.free) refl
+
+    pub next-entered : (s : Stand) → EntersRing mid new rings grown token w s
+        → next_token new ≡ next_token mid
+    next-entered AmongHot enters = next-joined rings.hot grown.hot enters.0
+    next-entered AmongCold enters = next-joined rings.cold grown.cold enters.0
+    next-entered AmongGhosts enters = next-joined rings.ghosts grown.ghosts enters.0
+    next-entered AmongStill enters = ap next_token enters.0
+    next-entered AmongLoading enters = ap next_token enters.0
 
   -- ---- it can enter its ring
 
@@ -87,6 +124,23 @@ module _ {K V P T : Type 0} where
     can_enter AmongStill = tt
     can_enter AmongLoading = tt
 
+  -- ---- what it is not put among stays
+
+  with_last-loading : (t hash : ℕ) (entry : Entry K V P T) (lists : Lists K V P)
+      → is_placeholder entry ≡ false → (with_last t hash entry lists).loading ≡ lists.loading
+  with_last-loading t hash (item_variant item) lists is =
+      with_items-loading (place_of_item item) _ lists
+  with_last-loading t hash (loading_variant awaited) lists is = absurd (true≢false is)
+  with_last-loading t hash ghost_variant lists is = refl
+
+  with_last-still : (t hash : ℕ) (entry : Entry K V P T) (lists : Lists K V P)
+      → is_weightless entry ≡ false → (with_last t hash entry lists).still ≡ lists.still
+  with_last-still t hash (item_variant item) lists is =
+      with_items-still (item.weight == 0) item.queue (λ p. items_at p lists
+      ++ record { token = t; hash = hash; item = item } ∷ []) lists is
+  with_last-still t hash (loading_variant awaited) lists is = refl
+  with_last-still t hash ghost_variant lists is = refl
+
   -- ---- it stands last
 
   module _ (old new : LinkedSlab (Slot K V P T)) (told tnew : Table) (token : Token) (hash : ℕ)
@@ -119,6 +173,10 @@ module _ {K V P T : Type 0} where
                 (ap (λ (l : Lists K V P). l.ghosts) same) refl refl;
           };
           in_ring = λ _. same;
+          still_stays = λ is. ap (λ (l : Lists K V P). l.still) same
+              ∙ with_last-still (non_zero_u32_get token) hash entry before is;
+          loading_stays = λ is. ap (λ (l : Lists K V P). l.loading) same
+              ∙ with_last-loading (non_zero_u32_get token) hash entry before is;
         }
 
   module _ (old mid new : LinkedSlab (Slot K V P T)) (told tnew : Table) (token : Token) (hash : ℕ)
@@ -171,6 +229,9 @@ module _ {K V P T : Type 0} where
                 put = SameButOrder-put_still old new told tnew token hash item rings.hot rings.cold
                     rings.ghosts standing here none;
                 in_ring = λ is. absurd (true≢false (sym (rw none at is)));
+                still_stays = λ is. absurd (true≢false (sym none ∙ is));
+                loading_stays = λ _. loading-put_still old new told tnew token hash item rings.hot
+                    rings.cold rings.ghosts standing here none;
               },
             )
     IsPut-by (loading_variant awaited) placed enters =
@@ -183,6 +244,9 @@ module _ {K V P T : Type 0} where
             put = SameButOrder-put_loading old new told tnew token hash awaited rings.hot rings.cold
                 rings.ghosts standing here;
             in_ring = λ is. absurd (true≢false (sym is));
+            still_stays = λ _. still-put_loading old new told tnew token hash awaited rings.hot
+                rings.cold rings.ghosts standing here;
+            loading_stays = λ is. absurd (true≢false is);
           },
         )
     IsPut-by ghost_variant placed enters =

@@ -263,6 +263,11 @@ module _ {K V P T : Type 0} where
       loading = came_still.alones AmongLoading (λ e. cc) sound.loading;
     }
 
+    pub loading-put_still : (lists_of new tnew hot cold ghosts).loading
+        ≡ (lists_of old told hot cold ghosts).loading
+    loading-put_still = view-none loading_of (λ u. refl) old new (non_zero_u32_get token) _ AmongStill
+        came_still refl
+
     pub SameButOrder-put_still : SameButOrder
         (record (entered (record { token = non_zero_u32_get token; hash = hash; item = item })
         (lists_of old told hot cold ghosts)) { next = next_token new; room = room_of new tnew })
@@ -273,8 +278,6 @@ module _ {K V P T : Type 0} where
         let before = lists_of old told hot cold ghosts in
         let after = lists_of new tnew hot cold ghosts in
         let in_still : place_of_item item ≡ InStill = rw weightless refl in
-        let loading : after.loading ≡ before.loading =
-        view-none loading_of (λ u. refl) old new t _ AmongStill came_still refl in
         let hot_is : after.hot ≡ before.hot =
         view-kept item_of (λ u. refl) old new t _ AmongStill came_still _ _
         (came_still.rings hot AmongHot (λ e. cc) sound.hot_ring).1
@@ -293,7 +296,7 @@ module _ {K V P T : Type 0} where
         subst R (sym in_still) (record {
           still = view-more still_of (λ u. refl) old new t _ AmongStill came_still held
               (rw weightless refl);
-          loading = rw loading (IsPermutation-refl before.loading);
+          loading = rw loading-put_still (IsPermutation-refl before.loading);
           same = same_lists (record before
               { still = before.still ++ held ∷ []; next = next_token new; room = room_of new tnew })
               after hot_is cold_is ghosts_is refl refl;
@@ -374,6 +377,11 @@ module _ {K V P T : Type 0} where
           (non_zero_u32_get token) _ placed AmongLoading sound.loading;
     }
 
+    pub still-put_loading : (lists_of new tnew hot cold ghosts).still
+        ≡ (lists_of old told hot cold ghosts).still
+    still-put_loading = view-none still_of (λ u. refl) old new (non_zero_u32_get token) _ AmongLoading
+        came_loading refl
+
     pub SameButOrder-put_loading : SameButOrder
         (record (lists_of old told hot cold ghosts) {
           loading = (lists_of old told hot cold ghosts).loading
@@ -398,8 +406,6 @@ module _ {K V P T : Type 0} where
         } in
         let before = lists_of old told hot cold ghosts in
         let after = lists_of new tnew hot cold ghosts in
-        let still : after.still ≡ before.still =
-        view-none still_of (λ u. refl) old new t _ AmongLoading came_loading refl in
         let hot_is : after.hot ≡ before.hot =
         view-kept item_of (λ u. refl) old new t _ AmongLoading came_loading _ _
         (came_loading.rings hot AmongHot (λ e. cc) sound.hot_ring).1
@@ -413,7 +419,7 @@ module _ {K V P T : Type 0} where
         (came_loading.rings ghosts AmongGhosts (λ e. cc) sound.ghost_ring).1
         (out_of-vacant old ghosts AmongGhosts t sound.ghost_ring placed.vacant) in
         record {
-          still = rw still (IsPermutation-refl before.still);
+          still = rw still-put_loading (IsPermutation-refl before.still);
           loading = view-more loading_of
               (λ u. refl) old new t _ AmongLoading came_loading held refl;
           same = same_lists (record before {

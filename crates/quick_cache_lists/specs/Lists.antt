@@ -247,8 +247,21 @@ module _ {K V P : Type 0} where
   is_in_ring (loading_variant awaited) = false
   is_in_ring ghost_variant = true
 
-  -- The entry was put last under that token. Where it stands in no ring, those that stand in none
-  -- may be in another order.
+  -- the entry is a placeholder
+  abbrev pub is_placeholder : {T : Type 0} → Entry K V P T → Bool
+  is_placeholder (item_variant item) = false
+  is_placeholder (loading_variant awaited) = true
+  is_placeholder ghost_variant = false
+
+  -- the entry is an item that weighs nothing
+  abbrev pub is_weightless : {T : Type 0} → Entry K V P T → Bool
+  is_weightless (item_variant item) = item.weight == 0
+  is_weightless (loading_variant awaited) = false
+  is_weightless ghost_variant = false
+
+  -- The entry was put last under that token. A placeholder may come to any place among the
+  -- placeholders, and an item that weighs nothing to any place among the weightless: these may be
+  -- in another order, and nothing else.
   pub record PutsLast {T : Type 0} (old : Lists K V P) (token hash : ℕ) (entry : Entry K V P T)
       (new : Lists K V P) : Type 0 where
     pub put : SameButOrder
@@ -256,18 +269,21 @@ module _ {K V P : Type 0} where
         new
     pub in_ring : is_in_ring entry ≡ true
         → new ≡ record (with_last token hash entry old) { next = new.next; room = new.room }
+    pub still_stays : is_weightless entry ≡ false → new.still ≡ old.still
+    pub loading_stays : is_placeholder entry ≡ false → new.loading ≡ old.loading
 
   -- The entry of that token left its list, its ring kept its order or began behind it, and another
-  -- was put last under the same token and hash, in the same room.
+  -- was put last under the same token and hash. The room and the next token stay.
   pub record Replaces {T : Type 0} (old : Lists K V P) (token : ℕ) (restarts : Bool)
       (entry was : Entry K V P T) (new : Lists K V P) : Type 0 where
     pub hash : ℕ
     pub taken : IsEntry old token hash was
     pub last : PutsLast (without_entry restarts token old) token hash entry new
     pub room : new.room ≡ old.room
+    pub next : new.next ≡ old.next
 
-  -- The item was put last under that token. Where it weighs nothing, those that stand in no ring
-  -- may be in another order.
+  -- The item was put last under that token. Where it weighs nothing, the weightless may be in
+  -- another order, and nothing else.
   pub record PutsItem (old : Lists K V P) (token hash : ℕ) (item : Item K V) (new : Lists K V P)
       : Type 0 where
     pub put : SameButOrder
@@ -281,9 +297,10 @@ module _ {K V P : Type 0} where
           next = new.next;
           room = new.room;
         }
+    pub loading_stays : new.loading ≡ old.loading
 
   -- The item of that token left its list, its ring kept its order or began behind it, and once
-  -- changed it was put last under the same token and hash, in the same room.
+  -- changed it was put last under the same token and hash. The room and the next token stay.
   pub record Requeues (old : Lists K V P) (token : ℕ) (restarts : Bool)
       (change : Item K V → Item K V) (new : Lists K V P) : Type 0 where
     pub hash : ℕ
@@ -291,6 +308,7 @@ module _ {K V P : Type 0} where
     pub taken : HasItem old (record { token = token; hash = hash; item = item })
     pub last : PutsItem (without_entry restarts token old) token hash (change item) new
     pub room : new.room ≡ old.room
+    pub next : new.next ≡ old.next
 
   -- an item has the token
   abbrev pub HasItemToken : Lists K V P → ℕ → Type 0

@@ -117,9 +117,10 @@ impl<K, V, P, T, A: Allocator> Lists<K, V, P, T, A> {
         self.loading = 0;
     }
 
-    /// Each token has one entry at most.
+    /// Each token has one entry at most, and there are no more entries than there can be.
     pub fn apart(&self)
-        ensures { AreApart self.now }
+        ensures apart { AreApart self.now }
+        ensures within { entry_count self.now ≤ 4294967294 }
     {
         self.slab.validate();
     }

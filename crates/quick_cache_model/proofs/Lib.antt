@@ -1,3 +1,6 @@
+pub mod EachElement
+pub mod EqualKeys
+pub mod Eviction
 pub mod EvictionKeeps
 pub mod HookLaws
 pub mod KeptSizes
@@ -5,3 +8,4 @@ pub mod KeyCounts
 pub mod LookupLaws
 pub mod OrderLaws
 pub mod TouchLaws
+pub mod Valid

@@ -11,11 +11,11 @@ use Rattle.quick_cache_model.specs.Finding.{HasNothing, HasNoItem, IsItemAt}
 use Rattle.quick_cache_model.specs.Admission.{PassesCheck}
 use Rattle.quick_cache_model.specs.Writes.{Insert, new_item, queue_for, WritesAdmitted, Writes}
 use Rattle.quick_cache_laws.specs.Admitted.{HoldsPair}
-use Rattle.quick_cache_laws.proofs.EachElement.{all-middle}
-use Rattle.quick_cache_laws.proofs.Valid.Orders.{all-permutation}
+use Rattle.quick_cache_model.proofs.EachElement.{all-middle}
+use Rattle.quick_cache_model.proofs.EachElement.{all-permutation}
 use Rattle.std.proofs.Common.{ap, IsPermutation, append_assoc}
 use Rattle.std.proofs.lemmas.List.Sorted.{IsPermutation-sym}
-use Rattle.quick_cache_laws.proofs.Valid.Places.{put}
+use Rattle.quick_cache_model.proofs.Valid.Places.{put}
 use Rattle.quick_cache_laws.proofs.Admitted.Checks.{passed_is_not_too_heavy, passed_leaves}
 
 -- an element stands in a list, between two others

@@ -9,7 +9,7 @@ use Rattle.quick_cache_model.specs.Hooks.{Rules}
 use Rattle.quick_cache_model.specs.Eviction.{pinned}
 use Rattle.quick_cache_laws.specs.Laws.{AreRingsPinned}
 use Rattle.quick_cache_laws.specs.Admitted.{unpinned_weight_of, unpinned_weight}
-use Rattle.quick_cache_laws.proofs.Valid.Places.{put}
+use Rattle.quick_cache_model.proofs.Valid.Places.{put}
 
 module _ {K V : Type 0} (rules : Rules K V) where
   -- what an item weighs if it is not pinned

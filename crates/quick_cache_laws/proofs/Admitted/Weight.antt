@@ -15,7 +15,7 @@ use Rattle.quick_cache_model.specs.Writes.{Strategy, new_item, queue_for, Writes
 use Rattle.quick_cache_model.specs.Placeholders.{MakesRoomFor, FillsPlaceholder, IsLoadingTicket}
 use Rattle.quick_cache_laws.specs.Laws.{AreRingsPinned}
 use Rattle.quick_cache_laws.specs.Admitted.{unpinned_weight}
-use Rattle.quick_cache_laws.proofs.Valid.Places.{put}
+use Rattle.quick_cache_model.proofs.Valid.Places.{put}
 use Rattle.quick_cache_model.proofs.EvictionKeeps.{EvictsToCapacity-beside}
 use Rattle.quick_cache_laws.proofs.Eviction.Room.{EvictsToCapacity-makes_room}
 use Rattle.quick_cache_laws.proofs.Admitted.Checks.{passed_is_not_too_heavy, passed_leaves}

@@ -6,7 +6,7 @@ use Rattle.quick_cache_model.specs.Finding.{Found, FoundItem, FoundLoading, Foun
 use Rattle.quick_cache_model.specs.Finding.{FoundNothing, Finds}
 use Rattle.quick_cache_model.specs.Lookups.{Sees, LooksUp}
 use Rattle.quick_cache_laws.specs.Laws.{IsQuery}
-use Rattle.quick_cache_laws.proofs.Eviction.Keys.{keys_by-none}
+use Rattle.quick_cache_model.proofs.Eviction.Keys.{keys_by-none}
 use Rattle.quick_cache_laws.proofs.CanBeMade.Finding.{Finds-some}
 use Rattle.quick_cache_model.proofs.KeyCounts.{keys_by-fewer}
 use Rattle.quick_cache_model.proofs.LookupLaws.{Sees-LooksUp}

@@ -8,13 +8,13 @@ use Rattle.quick_cache_model.specs.Finding.{IsItemAt}
 use Rattle.quick_cache_model.specs.Removal.{Removes, Retains, retained}
 use Rattle.quick_cache_laws.specs.Laws.{IsQuery}
 use Rattle.quick_cache_model.proofs.KeyCounts.{one_if}
-use Rattle.quick_cache_laws.proofs.Eviction.Keys.{keys_by-none}
-use Rattle.quick_cache_laws.proofs.Valid.Places.{keys_by-without}
+use Rattle.quick_cache_model.proofs.Eviction.Keys.{keys_by-none}
+use Rattle.quick_cache_model.proofs.Valid.Places.{keys_by-without}
 use Rattle.quick_cache_model.proofs.OrderLaws.{SameButOrder-keys}
-use Rattle.quick_cache_laws.proofs.Valid.Orders.{all-permutation}
+use Rattle.quick_cache_model.proofs.EachElement.{all-permutation}
 use Rattle.quick_cache_model.proofs.LookupLaws.{at_least}
 use Rattle.quick_cache_laws.proofs.Calls.Queries.{keys_by-query}
-use Rattle.quick_cache_laws.proofs.Valid.Edits.{keys_by-unloaded}
+use Rattle.quick_cache_model.proofs.Valid.Edits.{keys_by-unloaded}
 
 module _ {K V : Type 0} (equal : K → K → Bool) (stands_for : K → Bool)
     (query : IsQuery equal stands_for) where

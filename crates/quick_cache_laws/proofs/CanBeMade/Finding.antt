@@ -6,7 +6,7 @@ use Rattle.std.specs.List.{AllByRecursion}
 use Rattle.quick_cache_model.specs.CacheState.{CacheState, InHot, InCold, InStill}
 use Rattle.quick_cache_model.specs.Finding.{Found, FoundItem, FoundLoading, FoundGhost}
 use Rattle.quick_cache_model.specs.Finding.{FoundNothing, HasNoItem, HasNoKey, Finds}
-use Rattle.quick_cache_laws.proofs.EachElement.{all-weaker}
+use Rattle.quick_cache_model.proofs.EachElement.{all-weaker}
 
 -- an element that passes, with what stands before and behind it, or that none passes
 pub data Searched {X : Type 0} (test : X → Bool) (xs : List X) : Type 0 where

@@ -12,7 +12,7 @@ use Rattle.quick_cache_model.specs.Placeholders.{with_placeholder, MakesPlacehol
 use Rattle.quick_cache_model.specs.Placeholders.{MeetsPlaceholder, GivesUpPlaceholder}
 use Rattle.quick_cache_model.specs.Lookups.{looked_up, after_hit, after_miss, Sees, LooksUp}
 use Rattle.quick_cache_model.specs.Removal.{Removes, RemovesIf}
-use Rattle.quick_cache_laws.proofs.EachElement.{all-weaker}
+use Rattle.quick_cache_model.proofs.EachElement.{all-weaker}
 use Rattle.quick_cache_laws.proofs.CanBeMade.Finding.{Searched, is_there, is_absent, search_list}
 use Rattle.quick_cache_laws.proofs.CanBeMade.Finding.{Finds-some}
 

@@ -19,7 +19,7 @@ use Rattle.quick_cache_model.specs.Writes.{TakesOutItem, RejectsTooHeavy, Writes
 use Rattle.quick_cache_model.specs.Placeholders.{IsLoadingTicket, MakesRoomFor, FillsPlaceholder}
 use Rattle.quick_cache_model.specs.Capacity.{resized, SetsCapacity}
 use Rattle.quick_cache_laws.specs.Laws.{CanCallHooks}
-use Rattle.quick_cache_laws.proofs.EachElement.{all-weaker}
+use Rattle.quick_cache_model.proofs.EachElement.{all-weaker}
 use Rattle.quick_cache_laws.proofs.CanBeMade.Finding.{Searched, is_there, is_absent, search_list}
 use Rattle.quick_cache_laws.proofs.CanBeMade.Finding.{Finds-some}
 use Rattle.quick_cache_model.proofs.HookLaws.{RunsHooks-append}

@@ -14,7 +14,7 @@ use Rattle.quick_cache_model.specs.Hooks.{Rules, HookCall}
 use Rattle.quick_cache_model.specs.Eviction.{lowered, pinned, IsPassed, AdvancesHot, AdvancesCold}
 use Rattle.quick_cache_model.specs.Eviction.{EvictsToCapacity}
 use Rattle.quick_cache_laws.specs.Laws.{AreRingsPinned}
-use Rattle.quick_cache_laws.proofs.Valid.Places.{put}
+use Rattle.quick_cache_model.proofs.Valid.Places.{put}
 
 module _ {K V : Type 0} where
   -- the weight of a list and one item more

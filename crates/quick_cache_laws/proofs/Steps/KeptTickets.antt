@@ -19,10 +19,10 @@ use Rattle.quick_cache_model.specs.Removal.{Removes, RemovesIf, weighed, reweigh
 use Rattle.quick_cache_model.specs.Entries.{EntryChoice, EntryOutcome, ActsOnEntry}
 use Rattle.quick_cache_model.specs.Capacity.{resized, SetsCapacity}
 use Rattle.quick_cache_model.proofs.EvictionKeeps.{EvictsToCapacity-beside}
-use Rattle.quick_cache_laws.proofs.EachElement.{all-without, all-push}
-use Rattle.quick_cache_laws.proofs.Valid.Places.{IsSameButItems, with_items-same, entered-same}
-use Rattle.quick_cache_laws.proofs.Valid.Places.{rewritten-same}
-use Rattle.quick_cache_laws.proofs.Valid.Orders.{all-permutation}
+use Rattle.quick_cache_model.proofs.EachElement.{all-without, all-push}
+use Rattle.quick_cache_model.proofs.Valid.Places.{IsSameButItems, with_items-same, entered-same}
+use Rattle.quick_cache_model.proofs.Valid.Places.{rewritten-same}
+use Rattle.quick_cache_model.proofs.EachElement.{all-permutation}
 
 module _ {K V : Type 0} where
   -- the next ticket did not fall, and none that was given and is gone came back

@@ -6,7 +6,7 @@ use Rattle.quick_cache_model.specs.CacheState.{CacheState, LoadingEntry, IsValid
 use Rattle.quick_cache_model.specs.Hooks.{Rules}
 use Rattle.quick_cache_model.specs.Placeholders.{IsLoadingTicket, HasNoTicket}
 use Rattle.quick_cache_laws.specs.Steps.{Step, Steps}
-use Rattle.quick_cache_laws.proofs.EachElement.{all-middle}
+use Rattle.quick_cache_model.proofs.EachElement.{all-middle}
 use Rattle.quick_cache_laws.proofs.Steps.KeptTickets.{KeepsTickets, kept-same, kept-trans}
 use Rattle.quick_cache_laws.proofs.Steps.KeptTickets.{Writes-tickets, MakesPlaceholder-tickets}
 use Rattle.quick_cache_laws.proofs.Steps.KeptTickets.{MeetsPlaceholder-tickets}

@@ -6,17 +6,17 @@ use Rattle.quick_cache_model.specs.Hooks.{Rules}
 use Rattle.quick_cache_model.specs.Finding.{IsItemAt}
 use Rattle.quick_cache_model.specs.Removal.{reweighed}
 use Rattle.quick_cache_laws.specs.Steps.{Step, Steps}
-use Rattle.quick_cache_laws.proofs.Valid.States.{IsValid-in_place, SetsCapacity-valid}
-use Rattle.quick_cache_laws.proofs.Valid.Places.{IsInPlace-marked}
-use Rattle.quick_cache_laws.proofs.Valid.Writes.{Writes-valid}
-use Rattle.quick_cache_laws.proofs.Valid.Placeholders.{MakesPlaceholder-valid}
-use Rattle.quick_cache_laws.proofs.Valid.Placeholders.{MeetsPlaceholder-valid}
-use Rattle.quick_cache_laws.proofs.Valid.Placeholders.{FillsPlaceholder-valid}
-use Rattle.quick_cache_laws.proofs.Valid.Placeholders.{GivesUpPlaceholder-valid}
-use Rattle.quick_cache_laws.proofs.Valid.Lookups.{LooksUp-valid, Removes-valid, RemovesIf-valid}
-use Rattle.quick_cache_laws.proofs.Valid.Lookups.{Retains-valid, Drains-valid, ActsOnEntry-valid}
-use Rattle.quick_cache_laws.proofs.Valid.Lookups.{reweighed-valid}
-use Rattle.quick_cache_laws.proofs.Valid.Orders.{SameButOrder-valid}
+use Rattle.quick_cache_model.proofs.Valid.States.{IsValid-in_place, SetsCapacity-valid}
+use Rattle.quick_cache_model.proofs.Valid.Places.{IsInPlace-marked}
+use Rattle.quick_cache_model.proofs.Valid.Writes.{Writes-valid}
+use Rattle.quick_cache_model.proofs.Valid.Placeholders.{MakesPlaceholder-valid}
+use Rattle.quick_cache_model.proofs.Valid.Placeholders.{MeetsPlaceholder-valid}
+use Rattle.quick_cache_model.proofs.Valid.Placeholders.{FillsPlaceholder-valid}
+use Rattle.quick_cache_model.proofs.Valid.Placeholders.{GivesUpPlaceholder-valid}
+use Rattle.quick_cache_model.proofs.Valid.Lookups.{LooksUp-valid, Removes-valid, RemovesIf-valid}
+use Rattle.quick_cache_model.proofs.Valid.Lookups.{Retains-valid, Drains-valid, ActsOnEntry-valid}
+use Rattle.quick_cache_model.proofs.Valid.Lookups.{reweighed-valid}
+use Rattle.quick_cache_model.proofs.Valid.Orders.{SameButOrder-valid}
 
 module _ {K V : Type 0} (equal : K → K → Bool) (laws : IsEquivalence equal)
     (rules : Rules K V) where

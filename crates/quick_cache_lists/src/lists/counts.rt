@@ -1,5 +1,5 @@
 //! What the lists tell of themselves, each in constant time.
-ghost use Rattle.std.specs.Prelude.{◌≡◌, sum_by, length};
+ghost use Rattle.std.specs.Prelude.{◌≡◌, ◌<◌, ◌^◌, sum_by, length};
 ghost use Rattle.quick_cache_model.specs.CacheState.{ring_place};
 ghost use Rattle.quick_cache_lists.specs.Lists.{items_at, item_count};
 
@@ -21,8 +21,9 @@ impl<K, V, P, T, A: Allocator> Lists<K, V, P, T, A> {
 
     /// What the items of a ring weigh.
     pub fn weight(&self, queue: Queue) -> u128
-        ensures { result ≡ sum_by (λ held. held.item.weight)
+        ensures weight { result ≡ sum_by (λ held. held.item.weight)
             (items_at (ring_place queue) self.now) }
+        ensures within { result < 2 ^ 96 }
     {
         self.slab.validate();
         match queue {

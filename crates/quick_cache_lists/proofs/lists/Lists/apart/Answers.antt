@@ -1,8 +1,18 @@
+use Rattle.std.proofs.Common.{arith}
 use Rattle.quick_cache_lists.proofs.ApartLemmas.{apart_by}
 use Rattle.quick_cache_lists.proofs.lists.Lists.apart.Goals as goal
 
-pub returns : goal.returns
-returns g c =
+pub returns-clause-apart : goal.returns-clause-apart
+returns-clause-apart g c =
     let i = c.self.inside in
     rw (← c.self.view_is) (apart_by i.slab i.table i.rings.hot i.rings.cold i.rings.ghosts
     c.validate.ensures c.self.invariant.standing)
+
+pub returns-clause-within : goal.returns-clause-within
+returns-clause-within g c =
+    rw (← c.self.view_is) (omega (
+      arith,
+      c.self.invariant.all_counted,
+      c.self.invariant.keyed.counted,
+      c.validate.ensures.few,
+    ))

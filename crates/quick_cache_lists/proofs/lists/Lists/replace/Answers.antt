@@ -5,7 +5,7 @@ use Rattle.quick_cache_lists.specs.declared.entry.Slot.{Slot}
 use Rattle.quick_cache_lists.specs.Frames.{CanLeaveRing}
 use Rattle.quick_cache_lists.specs.Slots.{Stand, stand_of, stand_in, weight_in, weight_at}
 use Rattle.quick_cache_lists.proofs.LeaveLemmas.{can_leave}
-use Rattle.quick_cache_lists.proofs.MoveLemmas.{can_enter-moved, last-moved, room-moved, IsSound-moved, loading-kept}
+use Rattle.quick_cache_lists.proofs.MoveLemmas.{can_enter-moved, last-moved, room-moved, next-moved, IsSound-moved, loading-kept}
 use Rattle.quick_cache_lists.proofs.TakeLemmas.{occupied_by_entry, IsEntry-from}
 use Rattle.quick_cache_lists.proofs.lists.Lists.replace.Goals as goal
 
@@ -142,6 +142,23 @@ returns g c =
     c.replace-was.ensures.new)) (c.weight-weight.ensures
     ∙ sym (ap (λ (s : Slot _ _ _ _). weight_in s.entry) c.replace-was.ensures.new))
     c.enter.ensures in
+    let next = next-moved i.slab c.unlink-next.new.self i.table c.args.token c.unlink-next.result
+    c.args.restarts i.rings c.leave.new.self i.loading c.self.invariant c.validate.ensures
+    c.unlink-next.ensures.next c.get_mut_unchecked.result.0.now c.replace-was.new.self at
+    (ap (λ (s : Slot _ _ _ _). s.hash) c.replace-was.ensures.new) c.unlink-next.ensures.unlinked
+    c.unlink-next.ensures.alone (omega (
+      arith,
+      c.weight-weight.ensures
+          ∙ sym (ap (λ (s : Slot _ _ _ _). weight_in s.entry) c.replace-was.ensures.new),
+    ))
+    c.stand-from.result c.weight-weighed.result
+    (c.stand-from.ensures ∙ ap stand_in c.replace-was.ensures.old)
+    (c.weight-weighed.ensures ∙ ap weight_in c.replace-was.ensures.old) c.leave.ensures
+    c.enter.new.slab c.enter.new.self c.stand-to.result c.weight-weight.result
+    (c.stand-to.ensures ∙ sym (ap (λ (s : Slot _ _ _ _). stand_in s.entry)
+    c.replace-was.ensures.new)) (c.weight-weight.ensures
+    ∙ sym (ap (λ (s : Slot _ _ _ _). weight_in s.entry) c.replace-was.ensures.new))
+    c.enter.ensures in
     let taken = IsEntry-from i.slab i.table i.rings.hot i.rings.cold i.rings.ghosts
     c.self.invariant.standing t c.get_mut_unchecked.result.0.now at in
     rw (← c.self.view_is, c.replace-was.ensures.old)
@@ -150,4 +167,5 @@ returns g c =
       taken = taken;
       last = rw c.replace-was.ensures.new at last;
       room = room;
+      next = next;
     })

@@ -5,7 +5,7 @@ use Rattle.quick_cache_lists.specs.declared.entry.Slot.{Slot}
 use Rattle.quick_cache_lists.specs.Frames.{CanLeaveRing}
 use Rattle.quick_cache_lists.specs.Slots.{Stand, stand_of, weight_in, weight_at, loading_in}
 use Rattle.quick_cache_lists.proofs.LeaveLemmas.{can_leave}
-use Rattle.quick_cache_lists.proofs.MoveLemmas.{can_enter-moved, last-moved, room-moved, IsSound-requeued}
+use Rattle.quick_cache_lists.proofs.MoveLemmas.{can_enter-moved, last-moved, room-moved, next-moved, IsSound-requeued}
 use Rattle.quick_cache_lists.specs.Lists.{PutsLast, requeued, without_entry}
 use Rattle.quick_cache_lists.specs.Sound.{lists_of}
 use Rattle.quick_cache_lists.proofs.ItemLemmas.{item_by_token, slot_is}
@@ -133,6 +133,16 @@ returns g c =
     (c.weight-weighed.ensures) c.leave.ensures c.enter.new.slab c.enter.new.self
     c.stand-to.result c.args.weight (c.stand-to.ensures)
     (sym (ap (λ (s : Slot _ _ _ _). weight_in s.entry) now)) c.enter.ensures in
+    let next = next-moved i.slab c.unlink-next.new.self i.table c.args.token c.unlink-next.result
+    c.args.restarts i.rings c.leave.new.self i.loading c.self.invariant c.validate.ensures
+    c.unlink-next.ensures.next c.get_mut_unchecked.result.0.now c.requeue.new.self at
+    (ap (λ (s : Slot _ _ _ _). s.hash) c.requeue.ensures) c.unlink-next.ensures.unlinked
+    c.unlink-next.ensures.alone (omega
+    (arith, sym (ap (λ (s : Slot _ _ _ _). weight_in s.entry) now))) c.stand-from.result
+    c.weight-weighed.result (c.stand-from.ensures)
+    (c.weight-weighed.ensures) c.leave.ensures c.enter.new.slab c.enter.new.self
+    c.stand-to.result c.args.weight (c.stand-to.ensures)
+    (sym (ap (λ (s : Slot _ _ _ _). weight_in s.entry) now)) c.enter.ensures in
     let puts = subst (λ (s : Slot _ _ _ _). PutsLast
     (without_entry c.args.restarts t
     (lists_of i.slab i.table i.rings.hot i.rings.cold i.rings.ghosts)) t s.hash s.entry
@@ -149,4 +159,5 @@ returns g c =
           c.enter.new.self.ghosts) t has.0
           (requeued c.args.queue c.args.mark c.args.weight has.1) puts;
       room = room;
+      next = next;
     })

@@ -11,19 +11,19 @@ use Rattle.quick_cache_model.specs.CacheState.{keys_by, IsRingItem, IsStillItem,
 use Rattle.quick_cache_model.specs.Lookups.{after_hit, after_miss}
 use Rattle.quick_cache_model.specs.Placeholders.{with_placeholder}
 use Rattle.quick_cache_model.specs.Removal.{cleared, retained}
-use Rattle.quick_cache_laws.proofs.EachElement.{all-middle, all-instead, all-filter}
+use Rattle.quick_cache_model.proofs.EachElement.{all-middle, all-instead, all-filter}
 use Rattle.quick_cache_model.proofs.KeyCounts.{one, one_if, keys, keys-cons, loading_keys}
 use Rattle.quick_cache_model.proofs.KeyCounts.{loading_keys-cons, loading_keys-append}
 use Rattle.quick_cache_model.proofs.KeyCounts.{loading_keys-split}
-use Rattle.quick_cache_laws.proofs.Eviction.InPlace.{IsInPlace}
-use Rattle.quick_cache_laws.proofs.Valid.Places.{with_items-same, entered-same, rewritten-same}
-use Rattle.quick_cache_laws.proofs.Valid.Places.{keys_by-without, keys_by-instead, keys_by-entered}
-use Rattle.quick_cache_laws.proofs.Valid.Places.{keys_by-rewritten, without-in_place}
-use Rattle.quick_cache_laws.proofs.Valid.Places.{entered-in_place, rewritten-in_place}
-use Rattle.quick_cache_laws.proofs.Calls.EqualKeys.{one-equal, keys_by-new}
-use Rattle.quick_cache_laws.proofs.Valid.Tickets.{AreTickets, AreTickets-without, AreTickets-push}
-use Rattle.quick_cache_laws.proofs.Valid.States.{IsValid-parts, IsValid-tickets, IsValid-in_place}
-use Rattle.quick_cache_laws.proofs.Valid.States.{IsValid-items}
+use Rattle.quick_cache_model.proofs.Eviction.InPlace.{IsInPlace}
+use Rattle.quick_cache_model.proofs.Valid.Places.{with_items-same, entered-same, rewritten-same}
+use Rattle.quick_cache_model.proofs.Valid.Places.{keys_by-without, keys_by-instead, keys_by-entered}
+use Rattle.quick_cache_model.proofs.Valid.Places.{keys_by-rewritten, without-in_place}
+use Rattle.quick_cache_model.proofs.Valid.Places.{entered-in_place, rewritten-in_place}
+use Rattle.quick_cache_model.proofs.EqualKeys.{one-equal, keys_by-new}
+use Rattle.quick_cache_model.proofs.Valid.Tickets.{AreTickets, AreTickets-without, AreTickets-push}
+use Rattle.quick_cache_model.proofs.Valid.States.{IsValid-parts, IsValid-tickets, IsValid-in_place}
+use Rattle.quick_cache_model.proofs.Valid.States.{IsValid-items, IsValid-ghosts}
 
 module _ {K V : Type 0} where
   -- an item in the place of another, with its queue and its weight
@@ -131,17 +131,15 @@ module _ {K V : Type 0} (equal : K → K → Bool) where
       → state.ghosts ≡ before ++ hash ∷ after
       → IsValid equal state → IsValid equal (record state { ghosts = before ++ after })
   without_ghost-valid before hash after state split valid =
-      IsValid-parts equal (record state { ghosts = before ++ after }) valid.one_entry_a_key
-      (IsValid-tickets equal state valid)
+      IsValid-ghosts equal (before ++ after) state
       (omega (
         arith,
         valid.ghosts_within,
         ap length split,
-        length-append before
-            (hash ∷ after),
+        length-append before (hash ∷ after),
         length-append before after,
       ))
-      (record { in_hot = valid.in_hot; in_cold = valid.in_cold; in_still = valid.in_still })
+      valid
 
   -- a placeholder goes
   pub unloaded-valid : (before : List (LoadingEntry K)) (entry : LoadingEntry K)

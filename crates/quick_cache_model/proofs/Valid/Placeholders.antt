@@ -10,12 +10,12 @@ use Rattle.quick_cache_model.specs.Writes.{new_item, queue_for}
 use Rattle.quick_cache_model.specs.Touches.{first_mark}
 use Rattle.quick_cache_model.specs.Placeholders.{MakesPlaceholder, MeetsPlaceholder}
 use Rattle.quick_cache_model.specs.Placeholders.{GivesUpPlaceholder, MakesRoomFor, FillsPlaceholder}
-use Rattle.quick_cache_laws.proofs.Calls.EqualKeys.{keys_by-absent}
-use Rattle.quick_cache_laws.proofs.Valid.States.{EvictsToCapacity-valid}
-use Rattle.quick_cache_laws.proofs.Valid.Edits.{after_hit-valid, after_miss-valid}
-use Rattle.quick_cache_laws.proofs.Valid.Edits.{without_ghost-valid, unloaded-valid, entered-valid}
-use Rattle.quick_cache_laws.proofs.Valid.Edits.{with_placeholder-valid, keys_by-unloaded}
-use Rattle.quick_cache_laws.proofs.Valid.Edits.{keys_by-taken}
+use Rattle.quick_cache_model.proofs.EqualKeys.{keys_by-absent}
+use Rattle.quick_cache_model.proofs.Valid.States.{EvictsToCapacity-valid}
+use Rattle.quick_cache_model.proofs.Valid.Edits.{after_hit-valid, after_miss-valid}
+use Rattle.quick_cache_model.proofs.Valid.Edits.{without_ghost-valid, unloaded-valid, entered-valid}
+use Rattle.quick_cache_model.proofs.Valid.Edits.{with_placeholder-valid, keys_by-unloaded}
+use Rattle.quick_cache_model.proofs.Valid.Edits.{keys_by-taken}
 
 module _ {K V : Type 0} (equal : K → K → Bool) (laws : IsEquivalence equal) where
   -- a placeholder is made under a key that the query stands for: it stands for the keys that are

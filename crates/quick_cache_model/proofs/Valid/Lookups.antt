@@ -9,12 +9,12 @@ use Rattle.quick_cache_model.specs.Hooks.{Rules}
 use Rattle.quick_cache_model.specs.Lookups.{looked_up, after_hit, LooksUp}
 use Rattle.quick_cache_model.specs.Removal.{Removes, RemovesIf, Retains, Drains, weighed, reweighed}
 use Rattle.quick_cache_model.specs.Entries.{EntryChoice, EntryOutcome, ActsOnEntry}
-use Rattle.quick_cache_laws.proofs.Valid.Places.{keys_by-without, IsInPlace-marked}
-use Rattle.quick_cache_laws.proofs.Valid.States.{IsValid-in_place}
-use Rattle.quick_cache_laws.proofs.Valid.Edits.{after_hit-valid, after_miss-valid, instead-valid}
-use Rattle.quick_cache_laws.proofs.Valid.Edits.{without-valid, without_ghost-valid, unloaded-valid}
-use Rattle.quick_cache_laws.proofs.Valid.Edits.{retained-valid, cleared-valid, rewritten-valid}
-use Rattle.quick_cache_laws.proofs.Valid.Edits.{with_placeholder-valid, keys_by-taken}
+use Rattle.quick_cache_model.proofs.Valid.Places.{keys_by-without, IsInPlace-marked}
+use Rattle.quick_cache_model.proofs.Valid.States.{IsValid-in_place}
+use Rattle.quick_cache_model.proofs.Valid.Edits.{after_hit-valid, after_miss-valid, instead-valid}
+use Rattle.quick_cache_model.proofs.Valid.Edits.{without-valid, without_ghost-valid, unloaded-valid}
+use Rattle.quick_cache_model.proofs.Valid.Edits.{retained-valid, cleared-valid, rewritten-valid}
+use Rattle.quick_cache_model.proofs.Valid.Edits.{with_placeholder-valid, keys_by-taken}
 
 module _ {K V : Type 0} (equal : K → K → Bool) where
   -- a counted hit leaves the items as they are

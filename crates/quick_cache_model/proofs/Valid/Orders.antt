@@ -1,19 +1,11 @@
 -- Of states that are the same but for the order of what has none, each is valid where one is.
-use Rattle.std.proofs.Common.{◌<◌, ◌==◌, Bool, cond, List, IsPermutation, sym, subst}
+use Rattle.std.proofs.Common.{◌<◌, ◌==◌, Bool, cond, sym, subst}
 use Rattle.std.proofs.Common.{arith}
-use Rattle.std.specs.List.{AllByRecursion}
-use Rattle.std.proofs.lemmas.List.Elements.{All-from_recursion, recursion_from_All}
-use Rattle.std.proofs.lemmas.List.Sorted.{All-permutation}
 use Rattle.std.proofs.lemmas.List.Sorted.{sum_by-IsPermutation}
 use Rattle.quick_cache_model.specs.CacheState.{CacheState, Item, LoadingEntry}
 use Rattle.quick_cache_model.specs.CacheState.{IsStillItem, IsValid, SameButOrder}
-use Rattle.quick_cache_laws.proofs.Valid.States.{IsValid-parts}
-
--- what holds of each element does so in another order
-pub all-permutation : {X : Type 0} (P : X → Type 0) (xs ys : List X) → IsPermutation xs ys
-    → AllByRecursion P xs → AllByRecursion P ys
-all-permutation P xs ys same all = recursion_from_All P ys
-    (All-permutation P xs ys same (All-from_recursion P xs all))
+use Rattle.quick_cache_model.proofs.EachElement.{all-permutation}
+use Rattle.quick_cache_model.proofs.Valid.States.{IsValid-parts}
 
 module _ {K V : Type 0} where
   -- a state that is the same but for the order is valid where the other is

@@ -1,6 +1,8 @@
 -- Facts of each element of a list, by recursion on the list.
-use Rattle.std.proofs.Common.{Bool, true, false, cond, List, [], ◌∷◌, ◌++◌}
+use Rattle.std.proofs.Common.{Bool, true, false, cond, List, [], ◌∷◌, ◌++◌, IsPermutation}
 use Rattle.std.specs.List.{AllByRecursion, filter}
+use Rattle.std.proofs.lemmas.List.Elements.{All-from_recursion, recursion_from_All}
+use Rattle.std.proofs.lemmas.List.Sorted.{All-permutation}
 
 module _ {X : Type 0} (P : X → Type 0) where
   -- what holds in two lists holds in both, one behind the other
@@ -59,3 +61,9 @@ module _ {X : Type 0} (P : X → Type 0) where
           → AllByRecursion P (cond b (x ∷ filter test xs) (filter test xs))
       go true rest = (a.0, rest)
       go false rest = rest
+
+  -- what holds in a list holds in another order of it
+  pub all-permutation : (xs ys : List X) → IsPermutation xs ys → AllByRecursion P xs
+      → AllByRecursion P ys
+  all-permutation xs ys same all = recursion_from_All P ys
+      (All-permutation P xs ys same (All-from_recursion P xs all))

@@ -10,12 +10,12 @@ use Rattle.quick_cache_model.specs.Writes.{Strategy, Insert, Replace, SoftReplac
 use Rattle.quick_cache_model.specs.Writes.{new_item, queue_for, WritesAdmitted, TakesOutItem}
 use Rattle.quick_cache_model.specs.Writes.{RejectsTooHeavy, Writes}
 use Rattle.quick_cache_model.proofs.TouchLaws.{with_touches-mark}
-use Rattle.quick_cache_laws.proofs.Eviction.Keys.{EvictsToCapacity-keys, keys_by-none}
-use Rattle.quick_cache_laws.proofs.Valid.Places.{IsInPlace-marked}
-use Rattle.quick_cache_laws.proofs.Valid.States.{IsValid-in_place, EvictsToCapacity-valid}
-use Rattle.quick_cache_laws.proofs.Valid.Edits.{entered-valid, rewritten-valid, without-valid}
-use Rattle.quick_cache_laws.proofs.Valid.Edits.{without_ghost-valid, unloaded-valid}
-use Rattle.quick_cache_laws.proofs.Valid.Edits.{keys_by-unloaded, keys_by-taken}
+use Rattle.quick_cache_model.proofs.Eviction.Keys.{EvictsToCapacity-keys, keys_by-none}
+use Rattle.quick_cache_model.proofs.Valid.Places.{IsInPlace-marked}
+use Rattle.quick_cache_model.proofs.Valid.States.{IsValid-in_place, EvictsToCapacity-valid}
+use Rattle.quick_cache_model.proofs.Valid.Edits.{entered-valid, rewritten-valid, without-valid}
+use Rattle.quick_cache_model.proofs.Valid.Edits.{without_ghost-valid, unloaded-valid}
+use Rattle.quick_cache_model.proofs.Valid.Edits.{keys_by-unloaded, keys_by-taken}
 
 -- a write keeps the mark up to the greatest
 pub mark_after-le : (cut : ℕ) (strategy : Strategy) (mark : ℕ) → mark ≤ cut

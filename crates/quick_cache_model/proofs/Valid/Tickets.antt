@@ -5,7 +5,7 @@ use Rattle.std.specs.List.{AllByRecursion, count_by}
 use Rattle.std.proofs.lemmas.List.Sums.{sum_by-append, sum_by-cons}
 use Rattle.std.proofs.lemmas.Bool.{eqb-true}
 use Rattle.quick_cache_model.specs.CacheState.{LoadingEntry}
-use Rattle.quick_cache_laws.proofs.EachElement.{all-append, all-without, all-weaker}
+use Rattle.quick_cache_model.proofs.EachElement.{all-append, all-without, all-weaker}
 use Rattle.quick_cache_model.proofs.KeyCounts.{one_if}
 
 module _ {K : Type 0} where

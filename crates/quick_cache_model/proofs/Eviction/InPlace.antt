@@ -11,8 +11,8 @@ use Rattle.quick_cache_model.specs.Eviction.{lowered, EvictsVictim, AdvancesHot}
 use Rattle.quick_cache_model.specs.Eviction.{EvictsToTarget, AdvancesCold, EvictsToCapacity}
 use Rattle.quick_cache_model.proofs.TouchLaws.{with_touches-weight, with_touches-queue}
 use Rattle.quick_cache_model.proofs.TouchLaws.{with_touches-mark}
-use Rattle.quick_cache_laws.proofs.EachElement.{all-append, all-left, all-right, all-middle}
-use Rattle.quick_cache_laws.proofs.EachElement.{all-restarted, all-push}
+use Rattle.quick_cache_model.proofs.EachElement.{all-append, all-left, all-right, all-middle}
+use Rattle.quick_cache_model.proofs.EachElement.{all-restarted, all-push}
 
 module _ {K V : Type 0} where
   -- each item of the state stands where its weight and its queue say

@@ -1,33 +1,30 @@
--- Laws of valid states: making room leads from a valid state to a valid one, and so does setting
--- the capacity.
+-- Laws of valid states: a valid one with another list, and that making room leads from a valid
+-- state to a valid one, and so does setting the capacity.
 use Rattle.std.proofs.Common.{◌≡◌, ℕ, ◌+◌, ◌<◌, ◌≤◌, ◌==◌, Bool, List, length, sym, ap, subst}
 use Rattle.std.proofs.Common.{arith}
 use Rattle.std.specs.List.{AllByRecursion, count_by}
 use Rattle.quick_cache_model.specs.declared.queue.Queue.{Queue}
+use Rattle.quick_cache_model.specs.declared.queue.Queue.TheVariants.{Hot, Cold}
 use Rattle.quick_cache_model.specs.CacheState.{CacheState, Item, LoadingEntry, keys_by}
-use Rattle.quick_cache_model.specs.CacheState.{IsValid, empty_state}
+use Rattle.quick_cache_model.specs.CacheState.{IsRingItem, IsStillItem, IsValid, empty_state}
 use Rattle.quick_cache_model.specs.Hooks.{Rules, HookCall}
 use Rattle.quick_cache_model.specs.Eviction.{EvictsVictim, AdvancesHot, EvictsToTarget}
 use Rattle.quick_cache_model.specs.Eviction.{AdvancesCold, EvictsToCapacity}
 use Rattle.quick_cache_model.specs.Capacity.{resized, SetsCapacity}
-use Rattle.quick_cache_model.proofs.KeyCounts.{one}
-use Rattle.quick_cache_laws.proofs.Eviction.Keys.{EvictsVictim-keys, AdvancesHot-keys}
-use Rattle.quick_cache_laws.proofs.Eviction.Keys.{EvictsToTarget-keys, AdvancesCold-keys}
-use Rattle.quick_cache_laws.proofs.Eviction.Keys.{EvictsToCapacity-keys}
+use Rattle.quick_cache_model.proofs.KeyCounts.{one, keys}
 use Rattle.quick_cache_model.proofs.EvictionKeeps.{newest-within, IsSameBeside}
-use Rattle.quick_cache_laws.proofs.Eviction.InPlace.{IsInPlace}
-use Rattle.quick_cache_model.proofs.EvictionKeeps.{EvictsVictim-beside}
-use Rattle.quick_cache_laws.proofs.Eviction.InPlace.{EvictsVictim-in_place}
-use Rattle.quick_cache_model.proofs.EvictionKeeps.{AdvancesHot-beside}
-use Rattle.quick_cache_laws.proofs.Eviction.InPlace.{AdvancesHot-in_place}
-use Rattle.quick_cache_model.proofs.EvictionKeeps.{EvictsToTarget-beside}
-use Rattle.quick_cache_laws.proofs.Eviction.InPlace.{EvictsToTarget-in_place}
-use Rattle.quick_cache_model.proofs.EvictionKeeps.{AdvancesCold-beside}
-use Rattle.quick_cache_laws.proofs.Eviction.InPlace.{AdvancesCold-in_place}
-use Rattle.quick_cache_laws.proofs.Eviction.InPlace.{EvictsToCapacity-in_place}
+use Rattle.quick_cache_model.proofs.EvictionKeeps.{EvictsVictim-beside, AdvancesHot-beside}
+use Rattle.quick_cache_model.proofs.EvictionKeeps.{EvictsToTarget-beside, AdvancesCold-beside}
 use Rattle.quick_cache_model.proofs.EvictionKeeps.{EvictsToCapacity-beside}
-use Rattle.quick_cache_laws.proofs.Valid.Places.{IsSameButItems}
-use Rattle.quick_cache_laws.proofs.Valid.Tickets.{AreTickets}
+use Rattle.quick_cache_model.proofs.Eviction.Keys.{EvictsVictim-keys, AdvancesHot-keys}
+use Rattle.quick_cache_model.proofs.Eviction.Keys.{EvictsToTarget-keys, AdvancesCold-keys}
+use Rattle.quick_cache_model.proofs.Eviction.Keys.{EvictsToCapacity-keys}
+use Rattle.quick_cache_model.proofs.Eviction.InPlace.{IsInPlace, EvictsVictim-in_place}
+use Rattle.quick_cache_model.proofs.Eviction.InPlace.{AdvancesHot-in_place, EvictsToTarget-in_place}
+use Rattle.quick_cache_model.proofs.Eviction.InPlace.{AdvancesCold-in_place}
+use Rattle.quick_cache_model.proofs.Eviction.InPlace.{EvictsToCapacity-in_place}
+use Rattle.quick_cache_model.proofs.Valid.Places.{IsSameButItems}
+use Rattle.quick_cache_model.proofs.Valid.Tickets.{AreTickets}
 
 module _ {K V : Type 0} (equal : K → K → Bool) where
   -- the parts of which a valid state is made
@@ -92,6 +89,49 @@ module _ {K V : Type 0} (equal : K → K → Bool) where
       (IsValid-tickets old valid)))
       (same.ghosts_within valid.ghosts_within)
       place
+
+  -- A valid state with another hot ring, which has no key more: begun elsewhere, with other marks,
+  -- or without some of its items.
+  pub IsValid-hot : (hot : List (Item K V)) (state : CacheState K V)
+      → ((test : K → Bool) → keys test hot ≤ keys test state.hot)
+      → AllByRecursion (IsRingItem state.mark_cut Hot) hot → IsValid equal state
+      → IsValid equal (record state { hot = hot })
+  IsValid-hot hot state fewer ring valid =
+      IsValid-parts (record state { hot = hot })
+      (λ k. let was = valid.one_entry_a_key k in omega (arith, was, fewer (equal k)))
+      (IsValid-tickets state valid) valid.ghosts_within
+      (record { in_hot = ring; in_cold = valid.in_cold; in_still = valid.in_still })
+
+  -- with another cold ring
+  pub IsValid-cold : (cold : List (Item K V)) (state : CacheState K V)
+      → ((test : K → Bool) → keys test cold ≤ keys test state.cold)
+      → AllByRecursion (IsRingItem state.mark_cut Cold) cold → IsValid equal state
+      → IsValid equal (record state { cold = cold })
+  IsValid-cold cold state fewer ring valid =
+      IsValid-parts (record state { cold = cold })
+      (λ k. let was = valid.one_entry_a_key k in omega (arith, was, fewer (equal k)))
+      (IsValid-tickets state valid) valid.ghosts_within
+      (record { in_hot = valid.in_hot; in_cold = ring; in_still = valid.in_still })
+
+  -- with other items of weight 0
+  pub IsValid-still : (still : List (Item K V)) (state : CacheState K V)
+      → ((test : K → Bool) → keys test still ≤ keys test state.still)
+      → AllByRecursion (IsStillItem state.mark_cut) still → IsValid equal state
+      → IsValid equal (record state { still = still })
+  IsValid-still still state fewer weightless valid =
+      IsValid-parts (record state { still = still })
+      (λ k. let was = valid.one_entry_a_key k in omega (arith, was, fewer (equal k)))
+      (IsValid-tickets state valid) valid.ghosts_within
+      (record { in_hot = valid.in_hot; in_cold = valid.in_cold; in_still = weightless })
+
+  -- with other ghosts within their limit
+  pub IsValid-ghosts : (ghosts : List ℕ) (state : CacheState K V)
+      → length ghosts ≤ state.ghost_limit → IsValid equal state
+      → IsValid equal (record state { ghosts = ghosts })
+  IsValid-ghosts ghosts state within valid =
+      IsValid-parts (record state { ghosts = ghosts }) valid.one_entry_a_key
+      (IsValid-tickets state valid) within
+      (record { in_hot = valid.in_hot; in_cold = valid.in_cold; in_still = valid.in_still })
 
   -- a cache that nothing was put into is valid
   pub empty_state-valid : (capacity hot_target ghost_limit : ℕ)

@@ -10,10 +10,10 @@ use Rattle.quick_cache_model.specs.CacheState.{CacheState, Item, Place, InHot, I
 use Rattle.quick_cache_model.specs.CacheState.{ring_place, items_at, with_items, place_of_item}
 use Rattle.quick_cache_model.specs.CacheState.{entered, restarted_behind, rewritten, keys_by}
 use Rattle.quick_cache_model.specs.CacheState.{IsRingItem, IsStillItem}
-use Rattle.quick_cache_laws.proofs.EachElement.{all-middle, all-without, all-instead, all-restarted}
-use Rattle.quick_cache_laws.proofs.EachElement.{all-push}
+use Rattle.quick_cache_model.proofs.EachElement.{all-middle, all-without, all-instead, all-restarted}
+use Rattle.quick_cache_model.proofs.EachElement.{all-push}
 use Rattle.quick_cache_model.proofs.KeyCounts.{one, keys, keys-cons, keys-append, keys-split}
-use Rattle.quick_cache_laws.proofs.Eviction.InPlace.{IsInPlace}
+use Rattle.quick_cache_model.proofs.Eviction.InPlace.{IsInPlace}
 
 module _ {K V : Type 0} where
   -- two states differ in their items at most

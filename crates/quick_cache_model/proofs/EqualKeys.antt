@@ -4,7 +4,7 @@ use Rattle.std.specs.Cmp.{IsEquivalence}
 use Rattle.quick_cache_model.specs.CacheState.{CacheState, keys_by}
 use Rattle.quick_cache_model.specs.Finding.{HasNoKey}
 use Rattle.quick_cache_model.proofs.KeyCounts.{one, one_if}
-use Rattle.quick_cache_laws.proofs.Eviction.Keys.{keys_by-none}
+use Rattle.quick_cache_model.proofs.Eviction.Keys.{keys_by-none}
 
 module _ {K V : Type 0} where
   -- two tests that agree count alike

@@ -1,0 +1,3 @@
+-- What eviction keeps of keys and of places.
+pub mod Keys
+pub mod InPlace
