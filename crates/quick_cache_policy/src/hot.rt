@@ -74,6 +74,54 @@ impl<K: Eq + Hash + Drop, V: Drop, P: SharedPlaceholder<K>, A: Allocator> Conten
         Visit::Victim
     }
 
+    /// Visits each item of the hot ring once, up to a victim. In the first round of an advance each
+    /// takes its touches before.
+    fn go_round<M: Policy<K, V>>(&mut self, takes_touches: bool, terms: &M) -> Round
+    {
+        let mut is_unpinned = false;
+        for _ in 0..self.lists.count(Queue::Hot) {
+            let Some(token) = self.lists.first(Queue::Hot) else {
+                unreachable!();
+            };
+            if takes_touches {
+                self.take_touches(token);
+            }
+            match self.visit(token, terms) {
+                Visit::Pinned => {}
+                Visit::Marked => {
+                    is_unpinned = true;
+                }
+                Visit::Victim => {
+                    return Round::Victim;
+                }
+            }
+            self.lists.turn(Queue::Hot);
+        }
+        if is_unpinned {
+            return Round::SomeUnpinned;
+        }
+        Round::AllPinned
+    }
+
+    /// Goes round and round the hot ring, up to a victim, which is the first item then. Where all
+    /// are pinned there is none.
+    fn seek_victim<M: Policy<K, V>>(&mut self, terms: &M) -> bool
+    {
+        let mut takes_touches = true;
+        loop {
+            match self.go_round(takes_touches, terms) {
+                Round::AllPinned => {
+                    return false;
+                }
+                Round::SomeUnpinned => {}
+                Round::Victim => {
+                    return true;
+                }
+            }
+            takes_touches = false;
+        }
+    }
+
     /// Takes the first victim out of the hot ring, if not all are pinned. A victim that weighs
     /// nothing any more stays beside the rings.
     pub(crate) fn advance_hot<M: Policy<K, V>>(
@@ -104,7 +152,7 @@ impl<K: Eq + Hash + Drop, V: Drop, P: SharedPlaceholder<K>, A: Allocator> Conten
         } }
     {
         self.advances = self.advances.saturating_add(1);
-        if self.lists.count(Queue::Hot) == 0 {
+        if !self.seek_victim(terms) {
             return false;
         }
         self.evict_first(Queue::Hot, terms, state);

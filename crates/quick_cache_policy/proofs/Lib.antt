@@ -1,0 +1,6 @@
+pub mod EachLemmas
+pub mod MarkLemmas
+pub mod SeenLemmas
+pub mod RoundLemmas
+pub mod AdvanceLemmas
+pub mod KeptLemmas
