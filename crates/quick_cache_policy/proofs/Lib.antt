@@ -4,3 +4,5 @@ pub mod SeenLemmas
 pub mod RoundLemmas
 pub mod AdvanceLemmas
 pub mod KeptLemmas
+pub mod VictimLemmas
+pub mod SoundLemmas

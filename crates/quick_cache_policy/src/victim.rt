@@ -91,6 +91,7 @@ impl<K: Eq + Hash + Drop, V: Drop, P: SharedPlaceholder<K>, A: Allocator> Conten
         ensures cold { ring_count Queue.Cold self.new ≡ ring_count Queue.Cold self.old }
         ensures same { self.new ≡ record self.old { lists = self.new.lists } }
     {
+        self.lists.apart();
         let slot = self.lists.take(token, false);
         let hash = slot.hash;
         match slot.entry {
@@ -125,9 +126,11 @@ impl<K: Eq + Hash + Drop, V: Drop, P: SharedPlaceholder<K>, A: Allocator> Conten
         ensures hot { ring_count Queue.Hot self.new ≡ ring_count Queue.Hot self.old }
         ensures same { self.new ≡ record self.old { lists = self.new.lists } }
     {
+        self.lists.apart();
         match self.lists.replace(token, false, Entry::Ghost) {
             Entry::Item(item) => match decide(item, terms, state) {
                 Fate::Stays(item) => {
+                    self.lists.apart();
                     let _ = self.lists.replace(token, false, Entry::Item(item));
                 }
                 Fate::Leaves(key, value) => {
@@ -159,6 +162,7 @@ impl<K: Eq + Hash + Drop, V: Drop, P: SharedPlaceholder<K>, A: Allocator> Conten
         let Some(oldest) = self.lists.oldest_ghost() else {
             unreachable!();
         };
+        self.lists.apart();
         let _ = self.lists.take(oldest, false);
     }
 
@@ -175,6 +179,7 @@ impl<K: Eq + Hash + Drop, V: Drop, P: SharedPlaceholder<K>, A: Allocator> Conten
         let Some(token) = self.lists.first(Queue::Cold) else {
             unreachable!();
         };
+        self.lists.apart();
         let item = self.lists.item(token);
         let mark = item.mark().saturating_sub(1);
         let weight = item.weight();
