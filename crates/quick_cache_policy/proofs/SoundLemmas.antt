@@ -8,13 +8,15 @@ use Rattle.std.proofs.lemmas.List.Sorted.{IsPermutation-map}
 use Rattle.quick_cache_model.specs.declared.queue.Queue.{Queue}
 use Rattle.quick_cache_model.specs.declared.queue.Queue.TheVariants.{Hot, Cold}
 use Rattle.quick_cache_model.specs.CacheState.{CacheState, Item, IsValid, ring_place, with_items, items_at}
-use Rattle.quick_cache_model.specs.CacheState.{entered, UpToOrder, SameButOrder}
+use Rattle.quick_cache_model.specs.CacheState.{entered, UpToOrder, SameButOrder, IsRingItem}
+use Rattle.quick_cache_model.specs.CacheState.{default_mark_cut}
+use Rattle.quick_cache_model.proofs.KeyCounts.{keys, keys-cons, keys-append}
 use Rattle.quick_cache_model.specs.Hooks.{Rules, HookCall, BeforeEvict, EvictHot, EvictCold}
 use Rattle.quick_cache_model.specs.Eviction.{EvictsVictim, newest}
 use Rattle.quick_cache_model.proofs.EachElement.{all-permutation, all-push}
 use Rattle.quick_cache_model.proofs.OrderLaws.{UpToOrder-exact}
 use Rattle.quick_cache_model.proofs.Valid.Places.{keys_by-without, IsInPlace-marked}
-use Rattle.quick_cache_model.proofs.Valid.States.{EvictsVictim-valid, IsValid-in_place}
+use Rattle.quick_cache_model.proofs.Valid.States.{EvictsVictim-valid, IsValid-in_place, IsValid-items}
 use Rattle.quick_cache_model.proofs.Valid.Edits.{without-valid}
 use Rattle.quick_cache_model.proofs.Valid.Orders.{SameButOrder-valid}
 use Rattle.quick_cache_lists.specs.Lists.{HeldItem, HeldLoading, HeldGhost, Lists}
@@ -45,6 +47,16 @@ module _ {K V P : Type 0} (hash : K → ℕ) where
     hot = hashed.hot;
     cold = (subst (λ (l : List (HeldItem K V)). AllByRecursion (λ h. h.hash ≡ hash h.item.key) l)
         split hashed.cold).1;
+    still = hashed.still;
+    loading = hashed.loading;
+  }
+
+  -- with other ghosts
+  pub AreHashed-ghosts : (ghosts : List HeldGhost) (lists : Lists K V P) → AreHashed hash lists
+      → AreHashed hash (record lists { ghosts = ghosts })
+  AreHashed-ghosts ghosts lists hashed = record {
+    hot = hashed.hot;
+    cold = hashed.cold;
     still = hashed.still;
     loading = hashed.loading;
   }
@@ -175,6 +187,37 @@ module _ {K V : Type 0} (rules : Rules K V) where
       ap (λ (s : CacheState K V). s.hot) first.evicts.same.same
       ∙ (EvictsVictim-rings Cold _ _ first.item calls first.evicts.holds).0
 
+module _ {K V : Type 0} (equal : K → K → Bool) where
+  -- from a valid state the promotion of the first cold item leads to a valid one
+  pub FirstIsPromoted-valid : (old new : CacheState K V) → FirstIsPromoted old new
+      → IsValid equal old → IsValid equal new
+  FirstIsPromoted-valid old new first valid =
+      let item = first.item in
+      let hot : Item K V = record item { mark = item.mark - 1; queue = Hot } in
+      let cold = subst (λ (l : List (Item K V)). AllByRecursion (IsRingItem old.mark_cut Cold) l)
+      first.stands valid.in_cold in
+      subst (λ (s : CacheState K V). IsValid equal s) (sym first.promoted)
+      (IsValid-items equal old (record old { cold = first.rest; hot = old.hot ++ hot ∷ [] }) refl
+      valid
+      (λ k. let was = valid.one_entry_a_key k in
+      omega (
+        arith,
+        was,
+        ap (keys (equal k)) first.stands,
+        keys-cons (equal k) item first.rest,
+        keys-append (equal k) old.hot (hot ∷ []),
+        keys-cons (equal k) hot [],
+      ))
+      (record {
+        in_hot = all-push (IsRingItem old.mark_cut Hot) old.hot hot valid.in_hot (record {
+          weighs = cold.0.weighs;
+          of_queue = refl;
+          marked = omega (arith, cold.0.marked);
+        });
+        in_cold = cold.1;
+        in_still = valid.in_still;
+      }))
+
 -- ---- a victim, told of lists
 
 module _ {K V P A T : Type 0} (ticket_of : P → ℕ) (contents : Contents K V P A T) where
@@ -281,6 +324,27 @@ module _ {K V P A T : Type 0} (ticket_of : P → ℕ) (contents : Contents K V P
           (EvictsVictim.leaves left heavy));
     }
 
+  -- once some ghosts went from the lists without a cold item
+  pub without-ghosts : (mid : Lists K V P) (rest : List (HeldItem K V)) (ghosts : List HeldGhost)
+      (new : Contents K V P A T) → mid ≡ record contents.lists { cold = rest; ghosts = ghosts }
+      → new ≡ record contents { lists = record mid {
+        ghosts = new.lists.ghosts;
+        next = new.lists.next;
+        room = new.lists.room;
+      } }
+      → new ≡ record contents { lists = record contents.lists {
+        cold = rest;
+        ghosts = new.lists.ghosts;
+        next = new.lists.next;
+        room = new.lists.room;
+      } }
+  without-ghosts mid rest ghosts new is same =
+      same ∙ ap (λ (l : Lists K V P). record contents { lists = record l {
+        ghosts = new.lists.ghosts;
+        next = new.lists.next;
+        room = new.lists.room;
+      } }) is
+
   -- what is sound stays so where the first of a ring leaves, and its key is under its hash
   pub IsSound-evicted : (rules : Rules K V) (equal : K → K → Bool) (hash : K → ℕ) (queue : Queue)
       (calls : List (HookCall K V)) (new : Lists K V P)
@@ -338,3 +402,59 @@ module _ {K V P A T : Type 0} (ticket_of : P → ℕ) (contents : Contents K V P
           length-map new.hot (λ (h : HeldItem K V). h.item),
           length-map contents.lists.hot (λ (h : HeldItem K V). h.item),
         )
+
+  module _ (held : HeldItem K V) (rest : List (HeldItem K V)) where
+    -- the first cold item is promoted
+    pub FirstIsPromoted-from : (new : Lists K V P) → contents.lists.cold ≡ held ∷ rest
+        → new ≡ record contents.lists {
+          cold = rest;
+          hot = contents.lists.hot ++ record held {
+            item = record held.item { mark = held.item.mark - 1; queue = Hot };
+          } ∷ [];
+        }
+        → FirstIsPromoted (state_of ticket_of contents)
+        (state_of ticket_of (record contents { lists = new }))
+    FirstIsPromoted-from new split is = record {
+      item = held.item;
+      rest = items_of rest;
+      stands = ap items_of split;
+      promoted = ap (λ (l : Lists K V P). state_of ticket_of (record contents { lists = l })) is
+          ∙ ap (λ (l : List (Item K V)). record (state_of ticket_of contents) {
+            cold = items_of rest;
+            hot = l;
+          }) (map-append (λ (h : HeldItem K V). h.item) contents.lists.hot _);
+    }
+
+    -- it stays under its hash
+    pub IsSound-promoted : (equal : K → K → Bool) (hash : K → ℕ) (new : Lists K V P)
+        → contents.lists.cold ≡ held ∷ rest
+        → new ≡ record contents.lists {
+          cold = rest;
+          hot = contents.lists.hot ++ record held {
+            item = record held.item { mark = held.item.mark - 1; queue = Hot };
+          } ∷ [];
+        }
+        → IsSound ticket_of equal hash contents
+        → IsSound ticket_of equal hash (record contents { lists = new })
+    IsSound-promoted equal hash new split is sound =
+        let cold = subst (λ (l : List (HeldItem K V)). AllByRecursion (λ h. h.hash ≡ hash h.item.key)
+        l) split sound.hashed.cold in
+        record {
+          valid = FirstIsPromoted-valid equal _ _ (FirstIsPromoted-from new split is) sound.valid;
+          sized = sound.sized;
+          hashed = subst (λ (l : Lists K V P). AreHashed hash l) (sym is) (record {
+            hot = all-push (λ (h : HeldItem K V). h.hash ≡ hash h.item.key) contents.lists.hot _
+                sound.hashed.hot cold.0;
+            cold = cold.1;
+            still = sound.hashed.still;
+            loading = sound.hashed.loading;
+          });
+        }
+
+    -- the first item of the cold ring weighs something
+    pub first_cold-weighs : (equal : K → K → Bool) (hash : K → ℕ)
+        → contents.lists.cold ≡ held ∷ rest → IsSound ticket_of equal hash contents
+        → 0 < held.item.weight
+    first_cold-weighs equal hash split sound =
+        (subst (λ (l : List (Item K V)). AllByRecursion (IsRingItem default_mark_cut Cold) l)
+        (ap items_of split) sound.valid.in_cold).0.weighs
