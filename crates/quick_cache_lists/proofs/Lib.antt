@@ -15,4 +15,5 @@ pub mod PutLemmas
 pub mod LeaveLemmas
 pub mod MoveLemmas
 pub mod NextLemmas
+pub mod RewriteLemmas
 pub mod CallerLemmas
