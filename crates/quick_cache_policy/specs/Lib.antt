@@ -4,3 +4,5 @@ pub mod Policies
 pub mod Work
 pub mod Rounds
 pub mod Advances
+pub mod Writing
+pub mod Finding

@@ -48,7 +48,9 @@ impl<K: Eq + Hash + Drop, V: Drop, P: SharedPlaceholder<K>, A: Allocator> Conten
             return;
         }
         let item = self.lists.item(token);
-        let mark = u64::from(item.mark()).saturating_add(count).min(u64::from(MARK_CUT)) as u8;
+        let mark = u64::from(item.mark())
+            .saturating_add(count)
+            .min(u64::from(MARK_CUT)) as u8;
         let reads = item.reads().saturating_add(count);
         self.lists.set_counts(token, mark, reads);
     }
@@ -76,8 +78,7 @@ impl<K: Eq + Hash + Drop, V: Drop, P: SharedPlaceholder<K>, A: Allocator> Conten
 
     /// Visits each item of the hot ring once, up to a victim. In the first round of an advance each
     /// takes its touches before.
-    fn go_round<M: Policy<K, V>>(&mut self, takes_touches: bool, terms: &M) -> Round
-    {
+    fn go_round<M: Policy<K, V>>(&mut self, takes_touches: bool, terms: &M) -> Round {
         let mut is_unpinned = false;
         for _ in 0..self.lists.count(Queue::Hot) {
             let Some(token) = self.lists.first(Queue::Hot) else {
@@ -105,8 +106,7 @@ impl<K: Eq + Hash + Drop, V: Drop, P: SharedPlaceholder<K>, A: Allocator> Conten
 
     /// Goes round and round the hot ring, up to a victim, which is the first item then. Where all
     /// are pinned there is none.
-    fn seek_victim<M: Policy<K, V>>(&mut self, terms: &M) -> bool
-    {
+    fn seek_victim<M: Policy<K, V>>(&mut self, terms: &M) -> bool {
         let mut takes_touches = true;
         loop {
             match self.go_round(takes_touches, terms) {

@@ -72,12 +72,7 @@ impl<K: Eq + Hash + Drop, V: Drop, P: SharedPlaceholder<K>, A: Allocator> Conten
     }
 
     /// Lets the first hot item go.
-    fn evict_hot<M: Policy<K, V>>(
-        &mut self,
-        token: Token,
-        terms: &M,
-        state: &mut M::RequestState,
-    )
+    fn evict_hot<M: Policy<K, V>>(&mut self, token: Token, terms: &M, state: &mut M::RequestState)
         requires sound { IsSound P.ticket_of K.eq (M.hashed terms.now) self.old }
         requires first { IsFirstOf (λ held. held.token) self.old.lists.hot (Some token) }
         ensures evicts { Calls (M.hooks terms.now)
@@ -107,12 +102,7 @@ impl<K: Eq + Hash + Drop, V: Drop, P: SharedPlaceholder<K>, A: Allocator> Conten
     }
 
     /// Lets the first cold item go. Where it leaves, its hash becomes the newest ghost.
-    fn evict_cold<M: Policy<K, V>>(
-        &mut self,
-        token: Token,
-        terms: &M,
-        state: &mut M::RequestState,
-    )
+    fn evict_cold<M: Policy<K, V>>(&mut self, token: Token, terms: &M, state: &mut M::RequestState)
         requires sound { IsSound P.ticket_of K.eq (M.hashed terms.now) self.old }
         requires first { IsFirstOf (λ held. held.token) self.old.lists.cold (Some token) }
         ensures evicts { Calls (M.hooks terms.now)
@@ -150,11 +140,13 @@ impl<K: Eq + Hash + Drop, V: Drop, P: SharedPlaceholder<K>, A: Allocator> Conten
             ≡ drop (length self.old.lists.ghosts - self.old.ghost_limit)
             (hashes_of self.old.lists.ghosts) }
         ensures room { self.old.lists.room ≤ self.new.lists.room }
-        ensures same { self.new ≡ record self.old { lists = record self.old.lists {
-          ghosts = self.new.lists.ghosts;
-          next = self.new.lists.next;
-          room = self.new.lists.room;
-        } } }
+        ensures same { self.new ≡ record self.old {
+          lists = record self.old.lists {
+            ghosts = self.new.lists.ghosts;
+            next = self.new.lists.next;
+            room = self.new.lists.room;
+          };
+        } }
     {
         if self.lists.ghost_count() <= self.ghost_limit {
             return;
