@@ -1,9 +1,9 @@
-use Rattle.std.proofs.Common.{◌≡◌, ℕ, ◌+◌, ◌≤◌, List, [], ◌∷◌, ◌++◌, length, refl, sym, ap, subst, ◌∙◌, arith, inl}
+use Rattle.std.proofs.Common.{[], ◌∷◌, length, refl, sym, ap, subst, ◌∙◌, arith, inl}
 use Rattle.std.specs.Int.NonZero.{non_zero_u32_get as number}
 use Rattle.quick_cache_model.specs.declared.queue.Queue.TheVariants.{Hot, Cold}
-use Rattle.quick_cache_model.specs.CacheState.{Item, ring_place}
+use Rattle.quick_cache_model.specs.CacheState.{ring_place}
 use Rattle.quick_cache_model.specs.Hooks.{BeforeEvict, EvictCold}
-use Rattle.quick_cache_lists.specs.Lists.{HeldItem, Lists, IsEntry}
+use Rattle.quick_cache_lists.specs.Lists.{Lists, IsEntry}
 use Rattle.quick_cache_lists.proofs.OneEntryLemmas.{first-loading, first-ghost}
 use Rattle.quick_cache_policy.specs.declared.contents.Contents.{Contents}
 use Rattle.quick_cache_policy.specs.Advances.{AreEvictions, FirstIsEvicted}

@@ -1,9 +1,9 @@
-use Rattle.std.proofs.Common.{◌≡◌, ℕ, ◌+◌, List, [], ◌∷◌, length, refl, sym, ap, subst, ◌∙◌, arith, inl}
+use Rattle.std.proofs.Common.{◌+◌, [], ◌∷◌, refl, sym, subst, ◌∙◌, inl}
 use Rattle.std.specs.Int.NonZero.{non_zero_u32_get as number}
 use Rattle.quick_cache_model.specs.declared.queue.Queue.TheVariants.{Hot}
 use Rattle.quick_cache_model.specs.CacheState.{Item, ring_place}
 use Rattle.quick_cache_model.specs.Hooks.{BeforeEvict, EvictHot}
-use Rattle.quick_cache_lists.specs.Lists.{HeldItem, Lists, IsEntry, items_at}
+use Rattle.quick_cache_lists.specs.Lists.{Lists, IsEntry}
 use Rattle.quick_cache_lists.proofs.OneEntryLemmas.{first-loading, first-ghost, without-first}
 use Rattle.quick_cache_policy.specs.Advances.{AreEvictions, Decides}
 use Rattle.quick_cache_policy.specs.declared.victim.Fate.TheVariants.{Stays as fate_stays, Leaves as fate_leaves}

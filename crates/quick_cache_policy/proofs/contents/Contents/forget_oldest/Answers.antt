@@ -1,6 +1,6 @@
-use Rattle.std.proofs.Common.{◌≡◌, ℕ, ◌+◌, ◌-◌, List, [], ◌∷◌, length, drop, refl, sym, ap, ◌∙◌, arith, inr}
+use Rattle.std.proofs.Common.{◌-◌, [], length, sym, ap, ◌∙◌, arith, inr}
 use Rattle.std.specs.Int.NonZero.{non_zero_u32_get as number}
-use Rattle.quick_cache_lists.specs.Lists.{HeldGhost, Lists}
+use Rattle.quick_cache_lists.specs.Lists.{Lists}
 use Rattle.quick_cache_lists.specs.Views.{hashes_of}
 use Rattle.quick_cache_lists.proofs.OneEntryLemmas.{without-first_ghost}
 use Rattle.quick_cache_policy.proofs.VictimLemmas.{hashes_of-drop}
