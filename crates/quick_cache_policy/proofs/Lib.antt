@@ -6,3 +6,5 @@ pub mod AdvanceLemmas
 pub mod KeptLemmas
 pub mod VictimLemmas
 pub mod SoundLemmas
+pub mod FindLemmas
+pub mod AdmissionLemmas
