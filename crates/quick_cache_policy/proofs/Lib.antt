@@ -8,3 +8,4 @@ pub mod VictimLemmas
 pub mod SoundLemmas
 pub mod FindLemmas
 pub mod AdmissionLemmas
+pub mod AnswerLemmas
