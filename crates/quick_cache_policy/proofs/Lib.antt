@@ -6,3 +6,6 @@ pub mod AdvanceLemmas
 pub mod KeptLemmas
 pub mod VictimLemmas
 pub mod SoundLemmas
+pub mod FindLemmas
+pub mod AdmissionLemmas
+pub mod AnswerLemmas
