@@ -1,11 +1,12 @@
 -- What stands under a query, in the lists of a cache.
-use Rattle.std.specs.Prelude.{◌≡◌, ℕ, ◌<◌, ◌≤◌, Bool, true, Some, None, Option}
+use Rattle.std.specs.Prelude.{◌≡◌, ℕ, ◌<◌, ◌≤◌, Bool, true, List, Some, None, Option}
 use Rattle.std.specs.List.{AllByRecursion}
 use Rattle.std.specs.Int.NonZero.{non_zero_u32_get}
 use Rattle.std.specs.declared.num.NonZeroU32.{NonZeroU32 as Token}
 use Rattle.quick_cache_model.specs.declared.refusal.Refusal.{Refusal}
 use Rattle.quick_cache_model.specs.declared.refusal.Refusal.TheVariants.{Memory, SlotsFull, TicketsSpent, Finished}
-use Rattle.quick_cache_model.specs.CacheState.{CacheState, Item, UpToOrder, default_mark_cut}
+use Rattle.quick_cache_model.specs.CacheState.{CacheState, Item, UpToOrder, Place, default_mark_cut}
+use Rattle.quick_cache_model.specs.Finding.{IsItemAt}
 use Rattle.quick_cache_model.specs.Lookups.{looked_up, LooksUp}
 use Rattle.quick_cache_model.specs.Removal.{pair_of}
 use Rattle.quick_cache_model.specs.Writes.{Strategy}
@@ -26,6 +27,14 @@ pub record AreUnder {K V P : Type 0} (stands_for : K → Bool) (hash : ℕ) (lis
       (λ held. stands_for held.item.key ≡ true → held.hash ≡ hash) lists.still
   pub loading : AllByRecursion
       (λ waiting. stands_for waiting.key ≡ true → waiting.hash ≡ hash) lists.loading
+
+-- here is an item whose key the query stands for
+pub record IsThere {K V : Type 0} (stands_for : K → Bool) (state : CacheState K V) (item : Item K V)
+    : Type 0 where
+  pub place : Place
+  pub before : List (Item K V)
+  pub after : List (Item K V)
+  pub at : IsItemAt stands_for state place before item after
 
 -- a write makes a new entry: an insert does where nothing is found
 abbrev pub TakesSlot : Found → Strategy → Type 0

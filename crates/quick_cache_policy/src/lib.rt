@@ -13,6 +13,7 @@ mod hot;
 mod insert;
 mod lookup;
 mod overwrite;
+mod peek;
 mod placeholder;
 mod policy;
 mod strategy;
