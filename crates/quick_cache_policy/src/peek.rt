@@ -1,5 +1,6 @@
 //! A look that changes nothing.
 ghost use Rattle.std.specs.Prelude.{MatchOption};
+ghost use Rattle.quick_cache_model.specs.CacheState.{IsValid};
 ghost use Rattle.quick_cache_model.specs.Finding.{HasNoItem};
 ghost use Rattle.quick_cache_policy.specs.Contents.{state_of};
 ghost use Rattle.quick_cache_policy.specs.Finding.{AreUnder, IsThere};
@@ -18,6 +19,7 @@ impl<K: Eq + Hash, V, P: SharedPlaceholder<K>, A: Allocator> Contents<K, V, P, A
         hash: u64,
         query: &Q,
     ) -> Option<&Resident<K, V, P::Touch>>
+        requires valid { IsValid K.eq (state_of P.ticket_of self.now) }
         requires under { AreUnder (Q.equivalent query.now) hash self.now.lists }
         ensures sees { MatchOption result
             (HasNoItem (Q.equivalent query.now) (state_of P.ticket_of self.now))

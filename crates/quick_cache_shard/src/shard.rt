@@ -239,6 +239,7 @@ impl<K: Eq + Hash, V, We, B: BuildHasher, L, P: SharedPlaceholder<K>, A: Allocat
             × (new ≡ record self.old { state = new.state }))) }
     {
         let token = self.contents.look_up(hash, query)?;
+        self.contents.lists.apart();
         Some(self.contents.lists.item(token).value())
     }
 
@@ -254,6 +255,7 @@ impl<K: Eq + Hash, V, We, B: BuildHasher, L, P: SharedPlaceholder<K>, A: Allocat
             × (new ≡ record self.old { state = new.state }))) }
     {
         let token = self.contents.look_up(hash, query)?;
+        self.contents.lists.apart();
         Some(self.contents.lists.item(token).pair())
     }
 
