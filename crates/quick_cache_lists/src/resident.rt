@@ -59,6 +59,13 @@ impl<K, V, T> Resident<K, V, T> {
         }
     }
 
+    /// The same item with another count of reads.
+    pub fn with_reads(self, reads: u64) -> Self
+        ensures { result ≡ record self { reads = reads } }
+    {
+        Resident { reads, ..self }
+    }
+
     pub fn queue(&self) -> Queue
         ensures { result ≡ self.now.queue }
     {
