@@ -17,3 +17,4 @@ pub mod MoveLemmas
 pub mod NextLemmas
 pub mod RewriteLemmas
 pub mod CallerLemmas
+pub mod WalkLemmas
