@@ -206,6 +206,9 @@ same_by true false is = absurd (true≢false is)
 same_by false true is = absurd (true≢false is)
 same_by false false is = refl
 
+none_of : {X : Type 0} (o : Option X) {x : X} → o ≡ None → o ≡ Some x → ⊥
+none_of o is is' = cc
+
 -- ---- told of the slots
 
 module _ {K V P T : Type 0} where
@@ -223,40 +226,41 @@ module _ {K V P T : Type 0} where
       → o ≡ Some (record { hash = h'; entry = item_variant other }) → item.weight ≡ other.weight
   same_weight o h h' item other is is' = sym (ap weight_at is) ∙ ap weight_at is'
 
+  module _ (slab : LinkedSlab (Slot K V P T)) (table : Table) (hot cold ghosts : Ring) (t : ℕ)
+      (seen : Item K V) (has : IsItemOf (lists_of slab table hot cold ghosts) t seen) where
+    pub item_at-token : item_at slab t ≡ Some (record { hash = has.0; entry = item_variant seen })
+    item_at-token = item_at-held slab table hot cold ghosts
+        (record { token = t; hash = has.0; item = seen }) has.1
+
+    -- no placeholder and no ghost has the token
+    pub no_placeholder : (hash : ℕ) (awaited : Awaited K P) → IsEntry {T = T}
+        (lists_of slab table hot cold ghosts) t hash (loading_variant awaited) → ⊥
+    no_placeholder hash awaited stands =
+        let found = gather-from (λ u. loading_of u (item_at slab u)) (upto (length slab.slots))
+        _ stands in
+        none_of (loading_of t (item_at slab t)) (ap (loading_of t) item_at-token)
+        (ap (λ u. loading_of u (item_at slab u))
+        (named_loading found.0 (item_at slab found.0) _ found.2) ∙ found.2)
+
+    pub no_ghost : (hash : ℕ)
+        → IsEntry {T = T} (lists_of slab table hot cold ghosts) t hash ghost_variant → ⊥
+    no_ghost hash stands =
+        let found = gather-from (λ u. ghost_of u (item_at slab u)) (tokens_of slab ghosts.head)
+        _ stands in
+        none_of (ghost_of t (item_at slab t)) (ap (ghost_of t) item_at-token)
+        (ap (λ u. ghost_of u (item_at slab u))
+        (named_ghost found.0 (item_at slab found.0) _ found.2) ∙ found.2)
+
+  -- ---- it is moved by its weight
+
   module _ (slab : LinkedSlab (Slot K V P T)) (table : Table) (hot cold ghosts : Ring)
       (parted : IsParted slab) (standing : IsStanding slab hot cold ghosts) (t : ℕ)
       (seen : Item K V) (has : IsItemOf (lists_of slab table hot cold ghosts) t seen) where
     abbrev lists : Lists K V P
     lists = lists_of slab table hot cold ghosts
 
-    pub at_token-item : item_at slab t
-        ≡ Some (record { hash = has.0; entry = item_variant seen })
-    at_token-item = item_at-held slab table hot cold ghosts
-        (record { token = t; hash = has.0; item = seen }) has.1
-
-    -- no placeholder and no ghost has the token
-    pub no_placeholder : (hash : ℕ) (awaited : Awaited K P)
-        → IsEntry {T = T} lists t hash (loading_variant awaited) → ⊥
-    no_placeholder hash awaited stands =
-        let found = gather-from (λ u. loading_of u (item_at slab u)) (upto (length slab.slots))
-        _ stands in
-        none (loading_of t (item_at slab t)) (ap (loading_of t) at_token-item)
-        (ap (λ u. loading_of u (item_at slab u))
-        (named_loading found.0 (item_at slab found.0) _ found.2) ∙ found.2)
-      where
-        none : {X : Type 0} (o : Option X) {x : X} → o ≡ None → o ≡ Some x → ⊥
-        none o is is' = cc
-
-    pub no_ghost : (hash : ℕ) → IsEntry {T = T} lists t hash ghost_variant → ⊥
-    no_ghost hash stands =
-        let found = gather-from (λ u. ghost_of u (item_at slab u)) (tokens_of slab ghosts.head)
-        _ stands in
-        none (ghost_of t (item_at slab t)) (ap (ghost_of t) at_token-item)
-        (ap (λ u. ghost_of u (item_at slab u))
-        (named_ghost found.0 (item_at slab found.0) _ found.2) ∙ found.2)
-      where
-        none : {X : Type 0} (o : Option X) {x : X} → o ≡ None → o ≡ Some x → ⊥
-        none o is is' = cc
+    seen_at : item_at slab t ≡ Some (record { hash = has.0; entry = item_variant seen })
+    seen_at = item_at-token slab table hot cold ghosts t seen has
 
     module _ (new : Lists K V P) (v w : ℕ) (v_is : v ≡ seen.weight) where
       pub Rewrites-replaced : (item was : Item K V)
@@ -265,7 +269,7 @@ module _ {K V P T : Type 0} where
       Rewrites-replaced item was replaces w_is differs =
           let at = item_at-held slab table hot cold ghosts
           (record { token = t; hash = replaces.hash; item = was }) replaces.taken in
-          let weighs = v_is ∙ same_weight _ has.0 replaces.hash seen was at_token-item at in
+          let weighs = v_is ∙ same_weight _ has.0 replaces.hash seen was seen_at at in
           Rewrites-moved lists (apart_by slab table hot cold ghosts parted standing) t
           replaces.hash was item
           (StandsIn-item slab table hot cold ghosts standing t replaces.hash was at) new
@@ -281,7 +285,7 @@ module _ {K V P T : Type 0} where
           let at = item_at-held slab table hot cold ghosts
           (record { token = t; hash = requeues.hash; item = was }) requeues.taken in
           let same : seen ≡ was = same_item (item_at slab t) has.0 requeues.hash seen was
-          at_token-item at in
+          seen_at at in
           let made : requeued queue mark w was ≡ with_weight w was =
           rw (queue_is, mark_is) (ap (λ (i : Item K V). requeued i.queue i.mark w was) same) in (
             was,
@@ -307,7 +311,7 @@ module _ {K V P T : Type 0} where
       (seen : Item K V)
       (has : IsItemOf (lists_of slab table rings.hot rings.cold rings.ghosts) t seen) where
     at : item_at slab t ≡ Some (record { hash = has.0; entry = item_variant seen })
-    at = at_token-item slab table rings.hot rings.cold rings.ghosts parted sound.standing t seen has
+    at = item_at-token slab table rings.hot rings.cold rings.ghosts t seen has
 
     pub queue_seen : (queue : Queue)
         → HasItemOfQueue (lists_of slab table rings.hot rings.cold rings.ghosts) t queue

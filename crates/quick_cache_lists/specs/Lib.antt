@@ -3,3 +3,4 @@ pub mod Lists
 pub mod Sound
 pub mod Frames
 pub mod Views
+pub mod Walks

@@ -12,8 +12,10 @@ mod resident;
 mod ring;
 mod rings;
 mod store;
+mod walk;
 
 pub use entry::{Awaited, Entry, Slot};
 pub use found::Found;
 pub use lists::Lists;
 pub use resident::Resident;
+pub use walk::{GhostIter, RingIter};

@@ -6,6 +6,7 @@ mod changes;
 mod counts;
 mod looks;
 mod moves;
+mod walks;
 
 use crate::entry::Slot;
 use crate::rings::Rings;

@@ -59,30 +59,11 @@ impl<K, V, T> Resident<K, V, T> {
         }
     }
 
-    /// The same item, read so often.
+    /// The same item with another count of reads.
     pub fn with_reads(self, reads: u64) -> Self
-    where
-        T: Drop,
         ensures { result ≡ record self { reads = reads } }
     {
-        let Resident {
-            key,
-            value,
-            weight,
-            mark,
-            reads: _,
-            queue,
-            touch,
-        } = self;
-        Resident {
-            key,
-            value,
-            weight,
-            mark,
-            reads,
-            queue,
-            touch,
-        }
+        Resident { reads, ..self }
     }
 
     pub fn queue(&self) -> Queue

@@ -3,7 +3,7 @@ use Rattle.std.specs.Int.NonZero.{non_zero_u32_get as number}
 use Rattle.quick_cache_slab.specs.LinkedSlab.{item_at}
 use Rattle.quick_cache_lists.specs.Lists.{with_weight}
 use Rattle.quick_cache_lists.proofs.ChangeLemmas.{changed_slot}
-use Rattle.quick_cache_lists.proofs.RewriteLemmas.{at_token-item, Reweighs-requeued, can_reweigh-seen, IsSound-written, Rewrites-written}
+use Rattle.quick_cache_lists.proofs.RewriteLemmas.{item_at-token, Reweighs-requeued, can_reweigh-seen, IsSound-written, Rewrites-written}
 use Rattle.quick_cache_lists.proofs.lists.Lists.reweigh.Goals as goal
 
 pub returns-then-was-weight : goal.returns-then-was-weight
@@ -19,8 +19,8 @@ returns-then-was-weight g c =
 pub get_mut_unchecked-requires : goal.get_mut_unchecked-requires
 get_mut_unchecked-requires g c =
     let i = c.self.inside in
-    let at = at_token-item i.slab i.table i.rings.hot i.rings.cold i.rings.ghosts
-    c.validate.ensures c.self.invariant.standing (number c.args.token) c.item-item.result.now
+    let at = item_at-token i.slab i.table i.rings.hot i.rings.cold i.rings.ghosts
+    (number c.args.token) c.item-item.result.now
     (rw (← c.self.view_is) at c.item-item.ensures) in
     rw at refl
 
@@ -28,8 +28,8 @@ pub set_weight-requires : goal.set_weight-requires
 set_weight-requires g c =
     let i = c.self.inside in
     let has = rw (← c.self.view_is) at c.item-item.ensures in
-    let at = at_token-item i.slab i.table i.rings.hot i.rings.cold i.rings.ghosts
-    c.validate.ensures c.self.invariant.standing (number c.args.token) c.item-item.result.now
+    let at = item_at-token i.slab i.table i.rings.hot i.rings.cold i.rings.ghosts
+    (number c.args.token) c.item-item.result.now
     has in
     (changed_slot (item_at i.slab (number c.args.token)) c.get_mut_unchecked.result.0.now has.0
     c.item-item.result.now (with_weight c.args.weight) at c.get_mut_unchecked.ensures.item).0
@@ -47,8 +47,8 @@ invariant_of-self g c =
     let i = c.self.inside in
     let t = number c.args.token in
     let has = rw (← c.self.view_is) at c.item-item.ensures in
-    let at = at_token-item i.slab i.table i.rings.hot i.rings.cold i.rings.ghosts
-    c.validate.ensures c.self.invariant.standing t c.item-item.result.now has in
+    let at = item_at-token i.slab i.table i.rings.hot i.rings.cold i.rings.ghosts t
+    c.item-item.result.now has in
     let now = c.set_weight.ensures
     ∙ (changed_slot (item_at i.slab t) c.get_mut_unchecked.result.0.now has.0
     c.item-item.result.now (with_weight c.args.weight) at c.get_mut_unchecked.ensures.item).1 in
@@ -63,8 +63,8 @@ returns g c =
     let i = c.self.inside in
     let t = number c.args.token in
     let has = rw (← c.self.view_is) at c.item-item.ensures in
-    let at = at_token-item i.slab i.table i.rings.hot i.rings.cold i.rings.ghosts
-    c.validate.ensures c.self.invariant.standing t c.item-item.result.now has in
+    let at = item_at-token i.slab i.table i.rings.hot i.rings.cold i.rings.ghosts t
+    c.item-item.result.now has in
     let now = c.set_weight.ensures
     ∙ (changed_slot (item_at i.slab t) c.get_mut_unchecked.result.0.now has.0
     c.item-item.result.now (with_weight c.args.weight) at c.get_mut_unchecked.ensures.item).1 in

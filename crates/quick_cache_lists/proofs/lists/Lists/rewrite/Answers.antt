@@ -2,7 +2,7 @@ use Rattle.std.proofs.Common.{◌∙◌, inl, refl, arith}
 use Rattle.std.specs.Int.NonZero.{non_zero_u32_get as number}
 use Rattle.quick_cache_slab.specs.LinkedSlab.{item_at}
 use Rattle.quick_cache_lists.proofs.ChangeLemmas.{changed_slot}
-use Rattle.quick_cache_lists.proofs.RewriteLemmas.{at_token-item, no_placeholder, no_ghost, Rewrites-replaced, was_seen, queue_seen, can_reweigh-seen, IsSound-written, Rewrites-written}
+use Rattle.quick_cache_lists.proofs.RewriteLemmas.{item_at-token, no_placeholder, no_ghost, Rewrites-replaced, was_seen, queue_seen, can_reweigh-seen, IsSound-written, Rewrites-written}
 use Rattle.quick_cache_lists.proofs.lists.Lists.rewrite.Goals as goal
 
 pub replace-requires : goal.replace-requires
@@ -13,16 +13,16 @@ pub unreachable-requires : goal.unreachable-requires
 unreachable-requires g c =
     let i = c.self.inside in
     let replaces = rw (← c.self.view_is, c.in-Loading.is) at c.replace.ensures in
-    no_placeholder i.slab i.table i.rings.hot i.rings.cold i.rings.ghosts c.validate.ensures
-    c.self.invariant.standing (number c.args.token) c.item-item.result.now
+    no_placeholder i.slab i.table i.rings.hot i.rings.cold i.rings.ghosts
+    (number c.args.token) c.item-item.result.now
     (rw (← c.self.view_is) at c.item-item.ensures) replaces.hash _ replaces.taken
 
 pub unreachable-requires-in-Ghost : goal.unreachable-requires-in-Ghost
 unreachable-requires-in-Ghost g c =
     let i = c.self.inside in
     let replaces = rw (← c.self.view_is, c.in-Ghost.is) at c.replace.ensures in
-    no_ghost i.slab i.table i.rings.hot i.rings.cold i.rings.ghosts c.validate.ensures
-    c.self.invariant.standing (number c.args.token) c.item-item.result.now
+    no_ghost i.slab i.table i.rings.hot i.rings.cold i.rings.ghosts
+    (number c.args.token) c.item-item.result.now
     (rw (← c.self.view_is) at c.item-item.ensures) replaces.hash replaces.taken
 
 pub returns-then-was-weight : goal.returns-then-was-weight
@@ -38,8 +38,8 @@ returns-then-was-weight g c =
 pub get_mut_unchecked-requires : goal.get_mut_unchecked-requires
 get_mut_unchecked-requires g c =
     let i = c.self.inside in
-    let at = at_token-item i.slab i.table i.rings.hot i.rings.cold i.rings.ghosts
-    c.validate.ensures c.self.invariant.standing (number c.args.token) c.item-item.result.now
+    let at = item_at-token i.slab i.table i.rings.hot i.rings.cold i.rings.ghosts
+    (number c.args.token) c.item-item.result.now
     (rw (← c.self.view_is) at c.item-item.ensures) in
     rw at refl
 
@@ -47,8 +47,8 @@ pub rewrite-old-requires : goal.rewrite-old-requires
 rewrite-old-requires g c =
     let i = c.self.inside in
     let has = rw (← c.self.view_is) at c.item-item.ensures in
-    let at = at_token-item i.slab i.table i.rings.hot i.rings.cold i.rings.ghosts
-    c.validate.ensures c.self.invariant.standing (number c.args.token) c.item-item.result.now
+    let at = item_at-token i.slab i.table i.rings.hot i.rings.cold i.rings.ghosts
+    (number c.args.token) c.item-item.result.now
     has in
     (changed_slot (item_at i.slab (number c.args.token)) c.get_mut_unchecked.result.0.now has.0
     c.item-item.result.now (λ _. c.args.resident) at c.get_mut_unchecked.ensures.item).0
@@ -66,8 +66,8 @@ invariant_of-self g c =
     let i = c.self.inside in
     let t = number c.args.token in
     let has = rw (← c.self.view_is) at c.item-item.ensures in
-    let at = at_token-item i.slab i.table i.rings.hot i.rings.cold i.rings.ghosts
-    c.validate.ensures c.self.invariant.standing t c.item-item.result.now has in
+    let at = item_at-token i.slab i.table i.rings.hot i.rings.cold i.rings.ghosts t
+    c.item-item.result.now has in
     let now = c.rewrite-old.ensures.new
     ∙ (changed_slot (item_at i.slab t) c.get_mut_unchecked.result.0.now has.0
     c.item-item.result.now (λ _. c.args.resident) at c.get_mut_unchecked.ensures.item).1 in
@@ -83,8 +83,8 @@ returns g c =
     let i = c.self.inside in
     let t = number c.args.token in
     let has = rw (← c.self.view_is) at c.item-item.ensures in
-    let at = at_token-item i.slab i.table i.rings.hot i.rings.cold i.rings.ghosts
-    c.validate.ensures c.self.invariant.standing t c.item-item.result.now has in
+    let at = item_at-token i.slab i.table i.rings.hot i.rings.cold i.rings.ghosts t
+    c.item-item.result.now has in
     let now = c.rewrite-old.ensures.new
     ∙ (changed_slot (item_at i.slab t) c.get_mut_unchecked.result.0.now has.0
     c.item-item.result.now (λ _. c.args.resident) at c.get_mut_unchecked.ensures.item).1 in

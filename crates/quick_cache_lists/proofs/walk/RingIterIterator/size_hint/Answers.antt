@@ -1,0 +1,15 @@
+use Rattle.std.proofs.Common.{◌≡◌, ◌∙◌, sym, ap, length, arith}
+use Rattle.quick_cache_lists.proofs.WalkLemmas.{length-items_in}
+use Rattle.quick_cache_lists.proofs.walk.RingIterIterator.size_hint.Goals as goal
+
+pub returns-clause-lower : goal.returns-clause-lower
+returns-clause-lower g c =
+    let long : length c.self.inside.walk ≡ length c.args.self.now =
+    sym (length-items_in _ c.self.invariant) ∙ ap length c.self.view_is in
+    λ _. omega (arith, long, c.left.ensures)
+
+pub returns-clause-upper : goal.returns-clause-upper
+returns-clause-upper g c =
+    let long : length c.self.inside.walk ≡ length c.args.self.now =
+    sym (length-items_in _ c.self.invariant) ∙ ap length c.self.view_is in
+    (tt, omega (arith, long, c.left-2.ensures))

@@ -1,0 +1,44 @@
+//! Walks over the lists, each in its order.
+ghost use Rattle.std.specs.Prelude.{◌≡◌};
+ghost use Rattle.quick_cache_model.specs.CacheState.{ring_place};
+ghost use Rattle.quick_cache_lists.specs.Lists.{items_at};
+ghost use Rattle.quick_cache_lists.specs.Views.{items_of, hashes_of};
+
+use crate::lists::Lists;
+use crate::walk::{GhostIter, RingIter, Walk};
+use quick_cache_model::Queue;
+use std::alloc::Allocator;
+
+impl<K, V, P, T, A: Allocator> Lists<K, V, P, T, A> {
+    /// The items of a ring, the next to be visited first.
+    pub fn iter_ring(&self, queue: Queue) -> RingIter<'_, K, V, P, T, A>
+        ensures { result ≡ items_of (items_at (ring_place queue) self.now) }
+    {
+        let ring = match queue {
+            Queue::Hot => self.rings.hot,
+            Queue::Cold => self.rings.cold,
+        };
+        self.slab.validate();
+        RingIter {
+            walk: Walk {
+                slab: &self.slab,
+                at: ring.head,
+                left: ring.count,
+            },
+        }
+    }
+
+    /// The hashes of the ghosts, the oldest first.
+    pub fn iter_ghosts(&self) -> GhostIter<'_, K, V, P, T, A>
+        ensures { result ≡ hashes_of self.now.ghosts }
+    {
+        self.slab.validate();
+        GhostIter {
+            walk: Walk {
+                slab: &self.slab,
+                at: self.rings.ghosts.head,
+                left: self.rings.ghosts.count,
+            },
+        }
+    }
+}

@@ -1,0 +1,155 @@
+//! Walks along a ring, from its head on. A step is one look at a slot.
+ghost use Rattle.std.specs.Prelude.{◌≡◌, length};
+ghost use Rattle.std.specs.Iterator.{YieldsFirst, YieldsFirstBy, item_count};
+
+use crate::entry::{Entry, Slot};
+use crate::resident::Resident;
+use quick_cache_model::Token;
+use quick_cache_slab::LinkedSlab;
+use std::alloc::{Allocator, Global};
+use std::iter::FusedIterator;
+use std::marker::Model;
+
+/// The slots of a ring that are left.
+#[derive(Drop)]
+pub(crate) struct Walk<'a, S, A: Allocator = Global> {
+    pub(crate) slab: &'a LinkedSlab<S, A>,
+    pub(crate) at: Option<Token>,
+    pub(crate) left: usize,
+}
+
+impl<'a, S, A: Allocator> Model for Walk<'a, S, A> {
+    ghost use Rattle.std.specs.Prelude.{◌≡◌, List, length};
+
+    ghost Value = { List S };
+
+    ghost use Rattle.quick_cache_lists.specs.Walks.{walk_of};
+
+    ghost view = { λ w. walk_of w.slab.now w.at w.left };
+
+    ghost invariant = { λ w. length (walk_of w.slab.now w.at w.left) ≡ w.left };
+}
+
+impl<'a, S, A: Allocator> Walk<'a, S, A> {
+    /// How many slots are left.
+    pub(crate) fn left(&self) -> usize
+        ensures { result ≡ length self.now }
+    {
+        self.left
+    }
+}
+
+impl<'a, S, A: Allocator> Iterator for Walk<'a, S, A> {
+    type Item = &'a S;
+
+    ghost next_gives = { YieldsFirstBy (λ slot. slot.now) (λ rest. rest) };
+
+    ghost remaining = { item_count (λ rest. rest) };
+
+    fn next(&mut self) -> Option<&'a S> {
+        if self.left == 0 {
+            return None;
+        }
+        let token = self.at?;
+        self.slab.validate();
+        let (slot, next) = unsafe { self.slab.get_unchecked(token) };
+        self.at = Some(next);
+        self.left -= 1;
+        Some(slot)
+    }
+
+    fn size_hint(&self) -> (usize, Option<usize>) {
+        (self.left, Some(self.left))
+    }
+}
+
+/// The items of a ring; the next to be visited comes first.
+#[derive(Drop)]
+pub struct RingIter<'a, K, V, P, T, A: Allocator = Global> {
+    pub(crate) walk: Walk<'a, Slot<K, V, P, T>, A>,
+}
+
+impl<'a, K, V, P, T, A: Allocator> Model for RingIter<'a, K, V, P, T, A> {
+    ghost use Rattle.std.specs.Prelude.{◌≡◌, List, true};
+    ghost use Rattle.std.specs.List.{AllByRecursion};
+    ghost use Rattle.quick_cache_model.specs.CacheState.{Item};
+
+    ghost Value = { List (Item K V) };
+
+    ghost use Rattle.quick_cache_lists.specs.Slots.{is_item};
+    ghost use Rattle.quick_cache_lists.specs.Walks.{items_in};
+
+    ghost view = { λ it. items_in it.walk };
+
+    ghost invariant = { λ it. AllByRecursion (λ slot. is_item slot ≡ true) it.walk };
+}
+
+impl<'a, K, V, P, T, A: Allocator> Iterator for RingIter<'a, K, V, P, T, A> {
+    type Item = &'a Resident<K, V, T>;
+
+    ghost next_gives = { YieldsFirstBy (λ item. item.now) (λ rest. rest) };
+
+    ghost remaining = { item_count (λ rest. rest) };
+
+    fn next(&mut self) -> Option<&'a Resident<K, V, T>> {
+        let slot = self.walk.next()?;
+        match &slot.entry {
+            Entry::Item(resident) => Some(resident),
+            Entry::Loading(_) => unreachable!(),
+            Entry::Ghost => unreachable!(),
+        }
+    }
+
+    fn size_hint(&self) -> (usize, Option<usize>) {
+        (self.walk.left(), Some(self.walk.left()))
+    }
+}
+
+impl<'a, K, V, P, T, A: Allocator> ExactSizeIterator for RingIter<'a, K, V, P, T, A> {
+    fn len(&self) -> usize {
+        self.walk.left()
+    }
+}
+
+impl<'a, K, V, P, T, A: Allocator> FusedIterator for RingIter<'a, K, V, P, T, A> {}
+
+/// The hashes of the ghosts, the oldest first.
+#[derive(Drop)]
+pub struct GhostIter<'a, K, V, P, T, A: Allocator = Global> {
+    pub(crate) walk: Walk<'a, Slot<K, V, P, T>, A>,
+}
+
+impl<'a, K, V, P, T, A: Allocator> Model for GhostIter<'a, K, V, P, T, A> {
+    ghost use Rattle.std.specs.Prelude.{ℕ, List};
+
+    ghost Value = { List ℕ };
+
+    ghost use Rattle.quick_cache_lists.specs.Walks.{hashes_in};
+
+    ghost view = { λ it. hashes_in it.walk };
+}
+
+impl<'a, K, V, P, T, A: Allocator> Iterator for GhostIter<'a, K, V, P, T, A> {
+    type Item = u64;
+
+    ghost next_gives = { YieldsFirst (λ rest. rest) };
+
+    ghost remaining = { item_count (λ rest. rest) };
+
+    fn next(&mut self) -> Option<u64> {
+        let slot = self.walk.next()?;
+        Some(slot.hash)
+    }
+
+    fn size_hint(&self) -> (usize, Option<usize>) {
+        (self.walk.left(), Some(self.walk.left()))
+    }
+}
+
+impl<'a, K, V, P, T, A: Allocator> ExactSizeIterator for GhostIter<'a, K, V, P, T, A> {
+    fn len(&self) -> usize {
+        self.walk.left()
+    }
+}
+
+impl<'a, K, V, P, T, A: Allocator> FusedIterator for GhostIter<'a, K, V, P, T, A> {}
