@@ -4,3 +4,8 @@ pub mod SeenLemmas
 pub mod RoundLemmas
 pub mod AdvanceLemmas
 pub mod KeptLemmas
+pub mod ItemLemmas
+pub mod HotLemmas
+pub mod HotRoundLemmas
+pub mod HotSeekLemmas
+pub mod HotAdvanceLemmas

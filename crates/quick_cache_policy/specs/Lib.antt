@@ -4,3 +4,4 @@ pub mod Policies
 pub mod Work
 pub mod Rounds
 pub mod Advances
+pub mod HotRounds
