@@ -9,12 +9,11 @@ use Rattle.quick_cache_lists.specs.declared.entry.Slot.{Slot}
 use Rattle.quick_cache_lists.specs.declared.ring.Ring.{Ring}
 use Rattle.quick_cache_lists.specs.declared.rings.Rings.{Rings}
 use Rattle.std.specs.declared.num.NonZeroU32.{NonZeroU32 as Token}
-use Rattle.quick_cache_lists.specs.Lists.{HeldItem, StandsIn, items_at, HasItem, HasItemToken, HadPair}
-use Rattle.quick_cache_lists.specs.Slots.{HasPair, Stand, AmongHot, AmongCold, AmongGhosts, weight_at, item_of, still_of, loading_of, ghost_of}
-use Rattle.quick_cache_lists.specs.Sound.{weigh, gather, upto, tokens_of, lists_of, room_of, IsRingOf, IsStanding, IsSound}
+use Rattle.quick_cache_lists.specs.Lists.{HeldItem, StandsIn, items_at, HasItem, HasItemToken}
+use Rattle.quick_cache_lists.specs.Slots.{Stand, AmongHot, AmongCold, AmongGhosts, weight_at, item_of, still_of, loading_of, ghost_of}
+use Rattle.quick_cache_lists.specs.Sound.{weigh, gather, upto, tokens_of, lists_of, room_of, IsRingOf, IsSound}
 use Rattle.quick_cache_lists.proofs.GatherLemmas.{gather-from}
 use Rattle.quick_cache_lists.proofs.FindLemmas.{held_still}
-use Rattle.quick_cache_lists.proofs.StandLemmas.{HasItem-from}
 use Rattle.quick_cache_lists.proofs.TakeLemmas.{named_item}
 
 module _ {K V P T : Type 0} where
@@ -139,19 +138,6 @@ module _ {K V P T : Type 0} where
   IsSound-grown old new told tnew rings loading kept same_pairs sound =
       subst (λ (s : LinkedSlab (Slot K V P T)). IsSound s tnew rings loading) (sym kept)
       (IsSound-room old new.room told tnew rings loading same_pairs sound)
-
-  pub had_pair : (slab : LinkedSlab (Slot K V P T)) (table : Table) (hot cold ghosts : Ring)
-      (standing : IsStanding slab hot cold ghosts) (t hash : ℕ) (item : Item K V)
-      (at : item_at slab t ≡ Some (record { hash = hash; entry = item_variant item }))
-      (slot : Slot K V P T) → item_at slab t ≡ Some slot → (pair : K × V) → HasPair slot.entry pair
-      → HadPair (lists_of slab table hot cold ghosts) t pair
-  had_pair slab table hot cold ghosts standing t hash item at slot is pair has =
-      let same : slot.entry ≡ item_variant item = item_is (item_at slab t) slot hash item at is in (
-        item,
-        (hash, HasItem-from slab table hot cold ghosts standing t hash item at),
-        subst
-            (λ (e : Entry K V P T). HasPair e pair) same has,
-      )
 
   slot_of_held : (u : ℕ) (o : Option (Slot K V P T)) (held : HeldItem K V) → item_of u o ≡ Some held
       → o ≡ Some (record { hash = held.hash; entry = item_variant held.item })

@@ -15,4 +15,6 @@ pub mod PutLemmas
 pub mod LeaveLemmas
 pub mod MoveLemmas
 pub mod NextLemmas
+pub mod RewriteLemmas
 pub mod CallerLemmas
+pub mod OneEntryLemmas

@@ -22,7 +22,7 @@ use Rattle.quick_cache_lists.proofs.SoundLemmas.{stand-some, stand-placed, vacan
 use Rattle.quick_cache_lists.proofs.ViewLemmas.{same_lists, IsStanding-put_hot, IsStanding-put_cold, IsStanding-put_still, IsStanding-put_loading, IsStanding-put_ghost, lists-put_hot, lists-put_cold, lists-put_ghost, SameButOrder-put_still, SameButOrder-put_loading, loading-put_still, still-put_loading}
 
 module _ {K V P : Type 0} where
-  with_items-loading : (p : Place) (xs : List (HeldItem K V)) (lists : Lists K V P)
+  pub with_items-loading : (p : Place) (xs : List (HeldItem K V)) (lists : Lists K V P)
       → (with_items p xs lists).loading ≡ lists.loading
   with_items-loading InHot xs lists = refl
   with_items-loading InCold xs lists = refl

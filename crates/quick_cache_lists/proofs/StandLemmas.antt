@@ -1,6 +1,6 @@
 -- An entry stands in the list of its stand.
-use Rattle.std.proofs.Common.{◌≡◌, ℕ, ◌<◌, ◌==◌, Bool, true, false, length, Some, refl, arith}
-use Rattle.quick_cache_model.specs.CacheState.{Item, InHot, InCold, InStill}
+use Rattle.std.proofs.Common.{◌≡◌, ℕ, ◌<◌, ◌==◌, Bool, true, false, length, Some, refl, sym, subst, arith}
+use Rattle.quick_cache_model.specs.CacheState.{Item, Place, InHot, InCold, InStill, place_of_item}
 use Rattle.quick_cache_slab.specs.LinkedSlab.{LinkedSlab, times, item_at}
 use Rattle.quick_cache_table.specs.Table.{Table}
 use Rattle.quick_cache_model.specs.declared.queue.Queue.{Queue}
@@ -8,7 +8,7 @@ use Rattle.quick_cache_model.specs.declared.queue.Queue.TheVariants.{Hot, Cold}
 use Rattle.quick_cache_lists.specs.declared.entry.Entry.TheVariants.{Item as item_variant, Ghost as ghost_variant}
 use Rattle.quick_cache_lists.specs.declared.entry.Slot.{Slot}
 use Rattle.quick_cache_lists.specs.declared.ring.Ring.{Ring}
-use Rattle.quick_cache_lists.specs.Lists.{HeldLoading, StandsIn, HasItem}
+use Rattle.quick_cache_lists.specs.Lists.{HeldLoading, items_at, StandsIn, HasItem}
 use Rattle.quick_cache_lists.specs.Slots.{item_of, still_of, loading_of, ghost_of}
 use Rattle.quick_cache_lists.specs.Sound.{gather, upto, tokens_of, lists_of, IsStanding}
 use Rattle.quick_cache_lists.proofs.GatherLemmas.{gather-has, times-upto}
@@ -22,35 +22,41 @@ module _ {K V P T : Type 0} (slab : LinkedSlab (Slot K V P T)) (table : Table)
       let within = occupied_within slab.slots t slot at in
       omega (arith, times-upto t (length slab.slots) within.0 within.1)
 
+  abbrev StandsAt : ℕ → ℕ → Item K V → Place → Type 0
+  StandsAt t hash item p = StandsIn (items_at p (lists_of slab table hot cold ghosts))
+      (record { token = t; hash = hash; item = item })
+
+  -- an item stands where its weight and its queue say
+  pub StandsIn-item : (t hash : ℕ) (item : Item K V)
+      → item_at slab t ≡ Some (record { hash = hash; entry = item_variant item })
+      → StandsIn (items_at (place_of_item item) (lists_of slab table hot cold ghosts))
+      (record { token = t; hash = hash; item = item })
+  StandsIn-item t hash item at = by_weight (item.weight == 0) refl
+    where
+      by_queue : (queue : Queue) → item.queue ≡ queue → (item.weight == 0) ≡ false
+          → StandsAt t hash item (place_of_item item)
+      by_queue Hot of weighs =
+          let is : place_of_item item ≡ InHot = rw (weighs, of) refl in
+          subst (StandsAt t hash item) (sym is) (gather-has (λ token. item_of token (item_at slab token)) _ t _
+          (sound.hot_ring.all t (rw (at, weighs, of) refl)) (rw at refl))
+      by_queue Cold of weighs =
+          let is : place_of_item item ≡ InCold = rw (weighs, of) refl in
+          subst (StandsAt t hash item) (sym is) (gather-has (λ token. item_of token (item_at slab token)) _ t _
+          (sound.cold_ring.all t (rw (at, weighs, of) refl)) (rw at refl))
+
+      by_weight : (b : Bool) → (item.weight == 0) ≡ b → StandsAt t hash item (place_of_item item)
+      by_weight true none =
+          let is : place_of_item item ≡ InStill = rw none refl in
+          subst (StandsAt t hash item) (sym is) (gather-has (λ token. still_of token (item_at slab token)) _ t _
+          (in_upto t _ at) (rw (at, none) refl))
+      by_weight false weighs = by_queue item.queue refl weighs
+
   pub HasItem-from : (t hash : ℕ) (item : Item K V)
       → item_at slab t ≡ Some (record { hash = hash; entry = item_variant item })
       → HasItem (lists_of slab table hot cold ghosts)
       (record { token = t; hash = hash; item = item })
-  HasItem-from t hash item at = by_weight (item.weight == 0) refl
-    where
-      by_queue : (queue : Queue) → item.queue ≡ queue → (item.weight == 0) ≡ false
-          → HasItem (lists_of slab table hot cold ghosts)
-          (record { token = t; hash = hash; item = item })
-      by_queue Hot of weighs = record {
-        place = InHot;
-        stands = gather-has (λ token. item_of token (item_at slab token)) _ t _
-            (sound.hot_ring.all t (rw (at, weighs, of) refl)) (rw at refl);
-      }
-      by_queue Cold of weighs = record {
-        place = InCold;
-        stands = gather-has (λ token. item_of token (item_at slab token)) _ t _
-            (sound.cold_ring.all t (rw (at, weighs, of) refl)) (rw at refl);
-      }
-
-      by_weight : (b : Bool) → (item.weight == 0) ≡ b
-          → HasItem (lists_of slab table hot cold ghosts)
-          (record { token = t; hash = hash; item = item })
-      by_weight true none = record {
-        place = InStill;
-        stands = gather-has (λ token. still_of token (item_at slab token)) _ t _ (in_upto t _ at)
-            (rw (at, none) refl);
-      }
-      by_weight false weighs = by_queue item.queue refl weighs
+  HasItem-from t hash item at =
+      record { place = place_of_item item; stands = StandsIn-item t hash item at }
 
   pub StandsIn-loading : (t : ℕ) (slot : Slot K V P T) (waiting : HeldLoading K P)
       → item_at slab t ≡ Some slot → loading_of t (Some slot) ≡ Some waiting

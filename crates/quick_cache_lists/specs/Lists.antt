@@ -36,10 +36,6 @@ changed_held token change held =
 abbrev pub with_counts : {K V : Type 0} → (mark reads : ℕ) → Item K V → Item K V
 with_counts mark reads item = record item { mark = mark; reads = reads }
 
--- the item with another pair
-abbrev pub with_pair : {K V : Type 0} → K → V → Item K V → Item K V
-with_pair key value item = record item { key = key; value = value }
-
 -- the item with another weight
 abbrev pub with_weight : {K V : Type 0} → (weight : ℕ) → Item K V → Item K V
 with_weight weight item = record item { weight = weight }
@@ -350,15 +346,52 @@ module _ {K V P : Type 0} where
   IsItemOf lists token item =
       (hash : ℕ) × HasItem lists (record { token = token; hash = hash; item = item })
 
-  -- the item of that token stays in its list with that weight: both weights are 0, or neither is
-  abbrev pub StaysInList : Lists K V P → (token weight : ℕ) → Type 0
-  StaysInList lists token weight =
-      (item : Item K V) × IsItemOf lists token item × ((weight == 0) ≡ (item.weight == 0))
+  -- an item of that queue has the token
+  abbrev pub HasItemOfQueue : Lists K V P → (token : ℕ) → Queue → Type 0
+  HasItemOfQueue lists token queue =
+      (item : Item K V) × IsItemOf lists token item × (item.queue ≡ queue)
 
-  -- the item of that token has this pair
-  abbrev pub HadPair : Lists K V P → (token : ℕ) → K × V → Type 0
-  HadPair lists token pair =
-      (item : Item K V) × IsItemOf lists token item × (pair ≡ (item.key, item.value))
+  -- The item stands in for the one between these two lists, and its weight decides where: it keeps
+  -- its place where both or neither weigh nothing; one that lost its weight leaves its ring, which
+  -- begins behind it; and one that gained weight is put last in its ring.
+  abbrev pub held_rewritten : Place → (before : List (HeldItem K V)) (held : HeldItem K V)
+      (after : List (HeldItem K V)) → Lists K V P → Lists K V P
+  held_rewritten InStill before held after lists =
+      if held.item.weight == 0 then with_items InStill (before ++ held ∷ after) lists
+      else entered held (with_items InStill (before ++ after) lists)
+  held_rewritten InHot before held after lists =
+      if held.item.weight == 0 then entered held (with_items InHot (after ++ before) lists)
+      else with_items InHot (before ++ held ∷ after) lists
+  held_rewritten InCold before held after lists =
+      if held.item.weight == 0 then entered held (with_items InCold (after ++ before) lists)
+      else with_items InCold (before ++ held ∷ after) lists
+
+  -- The item stands in for the old one of that token, under the same token and hash. Where it lost
+  -- its weight, the weightless may be in another order, and nothing else.
+  pub record Rewrites (old : Lists K V P) (token : ℕ) (item was : Item K V) (new : Lists K V P)
+      : Type 0 where
+    pub hash : ℕ
+    pub place : Place
+    pub before : List (HeldItem K V)
+    pub after : List (HeldItem K V)
+    pub placed : place ≡ place_of_item was
+    pub split : items_at place old
+        ≡ before ++ record { token = token; hash = hash; item = was } ∷ after
+    pub rewritten : SameButOrder
+        (held_rewritten place before (record { token = token; hash = hash; item = item }) after old)
+        new
+    pub in_place : (item.weight == 0) ≡ (was.weight == 0)
+        → new ≡ with_items place
+        (before ++ record { token = token; hash = hash; item = item } ∷ after) old
+    pub in_ring : 0 < item.weight
+        → new ≡ held_rewritten place before (record { token = token; hash = hash; item = item })
+        after old
+    pub loading_stays : new.loading ≡ old.loading
+
+  -- the item of that token has another weight, and stands where the weight decides
+  abbrev pub Reweighs : (old : Lists K V P) (token weight : ℕ) → Lists K V P → Type 0
+  Reweighs old token weight new =
+      (item : Item K V) × Rewrites old token (with_weight weight item) item new
 
   -- the lists once this ring begins one further on
   abbrev pub ring_turned : Queue → Lists K V P → Lists K V P

@@ -1,5 +1,5 @@
 -- What stands in a slot. No public clause cites this module.
-use Rattle.std.specs.Prelude.{◌≡◌, List, [], ◌∷◌, ℕ, Bool, true, false, Option, Some, None, if◌then◌else◌, ◌==◌, eqb}
+use Rattle.std.specs.Prelude.{List, [], ◌∷◌, ℕ, Bool, true, false, Option, Some, None, if◌then◌else◌, ◌==◌, eqb}
 use Rattle.quick_cache_model.specs.CacheState.{Item}
 use Rattle.quick_cache_model.specs.declared.queue.Queue.{Queue}
 use Rattle.quick_cache_model.specs.declared.queue.Queue.TheVariants.{Hot, Cold}
@@ -94,12 +94,6 @@ module _ {K V P T : Type 0} where
   -- the same slot with the item changed, if it has one
   abbrev pub slot_changed : (Item K V → Item K V) → Slot K V P T → Slot K V P T
   slot_changed change slot = record slot { entry = entry_changed change slot.entry }
-
-  -- an item has that pair
-  abbrev pub HasPair : Entry K V P T → K × V → Type 0
-  HasPair (item_variant item) pair = pair ≡ (item.key, item.value)
-  HasPair (loading_variant awaited) pair = ⊥
-  HasPair ghost_variant pair = ⊥
 
   abbrev pub is_item_at : Option (Slot K V P T) → Bool
   is_item_at None = false

@@ -1,7 +1,7 @@
 //! What stands in a slot.
 ghost use Rattle.std.specs.Prelude.{◌≡◌, true};
-ghost use Rattle.quick_cache_lists.specs.Slots.{is_under, is_ghost, is_item, weight_in, slot_changed, HasPair, stand_in, loading_in};
-ghost use Rattle.quick_cache_lists.specs.Lists.{with_counts, with_pair, with_weight, requeued};
+ghost use Rattle.quick_cache_lists.specs.Slots.{is_under, is_ghost, is_item, weight_in, slot_changed, stand_in, loading_in};
+ghost use Rattle.quick_cache_lists.specs.Lists.{with_counts, with_weight, requeued};
 
 use crate::resident::Resident;
 use quick_cache_model::{Equivalent, Queue, Touches};
@@ -135,14 +135,14 @@ impl<K, V, P, T> Slot<K, V, P, T> {
         replace(&mut self.entry, entry)
     }
 
-    /// Gives an item another pair, and the old pair back.
-    pub(crate) fn write(&mut self, key: K, value: V) -> (K, V)
+    /// Takes another item for the one that it has, and gives the old one back.
+    pub(crate) fn rewrite(&mut self, resident: Resident<K, V, T>) -> Resident<K, V, T>
         requires { is_item self.old ≡ true }
-        ensures written { self.new ≡ slot_changed (with_pair key value) self.old }
-        ensures old { HasPair self.old.entry result }
+        ensures new { self.new ≡ slot_changed (λ _. resident) self.old }
+        ensures old { self.old.entry ≡ Entry.Item result }
     {
         match &mut self.entry {
-            Entry::Item(resident) => resident.write(key, value),
+            Entry::Item(item) => replace(item, resident),
             Entry::Loading(_) => unreachable!(),
             Entry::Ghost => unreachable!(),
         }

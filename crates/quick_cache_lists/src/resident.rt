@@ -1,12 +1,11 @@
 //! An item, as a slot has it.
 ghost use Rattle.std.specs.Prelude.{◌≡◌};
 ghost use Rattle.quick_cache_lists.specs.Slots.{stand_of_item};
-ghost use Rattle.quick_cache_lists.specs.Lists.{with_counts, with_pair, with_weight, requeued};
+ghost use Rattle.quick_cache_lists.specs.Lists.{with_counts, with_weight, requeued};
 
 use crate::entry::Stand;
 use quick_cache_model::{Queue, Touches};
 use std::marker::Model;
-use std::mem::replace;
 
 /// An item: its pair, the weight that it counts for, how often it was used lately and read, and its
 /// ring.
@@ -162,14 +161,6 @@ impl<K, V, T> Resident<K, V, T> {
         ensures { self.new ≡ with_weight weight self.old }
     {
         self.weight = weight;
-    }
-
-    /// Takes another pair, and gives the old one back.
-    pub(crate) fn write(&mut self, key: K, value: V) -> (K, V)
-        ensures written { self.new ≡ with_pair key value self.old }
-        ensures old { result ≡ (self.old.key, self.old.value) }
-    {
-        (replace(&mut self.key, key), replace(&mut self.value, value))
     }
 
     /// Takes the count of touches, which begins anew.

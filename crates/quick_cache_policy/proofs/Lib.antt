@@ -9,3 +9,5 @@ pub mod HotLemmas
 pub mod HotRoundLemmas
 pub mod HotSeekLemmas
 pub mod HotAdvanceLemmas
+pub mod VictimLemmas
+pub mod SoundLemmas

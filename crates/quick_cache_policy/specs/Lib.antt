@@ -5,3 +5,5 @@ pub mod Work
 pub mod Rounds
 pub mod Advances
 pub mod HotRounds
+pub mod Writing
+pub mod Finding

@@ -28,3 +28,12 @@ pub record PaysFor (extra : ℕ) (old_hot old_cold new_hot new_cold : ℕ) (old 
   pub members : new_hot + new_cold ≤ old_hot + old_cold
   pub paid : advances + new_hot + 2 * new_cold ≤ old_hot + 2 * old_cold + extra
   pub visited : visits ≤ 3 * (old_hot + old_cold) * advances
+
+-- With n items, or one more than stood in the rings: at most 2n + 1 hot advances and 3n(2n + 1)
+-- visits in them.
+pub record WorksWithin (n : ℕ) (old new : Work) : Type 0 where
+  pub advances : ℕ
+  pub visits : ℕ
+  pub does : DoesMore advances visits old new
+  pub few_advances : advances ≤ 2 * n + 1
+  pub few_visits : visits ≤ 3 * n * (2 * n + 1)

@@ -49,7 +49,9 @@ impl<K: Eq + Hash + Drop, V: Drop, P: SharedPlaceholder<K>, A: Allocator> Conten
             return;
         }
         let item = self.lists.item(token);
-        let mark = u64::from(item.mark()).saturating_add(count).min(u64::from(MARK_CUT)) as u8;
+        let mark = u64::from(item.mark())
+            .saturating_add(count)
+            .min(u64::from(MARK_CUT)) as u8;
         let reads = item.reads().saturating_add(count);
         self.lists.set_counts(token, mark, reads);
     }

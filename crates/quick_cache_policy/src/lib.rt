@@ -5,14 +5,20 @@
 //! `Policy`.
 #![tactic(auto)]
 
+mod admission;
 mod cold;
 mod contents;
 mod evict;
 mod hot;
+mod insert;
+mod lookup;
+mod overwrite;
 mod placeholder;
 mod policy;
+mod strategy;
 mod victim;
 
 pub use contents::Contents;
 pub use placeholder::{SharedPlaceholder, Touches};
 pub use policy::{Policy, Terms};
+pub use strategy::InsertStrategy;

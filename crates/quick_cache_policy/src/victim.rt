@@ -72,12 +72,7 @@ impl<K: Eq + Hash + Drop, V: Drop, P: SharedPlaceholder<K>, A: Allocator> Conten
     }
 
     /// Lets the first hot item go.
-    fn evict_hot<M: Policy<K, V>>(
-        &mut self,
-        token: Token,
-        terms: &M,
-        state: &mut M::RequestState,
-    )
+    fn evict_hot<M: Policy<K, V>>(&mut self, token: Token, terms: &M, state: &mut M::RequestState)
         requires sound { IsSound P.ticket_of K.eq (M.hashed terms.now) self.old }
         requires first { IsFirstOf (λ held. held.token) self.old.lists.hot (Some token) }
         ensures evicts { Calls (M.hooks terms.now)
@@ -91,6 +86,7 @@ impl<K: Eq + Hash + Drop, V: Drop, P: SharedPlaceholder<K>, A: Allocator> Conten
         ensures cold { ring_count Queue.Cold self.new ≡ ring_count Queue.Cold self.old }
         ensures same { self.new ≡ record self.old { lists = self.new.lists } }
     {
+        self.lists.apart();
         let slot = self.lists.take(token, false);
         let hash = slot.hash;
         match slot.entry {
@@ -106,12 +102,7 @@ impl<K: Eq + Hash + Drop, V: Drop, P: SharedPlaceholder<K>, A: Allocator> Conten
     }
 
     /// Lets the first cold item go. Where it leaves, its hash becomes the newest ghost.
-    fn evict_cold<M: Policy<K, V>>(
-        &mut self,
-        token: Token,
-        terms: &M,
-        state: &mut M::RequestState,
-    )
+    fn evict_cold<M: Policy<K, V>>(&mut self, token: Token, terms: &M, state: &mut M::RequestState)
         requires sound { IsSound P.ticket_of K.eq (M.hashed terms.now) self.old }
         requires first { IsFirstOf (λ held. held.token) self.old.lists.cold (Some token) }
         ensures evicts { Calls (M.hooks terms.now)
@@ -125,9 +116,11 @@ impl<K: Eq + Hash + Drop, V: Drop, P: SharedPlaceholder<K>, A: Allocator> Conten
         ensures hot { ring_count Queue.Hot self.new ≡ ring_count Queue.Hot self.old }
         ensures same { self.new ≡ record self.old { lists = self.new.lists } }
     {
+        self.lists.apart();
         match self.lists.replace(token, false, Entry::Ghost) {
             Entry::Item(item) => match decide(item, terms, state) {
                 Fate::Stays(item) => {
+                    self.lists.apart();
                     let _ = self.lists.replace(token, false, Entry::Item(item));
                 }
                 Fate::Leaves(key, value) => {
@@ -147,11 +140,13 @@ impl<K: Eq + Hash + Drop, V: Drop, P: SharedPlaceholder<K>, A: Allocator> Conten
             ≡ drop (length self.old.lists.ghosts - self.old.ghost_limit)
             (hashes_of self.old.lists.ghosts) }
         ensures room { self.old.lists.room ≤ self.new.lists.room }
-        ensures same { self.new ≡ record self.old { lists = record self.old.lists {
-          ghosts = self.new.lists.ghosts;
-          next = self.new.lists.next;
-          room = self.new.lists.room;
-        } } }
+        ensures same { self.new ≡ record self.old {
+          lists = record self.old.lists {
+            ghosts = self.new.lists.ghosts;
+            next = self.new.lists.next;
+            room = self.new.lists.room;
+          };
+        } }
     {
         if self.lists.ghost_count() <= self.ghost_limit {
             return;
@@ -159,6 +154,7 @@ impl<K: Eq + Hash + Drop, V: Drop, P: SharedPlaceholder<K>, A: Allocator> Conten
         let Some(oldest) = self.lists.oldest_ghost() else {
             unreachable!();
         };
+        self.lists.apart();
         let _ = self.lists.take(oldest, false);
     }
 
@@ -175,6 +171,7 @@ impl<K: Eq + Hash + Drop, V: Drop, P: SharedPlaceholder<K>, A: Allocator> Conten
         let Some(token) = self.lists.first(Queue::Cold) else {
             unreachable!();
         };
+        self.lists.apart();
         let item = self.lists.item(token);
         let mark = item.mark().saturating_sub(1);
         let weight = item.weight();

@@ -1,10 +1,11 @@
 //! What changes the lists: an entry comes, goes, moves or is written.
 ghost use Rattle.std.specs.Prelude.{◌≡◌, ◌+◌, ◌<◌};
 ghost use Rattle.std.specs.Int.NonZero.{non_zero_u32_get as number};
-ghost use Rattle.quick_cache_lists.specs.Lists.{PutsLast, HasEntry, IsEntry, without_entry, HasItemToken, ring_turned, with_change, with_counts, with_weight, with_pair, StaysInList, HadPair};
+ghost use Rattle.quick_cache_lists.specs.Lists.{PutsLast, HasEntry, IsEntry, without_entry, HasItemToken, ring_turned, with_change, with_counts, HasItemOfQueue, Rewrites, Reweighs};
 
 use crate::entry::{Entry, Slot};
 use crate::lists::Lists;
+use crate::resident::Resident;
 use crate::ring::turn;
 use crate::store::{displace, place};
 use quick_cache_model::{Queue, Token, Touches};
@@ -64,29 +65,49 @@ impl<K, V, P, T, A: Allocator> Lists<K, V, P, T, A> {
         slot.set_counts(mark, reads);
     }
 
-    /// Gives the item of a token another weight, where it stays in its list: both weights are 0, or
-    /// neither is. `requeue` is for the other cases.
-    pub fn set_weight(&mut self, token: Token, weight: u64)
-        requires { StaysInList self.old (number token) weight }
-        ensures { self.new ≡ with_change (number token) (with_weight weight) self.old }
+    /// Puts another item of the same ring in the place of the item of a token, and gives the old one
+    /// back. Where only one of the two weighs something, the old one leaves its list, its ring
+    /// begins behind it, and the other is put last as with `put`.
+    pub fn rewrite(&mut self, token: Token, resident: Resident<K, V, T>) -> Resident<K, V, T>
+        requires { HasItemOfQueue self.old (number token) resident.queue }
+        ensures { Rewrites self.old (number token) resident result self.new }
     {
         self.slab.validate();
+        let item = self.item(token);
+        let stand = item.stand();
+        let was = item.weight();
+        let weight = resident.weight();
+        if (was == 0) != (weight == 0) {
+            return match self.replace(token, true, Entry::Item(resident)) {
+                Entry::Item(old) => old,
+                Entry::Loading(_) => unreachable!(),
+                Entry::Ghost => unreachable!(),
+            };
+        }
         let (slot, _) = unsafe { self.slab.get_mut_unchecked(token) };
-        let stand = slot.entry.stand();
-        let was = slot.entry.weight();
-        slot.set_weight(weight);
+        let old = slot.rewrite(resident);
         self.rings.reweigh(stand, was, weight);
+        old
     }
 
-    /// Gives the item of a token another pair, and the old pair back. The item keeps its place and
-    /// its weight.
-    pub fn write(&mut self, token: Token, key: K, value: V) -> (K, V)
+    /// Gives the item of a token another weight, which decides of its place as with `rewrite`.
+    pub fn reweigh(&mut self, token: Token, weight: u64)
         requires { HasItemToken self.old (number token) }
-        ensures written { self.new ≡ with_change (number token) (with_pair key value) self.old }
-        ensures old { HadPair self.old (number token) result }
+        ensures { Reweighs self.old (number token) weight self.new }
     {
+        self.slab.validate();
+        let item = self.item(token);
+        let stand = item.stand();
+        let was = item.weight();
+        let queue = item.queue();
+        let mark = item.mark();
+        if (was == 0) != (weight == 0) {
+            self.requeue(token, true, queue, mark, weight);
+            return;
+        }
         let (slot, _) = unsafe { self.slab.get_mut_unchecked(token) };
-        slot.write(key, value)
+        slot.set_weight(weight);
+        self.rings.reweigh(stand, was, weight);
     }
 
     /// Takes what readers counted at the item of a token. The count begins anew.

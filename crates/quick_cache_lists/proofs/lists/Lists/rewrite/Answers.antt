@@ -1,0 +1,100 @@
+use Rattle.std.proofs.Common.{◌∙◌, inl, refl, arith}
+use Rattle.std.specs.Int.NonZero.{non_zero_u32_get as number}
+use Rattle.quick_cache_slab.specs.LinkedSlab.{item_at}
+use Rattle.quick_cache_lists.proofs.ChangeLemmas.{changed_slot}
+use Rattle.quick_cache_lists.proofs.RewriteLemmas.{at_token-item, no_placeholder, no_ghost, Rewrites-replaced, was_seen, queue_seen, can_reweigh-seen, IsSound-written, Rewrites-written}
+use Rattle.quick_cache_lists.proofs.lists.Lists.rewrite.Goals as goal
+
+pub replace-requires : goal.replace-requires
+replace-requires g c = inl (_, c.item-item.ensures.1, refl)
+
+-- what has the token is an item
+pub unreachable-requires : goal.unreachable-requires
+unreachable-requires g c =
+    let i = c.self.inside in
+    let replaces = rw (← c.self.view_is, c.in-Loading.is) at c.replace.ensures in
+    no_placeholder i.slab i.table i.rings.hot i.rings.cold i.rings.ghosts c.validate.ensures
+    c.self.invariant.standing (number c.args.token) c.item-item.result.now
+    (rw (← c.self.view_is) at c.item-item.ensures) replaces.hash _ replaces.taken
+
+pub unreachable-requires-in-Ghost : goal.unreachable-requires-in-Ghost
+unreachable-requires-in-Ghost g c =
+    let i = c.self.inside in
+    let replaces = rw (← c.self.view_is, c.in-Ghost.is) at c.replace.ensures in
+    no_ghost i.slab i.table i.rings.hot i.rings.cold i.rings.ghosts c.validate.ensures
+    c.self.invariant.standing (number c.args.token) c.item-item.result.now
+    (rw (← c.self.view_is) at c.item-item.ensures) replaces.hash replaces.taken
+
+pub returns-then-was-weight : goal.returns-then-was-weight
+returns-then-was-weight g c =
+    let i = c.self.inside in
+    let replaces = rw (← c.self.view_is, c.in-Item.is) at c.replace.ensures in
+    rw (← c.self.view_is) (Rewrites-replaced i.slab i.table i.rings.hot i.rings.cold i.rings.ghosts
+    c.validate.ensures c.self.invariant.standing (number c.args.token) c.item-item.result.now
+    (rw (← c.self.view_is) at c.item-item.ensures) c.replace.new.self c.weight-was.result
+    c.weight-weight.result c.weight-was.ensures c.args.resident c.in-Item.old replaces
+    c.weight-weight.ensures c.if-was-weight.true)
+
+pub get_mut_unchecked-requires : goal.get_mut_unchecked-requires
+get_mut_unchecked-requires g c =
+    let i = c.self.inside in
+    let at = at_token-item i.slab i.table i.rings.hot i.rings.cold i.rings.ghosts
+    c.validate.ensures c.self.invariant.standing (number c.args.token) c.item-item.result.now
+    (rw (← c.self.view_is) at c.item-item.ensures) in
+    rw at refl
+
+pub rewrite-old-requires : goal.rewrite-old-requires
+rewrite-old-requires g c =
+    let i = c.self.inside in
+    let has = rw (← c.self.view_is) at c.item-item.ensures in
+    let at = at_token-item i.slab i.table i.rings.hot i.rings.cold i.rings.ghosts
+    c.validate.ensures c.self.invariant.standing (number c.args.token) c.item-item.result.now
+    has in
+    (changed_slot (item_at i.slab (number c.args.token)) c.get_mut_unchecked.result.0.now has.0
+    c.item-item.result.now (λ _. c.args.resident) at c.get_mut_unchecked.ensures.item).0
+
+pub reweigh-requires : goal.reweigh-requires
+reweigh-requires g c =
+    let i = c.self.inside in
+    can_reweigh-seen i.slab i.table i.rings i.loading c.self.invariant c.validate.ensures
+    (number c.args.token) c.item-item.result.now (rw (← c.self.view_is) at c.item-item.ensures)
+    c.weight-was.result c.weight-weight.result c.stand-stand.result c.weight-was.ensures
+    c.stand-stand.ensures (omega arith)
+
+pub invariant_of-self : goal.invariant_of-self
+invariant_of-self g c =
+    let i = c.self.inside in
+    let t = number c.args.token in
+    let has = rw (← c.self.view_is) at c.item-item.ensures in
+    let at = at_token-item i.slab i.table i.rings.hot i.rings.cold i.rings.ghosts
+    c.validate.ensures c.self.invariant.standing t c.item-item.result.now has in
+    let now = c.rewrite-old.ensures.new
+    ∙ (changed_slot (item_at i.slab t) c.get_mut_unchecked.result.0.now has.0
+    c.item-item.result.now (λ _. c.args.resident) at c.get_mut_unchecked.ensures.item).1 in
+    let queue = queue_seen i.slab i.table i.rings i.loading c.self.invariant c.validate.ensures t
+    c.item-item.result.now has c.args.resident.queue (rw (← c.self.view_is) at c.requires) in
+    rw now (IsSound-written i.slab i.table i.rings i.loading c.self.invariant c.validate.ensures t
+    c.item-item.result.now has c.weight-was.result c.weight-weight.result c.stand-stand.result
+    c.weight-was.ensures c.stand-stand.ensures (omega arith) c.args.resident c.reweigh.new.self
+    c.reweigh.ensures c.weight-weight.ensures queue c.if-was-weight.false)
+
+pub returns : goal.returns
+returns g c =
+    let i = c.self.inside in
+    let t = number c.args.token in
+    let has = rw (← c.self.view_is) at c.item-item.ensures in
+    let at = at_token-item i.slab i.table i.rings.hot i.rings.cold i.rings.ghosts
+    c.validate.ensures c.self.invariant.standing t c.item-item.result.now has in
+    let now = c.rewrite-old.ensures.new
+    ∙ (changed_slot (item_at i.slab t) c.get_mut_unchecked.result.0.now has.0
+    c.item-item.result.now (λ _. c.args.resident) at c.get_mut_unchecked.ensures.item).1 in
+    let queue = queue_seen i.slab i.table i.rings i.loading c.self.invariant c.validate.ensures t
+    c.item-item.result.now has c.args.resident.queue (rw (← c.self.view_is) at c.requires) in
+    let old = was_seen (item_at i.slab t) c.get_mut_unchecked.result.0.now has.0
+    c.item-item.result.now c.rewrite-old.result at c.get_mut_unchecked.ensures.item
+    c.rewrite-old.ensures.old in
+    rw (← c.self.view_is, ← old, now) (Rewrites-written i.slab i.table i.rings i.loading
+    c.self.invariant c.validate.ensures t c.item-item.result.now has c.weight-was.result
+    c.weight-weight.result c.stand-stand.result c.weight-was.ensures c.stand-stand.ensures
+    (omega arith) c.args.resident c.reweigh.new.self c.reweigh.ensures c.weight-weight.ensures
+    queue c.if-was-weight.false)
