@@ -25,6 +25,10 @@ module _ {K V P A T : Type 0} (hash : K → ℕ) (equal : K → K → Bool) (tic
   IsSound-counted old advances sound =
       record { valid = sound.valid; sized = sound.sized; hashed = sound.hashed }
 
+-- the queues are two
+pub cold≢hot : Cold ≢ Hot
+cold≢hot e = cc
+
 -- One advance, which counts one unless it is paid for.
 pub PaysFor-advance : (extra old_hot cold new_hot new_cold visits : ℕ) (old new : Work)
     → new.advances ≡ counted_up 1 old.advances → new.visits ≡ counted_up visits old.visits
