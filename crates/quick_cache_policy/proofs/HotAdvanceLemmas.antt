@@ -1,18 +1,17 @@
 -- A hot advance over the contents of a cache: what its visits and its eviction come to.
-use Rattle.std.proofs.Common.{◌≡◌, ◌≢◌, ℕ, ◌+◌, ◌*◌, ◌<◌, ◌≤◌, Bool, true, false, List, [], length}
-use Rattle.std.proofs.Common.{refl, sym, ap, subst, ◌∙◌, arith}
+use Rattle.std.proofs.Common.{◌≡◌, ◌≢◌, ℕ, ◌+◌, ◌*◌, ◌<◌, ◌≤◌, Bool, true, false, [], length}
+use Rattle.std.proofs.Common.{refl, sym, ap, subst, arith}
 use Rattle.std.proofs.lemmas.List.{length-map}
-use Rattle.quick_cache_model.specs.declared.queue.Queue.{Queue}
 use Rattle.quick_cache_model.specs.declared.queue.Queue.TheVariants.{Hot, Cold}
 use Rattle.quick_cache_model.specs.CacheState.{CacheState, InHot, default_mark_cut, with_items}
 use Rattle.quick_cache_model.specs.Eviction.{AdvancesHot, EvictsVictim}
-use Rattle.quick_cache_model.specs.Hooks.{Rules, Hooks, HookCall, Calls}
+use Rattle.quick_cache_model.specs.Hooks.{Rules, Hooks, Calls}
 use Rattle.quick_cache_model.specs.Touches.{counted_up}
 use Rattle.quick_cache_model.proofs.OrderLaws.{UpToOrder-exact, UpToOrder-map}
 use Rattle.quick_cache_lists.specs.Views.{items_of}
 use Rattle.quick_cache_policy.specs.declared.contents.Contents.{Contents}
 use Rattle.quick_cache_policy.specs.Advances.{AreEvictions, Evicting, FirstIsEvicted}
-use Rattle.quick_cache_policy.specs.Contents.{IsSound, state_of, ring_count}
+use Rattle.quick_cache_policy.specs.Contents.{IsSound, state_of}
 use Rattle.quick_cache_policy.specs.HotRounds.{VisitsHot, SeekEnds}
 use Rattle.quick_cache_policy.specs.Work.{Work, PaysFor}
 use Rattle.quick_cache_policy.proofs.AdvanceLemmas.{AdvancesHot-met, AdvancesHot-none, MeetsVictim-within, GivesUp-within, HasVictimFirst-some}
@@ -36,13 +35,13 @@ pub PaysFor-advance : (extra old_hot cold new_hot new_cold visits : ℕ) (old ne
     → PaysFor extra old_hot cold new_hot new_cold old new
 PaysFor-advance extra old_hot cold new_hot new_cold visits old new advanced visited within fewer
     falls same = record {
-  advances = 1;
-  visits = visits;
-  does = record { advances_are = advanced; visits_are = visited };
-  members = omega (arith, fewer, same);
-  paid = omega (arith, falls, same);
-  visited = omega (arith, within);
-}
+      advances = 1;
+      visits = visits;
+      does = record { advances_are = advanced; visits_are = visited };
+      members = omega (arith, fewer, same);
+      paid = omega (arith, falls, same);
+      visited = omega (arith, within);
+    }
 
 module _ {K V P A T S : Type 0} (ticket_of : P → ℕ) (steady : Type 0) (rules : Rules K V)
     (hooks : Hooks K V S) (old now : Contents K V P A T) (advances : ℕ) (met : Bool)
@@ -64,16 +63,16 @@ module _ {K V P A T S : Type 0} (ticket_of : P → ℕ) (steady : Type 0) (rules
       (state_of ticket_of now)) first first
   AdvancesHot-gives_up none first =
       let ends = subst (λ b. SeekEnds steady rules.pinned rules.may_count b
-        (items_of old.lists.hot) (items_of now.lists.hot) seeks.visits) none seeks.ends in
+      (items_of old.lists.hot) (items_of now.lists.hot) seeks.visits) none seeks.ends in
       record {
         calls = [];
         holds = (
           λ (is_steady : steady).
-            UpToOrder-exact (AdvancesHot rules (state_of ticket_of old) false [])
-            (state_of ticket_of now)
-            (subst (AdvancesHot rules (state_of ticket_of old) false []) (sym state_of-visited)
-            (AdvancesHot-none rules (state_of ticket_of old) ends.mid (items_of now.lists.hot)
-            seeks.visits ends.raises (ends.holds.none_unpinned is_steady))),
+              UpToOrder-exact (AdvancesHot rules (state_of ticket_of old) false [])
+              (state_of ticket_of now)
+              (subst (AdvancesHot rules (state_of ticket_of old) false []) (sym state_of-visited)
+              (AdvancesHot-none rules (state_of ticket_of old) ends.mid (items_of now.lists.hot)
+              seeks.visits ends.raises (ends.holds.none_unpinned is_steady))),
           AreEvictions.none,
         );
         runs = refl;
@@ -87,25 +86,26 @@ module _ {K V P A T S : Type 0} (ticket_of : P → ℕ) (steady : Type 0) (rules
       (state_of ticket_of new)) first last
   AdvancesHot-evicts there new first last evicts =
       let ends = subst (λ b. SeekEnds steady rules.pinned rules.may_count b
-        (items_of old.lists.hot) (items_of now.lists.hot) seeks.visits) there seeks.ends in
+      (items_of old.lists.hot) (items_of now.lists.hot) seeks.visits) there seeks.ends in
       let gone = evicts.holds.0 in
       let left : with_items InHot gone.rest (state_of ticket_of now)
-          ≡ record (state_of ticket_of old) { hot = gone.rest } =
+      ≡ record (state_of ticket_of old) { hot = gone.rest } =
       ap (λ (s : CacheState K V). record s { hot = gone.rest }) state_of-visited in
       record {
         calls = evicts.calls;
         holds = (
           λ (is_steady : steady).
-            UpToOrder-map
-            (EvictsVictim rules Hot (with_items InHot gone.rest (state_of ticket_of now)) gone.item
-            evicts.calls)
-            (AdvancesHot rules (state_of ticket_of old) true evicts.calls)
-            (state_of ticket_of new)
-            (λ state goes. AdvancesHot-met rules (state_of ticket_of old) ends.mid
+              UpToOrder-map
+              (EvictsVictim rules Hot (with_items InHot gone.rest (state_of ticket_of now))
+              gone.item
+              evicts.calls)
+              (AdvancesHot rules (state_of ticket_of old) true evicts.calls)
+              (state_of ticket_of new)
+              (λ state goes. AdvancesHot-met rules (state_of ticket_of old) ends.mid
               (items_of now.lists.hot) gone.rest gone.item seeks.visits evicts.calls state
               ends.raises (ends.holds.is_met is_steady) gone.stands
               (subst (λ s. EvictsVictim rules Hot s gone.item evicts.calls state) left goes))
-            gone.evicts,
+              gone.evicts,
           evicts.holds.1,
         );
         runs = evicts.runs;
@@ -137,7 +137,7 @@ module _ {K V P A T S : Type 0} (ticket_of : P → ℕ) (steady : Type 0) (rules
   pub SeekEnds-there : met ≡ true → 0 < length now.lists.hot
   SeekEnds-there there =
       let ends = subst (λ b. SeekEnds steady rules.pinned rules.may_count b
-        (items_of old.lists.hot) (items_of now.lists.hot) seeks.visits) there seeks.ends in
+      (items_of old.lists.hot) (items_of now.lists.hot) seeks.visits) there seeks.ends in
       omega (
         arith,
         length-map now.lists.hot (λ held. held.item),

@@ -1,15 +1,11 @@
 -- Rounds of a hot advance over the contents of a cache.
-use Rattle.std.proofs.Common.{◌≡◌, ℕ, ◌+◌, ◌-◌, ◌*◌, ◌^◌, ◌<◌, ◌≤◌, Bool, true, false, List, [], ◌∷◌, ◌++◌, length, map}
+use Rattle.std.proofs.Common.{◌≡◌, ℕ, ◌+◌, ◌-◌, ◌^◌, ◌<◌, Bool, true, false, List, [], ◌∷◌}
 use Rattle.std.proofs.Common.{refl, sym, ap, ap₂, subst, ◌∙◌, arith, if◌then◌else◌, ◌==◌}
-use Rattle.std.specs.List.{AllByRecursion}
-use Rattle.std.proofs.lemmas.List.{length-map}
-use Rattle.quick_cache_model.specs.CacheState.{Item, InHot, IsValid, default_mark_cut}
+use Rattle.quick_cache_model.specs.CacheState.{Item, InHot, default_mark_cut}
 use Rattle.quick_cache_model.specs.Eviction.{lowered}
 use Rattle.quick_cache_model.specs.Touches.{counted_up}
-use Rattle.quick_cache_model.proofs.TouchLaws.{with_touches-key}
-use Rattle.quick_cache_lists.specs.Lists.{HeldItem, Lists, HasItem, HasItemToken, IsItemOf, AreApart, with_change, with_counts}
-use Rattle.quick_cache_lists.specs.Views.{items_of}
-use Rattle.quick_cache_lists.proofs.CallerLemmas.{change-hot, items_of-split}
+use Rattle.quick_cache_lists.specs.Lists.{HeldItem, Lists, HasItemToken, IsItemOf, AreApart, with_change, with_counts}
+use Rattle.quick_cache_lists.proofs.CallerLemmas.{change-hot}
 use Rattle.quick_cache_policy.specs.declared.contents.Contents.{Contents}
 use Rattle.quick_cache_policy.specs.declared.hot.Visit.{Visit}
 use Rattle.quick_cache_policy.specs.Advances.{HasTakenTouches, IsVisited, Meets}
@@ -22,7 +18,8 @@ pub counted_up-zero : (count : ℕ) → count < 2 ^ 64 → count ≡ counted_up 
 counted_up-zero count within = omega (arith, within)
 
 -- first so many more, then others
-pub counted_up-twice : (n k count : ℕ) → counted_up k (counted_up n count) ≡ counted_up (n + k) count
+pub counted_up-twice : (n k count : ℕ)
+    → counted_up k (counted_up n count) ≡ counted_up (n + k) count
 counted_up-twice n k count = omega arith
 
 module _ {K V P : Type 0} (lists : Lists K V P) (apart : AreApart lists) where
@@ -59,54 +56,55 @@ module _ {K V : Type 0} where
 
 module _ {K V P A T : Type 0} (may_count : ℕ → Type 0) (held : HeldItem K V)
     (rest : List (HeldItem K V)) (old : Contents K V P A T) (stands : old.lists.hot ≡ held ∷ rest)
-    where
-  -- its touches are those of its token
-  FirstTakes-true : (new : Contents K V P A T) → AreApart old.lists
-      → HasTakenTouches may_count held.token old new → FirstTakes true may_count held rest old new
-  FirstTakes-true new apart taken =
-      let is = IsItemOf-first_hot old.lists apart held rest taken.item stands taken.is_of in
-      let counts = with_counts taken.touched.mark taken.touched.reads in
-      let change = change-hot old.lists apart counts [] rest held stands in
-      let takes = subst (λ x. MayTake true default_mark_cut may_count x taken.touched) is taken.takes
-      in
-      let touched = TakesTouches-counts may_count held.item taken.touched takes in
-      record {
-        item = taken.touched;
-        takes = takes;
-        same = taken.same
-            ∙ ap (λ (l : Lists K V P). record old { lists = l }) change
-            ∙ ap (λ (x : Item K V). record old {
-              lists = record old.lists { hot = record held { item = x } ∷ rest };
-            }) touched;
-      }
+  where
+    -- its touches are those of its token
+    FirstTakes-true : (new : Contents K V P A T) → AreApart old.lists
+        → HasTakenTouches may_count held.token old new → FirstTakes true may_count held rest old new
+    FirstTakes-true new apart taken =
+        let is = IsItemOf-first_hot old.lists apart held rest taken.item stands taken.is_of in
+        let counts = with_counts taken.touched.mark taken.touched.reads in
+        let change = change-hot old.lists apart counts [] rest held stands in
+        let takes = subst (λ x. MayTake true default_mark_cut may_count x taken.touched) is
+        taken.takes
+        in
+        let touched = TakesTouches-counts may_count held.item taken.touched takes in
+        record {
+          item = taken.touched;
+          takes = takes;
+          same = taken.same
+              ∙ ap (λ (l : Lists K V P). record old { lists = l }) change
+              ∙ ap (λ (x : Item K V). record old {
+                lists = record old.lists { hot = record held { item = x } ∷ rest };
+              }) touched;
+        }
 
-  -- where it was to take none nothing changed
-  FirstTakes-false : (new : Contents K V P A T) → new ≡ old
-      → FirstTakes false may_count held rest old new
-  FirstTakes-false new same = record {
-    item = held.item;
-    takes = refl;
-    same = same ∙ ap (λ xs. record old { lists = record old.lists { hot = xs } }) stands;
-  }
+    -- where it was to take none nothing changed
+    FirstTakes-false : (new : Contents K V P A T) → new ≡ old
+        → FirstTakes false may_count held rest old new
+    FirstTakes-false new same = record {
+      item = held.item;
+      takes = refl;
+      same = same ∙ ap (λ xs. record old { lists = record old.lists { hot = xs } }) stands;
+    }
 
-  -- where it was to take touches, those of its token were taken
-  pub FirstTakes-taken : (takes_touches : Bool) (token : ℕ) (new taken : Contents K V P A T)
-      → takes_touches ≡ true → held.token ≡ token → AreApart old.lists
-      → HasTakenTouches may_count token old taken → new ≡ taken
-      → FirstTakes takes_touches may_count held rest old new
-  FirstTakes-taken takes_touches token new taken is_to is apart touched same =
-      subst (λ b. FirstTakes b may_count held rest old new) (sym is_to)
-      (FirstTakes-true new apart
-      (subst (λ n. HasTakenTouches may_count n old new) (sym is)
-      (subst (λ (c : Contents K V P A T). HasTakenTouches may_count token old c) (sym same)
-      touched)))
+    -- where it was to take touches, those of its token were taken
+    pub FirstTakes-taken : (takes_touches : Bool) (token : ℕ) (new taken : Contents K V P A T)
+        → takes_touches ≡ true → held.token ≡ token → AreApart old.lists
+        → HasTakenTouches may_count token old taken → new ≡ taken
+        → FirstTakes takes_touches may_count held rest old new
+    FirstTakes-taken takes_touches token new taken is_to is apart touched same =
+        subst (λ b. FirstTakes b may_count held rest old new) (sym is_to)
+        (FirstTakes-true new apart
+        (subst (λ n. HasTakenTouches may_count n old new) (sym is)
+        (subst (λ (c : Contents K V P A T). HasTakenTouches may_count token old c) (sym same)
+        touched)))
 
-  -- where it was to take none
-  pub FirstTakes-none : (takes_touches : Bool) (new : Contents K V P A T)
-      → takes_touches ≡ false → new ≡ old → FirstTakes takes_touches may_count held rest old new
-  FirstTakes-none takes_touches new is_to same =
-      subst (λ b. FirstTakes b may_count held rest old new) (sym is_to)
-      (FirstTakes-false new same)
+    -- where it was to take none
+    pub FirstTakes-none : (takes_touches : Bool) (new : Contents K V P A T)
+        → takes_touches ≡ false → new ≡ old → FirstTakes takes_touches may_count held rest old new
+    FirstTakes-none takes_touches new is_to same =
+        subst (λ b. FirstTakes b may_count held rest old new) (sym is_to)
+        (FirstTakes-false new same)
 
 module _ {K V P A T : Type 0} (takes_touches : Bool) (may_count : ℕ → Type 0)
     (held : HeldItem K V) (rest : List (HeldItem K V)) (old mid : Contents K V P A T) where
@@ -137,7 +135,8 @@ module _ {K V P A T : Type 0} (steady : Type 0) (pinned : K → V → Bool) (tak
   VisitsFirst-visited token named stands first apart visit =
       let visited = subst (λ n. IsVisited steady pinned n mid met new) (sym named) visit in
       let made : HeldItem K V = record held { item = first.item } in
-      let here : mid.lists.hot ≡ made ∷ rest = ap (λ (c : Contents K V P A T). c.lists.hot) first.same
+      let here : mid.lists.hot ≡ made ∷ rest =
+      ap (λ (c : Contents K V P A T). c.lists.hot) first.same
       in
       let is = IsItemOf-first_hot mid.lists apart made rest visited.item here visited.is_of in
       let change = change-hot mid.lists apart

@@ -1,10 +1,10 @@
 -- What rounds of a hot advance do to the contents of a cache.
-use Rattle.std.proofs.Common.{◌≡◌, ℕ, ◌+◌, ◌-◌, ◌*◌, ◌^◌, ◌<◌, ◌≤◌, Bool, true, false, List, [], ◌∷◌, ◌++◌, length, map}
-use Rattle.std.proofs.Common.{refl, sym, ap, ap₂, subst, ◌∙◌, arith}
+use Rattle.std.proofs.Common.{◌≡◌, ℕ, ◌+◌, ◌^◌, ◌<◌, Bool, true, false, List, [], ◌∷◌, ◌++◌, length}
+use Rattle.std.proofs.Common.{refl, sym, ap, subst, ◌∙◌, arith}
 use Rattle.std.specs.List.{AllByRecursion}
 use Rattle.std.proofs.lemmas.List.{length-map}
 use Rattle.quick_cache_model.specs.declared.queue.Queue.TheVariants.{Hot}
-use Rattle.quick_cache_model.specs.CacheState.{Item, IsValid, default_mark_cut}
+use Rattle.quick_cache_model.specs.CacheState.{Item, default_mark_cut}
 use Rattle.quick_cache_model.specs.Eviction.{lowered}
 use Rattle.quick_cache_model.specs.Touches.{counted_up}
 use Rattle.quick_cache_model.proofs.TouchLaws.{with_touches-key}
@@ -17,11 +17,11 @@ use Rattle.quick_cache_policy.specs.declared.hot.Round.TheVariants.{AllPinned as
 use Rattle.quick_cache_policy.specs.declared.hot.Visit.{Visit}
 use Rattle.quick_cache_policy.specs.declared.hot.Visit.TheVariants.{Pinned, Marked, Victim}
 use Rattle.quick_cache_policy.specs.Contents.{IsSound}
-use Rattle.quick_cache_policy.specs.HotRounds.{VisitsHot, VisitsFirst, RoundEnds, SeekEnds}
+use Rattle.quick_cache_policy.specs.HotRounds.{VisitsHot, VisitsFirst, RoundEnds}
 use Rattle.quick_cache_policy.specs.Rounds.{MayTake, Going, KeepsItems}
 use Rattle.quick_cache_policy.proofs.HotLemmas.{counted_up-zero, counted_up-twice}
 use Rattle.quick_cache_policy.proofs.EachLemmas.{each-append}
-use Rattle.quick_cache_policy.proofs.KeptLemmas.{Going-keeps, EndsAllPinned-keeps, EndsSomeUnpinned-keeps, EndsAtVictim-keeps}
+use Rattle.quick_cache_policy.proofs.KeptLemmas.{EndsAllPinned-keeps, EndsSomeUnpinned-keeps, EndsAtVictim-keeps}
 use Rattle.quick_cache_policy.proofs.RoundLemmas.{round-begins, Going-length, round-passes_pinned, round-passes_marked, round-stops, round-over_pinned, round-over_unpinned}
 
 module _ {K V P A T : Type 0} (hash : K → ℕ) where
@@ -63,7 +63,8 @@ module _ {K V P A T : Type 0} (hash : K → ℕ) where
       → KeepsItems default_mark_cut (items_of old.lists.hot) (items_of new.lists.hot)
       → IsSound ticket_of equal hash old → IsSound ticket_of equal hash new
   ChangesHot-sound ticket_of equal n old new changes keeps sound =
-      subst (λ (c : Contents K V P A T). IsSound ticket_of equal hash c) (sym changes.same) (record {
+      subst (λ (c : Contents K V P A T). IsSound ticket_of equal hash c) (sym changes.same)
+      (record {
         valid = record {
           one_entry_a_key = λ k. omega (
             arith,
@@ -109,9 +110,11 @@ module _ {K V P A T : Type 0} (hash : K → ℕ) (steady : Type 0) (pinned : K �
       hashed in
       record {
         hashed = subst (AllByRecursion (λ (h : HeldItem K V). h.hash ≡ hash h.item.key))
-            (sym (ap (λ (c : Contents K V P A T). c.lists.hot) v.same))
-            (under.0 ∙ ap hash (sym (MayTake-key takes_touches may_count v.held.item v.item
-            v.takes)), under.1);
+            (sym (ap (λ (c : Contents K V P A T). c.lists.hot) v.same)) (
+              under.0 ∙ ap hash (sym (MayTake-key takes_touches may_count v.held.item v.item
+                  v.takes)),
+              under.1,
+            );
         counted = ap (λ (c : Contents K V P A T). c.visits) v.same;
         same = ap (λ (c : Contents K V P A T). record c {
           lists = record c.lists { hot = new.lists.hot };
@@ -281,7 +284,7 @@ module _ {K V P A T : Type 0} (hash : K → ℕ) (steady : Type 0) (pinned : K �
       let ends : RoundEnds steady pinned takes_touches may_count round_victim
       (items_of old.lists.hot) (items_of new.lists.hot) (visited + 1) =
       subst (λ xs. RoundEnds steady pinned takes_touches may_count round_victim
-        (items_of old.lists.hot) xs (visited + 1)) (sym there)
+      (items_of old.lists.hot) xs (visited + 1)) (sym there)
       (round-stops steady pinned takes_touches default_mark_cut may_count
       (items_of old.lists.hot) visited unpinned (items_of now.lists.hot) v.held.item v.item
       (items_of v.rest) none_counted goes.going short (ap items_of v.stands) v.takes v.meets.0
@@ -294,11 +297,12 @@ module _ {K V P A T : Type 0} (hash : K → ℕ) (steady : Type 0) (pinned : K �
   -- a round that is over, with no unpinned item
   pub GoesRound-over_pinned : (ticket_of : P → ℕ) (equal : K → K → Bool) (visited : ℕ)
       (unpinned : Bool) (old now : Contents K V P A T) → unpinned ≡ false
-      → IsSound ticket_of equal hash old → GoesRound visited unpinned old now → visited ≡ length old.lists.hot
+      → IsSound ticket_of equal hash old → GoesRound visited unpinned old now
+      → visited ≡ length old.lists.hot
       → RoundDone ticket_of equal round_all_pinned old now
   GoesRound-over_pinned ticket_of equal visited unpinned old now is sound goes all =
       let going = subst (λ b. Going steady pinned takes_touches default_mark_cut may_count
-        (items_of old.lists.hot) visited b (items_of now.lists.hot)) is goes.going in
+      (items_of old.lists.hot) visited b (items_of now.lists.hot)) is goes.going in
       let whole : visited ≡ length (items_of old.lists.hot) =
       all ∙ sym (length_items old.lists.hot) in
       let ends : RoundEnds steady pinned takes_touches may_count round_all_pinned
@@ -312,11 +316,12 @@ module _ {K V P A T : Type 0} (hash : K → ℕ) (steady : Type 0) (pinned : K �
   -- a round that is over, with some
   pub GoesRound-over_unpinned : (ticket_of : P → ℕ) (equal : K → K → Bool) (visited : ℕ)
       (unpinned : Bool) (old now : Contents K V P A T) → unpinned ≡ true
-      → IsSound ticket_of equal hash old → GoesRound visited unpinned old now → visited ≡ length old.lists.hot
+      → IsSound ticket_of equal hash old → GoesRound visited unpinned old now
+      → visited ≡ length old.lists.hot
       → RoundDone ticket_of equal round_some_unpinned old now
   GoesRound-over_unpinned ticket_of equal visited unpinned old now is sound goes all =
       let going = subst (λ b. Going steady pinned takes_touches default_mark_cut may_count
-        (items_of old.lists.hot) visited b (items_of now.lists.hot)) is goes.going in
+      (items_of old.lists.hot) visited b (items_of now.lists.hot)) is goes.going in
       let whole : visited ≡ length (items_of old.lists.hot) =
       all ∙ sym (length_items old.lists.hot) in
       let ends : RoundEnds steady pinned takes_touches may_count round_some_unpinned

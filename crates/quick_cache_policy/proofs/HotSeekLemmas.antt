@@ -1,7 +1,6 @@
 -- Round after round of a hot advance, up to a victim, over the contents of a cache.
-use Rattle.std.proofs.Common.{◌≡◌, ℕ, ◌+◌, ◌*◌, ◌^◌, ◌<◌, ◌≤◌, Bool, true, false, List, length}
-use Rattle.std.proofs.Common.{refl, sym, ap, subst, ◌∙◌, arith}
-use Rattle.std.specs.List.{AllByRecursion}
+use Rattle.std.proofs.Common.{◌≡◌, ℕ, ◌+◌, ◌^◌, ◌<◌, Bool, true, false, length}
+use Rattle.std.proofs.Common.{refl, ◌∙◌}
 use Rattle.quick_cache_model.specs.declared.queue.Queue.TheVariants.{Hot}
 use Rattle.quick_cache_model.specs.CacheState.{default_mark_cut}
 use Rattle.quick_cache_lists.specs.Views.{items_of}
@@ -9,11 +8,11 @@ use Rattle.quick_cache_policy.specs.declared.contents.Contents.{Contents}
 use Rattle.quick_cache_policy.specs.declared.hot.Round.{Round}
 use Rattle.quick_cache_policy.specs.declared.hot.Round.TheVariants.{AllPinned as round_all_pinned, SomeUnpinned as round_some_unpinned, Victim as round_victim}
 use Rattle.quick_cache_policy.specs.Contents.{IsSound}
-use Rattle.quick_cache_policy.specs.HotRounds.{VisitsHot, RoundEnds, SeekEnds}
+use Rattle.quick_cache_policy.specs.HotRounds.{VisitsHot, SeekEnds}
 use Rattle.quick_cache_policy.specs.Rounds.{Advancing, HaveAtMost, advance_measure}
 use Rattle.quick_cache_policy.proofs.AdvanceLemmas.{advance-begins, advance-goes_on, advance-stops, advance-gives_up}
-use Rattle.quick_cache_policy.proofs.HotRoundLemmas.{ChangesHot, ChangesHot-none, ChangesHot-then, ChangesHot-sound, RoundDone}
-use Rattle.quick_cache_policy.proofs.KeptLemmas.{Advancing-keeps, HaveAtMost-ring}
+use Rattle.quick_cache_policy.proofs.HotRoundLemmas.{ChangesHot, ChangesHot-none, ChangesHot-then, RoundDone}
+use Rattle.quick_cache_policy.proofs.KeptLemmas.{HaveAtMost-ring}
 use Rattle.quick_cache_policy.proofs.MarkLemmas.{advance_measure-falls}
 
 module _ {K V P A T : Type 0} (ticket_of : P → ℕ) (equal : K → K → Bool) (hash : K → ℕ)
@@ -118,7 +117,8 @@ module _ {K V P A T : Type 0} (ticket_of : P → ℕ) (equal : K → K → Bool)
   -- and so was one that found all pinned
   pub SeeksVictim-gives_up : (takes_touches : Bool) (old now new : Contents K V P A T)
       → SeeksVictim takes_touches old now
-      → RoundDone hash steady pinned takes_touches may_count ticket_of equal round_all_pinned now new
+      → RoundDone hash steady pinned takes_touches may_count ticket_of equal round_all_pinned
+      now new
       → SeekDone false old new
   SeeksVictim-gives_up takes_touches old now new seeks done =
       let changes = ChangesHot-then hash seeks.visits done.ends.visits old now new seeks.changes

@@ -1,5 +1,5 @@
 -- How the rounds of a hot advance end, and what they do to the contents of a cache.
-use Rattle.std.specs.Prelude.{◌≡◌, ℕ, ◌-◌, Bool, true, false, List, ◌∷◌}
+use Rattle.std.specs.Prelude.{◌≡◌, ℕ, Bool, true, false, List, ◌∷◌}
 use Rattle.quick_cache_model.specs.CacheState.{Item, default_mark_cut}
 use Rattle.quick_cache_model.specs.Eviction.{lowered}
 use Rattle.quick_cache_model.specs.Touches.{counted_up}
@@ -13,7 +13,7 @@ use Rattle.quick_cache_policy.specs.Advances.{Meets}
 use Rattle.quick_cache_policy.specs.Rounds.{MayTake, AfterTouches, EndsAllPinned, EndsSomeUnpinned, EndsAtVictim, MeetsVictim, GivesUp}
 
 module _ {K V : Type 0} (steady : Type 0) (pinned : K → V → Bool) where
-  -- how a round of a ring ended, which the items' touches came before
+  -- how a round of a ring ended, told of the ring as touches left it
   abbrev pub EndsAs : Round → (old new : List (Item K V)) (visits : ℕ) → Type 0
   EndsAs round_all_pinned old new visits = EndsAllPinned steady pinned old new visits
   EndsAs round_some_unpinned old new visits = EndsSomeUnpinned steady pinned old new visits
@@ -26,7 +26,8 @@ module _ {K V : Type 0} (steady : Type 0) (pinned : K → V → Bool) where
       AfterTouches takes_touches default_mark_cut may_count old
       (λ mid. EndsAs end mid new visits)
 
-  -- how whole rounds of a ring ended: at a victim, or with none
+  -- how round after round of a ring ended, at a victim or with none, told of the ring as touches
+  -- left it
   abbrev pub EndsWith : (met : Bool) → (old new : List (Item K V)) (visits : ℕ) → Type 0
   EndsWith true old new visits = MeetsVictim steady pinned default_mark_cut old new visits
   EndsWith false old new visits = GivesUp steady pinned default_mark_cut old new visits
@@ -45,8 +46,8 @@ module _ {K V P A T : Type 0} where
     pub ends : Ends (items_of old.lists.hot) (items_of new.lists.hot) visits
     pub counted : new.visits ≡ counted_up visits old.visits
 
-  -- The first item of the hot ring took its touches, where it was to take them, and was visited: its
-  -- mark fell by one, not below 0, and the visit was counted.
+  -- The first item of the hot ring took its touches, where it was to take them, and was visited:
+  -- its mark fell by one, not below 0, and the visit was counted.
   pub record VisitsFirst (steady : Type 0) (pinned : K → V → Bool) (takes_touches : Bool)
       (may_count : ℕ → Type 0) (old : Contents K V P A T) (met : Visit)
       (new : Contents K V P A T) : Type 0 where

@@ -11,4 +11,5 @@ invariant-loop-takes_touches g l = SeeksVictim g.P.SharedPlaceholder.ticket_of g
     g.P.Touch.Touches.may_count l.takes_touches l.initial.self l.self
 
 abbrev pub decreases-loop-takes_touches : goal.decreases-loop-takes_touches
-decreases-loop-takes_touches g l = advance_measure l.takes_touches default_mark_cut (items_of l.self.lists.hot)
+decreases-loop-takes_touches g l =
+    advance_measure l.takes_touches default_mark_cut (items_of l.self.lists.hot)

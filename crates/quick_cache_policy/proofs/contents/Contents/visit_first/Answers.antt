@@ -14,7 +14,7 @@ visit-requires g c =
     let f = c.in-Some.ensures in
     let may_count = g.P.Touch.Touches.may_count in
     let first : FirstTakes c.args.takes_touches may_count f.0 f.1 c.args.self.now
-        c.if-takes_touches.self = elim c.if-takes_touches.branch [
+    c.if-takes_touches.self = elim c.if-takes_touches.branch [
       | then-takes_touches w ↦ FirstTakes-taken may_count f.0 f.1 c.args.self.now f.2 _ _ _ _
           w.if-takes_touches.true f.3 w.apart.ensures.apart w.take_touches.ensures w.self-is
       | else-takes_touches w ↦ FirstTakes-none may_count f.0 f.1 c.args.self.now f.2 _ _
@@ -28,7 +28,7 @@ returns g c =
     let f = c.in-Some.ensures in
     let may_count = g.P.Touch.Touches.may_count in
     let first : FirstTakes c.args.takes_touches may_count f.0 f.1 c.args.self.now
-        c.if-takes_touches.self = elim c.if-takes_touches.branch [
+    c.if-takes_touches.self = elim c.if-takes_touches.branch [
       | then-takes_touches w ↦ FirstTakes-taken may_count f.0 f.1 c.args.self.now f.2 _ _ _ _
           w.if-takes_touches.true f.3 w.apart.ensures.apart w.take_touches.ensures w.self-is
       | else-takes_touches w ↦ FirstTakes-none may_count f.0 f.1 c.args.self.now f.2 _ _
