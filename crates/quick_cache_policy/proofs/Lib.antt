@@ -11,3 +11,6 @@ pub mod HotSeekLemmas
 pub mod HotAdvanceLemmas
 pub mod VictimLemmas
 pub mod SoundLemmas
+pub mod FindLemmas
+pub mod AdmissionLemmas
+pub mod AnswerLemmas

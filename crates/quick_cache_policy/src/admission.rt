@@ -31,7 +31,7 @@ pub(crate) enum Admission<V> {
 }
 
 /// Tells a pair that leaves to the hook of its queue.
-pub(crate) fn report<K, V, M: Policy<K, V>>(
+pub(crate) fn report<K: Eq + Hash, V, M: Policy<K, V>>(
     queue: Queue,
     terms: &M,
     state: &mut M::RequestState,
@@ -100,6 +100,7 @@ impl<K: Eq + Hash + Drop, V: Drop, P: SharedPlaceholder<K>, A: Allocator> Conten
         let Found::Item(token) = found else {
             return;
         };
+        self.lists.apart();
         let slot = self.lists.take(token, false);
         match slot.entry {
             Entry::Item(item) => {

@@ -1,6 +1,7 @@
 //! What a cache goes by: how it hashes and weighs, which pairs stay, and who is told of those that
 //! leave.
-ghost use Rattle.std.specs.Prelude.{◌≡◌, ℕ, Bool};
+ghost use Rattle.std.specs.Prelude.{◌≡◌, ℕ, Bool, IsTrue};
+ghost use Rattle.std.proofs.Common.{ap};
 ghost use Rattle.quick_cache_model.specs.Hooks.{Hooks};
 ghost use Rattle.quick_cache_model.specs.Hashing.{hash_of};
 ghost use Rattle.quick_cache_policy.specs.Lifecycles.{hooks_by};
@@ -9,7 +10,7 @@ use quick_cache_model::{Lifecycle, Weighter, hash_of};
 use std::hash::{BuildHasher, Hash};
 
 /// What a cache goes by.
-pub trait Policy<K, V> {
+pub trait Policy<K: Eq + Hash, V> {
     /// What a call keeps between its hooks.
     type RequestState;
 
@@ -45,6 +46,10 @@ pub trait Policy<K, V> {
 
     fn on_evict_cold(&self, state: &mut Self::RequestState, key: K, value: V)
         ensures { (hooks self.now).evict_cold state.old key value state.new };
+
+    /// Equal keys have equal hashes.
+    ghost same_hash: { (terms : Self) (first second : K) → IsTrue (K.eq first second)
+        → hashed terms first ≡ hashed terms second };
 }
 
 /// The three things that a cache is made with.
@@ -63,6 +68,10 @@ impl<K: Eq + Hash + Drop, V: Drop, We: Weighter<K, V>, B: BuildHasher, L: Lifecy
 
     ghost hashed = { λ terms key.
         hash_of B.BuildHasher B.Hasher.Hasher terms.builder (K.hash_input key) };
+
+    ghost same_hash = { λ terms first second equal.
+        ap (hash_of B.BuildHasher B.Hasher.Hasher terms.builder)
+        (K.respects_eq first second equal) };
 
     ghost weight_of = { λ terms. We.weight_of terms.weigher };
 

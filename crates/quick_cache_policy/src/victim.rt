@@ -22,7 +22,7 @@ enum Fate<K, V, T> {
 }
 
 /// Tells an item to `before_evict`, which may change its value, and weighs it then.
-fn decide<K, V, T: Touches, M: Policy<K, V>>(
+fn decide<K: Eq + Hash, V, T: Touches, M: Policy<K, V>>(
     item: Resident<K, V, T>,
     terms: &M,
     state: &mut M::RequestState,
