@@ -122,8 +122,9 @@ module _ {K V P : Type 0} (hash : K → ℕ) where
 
 module _ {K V : Type 0} (rules : Rules K V) (equal : K → K → Bool) where
   -- from a valid state the first of a ring leads to a valid one
-  pub FirstIsEvicted-valid : (queue : Queue) (old new : CacheState K V) (calls : List (HookCall K V))
-      → FirstIsEvicted rules queue old calls new → IsValid equal old → IsValid equal new
+  pub FirstIsEvicted-valid : (queue : Queue) (old new : CacheState K V)
+      (calls : List (HookCall K V)) → FirstIsEvicted rules queue old calls new
+      → IsValid equal old → IsValid equal new
   FirstIsEvicted-valid queue old new calls first valid =
       SameButOrder-valid equal first.evicts.ordered new first.evicts.same
       (EvictsVictim-valid equal rules queue
@@ -141,7 +142,8 @@ module _ {K V : Type 0} (rules : Rules K V) (equal : K → K → Bool) where
           → items_at (ring_place queue) old ≡ item ∷ rest
           → item.mark ≤ (with_items (ring_place queue) rest old).mark_cut
       cut Hot rest item stands =
-          IsInPlace-marked (ring_place Hot) [] item rest old stands (IsValid-in_place equal old valid)
+          IsInPlace-marked (ring_place Hot) [] item rest old stands
+          (IsValid-in_place equal old valid)
       cut Cold rest item stands =
           IsInPlace-marked (ring_place Cold) [] item rest old stands
           (IsValid-in_place equal old valid)
@@ -181,6 +183,7 @@ module _ {K V : Type 0} (rules : Rules K V) where
       ap (λ (s : CacheState K V). s.cold) first.evicts.same.same
       ∙ (EvictsVictim-rings Hot _ _ first.item calls first.evicts.holds).1
 
+  -- that of a cold victim is the hot one
   pub FirstIsEvicted-hot_stays : (old new : CacheState K V) (calls : List (HookCall K V))
       → FirstIsEvicted rules Cold old calls new → new.hot ≡ old.hot
   FirstIsEvicted-hot_stays old new calls first =
@@ -327,23 +330,29 @@ module _ {K V P A T : Type 0} (ticket_of : P → ℕ) (contents : Contents K V P
   -- once some ghosts went from the lists without a cold item
   pub without-ghosts : (mid : Lists K V P) (rest : List (HeldItem K V)) (ghosts : List HeldGhost)
       (new : Contents K V P A T) → mid ≡ record contents.lists { cold = rest; ghosts = ghosts }
-      → new ≡ record contents { lists = record mid {
-        ghosts = new.lists.ghosts;
-        next = new.lists.next;
-        room = new.lists.room;
-      } }
-      → new ≡ record contents { lists = record contents.lists {
-        cold = rest;
-        ghosts = new.lists.ghosts;
-        next = new.lists.next;
-        room = new.lists.room;
-      } }
+      → new ≡ record contents {
+        lists = record mid {
+          ghosts = new.lists.ghosts;
+          next = new.lists.next;
+          room = new.lists.room;
+        };
+      }
+      → new ≡ record contents {
+        lists = record contents.lists {
+          cold = rest;
+          ghosts = new.lists.ghosts;
+          next = new.lists.next;
+          room = new.lists.room;
+        };
+      }
   without-ghosts mid rest ghosts new is same =
-      same ∙ ap (λ (l : Lists K V P). record contents { lists = record l {
-        ghosts = new.lists.ghosts;
-        next = new.lists.next;
-        room = new.lists.room;
-      } }) is
+      same ∙ ap (λ (l : Lists K V P). record contents {
+        lists = record l {
+          ghosts = new.lists.ghosts;
+          next = new.lists.next;
+          room = new.lists.room;
+        };
+      }) is
 
   -- what is sound stays so where the first of a ring leaves, and its key is under its hash
   pub IsSound-evicted : (rules : Rules K V) (equal : K → K → Bool) (hash : K → ℕ) (queue : Queue)
@@ -391,6 +400,7 @@ module _ {K V P A T : Type 0} (ticket_of : P → ℕ) (contents : Contents K V P
           length-map contents.lists.cold (λ (h : HeldItem K V). h.item),
         )
 
+    -- that of a cold victim is the hot one
     pub hot_count-stays : (calls : List (HookCall K V)) (new : Lists K V P)
         → FirstIsEvicted rules Cold (state_of ticket_of contents) calls
         (state_of ticket_of (record contents { lists = new }))
@@ -437,8 +447,9 @@ module _ {K V P A T : Type 0} (ticket_of : P → ℕ) (contents : Contents K V P
         → IsSound ticket_of equal hash contents
         → IsSound ticket_of equal hash (record contents { lists = new })
     IsSound-promoted equal hash new split is sound =
-        let cold = subst (λ (l : List (HeldItem K V)). AllByRecursion (λ h. h.hash ≡ hash h.item.key)
-        l) split sound.hashed.cold in
+        let cold = subst
+        (λ (l : List (HeldItem K V)). AllByRecursion (λ h. h.hash ≡ hash h.item.key) l) split
+        sound.hashed.cold in
         record {
           valid = FirstIsPromoted-valid equal _ _ (FirstIsPromoted-from new split is) sound.valid;
           sized = sound.sized;

@@ -1,4 +1,5 @@
--- What the lists are once a ghost stands for the first cold item, or the oldest ghost went.
+-- What the lists are once the first item of a ring left it: it stays without weight, or a ghost
+-- stands for it, or it is put among the hot ones.
 use Rattle.std.proofs.Common.{◌≡◌, ℕ, ◌+◌, ◌-◌, ◌<◌, ◌≤◌, Bool, false, if◌then◌else◌, List, [], ◌∷◌, ◌++◌, length, drop, refl, sym, ap, subst, ◌∙◌, arith}
 use Rattle.std.proofs.lemmas.Bool.{ne_eqb}
 use Rattle.std.proofs.lemmas.List.{map-append, length-map, length-append}
@@ -164,7 +165,8 @@ module _ {K V P : Type 0} where
   Requeues-promotes lists new apart held rest t mark weight split is weighs weight_is mark_is
       requeues =
       let found = first-item lists apart held rest Cold
-      (record { token = t; hash = requeues.hash; item = requeues.item }) split requeues.taken (sym is)
+      (record { token = t; hash = requeues.hash; item = requeues.item }) split requeues.taken
+      (sym is)
       in
       let item : requeued Hot mark weight requeues.item
       ≡ record held.item { mark = held.item.mark - 1; queue = Hot } =

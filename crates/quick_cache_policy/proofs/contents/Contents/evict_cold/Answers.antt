@@ -21,10 +21,14 @@ use Rattle.quick_cache_policy.proofs.contents.Contents.evict_cold.Goals as goal
 pub replace-requires : goal.replace-requires
 replace-requires g c =
     let first = c.requires.first in
-    inl (first.0, record {
-      place = ring_place Cold;
-      stands = record { before = []; after = first.1; split = first.2 };
-    }, first.3)
+    inl (
+      first.0,
+      record {
+        place = ring_place Cold;
+        stands = record { before = []; after = first.1; split = first.2 };
+      },
+      first.3,
+    )
 
 -- its token has no placeholder
 pub unreachable-requires : goal.unreachable-requires
@@ -58,6 +62,7 @@ forget_oldest-requires g c =
           c.requires.sound.valid.ghosts_within;
     }
 
+-- the ghost goes again where the victim stays among the weightless
 pub returns-in-Stays-clause-evicts : goal.returns-in-Stays-clause-evicts
 returns-in-Stays-clause-evicts g c =
     let first = c.requires.first in
@@ -73,16 +78,16 @@ returns-in-Stays-clause-evicts g c =
     (subst (λ e. IsEntry lists t hash e) c.in-Item.is c.replace.ensures.taken) in
     let is = Replaces-ghost lists apart first.0 first.1 t c.replace.result c.replace.new.self
     c.replace.ensures first.2 first.3 in
-    let order = Replaces-stays lists c.replace.new.self c.apart-in-Stays.ensures.apart first.1 t hash
-    item kept kept.value c.replace-in-Stays.result new is c.in-Stays.ensures.2
+    let order = Replaces-stays lists c.replace.new.self c.apart-in-Stays.ensures.apart first.1 t
+    hash item kept kept.value c.replace-in-Stays.result new is c.in-Stays.ensures.2
     c.replace-in-Stays.ensures in
     record {
       calls = BeforeEvict item.key item.value kept.value ∷ [];
       holds = (
         FirstIsEvicted-stays g.P.SharedPlaceholder.ticket_of contents
-        (rules_by g.M.Policy g.P.Touch.Touches.may_count c.args.terms.now)
-        (record { token = t; hash = hash; item = item }) first.1 Cold t hash new.next new.room
-        kept.value new split c.in-Stays.ensures.1 order,
+            (rules_by g.M.Policy g.P.Touch.Touches.may_count c.args.terms.now)
+            (record { token = t; hash = hash; item = item }) first.1 Cold t hash new.next new.room
+            kept.value new split c.in-Stays.ensures.1 order,
         AreEvictions.stays item.key item.value kept.value [] AreEvictions.none,
       );
       runs = (c.decide.new.state, c.in-Stays.ensures.0, refl);
@@ -103,16 +108,16 @@ returns-in-Stays-clause-sound g c =
     (subst (λ e. IsEntry lists t hash e) c.in-Item.is c.replace.ensures.taken) in
     let is = Replaces-ghost lists apart first.0 first.1 t c.replace.result c.replace.new.self
     c.replace.ensures first.2 first.3 in
-    let order = Replaces-stays lists c.replace.new.self c.apart-in-Stays.ensures.apart first.1 t hash
-    item kept kept.value c.replace-in-Stays.result new is c.in-Stays.ensures.2
+    let order = Replaces-stays lists c.replace.new.self c.apart-in-Stays.ensures.apart first.1 t
+    hash item kept kept.value c.replace-in-Stays.result new is c.in-Stays.ensures.2
     c.replace-in-Stays.ensures in
     let evicts = returns-in-Stays-clause-evicts g c in
     IsSound-evicted g.P.SharedPlaceholder.ticket_of contents
     (rules_by g.M.Policy g.P.Touch.Touches.may_count c.args.terms.now) g.K.PartialEq.eq
     (g.M.Policy.hashed c.args.terms.now) Cold evicts.calls new evicts.holds.0 c.requires.sound
     (AreHashed-stays (g.M.Policy.hashed c.args.terms.now) Cold
-    (record { token = t; hash = hash; item = item }) first.1 lists new new.next new.room t kept.value
-    split c.requires.sound.hashed order)
+    (record { token = t; hash = hash; item = item }) first.1 lists new new.next new.room t
+    kept.value split c.requires.sound.hashed order)
 
 pub returns-in-Stays-clause-falls : goal.returns-in-Stays-clause-falls
 returns-in-Stays-clause-falls g c =
@@ -126,6 +131,7 @@ returns-in-Stays-clause-hot g c =
     (rules_by g.M.Policy g.P.Touch.Touches.may_count c.args.terms.now) _
     c.replace-in-Stays.new.self (returns-in-Stays-clause-evicts g c).holds.0
 
+-- it is the newest where the victim leaves
 pub returns-in-Leaves-clause-evicts : goal.returns-in-Leaves-clause-evicts
 returns-in-Leaves-clause-evicts g c =
     let first = c.requires.first in
@@ -151,22 +157,28 @@ returns-in-Leaves-clause-evicts g c =
       calls = BeforeEvict item.key item.value left ∷ EvictCold item.key left ∷ [];
       holds = (
         subst (λ (s : Contents _ _ _ _ _). FirstIsEvicted rules Cold
-        (state_of g.P.SharedPlaceholder.ticket_of contents)
-        (BeforeEvict item.key item.value left ∷ EvictCold item.key left ∷ [])
-        (state_of g.P.SharedPlaceholder.ticket_of s))
-        (sym (without-ghosts g.P.SharedPlaceholder.ticket_of contents mid first.1 _ new is
-        c.forget_oldest.ensures.same))
-        (FirstIsEvicted-cold g.P.SharedPlaceholder.ticket_of contents rules
-        (record { token = t; hash = hash; item = item }) first.1 new.lists.ghosts new.lists.next
-        new.lists.room left _ split c.in-Leaves.ensures.1 refl
-        (c.forget_oldest.ensures.ghosts
-        ∙ newest-hashes contents.ghost_limit mid.ghosts _ hashes)),
+            (state_of g.P.SharedPlaceholder.ticket_of contents)
+            (BeforeEvict item.key item.value left ∷ EvictCold item.key left ∷ [])
+            (state_of g.P.SharedPlaceholder.ticket_of s))
+            (sym (without-ghosts g.P.SharedPlaceholder.ticket_of contents mid first.1 _ new is
+            c.forget_oldest.ensures.same))
+            (FirstIsEvicted-cold g.P.SharedPlaceholder.ticket_of contents rules
+            (record { token = t; hash = hash; item = item }) first.1 new.lists.ghosts new.lists.next
+            new.lists.room left _ split c.in-Leaves.ensures.1 refl
+            (c.forget_oldest.ensures.ghosts
+            ∙ newest-hashes contents.ghost_limit mid.ghosts _ hashes)),
         AreEvictions.leaves Cold item.key item.value left [] AreEvictions.none,
       );
-      runs = (c.decide.new.state, c.in-Leaves.ensures.0,
-        (c.on_evict_cold.new.state,
+      runs = (
+        c.decide.new.state,
+        c.in-Leaves.ensures.0,
+        (
+          c.on_evict_cold.new.state,
           subst (λ k. (g.M.Policy.hooks c.args.terms.now).evict_cold c.decide.new.state k left
-          c.on_evict_cold.new.state) c.in-Leaves.ensures.2 c.on_evict_cold.ensures, refl));
+              c.on_evict_cold.new.state) c.in-Leaves.ensures.2 c.on_evict_cold.ensures,
+          refl,
+        ),
+      );
     }
 
 pub returns-in-Leaves-clause-sound : goal.returns-in-Leaves-clause-sound

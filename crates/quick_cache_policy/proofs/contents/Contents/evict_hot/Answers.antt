@@ -19,10 +19,14 @@ use Rattle.quick_cache_policy.proofs.contents.Contents.evict_hot.Goals as goal
 pub take-slot-requires : goal.take-slot-requires
 take-slot-requires g c =
     let first = c.requires.first in
-    inl (first.0, record {
-      place = ring_place Hot;
-      stands = record { before = []; after = first.1; split = first.2 };
-    }, first.3)
+    inl (
+      first.0,
+      record {
+        place = ring_place Hot;
+        stands = record { before = []; after = first.1; split = first.2 };
+      },
+      first.3,
+    )
 
 -- its token has no placeholder
 pub unreachable-requires : goal.unreachable-requires
@@ -42,6 +46,7 @@ unreachable-requires-in-Ghost g c =
     (subst (λ e. IsEntry lists (number c.args.token) c.take-slot.result.hash e) c.in-Ghost.is
     c.take-slot.ensures.taken) (sym first.3)
 
+-- a victim that weighs nothing any more is put among the weightless
 pub returns-in-Stays-clause-evicts : goal.returns-in-Stays-clause-evicts
 returns-in-Stays-clause-evicts g c =
     let first = c.requires.first in
@@ -56,9 +61,9 @@ returns-in-Stays-clause-evicts g c =
     c.take-slot.ensures.taken) in
     let taken = c.take-slot.ensures.rest
     ∙ without-first lists apart first.0 first.1 Hot t first.2 first.3 in
-    let told = subst (λ (i : Item _ _). Decides {T = g.row.P-Touch.Denot} rules.weight (g.M.Policy.hooks c.args.terms.now) i
-    c.args.state.now (fate_stays c.in-Stays.item) c.decide.new.state) c.in-Item.item-is
-    c.in-Stays.ensures in
+    let told = subst (λ (i : Item _ _). Decides {T = g.row.P-Touch.Denot} rules.weight
+    (g.M.Policy.hooks c.args.terms.now) i c.args.state.now (fate_stays c.in-Stays.item)
+    c.decide.new.state) c.in-Item.item-is c.in-Stays.ensures in
     let order = PutsLast-stays c.take-slot.new.self (record lists { hot = first.1 }) c.put.new.self
     t (lists.room + 1) (number c.put.result) c.take-slot.result.hash item c.in-Stays.item
     c.in-Stays.item.value taken told.2 c.put.ensures.last in
@@ -66,14 +71,15 @@ returns-in-Stays-clause-evicts g c =
       calls = BeforeEvict item.key item.value c.in-Stays.item.value ∷ [];
       holds = (
         FirstIsEvicted-stays g.P.SharedPlaceholder.ticket_of contents rules
-        (record { token = t; hash = c.take-slot.result.hash; item = item }) first.1 Hot
-        (number c.put.result) c.take-slot.result.hash c.put.new.self.next c.put.new.self.room
-        c.in-Stays.item.value c.put.new.self split told.1 order,
+            (record { token = t; hash = c.take-slot.result.hash; item = item }) first.1 Hot
+            (number c.put.result) c.take-slot.result.hash c.put.new.self.next c.put.new.self.room
+            c.in-Stays.item.value c.put.new.self split told.1 order,
         AreEvictions.stays item.key item.value c.in-Stays.item.value [] AreEvictions.none,
       );
       runs = (c.decide.new.state, told.0, refl);
     }
 
+-- one that weighs something is told to its hook
 pub returns-in-Leaves-clause-evicts : goal.returns-in-Leaves-clause-evicts
 returns-in-Leaves-clause-evicts g c =
     let first = c.requires.first in
@@ -88,23 +94,30 @@ returns-in-Leaves-clause-evicts g c =
     c.take-slot.ensures.taken) in
     let taken = c.take-slot.ensures.rest
     ∙ without-first lists apart first.0 first.1 Hot t first.2 first.3 in
-    let told = subst (λ (i : Item _ _). Decides {T = g.row.P-Touch.Denot} rules.weight (g.M.Policy.hooks c.args.terms.now) i
-    c.args.state.now (fate_leaves c.in-Leaves.key c.in-Leaves.value) c.decide.new.state)
+    let told = subst (λ (i : Item _ _). Decides {T = g.row.P-Touch.Denot} rules.weight
+    (g.M.Policy.hooks c.args.terms.now) i c.args.state.now
+    (fate_leaves c.in-Leaves.key c.in-Leaves.value) c.decide.new.state)
     c.in-Item.item-is c.in-Leaves.ensures in
     record {
       calls = BeforeEvict item.key item.value c.in-Leaves.value
           ∷ EvictHot item.key c.in-Leaves.value ∷ [];
       holds = (
         FirstIsEvicted-hot g.P.SharedPlaceholder.ticket_of contents rules
-        (record { token = t; hash = c.take-slot.result.hash; item = item }) first.1 t
-        (lists.room + 1) c.in-Leaves.value c.take-slot.new.self split told.1 taken,
+            (record { token = t; hash = c.take-slot.result.hash; item = item }) first.1 t
+            (lists.room + 1) c.in-Leaves.value c.take-slot.new.self split told.1 taken,
         AreEvictions.leaves Hot item.key item.value c.in-Leaves.value [] AreEvictions.none,
       );
-      runs = (c.decide.new.state, told.0,
-        (c.on_evict_hot.new.state,
+      runs = (
+        c.decide.new.state,
+        told.0,
+        (
+          c.on_evict_hot.new.state,
           subst (λ k. (g.M.Policy.hooks c.args.terms.now).evict_hot c.decide.new.state k
-          c.in-Leaves.value c.on_evict_hot.new.state) told.2
-          c.on_evict_hot.ensures, refl));
+              c.in-Leaves.value c.on_evict_hot.new.state) told.2
+              c.on_evict_hot.ensures,
+          refl,
+        ),
+      );
     }
 
 pub returns-in-Stays-clause-sound : goal.returns-in-Stays-clause-sound

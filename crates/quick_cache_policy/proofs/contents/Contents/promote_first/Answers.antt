@@ -12,11 +12,14 @@ use Rattle.quick_cache_policy.proofs.contents.Contents.promote_first.Goals as go
 -- the first of the cold ring stands there
 pub item-item-requires : goal.item-item-requires
 item-item-requires g c =
-    let first = c.in-Some.ensures in
-    (first.0, record {
-      place = ring_place Cold;
-      stands = record { before = []; after = first.1; split = first.2 };
-    }, first.3)
+    let first = c.in-Some.ensures in (
+      first.0,
+      record {
+        place = ring_place Cold;
+        stands = record { before = []; after = first.1; split = first.2 };
+      },
+      first.3,
+    )
 
 pub returns-clause-promotes : goal.returns-clause-promotes
 returns-clause-promotes g c =
