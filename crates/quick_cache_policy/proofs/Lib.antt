@@ -14,3 +14,5 @@ pub mod SoundLemmas
 pub mod FindLemmas
 pub mod AdmissionLemmas
 pub mod AnswerLemmas
+pub mod EnterLemmas
+pub mod LookupLemmas
