@@ -19,3 +19,4 @@ pub mod RewriteLemmas
 pub mod CallerLemmas
 pub mod OneEntryLemmas
 pub mod WalkLemmas
+pub mod StandingLemmas

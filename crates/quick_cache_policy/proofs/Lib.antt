@@ -4,8 +4,15 @@ pub mod SeenLemmas
 pub mod RoundLemmas
 pub mod AdvanceLemmas
 pub mod KeptLemmas
+pub mod ItemLemmas
+pub mod HotLemmas
+pub mod HotRoundLemmas
+pub mod HotSeekLemmas
+pub mod HotAdvanceLemmas
 pub mod VictimLemmas
 pub mod SoundLemmas
 pub mod FindLemmas
 pub mod AdmissionLemmas
 pub mod AnswerLemmas
+pub mod EnterLemmas
+pub mod LookupLemmas

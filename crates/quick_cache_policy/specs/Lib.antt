@@ -4,5 +4,6 @@ pub mod Policies
 pub mod Work
 pub mod Rounds
 pub mod Advances
+pub mod HotRounds
 pub mod Writing
 pub mod Finding

@@ -1,12 +1,13 @@
 //! Hot advances: items are visited from the head of the hot ring, round and round, and pay a mark
 //! each time, up to the first that is not pinned and has no mark to pay.
-ghost use Rattle.std.specs.Prelude.{◌≡◌, ℕ, ◌+◌, ◌≤◌, if◌then◌else◌};
+ghost use Rattle.std.specs.Prelude.{◌≡◌, ℕ, ◌+◌, ◌<◌, ◌≤◌, if◌then◌else◌};
 ghost use Rattle.std.specs.Int.NonZero.{non_zero_u32_get as number};
 ghost use Rattle.quick_cache_lists.specs.Lists.{HasItemToken};
 ghost use Rattle.quick_cache_model.specs.Eviction.{AdvancesHot};
 ghost use Rattle.quick_cache_model.specs.Hooks.{Calls};
 ghost use Rattle.quick_cache_policy.specs.Advances.{Evicting, HasTakenTouches, IsVisited};
 ghost use Rattle.quick_cache_policy.specs.Contents.{IsSound, state_of, ring_count, work_of};
+ghost use Rattle.quick_cache_policy.specs.HotRounds.{VisitsHot, VisitsFirst, RoundEnds, SeekEnds};
 ghost use Rattle.quick_cache_policy.specs.Policies.{rules_by};
 ghost use Rattle.quick_cache_policy.specs.Work.{PaysFor};
 
@@ -76,18 +77,41 @@ impl<K: Eq + Hash + Drop, V: Drop, P: SharedPlaceholder<K>, A: Allocator> Conten
         Visit::Victim
     }
 
+    /// Visits the first item of the hot ring. Where it is to take its touches it takes them before.
+    fn visit_first<M: Policy<K, V>>(&mut self, takes_touches: bool, terms: &M) -> Visit
+        requires there { 0 < ring_count Queue.Hot self.old }
+        ensures { VisitsFirst (M.steady terms.now) (M.pinned terms.now) takes_touches
+            P.Touch.may_count self.old result self.new }
+    {
+        let Some(token) = self.lists.first(Queue::Hot) else {
+            unreachable!();
+        };
+        if takes_touches {
+            self.lists.apart();
+            self.take_touches(token);
+        }
+        self.lists.apart();
+        self.visit(token, terms)
+    }
+
     /// Visits each item of the hot ring once, up to a victim. In the first round of an advance each
     /// takes its touches before.
-    fn go_round<M: Policy<K, V>>(&mut self, takes_touches: bool, terms: &M) -> Round {
+    fn go_round<M: Policy<K, V>>(&mut self, takes_touches: bool, terms: &M) -> Round
+        requires sound { IsSound P.ticket_of K.eq (M.hashed terms.now) self.old }
+        ensures ends { VisitsHot (RoundEnds (M.steady terms.now) (M.pinned terms.now) takes_touches
+            P.Touch.may_count result) self.old self.new }
+        ensures sound { IsSound P.ticket_of K.eq (M.hashed terms.now) self.new }
+        ensures count { ring_count Queue.Hot self.new ≡ ring_count Queue.Hot self.old }
+        ensures same { self.new ≡ record self.old {
+          lists = record self.old.lists { hot = self.new.lists.hot };
+          visits = self.new.visits;
+        } }
+    {
+        // Read for the proof: the count is within its type.
+        let _visits = self.visits;
         let mut is_unpinned = false;
         for _ in 0..self.lists.count(Queue::Hot) {
-            let Some(token) = self.lists.first(Queue::Hot) else {
-                unreachable!();
-            };
-            if takes_touches {
-                self.take_touches(token);
-            }
-            match self.visit(token, terms) {
+            match self.visit_first(takes_touches, terms) {
                 Visit::Pinned => {}
                 Visit::Marked => {
                     is_unpinned = true;
@@ -106,7 +130,19 @@ impl<K: Eq + Hash + Drop, V: Drop, P: SharedPlaceholder<K>, A: Allocator> Conten
 
     /// Goes round and round the hot ring, up to a victim, which is the first item then. Where all
     /// are pinned there is none.
-    fn seek_victim<M: Policy<K, V>>(&mut self, terms: &M) -> bool {
+    fn seek_victim<M: Policy<K, V>>(&mut self, terms: &M) -> bool
+        requires sound { IsSound P.ticket_of K.eq (M.hashed terms.now) self.old }
+        ensures ends { VisitsHot (SeekEnds (M.steady terms.now) (M.pinned terms.now)
+            P.Touch.may_count result) self.old self.new }
+        ensures sound { IsSound P.ticket_of K.eq (M.hashed terms.now) self.new }
+        ensures count { ring_count Queue.Hot self.new ≡ ring_count Queue.Hot self.old }
+        ensures same { self.new ≡ record self.old {
+          lists = record self.old.lists { hot = self.new.lists.hot };
+          visits = self.new.visits;
+        } }
+    {
+        // Read for the proof: the count is within its type.
+        let _visits = self.visits;
         let mut takes_touches = true;
         loop {
             match self.go_round(takes_touches, terms) {

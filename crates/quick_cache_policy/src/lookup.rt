@@ -1,7 +1,7 @@
 //! Look-ups and removals.
 ghost use Rattle.std.specs.Prelude.{◌≡◌, ℕ, ◌≤◌, MatchOption};
 ghost use Rattle.quick_cache_model.specs.Removal.{Removes};
-ghost use Rattle.quick_cache_model.specs.CacheState.{UpToOrder};
+ghost use Rattle.quick_cache_model.specs.CacheState.{UpToOrder, IsValid};
 ghost use Rattle.quick_cache_policy.specs.Contents.{IsSound, state_of};
 ghost use Rattle.quick_cache_policy.specs.Finding.{AreUnder, IsLookedUp, IsMissed};
 
@@ -16,6 +16,7 @@ use std::hash::Hash;
 impl<K: Eq + Hash, V, P: SharedPlaceholder<K>, A: Allocator> Contents<K, V, P, A> {
     /// Takes note of a look-up: the item is marked and read, and a hit is counted, or a miss.
     pub fn look_up<Q: Equivalent<K>>(&mut self, hash: u64, query: &Q) -> Option<Token>
+        requires valid { IsValid K.eq (state_of P.ticket_of self.old) }
         requires under { AreUnder (Q.equivalent query.now) hash self.old.lists }
         ensures looks_up { MatchOption result
             (IsMissed P.ticket_of (Q.equivalent query.now) self.old self.new)
@@ -29,6 +30,7 @@ impl<K: Eq + Hash, V, P: SharedPlaceholder<K>, A: Allocator> Contents<K, V, P, A
           misses = self.new.misses;
         } }
     {
+        self.lists.apart();
         let Found::Item(token) = self.lists.find(hash, query) else {
             self.misses = self.misses.saturating_add(1);
             return None;
@@ -56,6 +58,7 @@ impl<K: Eq + Hash, V, P: SharedPlaceholder<K>, A: Allocator> Contents<K, V, P, A
         ensures room { self.old.lists.room ≤ self.new.lists.room }
         ensures same { self.new ≡ record self.old { lists = self.new.lists } }
     {
+        self.lists.apart();
         match self.lists.find(hash, query) {
             Found::Item(token) => {
                 let slot = self.lists.take(token, false);
