@@ -52,7 +52,8 @@ module _ {K V : Type 0} where
       hot = old.hot ++ record item { mark = item.mark - 1; queue = Hot } ∷ [];
     }
 
-  -- what a visit to an item met: its mark is known, and where pinning is steady, whether it is pinned
+  -- what a visit to an item met: its mark is known, and where pinning is steady, whether it is
+  -- pinned
   abbrev pub Meets : (steady : Type 0) → (pinned : K → V → Bool) → Item K V → Visit → Type 0
   Meets steady pinned item Pinned = steady → pinned item.key item.value ≡ true
   Meets steady pinned item Marked =

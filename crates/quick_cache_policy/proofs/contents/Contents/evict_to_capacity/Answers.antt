@@ -41,7 +41,8 @@ returns-then-not-advance_cold-clause-evicts g c =
       weight_of-items c.loop-self.self.lists.cold,
     ) in
     GoesOn-stops (g.M.Policy.hooks c.args.terms.now) (g.M.Policy.steady c.args.terms.now)
-    (EvictsToCapacity rules c.args.need) (state_of g.P.SharedPlaceholder.ticket_of c.args.self.now) mid
+    (EvictsToCapacity rules c.args.need)
+    (state_of g.P.SharedPlaceholder.ticket_of c.args.self.now) mid
     c.args.state.now c.loop-self.state c.loop-self.invariant.so_far (AdvancesCold rules mid false)
     (state_of g.P.SharedPlaceholder.ticket_of c.advance_cold.new.self) c.advance_cold.new.state
     c.if-not-advance_cold.ensures.advances
@@ -80,7 +81,8 @@ loop-self-preserved g c =
           (state_of g.P.SharedPlaceholder.ticket_of c.args.self.now) mid c.args.state.now
           c.loop-self.state i.so_far (AdvancesCold rules mid true) new c.advance_cold.new.state
           e.advances
-          (λ calls rest end. EvictsToCapacity-goes_on rules c.args.need mid new end calls rest above);
+          (λ calls rest end.
+          EvictsToCapacity-goes_on rules c.args.need mid new end calls rest above);
       sound = e.sound;
       room = omega (arith, i.room, e.room);
       work = PaysFor-then 0 0 (length c.args.self.now.lists.hot)
@@ -112,6 +114,7 @@ returns-clause-evicts g c =
       weight_of-items c.loop-self.self.lists.cold,
     ) in
     GoesOn-ends (g.M.Policy.hooks c.args.terms.now) (g.M.Policy.steady c.args.terms.now)
-    (EvictsToCapacity rules c.args.need) (state_of g.P.SharedPlaceholder.ticket_of c.args.self.now) mid
+    (EvictsToCapacity rules c.args.need)
+    (state_of g.P.SharedPlaceholder.ticket_of c.args.self.now) mid
     c.args.state.now c.loop-self.state c.loop-self.invariant.so_far
     (EvictsToCapacity-has_room rules c.args.need mid mid within (SameButOrder-refl mid))

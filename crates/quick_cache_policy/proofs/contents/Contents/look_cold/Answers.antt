@@ -68,8 +68,11 @@ returns-clause-looks g c =
     first-looked c.apart.ensures.apart c.in-Some.ensures c.take_touches.ensures
     (g.M.Policy.steady c.args.terms.now) (g.M.Policy.pinned c.args.terms.now) AllPassed
     (record {
-      unmarked = omega (arith, c.if-mark-gt0.false, c.mark.ensures, ap (λ (i : Item _ _). i.mark) is);
-      pinned_there = λ steady. ap (λ (i : Item _ _). g.M.Policy.pinned c.args.terms.now i.key i.value) (sym is)
+      unmarked =
+          omega
+          (arith, c.if-mark-gt0.false, c.mark.ensures, ap (λ (i : Item _ _). i.mark) is);
+      pinned_there = λ steady.
+          ap (λ (i : Item _ _). g.M.Policy.pinned c.args.terms.now i.key i.value) (sym is)
           ∙ ap₂ (g.M.Policy.pinned c.args.terms.now) (sym c.key.ensures) (sym c.value.ensures)
           ∙ sym (c.is_pinned.ensures steady) ∙ c.if-not-is_pinned.false;
     })
