@@ -16,3 +16,9 @@ pub mod AdmissionLemmas
 pub mod AnswerLemmas
 pub mod EnterLemmas
 pub mod LookupLemmas
+pub mod ColdSoundLemmas
+pub mod ColdLemmas
+pub mod FirstLemmas
+pub mod WorkLemmas
+pub mod LoopLemmas
+pub mod ColdAdvances

@@ -1,14 +1,13 @@
 -- How room is made: the steps of advances, and the hook calls that they make.
-use Rattle.std.specs.Prelude.{◌≡◌, ◌≢◌, ℕ, ◌+◌, ◌-◌, ◌<◌, ◌≤◌, Bool, true, false, List, [], ◌∷◌, ◌++◌}
+use Rattle.std.specs.Prelude.{◌≡◌, ℕ, ◌-◌, ◌<◌, Bool, true, false, List, [], ◌∷◌, ◌++◌}
 use Rattle.std.specs.List.{AllByRecursion}
-use Rattle.std.specs.Int.NonZero.{non_zero_u32_get}
 use Rattle.quick_cache_model.specs.declared.queue.Queue.{Queue}
 use Rattle.quick_cache_model.specs.declared.queue.Queue.TheVariants.{Hot}
 use Rattle.quick_cache_model.specs.CacheState.{CacheState, Item, UpToOrder, default_mark_cut, ring_place, items_at, with_items}
 use Rattle.quick_cache_model.specs.Eviction.{EvictsVictim}
 use Rattle.quick_cache_model.specs.Hooks.{Rules, Hooks, HookCall, BeforeEvict, evicted}
 use Rattle.quick_cache_model.specs.Touches.{RaisesMarks, TakesTouches, counted_up}
-use Rattle.quick_cache_lists.specs.Lists.{Lists, IsItemOf, with_change, with_counts}
+use Rattle.quick_cache_lists.specs.Lists.{IsItemOf, with_change, with_counts}
 use Rattle.quick_cache_policy.specs.declared.contents.Contents.{Contents}
 use Rattle.quick_cache_policy.specs.declared.hot.Visit.{Visit}
 use Rattle.quick_cache_policy.specs.declared.hot.Visit.TheVariants.{Pinned, Marked, Victim}
@@ -53,7 +52,8 @@ module _ {K V : Type 0} where
       hot = old.hot ++ record item { mark = item.mark - 1; queue = Hot } ∷ [];
     }
 
-  -- what a visit to an item met: its mark is known, and where pinning is steady, whether it is pinned
+  -- what a visit to an item met: its mark is known, and where pinning is steady, whether it is
+  -- pinned
   abbrev pub Meets : (steady : Type 0) → (pinned : K → V → Bool) → Item K V → Visit → Type 0
   Meets steady pinned item Pinned = steady → pinned item.key item.value ≡ true
   Meets steady pinned item Marked =
@@ -65,6 +65,24 @@ module _ {K V : Type 0} where
   pub record IsPassedBy (steady : Type 0) (pinned : K → V → Bool) (item : Item K V) : Type 0 where
     pub unmarked : item.mark ≡ 0
     pub pinned_there : steady → pinned item.key item.value ≡ true
+
+  -- what is found at an item of the cold ring: its mark is looked at before its pin
+  abbrev pub IsFound : (steady : Type 0) → (pinned : K → V → Bool) → Item K V → Search → Type 0
+  IsFound steady pinned item found_marked = 0 < item.mark
+  IsFound steady pinned item found_victim =
+      (item.mark ≡ 0) × (steady → pinned item.key item.value ≡ false)
+  IsFound steady pinned item found_none = IsPassedBy steady pinned item
+
+  -- the first item took its touches, and then it was looked at
+  pub record LooksAt (steady : Type 0) (pinned : K → V → Bool) (may_count : ℕ → Type 0)
+      (old : List (Item K V)) (answer : Search) (new : List (Item K V)) : Type 0 where
+    pub item : Item K V
+    pub touched : Item K V
+    pub rest : List (Item K V)
+    pub split : old ≡ item ∷ rest
+    pub takes : TakesTouches default_mark_cut may_count item touched
+    pub finds : IsFound steady pinned touched answer
+    pub looked : new ≡ touched ∷ rest
 
   -- The search passed these by and stopped at an item, with which the ring begins now.
   pub record StopsAt (steady : Type 0) (pinned : K → V → Bool) (met : Item K V → Type 0)
@@ -82,10 +100,9 @@ module _ {K V : Type 0} where
   abbrev pub SearchEnds : (steady : Type 0) → (pinned : K → V → Bool) → List (Item K V) → Search
       → List (Item K V) → Type 0
   SearchEnds steady pinned old found_marked new =
-      StopsAt steady pinned (λ item. 0 < item.mark) old new
+      StopsAt steady pinned (λ item. IsFound steady pinned item found_marked) old new
   SearchEnds steady pinned old found_victim new =
-      StopsAt steady pinned
-      (λ item. (item.mark ≡ 0) × (steady → pinned item.key item.value ≡ false)) old new
+      StopsAt steady pinned (λ item. IsFound steady pinned item found_victim) old new
   SearchEnds steady pinned old found_none new =
       AllByRecursion (IsPassedBy steady pinned) old × (new ≡ old)
 

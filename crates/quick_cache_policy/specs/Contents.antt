@@ -1,9 +1,9 @@
 -- The lists and the numbers of a cache, and the state that they are.
-use Rattle.std.specs.Prelude.{◌≡◌, ℕ, ◌≤◌, ◌<◌, ◌^◌, min, Bool, List, length}
+use Rattle.std.specs.Prelude.{◌≡◌, ℕ, ◌≤◌, ◌<◌, ◌^◌, min, Bool, length}
 use Rattle.std.specs.List.{AllByRecursion}
 use Rattle.quick_cache_model.specs.declared.queue.Queue.{Queue}
 use Rattle.quick_cache_model.specs.CacheState.{CacheState, IsValid, default_mark_cut, ring_place}
-use Rattle.quick_cache_lists.specs.Lists.{Lists, HeldItem, HeldLoading, items_at}
+use Rattle.quick_cache_lists.specs.Lists.{Lists, items_at}
 use Rattle.quick_cache_lists.specs.Views.{items_of, hashes_of, loading_entries}
 use Rattle.quick_cache_policy.specs.declared.contents.Contents.{Contents}
 use Rattle.quick_cache_policy.specs.Work.{Work}

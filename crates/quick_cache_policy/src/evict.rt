@@ -1,5 +1,5 @@
 //! How room is made: advances, one after another.
-ghost use Rattle.std.specs.Prelude.{◌≡◌, ◌+◌, ◌*◌, ◌<◌, ◌≤◌, IsTrue, if◌then◌else◌};
+ghost use Rattle.std.specs.Prelude.{◌≡◌, ◌+◌, ◌*◌, ◌^◌, ◌<◌, ◌≤◌, IsTrue, if◌then◌else◌};
 ghost use Rattle.quick_cache_model.specs.Eviction.{EvictsToTarget, AdvancesCold, EvictsToCapacity};
 ghost use Rattle.quick_cache_model.specs.Hooks.{Calls};
 ghost use Rattle.quick_cache_policy.specs.Advances.{Evicting};
@@ -14,6 +14,12 @@ use crate::policy::Policy;
 use quick_cache_model::Queue;
 use std::alloc::Allocator;
 use std::hash::Hash;
+
+/// The counts of work are what a u64 holds. Only contracts go by it.
+fn counts_fit(advances: u64, visits: u64)
+    ensures advances { advances < 2 ^ 64 }
+    ensures visits { visits < 2 ^ 64 }
+{}
 
 impl<K: Eq + Hash + Drop, V: Drop, P: SharedPlaceholder<K>, A: Allocator> Contents<K, V, P, A> {
     /// Makes hot advances while the hot ring weighs more than its target, up to one that answers
@@ -44,6 +50,7 @@ impl<K: Eq + Hash + Drop, V: Drop, P: SharedPlaceholder<K>, A: Allocator> Conten
           visits = self.new.visits;
         } }
     {
+        counts_fit(self.advances, self.visits);
         while self.lists.weight(Queue::Hot) > u128::from(self.hot_target) {
             if !self.advance_hot(terms, state) {
                 return;
@@ -81,6 +88,7 @@ impl<K: Eq + Hash + Drop, V: Drop, P: SharedPlaceholder<K>, A: Allocator> Conten
           visits = self.new.visits;
         } }
     {
+        counts_fit(self.advances, self.visits);
         match self.search_cold(terms) {
             Search::Marked => {
                 self.promote_first(terms);
@@ -122,6 +130,7 @@ impl<K: Eq + Hash + Drop, V: Drop, P: SharedPlaceholder<K>, A: Allocator> Conten
           visits = self.new.visits;
         } }
     {
+        counts_fit(self.advances, self.visits);
         while self.lists.weight(Queue::Hot) + self.lists.weight(Queue::Cold) + u128::from(need)
             > u128::from(self.capacity)
         {

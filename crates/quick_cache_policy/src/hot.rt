@@ -44,6 +44,7 @@ impl<K: Eq + Hash + Drop, V: Drop, P: SharedPlaceholder<K>, A: Allocator> Conten
         requires { HasItemToken self.old.lists (number token) }
         ensures { HasTakenTouches P.Touch.may_count (number token) self.old self.new }
     {
+        self.lists.apart();
         let count = self.lists.take_touch(token);
         if count == 0 {
             return;
