@@ -1,6 +1,6 @@
 -- What the lists are as a state, once an entry went, an item came or one stands in for another; and
 -- that each key stays under its hash.
-use Rattle.std.proofs.Common.{◌≡◌, ℕ, ◌+◌, ◌==◌, Bool, true, false, if◌then◌else◌, List, [], ◌∷◌, ◌++◌, map, refl, sym, ap, subst, ◌∙◌}
+use Rattle.std.proofs.Common.{length, length-append, ◌≤◌, arith, ◌≡◌, ℕ, ◌+◌, ◌==◌, Bool, true, false, if◌then◌else◌, List, [], ◌∷◌, ◌++◌, map, refl, sym, ap, subst, ◌∙◌}
 use Rattle.std.specs.List.{AllByRecursion}
 use Rattle.std.proofs.lemmas.List.{map-append}
 use Rattle.quick_cache_model.specs.declared.queue.Queue.{Queue}
@@ -121,6 +121,22 @@ module _ {K V P A T : Type 0} (ticket_of : P → ℕ) (contents : Contents K V P
       → model_items_at place (state_with lists) ≡ items_of before ++ held.item ∷ items_of after
   split-state place before held after lists split =
       items_at-state place lists ∙ ap items_of split ∙ items_of-split before after held
+
+-- ---- how many items the rings have
+
+-- one that is put last is one more at most
+pub entered-count : {K V P : Type 0} (held : HeldItem K V) (lists : Lists K V P)
+    → length (entered held lists).hot + length (entered held lists).cold
+    ≤ length lists.hot + length lists.cold + 1
+entered-count held lists = go (place_of_item held.item)
+  where
+    go : (place : Place)
+        → length (with_items place (items_at place lists ++ held ∷ []) lists).hot
+        + length (with_items place (items_at place lists ++ held ∷ []) lists).cold
+        ≤ length lists.hot + length lists.cold + 1
+    go InHot = omega (arith, length-append lists.hot (held ∷ []))
+    go InCold = omega (arith, length-append lists.cold (held ∷ []))
+    go InStill = omega arith
 
 -- ---- keys under their hashes
 

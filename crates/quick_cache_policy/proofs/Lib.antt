@@ -22,3 +22,5 @@ pub mod FirstLemmas
 pub mod WorkLemmas
 pub mod LoopLemmas
 pub mod ColdAdvances
+pub mod OverwriteLemmas
+pub mod BoundLemmas

@@ -54,6 +54,7 @@ impl<K: Eq + Hash + Drop, V: Drop, P: SharedPlaceholder<K>, A: Allocator> Conten
           visits = self.new.visits;
         } }
     {
+        self.lists.apart();
         let touches = self.lists.take_touch(token);
         let item = self.lists.item(token);
         let queue = item.queue();
@@ -99,6 +100,7 @@ impl<K: Eq + Hash + Drop, V: Drop, P: SharedPlaceholder<K>, A: Allocator> Conten
           visits = self.new.visits;
         } }
     {
+        self.lists.apart();
         let Weighed { value, weight } = weighed;
         let item = Resident::new(key, value, weight, 0, Queue::Hot, P::Touch::default());
         let _ = self.lists.replace(token, false, Entry::Item(item));
@@ -136,6 +138,7 @@ impl<K: Eq + Hash + Drop, V: Drop, P: SharedPlaceholder<K>, A: Allocator> Conten
           visits = self.new.visits;
         } }
     {
+        self.lists.apart();
         let queue = match &self.lists.entry(token).entry {
             Entry::Loading(awaited) => awaited.queue,
             Entry::Item(_) => unreachable!(),
