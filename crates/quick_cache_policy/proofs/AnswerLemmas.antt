@@ -1,5 +1,5 @@
 -- Room for a write, the calls of one, and its answer.
-use Rattle.std.proofs.Common.{◌≡◌, ℕ, ◌+◌, ◌<◌, ◌≤◌, Bool, true, false, true≢false, List, [], ◌∷◌, ◌++◌, Option, Some, None, refl, sym, ap, subst, ◌∙◌, inl, inr, append_assoc}
+use Rattle.std.proofs.Common.{◌≡◌, ℕ, ◌+◌, ◌*◌, ◌^◌, arith, ◌<◌, ◌≤◌, Bool, true, false, true≢false, List, [], ◌∷◌, ◌++◌, Option, Some, None, refl, sym, ap, subst, ◌∙◌, inl, inr, append_assoc}
 use Rattle.quick_cache_model.specs.declared.refusal.Refusal.{Refusal}
 use Rattle.quick_cache_model.specs.declared.refusal.Refusal.TheVariants.{Memory, SlotsFull, TicketsSpent, Finished}
 use Rattle.quick_cache_model.specs.CacheState.{CacheState, UpToOrder}
@@ -14,6 +14,13 @@ use Rattle.quick_cache_lists.specs.declared.found.Found.{Found}
 use Rattle.quick_cache_lists.specs.declared.found.Found.TheVariants.{Item as found_item, Loading as found_loading, Ghost as found_ghost, Nothing as found_nothing}
 use Rattle.quick_cache_policy.specs.declared.admission.Admission.{Admission}
 use Rattle.quick_cache_policy.specs.declared.admission.Admission.TheVariants.{Admitted as code_admitted, TooHeavy as code_too_heavy}
+use Rattle.std.proofs.lemmas.List.{length-map}
+use Rattle.quick_cache_lists.specs.Lists.{HeldItem, HeldGhost, entry_count}
+use Rattle.quick_cache_lists.specs.Views.{loading_entry}
+use Rattle.quick_cache_policy.specs.declared.contents.Contents.{Contents}
+use Rattle.quick_cache_policy.specs.Contents.{state_of}
+use Rattle.quick_cache_policy.specs.Work.{Work, WorksWithin}
+use Rattle.quick_cache_policy.proofs.HotLemmas.{counted_up-zero}
 use Rattle.quick_cache_policy.specs.Advances.{AreEvictions}
 use Rattle.quick_cache_policy.specs.Finding.{TakesSlot, Provides}
 use Rattle.quick_cache_policy.specs.Writing.{is_insert, needs_of_write, needs, IsReplacement, AreAdmittedCalls, AreWriteCalls, Writing, WritingAdmitted, Rejecting, Checks, Wrote, RefusesWrite}
@@ -158,3 +165,32 @@ module _ {K V : Type 0} (stands_for : K → Bool) (hash : ℕ) (state : CacheSta
       absurd (true≢false (sym (takes-slot found SoftReplace p.0).1))
   Provides-refused none strategy TicketsSpent p = absurd p
   Provides-refused none strategy Finished p = absurd p
+
+-- no work is within each bound
+pub WorksWithin-none : (n : ℕ) (work : Work) → work.advances < 2 ^ 64 → work.visits < 2 ^ 64
+    → WorksWithin n work work
+WorksWithin-none n work advances visits = record {
+  advances = 0;
+  visits = 0;
+  does = record {
+    advances_are = counted_up-zero work.advances advances;
+    visits_are = counted_up-zero work.visits visits;
+  };
+  few_advances = omega arith;
+  few_visits = zero-le (3 * n * (2 * n + 1));
+}
+  where
+    zero-le : (m : ℕ) → 0 ≤ m
+    zero-le m = omega arith
+
+-- each entry takes a slot
+pub entry_count-taken : {K V P A T : Type 0} (ticket_of : P → ℕ) (contents : Contents K V P A T)
+    → entry_count contents.lists ≡ slots_taken (state_of ticket_of contents)
+entry_count-taken {K = K} {V = V} {P = P} ticket_of contents = omega (
+  arith,
+  length-map contents.lists.hot (λ (held : HeldItem K V). held.item),
+  length-map contents.lists.cold (λ (held : HeldItem K V). held.item),
+  length-map contents.lists.still (λ (held : HeldItem K V). held.item),
+  length-map contents.lists.loading (loading_entry ticket_of),
+  length-map contents.lists.ghosts (λ (shade : HeldGhost). shade.hash),
+)

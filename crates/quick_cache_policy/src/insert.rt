@@ -120,6 +120,9 @@ impl<K: Eq + Hash + Drop, V: Drop, P: SharedPlaceholder<K>, A: Allocator> Conten
           visits = self.new.visits;
         } }
     {
+        // Read for the proof: the counts are within their types.
+        let _advances = self.advances;
+        let _visits = self.visits;
         match found {
             Found::Item(token) => {
                 self.overwrite(token, terms, state, hash, key, weighed, strategy);
@@ -177,6 +180,9 @@ impl<K: Eq + Hash + Drop, V: Drop, P: SharedPlaceholder<K>, A: Allocator> Conten
           visits = self.new.visits;
         } }
     {
+        // Read for the proof: the counts are within their types.
+        let _advances = self.advances;
+        let _visits = self.visits;
         match self.admit(terms, state, &key, value) {
             Admission::Admitted(weighed) => {
                 self.write_admitted(found, terms, state, hash, key, weighed, strategy)
@@ -217,6 +223,9 @@ impl<K: Eq + Hash + Drop, V: Drop, P: SharedPlaceholder<K>, A: Allocator> Conten
           visits = self.new.visits;
         } }
     {
+        // Read for the proof: the counts are within their types.
+        let _advances = self.advances;
+        let _visits = self.visits;
         let found = self.lists.find(hash, &key);
         if let Some(refusal) = self.provide(found, strategy) {
             return Err((key, value, Some(refusal)));
