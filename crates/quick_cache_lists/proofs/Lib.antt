@@ -18,3 +18,4 @@ pub mod NextLemmas
 pub mod RewriteLemmas
 pub mod CallerLemmas
 pub mod WalkLemmas
+pub mod CopyLemmas
