@@ -1,6 +1,5 @@
-use Rattle.std.proofs.Common.{rules, ◌≡◌, ◌+◌, ◌≤◌, ◌∷◌, false, length, filter, sym, ap, subst, ◌∙◌, refl, arith}
-use Rattle.quick_cache_lists.specs.Lists.{is_placeholder, is_weightless}
-use Rattle.quick_cache_lists.specs.Copies.{PutsCopies}
+use Rattle.std.proofs.Common.{◌≤◌, length, filter, sym, ap, subst, ◌∙◌, refl, arith}
+use Rattle.quick_cache_lists.specs.Lists.{is_weightless}
 use Rattle.quick_cache_lists.proofs.CopyLemmas.{weightless-loaded, filter-passes, filter-fails}
 use Rattle.quick_cache_lists.proofs.lists.Lists.put_still.Goals as goal
 

@@ -1,4 +1,4 @@
-use Rattle.std.proofs.Common.{◌≡◌, ◌≤◌, length, filter}
+use Rattle.std.proofs.Common.{◌≤◌, length, filter}
 use Rattle.quick_cache_lists.specs.Lists.{is_weightless}
 use Rattle.quick_cache_lists.specs.Copies.{PutsCopies}
 use Rattle.quick_cache_lists.proofs.lists.Lists.put_still.Given as goal

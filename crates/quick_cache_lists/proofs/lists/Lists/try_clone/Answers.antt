@@ -1,12 +1,12 @@
-use Rattle.std.proofs.Common.{◌≡◌, ◌≤◌, ◌+◌, filter, length, sym, ap, ◌∙◌, arith}
-use Rattle.quick_cache_lists.specs.Lists.{entry_count, no_lists, is_weightless}
+use Rattle.std.proofs.Common.{◌≤◌, filter, length, sym, ◌∙◌, arith}
+use Rattle.quick_cache_lists.specs.Lists.{is_weightless}
 use Rattle.quick_cache_lists.specs.Slots.{AmongHot, AmongCold, AmongGhosts}
 use Rattle.quick_cache_slab.specs.LinkedSlab.{items}
 use Rattle.quick_cache_lists.specs.Walks.{walk_of}
 use Rattle.quick_cache_lists.specs.Sound.{lists_of}
 use Rattle.quick_cache_lists.specs.Copies.{PutsCopies}
 use Rattle.quick_cache_lists.proofs.WalkLemmas.{length-walk_of}
-use Rattle.quick_cache_lists.proofs.CopyLemmas.{ring_loaded, length-held, length-still, length-ghosts, PutsCopies-room, AreCopies-by, copies_fit, entries_fit, with_room}
+use Rattle.quick_cache_lists.proofs.CopyLemmas.{ring_loaded, PutsCopies-room, AreCopies-by, copies_fit, entries_fit, with_room}
 use Rattle.quick_cache_lists.proofs.lists.Lists.try_clone.Goals as goal
 
 pub invariant_of-put_ring : goal.invariant_of-put_ring
