@@ -502,11 +502,13 @@ module _ {K V P T : Type 0} where
   held-copied ck cv (s ∷ ss) (h ∷ hs) [] has are = absurd are
   held-copied ck cv (s ∷ ss) (h ∷ hs) (c ∷ cs) has are =
       let same : are.0.item ≡ h.item =
-      item_same s.entry are.0.item h.item are.0.has has.0.item in
-      (record {
-        hash = are.0.hash ∙ sym has.0.hash;
-        item = subst (λ (i : Item K V). IsItemCopy ck cv i c.item) same are.0.copies;
-      }, held-copied ck cv ss hs cs has.1 are.1)
+      item_same s.entry are.0.item h.item are.0.has has.0.item in (
+        record {
+          hash = are.0.hash ∙ sym has.0.hash;
+          item = subst (λ (i : Item K V). IsItemCopy ck cv i c.item) same are.0.copies;
+        },
+        held-copied ck cv ss hs cs has.1 are.1,
+      )
     where
       item_same : (entry : Entry K V P T) (x y : Item K V) → entry ≡ item_variant x
           → entry ≡ item_variant y → x ≡ y
@@ -639,10 +641,14 @@ module _ {K V P T : Type 0} (slab : LinkedSlab (Slot K V P T)) where
               (walk-held hot AmongHot (λ e. cc) (λ e. cc) standing.hot_ring) h.are);
           cold = rw cold_is (held-copied clones_key clones_value _ _ d.copies
               (walk-held cold AmongCold (λ e. cc) (λ e. cc) standing.cold_ring) d.are);
-          still = (s.copies, held-copied clones_key clones_value _ _ s.copies
-              (still-held slab) s.are, subst (λ (xs : List (HeldItem K V)). IsPermutation xs c4.still)
-              still_is (subst (λ (xs : List (HeldItem K V)). IsPermutation (c2.still ++ s.copies) xs)
-              (sym (ap (λ (l : Lists K V P). l.still) g.new_is)) s.order));
+          still = (
+            s.copies,
+            held-copied clones_key clones_value _ _ s.copies
+                (still-held slab) s.are,
+            subst (λ (xs : List (HeldItem K V)). IsPermutation xs c4.still)
+                still_is (subst (λ (xs : List (HeldItem K V)). IsPermutation (c2.still ++ s.copies) xs)
+                (sym (ap (λ (l : Lists K V P). l.still) g.new_is)) s.order),
+          );
           loading = ap (λ (l : Lists K V P). l.loading) g.new_is
               ∙ ap (λ (l : Lists K V P). l.loading) s.new_is
               ∙ ap (λ (l : Lists K V P). l.loading) d.new_is

@@ -20,13 +20,17 @@ loop-slot-preserved-then-is_weightless g c =
     let room = subst (λ xs. length xs ≤ c.loop-slot.self.room) on c.loop-slot.invariant.room in
     record {
       room = omega (arith, room, c.put.ensures.room);
-      copies = λ last puts. c.loop-slot.invariant.copies last (rw on (_, record {
-        token = _;
-        copy = _;
-        copies = c.in_ok-entry.ensures.copies;
-        last = c.put.ensures.last;
-        room = c.put.ensures.room;
-      }, puts));
+      copies = λ last puts. c.loop-slot.invariant.copies last (rw on (
+        _,
+        record {
+          token = _;
+          copy = _;
+          copies = c.in_ok-entry.ensures.copies;
+          last = c.put.ensures.last;
+          room = c.put.ensures.room;
+        },
+        puts,
+      ));
     }
 
 pub loop-slot-preserved : goal.loop-slot-preserved
