@@ -20,3 +20,4 @@ pub mod CallerLemmas
 pub mod OneEntryLemmas
 pub mod WalkLemmas
 pub mod StandingLemmas
+pub mod CopyLemmas

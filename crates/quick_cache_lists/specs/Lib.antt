@@ -4,3 +4,4 @@ pub mod Sound
 pub mod Frames
 pub mod Views
 pub mod Walks
+pub mod Copies

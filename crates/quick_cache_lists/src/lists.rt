@@ -3,6 +3,7 @@ ghost use Rattle.std.specs.Prelude.{◌≡◌, ◌+◌, ◌≤◌, ◌<◌, ◌�
 ghost use Rattle.quick_cache_lists.specs.Lists.{no_lists, entry_count, slots_left, AreApart};
 
 mod changes;
+mod copies;
 mod counts;
 mod looks;
 mod moves;

@@ -1,10 +1,11 @@
 //! An item, as a slot has it.
-ghost use Rattle.std.specs.Prelude.{◌≡◌};
+ghost use Rattle.std.specs.Prelude.{◌≡◌, IfOk, OnErr};
+ghost use Rattle.quick_cache_lists.specs.Copies.{IsItemCopy};
 ghost use Rattle.quick_cache_lists.specs.Slots.{stand_of_item};
 ghost use Rattle.quick_cache_lists.specs.Lists.{with_counts, with_weight, requeued};
 
 use crate::entry::Stand;
-use quick_cache_model::{Queue, Touches};
+use quick_cache_model::{Queue, Refusal, Touches};
 use std::marker::Model;
 
 /// An item: its pair, the weight that it counts for, how often it was used lately and read, and its
@@ -160,6 +161,32 @@ impl<K, V, T> Resident<K, V, T> {
         ensures same { self.new ≡ self.old }
     {
         self.touch.take()
+    }
+
+    /// A copy, with no touches. A refusal is for want of memory.
+    pub(crate) fn try_copy(&self) -> Result<Self, Refusal>
+    where
+        K: Clone + Drop,
+        V: Clone + Drop,
+        T: Touches,
+        ensures copies { IfOk result (IsItemCopy K.is_clone V.is_clone self.now) }
+        ensures refused { OnErr result (result ≡ Err Refusal.Memory) }
+    {
+        let Ok(key) = self.key.clone() else {
+            return Err(Refusal::Memory);
+        };
+        let Ok(value) = self.value.clone() else {
+            return Err(Refusal::Memory);
+        };
+        Ok(Resident {
+            key,
+            value,
+            weight: self.weight,
+            mark: self.mark,
+            reads: self.reads,
+            queue: self.queue,
+            touch: T::default(),
+        })
     }
 
     /// The pair, taken apart.
