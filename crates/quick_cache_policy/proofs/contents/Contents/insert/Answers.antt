@@ -1,16 +1,13 @@
 use Rattle.std.proofs.Common.{◌≡◌, ℕ, ◌+◌, refl, sym, ap, subst, ◌∙◌, Some, None, arith}
 use Rattle.quick_cache_model.specs.declared.queue.Queue.TheVariants.{Hot, Cold}
 use Rattle.quick_cache_lists.specs.Lists.{Finds, Lists}
-use Rattle.quick_cache_model.specs.CacheState.{CacheState}
-use Rattle.quick_cache_model.specs.Hooks.{Calls}
-use Rattle.quick_cache_model.specs.Writes.{Writes}
 use Rattle.quick_cache_policy.specs.Contents.{state_of, ring_count, work_of}
 use Rattle.quick_cache_policy.specs.Policies.{rules_by}
 use Rattle.quick_cache_policy.specs.Finding.{Provides}
 use Rattle.quick_cache_policy.specs.Work.{WorksWithin}
-use Rattle.quick_cache_policy.specs.Writing.{strategy_of, Writing}
+use Rattle.quick_cache_policy.specs.Writing.{strategy_of}
 use Rattle.quick_cache_policy.proofs.FindLemmas.{AreHashed-under, HasNothing-state, Finds-nothing, Finds-room}
-use Rattle.quick_cache_policy.proofs.AnswerLemmas.{WorksWithin-none, Provides-provided, Provides-refused, entry_count-taken}
+use Rattle.quick_cache_policy.proofs.AnswerLemmas.{WorksWithin-none, Wrote-provided, Provides-refused, entry_count-taken}
 use Rattle.quick_cache_policy.proofs.contents.Contents.insert.Goals as goal
 
 -- where there was no room, nothing changed
@@ -55,7 +52,8 @@ pub write-requires-clause-found : goal.write-requires-clause-found
 write-requires-clause-found g c =
     let stands_for = g.K.PartialEq.eq c.args.key in
     let old = c.args.self.now in
-    subst (λ (lists : Lists g.row.K.Denot g.row.V.Denot g.row.P.Denot). Finds stands_for c.args.hash lists c.find-found.result)
+    subst (λ (lists : Lists g.row.K.Denot g.row.V.Denot g.row.P.Denot).
+    Finds stands_for c.args.hash lists c.find-found.result)
     (sym (ap (λ s. s.lists) c.provide.ensures.lists))
     (Finds-room stands_for c.args.hash old.lists c.provide.new.self.lists.room
     c.find-found.result c.find-found.ensures)
@@ -63,53 +61,27 @@ write-requires-clause-found g c =
 -- there was room, and the pair was written
 pub returns-in-None-clause-answers : goal.returns-in-None-clause-answers
 returns-in-None-clause-answers g c =
-    let equal = g.K.PartialEq.eq in
     let ticket = g.P.SharedPlaceholder.ticket_of in
     let old = c.args.self.now in
-    let hash = g.M.Policy.hashed c.args.terms.now c.args.key in
-    let finds = subst (λ (h : ℕ). Finds (equal c.args.key) h old.lists c.find-found.result)
-    c.requires.hash_is c.find-found.ensures in
-    record {
-      provided = Provides-provided (equal c.args.key) hash (state_of ticket old)
-          c.find-found.result
-          (Finds-nothing ticket (equal c.args.key) hash old c.find-found.result finds)
-          c.provide.new.self.lists.room (strategy_of c.args.strategy)
-          (subst (λ (n : ℕ). Provides c.find-found.result (strategy_of c.args.strategy) n
-          c.provide.new.self.lists.room None)
-          (entry_count-taken ticket old) c.in_default.ensures.provides);
-      step = subst (λ (state : CacheState g.row.K.Denot g.row.V.Denot).
-          Calls (g.M.Policy.hooks c.args.terms.now)
-          (Writing (g.M.Policy.steady c.args.terms.now)
-          (λ calls now. Writes (rules_by g.M.Policy g.P.Touch.Touches.may_count c.args.terms.now)
-          (equal c.args.key) c.args.key (strategy_of c.args.strategy) state c.args.value calls
-          None now) (state_of ticket c.write.new.self))
-          c.args.state.now c.write.new.state)
-          (ap (state_of ticket) c.provide.ensures.lists) c.in-None.ensures.writes;
-    }
+    Wrote-provided (g.M.Policy.steady c.args.terms.now) (g.M.Policy.hooks c.args.terms.now)
+    (rules_by g.M.Policy g.P.Touch.Touches.may_count c.args.terms.now) g.K.PartialEq.eq ticket
+    (strategy_of c.args.strategy) old c.provide.new.self c.args.state.now c.write.new.state
+    c.args.key c.args.value c.find-found.result None
+    (state_of ticket c.write.new.self)
+    (subst (λ (h : ℕ). Finds (g.K.PartialEq.eq c.args.key) h old.lists c.find-found.result)
+    c.requires.hash_is c.find-found.ensures)
+    c.in_default.ensures.provides c.provide.ensures.lists c.in-None.ensures.writes
 
 -- or given back
 pub returns-in-Some-write-clause-answers : goal.returns-in-Some-write-clause-answers
 returns-in-Some-write-clause-answers g c =
-    let equal = g.K.PartialEq.eq in
     let ticket = g.P.SharedPlaceholder.ticket_of in
     let old = c.args.self.now in
-    let hash = g.M.Policy.hashed c.args.terms.now c.args.key in
-    let finds = subst (λ (h : ℕ). Finds (equal c.args.key) h old.lists c.find-found.result)
-    c.requires.hash_is c.find-found.ensures in
-    record {
-      provided = Provides-provided (equal c.args.key) hash (state_of ticket old)
-          c.find-found.result
-          (Finds-nothing ticket (equal c.args.key) hash old c.find-found.result finds)
-          c.provide.new.self.lists.room (strategy_of c.args.strategy)
-          (subst (λ (n : ℕ). Provides c.find-found.result (strategy_of c.args.strategy) n
-          c.provide.new.self.lists.room None)
-          (entry_count-taken ticket old) c.in_default.ensures.provides);
-      step = subst (λ (state : CacheState g.row.K.Denot g.row.V.Denot).
-          Calls (g.M.Policy.hooks c.args.terms.now)
-          (Writing (g.M.Policy.steady c.args.terms.now)
-          (λ calls now. Writes (rules_by g.M.Policy g.P.Touch.Touches.may_count c.args.terms.now)
-          (equal c.args.key) c.args.key (strategy_of c.args.strategy) state c.args.value calls
-          (Some (c.in-Some-write.key, c.in-Some-write.value)) now) (state_of ticket c.write.new.self))
-          c.args.state.now c.write.new.state)
-          (ap (state_of ticket) c.provide.ensures.lists) c.in-Some-write.ensures.writes;
-    }
+    Wrote-provided (g.M.Policy.steady c.args.terms.now) (g.M.Policy.hooks c.args.terms.now)
+    (rules_by g.M.Policy g.P.Touch.Touches.may_count c.args.terms.now) g.K.PartialEq.eq ticket
+    (strategy_of c.args.strategy) old c.provide.new.self c.args.state.now c.write.new.state
+    c.args.key c.args.value c.find-found.result (Some (c.in-Some-write.key, c.in-Some-write.value))
+    (state_of ticket c.write.new.self)
+    (subst (λ (h : ℕ). Finds (g.K.PartialEq.eq c.args.key) h old.lists c.find-found.result)
+    c.requires.hash_is c.find-found.ensures)
+    c.in_default.ensures.provides c.provide.ensures.lists c.in-Some-write.ensures.writes
