@@ -1,18 +1,15 @@
 -- What the lists are as a state, once an entry went, an item came or one stands in for another; and
 -- that each key stays under its hash.
-use Rattle.std.proofs.Common.{length, length-append, ◌≤◌, arith, ◌≡◌, ℕ, ◌+◌, ◌==◌, Bool, true, false, if◌then◌else◌, List, [], ◌∷◌, ◌++◌, map, refl, sym, ap, subst, ◌∙◌}
+use Rattle.std.proofs.Common.{length, length-append, ◌≤◌, arith, ◌≡◌, ℕ, ◌+◌, ◌==◌, Bool, true, false, if◌then◌else◌, List, [], ◌∷◌, ◌++◌, refl, ap, subst, ◌∙◌}
 use Rattle.std.specs.List.{AllByRecursion}
 use Rattle.std.proofs.lemmas.List.{map-append}
-use Rattle.quick_cache_model.specs.declared.queue.Queue.{Queue}
-use Rattle.quick_cache_model.specs.declared.queue.Queue.TheVariants.{Hot, Cold}
-use Rattle.quick_cache_model.specs.CacheState.{CacheState, Item, LoadingEntry, Place, InHot, InCold, InStill}
-use Rattle.quick_cache_model.specs.CacheState.{SameButOrder, place_of_item, ring_place}
+use Rattle.quick_cache_model.specs.CacheState.{CacheState, Item, Place, InHot, InCold, InStill}
+use Rattle.quick_cache_model.specs.CacheState.{place_of_item}
 use Rattle.quick_cache_model.specs.CacheState.{items_at as model_items_at, with_items as model_with_items}
 use Rattle.quick_cache_model.specs.CacheState.{entered as model_entered, rewritten}
 use Rattle.quick_cache_model.proofs.EachElement.{all-push, all-without, all-instead, all-restarted, all-middle}
-use Rattle.quick_cache_lists.specs.Lists.{HeldItem, HeldLoading, HeldGhost, Lists, items_at, with_items, entered, held_rewritten}
-use Rattle.quick_cache_lists.specs.Lists.{SameButOrder as ListsSame}
-use Rattle.quick_cache_lists.specs.Views.{items_of, hashes_of, loading_entry, loading_entries}
+use Rattle.quick_cache_lists.specs.Lists.{HeldItem, Lists, items_at, with_items, entered, held_rewritten}
+use Rattle.quick_cache_lists.specs.Views.{items_of}
 use Rattle.quick_cache_lists.proofs.CallerLemmas.{items_of-split}
 use Rattle.quick_cache_policy.specs.declared.contents.Contents.{Contents}
 use Rattle.quick_cache_policy.specs.Contents.{AreHashed, state_of}

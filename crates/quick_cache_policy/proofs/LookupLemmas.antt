@@ -1,32 +1,30 @@
 -- What look-ups and removals find, and what they leave.
-use Rattle.std.proofs.Common.{◌≡◌, ◌≢◌, ℕ, ◌+◌, ◌-◌, ◌≤◌, ◌^◌, min, Bool, true, false, true≢false, List, [], ◌∷◌, ◌++◌, map, Option, Some, None, refl, sym, ap, subst, ◌∙◌, inl, inr, arith}
+use Rattle.std.proofs.Common.{◌≡◌, ℕ, ◌+◌, ◌≤◌, Bool, true, false, true≢false, List, [], ◌∷◌, ◌++◌, Option, Some, None, refl, sym, ap, subst, ◌∙◌, arith}
 use Rattle.std.specs.List.{AllByRecursion}
-use Rattle.std.specs.Int.NonZero.{non_zero_u32_get}
 use Rattle.std.specs.declared.num.NonZeroU32.{NonZeroU32 as Token}
 use Rattle.std.proofs.lemmas.List.{map-append}
-use Rattle.quick_cache_model.specs.CacheState.{CacheState, Item, LoadingEntry, Place, InHot, InCold, InStill, UpToOrder, IsValid, default_mark_cut, keys_by}
-use Rattle.quick_cache_model.specs.CacheState.{items_at as model_items_at, with_items as model_with_items}
-use Rattle.quick_cache_model.specs.Finding.{IsItemAt, IsLoadingAt, IsGhostAt, HasNoItem}
-use Rattle.quick_cache_model.specs.Finding.{HasNoKey as ModelNoKey, HasNothing as ModelNothing}
+use Rattle.quick_cache_model.specs.CacheState.{CacheState, Item, LoadingEntry, Place, InHot, InCold, InStill, UpToOrder, IsValid, default_mark_cut}
+use Rattle.quick_cache_model.specs.CacheState.{with_items as model_with_items}
+use Rattle.quick_cache_model.specs.Finding.{HasNoItem}
 use Rattle.quick_cache_model.specs.Lookups.{looked_up, after_hit, LooksUp}
-use Rattle.quick_cache_model.specs.Removal.{Removes, pair_of}
+use Rattle.quick_cache_model.specs.Removal.{Removes}
 use Rattle.quick_cache_model.specs.Touches.{raised_by, counted_up}
 use Rattle.quick_cache_model.proofs.EachElement.{all-without}
 use Rattle.quick_cache_model.proofs.OrderLaws.{UpToOrder-exact}
 use Rattle.quick_cache_model.proofs.Valid.Lookups.{LooksUp-valid, Removes-valid}
-use Rattle.quick_cache_lists.specs.Lists.{HeldItem, HeldLoading, HeldGhost, Lists, AreApart, StandsIn, HasItem, HasNoKey, HasNothing, FindsItem, FindsLoading, IsItemOf, items_at, with_items, with_change, with_counts, without_entry}
+use Rattle.quick_cache_lists.specs.Lists.{HeldItem, HeldLoading, HeldGhost, Lists, AreApart, StandsIn, HasItem, HasNoKey, IsItemOf, items_at, with_items, with_change, with_counts, without_entry}
 use Rattle.std.specs.Cmp.{IsEquivalence}
 use Rattle.quick_cache_model.proofs.KeyCounts.{one, one_if, loading_keys, loading_keys-split, none-from_keys}
 use Rattle.quick_cache_lists.specs.Lists.{Finds}
 use Rattle.quick_cache_lists.specs.declared.found.Found.{Found}
 use Rattle.quick_cache_lists.specs.declared.found.Found.TheVariants.{Item as found_item, Loading as found_loading, Ghost as found_ghost, Nothing as found_nothing}
-use Rattle.quick_cache_lists.specs.Views.{items_of, hashes_of, loading_entry, loading_entries, joined_around}
+use Rattle.quick_cache_lists.specs.Views.{items_of, hashes_of, loading_entry, loading_entries}
 use Rattle.quick_cache_lists.proofs.CallerLemmas.{change-hot, change-cold, change-still, without-hot, without-cold, without-still, without-loading, without-ghost}
 use Rattle.quick_cache_policy.specs.declared.contents.Contents.{Contents}
 use Rattle.quick_cache_policy.specs.Contents.{AreHashed, IsSound, state_of}
-use Rattle.quick_cache_policy.specs.Finding.{AreUnder, IsLookedUp, IsMissed}
+use Rattle.quick_cache_policy.specs.Finding.{AreUnder}
 use Rattle.quick_cache_policy.proofs.FindLemmas.{HasNoKey-state}
-use Rattle.quick_cache_policy.proofs.EnterLemmas.{state_with, with_items-state, split-state, IsUnder, AreHashed-with, AreHashed-without, AreHashed-instead, AreHashed-room, held-under}
+use Rattle.quick_cache_policy.proofs.EnterLemmas.{state_with, with_items-state, split-state, AreHashed-without, AreHashed-instead, AreHashed-room, held-under}
 
 module _ {K V P : Type 0} (lists : Lists K V P) (apart : AreApart lists) where
   -- an item that is changed in its place

@@ -15,6 +15,8 @@ use Rattle.quick_cache_model.proofs.Eviction.Keys.{keys_by-none}
 use Rattle.quick_cache_model.proofs.OrderLaws.{EvictsToCapacity-reordered, UpToOrder-map, UpToOrder-reordered}
 use Rattle.quick_cache_model.proofs.Valid.Edits.{entered-valid, without_ghost-valid, unloaded-valid, keys_by-unloaded, keys_by-taken, rewritten-valid}
 use Rattle.quick_cache_model.proofs.Valid.Orders.{SameButOrder-valid}
+use Rattle.std.specs.List.{AllByRecursion}
+use Rattle.quick_cache_model.proofs.EachElement.{all-without}
 use Rattle.quick_cache_lists.specs.declared.entry.Entry.{Entry}
 use Rattle.quick_cache_lists.specs.declared.entry.Entry.TheVariants.{Item as item_variant}
 use Rattle.quick_cache_lists.specs.Lists.{HeldItem, HeldLoading, HeldGhost, Lists, AreApart, StandsIn, Replaces, PutsLast, HasNoKey, FindsLoading, entered, without_entry}
@@ -160,5 +162,102 @@ module _ {K V P A T X : Type 0} (ticket_of : P → ℕ) (contents : Contents K V
           cold = sound.hashed.cold;
           still = sound.hashed.still;
           loading = sound.hashed.loading;
+        });
+  }
+
+-- ---- over a placeholder
+
+module _ {K V P A T X : Type 0} (ticket_of : P → ℕ) (contents : Contents K V P A X)
+    (apart : AreApart contents.lists) (equal : K → K → Bool) (laws : IsEquivalence equal)
+    (rules : Rules K V) (key : K) (value : V) (token : ℕ)
+    (found : FindsLoading (equal key) (rules.hash key) contents.lists token)
+    (item : Item K V) (was : Entry K V P T) (new : Lists K V P)
+    (replaces : Replaces contents.lists token false (item_variant item) was new) where
+  waits : IsLoadingAt (equal key) (state_of ticket_of contents)
+      (loading_entries ticket_of found.stands.before) (loading_entry ticket_of found.waiting)
+      (loading_entries ticket_of found.stands.after)
+  waits = IsLoadingAt-stands ticket_of (equal key) (rules.hash key) contents found.stands.before
+      found.waiting found.stands.after found.stands.split found.passes
+
+  over_loading-state : SameButOrder (model_entered item (record (state_of ticket_of contents) {
+    loading = loading_entries ticket_of found.stands.before
+        ++ loading_entries ticket_of found.stands.after;
+  })) (state_with ticket_of contents new)
+  over_loading-state = subst (λ (l : List (LoadingEntry K)). SameButOrder (model_entered item
+      (record (state_of ticket_of contents) { loading = l })) (state_with ticket_of contents new))
+      (map-append (loading_entry ticket_of) found.stands.before found.stands.after)
+      (replaced-state ticket_of contents token item was new replaces
+      (record contents.lists { loading = found.stands.before ++ found.stands.after })
+      found.waiting.token (contents.lists.room + 1)
+      (without_loading ticket_of contents apart (equal key) (rules.hash key) token found.waiting
+      found.stands found.named))
+
+  -- the write over the placeholder
+  pub over_loading-writes : item ≡ new_item rules key value found.waiting.queue 1
+      → (last : CacheState K V) (calls : List (HookCall K V))
+      → UpToOrder (EvictsToCapacity rules 0 (state_with ticket_of contents new) calls) last
+      → UpToOrder (WritesAdmitted rules (equal key) key Insert (state_of ticket_of contents) value
+      calls None) last
+  over_loading-writes is last calls evicts =
+      UpToOrder-map _ _ last
+      (λ state e. WritesAdmitted.inserts_over_loading
+      (loading_entries ticket_of found.stands.before) (loading_entry ticket_of found.waiting)
+      (loading_entries ticket_of found.stands.after) calls state refl waits
+      (subst (λ (i : Item K V). EvictsToCapacity rules 0 (model_entered i
+      (record (state_of ticket_of contents) {
+        loading = loading_entries ticket_of found.stands.before
+            ++ loading_entries ticket_of found.stands.after;
+      })) calls state) is e))
+      (evicts-from rules _ (state_with ticket_of contents new) last calls over_loading-state evicts)
+
+  -- the rings have one item more
+  pub over_loading-count : length new.hot + length new.cold
+      ≤ length contents.lists.hot + length contents.lists.cold + 1
+  over_loading-count = replaced-count ticket_of contents token item was new replaces
+      (record contents.lists { loading = found.stands.before ++ found.stands.after })
+      found.waiting.token (contents.lists.room + 1)
+      (without_loading ticket_of contents apart (equal key) (rules.hash key) token found.waiting
+      found.stands found.named)
+
+  -- the lists are sound before room is made
+  pub over_loading-sound : item.key ≡ key → item.mark ≡ 1
+      → IsSound ticket_of equal rules.hash contents
+      → IsSound ticket_of equal rules.hash (record contents { lists = new })
+  over_loading-sound same marked sound = record {
+    valid = SameButOrder-valid equal _ (state_with ticket_of contents new) over_loading-state
+        (entered-valid equal laws item _
+        (subst (λ k. keys_by (equal k) (record (state_of ticket_of contents) {
+          loading = loading_entries ticket_of found.stands.before
+              ++ loading_entries ticket_of found.stands.after;
+        }) ≡ 0) (sym same)
+        (keys_by-taken equal laws key (state_of ticket_of contents)
+        (record (state_of ticket_of contents) {
+          loading = loading_entries ticket_of found.stands.before
+              ++ loading_entries ticket_of found.stands.after;
+        }) found.waiting.key found.passes
+        (keys_by-unloaded (equal key) (loading_entries ticket_of found.stands.before)
+        (loading_entry ticket_of found.waiting) (loading_entries ticket_of found.stands.after)
+        (state_of ticket_of contents) waits.split) sound.valid))
+        (omega (arith, marked))
+        (unloaded-valid equal (loading_entries ticket_of found.stands.before)
+        (loading_entry ticket_of found.waiting) (loading_entries ticket_of found.stands.after)
+        (state_of ticket_of contents) waits.split sound.valid));
+    sized = sound.sized;
+    hashed = replaced-hashed ticket_of contents token item was new replaces
+        (record contents.lists { loading = found.stands.before ++ found.stands.after })
+        found.waiting.token (contents.lists.room + 1)
+        (without_loading ticket_of contents apart (equal key) (rules.hash key) token found.waiting
+        found.stands found.named)
+        rules.hash
+        (loading-hash contents.lists apart token replaces.hash was replaces.taken found.waiting
+        found.stands found.named ∙ found.hashed ∙ ap rules.hash (sym same))
+        (record {
+          hot = sound.hashed.hot;
+          cold = sound.hashed.cold;
+          still = sound.hashed.still;
+          loading = all-without (λ (w : HeldLoading K P). w.hash ≡ rules.hash w.key)
+              found.stands.before found.waiting found.stands.after
+              (subst (λ (l : List (HeldLoading K P)). AllByRecursion
+              (λ w. w.hash ≡ rules.hash w.key) l) found.stands.split sound.hashed.loading);
         });
   }

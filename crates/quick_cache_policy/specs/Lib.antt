@@ -7,3 +7,4 @@ pub mod Advances
 pub mod HotRounds
 pub mod Writing
 pub mod Finding
+pub mod Copies

@@ -1,9 +1,9 @@
 -- Writes: their answers, and the hook calls that they make.
-use Rattle.std.specs.Prelude.{◌≡◌, ℕ, ◌+◌, ◌*◌, ◌<◌, ◌≤◌, ◌⊎◌, Bool, true, false, List, [], ◌∷◌, ◌++◌, Option, Some, None, Result, Ok, Err}
+use Rattle.std.specs.Prelude.{◌≡◌, ℕ, ◌⊎◌, Bool, true, false, List, [], ◌∷◌, ◌++◌, Option, Some, None, Result, Ok, Err}
 use Rattle.quick_cache_model.specs.declared.queue.Queue.{Queue}
 use Rattle.quick_cache_model.specs.declared.refusal.Refusal.{Refusal}
 use Rattle.quick_cache_model.specs.CacheState.{CacheState, UpToOrder}
-use Rattle.quick_cache_model.specs.Admission.{Admission as CheckAnswer, Admitted, TooHeavy, ChecksAdmission}
+use Rattle.quick_cache_model.specs.Admission.{Admitted, TooHeavy, ChecksAdmission}
 use Rattle.quick_cache_model.specs.Hooks.{Rules, Hooks, HookCall, Calls, BeforeEvict, EvictCold, evicted}
 use Rattle.quick_cache_model.specs.Refusals.{Needs, IsProvided, MayRefuse, needs_of_insert}
 use Rattle.quick_cache_model.specs.Writes.{Strategy, Insert, Replace, SoftReplace, Writes, RejectsTooHeavy}

@@ -8,6 +8,7 @@
 mod admission;
 mod cold;
 mod contents;
+mod copies;
 mod evict;
 mod hot;
 mod insert;

@@ -14,22 +14,17 @@ use std::hash::Hash;
 
 impl<K: Eq + Hash, V, P: SharedPlaceholder<K>, A: Allocator> Contents<K, V, P, A> {
     /// The item under the query. Nothing changes.
-    pub fn peek<Q: Equivalent<K>>(
-        &self,
-        hash: u64,
-        query: &Q,
-    ) -> Option<&Resident<K, V, P::Touch>>
+    pub fn peek<Q: Equivalent<K>>(&self, hash: u64, query: &Q) -> Option<&Resident<K, V, P::Touch>>
         requires valid { IsValid K.eq (state_of P.ticket_of self.now) }
         requires under { AreUnder (Q.equivalent query.now) hash self.now.lists }
-        ensures sees { MatchOption result
+        ensures { MatchOption result
             (HasNoItem (Q.equivalent query.now) (state_of P.ticket_of self.now))
             (λ item. IsThere (Q.equivalent query.now) (state_of P.ticket_of self.now) item.now) }
     {
-        match self.lists.find(hash, query) {
-            Found::Item(token) => Some(self.lists.item(token)),
-            Found::Loading(_) => None,
-            Found::Ghost(_) => None,
-            Found::Nothing => None,
-        }
+        self.lists.apart();
+        let Found::Item(token) = self.lists.find(hash, query) else {
+            return None;
+        };
+        Some(self.lists.item(token))
     }
 }
