@@ -1,6 +1,6 @@
 -- What makes room brings no key, step by step: whether pinning is steady does not matter for this.
-use Rattle.std.proofs.Common.{◌≡◌, ℕ, ◌+◌, ◌-◌, ◌≤◌, Bool, true, false, List, [], ◌∷◌, ◌++◌}
-use Rattle.std.proofs.Common.{refl, ap, arith}
+use Rattle.std.proofs.Common.{◌≡◌, ℕ, ◌-◌, ◌≤◌, Bool, true, false, List, [], ◌∷◌, ◌++◌}
+use Rattle.std.proofs.Common.{ap, arith}
 use Rattle.quick_cache_model.specs.declared.queue.Queue.{Queue}
 use Rattle.quick_cache_model.specs.declared.queue.Queue.TheVariants.{Hot, Cold}
 use Rattle.quick_cache_model.specs.CacheState.{CacheState, Item, keys_by, default_mark_cut}
@@ -14,7 +14,7 @@ use Rattle.quick_cache_policy.specs.declared.cold.Search.{Search}
 use Rattle.quick_cache_policy.specs.declared.cold.Search.TheVariants.{Marked as found_marked, Victim as found_victim, AllPassed as found_none}
 use Rattle.quick_cache_policy.specs.Advances.{FirstIsEvicted, FirstIsPromoted, StopsAt, SearchEnds, Searches}
 use Rattle.quick_cache_policy.specs.Contents.{state_of}
-use Rattle.quick_cache_policy.specs.HotRounds.{SeekEnds, VisitsHot}
+use Rattle.quick_cache_policy.specs.HotRounds.{SeekEnds}
 use Rattle.quick_cache_policy.proofs.KeptLemmas.{MeetsVictim-keeps, GivesUp-keeps}
 
 module _ {K V : Type 0} (test : K → Bool) where

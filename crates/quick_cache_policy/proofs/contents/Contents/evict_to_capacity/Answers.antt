@@ -1,5 +1,5 @@
-use Rattle.std.proofs.Common.{◌≡◌, ◌<◌, ◌≤◌, ◌+◌, ◌∙◌, ap, subst, sym, arith, refl, length, true, false, []}
-use Rattle.quick_cache_model.specs.CacheState.{CacheState, UpToOrder, total_weight}
+use Rattle.std.proofs.Common.{◌<◌, ◌≤◌, ◌+◌, ◌∙◌, ap, arith, refl, length, true, false}
+use Rattle.quick_cache_model.specs.CacheState.{total_weight}
 use Rattle.quick_cache_model.specs.Eviction.{AdvancesCold, EvictsToCapacity}
 use Rattle.quick_cache_model.proofs.OrderLaws.{SameButOrder-refl, EvictsToCapacity-has_room}
 use Rattle.quick_cache_model.proofs.OrderLaws.{EvictsToCapacity-gives_up, EvictsToCapacity-goes_on}

@@ -1,4 +1,4 @@
-use Rattle.std.proofs.Common.{◌≡◌, ℕ, ◌+◌, ◌*◌, ◌≤◌, Bool, length}
+use Rattle.std.proofs.Common.{◌≡◌, ◌+◌, ◌*◌, ◌≤◌, Bool, length}
 use Rattle.quick_cache_model.specs.CacheState.{keys_by}
 use Rattle.quick_cache_model.specs.Eviction.{EvictsToCapacity}
 use Rattle.quick_cache_model.specs.Hooks.{Calls}

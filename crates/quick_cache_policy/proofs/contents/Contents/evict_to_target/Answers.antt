@@ -1,5 +1,5 @@
-use Rattle.std.proofs.Common.{◌≡◌, ◌<◌, ◌≤◌, ◌+◌, ◌∙◌, ap, subst, sym, arith, refl, length, true, false, []}
-use Rattle.quick_cache_model.specs.CacheState.{CacheState, UpToOrder, hot_weight}
+use Rattle.std.proofs.Common.{◌<◌, ◌≤◌, ◌∙◌, ap, arith, refl, length, true, false}
+use Rattle.quick_cache_model.specs.CacheState.{hot_weight}
 use Rattle.quick_cache_model.specs.Eviction.{AdvancesHot, EvictsToTarget}
 use Rattle.quick_cache_model.proofs.OrderLaws.{SameButOrder-refl, EvictsToTarget-has_room}
 use Rattle.quick_cache_model.proofs.OrderLaws.{EvictsToTarget-gives_up, EvictsToTarget-goes_on}

@@ -1,4 +1,4 @@
-use Rattle.std.proofs.Common.{◌≡◌, ℕ, ◌≤◌, Bool, length}
+use Rattle.std.proofs.Common.{◌≡◌, ◌≤◌, Bool, length}
 use Rattle.quick_cache_model.specs.CacheState.{keys_by}
 use Rattle.quick_cache_model.specs.Eviction.{EvictsToTarget}
 use Rattle.quick_cache_model.specs.Hooks.{Calls}
@@ -6,7 +6,6 @@ use Rattle.quick_cache_policy.specs.Contents.{IsSound, state_of, work_of}
 use Rattle.quick_cache_policy.specs.Policies.{rules_by}
 use Rattle.quick_cache_policy.specs.Work.{PaysFor}
 use Rattle.quick_cache_policy.proofs.LoopLemmas.{GoesOn}
-use Rattle.quick_cache_policy.proofs.WorkLemmas.{PaysFor-none}
 use Rattle.quick_cache_policy.proofs.contents.Contents.evict_to_target.Given as goal
 
 abbrev pub invariant-loop-self : goal.invariant-loop-self

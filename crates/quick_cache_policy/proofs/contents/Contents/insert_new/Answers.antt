@@ -1,7 +1,7 @@
-use Rattle.std.proofs.Common.{◌≡◌, ℕ, ◌+◌, ◌≤◌, ◌<◌, [], sym, ap, subst, ◌∙◌, arith}
+use Rattle.std.proofs.Common.{◌≡◌, ℕ, [], sym, ap, subst, ◌∙◌, arith}
 use Rattle.std.specs.Int.NonZero.{non_zero_u32_get as number}
 use Rattle.quick_cache_model.specs.declared.queue.Queue.TheVariants.{Cold}
-use Rattle.quick_cache_model.specs.CacheState.{Item, UpToOrder, hot_weight}
+use Rattle.quick_cache_model.specs.CacheState.{Item, UpToOrder}
 use Rattle.quick_cache_model.specs.Eviction.{EvictsToCapacity}
 use Rattle.quick_cache_model.specs.Writes.{queue_for}
 use Rattle.quick_cache_lists.specs.declared.entry.Entry.TheVariants.{Item as item_variant}
