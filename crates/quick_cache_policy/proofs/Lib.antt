@@ -24,3 +24,4 @@ pub mod LoopLemmas
 pub mod ColdAdvances
 pub mod OverwriteLemmas
 pub mod BoundLemmas
+pub mod CopyLemmas
