@@ -15,7 +15,7 @@ use Rattle.quick_cache_lists.specs.declared.found.Found.TheVariants.{Item as fou
 use Rattle.quick_cache_policy.specs.declared.admission.Admission.{Admission}
 use Rattle.quick_cache_policy.specs.declared.admission.Admission.TheVariants.{Admitted as code_admitted, TooHeavy as code_too_heavy}
 use Rattle.std.proofs.lemmas.List.{length-map}
-use Rattle.quick_cache_lists.specs.Lists.{HeldItem, HeldGhost, entry_count}
+use Rattle.quick_cache_lists.specs.Lists.{HeldItem, HeldGhost, Finds, entry_count}
 use Rattle.quick_cache_lists.specs.Views.{loading_entry}
 use Rattle.quick_cache_policy.specs.declared.contents.Contents.{Contents}
 use Rattle.quick_cache_policy.specs.Contents.{state_of}
@@ -24,6 +24,7 @@ use Rattle.quick_cache_policy.proofs.HotLemmas.{counted_up-zero}
 use Rattle.quick_cache_policy.specs.Advances.{AreEvictions}
 use Rattle.quick_cache_policy.specs.Finding.{TakesSlot, Provides}
 use Rattle.quick_cache_policy.specs.Writing.{is_insert, needs_of_write, needs, IsReplacement, AreAdmittedCalls, AreWriteCalls, Writing, WritingAdmitted, Rejecting, Checks, Wrote, RefusesWrite}
+use Rattle.quick_cache_policy.proofs.FindLemmas.{Finds-nothing}
 
 -- what makes items is an insert
 pub insert-of : (strategy : Strategy) → is_insert strategy ≡ true → strategy ≡ Insert
@@ -194,3 +195,27 @@ entry_count-taken {K = K} {V = V} {P = P} ticket_of contents = omega (
   length-map contents.lists.loading (loading_entry ticket_of),
   length-map contents.lists.ghosts (λ (shade : HeldGhost). shade.hash),
 )
+
+module _ {K V P A T S : Type 0} (steady : Type 0) (hooks : Hooks K V S) (rules : Rules K V)
+    (equal : K → K → Bool) (ticket_of : P → ℕ) (strategy : Strategy) (old ready : Contents K V P A T)
+    (first last : S) (key : K) (value : V) (found : Found) (answer : Option (K × V))
+    (new : CacheState K V) where
+  -- a pair was written after room was made where it needed some: the state does not look at room
+  pub Wrote-provided : Finds (equal key) (rules.hash key) old.lists found
+      → Provides found strategy (entry_count old.lists) ready.lists.room None
+      → ready ≡ record old { lists = record old.lists { room = ready.lists.room } }
+      → Calls hooks (Writing steady
+      (λ calls now. Writes rules (equal key) key strategy (state_of ticket_of ready) value calls
+      answer now) new) first last
+      → Wrote steady hooks rules equal strategy (state_of ticket_of old) first key value answer new
+      last
+  Wrote-provided finds provides same writes = record {
+    provided = Provides-provided (equal key) (rules.hash key) (state_of ticket_of old) found
+        (Finds-nothing ticket_of (equal key) (rules.hash key) old found finds) ready.lists.room
+        strategy
+        (subst (λ (n : ℕ). Provides found strategy n ready.lists.room None)
+        (entry_count-taken ticket_of old) provides);
+    step = subst (λ (state : CacheState K V). Calls hooks (Writing steady
+        (λ calls now. Writes rules (equal key) key strategy state value calls answer now) new)
+        first last) (ap (state_of ticket_of) same) writes;
+  }

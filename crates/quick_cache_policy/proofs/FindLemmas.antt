@@ -7,7 +7,7 @@ use Rattle.quick_cache_model.specs.CacheState.{CacheState, LoadingEntry, Place, 
 use Rattle.quick_cache_model.specs.Finding.{IsItemAt, IsLoadingAt, IsGhostAt, HasNoItem, HasNoKey as HasNoKeyOf, HasNothing as HasNothingOf}
 use Rattle.quick_cache_model.proofs.EachElement.{all-middle}
 use Rattle.quick_cache_model.proofs.KeyCounts.{one_if, none-from_keys, loading_keys-split}
-use Rattle.quick_cache_lists.specs.Lists.{Lists, HeldItem, HeldLoading, HeldGhost, HasNoKey, HasNothing, FindsItem, Finds, items_at}
+use Rattle.quick_cache_lists.specs.Lists.{Lists, HeldItem, HeldLoading, HeldGhost, StandsIn, HasItem, HasNoKey, HasNothing, FindsItem, Finds, items_at}
 use Rattle.quick_cache_lists.specs.Views.{items_of, hashes_of, loading_entry, loading_entries}
 use Rattle.quick_cache_lists.specs.declared.found.Found.{Found}
 use Rattle.quick_cache_lists.specs.declared.found.Found.TheVariants.{Item as found_item, Loading as found_loading, Ghost as found_ghost, Nothing as found_nothing}
@@ -146,6 +146,45 @@ module _ {K V P A T : Type 0} (ticket_of : P → ℕ) (stands_for : K → Bool) 
     split = ap hashes_of split
         ∙ map-append (λ (shade : HeldGhost). shade.hash) before
         (record { token = token; hash = hash } ∷ after);
+  }
+
+module _ {K V P : Type 0} (stands_for : K → Bool) (hash : ℕ) (lists : Lists K V P) (room : ℕ) where
+  -- with other room, no key
+  HasNoKey-room : HasNoKey stands_for hash lists
+      → HasNoKey stands_for hash (record lists { room = room })
+  HasNoKey-room none = record {
+    hot = none.hot;
+    cold = none.cold;
+    still = none.still;
+    loading = none.loading;
+  }
+
+  -- with other room, the item at its place
+  HasItem-room : (held : HeldItem K V) (place : Place) → StandsIn (items_at place lists) held
+      → HasItem (record lists { room = room }) held
+  HasItem-room held InHot stands = record { place = InHot; stands = stands }
+  HasItem-room held InCold stands = record { place = InCold; stands = stands }
+  HasItem-room held InStill stands = record { place = InStill; stands = stands }
+
+  -- with other room, the same is found
+  pub Finds-room : (found : Found) → Finds stands_for hash lists found
+      → Finds stands_for hash (record lists { room = room }) found
+  Finds-room (found_item token) finds = record {
+    item = finds.item;
+    stands = HasItem-room _ finds.stands.place finds.stands.stands;
+    passes = finds.passes;
+  }
+  Finds-room (found_loading token) finds = record {
+    waiting = finds.waiting;
+    named = finds.named;
+    hashed = finds.hashed;
+    stands = finds.stands;
+    passes = finds.passes;
+  }
+  Finds-room (found_ghost token) finds = (HasNoKey-room finds.0, finds.1)
+  Finds-room found_nothing finds = record {
+    keys = HasNoKey-room finds.keys;
+    ghosts = finds.ghosts;
   }
 
 -- where a key is being loaded, no item has it: a valid state has one entry for it

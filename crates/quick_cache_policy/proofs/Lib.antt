@@ -11,6 +11,7 @@ pub mod HotSeekLemmas
 pub mod HotAdvanceLemmas
 pub mod VictimLemmas
 pub mod SoundLemmas
+pub mod KeyLemmas
 pub mod FindLemmas
 pub mod AdmissionLemmas
 pub mod AnswerLemmas
@@ -25,3 +26,4 @@ pub mod ColdAdvances
 pub mod OverwriteLemmas
 pub mod BoundLemmas
 pub mod CopyLemmas
+pub mod NewLemmas

@@ -74,9 +74,11 @@ impl<K: Eq + Hash, V, P: SharedPlaceholder<K>, A: Allocator> Contents<K, V, P, A
             (slot_count - slots_taken (state_of P.ticket_of self.old)) ≤ self.old.lists.room
             → IsOk result }
         ensures refused { IfErr result (λ refusal. refusal ≡ Memory) }
-        ensures same { self.new ≡ record self.old { lists = record self.old.lists {
-          room = self.new.lists.room;
-        } } }
+        ensures same { self.new ≡ record self.old {
+          lists = record self.old.lists {
+            room = self.new.lists.room;
+          };
+        } }
     {
         let ghosts = additional.min(self.ghost_limit);
         self.lists.reserve(additional.saturating_add(ghosts))

@@ -1,5 +1,6 @@
 //! How room is made: advances, one after another.
-ghost use Rattle.std.specs.Prelude.{◌≡◌, ◌+◌, ◌*◌, ◌^◌, ◌<◌, ◌≤◌, IsTrue, if◌then◌else◌};
+ghost use Rattle.std.specs.Prelude.{◌≡◌, ◌+◌, ◌*◌, ◌^◌, ◌<◌, ◌≤◌, Bool, IsTrue, if◌then◌else◌};
+ghost use Rattle.quick_cache_model.specs.CacheState.{keys_by};
 ghost use Rattle.quick_cache_model.specs.Eviction.{EvictsToTarget, AdvancesCold, EvictsToCapacity};
 ghost use Rattle.quick_cache_model.specs.Hooks.{Calls};
 ghost use Rattle.quick_cache_policy.specs.Advances.{Evicting};
@@ -38,6 +39,9 @@ impl<K: Eq + Hash + Drop, V: Drop, P: SharedPlaceholder<K>, A: Allocator> Conten
             state.old state.new }
         ensures sound { IsSound P.ticket_of K.eq (M.hashed terms.now) self.new }
         ensures room { self.old.lists.room ≤ self.new.lists.room }
+        // What makes room brings no key.
+        ensures keys { (test : K → Bool) → keys_by test (state_of P.ticket_of self.new)
+            ≤ keys_by test (state_of P.ticket_of self.old) }
         ensures fewer { ring_count Queue.Hot self.new ≤ ring_count Queue.Hot self.old }
         ensures cold { ring_count Queue.Cold self.new ≡ ring_count Queue.Cold self.old }
         ensures work { PaysFor 1
@@ -75,6 +79,9 @@ impl<K: Eq + Hash + Drop, V: Drop, P: SharedPlaceholder<K>, A: Allocator> Conten
             state.old state.new }
         ensures sound { IsSound P.ticket_of K.eq (M.hashed terms.now) self.new }
         ensures room { self.old.lists.room ≤ self.new.lists.room }
+        // What makes room brings no key.
+        ensures keys { (test : K → Bool) → keys_by test (state_of P.ticket_of self.new)
+            ≤ keys_by test (state_of P.ticket_of self.old) }
         ensures falls { ring_count Queue.Hot self.new + 2 * ring_count Queue.Cold self.new
             + (if result then 1 else 0)
             ≤ ring_count Queue.Hot self.old + 2 * ring_count Queue.Cold self.old }
@@ -120,6 +127,9 @@ impl<K: Eq + Hash + Drop, V: Drop, P: SharedPlaceholder<K>, A: Allocator> Conten
             state.old state.new }
         ensures sound { IsSound P.ticket_of K.eq (M.hashed terms.now) self.new }
         ensures room { self.old.lists.room ≤ self.new.lists.room }
+        // What makes room brings no key.
+        ensures keys { (test : K → Bool) → keys_by test (state_of P.ticket_of self.new)
+            ≤ keys_by test (state_of P.ticket_of self.old) }
         ensures work { PaysFor 1
             (ring_count Queue.Hot self.old) (ring_count Queue.Cold self.old)
             (ring_count Queue.Hot self.new) (ring_count Queue.Cold self.new)

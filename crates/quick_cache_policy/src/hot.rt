@@ -1,8 +1,9 @@
 //! Hot advances: items are visited from the head of the hot ring, round and round, and pay a mark
 //! each time, up to the first that is not pinned and has no mark to pay.
-ghost use Rattle.std.specs.Prelude.{◌≡◌, ℕ, ◌+◌, ◌<◌, ◌≤◌, if◌then◌else◌};
+ghost use Rattle.std.specs.Prelude.{◌≡◌, ℕ, ◌+◌, ◌<◌, ◌≤◌, Bool, if◌then◌else◌};
 ghost use Rattle.std.specs.Int.NonZero.{non_zero_u32_get as number};
 ghost use Rattle.quick_cache_lists.specs.Lists.{HasItemToken};
+ghost use Rattle.quick_cache_model.specs.CacheState.{keys_by};
 ghost use Rattle.quick_cache_model.specs.Eviction.{AdvancesHot};
 ghost use Rattle.quick_cache_model.specs.Hooks.{Calls};
 ghost use Rattle.quick_cache_policy.specs.Advances.{Evicting, HasTakenTouches, IsVisited};
@@ -175,6 +176,9 @@ impl<K: Eq + Hash + Drop, V: Drop, P: SharedPlaceholder<K>, A: Allocator> Conten
             state.old state.new }
         ensures sound { IsSound P.ticket_of K.eq (M.hashed terms.now) self.new }
         ensures room { self.old.lists.room ≤ self.new.lists.room }
+        // What makes room brings no key.
+        ensures keys { (test : K → Bool) → keys_by test (state_of P.ticket_of self.new)
+            ≤ keys_by test (state_of P.ticket_of self.old) }
         ensures falls { ring_count Queue.Hot self.new + (if result then 1 else 0)
             ≡ ring_count Queue.Hot self.old }
         ensures cold { ring_count Queue.Cold self.new ≡ ring_count Queue.Cold self.old }

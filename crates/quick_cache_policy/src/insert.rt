@@ -139,13 +139,17 @@ impl<K: Eq + Hash + Drop, V: Drop, P: SharedPlaceholder<K>, A: Allocator> Conten
             Found::Item(_) => unreachable!(),
             Found::Loading(token) => {
                 self.insert_over_loading(token, terms, state, hash, key, weighed);
+                None
             }
             Found::Ghost(token) => {
                 self.insert_over_ghost(token, terms, state, hash, key, weighed);
+                None
             }
-            Found::Nothing => self.insert_new(terms, state, hash, key, weighed),
+            Found::Nothing => {
+                self.insert_new(terms, state, hash, key, weighed);
+                None
+            }
         }
-        None
     }
 
     /// Checks whether the pair may come in, and writes it or turns it away.

@@ -14,11 +14,7 @@ use std::hash::Hash;
 
 impl<K: Eq + Hash, V, P: SharedPlaceholder<K>, A: Allocator> Contents<K, V, P, A> {
     /// The item under the query. Nothing changes.
-    pub fn peek<Q: Equivalent<K>>(
-        &self,
-        hash: u64,
-        query: &Q,
-    ) -> Option<&Resident<K, V, P::Touch>>
+    pub fn peek<Q: Equivalent<K>>(&self, hash: u64, query: &Q) -> Option<&Resident<K, V, P::Touch>>
         requires valid { IsValid K.eq (state_of P.ticket_of self.now) }
         requires under { AreUnder (Q.equivalent query.now) hash self.now.lists }
         ensures { MatchOption result

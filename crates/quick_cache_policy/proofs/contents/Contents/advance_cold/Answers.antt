@@ -11,6 +11,7 @@ use Rattle.quick_cache_policy.specs.Contents.{state_of, work_of}
 use Rattle.quick_cache_policy.specs.Policies.{rules_by}
 use Rattle.quick_cache_policy.proofs.ColdAdvances.{AdvancesCold-promoted, AdvancesCold-evicted}
 use Rattle.quick_cache_policy.proofs.ColdAdvances.{AdvancesCold-passed}
+use Rattle.quick_cache_policy.proofs.KeyLemmas.{FirstIsEvicted-keys, FirstIsPromoted-keys, Searches-keys, keys_by-cold}
 use Rattle.quick_cache_policy.proofs.LoopLemmas.{Calls-map}
 use Rattle.quick_cache_policy.proofs.WorkLemmas.{PaysFor-evicted}
 use Rattle.quick_cache_policy.proofs.contents.Contents.advance_cold.Goals as goal
@@ -91,3 +92,50 @@ returns-in-AllPassed-clause-advances g c =
     (subst (λ (s : CacheState _ _). Calls (g.M.Policy.hooks c.args.terms.now)
     (Evicting steady (AdvancesHot rules s c.advance_hot.result) new)
     c.args.state.now c.advance_hot.new.state) is c.advance_hot.ensures.advances)
+
+-- the search turns the ring
+pub returns-in-Marked-clause-keys : goal.returns-in-Marked-clause-keys
+returns-in-Marked-clause-keys g c test =
+    omega (
+      arith,
+      keys_by-cold g.P.SharedPlaceholder.ticket_of test c.args.self.now c.search_cold.new.self
+          c.search_cold.ensures.same
+          (Searches-keys test (g.M.Policy.steady c.args.terms.now)
+          (g.M.Policy.pinned c.args.terms.now) g.P.Touch.Touches.may_count
+          (items_of c.args.self.now.lists.cold) (items_of c.search_cold.new.self.lists.cold)
+          c.search_cold.result c.search_cold.ensures.searches),
+      FirstIsPromoted-keys test (state_of g.P.SharedPlaceholder.ticket_of c.search_cold.new.self)
+          (state_of g.P.SharedPlaceholder.ticket_of c.promote_first.new.self)
+          c.promote_first.ensures.promotes,
+      c.evict_to_target.ensures.keys test,
+    )
+
+pub returns-in-Victim-clause-keys : goal.returns-in-Victim-clause-keys
+returns-in-Victim-clause-keys g c test =
+    let e = c.evict_first.ensures.evicts in
+    let rules = rules_by g.M.Policy g.P.Touch.Touches.may_count c.args.terms.now in
+    omega (
+      arith,
+      keys_by-cold g.P.SharedPlaceholder.ticket_of test c.args.self.now c.search_cold.new.self
+          c.search_cold.ensures.same
+          (Searches-keys test (g.M.Policy.steady c.args.terms.now)
+          (g.M.Policy.pinned c.args.terms.now) g.P.Touch.Touches.may_count
+          (items_of c.args.self.now.lists.cold) (items_of c.search_cold.new.self.lists.cold)
+          c.search_cold.result c.search_cold.ensures.searches),
+      FirstIsEvicted-keys test rules Cold
+          (state_of g.P.SharedPlaceholder.ticket_of c.search_cold.new.self)
+          (state_of g.P.SharedPlaceholder.ticket_of c.evict_first.new.self) e.calls e.holds.0,
+    )
+
+pub returns-in-AllPassed-clause-keys : goal.returns-in-AllPassed-clause-keys
+returns-in-AllPassed-clause-keys g c test =
+    omega (
+      arith,
+      keys_by-cold g.P.SharedPlaceholder.ticket_of test c.args.self.now c.search_cold.new.self
+          c.search_cold.ensures.same
+          (Searches-keys test (g.M.Policy.steady c.args.terms.now)
+          (g.M.Policy.pinned c.args.terms.now) g.P.Touch.Touches.may_count
+          (items_of c.args.self.now.lists.cold) (items_of c.search_cold.new.self.lists.cold)
+          c.search_cold.result c.search_cold.ensures.searches),
+      c.advance_hot.ensures.keys test,
+    )

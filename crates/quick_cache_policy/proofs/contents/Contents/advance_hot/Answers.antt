@@ -1,8 +1,9 @@
 use Rattle.std.proofs.Common.{ap, ◌∙◌, arith}
-use Rattle.quick_cache_model.specs.declared.queue.Queue.TheVariants.{Cold}
+use Rattle.quick_cache_model.specs.declared.queue.Queue.TheVariants.{Hot, Cold}
 use Rattle.quick_cache_policy.specs.declared.contents.Contents.{Contents}
-use Rattle.quick_cache_policy.specs.Contents.{ring_count}
+use Rattle.quick_cache_policy.specs.Contents.{state_of, ring_count}
 use Rattle.quick_cache_policy.specs.Policies.{rules_by}
+use Rattle.quick_cache_policy.proofs.KeyLemmas.{FirstIsEvicted-keys, SeekEnds-keys, keys_by-hot}
 use Rattle.quick_cache_policy.proofs.HotAdvanceLemmas.{cold≢hot, PaysFor-advance, AdvancesHot-gives_up, AdvancesHot-evicts, visits-three}
 use Rattle.quick_cache_policy.proofs.contents.Contents.advance_hot.Goals as goal
 
@@ -44,3 +45,34 @@ returns-clause-work g c =
     (omega (arith, c.evict_first.ensures.falls, s.count))
     (c.evict_first.ensures.others Cold cold≢hot
     ∙ ap (λ (x : Contents _ _ _ _ _). ring_count Cold x) s.same)
+
+-- the visits lower marks
+pub returns-then-not-seek_victim-clause-keys : goal.returns-then-not-seek_victim-clause-keys
+returns-then-not-seek_victim-clause-keys g c test =
+    let s = c.seek_victim.ensures in
+    omega (
+      arith,
+      keys_by-hot g.P.SharedPlaceholder.ticket_of test c.args.self.now c.seek_victim.new.self
+          c.saturating_add-self.result s.same
+          (SeekEnds-keys test (g.M.Policy.steady c.args.terms.now)
+          (g.M.Policy.pinned c.args.terms.now) g.P.Touch.Touches.may_count c.seek_victim.result
+          _ _ s.ends.visits s.ends.ends),
+    )
+
+-- and the victim leaves, or stays with its key
+pub returns-clause-keys : goal.returns-clause-keys
+returns-clause-keys g c test =
+    let s = c.seek_victim.ensures in
+    let e = c.evict_first.ensures.evicts in
+    let rules = rules_by g.M.Policy g.P.Touch.Touches.may_count c.args.terms.now in
+    omega (
+      arith,
+      keys_by-hot g.P.SharedPlaceholder.ticket_of test c.args.self.now c.seek_victim.new.self
+          c.saturating_add-self.result s.same
+          (SeekEnds-keys test (g.M.Policy.steady c.args.terms.now)
+          (g.M.Policy.pinned c.args.terms.now) g.P.Touch.Touches.may_count c.seek_victim.result
+          _ _ s.ends.visits s.ends.ends),
+      FirstIsEvicted-keys test rules Hot
+          (state_of g.P.SharedPlaceholder.ticket_of c.seek_victim.new.self)
+          (state_of g.P.SharedPlaceholder.ticket_of c.evict_first.new.self) e.calls e.holds.0,
+    )

@@ -19,6 +19,7 @@ loop-self-init g c = record {
       (state_of g.P.SharedPlaceholder.ticket_of c.args.self.now) c.args.state.now;
   sound = c.requires.sound;
   room = omega arith;
+  keys = λ test. omega arith;
   work = PaysFor-none (length c.args.self.now.lists.hot) (length c.args.self.now.lists.cold)
       (work_of c.args.self.now) c.counts_fit.ensures.advances c.counts_fit.ensures.visits;
   same = refl;
@@ -85,6 +86,7 @@ loop-self-preserved g c =
           EvictsToCapacity-goes_on rules c.args.need mid new end calls rest above);
       sound = e.sound;
       room = omega (arith, i.room, e.room);
+      keys = λ test. omega (arith, i.keys test, e.keys test);
       work = PaysFor-then 0 0 (length c.args.self.now.lists.hot)
           (length c.args.self.now.lists.cold) (length c.loop-self.self.lists.hot)
           (length c.loop-self.self.lists.cold) (length c.advance_cold.new.self.lists.hot)
@@ -118,3 +120,7 @@ returns-clause-evicts g c =
     (state_of g.P.SharedPlaceholder.ticket_of c.args.self.now) mid
     c.args.state.now c.loop-self.state c.loop-self.invariant.so_far
     (EvictsToCapacity-has_room rules c.args.need mid mid within (SameButOrder-refl mid))
+
+pub returns-then-not-advance_cold-clause-keys : goal.returns-then-not-advance_cold-clause-keys
+returns-then-not-advance_cold-clause-keys g c test =
+    omega (arith, c.loop-self.invariant.keys test, c.if-not-advance_cold.ensures.keys test)

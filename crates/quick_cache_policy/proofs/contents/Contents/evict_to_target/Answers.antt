@@ -18,6 +18,7 @@ loop-self-init g c = record {
       (state_of g.P.SharedPlaceholder.ticket_of c.args.self.now) c.args.state.now;
   sound = c.requires.sound;
   room = omega arith;
+  keys = λ test. omega arith;
   fewer = omega arith;
   cold = refl;
   work = PaysFor-none (length c.args.self.now.lists.hot) (length c.args.self.now.lists.cold)
@@ -78,6 +79,7 @@ loop-self-preserved g c =
           (λ calls rest end. EvictsToTarget-goes_on rules mid new end calls rest above);
       sound = e.sound;
       room = omega (arith, i.room, e.room);
+      keys = λ test. omega (arith, i.keys test, e.keys test);
       fewer = omega (arith, i.fewer, e.falls);
       cold = e.cold ∙ i.cold;
       work = PaysFor-then 0 0 (length c.args.self.now.lists.hot)
@@ -109,3 +111,7 @@ returns-clause-evicts g c =
     (EvictsToTarget rules) (state_of g.P.SharedPlaceholder.ticket_of c.args.self.now) mid
     c.args.state.now c.loop-self.state c.loop-self.invariant.so_far
     (EvictsToTarget-has_room rules mid mid within (SameButOrder-refl mid))
+
+pub returns-then-not-advance_hot-clause-keys : goal.returns-then-not-advance_hot-clause-keys
+returns-then-not-advance_hot-clause-keys g c test =
+    omega (arith, c.loop-self.invariant.keys test, c.if-not-advance_hot.ensures.keys test)

@@ -1,4 +1,5 @@
-use Rattle.std.proofs.Common.{◌≡◌, ℕ, ◌≤◌, length}
+use Rattle.std.proofs.Common.{◌≡◌, ℕ, ◌≤◌, Bool, length}
+use Rattle.quick_cache_model.specs.CacheState.{keys_by}
 use Rattle.quick_cache_model.specs.Eviction.{EvictsToTarget}
 use Rattle.quick_cache_model.specs.Hooks.{Calls}
 use Rattle.quick_cache_policy.specs.Contents.{IsSound, state_of, work_of}
@@ -18,6 +19,9 @@ invariant-loop-self g l = record {
   sound : IsSound g.P.SharedPlaceholder.ticket_of g.K.PartialEq.eq (g.M.Policy.hashed l.terms)
       l.self;
   room : l.initial.self.lists.room ≤ l.self.lists.room;
+  keys : (test : _ → Bool)
+      → keys_by test (state_of g.P.SharedPlaceholder.ticket_of l.self)
+      ≤ keys_by test (state_of g.P.SharedPlaceholder.ticket_of l.initial.self);
   fewer : length l.self.lists.hot ≤ length l.initial.self.lists.hot;
   cold : length l.self.lists.cold ≡ length l.initial.self.lists.cold;
   work : PaysFor 0

@@ -1,12 +1,13 @@
 use Rattle.std.proofs.Common.{◌≡◌, ℕ, ◌+◌, refl, sym, ap, subst, ◌∙◌, Some, None, arith}
 use Rattle.quick_cache_model.specs.declared.queue.Queue.TheVariants.{Hot, Cold}
-use Rattle.quick_cache_lists.specs.Lists.{Finds}
+use Rattle.quick_cache_lists.specs.Lists.{Finds, Lists}
 use Rattle.quick_cache_policy.specs.Contents.{state_of, ring_count, work_of}
+use Rattle.quick_cache_policy.specs.Policies.{rules_by}
 use Rattle.quick_cache_policy.specs.Finding.{Provides}
 use Rattle.quick_cache_policy.specs.Work.{WorksWithin}
 use Rattle.quick_cache_policy.specs.Writing.{strategy_of}
-use Rattle.quick_cache_policy.proofs.FindLemmas.{AreHashed-under, HasNothing-state, Finds-nothing}
-use Rattle.quick_cache_policy.proofs.AnswerLemmas.{WorksWithin-none, Provides-refused, entry_count-taken}
+use Rattle.quick_cache_policy.proofs.FindLemmas.{AreHashed-under, HasNothing-state, Finds-nothing, Finds-room}
+use Rattle.quick_cache_policy.proofs.AnswerLemmas.{WorksWithin-none, Wrote-provided, Provides-refused, entry_count-taken}
 use Rattle.quick_cache_policy.proofs.contents.Contents.insert.Goals as goal
 
 -- where there was no room, nothing changed
@@ -45,3 +46,42 @@ returns-in-Some-clause-work g c =
     (sym (ap work_of c.provide.ensures.lists))
     (WorksWithin-none (ring_count Hot old + ring_count Cold old + 1) (work_of old) (omega arith)
     (omega arith))
+
+-- making room changes nothing that is found
+pub write-requires-clause-found : goal.write-requires-clause-found
+write-requires-clause-found g c =
+    let stands_for = g.K.PartialEq.eq c.args.key in
+    let old = c.args.self.now in
+    subst (λ (lists : Lists g.row.K.Denot g.row.V.Denot g.row.P.Denot).
+    Finds stands_for c.args.hash lists c.find-found.result)
+    (sym (ap (λ s. s.lists) c.provide.ensures.lists))
+    (Finds-room stands_for c.args.hash old.lists c.provide.new.self.lists.room
+    c.find-found.result c.find-found.ensures)
+
+-- there was room, and the pair was written
+pub returns-in-None-clause-answers : goal.returns-in-None-clause-answers
+returns-in-None-clause-answers g c =
+    let ticket = g.P.SharedPlaceholder.ticket_of in
+    let old = c.args.self.now in
+    Wrote-provided (g.M.Policy.steady c.args.terms.now) (g.M.Policy.hooks c.args.terms.now)
+    (rules_by g.M.Policy g.P.Touch.Touches.may_count c.args.terms.now) g.K.PartialEq.eq ticket
+    (strategy_of c.args.strategy) old c.provide.new.self c.args.state.now c.write.new.state
+    c.args.key c.args.value c.find-found.result None
+    (state_of ticket c.write.new.self)
+    (subst (λ (h : ℕ). Finds (g.K.PartialEq.eq c.args.key) h old.lists c.find-found.result)
+    c.requires.hash_is c.find-found.ensures)
+    c.in_default.ensures.provides c.provide.ensures.lists c.in-None.ensures.writes
+
+-- or given back
+pub returns-in-Some-write-clause-answers : goal.returns-in-Some-write-clause-answers
+returns-in-Some-write-clause-answers g c =
+    let ticket = g.P.SharedPlaceholder.ticket_of in
+    let old = c.args.self.now in
+    Wrote-provided (g.M.Policy.steady c.args.terms.now) (g.M.Policy.hooks c.args.terms.now)
+    (rules_by g.M.Policy g.P.Touch.Touches.may_count c.args.terms.now) g.K.PartialEq.eq ticket
+    (strategy_of c.args.strategy) old c.provide.new.self c.args.state.now c.write.new.state
+    c.args.key c.args.value c.find-found.result (Some (c.in-Some-write.key, c.in-Some-write.value))
+    (state_of ticket c.write.new.self)
+    (subst (λ (h : ℕ). Finds (g.K.PartialEq.eq c.args.key) h old.lists c.find-found.result)
+    c.requires.hash_is c.find-found.ensures)
+    c.in_default.ensures.provides c.provide.ensures.lists c.in-Some-write.ensures.writes
