@@ -26,4 +26,5 @@ pub mod ColdAdvances
 pub mod OverwriteLemmas
 pub mod BoundLemmas
 pub mod CopyLemmas
+pub mod RewriteLemmas
 pub mod NewLemmas
