@@ -25,4 +25,6 @@ pub mod LoopLemmas
 pub mod ColdAdvances
 pub mod OverwriteLemmas
 pub mod BoundLemmas
+pub mod CopyLemmas
+pub mod RewriteLemmas
 pub mod NewLemmas
