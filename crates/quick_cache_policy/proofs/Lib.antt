@@ -25,5 +25,6 @@ pub mod LoopLemmas
 pub mod ColdAdvances
 pub mod OverwriteLemmas
 pub mod BoundLemmas
+pub mod CopyLemmas
 pub mod RewriteLemmas
 pub mod NewLemmas
