@@ -1,8 +1,11 @@
 //! One cache: each call is the step of its definition.
 #![tactic(auto)]
 
+mod readers;
 mod shard;
+mod walk;
 
 pub use quick_cache_model::Token;
 pub use quick_cache_policy::{InsertStrategy, SharedPlaceholder, Touches};
 pub use shard::CacheShard;
+pub use walk::{GhostIter, RingIter};

@@ -15,7 +15,7 @@ ghost use Rattle.quick_cache_model.specs.Removal.{Removes, pair_of};
 ghost use Rattle.quick_cache_model.specs.Sizes.{hot_target_of, ghost_limit_of};
 ghost use Rattle.quick_cache_policy.specs.Work.{no_work, WorksWithin};
 ghost use Rattle.quick_cache_policy.specs.Writing.{strategy_of, AnswersWrite};
-ghost use Rattle.quick_cache_shard.specs.Copies.{ClonesAreEqual, IsCopyOf};
+ghost use Rattle.quick_cache_policy.specs.Copies.{ClonesAreEqual, ClonesHashAlike, IsCopyOf};
 ghost use Rattle.quick_cache_shard.specs.Shard.{rules_of, hooks_of, UpToOrder, IsSoundShard, HasItem};
 ghost use Rattle.quick_cache_model.specs.Refusals.{slots_taken, slot_count};
 
@@ -117,27 +117,27 @@ impl<K: Eq + Hash, V, We, B: BuildHasher, L, P: SharedPlaceholder<K>, A: Allocat
     }
 
     /// A cache of clones of the keys and values, with the same marks, order and counts, or
-    /// `Memory`. Its room is its own.
+    /// `Memory`. Its room is its own, and it has no placeholders.
     pub fn try_clone(&self) -> Result<Self, Refusal>
     where
-        K: Clone,
-        V: Clone,
+        K: Clone + Drop,
+        V: Clone + Drop,
         We: Clone,
         B: Clone,
         L: Clone,
         A: Clone,
         requires keys { ClonesAreEqual K.eq K.is_clone }
-        ensures copies { IfOk result (λ copy.
-            IsCopyOf K.is_clone V.is_clone self.now.state copy.state) }
+        requires hashes { ClonesHashAlike B.BuildHasher B.Hasher.Hasher B.is_clone
+            self.now.builder }
+        ensures copies { IfOk result (λ copy. UpToOrder
+            (IsCopyOf K.is_clone V.is_clone self.now.state) copy.state) }
         ensures weigher { IfOk result (λ copy. We.is_clone self.now.weigher copy.weigher) }
         ensures builder { IfOk result (λ copy. B.is_clone self.now.builder copy.builder) }
         ensures lifecycle { IfOk result (λ copy. L.is_clone self.now.lifecycle copy.lifecycle) }
         ensures work { IfOk result (λ copy. copy.work ≡ no_work) }
         ensures refused { IfErr result (λ refusal. refusal ≡ Memory) }
     {
-        let Ok(contents) = self.contents.try_copy() else {
-            return Err(Refusal::Memory);
-        };
+        let contents = self.contents.try_copy()?;
         let weigher: Result<_, _> = self.terms.weigher.clone();
         let builder: Result<_, _> = self.terms.builder.clone();
         let lifecycle: Result<_, _> = self.terms.lifecycle.clone();
@@ -222,8 +222,11 @@ impl<K: Eq + Hash, V, We, B: BuildHasher, L, P: SharedPlaceholder<K>, A: Allocat
         } }
         ensures sound { IsSoundShard K.eq self.new }
     {
-        self.contents
-            .insert(&self.terms, state, hash, key, value, strategy)
+        let answer = self
+            .contents
+            .insert(&self.terms, state, hash, key, value, strategy);
+        self.contents.lists.apart();
+        answer
     }
 
     /// The value under the query, which is handed in with its hash. A find counts a hit, marks the
@@ -231,8 +234,9 @@ impl<K: Eq + Hash, V, We, B: BuildHasher, L, P: SharedPlaceholder<K>, A: Allocat
     pub fn get<Q: Equivalent<K>>(&mut self, hash: u64, query: &Q) -> Option<&V>
         requires hash_is { hash ≡ hash_of B.BuildHasher B.Hasher.Hasher self.old.builder
             (Q.hash_input query.now) }
-        ensures* looks_up { sem 𝓛 (ends_so K.row V.row We.row B.row L.row P.row A.row P.Touch.row
-            K.eq K.hash_input P.SharedPlaceholder P.Touch.is_default P.Touch.may_count
+        ensures* looks_up { sem 𝓛 (ends_so K.row V.row We.row B.row L.row P.row A.row
+            B.Hasher.row P.Touch.row K.eq K.hash_input B.BuildHasher B.Hasher.Hasher
+            P.SharedPlaceholder P.Touch.is_default P.Touch.may_count
             P.Touch.none_counted A.Allocator self.entry
             (λ new. UpToOrder (LooksUp (Q.equivalent query.now) self.old.state (λ item. item.value)
             (option_copied result)) new.state
@@ -247,8 +251,9 @@ impl<K: Eq + Hash, V, We, B: BuildHasher, L, P: SharedPlaceholder<K>, A: Allocat
     pub fn get_key_value<Q: Equivalent<K>>(&mut self, hash: u64, query: &Q) -> Option<(&K, &V)>
         requires hash_is { hash ≡ hash_of B.BuildHasher B.Hasher.Hasher self.old.builder
             (Q.hash_input query.now) }
-        ensures* looks_up { sem 𝓛 (ends_so K.row V.row We.row B.row L.row P.row A.row P.Touch.row
-            K.eq K.hash_input P.SharedPlaceholder P.Touch.is_default P.Touch.may_count
+        ensures* looks_up { sem 𝓛 (ends_so K.row V.row We.row B.row L.row P.row A.row
+            B.Hasher.row P.Touch.row K.eq K.hash_input B.BuildHasher B.Hasher.Hasher
+            P.SharedPlaceholder P.Touch.is_default P.Touch.may_count
             P.Touch.none_counted A.Allocator self.entry
             (λ new. UpToOrder (LooksUp (Q.equivalent query.now) self.old.state pair_of
             (option_map deref_pair result)) new.state
@@ -268,6 +273,7 @@ impl<K: Eq + Hash, V, We, B: BuildHasher, L, P: SharedPlaceholder<K>, A: Allocat
             (option_copied result) }
         ensures sound { IsSoundShard K.eq self.now }
     {
+        self.contents.lists.apart();
         let item = self.contents.peek(hash, query)?;
         Some(item.value())
     }
@@ -280,6 +286,7 @@ impl<K: Eq + Hash, V, We, B: BuildHasher, L, P: SharedPlaceholder<K>, A: Allocat
         ensures absent { OnFalse result (HasNoItem (Q.equivalent query.now) self.now.state) }
         ensures sound { IsSoundShard K.eq self.now }
     {
+        self.contents.lists.apart();
         self.contents.peek(hash, query).is_some()
     }
 
@@ -297,6 +304,8 @@ impl<K: Eq + Hash, V, We, B: BuildHasher, L, P: SharedPlaceholder<K>, A: Allocat
         ensures same { self.new ≡ record self.old { state = self.new.state; room = self.new.room } }
         ensures sound { IsSoundShard K.eq self.new }
     {
-        self.contents.remove(hash, query)
+        let taken = self.contents.remove(hash, query);
+        self.contents.lists.apart();
+        taken
     }
 }
