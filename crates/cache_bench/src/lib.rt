@@ -1,0 +1,40 @@
+//! The cache for one thread, for a program that times it beside other caches.
+#![tactic(auto)]
+
+use quick_cache_model::Refusal;
+use quick_cache_unsync::Cache;
+use std::alloc::Global;
+
+/// The answer in a mode that is not built.
+const NOT_BUILT: u64 = u64::MAX;
+
+/// The answer where the cache could not be made or an insert was refused.
+const REFUSED: u64 = u64::MAX - 1;
+
+// Looks each key up, inserts it as its own value where nothing was found, and counts the hits.
+fn hits_by_get_and_insert(alloc: Global, items: usize, keys: &[u64]) -> Result<u64, Refusal> {
+    let mut cache = Cache::new(alloc, items)?;
+    let mut hits = 0u64;
+    for key in keys {
+        if cache.get(key).is_some() {
+            hits += 1;
+        } else {
+            cache.insert(*key, *key).map_err(|(_, _, refusal)| refusal)?;
+        }
+    }
+    Ok(hits)
+}
+
+/// Goes over the keys with a new cache of so many items, each of weight 1, and answers the hits.
+///
+/// Mode 0 is a `get` of each key, and an `insert` where that gave nothing. No other mode is built.
+/// Mode 1 would be one `get_or_insert_with`, a call that the cache does not have yet. Mode 2 would
+/// be mode 0 by `run`, over lists of calls for 64 keys; but a list is made before its first reply
+/// is known, so it cannot hold the insert of just those keys that its `get`s will miss.
+#[unsafe(no_mangle)]
+pub extern "C" fn qcbench_trace(alloc: Global, mode: u32, items: u64, keys: &[u64]) -> u64 {
+    match mode {
+        0 => hits_by_get_and_insert(alloc, items as usize, keys).unwrap_or(REFUSED),
+        _ => NOT_BUILT,
+    }
+}
