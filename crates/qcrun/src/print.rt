@@ -42,10 +42,7 @@ fn show<A: Allocator, W: Write>(cache: &NumberCache<A>, writer: &mut W) -> io::R
 
 /// Prints the line of the counts: how many items there are, their weight, the hot target and the
 /// ghost limit.
-fn print_counts<A: Allocator, W: Write>(
-    cache: &NumberCache<A>,
-    writer: &mut W,
-) -> io::Result<()>
+fn print_counts<A: Allocator, W: Write>(cache: &NumberCache<A>, writer: &mut W) -> io::Result<()>
     ensures { OnOk result (Appends (W.contents writer.old) (W.contents writer.new)
         (line_of (counts_text cache.now.state))) }
 {
