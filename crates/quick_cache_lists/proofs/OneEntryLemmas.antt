@@ -65,18 +65,18 @@ module _ {K V P : Type 0} (lists : Lists K V P) (apart : AreApart lists) where
               arith,
               apart held.token,
               stands-once (λ (h : HeldItem K V). h.token) held.token lists.hot [] rest held split
-              refl,
+                  refl,
               stands-once (λ (h : HeldItem K V). h.token) held.token lists.cold stands.before
-              stands.after other stands.split is,
+                  stands.after other stands.split is,
             ))
         go InStill stands =
             absurd (omega (
               arith,
               apart held.token,
               stands-once (λ (h : HeldItem K V). h.token) held.token lists.hot [] rest held split
-              refl,
+                  refl,
               stands-once (λ (h : HeldItem K V). h.token) held.token lists.still stands.before
-              stands.after other stands.split is,
+                  stands.after other stands.split is,
             ))
     first-item Cold other split has is = go has.place has.stands
       where
@@ -94,18 +94,18 @@ module _ {K V P : Type 0} (lists : Lists K V P) (apart : AreApart lists) where
               arith,
               apart held.token,
               stands-once (λ (h : HeldItem K V). h.token) held.token lists.cold [] rest held split
-              refl,
+                  refl,
               stands-once (λ (h : HeldItem K V). h.token) held.token lists.hot stands.before
-              stands.after other stands.split is,
+                  stands.after other stands.split is,
             ))
         go InStill stands =
             absurd (omega (
               arith,
               apart held.token,
               stands-once (λ (h : HeldItem K V). h.token) held.token lists.cold [] rest held split
-              refl,
+                  refl,
               stands-once (λ (h : HeldItem K V). h.token) held.token lists.still stands.before
-              stands.after other stands.split is,
+                  stands.after other stands.split is,
             ))
 
     -- no placeholder has it
@@ -118,7 +118,7 @@ module _ {K V P : Type 0} (lists : Lists K V P) (apart : AreApart lists) where
           apart held.token,
           stands-once (λ (h : HeldItem K V). h.token) held.token lists.hot [] rest held split refl,
           stands-once (λ (w : HeldLoading K P). w.token) held.token lists.loading stands.before
-          stands.after waiting stands.split is,
+              stands.after waiting stands.split is,
         )
     first-loading Cold waiting split stands is =
         omega (
@@ -126,7 +126,7 @@ module _ {K V P : Type 0} (lists : Lists K V P) (apart : AreApart lists) where
           apart held.token,
           stands-once (λ (h : HeldItem K V). h.token) held.token lists.cold [] rest held split refl,
           stands-once (λ (w : HeldLoading K P). w.token) held.token lists.loading stands.before
-          stands.after waiting stands.split is,
+              stands.after waiting stands.split is,
         )
 
     -- and no ghost
@@ -139,7 +139,7 @@ module _ {K V P : Type 0} (lists : Lists K V P) (apart : AreApart lists) where
           apart held.token,
           stands-once (λ (h : HeldItem K V). h.token) held.token lists.hot [] rest held split refl,
           stands-once (λ (g : HeldGhost). g.token) held.token lists.ghosts stands.before
-          stands.after shade stands.split is,
+              stands.after shade stands.split is,
         )
     first-ghost Cold shade split stands is =
         omega (
@@ -147,7 +147,7 @@ module _ {K V P : Type 0} (lists : Lists K V P) (apart : AreApart lists) where
           apart held.token,
           stands-once (λ (h : HeldItem K V). h.token) held.token lists.cold [] rest held split refl,
           stands-once (λ (g : HeldGhost). g.token) held.token lists.ghosts stands.before
-          stands.after shade stands.split is,
+              stands.after shade stands.split is,
         )
 
     -- the lists without it
@@ -181,7 +181,7 @@ module _ {K V P : Type 0} (lists : Lists K V P) (apart : AreApart lists) where
             apart t,
             stands-once (λ (g : HeldGhost). g.token) t lists.ghosts before [] _ split refl,
             stands-once (λ (h : HeldItem K V). h.token) t lists.hot stands.before stands.after _
-            stands.split refl,
+                stands.split refl,
           ))
       go InCold stands =
           absurd (omega (
@@ -189,7 +189,7 @@ module _ {K V P : Type 0} (lists : Lists K V P) (apart : AreApart lists) where
             apart t,
             stands-once (λ (g : HeldGhost). g.token) t lists.ghosts before [] _ split refl,
             stands-once (λ (h : HeldItem K V). h.token) t lists.cold stands.before stands.after _
-            stands.split refl,
+                stands.split refl,
           ))
       go InStill stands =
           absurd (omega (
@@ -197,7 +197,7 @@ module _ {K V P : Type 0} (lists : Lists K V P) (apart : AreApart lists) where
             apart t,
             stands-once (λ (g : HeldGhost). g.token) t lists.ghosts before [] _ split refl,
             stands-once (λ (h : HeldItem K V). h.token) t lists.still stands.before stands.after _
-            stands.split refl,
+                stands.split refl,
           ))
   last_ghost-hash before t hash other (loading_variant awaited) split stands =
       absurd (omega (
@@ -205,7 +205,7 @@ module _ {K V P : Type 0} (lists : Lists K V P) (apart : AreApart lists) where
         apart t,
         stands-once (λ (g : HeldGhost). g.token) t lists.ghosts before [] _ split refl,
         stands-once (λ (w : HeldLoading K P). w.token) t lists.loading stands.before stands.after _
-        stands.split refl,
+            stands.split refl,
       ))
   last_ghost-hash before t hash other ghost_variant split stands =
       ap (λ (g : HeldGhost). g.hash)

@@ -1,12 +1,12 @@
 //! Whether a pair may come in at all, and what becomes of one that may not.
-ghost use Rattle.std.specs.Prelude.{◌≡◌, ℕ, ◌≤◌, [], ◌∷◌};
+ghost use Rattle.std.specs.Prelude.{◌≡◌, ℕ, ◌≤◌, [], ◌∷◌, None, true};
 ghost use Rattle.std.specs.Int.NonZero.{non_zero_u32_get as number};
 ghost use Rattle.quick_cache_lists.specs.Lists.{Finds, HasItemToken};
 ghost use Rattle.quick_cache_model.specs.Hooks.{Calls, RunsHooks, evicted};
 ghost use Rattle.quick_cache_model.specs.Writes.{TakesOutItem, RejectsTooHeavy};
 ghost use Rattle.quick_cache_policy.specs.Contents.{IsSound, state_of};
 ghost use Rattle.quick_cache_policy.specs.Policies.{rules_by};
-ghost use Rattle.quick_cache_policy.specs.Writing.{strategy_of, Checks, IsReplacement, Rejecting};
+ghost use Rattle.quick_cache_policy.specs.Writing.{strategy_of, is_insert, Checks, IsReplacement, Rejecting};
 
 use crate::contents::Contents;
 use crate::placeholder::SharedPlaceholder;
@@ -132,6 +132,8 @@ impl<K: Eq + Hash + Drop, V: Drop, P: SharedPlaceholder<K>, A: Allocator> Conten
             (Rejecting (K.eq key) key (strategy_of strategy) (state_of P.ticket_of self.old) value
             result (state_of P.ticket_of self.new))
             state.old state.new }
+        // An insert takes the pair.
+        ensures taken { is_insert (strategy_of strategy) ≡ true → result ≡ None }
         ensures sound { IsSound P.ticket_of K.eq (M.hashed terms.now) self.new }
         ensures room { self.old.lists.room ≤ self.new.lists.room }
         ensures same { self.new ≡ record self.old { lists = self.new.lists } }

@@ -1,5 +1,5 @@
 //! Writes: inserts and replaces.
-ghost use Rattle.std.specs.Prelude.{◌≡◌, ℕ, ◌+◌, ◌≤◌, ◌<◌, None, Some, IfErr};
+ghost use Rattle.std.specs.Prelude.{◌≡◌, ℕ, ◌+◌, ◌≤◌, ◌<◌, None, Some, IfErr, IsSome, true};
 ghost use Rattle.quick_cache_lists.specs.Lists.{Finds, entry_count};
 ghost use Rattle.quick_cache_model.specs.Hooks.{Calls};
 ghost use Rattle.quick_cache_model.specs.Writes.{WritesAdmitted, Writes, Insert};
@@ -8,7 +8,7 @@ ghost use Rattle.quick_cache_policy.specs.Contents.{IsSound, state_of, ring_coun
 ghost use Rattle.quick_cache_policy.specs.Finding.{TakesSlot, Provides};
 ghost use Rattle.quick_cache_policy.specs.Policies.{rules_by};
 ghost use Rattle.quick_cache_policy.specs.Work.{WorksWithin};
-ghost use Rattle.quick_cache_policy.specs.Writing.{strategy_of, Writing, WritingAdmitted, AnswersWrite};
+ghost use Rattle.quick_cache_policy.specs.Writing.{strategy_of, is_insert, Writing, WritingAdmitted, AnswersWrite};
 
 use crate::admission::{Admission, Weighed};
 use crate::contents::Contents;
@@ -109,6 +109,8 @@ impl<K: Eq + Hash + Drop, V: Drop, P: SharedPlaceholder<K>, A: Allocator> Conten
             result)
             (state_of P.ticket_of self.new))
             state.old state.new }
+        // An insert takes the pair.
+        ensures taken { is_insert (strategy_of strategy) ≡ true → result ≡ None }
         ensures sound { IsSound P.ticket_of K.eq (M.hashed terms.now) self.new }
         ensures room { self.old.lists.room ≤ self.new.lists.room + 1 }
         ensures work { WorksWithin
@@ -173,6 +175,8 @@ impl<K: Eq + Hash + Drop, V: Drop, P: SharedPlaceholder<K>, A: Allocator> Conten
             (K.eq key) key (strategy_of strategy) (state_of P.ticket_of self.old) value calls result)
             (state_of P.ticket_of self.new))
             state.old state.new }
+        // An insert takes the pair.
+        ensures taken { is_insert (strategy_of strategy) ≡ true → result ≡ None }
         ensures sound { IsSound P.ticket_of K.eq (M.hashed terms.now) self.new }
         ensures room { self.old.lists.room ≤ self.new.lists.room + 1 }
         ensures work { WorksWithin
@@ -214,6 +218,9 @@ impl<K: Eq + Hash + Drop, V: Drop, P: SharedPlaceholder<K>, A: Allocator> Conten
             (rules_by M.Policy P.Touch.may_count terms.now)
             K.eq (strategy_of strategy) (state_of P.ticket_of self.old) state.old key value result
             (state_of P.ticket_of self.new) state.new }
+        // Only a replace gives a pair back with no refusal.
+        ensures taken { is_insert (strategy_of strategy) ≡ true
+            → IfErr result (λ back. IsSome back.2) }
         ensures sound { IsSound P.ticket_of K.eq (M.hashed terms.now) self.new }
         // It takes room for one entry at most, and asks for memory only where there is no room.
         ensures room { self.old.lists.room ≤ self.new.lists.room + 1 }

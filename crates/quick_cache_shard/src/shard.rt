@@ -1,5 +1,5 @@
 //! The shard: its calls, and what a contract sees of it.
-ghost use Rattle.std.specs.Prelude.{◌≡◌, IfOk, IfErr, IsOk, MatchOption, option_copied, ◌≤◌, ◌+◌, OnErr, Some, min, ◌-◌, OnOk, length};
+ghost use Rattle.std.specs.Prelude.{◌≡◌, IfOk, IfErr, IsOk, MatchOption, option_copied, ◌≤◌, ◌+◌, OnErr, Some, min, ◌-◌, OnOk, length, IsSome, true};
 ghost use Rattle.std.specs.Bool.{OnTrue, OnFalse};
 ghost use Rattle.std.specs.Borrow.{sem};
 ghost use Rattle.std.specs.Option.{option_map};
@@ -14,7 +14,7 @@ ghost use Rattle.quick_cache_model.specs.Lookups.{LooksUp, Sees};
 ghost use Rattle.quick_cache_model.specs.Removal.{Removes, pair_of};
 ghost use Rattle.quick_cache_model.specs.Sizes.{hot_target_of, ghost_limit_of};
 ghost use Rattle.quick_cache_policy.specs.Work.{no_work, WorksWithin};
-ghost use Rattle.quick_cache_policy.specs.Writing.{strategy_of, AnswersWrite};
+ghost use Rattle.quick_cache_policy.specs.Writing.{strategy_of, is_insert, AnswersWrite};
 ghost use Rattle.quick_cache_policy.specs.Copies.{ClonesAreEqual, ClonesHashAlike, IsCopyOf};
 ghost use Rattle.quick_cache_shard.specs.Shard.{rules_of, hooks_of, UpToOrder, IsSoundShard, HasItem};
 ghost use Rattle.quick_cache_model.specs.Refusals.{slots_taken, slot_count};
@@ -209,6 +209,9 @@ impl<K: Eq + Hash, V, We, B: BuildHasher, L, P: SharedPlaceholder<K>, A: Allocat
             B.Hasher.Hasher L.Lifecycle self.old)
             K.eq (strategy_of strategy) self.old.state state.old key value result
             self.new.state state.new }
+        // Only a replace gives a pair back with no refusal.
+        ensures taken { is_insert (strategy_of strategy) ≡ true
+            → IfErr result (λ back. IsSome back.2) }
         // It takes room for one entry at most, and asks for memory only where there is no room.
         ensures room { self.old.room ≤ self.new.room + 1 }
         ensures asks { IfErr result (λ back. back.2 ≡ Some Memory → self.old.room ≡ 0) }

@@ -15,7 +15,8 @@ pub struct RingIter<'a, K: Eq + Hash, V, P: SharedPlaceholder<K>, A: Allocator =
     pub(crate) items: Ring<'a, K, V, P, P::Touch, A>,
 }
 
-impl<'a, K: Eq + Hash, V, P: SharedPlaceholder<K>, A: Allocator> Model for RingIter<'a, K, V, P, A> {
+impl<'a, K: Eq + Hash, V, P: SharedPlaceholder<K>, A: Allocator> Model
+    for RingIter<'a, K, V, P, A> {
     ghost use Rattle.std.specs.Prelude.{ℕ, List, map};
     ghost use Rattle.quick_cache_shard.specs.Shard.{shown};
 

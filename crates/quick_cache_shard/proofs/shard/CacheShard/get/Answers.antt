@@ -22,24 +22,28 @@ returns g c =
     let value = c.value.ensures ∙ ap (λ (item : Item g.row.K.Denot g.row.V.Denot). item.value) shown
     in
     let work = ap (λ (now : Contents g.row.K.Denot g.row.V.Denot g.row.P.Denot g.row.A.Denot
-    g.row.P-Touch.Denot). work_of now) c.look_up.ensures.same in
-    ((
-      refl,
-      (λ shard. tt),
-      (rw (← c.self.view_is)
-      (LooksUp-shown (g.Q.Equivalent.equivalent c.args.query.now)
-      (state_of g.P.SharedPlaceholder.ticket_of c.self.inside.contents)
-      (state_of g.P.SharedPlaceholder.ticket_of c.look_up.new.self) (λ item. item.value)
-      looks.item.value c.value.result.now value looks.value),
-      (λ i. record {
-        state = state_of g.P.SharedPlaceholder.ticket_of c.look_up.new.self;
-        weigher = c.self.inside.terms.weigher;
-        builder = c.self.inside.terms.builder;
-        lifecycle = c.self.inside.terms.lifecycle;
-        room = c.look_up.ensures.room i;
-        work = work i;
-      }) ∙ ap (λ (old : Shard g.row.K.Denot g.row.V.Denot g.row.We.Denot g.row.B.Denot
-      g.row.L.Denot). record old {
-        state = state_of g.P.SharedPlaceholder.ticket_of c.look_up.new.self;
-      }) c.self.view_is),
-    ), record { looks_up = tt })
+    g.row.P-Touch.Denot). work_of now) c.look_up.ensures.same in (
+      (
+        refl,
+        (λ shard. tt),
+        (
+          rw (← c.self.view_is)
+              (LooksUp-shown (g.Q.Equivalent.equivalent c.args.query.now)
+              (state_of g.P.SharedPlaceholder.ticket_of c.self.inside.contents)
+              (state_of g.P.SharedPlaceholder.ticket_of c.look_up.new.self) (λ item. item.value)
+              looks.item.value c.value.result.now value looks.value),
+          (λ i. record {
+            state = state_of g.P.SharedPlaceholder.ticket_of c.look_up.new.self;
+            weigher = c.self.inside.terms.weigher;
+            builder = c.self.inside.terms.builder;
+            lifecycle = c.self.inside.terms.lifecycle;
+            room = c.look_up.ensures.room i;
+            work = work i;
+          }) ∙ ap (λ (old : Shard g.row.K.Denot g.row.V.Denot g.row.We.Denot g.row.B.Denot
+              g.row.L.Denot). record old {
+                state = state_of g.P.SharedPlaceholder.ticket_of c.look_up.new.self;
+              }) c.self.view_is,
+        ),
+      ),
+      record { looks_up = tt },
+    )

@@ -18,23 +18,27 @@ pub returns-in_err-token : goal.returns-in_err-token
 returns-in_err-token g c =
     let looks = c.in_err-token.ensures.looks_up in
     let work = ap (λ (now : Contents g.row.K.Denot g.row.V.Denot g.row.P.Denot g.row.A.Denot
-    g.row.P-Touch.Denot). work_of now) c.look_up.ensures.same in
-    ((
-      refl,
-      (λ shard. tt),
-      ((rw (← c.self.view_is, c.from_residual.ensures) looks.pair),
-      (λ i. record {
-        state = state_of g.P.SharedPlaceholder.ticket_of c.look_up.new.self;
-        weigher = c.self.inside.terms.weigher;
-        builder = c.self.inside.terms.builder;
-        lifecycle = c.self.inside.terms.lifecycle;
-        room = c.look_up.ensures.room i;
-        work = work i;
-      }) ∙ ap (λ (old : Shard g.row.K.Denot g.row.V.Denot g.row.We.Denot g.row.B.Denot
-      g.row.L.Denot). record old {
-        state = state_of g.P.SharedPlaceholder.ticket_of c.look_up.new.self;
-      }) c.self.view_is),
-    ), record { looks_up = tt })
+    g.row.P-Touch.Denot). work_of now) c.look_up.ensures.same in (
+      (
+        refl,
+        (λ shard. tt),
+        (
+          (rw (← c.self.view_is, c.from_residual.ensures) looks.pair),
+          (λ i. record {
+            state = state_of g.P.SharedPlaceholder.ticket_of c.look_up.new.self;
+            weigher = c.self.inside.terms.weigher;
+            builder = c.self.inside.terms.builder;
+            lifecycle = c.self.inside.terms.lifecycle;
+            room = c.look_up.ensures.room i;
+            work = work i;
+          }) ∙ ap (λ (old : Shard g.row.K.Denot g.row.V.Denot g.row.We.Denot g.row.B.Denot
+              g.row.L.Denot). record old {
+                state = state_of g.P.SharedPlaceholder.ticket_of c.look_up.new.self;
+              }) c.self.view_is,
+        ),
+      ),
+      record { looks_up = tt },
+    )
 
 -- the item that is shown is the one that was looked up
 pub returns : goal.returns
@@ -46,24 +50,28 @@ returns g c =
     (λ i. (c.pair.ensures.key i, c.pair.ensures.value i))
     ∙ ap (λ (item : Item g.row.K.Denot g.row.V.Denot). pair_of item) shown in
     let work = ap (λ (now : Contents g.row.K.Denot g.row.V.Denot g.row.P.Denot g.row.A.Denot
-    g.row.P-Touch.Denot). work_of now) c.look_up.ensures.same in
-    ((
-      refl,
-      (λ shard. tt),
-      (rw (← c.self.view_is)
-      (LooksUp-shown (g.Q.Equivalent.equivalent c.args.query.now)
-      (state_of g.P.SharedPlaceholder.ticket_of c.self.inside.contents)
-      (state_of g.P.SharedPlaceholder.ticket_of c.look_up.new.self) pair_of
-      (pair_of looks.item) (c.pair.result.0.now, c.pair.result.1.now) pair looks.pair),
-      (λ i. record {
-        state = state_of g.P.SharedPlaceholder.ticket_of c.look_up.new.self;
-        weigher = c.self.inside.terms.weigher;
-        builder = c.self.inside.terms.builder;
-        lifecycle = c.self.inside.terms.lifecycle;
-        room = c.look_up.ensures.room i;
-        work = work i;
-      }) ∙ ap (λ (old : Shard g.row.K.Denot g.row.V.Denot g.row.We.Denot g.row.B.Denot
-      g.row.L.Denot). record old {
-        state = state_of g.P.SharedPlaceholder.ticket_of c.look_up.new.self;
-      }) c.self.view_is),
-    ), record { looks_up = tt })
+    g.row.P-Touch.Denot). work_of now) c.look_up.ensures.same in (
+      (
+        refl,
+        (λ shard. tt),
+        (
+          rw (← c.self.view_is)
+              (LooksUp-shown (g.Q.Equivalent.equivalent c.args.query.now)
+              (state_of g.P.SharedPlaceholder.ticket_of c.self.inside.contents)
+              (state_of g.P.SharedPlaceholder.ticket_of c.look_up.new.self) pair_of
+              (pair_of looks.item) (c.pair.result.0.now, c.pair.result.1.now) pair looks.pair),
+          (λ i. record {
+            state = state_of g.P.SharedPlaceholder.ticket_of c.look_up.new.self;
+            weigher = c.self.inside.terms.weigher;
+            builder = c.self.inside.terms.builder;
+            lifecycle = c.self.inside.terms.lifecycle;
+            room = c.look_up.ensures.room i;
+            work = work i;
+          }) ∙ ap (λ (old : Shard g.row.K.Denot g.row.V.Denot g.row.We.Denot g.row.B.Denot
+              g.row.L.Denot). record old {
+                state = state_of g.P.SharedPlaceholder.ticket_of c.look_up.new.self;
+              }) c.self.view_is,
+        ),
+      ),
+      record { looks_up = tt },
+    )
