@@ -63,7 +63,10 @@ impl<K: Eq + Hash + Drop, V: Drop, P: SharedPlaceholder<K>, A: Allocator> Conten
             .min(u64::from(MARK_CUT)) as u8;
         let mark = strategy.mark_after(touched);
         let Weighed { value, weight } = weighed;
-        let item = Resident::new(key, value, weight, mark, queue, P::Touch::default());
+        // The touches were taken in, so the count of them begins anew, whatever it begins with.
+        let mut touch = P::Touch::default();
+        let _ = touch.take();
+        let item = Resident::new(key, value, weight, mark, queue, touch);
         let (old_key, old_value) = self.lists.rewrite(token, item).into_pair();
         report(queue, terms, state, old_key, old_value);
         self.evict_to_capacity(0, terms, state);
