@@ -1,10 +1,10 @@
 //! Prints what became of a command.
 ghost use Rattle.std.specs.Prelude.{◌++◌, OnOk, codes};
 ghost use Rattle.std.specs.Io.KnownBytes.{Appends};
-ghost use Rattle.qcrun.specs.Printed.{ghosts_text, items_text, line_of, outcome_text, shown_text};
+ghost use Rattle.qcrun.specs.Printed.{counts_text, ghosts_text, items_text, line_of, outcome_text, shown_text};
 
 use crate::session::{NumberCache, Outcome, Session};
-use quick_cache_shard::{GhostIter, RingIter};
+use quick_cache_shard::{GhostIter, RingIter, SharedPlaceholder};
 use std::alloc::Allocator;
 use std::io::{self, Write};
 
@@ -37,15 +37,25 @@ fn show<A: Allocator, W: Write>(cache: &NumberCache<A>, writer: &mut W) -> io::R
     print_ring("hot", shard.iter_hot(), writer)?;
     print_ring("cold", shard.iter_cold(), writer)?;
     print_ghosts(shard.iter_ghosts(), writer)?;
+    print_counts(cache, writer)
+}
+
+/// Prints the line of the counts: how many items there are, their weight, the hot target and the
+/// ghost limit.
+fn print_counts<A: Allocator, W: Write>(cache: &NumberCache<A>, writer: &mut W) -> io::Result<()>
+    ensures { OnOk result (Appends (W.contents writer.old) (W.contents writer.new)
+        (line_of (counts_text cache.now.state))) }
+{
+    let shard = cache.shard();
     let (len, weight) = (shard.len(), shard.weight());
     let (target, limit) = (shard.hot_target(), shard.ghost_limit());
     writeln!(writer, "count {len} {weight} {target} {limit}")
 }
 
 /// Prints the line of a ring: its name and its items.
-fn print_ring<T, W: Write>(
+fn print_ring<P: SharedPlaceholder<u64>, A: Allocator, W: Write>(
     name: &str,
-    items: RingIter<'_, u64, u64, T>,
+    items: RingIter<'_, u64, u64, P, A>,
     writer: &mut W,
 ) -> io::Result<()>
     ensures { OnOk result (Appends (W.contents writer.old) (W.contents writer.new)
@@ -57,7 +67,10 @@ fn print_ring<T, W: Write>(
 }
 
 /// Prints the line of the ghosts.
-fn print_ghosts<W: Write>(hashes: GhostIter<'_>, writer: &mut W) -> io::Result<()>
+fn print_ghosts<P: SharedPlaceholder<u64>, A: Allocator, W: Write>(
+    hashes: GhostIter<'_, u64, u64, P, A>,
+    writer: &mut W,
+) -> io::Result<()>
     ensures { OnOk result (Appends (W.contents writer.old) (W.contents writer.new)
         (line_of (codes "ghosts" ++ ghosts_text hashes.entry))) }
 {
@@ -67,7 +80,10 @@ fn print_ghosts<W: Write>(hashes: GhostIter<'_>, writer: &mut W) -> io::Result<(
 }
 
 /// Prints the items of a ring.
-fn print_items<T, W: Write>(items: RingIter<'_, u64, u64, T>, writer: &mut W) -> io::Result<()>
+fn print_items<P: SharedPlaceholder<u64>, A: Allocator, W: Write>(
+    items: RingIter<'_, u64, u64, P, A>,
+    writer: &mut W,
+) -> io::Result<()>
     ensures { OnOk result (Appends (W.contents writer.old) (W.contents writer.new)
         (items_text items.entry)) }
 {
@@ -78,7 +94,10 @@ fn print_items<T, W: Write>(items: RingIter<'_, u64, u64, T>, writer: &mut W) ->
 }
 
 /// Prints hashes.
-fn print_hashes<W: Write>(hashes: GhostIter<'_>, writer: &mut W) -> io::Result<()>
+fn print_hashes<P: SharedPlaceholder<u64>, A: Allocator, W: Write>(
+    hashes: GhostIter<'_, u64, u64, P, A>,
+    writer: &mut W,
+) -> io::Result<()>
     ensures { OnOk result (Appends (W.contents writer.old) (W.contents writer.new)
         (ghosts_text hashes.entry)) }
 {

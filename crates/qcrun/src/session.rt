@@ -1,6 +1,6 @@
 //! The cache that stands, and what commands do to it.
 ghost use Rattle.std.specs.Prelude.{◌≡◌, None, option_copied};
-ghost use Rattle.quick_cache_shard.specs.Shard.{rules_of, ClonesExactly, IsPlainCache};
+ghost use Rattle.quick_cache_shard.specs.Shard.{rules_of, ClonesExactly};
 ghost use Rattle.quick_cache_unsync.specs.Touches.{no_touches};
 ghost use Rattle.qcrun.specs.Served.{Serves, first_reply};
 ghost use Rattle.qcrun.specs.Sessions.{MakesCache, ServesCommand};
@@ -50,7 +50,7 @@ fn insert<
     state: &mut L::RequestState,
 ) -> Reply<K, V>
     requires clones { ClonesExactly V.is_clone }
-    requires plain { IsPlainCache We.Weighter L.Lifecycle cache.old }
+    requires steady { L.steady cache.old.lifecycle }
     ensures serves { Serves
         (rules_of no_touches K.Hash.hash_input We.Weighter B.BuildHasher B.Hasher.Hasher L.Lifecycle cache.old)
         K.eq cache.old.state (Call.Insert key value) result cache.new.state }
@@ -86,7 +86,7 @@ fn make_call<
     state: &mut L::RequestState,
 ) -> Reply<K, V>
     requires clones { ClonesExactly V.is_clone }
-    requires plain { IsPlainCache We.Weighter L.Lifecycle cache.old }
+    requires steady { L.steady cache.old.lifecycle }
     ensures serves { Serves
         (rules_of no_touches K.Hash.hash_input We.Weighter B.BuildHasher B.Hasher.Hasher L.Lifecycle cache.old)
         K.eq cache.old.state call result cache.new.state }

@@ -17,5 +17,7 @@ pub mod MoveLemmas
 pub mod NextLemmas
 pub mod RewriteLemmas
 pub mod CallerLemmas
+pub mod OneEntryLemmas
 pub mod WalkLemmas
+pub mod StandingLemmas
 pub mod CopyLemmas

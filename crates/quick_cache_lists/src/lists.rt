@@ -49,6 +49,7 @@ impl<K, V, P, T, A: Allocator> Lists<K, V, P, T, A> {
     where
         A: Clone,
         ensures empty { IfOk result (λ lists. lists ≡ no_lists) }
+        ensures succeeds { A.is_infallible alloc → IsOk result }
         ensures refused { OnErr result (result ≡ Err Refusal.Memory) }
     {
         let Ok(for_slots) = alloc.clone() else {

@@ -97,6 +97,14 @@ impl<K, V, T> Resident<K, V, T> {
         &self.value
     }
 
+    /// The key and the value.
+    pub fn pair(&self) -> (&K, &V)
+        ensures key { result.0.now ≡ self.now.key }
+        ensures value { result.1.now ≡ self.now.value }
+    {
+        (&self.key, &self.value)
+    }
+
     /// The list of an item: that of its queue, or neither if it weighs nothing.
     pub(crate) fn stand(&self) -> Stand
         ensures { result ≡ stand_of_item self.now }

@@ -1,9 +1,11 @@
 //! The shard: its calls, and what a contract sees of it.
-ghost use Rattle.std.specs.Prelude.{◌≡◌, IfOk, IfErr, IsOk, MatchOption, option_copied, ◌≤◌, ◌+◌, OnErr, Some, min, ◌-◌, OnOk};
+ghost use Rattle.std.specs.Prelude.{◌≡◌, IfOk, IfErr, IsOk, MatchOption, option_copied, ◌≤◌, ◌+◌, OnErr, Some, min, ◌-◌, OnOk, length, IsSome, true};
 ghost use Rattle.std.specs.Bool.{OnTrue, OnFalse};
 ghost use Rattle.std.specs.Borrow.{sem};
 ghost use Rattle.std.specs.Option.{option_map};
+ghost use Rattle.std.specs.Int.NonZero.{non_zero_u32_get as number};
 ghost use Rattle.std.specs.Map.Iter.{deref_pair};
+ghost use Rattle.quick_cache_lists.specs.Lists.{HasItemToken, IsItemOf};
 ghost use Rattle.quick_cache_model.specs.declared.refusal.Refusal.TheVariants.{Memory};
 ghost use Rattle.quick_cache_model.specs.CacheState.{empty_state};
 ghost use Rattle.quick_cache_model.specs.Finding.{HasNoItem};
@@ -11,19 +13,15 @@ ghost use Rattle.quick_cache_model.specs.Hashing.{hash_of};
 ghost use Rattle.quick_cache_model.specs.Lookups.{LooksUp, Sees};
 ghost use Rattle.quick_cache_model.specs.Removal.{Removes, pair_of};
 ghost use Rattle.quick_cache_model.specs.Sizes.{hot_target_of, ghost_limit_of};
-ghost use Rattle.quick_cache_shard.specs.Copies.{ClonesAreEqual, IsCopyOf};
-ghost use Rattle.quick_cache_shard.specs.Places.{IsLookedUp, IsMissed, IsPlaced, IsKeyAt, IsValueAt};
-ghost use Rattle.quick_cache_shard.specs.Shard.{rules_of, hooks_of, strategy_of, AnswersWrite, UpToOrder, IsPlainCache, IsSoundShard, HasItem, no_work};
+ghost use Rattle.quick_cache_policy.specs.Work.{no_work, WorksWithin};
+ghost use Rattle.quick_cache_policy.specs.Writing.{strategy_of, is_insert, AnswersWrite};
+ghost use Rattle.quick_cache_policy.specs.Copies.{ClonesAreEqual, ClonesHashAlike, IsCopyOf};
+ghost use Rattle.quick_cache_shard.specs.Shard.{rules_of, hooks_of, UpToOrder, IsSoundShard, HasItem};
 ghost use Rattle.quick_cache_model.specs.Refusals.{slots_taken, slot_count};
 
-use crate::find::Location;
-use crate::insert::InsertStrategy;
-use crate::lists::look_up_at;
-use crate::placeholder::SharedPlaceholder;
-use crate::policy::Terms;
-use crate::rings::{Rings, SLOT_COUNT};
 use quick_cache_base::sizes::{ghost_limit, hot_target};
-use quick_cache_model::{Equivalent, Lifecycle, Queue, Refusal, Weighter, hash_of};
+use quick_cache_model::{Equivalent, Lifecycle, Refusal, Token, Weighter, hash_of};
+use quick_cache_policy::{Contents, InsertStrategy, SharedPlaceholder, Terms};
 use std::alloc::{Allocator, Global};
 use std::hash::{BuildHasher, Hash};
 use std::marker::Model;
@@ -31,28 +29,39 @@ use std::marker::Model;
 /// One cache: the items of a hot and of a cold ring, and the hashes of what left the cold ring
 /// lately.
 #[derive(Drop)]
-pub struct CacheShard<K: Eq + Hash, V, We, B, L, P: SharedPlaceholder<K>, A: Allocator = Global> {
-    pub(crate) rings: Rings<K, V, P, A>,
+pub struct CacheShard<
+    K: Eq + Hash,
+    V,
+    We,
+    B: BuildHasher,
+    L,
+    P: SharedPlaceholder<K>,
+    A: Allocator = Global,
+> {
+    pub(crate) contents: Contents<K, V, P, A>,
     terms: Terms<We, B, L>,
 }
 
-impl<K: Eq + Hash, V, We, B, L, P: SharedPlaceholder<K>, A: Allocator> Model
+impl<K: Eq + Hash, V, We, B: BuildHasher, L, P: SharedPlaceholder<K>, A: Allocator> Model
     for CacheShard<K, V, We, B, L, P, A> {
     ghost use Rattle.quick_cache_shard.specs.Shard.{Shard};
-    ghost use Rattle.quick_cache_shard.specs.Rings.{IsSound, state_of, room_of, work_of};
+    ghost use Rattle.quick_cache_model.specs.Hashing.{hash_of};
+    ghost use Rattle.quick_cache_policy.specs.Contents.{IsSound, state_of, work_of};
 
     ghost Value = { Shard K V We B L };
 
     ghost view = { λ s. record {
-      state = state_of s.rings;
+      state = state_of P.ticket_of s.contents;
       weigher = s.terms.weigher;
       builder = s.terms.builder;
       lifecycle = s.terms.lifecycle;
-      room = room_of s.rings;
-      work = work_of s.rings;
+      room = s.contents.lists.room;
+      work = work_of s.contents;
     } };
 
-    ghost invariant = { λ s. IsSound K.eq s.rings };
+    ghost invariant = { λ s. IsSound P.ticket_of K.eq
+        (λ key. hash_of B.BuildHasher B.Hasher.Hasher s.terms.builder (K.hash_input key))
+        s.contents };
 }
 
 impl<K: Eq + Hash, V, We, B: BuildHasher, L, P: SharedPlaceholder<K>, A: Allocator> CacheShard<
@@ -96,24 +105,9 @@ impl<K: Eq + Hash, V, We, B: BuildHasher, L, P: SharedPlaceholder<K>, A: Allocat
         ensures succeeds { A.is_infallible alloc → IsOk result }
         ensures refused { IfErr result (λ refusal. refusal ≡ Memory) }
     {
-        let second: Result<_, _> = alloc.clone();
-        let third: Result<_, _> = alloc.clone();
-        let (Ok(second), Ok(third)) = (second, third) else {
-            return Err(Refusal::Memory);
-        };
+        let (hot_target, ghost_limit) = (hot_target(weight, hot), ghost_limit(items, ghosts));
         Ok(CacheShard {
-            rings: Rings {
-                hot: Vec::new(alloc),
-                cold: Vec::new(second),
-                ghosts: Vec::new(third),
-                capacity: weight,
-                hot_target: hot_target(weight, hot),
-                ghost_limit: ghost_limit(items, ghosts),
-                hits: 0,
-                misses: 0,
-                advances: 0,
-                visits: 0,
-            },
+            contents: Contents::new(alloc, weight, hot_target, ghost_limit)?,
             terms: Terms {
                 weigher,
                 builder,
@@ -123,27 +117,27 @@ impl<K: Eq + Hash, V, We, B: BuildHasher, L, P: SharedPlaceholder<K>, A: Allocat
     }
 
     /// A cache of clones of the keys and values, with the same marks, order and counts, or
-    /// `Memory`. Its room is its own.
+    /// `Memory`. Its room is its own, and it has no placeholders.
     pub fn try_clone(&self) -> Result<Self, Refusal>
     where
-        K: Clone,
-        V: Clone,
+        K: Clone + Drop,
+        V: Clone + Drop,
         We: Clone,
         B: Clone,
         L: Clone,
         A: Clone,
         requires keys { ClonesAreEqual K.eq K.is_clone }
-        ensures copies { IfOk result (λ copy.
-            IsCopyOf K.is_clone V.is_clone self.now.state copy.state) }
+        requires hashes { ClonesHashAlike B.BuildHasher B.Hasher.Hasher B.is_clone
+            self.now.builder }
+        ensures copies { IfOk result (λ copy. UpToOrder
+            (IsCopyOf K.is_clone V.is_clone self.now.state) copy.state) }
         ensures weigher { IfOk result (λ copy. We.is_clone self.now.weigher copy.weigher) }
         ensures builder { IfOk result (λ copy. B.is_clone self.now.builder copy.builder) }
         ensures lifecycle { IfOk result (λ copy. L.is_clone self.now.lifecycle copy.lifecycle) }
         ensures work { IfOk result (λ copy. copy.work ≡ no_work) }
         ensures refused { IfErr result (λ refusal. refusal ≡ Memory) }
     {
-        let Ok(rings) = self.rings.try_copy() else {
-            return Err(Refusal::Memory);
-        };
+        let contents = self.contents.try_copy()?;
         let weigher: Result<_, _> = self.terms.weigher.clone();
         let builder: Result<_, _> = self.terms.builder.clone();
         let lifecycle: Result<_, _> = self.terms.lifecycle.clone();
@@ -151,7 +145,7 @@ impl<K: Eq + Hash, V, We, B: BuildHasher, L, P: SharedPlaceholder<K>, A: Allocat
             return Err(Refusal::Memory);
         };
         Ok(CacheShard {
-            rings,
+            contents,
             terms: Terms {
                 weigher,
                 builder,
@@ -177,12 +171,7 @@ impl<K: Eq + Hash, V, We, B: BuildHasher, L, P: SharedPlaceholder<K>, A: Allocat
         ensures refused { IfErr result (λ refusal. refusal ≡ Memory) }
         ensures same { self.new ≡ record self.old { room = self.new.room } }
     {
-        let left = SLOT_COUNT - self.rings.entries();
-        let with_ghosts = additional.saturating_add(additional.min(self.rings.ghost_limit));
-        if !self.rings.grow(with_ghosts.min(left)) {
-            return Err(Refusal::Memory);
-        }
-        Ok(())
+        self.contents.reserve(additional)
     }
 
     /// The hash of a key or a query, as the calls below are handed it.
@@ -214,15 +203,21 @@ impl<K: Eq + Hash, V, We, B: BuildHasher, L, P: SharedPlaceholder<K>, A: Allocat
         L: Lifecycle<K, V>,
         requires hash_is { hash
             ≡ hash_of B.BuildHasher B.Hasher.Hasher self.old.builder (K.hash_input key) }
-        requires plain { IsPlainCache We.Weighter L.Lifecycle self.old }
-        ensures answers { AnswersWrite (hooks_of L.Lifecycle self.old)
+        // Where pinning is steady, the write is a step of its definition.
+        ensures answers { AnswersWrite (L.steady self.old.lifecycle) (hooks_of L.Lifecycle self.old)
             (rules_of P.Touch.may_count K.Hash.hash_input We.Weighter B.BuildHasher
             B.Hasher.Hasher L.Lifecycle self.old)
             K.eq (strategy_of strategy) self.old.state state.old key value result
             self.new.state state.new }
+        // Only a replace gives a pair back with no refusal.
+        ensures taken { is_insert (strategy_of strategy) ≡ true
+            → IfErr result (λ back. IsSome back.2) }
         // It takes room for one entry at most, and asks for memory only where there is no room.
         ensures room { self.old.room ≤ self.new.room + 1 }
         ensures asks { IfErr result (λ back. back.2 ≡ Some Memory → self.old.room ≡ 0) }
+        // How much work it takes, whatever is pinned.
+        ensures work { WorksWithin (length self.old.state.hot + length self.old.state.cold + 1)
+            self.old.work self.new.work }
         ensures same { self.new ≡ record self.old {
           state = self.new.state;
           room = self.new.room;
@@ -230,8 +225,11 @@ impl<K: Eq + Hash, V, We, B: BuildHasher, L, P: SharedPlaceholder<K>, A: Allocat
         } }
         ensures sound { IsSoundShard K.eq self.new }
     {
-        self.rings
-            .insert(&self.terms, state, hash, key, value, strategy)
+        let answer = self
+            .contents
+            .insert(&self.terms, state, hash, key, value, strategy);
+        self.contents.lists.apart();
+        answer
     }
 
     /// The value under the query, which is handed in with its hash. A find counts a hit, marks the
@@ -239,30 +237,34 @@ impl<K: Eq + Hash, V, We, B: BuildHasher, L, P: SharedPlaceholder<K>, A: Allocat
     pub fn get<Q: Equivalent<K>>(&mut self, hash: u64, query: &Q) -> Option<&V>
         requires hash_is { hash ≡ hash_of B.BuildHasher B.Hasher.Hasher self.old.builder
             (Q.hash_input query.now) }
-        ensures* looks_up { sem 𝓛 (ends_so K.row V.row We.row B.row L.row P.row A.row P.Touch.row
-            K.eq K.hash_input P.SharedPlaceholder P.Touch.is_default P.Touch.may_count
+        ensures* looks_up { sem 𝓛 (ends_so K.row V.row We.row B.row L.row P.row A.row
+            B.Hasher.row P.Touch.row K.eq K.hash_input B.BuildHasher B.Hasher.Hasher
+            P.SharedPlaceholder P.Touch.is_default P.Touch.may_count
             P.Touch.none_counted A.Allocator self.entry
             (λ new. UpToOrder (LooksUp (Q.equivalent query.now) self.old.state (λ item. item.value)
             (option_copied result)) new.state
             × (new ≡ record self.old { state = new.state }))) }
     {
-        let at = self.look_up(hash, query)?;
-        Some(self.value_at(at))
+        let token = self.contents.look_up(hash, query)?;
+        self.contents.lists.apart();
+        Some(self.contents.lists.item(token).value())
     }
 
     /// The pair under the query, as `get` finds its value.
     pub fn get_key_value<Q: Equivalent<K>>(&mut self, hash: u64, query: &Q) -> Option<(&K, &V)>
         requires hash_is { hash ≡ hash_of B.BuildHasher B.Hasher.Hasher self.old.builder
             (Q.hash_input query.now) }
-        ensures* looks_up { sem 𝓛 (ends_so K.row V.row We.row B.row L.row P.row A.row P.Touch.row
-            K.eq K.hash_input P.SharedPlaceholder P.Touch.is_default P.Touch.may_count
+        ensures* looks_up { sem 𝓛 (ends_so K.row V.row We.row B.row L.row P.row A.row
+            B.Hasher.row P.Touch.row K.eq K.hash_input B.BuildHasher B.Hasher.Hasher
+            P.SharedPlaceholder P.Touch.is_default P.Touch.may_count
             P.Touch.none_counted A.Allocator self.entry
             (λ new. UpToOrder (LooksUp (Q.equivalent query.now) self.old.state pair_of
             (option_map deref_pair result)) new.state
             × (new ≡ record self.old { state = new.state }))) }
     {
-        let at = self.look_up(hash, query)?;
-        Some(self.pair_at(at))
+        let token = self.contents.look_up(hash, query)?;
+        self.contents.lists.apart();
+        Some(self.contents.lists.item(token).pair())
     }
 
     /// The value under the query, which is handed in with its hash. Nothing changes: it is no use
@@ -274,12 +276,9 @@ impl<K: Eq + Hash, V, We, B: BuildHasher, L, P: SharedPlaceholder<K>, A: Allocat
             (option_copied result) }
         ensures sound { IsSoundShard K.eq self.now }
     {
-        match self.rings.find(hash, query) {
-            Location::InHot(at) => Some(self.rings.hot[at].value()),
-            Location::InCold(at) => Some(self.rings.cold[at].value()),
-            Location::AmongGhosts(_) => None,
-            Location::Nowhere => None,
-        }
+        self.contents.lists.apart();
+        let item = self.contents.peek(hash, query)?;
+        Some(item.value())
     }
 
     /// Whether there is an item under the query, which is handed in with its hash. Nothing changes.
@@ -290,17 +289,16 @@ impl<K: Eq + Hash, V, We, B: BuildHasher, L, P: SharedPlaceholder<K>, A: Allocat
         ensures absent { OnFalse result (HasNoItem (Q.equivalent query.now) self.now.state) }
         ensures sound { IsSoundShard K.eq self.now }
     {
-        match self.rings.find(hash, query) {
-            Location::InHot(_) => true,
-            Location::InCold(_) => true,
-            Location::AmongGhosts(_) => false,
-            Location::Nowhere => false,
-        }
+        self.contents.lists.apart();
+        self.contents.peek(hash, query).is_some()
     }
 
     /// Takes the item under the query out and gives its pair, or takes out a ghost of its hash. No
     /// hook is called, and no memory is asked for.
     pub fn remove<Q: Equivalent<K>>(&mut self, hash: u64, query: &Q) -> Option<(K, V)>
+    where
+        K: Drop,
+        V: Drop,
         requires hash_is { hash ≡ hash_of B.BuildHasher B.Hasher.Hasher self.old.builder
             (Q.hash_input query.now) }
         ensures removes { UpToOrder (Removes (Q.equivalent query.now) self.old.state hash result)
@@ -309,58 +307,8 @@ impl<K: Eq + Hash, V, We, B: BuildHasher, L, P: SharedPlaceholder<K>, A: Allocat
         ensures same { self.new ≡ record self.old { state = self.new.state; room = self.new.room } }
         ensures sound { IsSoundShard K.eq self.new }
     {
-        self.rings.remove(hash, query)
-    }
-
-    /// Takes note of a look-up, and tells where the item is.
-    fn look_up<Q: Equivalent<K>>(&mut self, hash: u64, query: &Q) -> Option<(Queue, usize)>
-        ensures looks_up { MatchOption result
-            (IsMissed (Q.equivalent query.now) self.old.state self.new.state)
-            (λ at. IsLookedUp (Q.equivalent query.now) self.old.state at self.new.state) }
-        ensures same { self.new ≡ record self.old { state = self.new.state } }
-    {
-        match self.rings.find(hash, query) {
-            Location::InHot(at) => {
-                look_up_at(&mut self.rings.hot, at);
-                self.rings.hits = self.rings.hits.saturating_add(1);
-                Some((Queue::Hot, at))
-            }
-            Location::InCold(at) => {
-                look_up_at(&mut self.rings.cold, at);
-                self.rings.hits = self.rings.hits.saturating_add(1);
-                Some((Queue::Cold, at))
-            }
-            Location::AmongGhosts(_) => {
-                self.rings.misses = self.rings.misses.saturating_add(1);
-                None
-            }
-            Location::Nowhere => {
-                self.rings.misses = self.rings.misses.saturating_add(1);
-                None
-            }
-        }
-    }
-
-    /// The value of the item at a place of a ring.
-    fn value_at(&self, at: (Queue, usize)) -> &V
-        requires { IsPlaced self.now.state at }
-        ensures { IsValueAt self.now.state at result.now }
-    {
-        match at.0 {
-            Queue::Hot => self.rings.hot[at.1].value(),
-            Queue::Cold => self.rings.cold[at.1].value(),
-        }
-    }
-
-    /// The pair of the item at a place of a ring.
-    fn pair_at(&self, at: (Queue, usize)) -> (&K, &V)
-        requires { IsPlaced self.now.state at }
-        ensures key { IsKeyAt self.now.state at result.0.now }
-        ensures value { IsValueAt self.now.state at result.1.now }
-    {
-        match at.0 {
-            Queue::Hot => self.rings.hot[at.1].pair(),
-            Queue::Cold => self.rings.cold[at.1].pair(),
-        }
+        let taken = self.contents.remove(hash, query);
+        self.contents.lists.apart();
+        taken
     }
 }

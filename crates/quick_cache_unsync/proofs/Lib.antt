@@ -1,4 +1,3 @@
-pub mod InsertLemmas
 pub mod StepLemmas
 pub mod RunLemmas
 pub mod ShownLemmas

@@ -37,24 +37,24 @@ module _ {K V : Type 0} (rules : Rules K V) (equal : K → K → Bool) (shows : 
       (MayRefuse.memory_refused provided tt)
   refused_clone of key (Sees.is_absent none) is_some = absurd cc
 
-  module _ {S : Type 0} (hooks : Hooks K V S) where
+  module _ {S : Type 0} (steady : Type 0) (is_steady : steady) (hooks : Hooks K V S) where
     -- an insert that was made
     pub inserted : (first : S) (key : K) (value : V) (new : CacheState K V) (last : S)
-        → Wrote hooks rules equal insertion old first key value None new last
+        → Wrote steady hooks rules equal insertion old first key value None new last
         → (calls : List (HookCall K V))
         × CacheStep rules equal shows old (Insert key value) Done calls new
         × RunsHooks hooks calls first last
     inserted first key value new last wrote = (
       wrote.step.calls,
       CacheStep.inserts key value wrote.step.calls new wrote.provided
-          wrote.step.holds,
+          (wrote.step.holds.0 is_steady),
       wrote.step.runs,
     )
 
     -- an insert that was refused: the pair is the one that was handed in, and nothing changed
     pub refused_insert : (first : S) (key : K) (value : V) (back_key : K) (back_value : V)
         (refusal : Refusal) (new : CacheState K V) (last : S)
-        → RefusesWrite hooks rules equal insertion old first key value back_key back_value refusal
+        → RefusesWrite steady hooks rules equal insertion old first key value back_key back_value refusal
         new last
         → (calls : List (HookCall K V))
         × CacheStep rules equal shows old (Insert key value)

@@ -6,15 +6,16 @@ use Rattle.quick_cache_model.specs.Hooks.{Rules, Hooks}
 use Rattle.quick_cache_model.specs.Writes.{Insert}
 use Rattle.quick_cache_shard.specs.Shard.{Wrote, RefusesWrite}
 
-module _ {K V S : Type 0} (hooks : Hooks K V S) (rules : Rules K V) (equal : K → K → Bool)
-    (old : CacheState K V) where
+module _ {K V S : Type 0} (steady : Type 0) (hooks : Hooks K V S) (rules : Rules K V)
+    (equal : K → K → Bool) (old : CacheState K V) where
   -- The pair was written, or it was refused and comes back. The hooks led the request state from
-  -- the first to the last.
+  -- the first to the last. Where pinning is steady, a pair that was written was so by a step of its
+  -- definition.
   abbrev pub Inserts : S → K → V → Result (Unit {0}) (K × V × Refusal) → CacheState K V → S → Type 0
   Inserts first key value (Ok done) new last =
-      Wrote hooks rules equal Insert old first key value None new last
+      Wrote steady hooks rules equal Insert old first key value None new last
   Inserts first key value (Err back) new last =
-      RefusesWrite hooks rules equal Insert old first key value back.0 back.1 back.2 new last
+      RefusesWrite steady hooks rules equal Insert old first key value back.0 back.1 back.2 new last
 
   -- the same with a request state of the call's own, a default one at first
   pub record InsertsAlone (is_default : S → Type 0) (key : K) (value : V)

@@ -3,15 +3,18 @@
 use Rattle.std.specs.Prelude.{ℕ, Bool, List, ⊤}
 use Rattle.std.specs.Borrow.{Fml, RattleType, MutBor, follows_so}
 use Rattle.std.specs.declared.alloc.Allocator.{Ghosts}
+use Rattle.std.specs.declared.hash.Hasher as hasher
+use Rattle.std.specs.declared.hash.BuildHasher as builder
 use mathlib.Core.Option.{none}
 use Rattle.quick_cache_shard.specs.Shard.{Shard}
 use Rattle.quick_cache_unsync.specs.contracts.cache.Cache.{the_row}
 
-module _ (K V We B L A : RattleType) (equal : K.Denot → K.Denot → Bool)
-    (writes : K.Denot → List (List ℕ)) (alloc : Ghosts A.Denot) where
+module _ (K V We B L A H : RattleType) (equal : K.Denot → K.Denot → Bool)
+    (writes : K.Denot → List (List ℕ)) (make : builder.Ghosts B.Denot H.Denot)
+    (hashes : hasher.Ghosts H.Denot) (alloc : Ghosts A.Denot) where
   abbrev row_of : RattleType
-  row_of = the_row K V We B L A (record {}) (record { eq = equal })
-      (record { hash_input = writes }) alloc
+  row_of = the_row K V We B L A H (record {}) (record { eq = equal })
+      (record { hash_input = writes }) make hashes alloc
 
   -- P holds of it
   abbrev pub ends_so : MutBor (Shard K.Denot V.Denot We.Denot B.Denot L.Denot)

@@ -6,6 +6,8 @@ pub mod CacheStep
 pub mod CacheRun
 pub use Rattle.quick_cache_shard.specs.Shard
 pub use Rattle.quick_cache_shard.specs.Copies
+pub use Rattle.quick_cache_shard.specs.Writing
+pub use Rattle.quick_cache_shard.specs.Work
 pub use Rattle.quick_cache_model.specs.Hashing
 pub use Rattle.quick_cache_model.specs.CacheState
 pub use Rattle.quick_cache_model.specs.Hooks

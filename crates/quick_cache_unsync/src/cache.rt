@@ -1,5 +1,5 @@
 //! The cache for one thread.
-ghost use Rattle.std.specs.Prelude.{◌≡◌, ◌≤◌, ◌+◌, ◌^◌, ◌-◌, ◌↔◌, min, IsTrue, IfOk, IfErr, IsOk, Some, codes, option_copied, OnOk};
+ghost use Rattle.std.specs.Prelude.{◌≡◌, ◌≤◌, ◌+◌, ◌^◌, ◌-◌, ◌↔◌, min, IsTrue, IfOk, IfErr, IsOk, Some, codes, option_copied, OnOk, length};
 ghost use Rattle.std.specs.Borrow.{sem};
 ghost use Rattle.quick_cache_model.specs.declared.refusal.Refusal.TheVariants.{Memory};
 ghost use Rattle.quick_cache_model.specs.CacheState.{empty_state, item_count, total_weight};
@@ -9,8 +9,8 @@ ghost use Rattle.quick_cache_model.specs.Hashing.{hash_of};
 ghost use Rattle.quick_cache_model.specs.Lookups.{Sees, LooksUp};
 ghost use Rattle.quick_cache_model.specs.Removal.{Removes};
 ghost use Rattle.quick_cache_model.specs.Sizes.{hot_target_of, ghost_limit_of, default_hot_share, default_ghost_share};
-ghost use Rattle.quick_cache_shard.specs.Copies.{ClonesAreEqual, IsCopyOf};
-ghost use Rattle.quick_cache_shard.specs.Shard.{no_work, rules_of, hooks_of, HasItem, IsPlainCache, IsSoundShard, UpToOrder};
+ghost use Rattle.quick_cache_shard.specs.Copies.{ClonesAreEqual, ClonesHashAlike, IsCopyOf};
+ghost use Rattle.quick_cache_shard.specs.Shard.{no_work, rules_of, hooks_of, HasItem, IsSoundShard, WorksWithin, UpToOrder};
 ghost use Rattle.quick_cache_unsync.specs.Inserts.{Inserts, InsertsAlone};
 ghost use Rattle.quick_cache_unsync.specs.Touches.{no_touches};
 ghost use Rattle.quick_cache_model.specs.Refusals.{slots_taken, slot_count};
@@ -33,14 +33,14 @@ pub struct Cache<
     K: Eq + Hash,
     V,
     We = UnitWeighter,
-    B = DefaultHashBuilder,
+    B: BuildHasher = DefaultHashBuilder,
     L = DefaultLifecycle<K, V>,
     A: Allocator = Global,
 > {
     shard: CacheShard<K, V, We, B, L, Placeholder, A>,
 }
 
-impl<K: Eq + Hash, V, We, B, L, A: Allocator> Model for Cache<K, V, We, B, L, A> {
+impl<K: Eq + Hash, V, We, B: BuildHasher, L, A: Allocator> Model for Cache<K, V, We, B, L, A> {
     ghost use Rattle.quick_cache_shard.specs.Shard.{Shard};
 
     ghost Value = { Shard K V We B L };
@@ -135,15 +135,17 @@ impl<K: Eq + Hash, V, We, B: BuildHasher, L, A: Allocator> Cache<K, V, We, B, L,
     /// `Memory` where a clone or room for the entries was refused.
     pub fn try_clone(&self) -> Result<Self, Refusal>
     where
-        K: Clone,
-        V: Clone,
+        K: Clone + Drop,
+        V: Clone + Drop,
         We: Clone,
         B: Clone,
         L: Clone,
         A: Clone,
         requires keys { ClonesAreEqual K.eq K.is_clone }
-        ensures copies { IfOk result (λ copy.
-            IsCopyOf K.is_clone V.is_clone self.now.state copy.state) }
+        requires hashes { ClonesHashAlike B.BuildHasher B.Hasher.Hasher B.is_clone
+            self.now.builder }
+        ensures copies { IfOk result (λ copy. UpToOrder
+            (IsCopyOf K.is_clone V.is_clone self.now.state) copy.state) }
         ensures weigher { IfOk result (λ copy. We.is_clone self.now.weigher copy.weigher) }
         ensures builder { IfOk result (λ copy. B.is_clone self.now.builder copy.builder) }
         ensures lifecycle { IfOk result (λ copy. L.is_clone self.now.lifecycle copy.lifecycle) }
@@ -185,7 +187,8 @@ impl<K: Eq + Hash, V, We, B: BuildHasher, L, A: Allocator> Cache<K, V, We, B, L,
 
     /// Looks the query's key up: the item is marked and read, and a hit or a miss is counted. It takes no memory.
     pub fn get<Q: Equivalent<K>>(&mut self, query: &Q) -> Option<&V>
-        ensures* looks_up { sem 𝓛 (ends_so K.row V.row We.row B.row L.row A.row K.eq K.Hash.hash_input A.Allocator self.entry
+        ensures* looks_up { sem 𝓛 (ends_so K.row V.row We.row B.row L.row A.row B.Hasher.row
+            K.eq K.Hash.hash_input B.BuildHasher B.Hasher.Hasher A.Allocator self.entry
             (λ new. UpToOrder (LooksUp (Q.equivalent query.now) self.old.state
             (λ item. item.value) (option_copied result)) new.state
             × (new ≡ record self.old { state = new.state }))) }
@@ -215,6 +218,9 @@ impl<K: Eq + Hash, V, We, B: BuildHasher, L, A: Allocator> Cache<K, V, We, B, L,
 
     /// Takes the item under the query's key out, or a ghost of its hash. No hook is called, and no memory taken.
     pub fn remove<Q: Equivalent<K>>(&mut self, query: &Q) -> Option<(K, V)>
+    where
+        K: Drop,
+        V: Drop,
         ensures removes { let hash = hash_of B.BuildHasher B.Hasher.Hasher self.old.builder (Q.hash_input query.now) in
             UpToOrder (Removes (Q.equivalent query.now) self.old.state hash result) self.new.state }
         ensures room { self.old.room ≤ self.new.room }
@@ -235,13 +241,16 @@ impl<K: Eq + Hash, V, We, B: BuildHasher, L, A: Allocator> Cache<K, V, We, B, L,
         V: Drop,
         We: Weighter<K, V>,
         L: Lifecycle<K, V>,
-        requires plain { IsPlainCache We.Weighter L.Lifecycle self.old }
-        ensures inserts { InsertsAlone (hooks_of L.Lifecycle self.old)
+        // Where pinning is steady, the write is a step of its definition.
+        ensures inserts { InsertsAlone (L.steady self.old.lifecycle) (hooks_of L.Lifecycle self.old)
             (rules_of no_touches K.Hash.hash_input We.Weighter B.BuildHasher B.Hasher.Hasher L.Lifecycle self.old)
             K.eq self.old.state L.RequestState.is_default key value result self.new.state }
         // It takes room for one entry at most, and asks for memory only where there is no room.
         ensures room { self.old.room ≤ self.new.room + 1 }
         ensures asks { IfErr result (λ back. back.2 ≡ Memory → self.old.room ≡ 0) }
+        // How much work it takes, whatever is pinned.
+        ensures work { WorksWithin (length self.old.state.hot + length self.old.state.cold + 1)
+            self.old.work self.new.work }
         ensures same { self.new ≡ record self.old {
           state = self.new.state;
           room = self.new.room;
@@ -270,13 +279,16 @@ impl<K: Eq + Hash, V, We, B: BuildHasher, L, A: Allocator> Cache<K, V, We, B, L,
         V: Drop,
         We: Weighter<K, V>,
         L: Lifecycle<K, V>,
-        requires plain { IsPlainCache We.Weighter L.Lifecycle self.old }
-        ensures inserts { Inserts (hooks_of L.Lifecycle self.old)
+        // Where pinning is steady, the write is a step of its definition.
+        ensures inserts { Inserts (L.steady self.old.lifecycle) (hooks_of L.Lifecycle self.old)
             (rules_of no_touches K.Hash.hash_input We.Weighter B.BuildHasher B.Hasher.Hasher L.Lifecycle self.old)
             K.eq self.old.state state.old key value result self.new.state state.new }
         // It takes room for one entry at most, and asks for memory only where there is no room.
         ensures room { self.old.room ≤ self.new.room + 1 }
         ensures asks { IfErr result (λ back. back.2 ≡ Memory → self.old.room ≡ 0) }
+        // How much work it takes, whatever is pinned.
+        ensures work { WorksWithin (length self.old.state.hot + length self.old.state.cold + 1)
+            self.old.work self.new.work }
         ensures same { self.new ≡ record self.old {
           state = self.new.state;
           room = self.new.room;
@@ -336,7 +348,7 @@ impl<K: Eq + Hash, V, We, B: BuildHasher, L, A: Allocator> Cache<K, V, We, B, L,
     }
 }
 
-impl<K: Eq + Hash, V, We, B, L, A: Allocator> Debug for Cache<K, V, We, B, L, A> {
+impl<K: Eq + Hash, V, We, B: BuildHasher, L, A: Allocator> Debug for Cache<K, V, We, B, L, A> {
     ghost debug_output = { λ _. Some (codes "Cache { .. }") };
 
     fn fmt<W: Write>(&self, f: &mut Formatter<W>) -> std::fmt::Result {

@@ -1,7 +1,7 @@
 //! Lists of calls, made one after another.
 ghost use Rattle.std.specs.Prelude.{◌≡◌, [], List, All};
 ghost use Rattle.quick_cache_model.specs.Hooks.{HookCall, RunsHooks};
-ghost use Rattle.quick_cache_shard.specs.Shard.{rules_of, hooks_of, IsPlainCache};
+ghost use Rattle.quick_cache_shard.specs.Shard.{rules_of, hooks_of};
 ghost use Rattle.quick_cache_unsync.specs.Answered.{AlwaysClones, IsAnswered, replies_of};
 ghost use Rattle.quick_cache_unsync.specs.CacheRun.{RunsCalls};
 ghost use Rattle.quick_cache_unsync.specs.CacheStep.{CacheStep};
@@ -82,8 +82,8 @@ fn act<
     call: Call<K, V>,
     state: &mut L::RequestState,
 ) -> Reply<K, V>
-    requires plain { IsPlainCache We.Weighter L.Lifecycle cache.old }
-    ensures step { (calls : List (HookCall K V))
+    // Where pinning is steady, the call is a step of its definition.
+    ensures step { L.steady cache.old.lifecycle → (calls : List (HookCall K V))
         × CacheStep
         (rules_of no_touches K.Hash.hash_input We.Weighter B.BuildHasher B.Hasher.Hasher L.Lifecycle cache.old)
         K.eq V.is_clone cache.old.state call result calls cache.new.state
@@ -127,8 +127,8 @@ pub fn run<
     calls: Vec<Call<K, V>, M>,
     state: &mut L::RequestState,
 ) -> Result<Vec<Reply<K, V>, M>, (Vec<Reply<K, V>, M>, Vec<Call<K, V>, M>)>
-    requires plain { IsPlainCache We.Weighter L.Lifecycle cache.old }
-    ensures runs { RunsCalls
+    // Where pinning is steady, the calls are a run of the definition.
+    ensures runs { L.steady cache.old.lifecycle → RunsCalls
         (rules_of no_touches K.Hash.hash_input We.Weighter B.BuildHasher B.Hasher.Hasher L.Lifecycle cache.old)
         K.eq V.is_clone (hooks_of L.Lifecycle cache.old)
         cache.old.state state.old calls.items result cache.new.state state.new }

@@ -1,6 +1,7 @@
 //! Callers with contracts of their own, in the words of the cache's definitions.
+ghost use Rattle.std.specs.Prelude.{◌+◌, length};
 ghost use Rattle.quick_cache_unsync.specs.Lookups.{Sees};
-ghost use Rattle.quick_cache_unsync.specs.Shard.{IsPlainCache};
+ghost use Rattle.quick_cache_unsync.specs.Shard.{WorksWithin};
 
 use quick_cache_unsync::{Cache, Lifecycle, Refusal, Weighter};
 use std::hash::{BuildHasher, Hash};
@@ -12,12 +13,13 @@ pub fn number_under<K: Eq + Hash>(cache: &Cache<K, u64>, key: &K) -> Option<u64>
     cache.peek(key).copied()
 }
 
-/// Puts a zero under a key, in a cache of any weigher that weighs 1 and any lifecycle that pins nothing.
+/// Puts a zero under a key, in a cache of any weigher and lifecycle: the work is bounded by the items.
 pub fn put_zero<K: Eq + Hash + Drop, We: Weighter<K, u64>, B: BuildHasher, L: Lifecycle<K, u64>>(
     cache: &mut Cache<K, u64, We, B, L>,
     key: K,
 ) -> Result<(), Refusal>
-    requires plain { IsPlainCache We.Weighter L.Lifecycle cache.old }
+    ensures work { WorksWithin (length cache.old.state.hot + length cache.old.state.cold + 1)
+        cache.old.work cache.new.work }
 {
     cache.insert(key, 0).map_err(|(_, _, refusal)| refusal)
 }

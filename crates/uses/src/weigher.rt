@@ -41,8 +41,20 @@ mod tests {
             (cache.len(), cache.weight(), cache.capacity()),
             (0, 0, 4096)
         );
-        assert_eq!(rt; cache.get(&1).copied(), None);
-        assert_eq!(rt; cache.remove(&1), None);
+        cache.insert(1, "some text")?;
+        cache.insert(2, "more")?;
+        assert_eq!(rt; (cache.len(), cache.weight()), (2, 13));
+        assert_eq!(rt; cache.get(&1).copied(), Some("some text"));
+        assert_eq!(rt; cache.remove(&1), Some((1, "some text")));
+        assert_eq!(rt; cache.weight(), 4);
+        Ok(())
+    }
+
+    #[test]
+    fn a_page_heavier_than_the_hot_target_is_turned_away(rt: HostRuntime) -> Result<(), Fail> {
+        let mut cache = pages(rt.alloc(), 8)?;
+        cache.insert(1, "some text")?;
+        assert_eq!(rt; (cache.len(), cache.weight()), (0, 0));
         Ok(())
     }
 }

@@ -55,6 +55,11 @@ impl<K, V, P, T, A: Allocator> Lists<K, V, P, T, A> {
         self.loading
     }
 
+    /// The allocator that the slots are from.
+    pub fn allocator(&self) -> &A {
+        self.slab.allocator()
+    }
+
     /// How many bytes the slots and the table take.
     pub fn memory_used(&self) -> MemoryUsed {
         MemoryUsed {

@@ -31,6 +31,11 @@ impl<T, A: Allocator> LinkedSlab<T, A> {
         let _ = &self.nodes;
     }
 
+    /// The allocator that the slots are from.
+    pub fn allocator(&self) -> &A {
+        self.nodes.allocator()
+    }
+
     /// The bytes of the slots, whether occupied or free.
     pub fn memory_used(&self) -> usize {
         mem::size_of_val(self.nodes.as_slice())

@@ -1,7 +1,7 @@
 //! Where a clone is the very value, as that of a number, the very value is shown.
-ghost use Rattle.std.specs.Prelude.{◌≡◌, IfOk, nat_eq};
+ghost use Rattle.std.specs.Prelude.{◌≡◌, [], IfOk, nat_eq};
 ghost use Rattle.quick_cache_loading.specs.LoadingRun.{LoadingRun};
-ghost use Rattle.quick_cache_shard.specs.Shard.{rules_of, hooks_of, ClonesExactly, IsPlainCache};
+ghost use Rattle.quick_cache_shard.specs.Shard.{rules_of, hooks_of, ClonesExactly, UpToOrder};
 ghost use Rattle.quick_cache_unsync.specs.CacheRun.{RunsCalls};
 ghost use Rattle.quick_cache_unsync.specs.CacheStep.{IsItself};
 ghost use Rattle.quick_cache_unsync.specs.Touches.{no_touches};
@@ -13,7 +13,7 @@ use std::alloc::{Allocator, Global};
 use std::hash::{BuildHasher, Hash};
 use std::test::Fail;
 
-/// A run over any such values shows the values that it finds.
+/// A run over any such values shows the values that it finds, where pinning is steady.
 fn run_exactly<
     K: Eq + Hash + Drop,
     V: Clone + Drop,
@@ -29,8 +29,7 @@ fn run_exactly<
     state: &mut L::RequestState,
 ) -> Result<Vec<Reply<K, V>, M>, (Vec<Reply<K, V>, M>, Vec<Call<K, V>, M>)>
     requires clones { ClonesExactly V.is_clone }
-    requires plain { IsPlainCache We.Weighter L.Lifecycle cache.old }
-    ensures runs { RunsCalls
+    ensures runs { L.steady cache.old.lifecycle → RunsCalls
         (rules_of no_touches K.Hash.hash_input We.Weighter B.BuildHasher
         B.Hasher.Hasher L.Lifecycle cache.old)
         K.eq IsItself (hooks_of L.Lifecycle cache.old)
@@ -46,8 +45,7 @@ fn run_numbers<We: Weighter<u64, u64> + Drop, B: BuildHasher + Drop, L: Lifecycl
     calls: Vec<Call<u64, u64>>,
     state: &mut L::RequestState,
 ) -> Result<Vec<Reply<u64, u64>>, (Vec<Reply<u64, u64>>, Vec<Call<u64, u64>>)>
-    requires plain { IsPlainCache We.Weighter L.Lifecycle cache.old }
-    ensures runs { RunsCalls
+    ensures runs { L.steady cache.old.lifecycle → RunsCalls
         (rules_of no_touches ⟦<u64 as Hash>⟧.hash_input We.Weighter B.BuildHasher
         B.Hasher.Hasher L.Lifecycle cache.old)
         nat_eq IsItself (hooks_of L.Lifecycle cache.old)
@@ -56,9 +54,10 @@ fn run_numbers<We: Weighter<u64, u64> + Drop, B: BuildHasher + Drop, L: Lifecycl
     run(alloc, cache, calls, state)
 }
 
-/// A copy of numbers has the very state.
+/// A copy of numbers has the very state, but for what is being loaded, and for the order of what has none.
 fn copy_numbers(cache: &Cache<u64, u64>) -> Result<Cache<u64, u64>, Refusal>
-    ensures { IfOk result (λ copy. copy.state ≡ cache.now.state) }
+    ensures { IfOk result (λ copy.
+        UpToOrder (λ state. state ≡ record cache.now.state { loading = [] }) copy.state) }
 {
     cache.try_clone()
 }

@@ -3,7 +3,7 @@ ghost use Rattle.std.specs.Prelude.{◌≡◌, IfOk, IfSome, string_bytes, strin
 ghost use Rattle.quick_cache_loading.specs.LoadingRun.{LoadingRun};
 ghost use Rattle.quick_cache_loading.specs.LoadingStep.{LoadingStep};
 ghost use Rattle.quick_cache_shard.specs.Copies.{IsCopyOf};
-ghost use Rattle.quick_cache_shard.specs.Shard.{rules_of, hooks_of, IsPlainCache};
+ghost use Rattle.quick_cache_shard.specs.Shard.{rules_of, hooks_of, UpToOrder};
 ghost use Rattle.quick_cache_tests.specs.Shown.{HasSameBytes, IsShownUnder};
 ghost use Rattle.quick_cache_unsync.specs.CacheRun.{RunsCalls};
 ghost use Rattle.quick_cache_unsync.specs.Touches.{no_touches};
@@ -15,7 +15,7 @@ use std::alloc::{AllocError, Global};
 use std::hash::{BuildHasher, Hash};
 use std::test::Fail;
 
-/// Each text that a run shows has the bytes of the text that was found.
+/// Each text that a run shows has the bytes of the text that was found, where pinning is steady.
 fn run_texts<
     We: Weighter<String, String> + Drop,
     B: BuildHasher + Drop,
@@ -26,8 +26,7 @@ fn run_texts<
     calls: Vec<Call<String, String>>,
     state: &mut L::RequestState,
 ) -> Result<Vec<Reply<String, String>>, (Vec<Reply<String, String>>, Vec<Call<String, String>>)>
-    requires plain { IsPlainCache We.Weighter L.Lifecycle cache.old }
-    ensures runs { RunsCalls
+    ensures runs { L.steady cache.old.lifecycle → RunsCalls
         (rules_of no_touches ⟦<String as Hash>⟧.hash_input We.Weighter B.BuildHasher
         B.Hasher.Hasher L.Lifecycle cache.old)
         string_eq HasSameBytes (hooks_of L.Lifecycle cache.old)
@@ -56,7 +55,7 @@ fn get_text(alloc: Global, cache: &mut Cache<String, String>, key: String) -> Op
 /// A copy has texts of the same bytes, in the same order, with the same marks.
 fn copy_texts(cache: &Cache<String, String>) -> Result<Cache<String, String>, Refusal>
     ensures { IfOk result (λ copy.
-        IsCopyOf HasSameBytes HasSameBytes cache.now.state copy.state) }
+        UpToOrder (IsCopyOf HasSameBytes HasSameBytes cache.now.state) copy.state) }
 {
     cache.try_clone()
 }

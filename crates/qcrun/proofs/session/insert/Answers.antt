@@ -16,12 +16,12 @@ returns-in-Ok-run-clause-serves g c =
     ∙ (c.in-Ok.ensures.items ∙ ap (λ xs. xs ++ Insert c.args.key c.args.value ∷ [])
     c.new-calls.ensures.items)) in
     rw c.first_reply.ensures (CacheRun-one _ g.K.PartialEq.eq g.V.Clone.is_clone c.requires.clones
-    c.in-Ok-run.ensures.runs.steps c.args.key c.args.value [] one)
+    (c.in-Ok-run.ensures.runs c.requires.steady).steps c.args.key c.args.value [] one)
 
 -- the calls that were made and those that come back are the list of the one
 pub returns-clause-serves : goal.returns-clause-serves
 returns-clause-serves g c =
-    let back = c.in-Err.ensures.runs in
+    let back = c.in-Err.ensures.runs c.requires.steady in
     let one : Insert c.args.key c.args.value ∷ [] ≡ back.made ++ c.in-Err.field-0-1.items =
     sym (c.in-Ok.ensures.items ∙ ap
     (λ xs. xs ++ Insert c.args.key c.args.value ∷ []) c.new-calls.ensures.items)

@@ -11,7 +11,7 @@ use Rattle.quick_cache_unsync.proofs.calls.run.Given as goal
 abbrev pub invariant-loop-call : goal.invariant-loop-call
 invariant-loop-call g l = record {
   split : l.fn.calls.items ≡ l.yielded ++ into_iter_items l.call-iterator;
-  run : IsRun (rules_of no_touches g.K.Hash.hash_input g.We.Weighter g.B.BuildHasher
+  run : g.L.Lifecycle.steady l.fn.cache.lifecycle → IsRun (rules_of no_touches g.K.Hash.hash_input g.We.Weighter g.B.BuildHasher
       g.B.Hasher.Hasher g.L.Lifecycle l.fn.cache)
       g.K.PartialEq.eq g.V.Clone.is_clone
       (hooks_of g.L.Lifecycle l.fn.cache) l.fn.cache.state l.fn.state l.yielded l.replies.items

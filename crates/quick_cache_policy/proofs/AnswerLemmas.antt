@@ -1,0 +1,221 @@
+-- Room for a write, the calls of one, and its answer.
+use Rattle.std.proofs.Common.{◌≡◌, ℕ, ◌+◌, ◌*◌, ◌^◌, arith, ◌<◌, ◌≤◌, Bool, true, false, true≢false, List, [], ◌∷◌, ◌++◌, Option, Some, None, refl, sym, ap, subst, ◌∙◌, inl, inr, append_assoc}
+use Rattle.quick_cache_model.specs.declared.refusal.Refusal.{Refusal}
+use Rattle.quick_cache_model.specs.declared.refusal.Refusal.TheVariants.{Memory, SlotsFull, TicketsSpent, Finished}
+use Rattle.quick_cache_model.specs.CacheState.{CacheState, UpToOrder}
+use Rattle.quick_cache_model.specs.Admission.{Admitted, TooHeavy, ChecksAdmission}
+use Rattle.quick_cache_model.specs.Finding.{HasNothing, HasNoItem}
+use Rattle.quick_cache_model.specs.Hooks.{Rules, Hooks, HookCall, BeforeEvict, EvictCold, Calls}
+use Rattle.quick_cache_model.specs.Refusals.{IsProvided, MayRefuse, memory_refused, slots_full, slots_taken, slot_count}
+use Rattle.quick_cache_model.specs.Writes.{Strategy, Insert, Replace, SoftReplace, IsReplace, Writes, WritesAdmitted, RejectsTooHeavy, TakesOutItem}
+use Rattle.quick_cache_model.proofs.OrderLaws.{UpToOrder-exact, UpToOrder-map}
+use Rattle.quick_cache_model.proofs.HookLaws.{RunsHooks-append}
+use Rattle.quick_cache_lists.specs.declared.found.Found.{Found}
+use Rattle.quick_cache_lists.specs.declared.found.Found.TheVariants.{Item as found_item, Loading as found_loading, Ghost as found_ghost, Nothing as found_nothing}
+use Rattle.quick_cache_policy.specs.declared.admission.Admission.{Admission}
+use Rattle.quick_cache_policy.specs.declared.admission.Admission.TheVariants.{Admitted as code_admitted, TooHeavy as code_too_heavy}
+use Rattle.std.proofs.lemmas.List.{length-map}
+use Rattle.quick_cache_lists.specs.Lists.{HeldItem, HeldGhost, Finds, entry_count}
+use Rattle.quick_cache_lists.specs.Views.{loading_entry}
+use Rattle.quick_cache_policy.specs.declared.contents.Contents.{Contents}
+use Rattle.quick_cache_policy.specs.Contents.{state_of}
+use Rattle.quick_cache_policy.specs.Work.{Work, WorksWithin}
+use Rattle.quick_cache_policy.proofs.HotLemmas.{counted_up-zero}
+use Rattle.quick_cache_policy.specs.Advances.{AreEvictions}
+use Rattle.quick_cache_policy.specs.Finding.{TakesSlot, Provides}
+use Rattle.quick_cache_policy.specs.Writing.{is_insert, needs_of_write, needs, IsReplacement, AreAdmittedCalls, AreWriteCalls, Writing, WritingAdmitted, Rejecting, Checks, Wrote, RefusesWrite}
+use Rattle.quick_cache_policy.proofs.FindLemmas.{Finds-nothing}
+
+-- what makes items is an insert
+pub insert-of : (strategy : Strategy) → is_insert strategy ≡ true → strategy ≡ Insert
+insert-of Insert e = refl
+insert-of Replace e = absurd (true≢false (sym e))
+insert-of SoftReplace e = absurd (true≢false (sym e))
+
+-- and what does not is a replace
+pub replace-of : (strategy : Strategy) → is_insert strategy ≡ false → IsReplace strategy
+replace-of Insert e = absurd (true≢false e)
+replace-of Replace e = tt
+replace-of SoftReplace e = tt
+
+module _ {K V : Type 0} (equal_to : K → Bool) (key : K) (strategy : Strategy)
+    (old new : CacheState K V) (left : V) (calls : List (HookCall K V))
+    (takes : TakesOutItem equal_to old calls new) (replaced : IsReplacement calls) where
+  -- an insert of a pair that is too heavy tells it to the cold hook
+  pub Rejecting-reports : is_insert strategy ≡ true
+      → Rejecting equal_to key strategy old left None new (calls ++ EvictCold key left ∷ [])
+  Rejecting-reports is = (
+    RejectsTooHeavy.reports calls new (insert-of strategy is) takes,
+    λ value. AreWriteCalls.rejects key value left calls replaced,
+  )
+
+  -- a replace gives it back
+  pub Rejecting-gives_back : is_insert strategy ≡ false
+      → Rejecting equal_to key strategy old left (Some (key, left)) new calls
+  Rejecting-gives_back is = (
+    RejectsTooHeavy.gives_back calls new (replace-of strategy is) takes,
+    λ value. AreWriteCalls.gives_back key value left calls replaced,
+  )
+
+-- a replace that finds no item gives the pair back, and calls nothing
+pub WritingAdmitted-gives_back : {K V S : Type 0} (hooks : Hooks K V S) (steady : Type 0)
+    (rules : Rules K V) (equal_to : K → Bool) (key : K) (value : V) (strategy : Strategy)
+    (old : CacheState K V) (first : S) → is_insert strategy ≡ false → HasNoItem equal_to old
+    → Calls hooks (WritingAdmitted steady
+    (λ calls. WritesAdmitted rules equal_to key strategy old value calls (Some (key, value))) old)
+    first first
+WritingAdmitted-gives_back hooks steady rules equal_to key value strategy old first is none = record {
+  calls = [];
+  holds = (
+    λ _. UpToOrder-exact (WritesAdmitted rules equal_to key strategy old value []
+        (Some (key, value))) old
+        (WritesAdmitted.gives_back (replace-of strategy is) none),
+    AreAdmittedCalls.writes [] [] IsReplacement.none AreEvictions.none,
+  );
+  runs = refl;
+}
+
+-- the calls of two parts of a call, one behind the other
+pub Calls-then : {K V S : Type 0} (hooks : Hooks K V S) (P Q R : List (HookCall K V) → Type 0)
+    (first mid last : S)
+    → ((calls rest : List (HookCall K V)) → P calls → Q rest → R (calls ++ rest))
+    → Calls hooks P first mid → Calls hooks Q mid last → Calls hooks R first last
+Calls-then hooks P Q R first mid last both a b = record {
+  calls = a.calls ++ b.calls;
+  holds = both a.calls b.calls a.holds b.holds;
+  runs = RunsHooks-append hooks a.calls b.calls first mid last a.runs b.runs;
+}
+
+module _ {K V : Type 0} (steady : Type 0) (rules : Rules K V) (equal_to : K → Bool) (key : K)
+    (strategy : Strategy) (old : CacheState K V) (value : V) (answer : Option (K × V))
+    (new : CacheState K V) where
+  -- a pair that was admitted is written
+  pub Writing-admitted : (admitted : _) (first rest : List (HookCall K V))
+      → Checks steady rules old.hot_target key value (code_admitted admitted) first
+      → WritingAdmitted steady
+      (λ calls. WritesAdmitted rules equal_to key strategy old admitted.value calls answer) new rest
+      → Writing steady
+      (λ calls now. Writes rules equal_to key strategy old value calls answer now) new
+      (first ++ rest)
+  Writing-admitted admitted first rest checks writes = (
+    λ s. UpToOrder-map
+        (WritesAdmitted rules equal_to key strategy old admitted.value rest answer)
+        (Writes rules equal_to key strategy old value (first ++ rest) answer) new
+        (λ now step. Writes.admitted first rest admitted.value answer now (checks.0 s) step)
+        (writes.0 s),
+    elim checks.2 [
+      | inl nothing ↦ subst (λ l. AreWriteCalls (l ++ rest)) (sym nothing)
+          (AreWriteCalls.admits rest writes.1)
+      | inr once ↦ subst (λ l. AreWriteCalls (l ++ rest)) (sym once)
+          (AreWriteCalls.lightens key value admitted.value rest writes.1)
+    ],
+  )
+
+  -- and one that is too heavy is turned away
+  pub Writing-too_heavy : (left : V) (first rest : List (HookCall K V))
+      → Checks steady rules old.hot_target key value (code_too_heavy left) first
+      → Rejecting equal_to key strategy old left answer new rest
+      → Writing steady
+      (λ calls now. Writes rules equal_to key strategy old value calls answer now) new
+      (first ++ rest)
+  Writing-too_heavy left first rest checks rejects = (
+    λ s. UpToOrder-exact (Writes rules equal_to key strategy old value (first ++ rest) answer) new
+        (Writes.too_heavy first rest left answer new (checks.0 s) rejects.0),
+    subst (λ l. AreWriteCalls (l ++ rest)) (sym checks.1) (rejects.1 value),
+  )
+
+module _ {K V : Type 0} (stands_for : K → Bool) (hash : ℕ) (state : CacheState K V)
+    (found : Found) (some : HasNothing stands_for hash state → found ≡ found_nothing)
+    (room : ℕ) where
+  -- there was room for what the write needs
+  pub Provides-provided : (strategy : Strategy)
+      → Provides found strategy (slots_taken state) room None
+      → IsProvided (needs_of_write stands_for hash state strategy) state
+  Provides-provided Insert p = record {
+    ticket = λ e. absurd e;
+    slot = λ none. p.0 (subst (λ f. TakesSlot f Insert) (sym (some none)) refl);
+  }
+  Provides-provided Replace p = record { ticket = λ e. absurd e; slot = λ e. absurd e }
+  Provides-provided SoftReplace p = record { ticket = λ e. absurd e; slot = λ e. absurd e }
+
+  -- a new entry is made by an insert where nothing was found
+  takes-slot : (f : Found) (strategy : Strategy) → TakesSlot f strategy
+      → (f ≡ found_nothing) × (is_insert strategy ≡ true)
+  takes-slot (found_item token) strategy takes = absurd takes
+  takes-slot (found_loading token) strategy takes = absurd takes
+  takes-slot (found_ghost token) strategy takes = absurd takes
+  takes-slot found_nothing strategy takes = (refl, takes)
+
+  -- there was none
+  pub Provides-refused : (found ≡ found_nothing → HasNothing stands_for hash state)
+      → (strategy : Strategy) (refusal : Refusal)
+      → Provides found strategy (slots_taken state) room (Some refusal)
+      → MayRefuse (needs_of_write stands_for hash state strategy) state refusal
+  Provides-refused none Insert Memory p =
+      memory_refused (record { ticket = λ e. absurd e; slot = λ _. p.1 })
+      (none (takes-slot found Insert p.0).0)
+  Provides-refused none Insert SlotsFull p =
+      slots_full (λ e. absurd e) (none (takes-slot found Insert p.0).0) p.1
+  Provides-refused none Replace Memory p =
+      absurd (true≢false (sym (takes-slot found Replace p.0).1))
+  Provides-refused none Replace SlotsFull p =
+      absurd (true≢false (sym (takes-slot found Replace p.0).1))
+  Provides-refused none SoftReplace Memory p =
+      absurd (true≢false (sym (takes-slot found SoftReplace p.0).1))
+  Provides-refused none SoftReplace SlotsFull p =
+      absurd (true≢false (sym (takes-slot found SoftReplace p.0).1))
+  Provides-refused none strategy TicketsSpent p = absurd p
+  Provides-refused none strategy Finished p = absurd p
+
+-- no work is within each bound
+pub WorksWithin-none : (n : ℕ) (work : Work) → work.advances < 2 ^ 64 → work.visits < 2 ^ 64
+    → WorksWithin n work work
+WorksWithin-none n work advances visits = record {
+  advances = 0;
+  visits = 0;
+  does = record {
+    advances_are = counted_up-zero work.advances advances;
+    visits_are = counted_up-zero work.visits visits;
+  };
+  few_advances = omega arith;
+  few_visits = zero-le (3 * n * (2 * n + 1));
+}
+  where
+    zero-le : (m : ℕ) → 0 ≤ m
+    zero-le m = omega arith
+
+-- each entry takes a slot
+pub entry_count-taken : {K V P A T : Type 0} (ticket_of : P → ℕ) (contents : Contents K V P A T)
+    → entry_count contents.lists ≡ slots_taken (state_of ticket_of contents)
+entry_count-taken {K = K} {V = V} {P = P} ticket_of contents = omega (
+  arith,
+  length-map contents.lists.hot (λ (held : HeldItem K V). held.item),
+  length-map contents.lists.cold (λ (held : HeldItem K V). held.item),
+  length-map contents.lists.still (λ (held : HeldItem K V). held.item),
+  length-map contents.lists.loading (loading_entry ticket_of),
+  length-map contents.lists.ghosts (λ (shade : HeldGhost). shade.hash),
+)
+
+module _ {K V P A T S : Type 0} (steady : Type 0) (hooks : Hooks K V S) (rules : Rules K V)
+    (equal : K → K → Bool) (ticket_of : P → ℕ) (strategy : Strategy) (old ready : Contents K V P A T)
+    (first last : S) (key : K) (value : V) (found : Found) (answer : Option (K × V))
+    (new : CacheState K V) where
+  -- a pair was written after room was made where it needed some: the state does not look at room
+  pub Wrote-provided : Finds (equal key) (rules.hash key) old.lists found
+      → Provides found strategy (entry_count old.lists) ready.lists.room None
+      → ready ≡ record old { lists = record old.lists { room = ready.lists.room } }
+      → Calls hooks (Writing steady
+      (λ calls now. Writes rules (equal key) key strategy (state_of ticket_of ready) value calls
+      answer now) new) first last
+      → Wrote steady hooks rules equal strategy (state_of ticket_of old) first key value answer new
+      last
+  Wrote-provided finds provides same writes = record {
+    provided = Provides-provided (equal key) (rules.hash key) (state_of ticket_of old) found
+        (Finds-nothing ticket_of (equal key) (rules.hash key) old found finds) ready.lists.room
+        strategy
+        (subst (λ (n : ℕ). Provides found strategy n ready.lists.room None)
+        (entry_count-taken ticket_of old) provides);
+    step = subst (λ (state : CacheState K V). Calls hooks (Writing steady
+        (λ calls now. Writes rules (equal key) key strategy state value calls answer now) new)
+        first last) (ap (state_of ticket_of) same) writes;
+  }

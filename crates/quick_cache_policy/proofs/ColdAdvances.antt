@@ -1,0 +1,98 @@
+-- A cold advance: what it comes to after the search.
+use Rattle.std.proofs.Common.{◌≡◌, ℕ, ◌+◌, ◌-◌, ◌<◌, Bool, true, false, List, [], ◌∷◌, ◌++◌, refl, sym, ap, subst, ◌∙◌}
+use Rattle.std.specs.List.{AllByRecursion}
+use Rattle.quick_cache_model.specs.declared.queue.Queue.TheVariants.{Hot, Cold}
+use Rattle.quick_cache_model.specs.CacheState.{CacheState, Item, UpToOrder, default_mark_cut}
+use Rattle.quick_cache_model.specs.Eviction.{AdvancesHot, AdvancesCold, EvictsToTarget, EvictsVictim}
+use Rattle.quick_cache_model.specs.Eviction.{IsPassed, promoted}
+use Rattle.quick_cache_model.specs.Touches.{RaisesMarks}
+use Rattle.quick_cache_model.specs.Hooks.{Rules, HookCall}
+use Rattle.quick_cache_model.proofs.EachElement.{all-weaker}
+use Rattle.quick_cache_model.proofs.OrderLaws.{UpToOrder-map}
+use Rattle.quick_cache_policy.specs.declared.cold.Search.TheVariants.{Marked, Victim, AllPassed}
+use Rattle.quick_cache_policy.specs.Advances.{IsPassedBy, Searches, Evicting, AreEvictions}
+use Rattle.quick_cache_policy.specs.Advances.{FirstIsPromoted, FirstIsEvicted}
+
+module _ {K V : Type 0} (rules : Rules K V) (steady : Type 0) (old : CacheState K V)
+    (cut : old.mark_cut ≡ default_mark_cut) (cold : List (Item K V)) where
+  -- where pinning is steady, the items that a search passed by are those that an advance does
+  passed_by : steady → (items : List (Item K V))
+      → AllByRecursion (IsPassedBy steady rules.pinned) items
+      → AllByRecursion (IsPassed rules) items
+  passed_by is = all-weaker (IsPassedBy steady rules.pinned) (IsPassed rules)
+      (λ item passed. (passed.unmarked, passed.pinned_there is))
+
+  -- a marked item was found, and promoted, and the hot ring brought to its target
+  pub AdvancesCold-promoted : (mid new : CacheState K V) (calls : List (HookCall K V))
+      → Searches steady rules.pinned rules.may_count old.cold Marked cold
+      → FirstIsPromoted (record old { cold = cold }) mid
+      → Evicting steady (EvictsToTarget rules mid) new calls
+      → Evicting steady (AdvancesCold rules old true) new calls
+  AdvancesCold-promoted mid new calls finds first evicts =
+      let e = finds.ends in
+      let both : e.item ∷ e.after ++ e.before ≡ first.item ∷ first.rest =
+      sym e.turned ∙ first.stands in
+      let same : first.item ≡ e.item = cc in
+      let rest : first.rest ≡ e.after ++ e.before = cc in
+      let is : mid ≡ promoted rules e.before e.item e.after old =
+      first.promoted
+      ∙ ap (λ (i : Item K V). record old {
+        cold = first.rest;
+        hot = old.hot ++ record i { mark = i.mark - 1; queue = Hot } ∷ [];
+      }) same
+      ∙ ap (λ (xs : List (Item K V)). record old {
+        cold = xs;
+        hot = old.hot ++ record e.item { mark = e.item.mark - 1; queue = Hot } ∷ [];
+      }) rest in (
+        λ steadily. UpToOrder-map (EvictsToTarget rules mid calls)
+            (AdvancesCold rules old true calls) new
+            (λ state goes. AdvancesCold.promotes finds.cold e.before e.item e.after calls state
+            (subst (λ n. RaisesMarks n rules.may_count old.cold finds.cold) (sym cut) finds.raised)
+            e.split (passed_by steadily e.before e.passed) e.meets
+            (subst (λ (s : CacheState K V). EvictsToTarget rules s calls state) is goes))
+            (evicts.0 steadily),
+        evicts.1,
+      )
+
+  -- an item was found that is neither marked nor pinned, and it left
+  pub AdvancesCold-evicted : (new : CacheState K V) (calls : List (HookCall K V))
+      → Searches steady rules.pinned rules.may_count old.cold Victim cold
+      → FirstIsEvicted rules Cold (record old { cold = cold }) calls new × AreEvictions calls
+      → Evicting steady (AdvancesCold rules old true) new calls
+  AdvancesCold-evicted new calls finds evicts =
+      let e = finds.ends in
+      let first = evicts.0 in
+      let both : e.item ∷ e.after ++ e.before ≡ first.item ∷ first.rest =
+      sym e.turned ∙ first.stands in
+      let same : first.item ≡ e.item = cc in
+      let rest : first.rest ≡ e.after ++ e.before = cc in (
+        λ steadily. UpToOrder-map
+            (EvictsVictim rules Cold (record old { cold = first.rest }) first.item calls)
+            (AdvancesCold rules old true calls) new
+            (λ state goes. AdvancesCold.evicts finds.cold e.before e.item e.after calls state
+            (subst (λ n. RaisesMarks n rules.may_count old.cold finds.cold) (sym cut) finds.raised)
+            e.split (passed_by steadily e.before e.passed) e.meets.0 (e.meets.1 steadily)
+            (subst (λ (xs : List (Item K V)). EvictsVictim rules Cold (record old { cold = xs })
+            e.item calls state) rest
+            (subst (λ (i : Item K V). EvictsVictim rules Cold (record old { cold = first.rest }) i
+            calls state) same goes)))
+            first.evicts,
+        evicts.1,
+      )
+
+  -- all were passed by, and a hot advance was made
+  pub AdvancesCold-passed : (answer : Bool) (new : CacheState K V) (calls : List (HookCall K V))
+      → Searches steady rules.pinned rules.may_count old.cold AllPassed cold
+      → Evicting steady (AdvancesHot rules (record old { cold = cold }) answer) new calls
+      → Evicting steady (AdvancesCold rules old answer) new calls
+  AdvancesCold-passed answer new calls finds advances = (
+    λ steadily. UpToOrder-map (AdvancesHot rules (record old { cold = cold }) answer calls)
+        (AdvancesCold rules old answer calls) new
+        (λ state goes. AdvancesCold.passes_all finds.cold answer calls state
+        (subst (λ n. RaisesMarks n rules.may_count old.cold finds.cold) (sym cut) finds.raised)
+        (passed_by steadily finds.cold finds.ends.0)
+        (subst (λ (xs : List (Item K V)). AdvancesHot rules (record old { cold = xs }) answer calls
+        state) finds.ends.1 goes))
+        (advances.0 steadily),
+    advances.1,
+  )

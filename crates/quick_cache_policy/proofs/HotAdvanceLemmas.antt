@@ -1,0 +1,145 @@
+-- A hot advance over the contents of a cache: what its visits and its eviction come to.
+use Rattle.std.proofs.Common.{◌≡◌, ◌≢◌, ℕ, ◌+◌, ◌*◌, ◌<◌, ◌≤◌, Bool, true, false, [], length}
+use Rattle.std.proofs.Common.{refl, sym, ap, subst, arith}
+use Rattle.std.proofs.lemmas.List.{length-map}
+use Rattle.quick_cache_model.specs.declared.queue.Queue.TheVariants.{Hot, Cold}
+use Rattle.quick_cache_model.specs.CacheState.{CacheState, InHot, default_mark_cut, with_items}
+use Rattle.quick_cache_model.specs.Eviction.{AdvancesHot, EvictsVictim}
+use Rattle.quick_cache_model.specs.Hooks.{Rules, Hooks, Calls}
+use Rattle.quick_cache_model.specs.Touches.{counted_up}
+use Rattle.quick_cache_model.proofs.OrderLaws.{UpToOrder-exact, UpToOrder-map}
+use Rattle.quick_cache_lists.specs.Views.{items_of}
+use Rattle.quick_cache_policy.specs.declared.contents.Contents.{Contents}
+use Rattle.quick_cache_policy.specs.Advances.{AreEvictions, Evicting, FirstIsEvicted}
+use Rattle.quick_cache_policy.specs.Contents.{IsSound, state_of}
+use Rattle.quick_cache_policy.specs.HotRounds.{VisitsHot, SeekEnds}
+use Rattle.quick_cache_policy.specs.Work.{Work, PaysFor}
+use Rattle.quick_cache_policy.proofs.AdvanceLemmas.{AdvancesHot-met, AdvancesHot-none, MeetsVictim-within, GivesUp-within, HasVictimFirst-some}
+
+module _ {K V P A T : Type 0} (hash : K → ℕ) (equal : K → K → Bool) (ticket_of : P → ℕ) where
+  -- counts of work are no part of what always holds
+  pub IsSound-counted : (old : Contents K V P A T) (advances : ℕ)
+      → IsSound ticket_of equal hash old
+      → IsSound ticket_of equal hash (record old { advances = advances })
+  IsSound-counted old advances sound =
+      record { valid = sound.valid; sized = sound.sized; hashed = sound.hashed }
+
+-- the queues are two
+pub cold≢hot : Cold ≢ Hot
+cold≢hot e = cc
+
+-- One advance, which counts one unless it is paid for.
+pub PaysFor-advance : (extra old_hot cold new_hot new_cold visits : ℕ) (old new : Work)
+    → new.advances ≡ counted_up 1 old.advances → new.visits ≡ counted_up visits old.visits
+    → visits ≤ 3 * old_hot → new_hot ≤ old_hot → new_hot + 1 ≡ old_hot + extra → new_cold ≡ cold
+    → PaysFor extra old_hot cold new_hot new_cold old new
+PaysFor-advance extra old_hot cold new_hot new_cold visits old new advanced visited within fewer
+    falls same = record {
+      advances = 1;
+      visits = visits;
+      does = record { advances_are = advanced; visits_are = visited };
+      members = omega (arith, fewer, same);
+      paid = omega (arith, falls, same);
+      visited = omega (arith, within);
+    }
+
+module _ {K V P A T S : Type 0} (ticket_of : P → ℕ) (steady : Type 0) (rules : Rules K V)
+    (hooks : Hooks K V S) (old now : Contents K V P A T) (advances : ℕ) (met : Bool)
+    (seeks : VisitsHot (SeekEnds steady rules.pinned rules.may_count met)
+    (record old { advances = advances }) now)
+    (same : now ≡ record old {
+      lists = record old.lists { hot = now.lists.hot };
+      advances = advances;
+      visits = now.visits;
+    }) where
+  -- the state with the ring that the visits left
+  state_of-visited : state_of ticket_of now
+      ≡ record (state_of ticket_of old) { hot = items_of now.lists.hot }
+  state_of-visited = ap (λ (c : Contents K V P A T). state_of ticket_of c) same
+
+  -- where there was no victim, the visits are the advance
+  pub AdvancesHot-gives_up : met ≡ false → (first : S)
+      → Calls hooks (Evicting steady (AdvancesHot rules (state_of ticket_of old) false)
+      (state_of ticket_of now)) first first
+  AdvancesHot-gives_up none first =
+      let ends = subst (λ b. SeekEnds steady rules.pinned rules.may_count b
+      (items_of old.lists.hot) (items_of now.lists.hot) seeks.visits) none seeks.ends in
+      record {
+        calls = [];
+        holds = (
+          λ (is_steady : steady).
+              UpToOrder-exact (AdvancesHot rules (state_of ticket_of old) false [])
+              (state_of ticket_of now)
+              (subst (AdvancesHot rules (state_of ticket_of old) false []) (sym state_of-visited)
+              (AdvancesHot-none rules (state_of ticket_of old) ends.mid (items_of now.lists.hot)
+              seeks.visits ends.raises (ends.holds.none_unpinned is_steady))),
+          AreEvictions.none,
+        );
+        runs = refl;
+      }
+
+  -- where there was one, it is the first item and is evicted
+  pub AdvancesHot-evicts : met ≡ true → (new : Contents K V P A T) (first last : S)
+      → Calls hooks (λ calls. FirstIsEvicted rules Hot (state_of ticket_of now) calls
+      (state_of ticket_of new) × AreEvictions calls) first last
+      → Calls hooks (Evicting steady (AdvancesHot rules (state_of ticket_of old) true)
+      (state_of ticket_of new)) first last
+  AdvancesHot-evicts there new first last evicts =
+      let ends = subst (λ b. SeekEnds steady rules.pinned rules.may_count b
+      (items_of old.lists.hot) (items_of now.lists.hot) seeks.visits) there seeks.ends in
+      let gone = evicts.holds.0 in
+      let left : with_items InHot gone.rest (state_of ticket_of now)
+      ≡ record (state_of ticket_of old) { hot = gone.rest } =
+      ap (λ (s : CacheState K V). record s { hot = gone.rest }) state_of-visited in
+      record {
+        calls = evicts.calls;
+        holds = (
+          λ (is_steady : steady).
+              UpToOrder-map
+              (EvictsVictim rules Hot (with_items InHot gone.rest (state_of ticket_of now))
+              gone.item
+              evicts.calls)
+              (AdvancesHot rules (state_of ticket_of old) true evicts.calls)
+              (state_of ticket_of new)
+              (λ state goes. AdvancesHot-met rules (state_of ticket_of old) ends.mid
+              (items_of now.lists.hot) gone.rest gone.item seeks.visits evicts.calls state
+              ends.raises (ends.holds.is_met is_steady) gone.stands
+              (subst (λ s. EvictsVictim rules Hot s gone.item evicts.calls state) left goes))
+              gone.evicts,
+          evicts.holds.1,
+        );
+        runs = evicts.runs;
+      }
+
+  -- at most three visits an item
+  pub visits-three : seeks.visits ≤ 3 * length old.lists.hot
+  visits-three = go met seeks.ends
+    where
+      items : length (items_of old.lists.hot) ≡ length old.lists.hot
+      items = length-map old.lists.hot (λ held. held.item)
+
+      go : (b : Bool) → SeekEnds steady rules.pinned rules.may_count b (items_of old.lists.hot)
+          (items_of now.lists.hot) seeks.visits → seeks.visits ≤ 3 * length old.lists.hot
+      go true ends = omega (
+        arith,
+        items,
+        MeetsVictim-within steady rules.pinned default_mark_cut rules.may_count
+            (items_of old.lists.hot) (items_of now.lists.hot) seeks.visits ends,
+      )
+      go false ends = omega (
+        arith,
+        items,
+        GivesUp-within steady rules.pinned default_mark_cut rules.may_count
+            (items_of old.lists.hot) (items_of now.lists.hot) seeks.visits ends,
+      )
+
+  -- a victim is there to be evicted
+  pub SeekEnds-there : met ≡ true → 0 < length now.lists.hot
+  SeekEnds-there there =
+      let ends = subst (λ b. SeekEnds steady rules.pinned rules.may_count b
+      (items_of old.lists.hot) (items_of now.lists.hot) seeks.visits) there seeks.ends in
+      omega (
+        arith,
+        length-map now.lists.hot (λ held. held.item),
+        HasVictimFirst-some ends.mid (items_of now.lists.hot) ends.holds.victim_first,
+      )

@@ -1,0 +1,99 @@
+-- A pair under a key of which nothing is known: it is put last once room was made, under a key that
+-- is nowhere then, and in the queue that was chosen before.
+use Rattle.std.proofs.Common.{◌≡◌, ℕ, ◌+◌, ◌≤◌, ◌<◌, Bool, List, None, refl, sym, ap, subst, arith}
+use Rattle.std.specs.Cmp.{IsEquivalence}
+use Rattle.std.proofs.lemmas.Bool.{le-leb, lt-leb}
+use Rattle.quick_cache_model.specs.declared.queue.Queue.{Queue}
+use Rattle.quick_cache_model.specs.declared.queue.Queue.TheVariants.{Hot, Cold}
+use Rattle.quick_cache_model.specs.CacheState.{CacheState, Item, SameButOrder, UpToOrder, keys_by, hot_weight}
+use Rattle.quick_cache_model.specs.CacheState.{entered as model_entered}
+use Rattle.quick_cache_model.specs.Finding.{HasNothing}
+use Rattle.quick_cache_model.specs.Hooks.{Rules, HookCall}
+use Rattle.quick_cache_model.specs.Eviction.{EvictsToCapacity}
+use Rattle.quick_cache_model.specs.Writes.{Insert, WritesAdmitted, new_item, queue_for}
+use Rattle.quick_cache_model.proofs.Eviction.Keys.{keys_by-none}
+use Rattle.quick_cache_model.proofs.OrderLaws.{SameButOrder-trans, entered-reordered}
+use Rattle.quick_cache_model.proofs.Valid.Edits.{entered-valid}
+use Rattle.quick_cache_model.proofs.Valid.Orders.{SameButOrder-valid}
+use Rattle.quick_cache_lists.specs.declared.entry.Entry.TheVariants.{Item as item_variant}
+use Rattle.quick_cache_lists.specs.Lists.{HeldItem, Lists, PutsLast, entered}
+use Rattle.quick_cache_policy.specs.declared.contents.Contents.{Contents}
+use Rattle.quick_cache_policy.specs.Contents.{IsSound, state_of}
+use Rattle.quick_cache_policy.proofs.SoundLemmas.{state_of-reordered, AreHashed-reordered}
+use Rattle.quick_cache_policy.proofs.EnterLemmas.{state_with, entered-state, AreHashed-entered, AreHashed-room}
+
+-- ---- the queue
+
+module _ {K V : Type 0} (rules : Rules K V) (state : CacheState K V) (key : K) (value : V)
+    (otherwise : Queue) where
+  -- the pair fits the target beside what is hot
+  pub queue_for-hot : hot_weight state + rules.weight key value ≤ state.hot_target
+      → queue_for rules state key value otherwise ≡ Hot
+  queue_for-hot fits =
+      rw (le-leb (hot_weight state + rules.weight key value) state.hot_target fits) refl
+
+  -- it does not fit
+  pub queue_for-otherwise : state.hot_target < hot_weight state + rules.weight key value
+      → queue_for rules state key value otherwise ≡ otherwise
+  queue_for-otherwise above =
+      rw (lt-leb (hot_weight state + rules.weight key value) state.hot_target above) refl
+
+-- ---- the item, put last once room was made
+
+module _ {K V P A T X : Type 0} (ticket_of : P → ℕ) (old made : Contents K V P A X)
+    (equal : K → K → Bool) (laws : IsEquivalence equal) (rules : Rules K V) (key : K) (value : V)
+    (nothing : HasNothing (equal key) (rules.hash key) (state_of ticket_of old))
+    (keys : (test : K → Bool) → keys_by test (state_of ticket_of made)
+    ≤ keys_by test (state_of ticket_of old))
+    (token : ℕ) (item : Item K V) (new : Lists K V P)
+    (puts : PutsLast {T = T} made.lists token (rules.hash key) (item_variant item) new) where
+  held : HeldItem K V
+  held = record { token = token; hash = rules.hash key; item = item }
+
+  put-state : SameButOrder (model_entered item (state_of ticket_of made))
+      (state_with ticket_of made new)
+  unfolding held
+  put-state = subst (λ (s : CacheState K V). SameButOrder s (state_with ticket_of made new))
+      (entered-state ticket_of made held made.lists)
+      (state_of-reordered ticket_of made _ new puts.put)
+
+  -- the write
+  pub new-writes : item ≡ new_item rules key value
+      (queue_for rules (state_of ticket_of old) key value Cold) 0
+      → (calls : List (HookCall K V))
+      → UpToOrder (EvictsToCapacity rules (rules.weight key value) (state_of ticket_of old) calls)
+      (state_of ticket_of made)
+      → UpToOrder (WritesAdmitted rules (equal key) key Insert (state_of ticket_of old) value calls
+      None) (state_with ticket_of made new)
+  new-writes is calls evicts =
+      let pair = new_item rules key value
+      (queue_for rules (state_of ticket_of old) key value Cold) 0 in
+      record {
+        ordered = model_entered pair evicts.ordered;
+        holds = WritesAdmitted.inserts_new evicts.ordered calls refl nothing evicts.holds;
+        same = SameButOrder-trans (model_entered pair evicts.ordered)
+            (model_entered pair (state_of ticket_of made)) (state_with ticket_of made new)
+            (entered-reordered pair evicts.ordered (state_of ticket_of made) evicts.same)
+            (subst (λ (i : Item K V). SameButOrder (model_entered i (state_of ticket_of made))
+            (state_with ticket_of made new)) is put-state);
+      }
+
+  -- the lists are sound
+  pub new-sound : item.key ≡ key → item.mark ≡ 0 → IsSound ticket_of equal rules.hash made
+      → IsSound ticket_of equal rules.hash (record made { lists = new })
+  unfolding held
+  new-sound same unmarked sound = record {
+    valid = SameButOrder-valid equal _ (state_with ticket_of made new) put-state
+        (entered-valid equal laws item (state_of ticket_of made)
+        (subst (λ k. keys_by (equal k) (state_of ticket_of made) ≡ 0) (sym same)
+        (omega (
+          arith,
+          keys (equal key),
+          keys_by-none (equal key) (state_of ticket_of old) nothing.keys,
+        )))
+        (omega (arith, unmarked)) sound.valid);
+    sized = sound.sized;
+    hashed = AreHashed-reordered rules.hash _ new puts.put
+        (AreHashed-room rules.hash new.next new.room (entered held made.lists)
+        (AreHashed-entered rules.hash held made.lists (ap rules.hash (sym same)) sound.hashed));
+  }

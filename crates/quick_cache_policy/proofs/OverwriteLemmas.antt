@@ -1,0 +1,263 @@
+-- A pair over a ghost, over a placeholder and over an item: the lists are the state that the write
+-- leads to before room is made, but for the order of what has none, and stay sound.
+use Rattle.std.proofs.Common.{◌≡◌, ℕ, ◌+◌, ◌*◌, ◌≤◌, Bool, true, false, List, [], ◌∷◌, ◌++◌, map, length, Option, None, refl, sym, ap, subst, ◌∙◌, arith}
+use Rattle.std.specs.Cmp.{IsEquivalence}
+use Rattle.std.proofs.lemmas.List.{map-append}
+use Rattle.quick_cache_model.specs.CacheState.{CacheState, Item, LoadingEntry, SameButOrder, UpToOrder, IsValid, keys_by}
+use Rattle.quick_cache_model.specs.declared.queue.Queue.TheVariants.{Hot}
+use Rattle.quick_cache_model.specs.CacheState.{entered as model_entered, rewritten}
+use Rattle.quick_cache_model.specs.Finding.{IsItemAt, IsLoadingAt, IsGhostAt}
+use Rattle.quick_cache_model.specs.Hooks.{Rules, HookCall, evicted}
+use Rattle.quick_cache_model.specs.Eviction.{EvictsToCapacity}
+use Rattle.quick_cache_model.specs.Writes.{Strategy, Insert, WritesAdmitted, new_item, mark_after}
+use Rattle.quick_cache_model.specs.Touches.{TakesTouches, first_mark}
+use Rattle.quick_cache_model.proofs.Eviction.Keys.{keys_by-none}
+use Rattle.quick_cache_model.proofs.OrderLaws.{EvictsToCapacity-reordered, UpToOrder-map, UpToOrder-reordered}
+use Rattle.quick_cache_model.proofs.Valid.Edits.{entered-valid, without_ghost-valid, unloaded-valid, keys_by-unloaded, keys_by-taken, rewritten-valid}
+use Rattle.quick_cache_model.proofs.Valid.Orders.{SameButOrder-valid}
+use Rattle.std.specs.List.{AllByRecursion}
+use Rattle.quick_cache_model.proofs.EachElement.{all-without}
+use Rattle.quick_cache_lists.specs.declared.entry.Entry.{Entry}
+use Rattle.quick_cache_lists.specs.declared.entry.Entry.TheVariants.{Item as item_variant}
+use Rattle.quick_cache_lists.specs.Lists.{HeldItem, HeldLoading, HeldGhost, Lists, AreApart, StandsIn, Replaces, PutsLast, HasNoKey, FindsLoading, entered, without_entry}
+use Rattle.quick_cache_lists.specs.Views.{hashes_of, loading_entry, loading_entries}
+use Rattle.quick_cache_lists.proofs.StandingLemmas.{ghost-hash, loading-hash}
+use Rattle.quick_cache_policy.specs.declared.contents.Contents.{Contents}
+use Rattle.quick_cache_policy.specs.Contents.{AreHashed, IsSound, state_of}
+use Rattle.quick_cache_policy.specs.Finding.{AreUnder}
+use Rattle.quick_cache_policy.proofs.SoundLemmas.{state_of-reordered, AreHashed-reordered}
+use Rattle.quick_cache_policy.proofs.FindLemmas.{IsGhostAt-stands, IsLoadingAt-stands}
+use Rattle.quick_cache_policy.proofs.EnterLemmas.{state_with, entered-state, AreHashed-entered, AreHashed-room, entered-count}
+use Rattle.quick_cache_policy.proofs.LookupLemmas.{without_ghost, without_loading}
+
+-- ---- eviction goes on from the actual state
+
+module _ {K V : Type 0} (rules : Rules K V) (mid state new : CacheState K V)
+    (calls : List (HookCall K V)) (order : SameButOrder mid state) where
+  -- and leads where it leads from the definition's one
+  pub evicts-from : UpToOrder (EvictsToCapacity rules 0 state calls) new
+      → UpToOrder (EvictsToCapacity rules 0 mid calls) new
+  evicts-from up = UpToOrder-reordered (EvictsToCapacity rules 0 mid calls) up.ordered new up.same
+      (EvictsToCapacity-reordered rules 0 mid state up.ordered calls order up.holds)
+
+-- ---- an item that was put in place of a ghost or a placeholder
+
+module _ {K V P A T X : Type 0} (ticket_of : P → ℕ) (contents : Contents K V P A X)
+    (token : ℕ) (item : Item K V) (was : Entry K V P T) (new : Lists K V P)
+    (replaces : Replaces contents.lists token false (item_variant item) was new)
+    (others : Lists K V P) (next room : ℕ)
+    (gone : without_entry false token contents.lists
+    ≡ record others { next = next; room = room }) where
+  -- the item is last, but for the order of what has none
+  pub replaced-state : SameButOrder (model_entered item (state_with ticket_of contents others))
+      (state_with ticket_of contents new)
+  replaced-state =
+      let put = subst (λ (l : Lists K V P). PutsLast {T = T} l token replaces.hash
+      (item_variant item) new) gone replaces.last in
+      subst (λ (s : CacheState K V). SameButOrder s (state_with ticket_of contents new))
+      (entered-state ticket_of contents
+      (record { token = token; hash = replaces.hash; item = item })
+      (record others { next = next; room = room }))
+      (state_of-reordered ticket_of contents _ new put.put)
+
+  -- one item more stands in the rings, if it stands in one
+  pub replaced-count : length new.hot + length new.cold
+      ≤ length others.hot + length others.cold + 1
+  replaced-count =
+      let put = subst (λ (l : Lists K V P). PutsLast {T = T} l token replaces.hash
+      (item_variant item) new) gone replaces.last in
+      let held : HeldItem K V = record { token = token; hash = replaces.hash; item = item } in
+      omega (
+        arith,
+        ap (λ (l : Lists K V P). length l.hot + length l.cold) put.put.same,
+        entered-count held (record others { next = next; room = room }),
+      )
+
+  -- each key stays under its hash
+  pub replaced-hashed : (hash : K → ℕ) → replaces.hash ≡ hash item.key → AreHashed hash others
+      → AreHashed hash new
+  replaced-hashed hash under hashed =
+      let put = subst (λ (l : Lists K V P). PutsLast {T = T} l token replaces.hash
+      (item_variant item) new) gone replaces.last in
+      let held : HeldItem K V = record { token = token; hash = replaces.hash; item = item } in
+      AreHashed-reordered hash _ new put.put
+      (AreHashed-room hash new.next new.room (entered held
+      (record others { next = next; room = room }))
+      (AreHashed-entered hash held (record others { next = next; room = room }) under
+      (AreHashed-room hash next room others hashed)))
+
+-- ---- over a ghost
+
+module _ {K V P A T X : Type 0} (ticket_of : P → ℕ) (contents : Contents K V P A X)
+    (apart : AreApart contents.lists) (equal : K → K → Bool) (laws : IsEquivalence equal)
+    (rules : Rules K V) (key : K) (value : V) (token : ℕ)
+    (under : AreUnder (equal key) (rules.hash key) contents.lists)
+    (none : HasNoKey (equal key) (rules.hash key) contents.lists)
+    (stands : StandsIn contents.lists.ghosts (record { token = token; hash = rules.hash key }))
+    (item : Item K V) (was : Entry K V P T) (new : Lists K V P)
+    (replaces : Replaces contents.lists token false (item_variant item) was new) where
+  there : IsGhostAt (equal key) (rules.hash key) (state_of ticket_of contents)
+      (hashes_of stands.before) (hashes_of stands.after)
+  there = IsGhostAt-stands ticket_of (equal key) (rules.hash key) contents under none stands.before
+      token stands.after stands.split
+
+  over_ghost-state : SameButOrder (model_entered item (record (state_of ticket_of contents) {
+    ghosts = hashes_of stands.before ++ hashes_of stands.after;
+  })) (state_with ticket_of contents new)
+  over_ghost-state = subst (λ (l : List ℕ). SameButOrder (model_entered item
+      (record (state_of ticket_of contents) { ghosts = l })) (state_with ticket_of contents new))
+      (map-append (λ (s : HeldGhost). s.hash) stands.before stands.after)
+      (replaced-state ticket_of contents token item was new replaces
+      (record contents.lists { ghosts = stands.before ++ stands.after }) token
+      (contents.lists.room + 1)
+      (without_ghost ticket_of contents apart (equal key) (rules.hash key) token stands))
+
+  -- the write over the ghost
+  pub over_ghost-writes : item ≡ new_item rules key value Hot 0 → (last : CacheState K V)
+      (calls : List (HookCall K V))
+      → UpToOrder (EvictsToCapacity rules 0 (state_with ticket_of contents new) calls) last
+      → UpToOrder (WritesAdmitted rules (equal key) key Insert (state_of ticket_of contents) value
+      calls None) last
+  over_ghost-writes is last calls evicts =
+      UpToOrder-map _ _ last
+      (λ state e. WritesAdmitted.inserts_over_ghost (hashes_of stands.before)
+      (hashes_of stands.after) calls state refl there
+      (subst (λ (i : Item K V). EvictsToCapacity rules 0 (model_entered i
+      (record (state_of ticket_of contents) {
+        ghosts = hashes_of stands.before ++ hashes_of stands.after;
+      })) calls state) is e))
+      (evicts-from rules _ (state_with ticket_of contents new) last calls over_ghost-state evicts)
+
+  -- the rings have one item more
+  pub over_ghost-count : length new.hot + length new.cold
+      ≤ length contents.lists.hot + length contents.lists.cold + 1
+  over_ghost-count = replaced-count ticket_of contents token item was new replaces
+      (record contents.lists { ghosts = stands.before ++ stands.after }) token
+      (contents.lists.room + 1)
+      (without_ghost ticket_of contents apart (equal key) (rules.hash key) token stands)
+
+  -- the lists are sound before room is made
+  pub over_ghost-sound : item.key ≡ key → item.mark ≡ 0
+      → IsSound ticket_of equal rules.hash contents
+      → IsSound ticket_of equal rules.hash (record contents { lists = new })
+  over_ghost-sound same unmarked sound = record {
+    valid = SameButOrder-valid equal _ (state_with ticket_of contents new) over_ghost-state
+        (entered-valid equal laws item _
+        (subst (λ k. keys_by (equal k) (state_of ticket_of contents) ≡ 0) (sym same)
+        (keys_by-none (equal key) (state_of ticket_of contents) there.keys))
+        (omega (arith, unmarked))
+        (without_ghost-valid equal (hashes_of stands.before) (rules.hash key)
+        (hashes_of stands.after) (state_of ticket_of contents) there.split sound.valid));
+    sized = sound.sized;
+    hashed = replaced-hashed ticket_of contents token item was new replaces
+        (record contents.lists { ghosts = stands.before ++ stands.after }) token
+        (contents.lists.room + 1)
+        (without_ghost ticket_of contents apart (equal key) (rules.hash key) token stands)
+        rules.hash
+        (ghost-hash contents.lists apart token replaces.hash was replaces.taken
+        (record { token = token; hash = rules.hash key }) stands refl
+        ∙ ap rules.hash (sym same))
+        (record {
+          hot = sound.hashed.hot;
+          cold = sound.hashed.cold;
+          still = sound.hashed.still;
+          loading = sound.hashed.loading;
+        });
+  }
+
+-- ---- over a placeholder
+
+module _ {K V P A T X : Type 0} (ticket_of : P → ℕ) (contents : Contents K V P A X)
+    (apart : AreApart contents.lists) (equal : K → K → Bool) (laws : IsEquivalence equal)
+    (rules : Rules K V) (key : K) (value : V) (token : ℕ)
+    (found : FindsLoading (equal key) (rules.hash key) contents.lists token)
+    (item : Item K V) (was : Entry K V P T) (new : Lists K V P)
+    (replaces : Replaces contents.lists token false (item_variant item) was new) where
+  waits : IsLoadingAt (equal key) (state_of ticket_of contents)
+      (loading_entries ticket_of found.stands.before) (loading_entry ticket_of found.waiting)
+      (loading_entries ticket_of found.stands.after)
+  waits = IsLoadingAt-stands ticket_of (equal key) (rules.hash key) contents found.stands.before
+      found.waiting found.stands.after found.stands.split found.passes
+
+  over_loading-state : SameButOrder (model_entered item (record (state_of ticket_of contents) {
+    loading = loading_entries ticket_of found.stands.before
+        ++ loading_entries ticket_of found.stands.after;
+  })) (state_with ticket_of contents new)
+  over_loading-state = subst (λ (l : List (LoadingEntry K)). SameButOrder (model_entered item
+      (record (state_of ticket_of contents) { loading = l })) (state_with ticket_of contents new))
+      (map-append (loading_entry ticket_of) found.stands.before found.stands.after)
+      (replaced-state ticket_of contents token item was new replaces
+      (record contents.lists { loading = found.stands.before ++ found.stands.after })
+      found.waiting.token (contents.lists.room + 1)
+      (without_loading ticket_of contents apart (equal key) (rules.hash key) token found.waiting
+      found.stands found.named))
+
+  -- the write over the placeholder
+  pub over_loading-writes : item ≡ new_item rules key value found.waiting.queue 1
+      → (last : CacheState K V) (calls : List (HookCall K V))
+      → UpToOrder (EvictsToCapacity rules 0 (state_with ticket_of contents new) calls) last
+      → UpToOrder (WritesAdmitted rules (equal key) key Insert (state_of ticket_of contents) value
+      calls None) last
+  over_loading-writes is last calls evicts =
+      UpToOrder-map _ _ last
+      (λ state e. WritesAdmitted.inserts_over_loading
+      (loading_entries ticket_of found.stands.before) (loading_entry ticket_of found.waiting)
+      (loading_entries ticket_of found.stands.after) calls state refl waits
+      (subst (λ (i : Item K V). EvictsToCapacity rules 0 (model_entered i
+      (record (state_of ticket_of contents) {
+        loading = loading_entries ticket_of found.stands.before
+            ++ loading_entries ticket_of found.stands.after;
+      })) calls state) is e))
+      (evicts-from rules _ (state_with ticket_of contents new) last calls over_loading-state evicts)
+
+  -- the rings have one item more
+  pub over_loading-count : length new.hot + length new.cold
+      ≤ length contents.lists.hot + length contents.lists.cold + 1
+  over_loading-count = replaced-count ticket_of contents token item was new replaces
+      (record contents.lists { loading = found.stands.before ++ found.stands.after })
+      found.waiting.token (contents.lists.room + 1)
+      (without_loading ticket_of contents apart (equal key) (rules.hash key) token found.waiting
+      found.stands found.named)
+
+  -- the lists are sound before room is made
+  pub over_loading-sound : item.key ≡ key → item.mark ≡ 1
+      → IsSound ticket_of equal rules.hash contents
+      → IsSound ticket_of equal rules.hash (record contents { lists = new })
+  over_loading-sound same marked sound = record {
+    valid = SameButOrder-valid equal _ (state_with ticket_of contents new) over_loading-state
+        (entered-valid equal laws item _
+        (subst (λ k. keys_by (equal k) (record (state_of ticket_of contents) {
+          loading = loading_entries ticket_of found.stands.before
+              ++ loading_entries ticket_of found.stands.after;
+        }) ≡ 0) (sym same)
+        (keys_by-taken equal laws key (state_of ticket_of contents)
+        (record (state_of ticket_of contents) {
+          loading = loading_entries ticket_of found.stands.before
+              ++ loading_entries ticket_of found.stands.after;
+        }) found.waiting.key found.passes
+        (keys_by-unloaded (equal key) (loading_entries ticket_of found.stands.before)
+        (loading_entry ticket_of found.waiting) (loading_entries ticket_of found.stands.after)
+        (state_of ticket_of contents) waits.split) sound.valid))
+        (omega (arith, marked))
+        (unloaded-valid equal (loading_entries ticket_of found.stands.before)
+        (loading_entry ticket_of found.waiting) (loading_entries ticket_of found.stands.after)
+        (state_of ticket_of contents) waits.split sound.valid));
+    sized = sound.sized;
+    hashed = replaced-hashed ticket_of contents token item was new replaces
+        (record contents.lists { loading = found.stands.before ++ found.stands.after })
+        found.waiting.token (contents.lists.room + 1)
+        (without_loading ticket_of contents apart (equal key) (rules.hash key) token found.waiting
+        found.stands found.named)
+        rules.hash
+        (loading-hash contents.lists apart token replaces.hash was replaces.taken found.waiting
+        found.stands found.named ∙ found.hashed ∙ ap rules.hash (sym same))
+        (record {
+          hot = sound.hashed.hot;
+          cold = sound.hashed.cold;
+          still = sound.hashed.still;
+          loading = all-without (λ (w : HeldLoading K P). w.hash ≡ rules.hash w.key)
+              found.stands.before found.waiting found.stands.after
+              (subst (λ (l : List (HeldLoading K P)). AllByRecursion
+              (λ w. w.hash ≡ rules.hash w.key) l) found.stands.split sound.hashed.loading);
+        });
+  }

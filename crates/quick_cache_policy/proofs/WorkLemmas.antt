@@ -1,0 +1,85 @@
+-- How much work was done: the counts of advances and of visits, one step after another.
+use Rattle.std.proofs.Common.{◌≡◌, ℕ, ◌+◌, ◌*◌, ◌^◌, ◌<◌, ◌≤◌, arith, ap, ◌∙◌}
+use Rattle.std.proofs.Math.Nat.{mul-le-mul_left, mul-le-mul_right}
+use Rattle.quick_cache_policy.specs.Work.{Work, DoesMore, PaysFor}
+
+-- nothing more was done
+pub DoesMore-none : (work : Work) → work.advances < 2 ^ 64
+    → work.visits < 2 ^ 64 → DoesMore 0 0 work work
+DoesMore-none work few less = record {
+  advances_are = omega (arith, few);
+  visits_are = omega (arith, less);
+}
+
+-- so much more, and then so much
+pub DoesMore-then : (advances visits more still : ℕ) (old mid new : Work)
+    → DoesMore advances visits old mid → DoesMore more still mid new
+    → DoesMore (advances + more) (visits + still) old new
+DoesMore-then advances visits more still old mid new first second = record {
+  advances_are = omega (arith, first.advances_are, second.advances_are);
+  visits_are = omega (arith, first.visits_are, second.visits_are);
+}
+
+-- nothing is to be paid for
+pub PaysFor-none : (hot cold : ℕ) (work : Work) → work.advances < 2 ^ 64
+    → work.visits < 2 ^ 64 → PaysFor 0 hot cold hot cold work work
+PaysFor-none hot cold work few less = record {
+  advances = 0;
+  visits = 0;
+  does = DoesMore-none work few less;
+  members = omega arith;
+  paid = omega arith;
+  visited = omega arith;
+}
+
+-- each of two steps is paid for, so both are
+pub PaysFor-then : (extra more hot cold hot1 cold1 hot2 cold2 : ℕ) (old mid new : Work)
+    → PaysFor extra hot cold hot1 cold1 old mid → PaysFor more hot1 cold1 hot2 cold2 mid new
+    → PaysFor (extra + more) hot cold hot2 cold2 old new
+PaysFor-then extra more hot cold hot1 cold1 hot2 cold2 old mid new first second =
+    let fewer : 3 * (hot1 + cold1) ≤ 3 * (hot + cold) = omega (arith, first.members) in
+    let each : 3 * (hot1 + cold1) * second.advances ≤ 3 * (hot + cold) * second.advances =
+    mul-le-mul_right second.advances fewer in
+    let both : 3 * (hot + cold) * (first.advances + second.advances)
+    ≡ 3 * (hot + cold) * first.advances + 3 * (hot + cold) * second.advances = omega arith in
+    record {
+      advances = first.advances + second.advances;
+      visits = first.visits + second.visits;
+      does = DoesMore-then first.advances first.visits second.advances second.visits old mid new
+          first.does second.does;
+      members = omega (arith, first.members, second.members);
+      paid = omega (arith, first.paid, second.paid);
+      visited = omega (arith, each, both, first.visited, second.visited);
+    }
+
+-- a promotion pays for the advance that answers no after it
+pub PaysFor-promoted : (hot cold hot1 cold1 hot2 cold2 : ℕ) (old new : Work) → hot1 ≡ hot + 1
+    → cold1 + 1 ≡ cold → PaysFor 1 hot1 cold1 hot2 cold2 old new
+    → PaysFor 0 hot cold hot2 cold2 old new
+PaysFor-promoted hot cold hot1 cold1 hot2 cold2 old new more fewer pays =
+    let same : 3 * (hot1 + cold1) * pays.advances ≡ 3 * (hot + cold) * pays.advances =
+    ap (λ n. 3 * n * pays.advances) (omega (arith, more, fewer)) in
+    record {
+      advances = pays.advances;
+      visits = pays.visits;
+      does = pays.does;
+      members = omega (arith, pays.members, more, fewer);
+      paid = omega (arith, pays.paid, more, fewer);
+      visited = omega (arith, pays.visited, same);
+    }
+
+-- a cold item that left is no work
+pub PaysFor-evicted : (hot cold hot1 cold1 : ℕ) (old new : Work) → hot1 ≡ hot → cold1 + 1 ≡ cold
+    → new ≡ old → old.advances < 2 ^ 64 → old.visits < 2 ^ 64
+    → PaysFor 0 hot cold hot1 cold1 old new
+PaysFor-evicted hot cold hot1 cold1 old new same fewer work few less = record {
+  advances = 0;
+  visits = 0;
+  does = record {
+    advances_are = omega (arith, few, ap (λ (w : Work). w.advances) work);
+    visits_are = omega (arith, less, ap (λ (w : Work). w.visits) work);
+  };
+  members = omega (arith, same, fewer);
+  paid = omega (arith, same, fewer);
+  visited = omega arith;
+}

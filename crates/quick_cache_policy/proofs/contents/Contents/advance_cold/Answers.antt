@@ -1,0 +1,141 @@
+use Rattle.std.proofs.Common.{◌∙◌, ap, subst, arith, refl, length, true}
+use Rattle.quick_cache_model.specs.declared.queue.Queue.TheVariants.{Hot, Cold}
+use Rattle.quick_cache_model.specs.CacheState.{CacheState}
+use Rattle.quick_cache_model.specs.Eviction.{AdvancesHot, AdvancesCold, EvictsToTarget}
+use Rattle.quick_cache_model.specs.Hooks.{Calls}
+use Rattle.quick_cache_lists.specs.Views.{items_of}
+use Rattle.quick_cache_policy.specs.declared.contents.Contents.{Contents}
+use Rattle.quick_cache_policy.specs.Advances.{AreEvictions, Evicting, FirstIsEvicted}
+use Rattle.quick_cache_policy.specs.Advances.{FirstIsPromoted}
+use Rattle.quick_cache_policy.specs.Contents.{state_of, work_of}
+use Rattle.quick_cache_policy.specs.Policies.{rules_by}
+use Rattle.quick_cache_policy.proofs.ColdAdvances.{AdvancesCold-promoted, AdvancesCold-evicted}
+use Rattle.quick_cache_policy.proofs.ColdAdvances.{AdvancesCold-passed}
+use Rattle.quick_cache_policy.proofs.KeyLemmas.{FirstIsEvicted-keys, FirstIsPromoted-keys, Searches-keys, keys_by-cold}
+use Rattle.quick_cache_policy.proofs.LoopLemmas.{Calls-map}
+use Rattle.quick_cache_policy.proofs.WorkLemmas.{PaysFor-evicted}
+use Rattle.quick_cache_policy.proofs.contents.Contents.advance_cold.Goals as goal
+
+pub returns-in-Marked-clause-advances : goal.returns-in-Marked-clause-advances
+returns-in-Marked-clause-advances g c =
+    let rules = rules_by g.M.Policy g.P.Touch.Touches.may_count c.args.terms.now in
+    let old = state_of g.P.SharedPlaceholder.ticket_of c.args.self.now in
+    let cold = items_of c.search_cold.new.self.lists.cold in
+    let is = ap (λ (r : Contents _ _ _ _ _). state_of g.P.SharedPlaceholder.ticket_of r)
+    c.search_cold.ensures.same in
+    let mid = state_of g.P.SharedPlaceholder.ticket_of c.promote_first.new.self in
+    let new = state_of g.P.SharedPlaceholder.ticket_of c.evict_to_target.new.self in
+    let steady = g.M.Policy.steady c.args.terms.now in
+    Calls-map (g.M.Policy.hooks c.args.terms.now) (Evicting steady (EvictsToTarget rules mid) new)
+    (Evicting steady (AdvancesCold rules old true) new)
+    c.args.state.now c.evict_to_target.new.state
+    (λ calls. AdvancesCold-promoted rules steady old refl cold mid new calls
+    c.in-Marked.ensures.searches
+    (subst (λ (s : CacheState _ _). FirstIsPromoted s mid) is c.promote_first.ensures.promotes))
+    c.evict_to_target.ensures.evicts
+
+pub returns-in-Victim-clause-advances : goal.returns-in-Victim-clause-advances
+returns-in-Victim-clause-advances g c =
+    let rules = rules_by g.M.Policy g.P.Touch.Touches.may_count c.args.terms.now in
+    let old = state_of g.P.SharedPlaceholder.ticket_of c.args.self.now in
+    let cold = items_of c.search_cold.new.self.lists.cold in
+    let is = ap (λ (r : Contents _ _ _ _ _). state_of g.P.SharedPlaceholder.ticket_of r)
+    c.search_cold.ensures.same in
+    let new = state_of g.P.SharedPlaceholder.ticket_of c.evict_first.new.self in
+    let steady = g.M.Policy.steady c.args.terms.now in
+    Calls-map (g.M.Policy.hooks c.args.terms.now)
+    (λ calls. FirstIsEvicted rules Cold (record old { cold = cold }) calls new × AreEvictions calls)
+    (Evicting steady (AdvancesCold rules old true) new)
+    c.args.state.now c.evict_first.new.state
+    (λ calls. AdvancesCold-evicted rules steady old refl cold new calls
+    c.in-Victim.ensures.searches)
+    (subst (λ (s : CacheState _ _). Calls (g.M.Policy.hooks c.args.terms.now)
+    (λ calls. FirstIsEvicted rules Cold s calls new × AreEvictions calls)
+    c.args.state.now c.evict_first.new.state) is c.evict_first.ensures.evicts)
+
+pub returns-in-Victim-clause-falls : goal.returns-in-Victim-clause-falls
+returns-in-Victim-clause-falls g c = omega (
+  arith,
+  c.evict_first.ensures.falls,
+  c.evict_first.ensures.others Hot (λ e. absurd (cc)),
+  c.search_cold.ensures.count,
+  ap (λ (r : Contents _ _ _ _ _). length r.lists.hot) c.search_cold.ensures.same,
+)
+
+pub returns-in-Victim-clause-work : goal.returns-in-Victim-clause-work
+returns-in-Victim-clause-work g c =
+    PaysFor-evicted (length c.args.self.now.lists.hot) (length c.args.self.now.lists.cold)
+    (length c.evict_first.new.self.lists.hot) (length c.evict_first.new.self.lists.cold)
+    (work_of c.args.self.now) (work_of c.evict_first.new.self)
+    (c.evict_first.ensures.others Hot (λ e. absurd (cc))
+    ∙ ap (λ (r : Contents _ _ _ _ _). length r.lists.hot) c.search_cold.ensures.same)
+    (omega (arith, c.evict_first.ensures.falls, c.search_cold.ensures.count))
+    (ap (λ (r : Contents _ _ _ _ _). work_of r) c.evict_first.ensures.same
+    ∙ ap (λ (r : Contents _ _ _ _ _). work_of r) c.search_cold.ensures.same)
+    c.counts_fit.ensures.advances c.counts_fit.ensures.visits
+
+pub returns-in-AllPassed-clause-advances : goal.returns-in-AllPassed-clause-advances
+returns-in-AllPassed-clause-advances g c =
+    let rules = rules_by g.M.Policy g.P.Touch.Touches.may_count c.args.terms.now in
+    let old = state_of g.P.SharedPlaceholder.ticket_of c.args.self.now in
+    let cold = items_of c.search_cold.new.self.lists.cold in
+    let is = ap (λ (r : Contents _ _ _ _ _). state_of g.P.SharedPlaceholder.ticket_of r)
+    c.search_cold.ensures.same in
+    let new = state_of g.P.SharedPlaceholder.ticket_of c.advance_hot.new.self in
+    let steady = g.M.Policy.steady c.args.terms.now in
+    Calls-map (g.M.Policy.hooks c.args.terms.now)
+    (Evicting steady (AdvancesHot rules (record old { cold = cold }) c.advance_hot.result) new)
+    (Evicting steady (AdvancesCold rules old c.advance_hot.result) new)
+    c.args.state.now c.advance_hot.new.state
+    (λ calls. AdvancesCold-passed rules steady old refl cold c.advance_hot.result new calls
+    c.in-AllPassed.ensures.searches)
+    (subst (λ (s : CacheState _ _). Calls (g.M.Policy.hooks c.args.terms.now)
+    (Evicting steady (AdvancesHot rules s c.advance_hot.result) new)
+    c.args.state.now c.advance_hot.new.state) is c.advance_hot.ensures.advances)
+
+-- the search turns the ring
+pub returns-in-Marked-clause-keys : goal.returns-in-Marked-clause-keys
+returns-in-Marked-clause-keys g c test =
+    omega (
+      arith,
+      keys_by-cold g.P.SharedPlaceholder.ticket_of test c.args.self.now c.search_cold.new.self
+          c.search_cold.ensures.same
+          (Searches-keys test (g.M.Policy.steady c.args.terms.now)
+          (g.M.Policy.pinned c.args.terms.now) g.P.Touch.Touches.may_count
+          (items_of c.args.self.now.lists.cold) (items_of c.search_cold.new.self.lists.cold)
+          c.search_cold.result c.search_cold.ensures.searches),
+      FirstIsPromoted-keys test (state_of g.P.SharedPlaceholder.ticket_of c.search_cold.new.self)
+          (state_of g.P.SharedPlaceholder.ticket_of c.promote_first.new.self)
+          c.promote_first.ensures.promotes,
+      c.evict_to_target.ensures.keys test,
+    )
+
+pub returns-in-Victim-clause-keys : goal.returns-in-Victim-clause-keys
+returns-in-Victim-clause-keys g c test =
+    let e = c.evict_first.ensures.evicts in
+    let rules = rules_by g.M.Policy g.P.Touch.Touches.may_count c.args.terms.now in
+    omega (
+      arith,
+      keys_by-cold g.P.SharedPlaceholder.ticket_of test c.args.self.now c.search_cold.new.self
+          c.search_cold.ensures.same
+          (Searches-keys test (g.M.Policy.steady c.args.terms.now)
+          (g.M.Policy.pinned c.args.terms.now) g.P.Touch.Touches.may_count
+          (items_of c.args.self.now.lists.cold) (items_of c.search_cold.new.self.lists.cold)
+          c.search_cold.result c.search_cold.ensures.searches),
+      FirstIsEvicted-keys test rules Cold
+          (state_of g.P.SharedPlaceholder.ticket_of c.search_cold.new.self)
+          (state_of g.P.SharedPlaceholder.ticket_of c.evict_first.new.self) e.calls e.holds.0,
+    )
+
+pub returns-in-AllPassed-clause-keys : goal.returns-in-AllPassed-clause-keys
+returns-in-AllPassed-clause-keys g c test =
+    omega (
+      arith,
+      keys_by-cold g.P.SharedPlaceholder.ticket_of test c.args.self.now c.search_cold.new.self
+          c.search_cold.ensures.same
+          (Searches-keys test (g.M.Policy.steady c.args.terms.now)
+          (g.M.Policy.pinned c.args.terms.now) g.P.Touch.Touches.may_count
+          (items_of c.args.self.now.lists.cold) (items_of c.search_cold.new.self.lists.cold)
+          c.search_cold.result c.search_cold.ensures.searches),
+      c.advance_hot.ensures.keys test,
+    )

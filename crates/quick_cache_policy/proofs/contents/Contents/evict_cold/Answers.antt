@@ -1,0 +1,228 @@
+use Rattle.std.proofs.Common.{[], ◌∷◌, length, refl, sym, ap, subst, ◌∙◌, arith, inl}
+use Rattle.std.specs.Int.NonZero.{non_zero_u32_get as number}
+use Rattle.quick_cache_model.specs.declared.queue.Queue.TheVariants.{Hot, Cold}
+use Rattle.quick_cache_model.specs.CacheState.{ring_place}
+use Rattle.quick_cache_model.specs.Hooks.{BeforeEvict, EvictCold}
+use Rattle.quick_cache_lists.specs.Lists.{Lists, IsEntry}
+use Rattle.quick_cache_lists.proofs.OneEntryLemmas.{first-loading, first-ghost}
+use Rattle.quick_cache_policy.specs.declared.contents.Contents.{Contents}
+use Rattle.quick_cache_policy.specs.Advances.{AreEvictions, FirstIsEvicted}
+use Rattle.quick_cache_policy.specs.Contents.{IsSound, state_of, ring_count}
+use Rattle.quick_cache_policy.specs.Policies.{rules_by}
+use Rattle.quick_cache_policy.proofs.VictimLemmas.{ring-first, Replaces-ghost, Replaces-stays}
+use Rattle.quick_cache_policy.proofs.VictimLemmas.{hashes_of-last, newest-hashes, ghosts-one_more}
+use Rattle.quick_cache_policy.proofs.SoundLemmas.{FirstIsEvicted-stays, FirstIsEvicted-cold}
+use Rattle.quick_cache_policy.proofs.SoundLemmas.{IsSound-evicted, AreHashed-first, AreHashed-rest}
+use Rattle.quick_cache_policy.proofs.SoundLemmas.{AreHashed-stays, AreHashed-ghosts, without-ghosts}
+use Rattle.quick_cache_policy.proofs.SoundLemmas.{ring_count-falls, hot_count-stays}
+use Rattle.quick_cache_policy.proofs.contents.Contents.evict_cold.Goals as goal
+
+-- the first of the cold ring stands there
+pub replace-requires : goal.replace-requires
+replace-requires g c =
+    let first = c.requires.first in
+    inl (
+      first.0,
+      record {
+        place = ring_place Cold;
+        stands = record { before = []; after = first.1; split = first.2 };
+      },
+      first.3,
+    )
+
+-- its token has no placeholder
+pub unreachable-requires : goal.unreachable-requires
+unreachable-requires g c =
+    let first = c.requires.first in
+    let lists = c.args.self.now.lists in
+    first-loading lists c.apart.ensures.apart first.0 first.1 Cold _ first.2
+    (subst (λ e. IsEntry lists (number c.args.token) c.replace.ensures.hash e) c.in-Loading.is
+    c.replace.ensures.taken) (sym first.3)
+
+-- and no ghost
+pub unreachable-requires-in-Ghost : goal.unreachable-requires-in-Ghost
+unreachable-requires-in-Ghost g c =
+    let first = c.requires.first in
+    let lists = c.args.self.now.lists in
+    first-ghost lists c.apart.ensures.apart first.0 first.1 Cold _ first.2
+    (subst (λ e. IsEntry lists (number c.args.token) c.replace.ensures.hash e) c.in-Ghost.is
+    c.replace.ensures.taken) (sym first.3)
+
+-- there is one ghost more
+pub forget_oldest-requires : goal.forget_oldest-requires
+forget_oldest-requires g c =
+    let first = c.requires.first in
+    let lists = c.args.self.now.lists in
+    record {
+      one = ghosts-one_more c.args.self.now.ghost_limit lists.ghosts c.replace.new.self.ghosts
+          (record { token = number c.args.token; hash = c.replace.ensures.hash })
+          (ap (λ (l : Lists _ _ _). l.ghosts)
+          (Replaces-ghost lists c.apart.ensures.apart first.0 first.1 (number c.args.token)
+          c.replace.result c.replace.new.self c.replace.ensures first.2 first.3))
+          c.requires.sound.valid.ghosts_within;
+    }
+
+-- the ghost goes again where the victim stays among the weightless
+pub returns-in-Stays-clause-evicts : goal.returns-in-Stays-clause-evicts
+returns-in-Stays-clause-evicts g c =
+    let first = c.requires.first in
+    let contents = c.args.self.now in
+    let lists = contents.lists in
+    let apart = c.apart.ensures.apart in
+    let t = number c.args.token in
+    let hash = c.replace.ensures.hash in
+    let item = c.in-Item.item in
+    let kept = c.in-Stays.item in
+    let new = c.replace-in-Stays.new.self in
+    let split = ring-first lists apart Cold first.0 first.1 t hash item first.2 first.3
+    (subst (λ e. IsEntry lists t hash e) c.in-Item.is c.replace.ensures.taken) in
+    let is = Replaces-ghost lists apart first.0 first.1 t c.replace.result c.replace.new.self
+    c.replace.ensures first.2 first.3 in
+    let order = Replaces-stays lists c.replace.new.self c.apart-in-Stays.ensures.apart first.1 t
+    hash item kept kept.value c.replace-in-Stays.result new is c.in-Stays.ensures.2
+    c.replace-in-Stays.ensures in
+    record {
+      calls = BeforeEvict item.key item.value kept.value ∷ [];
+      holds = (
+        FirstIsEvicted-stays g.P.SharedPlaceholder.ticket_of contents
+            (rules_by g.M.Policy g.P.Touch.Touches.may_count c.args.terms.now)
+            (record { token = t; hash = hash; item = item }) first.1 Cold t hash new.next new.room
+            kept.value new split c.in-Stays.ensures.1 order,
+        AreEvictions.stays item.key item.value kept.value [] AreEvictions.none,
+      );
+      runs = (c.decide.new.state, c.in-Stays.ensures.0, refl);
+    }
+
+pub returns-in-Stays-clause-sound : goal.returns-in-Stays-clause-sound
+returns-in-Stays-clause-sound g c =
+    let first = c.requires.first in
+    let contents = c.args.self.now in
+    let lists = contents.lists in
+    let apart = c.apart.ensures.apart in
+    let t = number c.args.token in
+    let hash = c.replace.ensures.hash in
+    let item = c.in-Item.item in
+    let kept = c.in-Stays.item in
+    let new = c.replace-in-Stays.new.self in
+    let split = ring-first lists apart Cold first.0 first.1 t hash item first.2 first.3
+    (subst (λ e. IsEntry lists t hash e) c.in-Item.is c.replace.ensures.taken) in
+    let is = Replaces-ghost lists apart first.0 first.1 t c.replace.result c.replace.new.self
+    c.replace.ensures first.2 first.3 in
+    let order = Replaces-stays lists c.replace.new.self c.apart-in-Stays.ensures.apart first.1 t
+    hash item kept kept.value c.replace-in-Stays.result new is c.in-Stays.ensures.2
+    c.replace-in-Stays.ensures in
+    let evicts = returns-in-Stays-clause-evicts g c in
+    IsSound-evicted g.P.SharedPlaceholder.ticket_of contents
+    (rules_by g.M.Policy g.P.Touch.Touches.may_count c.args.terms.now) g.K.PartialEq.eq
+    (g.M.Policy.hashed c.args.terms.now) Cold evicts.calls new evicts.holds.0 c.requires.sound
+    (AreHashed-stays (g.M.Policy.hashed c.args.terms.now) Cold
+    (record { token = t; hash = hash; item = item }) first.1 lists new new.next new.room t
+    kept.value split c.requires.sound.hashed order)
+
+pub returns-in-Stays-clause-falls : goal.returns-in-Stays-clause-falls
+returns-in-Stays-clause-falls g c =
+    ring_count-falls g.P.SharedPlaceholder.ticket_of c.args.self.now
+    (rules_by g.M.Policy g.P.Touch.Touches.may_count c.args.terms.now) Cold _
+    c.replace-in-Stays.new.self (returns-in-Stays-clause-evicts g c).holds.0
+
+pub returns-in-Stays-clause-hot : goal.returns-in-Stays-clause-hot
+returns-in-Stays-clause-hot g c =
+    hot_count-stays g.P.SharedPlaceholder.ticket_of c.args.self.now
+    (rules_by g.M.Policy g.P.Touch.Touches.may_count c.args.terms.now) _
+    c.replace-in-Stays.new.self (returns-in-Stays-clause-evicts g c).holds.0
+
+-- it is the newest where the victim leaves
+pub returns-in-Leaves-clause-evicts : goal.returns-in-Leaves-clause-evicts
+returns-in-Leaves-clause-evicts g c =
+    let first = c.requires.first in
+    let contents = c.args.self.now in
+    let lists = contents.lists in
+    let apart = c.apart.ensures.apart in
+    let t = number c.args.token in
+    let hash = c.replace.ensures.hash in
+    let item = c.in-Item.item in
+    let left = c.in-Leaves.value in
+    let mid = c.replace.new.self in
+    let new = c.forget_oldest.new.self in
+    let rules = rules_by g.M.Policy g.P.Touch.Touches.may_count c.args.terms.now in
+    let split = ring-first lists apart Cold first.0 first.1 t hash item first.2 first.3
+    (subst (λ e. IsEntry lists t hash e) c.in-Item.is c.replace.ensures.taken) in
+    let is = Replaces-ghost lists apart first.0 first.1 t c.replace.result mid c.replace.ensures
+    first.2 first.3 in
+    let hashes = hashes_of-last lists.ghosts mid.ghosts t hash (rules.hash item.key)
+    (ap (λ (l : Lists _ _ _). l.ghosts) is)
+    (AreHashed-first (g.M.Policy.hashed c.args.terms.now) Cold
+    (record { token = t; hash = hash; item = item }) first.1 lists split c.requires.sound.hashed) in
+    record {
+      calls = BeforeEvict item.key item.value left ∷ EvictCold item.key left ∷ [];
+      holds = (
+        subst (λ (s : Contents _ _ _ _ _). FirstIsEvicted rules Cold
+            (state_of g.P.SharedPlaceholder.ticket_of contents)
+            (BeforeEvict item.key item.value left ∷ EvictCold item.key left ∷ [])
+            (state_of g.P.SharedPlaceholder.ticket_of s))
+            (sym (without-ghosts g.P.SharedPlaceholder.ticket_of contents mid first.1 _ new is
+            c.forget_oldest.ensures.same))
+            (FirstIsEvicted-cold g.P.SharedPlaceholder.ticket_of contents rules
+            (record { token = t; hash = hash; item = item }) first.1 new.lists.ghosts new.lists.next
+            new.lists.room left _ split c.in-Leaves.ensures.1 refl
+            (c.forget_oldest.ensures.ghosts
+            ∙ newest-hashes contents.ghost_limit mid.ghosts _ hashes)),
+        AreEvictions.leaves Cold item.key item.value left [] AreEvictions.none,
+      );
+      runs = (
+        c.decide.new.state,
+        c.in-Leaves.ensures.0,
+        (
+          c.on_evict_cold.new.state,
+          subst (λ k. (g.M.Policy.hooks c.args.terms.now).evict_cold c.decide.new.state k left
+              c.on_evict_cold.new.state) c.in-Leaves.ensures.2 c.on_evict_cold.ensures,
+          refl,
+        ),
+      );
+    }
+
+pub returns-in-Leaves-clause-sound : goal.returns-in-Leaves-clause-sound
+returns-in-Leaves-clause-sound g c =
+    let first = c.requires.first in
+    let contents = c.args.self.now in
+    let lists = contents.lists in
+    let hash = g.M.Policy.hashed c.args.terms.now in
+    let new = c.forget_oldest.new.self in
+    let rules = rules_by g.M.Policy g.P.Touch.Touches.may_count c.args.terms.now in
+    let same = without-ghosts g.P.SharedPlaceholder.ticket_of contents c.replace.new.self first.1 _
+    new (Replaces-ghost lists c.apart.ensures.apart first.0 first.1 (number c.args.token)
+    c.replace.result c.replace.new.self c.replace.ensures first.2 first.3)
+    c.forget_oldest.ensures.same in
+    let evicts = returns-in-Leaves-clause-evicts g c in
+    subst (λ (s : Contents _ _ _ _ _). IsSound g.P.SharedPlaceholder.ticket_of g.K.PartialEq.eq hash
+    s) (sym same)
+    (IsSound-evicted g.P.SharedPlaceholder.ticket_of contents rules g.K.PartialEq.eq hash Cold
+    evicts.calls _
+    (subst (λ (s : Contents _ _ _ _ _). FirstIsEvicted rules Cold
+    (state_of g.P.SharedPlaceholder.ticket_of contents) evicts.calls
+    (state_of g.P.SharedPlaceholder.ticket_of s)) same evicts.holds.0) c.requires.sound
+    (AreHashed-ghosts hash new.lists.ghosts _
+    (AreHashed-rest hash Cold first.0 first.1 new.lists.next new.lists.room lists first.2
+    c.requires.sound.hashed)))
+
+pub returns-in-Leaves-clause-falls : goal.returns-in-Leaves-clause-falls
+returns-in-Leaves-clause-falls g c =
+    let first = c.requires.first in
+    let contents = c.args.self.now in
+    let same = without-ghosts g.P.SharedPlaceholder.ticket_of contents c.replace.new.self first.1 _
+    c.forget_oldest.new.self
+    (Replaces-ghost contents.lists c.apart.ensures.apart first.0 first.1 (number c.args.token)
+    c.replace.result c.replace.new.self c.replace.ensures first.2 first.3)
+    c.forget_oldest.ensures.same in
+    omega (arith, ap (λ (s : Contents _ _ _ _ _). ring_count Cold s) same, ap length first.2)
+
+pub returns-in-Leaves-clause-hot : goal.returns-in-Leaves-clause-hot
+returns-in-Leaves-clause-hot g c =
+    let first = c.requires.first in
+    let contents = c.args.self.now in
+    ap (λ (s : Contents _ _ _ _ _). ring_count Hot s)
+    (without-ghosts g.P.SharedPlaceholder.ticket_of contents c.replace.new.self first.1 _
+    c.forget_oldest.new.self
+    (Replaces-ghost contents.lists c.apart.ensures.apart first.0 first.1 (number c.args.token)
+    c.replace.result c.replace.new.self c.replace.ensures first.2 first.3)
+    c.forget_oldest.ensures.same)

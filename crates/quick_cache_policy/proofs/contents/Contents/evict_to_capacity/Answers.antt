@@ -1,0 +1,126 @@
+use Rattle.std.proofs.Common.{◌<◌, ◌≤◌, ◌+◌, ◌∙◌, ap, arith, refl, length, true, false}
+use Rattle.quick_cache_model.specs.CacheState.{total_weight}
+use Rattle.quick_cache_model.specs.Eviction.{AdvancesCold, EvictsToCapacity}
+use Rattle.quick_cache_model.proofs.OrderLaws.{SameButOrder-refl, EvictsToCapacity-has_room}
+use Rattle.quick_cache_model.proofs.OrderLaws.{EvictsToCapacity-gives_up, EvictsToCapacity-goes_on}
+use Rattle.quick_cache_lists.proofs.CallerLemmas.{weight_of-items}
+use Rattle.quick_cache_policy.specs.declared.contents.Contents.{Contents}
+use Rattle.quick_cache_policy.specs.Contents.{state_of, work_of}
+use Rattle.quick_cache_policy.specs.Policies.{rules_by}
+use Rattle.quick_cache_policy.proofs.LoopLemmas.{GoesOn-begins, GoesOn-steps, GoesOn-stops, GoesOn-ends}
+use Rattle.quick_cache_policy.proofs.WorkLemmas.{PaysFor-none, PaysFor-then}
+use Rattle.quick_cache_policy.proofs.contents.Contents.evict_to_capacity.Goals as goal
+
+pub loop-self-init : goal.loop-self-init
+loop-self-init g c = record {
+  so_far = GoesOn-begins (g.M.Policy.hooks c.args.terms.now) (g.M.Policy.steady c.args.terms.now)
+      (EvictsToCapacity (rules_by g.M.Policy g.P.Touch.Touches.may_count c.args.terms.now)
+      c.args.need)
+      (state_of g.P.SharedPlaceholder.ticket_of c.args.self.now) c.args.state.now;
+  sound = c.requires.sound;
+  room = omega arith;
+  keys = λ test. omega arith;
+  work = PaysFor-none (length c.args.self.now.lists.hot) (length c.args.self.now.lists.cold)
+      (work_of c.args.self.now) c.counts_fit.ensures.advances c.counts_fit.ensures.visits;
+  same = refl;
+}
+
+-- all weighs more than the capacity, and the advance answers no
+pub returns-then-not-advance_cold-clause-evicts : goal.returns-then-not-advance_cold-clause-evicts
+returns-then-not-advance_cold-clause-evicts g c =
+    let rules = rules_by g.M.Policy g.P.Touch.Touches.may_count c.args.terms.now in
+    let mid = state_of g.P.SharedPlaceholder.ticket_of c.loop-self.self in
+    let above : mid.capacity < total_weight mid + c.args.need =
+    omega (
+      arith,
+      c.loop-self-test.true,
+      c.weight.ensures.weight,
+      c.weight-in-loop-self.ensures.weight,
+      c.from.ensures,
+      c.from-in-loop-self.ensures,
+      weight_of-items c.loop-self.self.lists.hot,
+      weight_of-items c.loop-self.self.lists.cold,
+    ) in
+    GoesOn-stops (g.M.Policy.hooks c.args.terms.now) (g.M.Policy.steady c.args.terms.now)
+    (EvictsToCapacity rules c.args.need)
+    (state_of g.P.SharedPlaceholder.ticket_of c.args.self.now) mid
+    c.args.state.now c.loop-self.state c.loop-self.invariant.so_far (AdvancesCold rules mid false)
+    (state_of g.P.SharedPlaceholder.ticket_of c.advance_cold.new.self) c.advance_cold.new.state
+    c.if-not-advance_cold.ensures.advances
+    (λ calls. EvictsToCapacity-gives_up rules c.args.need mid
+    (state_of g.P.SharedPlaceholder.ticket_of c.advance_cold.new.self) calls above)
+
+pub returns-then-not-advance_cold-clause-work : goal.returns-then-not-advance_cold-clause-work
+returns-then-not-advance_cold-clause-work g c =
+    PaysFor-then 0 1 (length c.args.self.now.lists.hot) (length c.args.self.now.lists.cold)
+    (length c.loop-self.self.lists.hot) (length c.loop-self.self.lists.cold)
+    (length c.advance_cold.new.self.lists.hot) (length c.advance_cold.new.self.lists.cold)
+    (work_of c.args.self.now) (work_of c.loop-self.self) (work_of c.advance_cold.new.self)
+    c.loop-self.invariant.work c.if-not-advance_cold.ensures.work
+
+pub loop-self-preserved : goal.loop-self-preserved
+loop-self-preserved g c =
+    let rules = rules_by g.M.Policy g.P.Touch.Touches.may_count c.args.terms.now in
+    let mid = state_of g.P.SharedPlaceholder.ticket_of c.loop-self.self in
+    let new = state_of g.P.SharedPlaceholder.ticket_of c.advance_cold.new.self in
+    let i = c.loop-self.invariant in
+    let e = c.if-not-advance_cold.ensures in
+    let above : mid.capacity < total_weight mid + c.args.need =
+    omega (
+      arith,
+      c.loop-self-test.true,
+      c.weight.ensures.weight,
+      c.weight-in-loop-self.ensures.weight,
+      c.from.ensures,
+      c.from-in-loop-self.ensures,
+      weight_of-items c.loop-self.self.lists.hot,
+      weight_of-items c.loop-self.self.lists.cold,
+    ) in
+    record {
+      so_far = GoesOn-steps (g.M.Policy.hooks c.args.terms.now)
+          (g.M.Policy.steady c.args.terms.now) (EvictsToCapacity rules c.args.need)
+          (state_of g.P.SharedPlaceholder.ticket_of c.args.self.now) mid c.args.state.now
+          c.loop-self.state i.so_far (AdvancesCold rules mid true) new c.advance_cold.new.state
+          e.advances
+          (λ calls rest end.
+          EvictsToCapacity-goes_on rules c.args.need mid new end calls rest above);
+      sound = e.sound;
+      room = omega (arith, i.room, e.room);
+      keys = λ test. omega (arith, i.keys test, e.keys test);
+      work = PaysFor-then 0 0 (length c.args.self.now.lists.hot)
+          (length c.args.self.now.lists.cold) (length c.loop-self.self.lists.hot)
+          (length c.loop-self.self.lists.cold) (length c.advance_cold.new.self.lists.hot)
+          (length c.advance_cold.new.self.lists.cold) (work_of c.args.self.now)
+          (work_of c.loop-self.self) (work_of c.advance_cold.new.self) i.work e.work;
+      same = e.same ∙ ap (λ (r : Contents _ _ _ _ _). record r {
+        lists = c.advance_cold.new.self.lists;
+        advances = c.advance_cold.new.self.advances;
+        visits = c.advance_cold.new.self.visits;
+      }) i.same;
+    }
+
+-- there is room for what is needed
+pub returns-clause-evicts : goal.returns-clause-evicts
+returns-clause-evicts g c =
+    let rules = rules_by g.M.Policy g.P.Touch.Touches.may_count c.args.terms.now in
+    let mid = state_of g.P.SharedPlaceholder.ticket_of c.loop-self.self in
+    let within : total_weight mid + c.args.need ≤ mid.capacity =
+    omega (
+      arith,
+      c.loop-self-test.false,
+      c.weight.ensures.weight,
+      c.weight-in-loop-self.ensures.weight,
+      c.from.ensures,
+      c.from-in-loop-self.ensures,
+      weight_of-items c.loop-self.self.lists.hot,
+      weight_of-items c.loop-self.self.lists.cold,
+    ) in
+    GoesOn-ends (g.M.Policy.hooks c.args.terms.now) (g.M.Policy.steady c.args.terms.now)
+    (EvictsToCapacity rules c.args.need)
+    (state_of g.P.SharedPlaceholder.ticket_of c.args.self.now) mid
+    c.args.state.now c.loop-self.state c.loop-self.invariant.so_far
+    (EvictsToCapacity-has_room rules c.args.need mid mid within (SameButOrder-refl mid))
+
+pub returns-then-not-advance_cold-clause-keys : goal.returns-then-not-advance_cold-clause-keys
+returns-then-not-advance_cold-clause-keys g c test =
+    omega (arith, c.loop-self.invariant.keys test, c.if-not-advance_cold.ensures.keys test)

@@ -1,0 +1,101 @@
+use Rattle.std.proofs.Common.{◌≡◌, ℕ, [], sym, ap, subst, ◌∙◌, arith}
+use Rattle.std.specs.Int.NonZero.{non_zero_u32_get as number}
+use Rattle.quick_cache_model.specs.declared.queue.Queue.TheVariants.{Cold}
+use Rattle.quick_cache_model.specs.CacheState.{Item, UpToOrder}
+use Rattle.quick_cache_model.specs.Eviction.{EvictsToCapacity}
+use Rattle.quick_cache_model.specs.Writes.{queue_for}
+use Rattle.quick_cache_lists.specs.declared.entry.Entry.TheVariants.{Item as item_variant}
+use Rattle.quick_cache_lists.specs.declared.found.Found.TheVariants.{Nothing as found_nothing}
+use Rattle.quick_cache_lists.specs.Lists.{Finds, PutsLast}
+use Rattle.quick_cache_lists.proofs.CallerLemmas.{weight_of-items}
+use Rattle.quick_cache_policy.specs.Contents.{state_of}
+use Rattle.quick_cache_policy.specs.Policies.{rules_by}
+use Rattle.quick_cache_policy.specs.Writing.{AreAdmittedCalls, IsReplacement}
+use Rattle.quick_cache_policy.proofs.FindLemmas.{AreHashed-under, HasNothing-state}
+use Rattle.quick_cache_policy.proofs.NewLemmas.{new-writes, new-sound, queue_for-hot, queue_for-otherwise}
+use Rattle.quick_cache_policy.proofs.contents.Contents.insert_new.Goals.{then-hot_weight-from, else-hot_weight-from}
+use Rattle.quick_cache_policy.proofs.contents.Contents.insert_new.Goals as goal
+
+pub returns-clause-writes : goal.returns-clause-writes
+returns-clause-writes g c =
+    let rules = rules_by g.M.Policy g.P.Touch.Touches.may_count c.args.terms.now in
+    let ticket_of = g.P.SharedPlaceholder.ticket_of in
+    let key = c.args.key in
+    let value = c.args.weighed.value in
+    let old = state_of ticket_of c.args.self.now in
+    let lists = c.args.self.now.lists in
+    let made = c.evict_to_capacity.new.self in
+    let found = subst (λ h. Finds (g.K.PartialEq.eq key) h lists found_nothing)
+    c.requires.hash_is c.requires.found in
+    let under = AreHashed-under (g.K.PartialEq.eq key) (rules.hash key) lists rules.hash
+    (λ k same. sym (g.met.M.Policy.same_hash c.args.terms.now key k same))
+    c.requires.sound.hashed in
+    let queue : c.if-hot_weight-from.queue ≡ queue_for rules old key value Cold =
+    elim c.if-hot_weight-from.branch [
+      | then-hot_weight-from w ↦ w.queue-is ∙ sym (queue_for-hot rules old key value Cold (omega (
+        arith,
+        w.if-hot_weight-from,
+        c.weight.ensures.weight,
+        c.from.ensures,
+        c.from-2.ensures,
+        c.requires.weight_is,
+        weight_of-items lists.hot,
+      )))
+      | else-hot_weight-from w ↦ w.queue-is
+          ∙ sym (queue_for-otherwise rules old key value Cold (omega (
+            arith,
+            w.if-hot_weight-from,
+            c.weight.ensures.weight,
+            c.from.ensures,
+            c.from-2.ensures,
+            c.requires.weight_is,
+            weight_of-items lists.hot,
+          )))
+    ] in
+    let evicts = c.evict_to_capacity.ensures.evicts in
+    record {
+      calls = evicts.calls;
+      holds = (
+        λ steady. new-writes ticket_of c.args.self.now made g.K.PartialEq.eq g.met.K.Eq.laws rules
+            key value
+            (HasNothing-state ticket_of (g.K.PartialEq.eq key) (rules.hash key) c.args.self.now
+            under found)
+            c.evict_to_capacity.ensures.keys (number c.put.result) c.new-item.result c.put.new.self
+            (subst (λ (h : ℕ). PutsLast {T = g.row.P-Touch.Denot} made.lists (number c.put.result) h
+            (item_variant c.new-item.result) c.put.new.self) c.requires.hash_is c.put.ensures.last)
+            (c.new-item.ensures ∙ (λ i. record c.new-item.result {
+              key = key;
+              value = value;
+              weight = c.requires.weight_is i;
+              mark = 0;
+              reads = 0;
+              queue = queue i;
+            })) evicts.calls
+            (subst (λ (n : ℕ). UpToOrder (EvictsToCapacity rules n old evicts.calls)
+            (state_of ticket_of made)) c.requires.weight_is (evicts.holds.0 steady)),
+        AreAdmittedCalls.writes [] evicts.calls IsReplacement.none evicts.holds.1,
+      );
+      runs = evicts.runs;
+    }
+
+-- the key is nowhere where room was made, for making room brings none
+pub returns-clause-sound : goal.returns-clause-sound
+returns-clause-sound g c =
+    let rules = rules_by g.M.Policy g.P.Touch.Touches.may_count c.args.terms.now in
+    let ticket_of = g.P.SharedPlaceholder.ticket_of in
+    let key = c.args.key in
+    let lists = c.args.self.now.lists in
+    let made = c.evict_to_capacity.new.self in
+    let found = subst (λ h. Finds (g.K.PartialEq.eq key) h lists found_nothing)
+    c.requires.hash_is c.requires.found in
+    let under = AreHashed-under (g.K.PartialEq.eq key) (rules.hash key) lists rules.hash
+    (λ k same. sym (g.met.M.Policy.same_hash c.args.terms.now key k same))
+    c.requires.sound.hashed in
+    new-sound ticket_of c.args.self.now made g.K.PartialEq.eq g.met.K.Eq.laws rules key
+    c.args.weighed.value
+    (HasNothing-state ticket_of (g.K.PartialEq.eq key) (rules.hash key) c.args.self.now under found)
+    c.evict_to_capacity.ensures.keys (number c.put.result) c.new-item.result c.put.new.self
+    (subst (λ (h : ℕ). PutsLast {T = g.row.P-Touch.Denot} made.lists (number c.put.result) h
+    (item_variant c.new-item.result) c.put.new.self) c.requires.hash_is c.put.ensures.last)
+    (ap (λ (i : Item _ _). i.key) c.new-item.ensures)
+    (ap (λ (i : Item _ _). i.mark) c.new-item.ensures) c.evict_to_capacity.ensures.sound

@@ -1,0 +1,82 @@
+use Rattle.std.proofs.Common.{◌≡◌, ℕ, ◌+◌, List, [], ◌∷◌, refl, sym, ap, subst, ◌∙◌, inl, inr, arith}
+use Rattle.std.specs.Int.NonZero.{non_zero_u32_get as number}
+use Rattle.quick_cache_model.specs.declared.queue.Queue.TheVariants.{Hot}
+use Rattle.quick_cache_model.specs.CacheState.{Item}
+use Rattle.quick_cache_lists.specs.Lists.{Finds}
+use Rattle.quick_cache_lists.specs.declared.found.Found.TheVariants.{Ghost as found_ghost}
+use Rattle.quick_cache_policy.specs.Contents.{work_of}
+use Rattle.quick_cache_policy.specs.Policies.{rules_by}
+use Rattle.quick_cache_policy.specs.Writing.{AreAdmittedCalls, IsReplacement}
+use Rattle.quick_cache_policy.proofs.OverwriteLemmas.{over_ghost-writes, over_ghost-sound, over_ghost-count}
+use Rattle.quick_cache_policy.proofs.FindLemmas.{AreHashed-under}
+use Rattle.quick_cache_policy.proofs.BoundLemmas.{PaysFor-within}
+use Rattle.quick_cache_policy.proofs.contents.Contents.insert_over_ghost.Goals as goal
+
+pub replace-requires : goal.replace-requires
+replace-requires g c = inr (inr (_, c.requires.found.1, refl))
+
+-- the lists are sound once the item stands in the ghost's place
+pub evict_to_capacity-requires : goal.evict_to_capacity-requires
+evict_to_capacity-requires g c =
+    let rules = rules_by g.M.Policy g.P.Touch.Touches.may_count c.args.terms.now in
+    let key = c.args.key in
+    let lists = c.args.self.now.lists in
+    let found = subst (λ h. Finds (g.K.PartialEq.eq key) h lists (found_ghost c.args.token))
+    c.requires.hash_is c.requires.found in
+    let under = AreHashed-under (g.K.PartialEq.eq key) (rules.hash key) lists rules.hash
+    (λ k same. sym (g.met.M.Policy.same_hash c.args.terms.now key k same))
+    c.requires.sound.hashed in
+    record {
+      sound = over_ghost-sound g.P.SharedPlaceholder.ticket_of c.args.self.now
+          c.apart.ensures.apart g.K.PartialEq.eq g.met.K.Eq.laws rules key c.args.weighed.value
+          (number c.args.token) under found.0 found.1 c.new-item.result c.replace.result
+          c.replace.new.self c.replace.ensures (ap (λ (i : Item _ _). i.key) c.new-item.ensures)
+          (ap (λ (i : Item _ _). i.mark) c.new-item.ensures) c.requires.sound;
+    }
+
+pub returns-clause-writes : goal.returns-clause-writes
+returns-clause-writes g c =
+    let rules = rules_by g.M.Policy g.P.Touch.Touches.may_count c.args.terms.now in
+    let key = c.args.key in
+    let lists = c.args.self.now.lists in
+    let found = subst (λ h. Finds (g.K.PartialEq.eq key) h lists (found_ghost c.args.token))
+    c.requires.hash_is c.requires.found in
+    let under = AreHashed-under (g.K.PartialEq.eq key) (rules.hash key) lists rules.hash
+    (λ k same. sym (g.met.M.Policy.same_hash c.args.terms.now key k same))
+    c.requires.sound.hashed in
+    let evicts = c.evict_to_capacity.ensures.evicts in
+    record {
+      calls = evicts.calls;
+      holds = (
+        λ steady. over_ghost-writes g.P.SharedPlaceholder.ticket_of c.args.self.now
+            c.apart.ensures.apart g.K.PartialEq.eq g.met.K.Eq.laws rules key
+            c.args.weighed.value (number c.args.token) under found.0 found.1 c.new-item.result
+            c.replace.result c.replace.new.self c.replace.ensures
+            (c.new-item.ensures ∙ ap (λ (w : ℕ). record c.new-item.result {
+              key = key;
+              value = c.args.weighed.value;
+              weight = w;
+              mark = 0;
+              reads = 0;
+              queue = Hot;
+            }) c.requires.weight_is) _ evicts.calls (evicts.holds.0 steady),
+        AreAdmittedCalls.writes [] evicts.calls IsReplacement.none evicts.holds.1,
+      );
+      runs = evicts.runs;
+    }
+
+pub returns-clause-work : goal.returns-clause-work
+returns-clause-work g c =
+    let rules = rules_by g.M.Policy g.P.Touch.Touches.may_count c.args.terms.now in
+    let key = c.args.key in
+    let lists = c.args.self.now.lists in
+    let found = subst (λ h. Finds (g.K.PartialEq.eq key) h lists (found_ghost c.args.token))
+    c.requires.hash_is c.requires.found in
+    let under = AreHashed-under (g.K.PartialEq.eq key) (rules.hash key) lists rules.hash
+    (λ k same. sym (g.met.M.Policy.same_hash c.args.terms.now key k same))
+    c.requires.sound.hashed in
+    PaysFor-within _ _ _ _ _ _ _
+    (over_ghost-count g.P.SharedPlaceholder.ticket_of c.args.self.now
+    c.apart.ensures.apart g.K.PartialEq.eq g.met.K.Eq.laws rules key c.args.weighed.value
+    (number c.args.token) under found.0 found.1 c.new-item.result c.replace.result
+    c.replace.new.self c.replace.ensures) c.evict_to_capacity.ensures.work

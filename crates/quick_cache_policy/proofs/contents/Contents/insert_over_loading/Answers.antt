@@ -1,0 +1,95 @@
+use Rattle.std.proofs.Common.{◌≡◌, ℕ, ◌+◌, List, [], ◌∷◌, refl, sym, ap, subst, ◌∙◌, inl, inr, arith}
+use Rattle.std.specs.Int.NonZero.{non_zero_u32_get as number}
+use Rattle.quick_cache_model.specs.declared.queue.Queue.{Queue}
+use Rattle.quick_cache_model.specs.CacheState.{Item}
+use Rattle.quick_cache_lists.specs.Lists.{Finds}
+use Rattle.quick_cache_lists.specs.declared.found.Found.TheVariants.{Loading as found_loading}
+use Rattle.quick_cache_lists.proofs.StandingLemmas.{loading-queue, loading-not_item, loading-not_ghost}
+use Rattle.quick_cache_policy.specs.Policies.{rules_by}
+use Rattle.quick_cache_policy.specs.Writing.{AreAdmittedCalls, IsReplacement}
+use Rattle.quick_cache_policy.proofs.OverwriteLemmas.{over_loading-writes, over_loading-sound, over_loading-count}
+use Rattle.quick_cache_policy.proofs.BoundLemmas.{PaysFor-within}
+use Rattle.quick_cache_policy.proofs.contents.Contents.insert_over_loading.Goals as goal
+
+pub entry-requires : goal.entry-requires
+entry-requires g c =
+    inr (inl (c.requires.found.waiting, c.requires.found.stands, c.requires.found.named))
+
+pub replace-requires : goal.replace-requires
+replace-requires g c =
+    inr (inl (c.requires.found.waiting, c.requires.found.stands, c.requires.found.named))
+
+-- what has the token of a placeholder is that
+pub unreachable-requires : goal.unreachable-requires
+unreachable-requires g c =
+    let found = c.requires.found in
+    loading-not_item c.args.self.now.lists c.apart.ensures.apart (number c.args.token)
+    c.entry.result.now.hash c.entry.result.now.entry c.entry.ensures found.waiting found.stands
+    found.named _ c.in-Item.is
+
+pub unreachable-requires-in-Ghost : goal.unreachable-requires-in-Ghost
+unreachable-requires-in-Ghost g c =
+    let found = c.requires.found in
+    loading-not_ghost c.args.self.now.lists c.apart.ensures.apart (number c.args.token)
+    c.entry.result.now.hash c.entry.result.now.entry c.entry.ensures found.waiting found.stands
+    found.named c.in-Ghost.is
+
+-- the lists are sound once the item stands in the placeholder's place
+pub evict_to_capacity-requires : goal.evict_to_capacity-requires
+evict_to_capacity-requires g c =
+    let rules = rules_by g.M.Policy g.P.Touch.Touches.may_count c.args.terms.now in
+    let key = c.args.key in
+    let lists = c.args.self.now.lists in
+    let found = subst (λ h. Finds (g.K.PartialEq.eq key) h lists (found_loading c.args.token))
+    c.requires.hash_is c.requires.found in
+    record {
+      sound = over_loading-sound g.P.SharedPlaceholder.ticket_of c.args.self.now
+          c.apart.ensures.apart g.K.PartialEq.eq g.met.K.Eq.laws rules key c.args.weighed.value
+          (number c.args.token) found c.new-item.result c.replace.result c.replace.new.self
+          c.replace.ensures (ap (λ (i : Item _ _). i.key) c.new-item.ensures)
+          (ap (λ (i : Item _ _). i.mark) c.new-item.ensures) c.requires.sound;
+    }
+
+pub returns-clause-writes : goal.returns-clause-writes
+returns-clause-writes g c =
+    let rules = rules_by g.M.Policy g.P.Touch.Touches.may_count c.args.terms.now in
+    let key = c.args.key in
+    let lists = c.args.self.now.lists in
+    let found = subst (λ h. Finds (g.K.PartialEq.eq key) h lists (found_loading c.args.token))
+    c.requires.hash_is c.requires.found in
+    let queue = loading-queue lists c.apart.ensures.apart (number c.args.token)
+    c.entry.result.now.hash c.entry.result.now.entry c.entry.ensures found.waiting found.stands
+    found.named c.in-Loading.awaited c.in-Loading.is in
+    let evicts = c.evict_to_capacity.ensures.evicts in
+    record {
+      calls = evicts.calls;
+      holds = (
+        λ steady. over_loading-writes g.P.SharedPlaceholder.ticket_of c.args.self.now
+            c.apart.ensures.apart g.K.PartialEq.eq g.met.K.Eq.laws rules key
+            c.args.weighed.value (number c.args.token) found c.new-item.result
+            c.replace.result c.replace.new.self c.replace.ensures
+            (c.new-item.ensures ∙ (λ i. record c.new-item.result {
+              key = key;
+              value = c.args.weighed.value;
+              weight = c.requires.weight_is i;
+              mark = 1;
+              reads = 0;
+              queue = queue i;
+            })) _ evicts.calls (evicts.holds.0 steady),
+        AreAdmittedCalls.writes [] evicts.calls IsReplacement.none evicts.holds.1,
+      );
+      runs = evicts.runs;
+    }
+
+pub returns-clause-work : goal.returns-clause-work
+returns-clause-work g c =
+    let rules = rules_by g.M.Policy g.P.Touch.Touches.may_count c.args.terms.now in
+    let key = c.args.key in
+    let lists = c.args.self.now.lists in
+    let found = subst (λ h. Finds (g.K.PartialEq.eq key) h lists (found_loading c.args.token))
+    c.requires.hash_is c.requires.found in
+    PaysFor-within _ _ _ _ _ _ _
+    (over_loading-count g.P.SharedPlaceholder.ticket_of c.args.self.now
+    c.apart.ensures.apart g.K.PartialEq.eq g.met.K.Eq.laws rules key c.args.weighed.value
+    (number c.args.token) found c.new-item.result c.replace.result
+    c.replace.new.self c.replace.ensures) c.evict_to_capacity.ensures.work

@@ -1,0 +1,27 @@
+use Rattle.std.proofs.Common.{subst, sym}
+use Rattle.quick_cache_lists.specs.Lists.{Lists, no_lists}
+use Rattle.quick_cache_model.proofs.Valid.States.{empty_state-valid}
+use Rattle.quick_cache_policy.specs.Contents.{IsSound}
+use Rattle.quick_cache_policy.proofs.contents.Contents.new.Goals as goal
+
+-- nothing stands in the lists, and what holds of each entry holds of none
+pub returns-clause-sound : goal.returns-clause-sound
+returns-clause-sound g c = λ hashed.
+    subst (λ (lists : Lists g.row.K.Denot g.row.V.Denot g.row.P.Denot).
+    IsSound g.P.SharedPlaceholder.ticket_of g.K.PartialEq.eq hashed (record {
+      lists = lists;
+      capacity = c.args.capacity;
+      hot_target = c.args.hot_target;
+      ghost_limit = c.args.ghost_limit;
+      hits = 0;
+      misses = 0;
+      next_ticket = 1;
+      advances = 0;
+      visits = 0;
+    }))
+    (sym c.in_ok-new.ensures.empty)
+    (record {
+      valid = empty_state-valid g.K.PartialEq.eq c.args.capacity c.args.hot_target c.args.ghost_limit;
+      sized = c.requires.sized;
+      hashed = record { hot = tt; cold = tt; still = tt; loading = tt };
+    })

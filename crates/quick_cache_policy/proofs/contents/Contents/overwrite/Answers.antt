@@ -1,0 +1,143 @@
+use Rattle.std.proofs.Common.{◌≡◌, ◌≤◌, [], ◌∷◌, refl, sym, ap, subst, ◌∙◌, arith}
+use Rattle.std.specs.Int.NonZero.{non_zero_u32_get as number}
+use Rattle.quick_cache_model.specs.declared.queue.Queue.{Queue}
+use Rattle.quick_cache_model.specs.CacheState.{Item}
+use Rattle.quick_cache_model.specs.Hooks.{RunsHooks, evicted}
+use Rattle.quick_cache_model.specs.Touches.{raised_by}
+use Rattle.quick_cache_model.specs.Writes.{mark_after}
+use Rattle.quick_cache_model.proofs.HookLaws.{RunsHooks-append}
+use Rattle.quick_cache_model.proofs.Valid.Writes.{mark_after-le}
+use Rattle.quick_cache_lists.specs.Lists.{Finds, Rewrites, HasItemToken, IsItemOf}
+use Rattle.quick_cache_lists.specs.declared.found.Found.TheVariants.{Item as found_item}
+use Rattle.quick_cache_policy.specs.Policies.{rules_by}
+use Rattle.quick_cache_policy.specs.Writing.{AreAdmittedCalls, IsReplacement, strategy_of}
+use Rattle.quick_cache_policy.proofs.RewriteLemmas.{over_item-same, over_item-writes, over_item-sound, over_item-count}
+use Rattle.quick_cache_policy.proofs.BoundLemmas.{PaysFor-within}
+use Rattle.quick_cache_policy.proofs.contents.Contents.overwrite.Goals as goal
+
+-- the touches are taken from the item that was found
+pub item-item-requires : goal.item-item-requires
+item-item-requires g c =
+    subst (λ l. HasItemToken l (number c.args.token)) (sym c.take_touch-touches.ensures.same)
+    (_, c.requires.found.stands, refl)
+
+pub rewrite-requires : goal.rewrite-requires
+rewrite-requires g c = (
+  c.item-item.result.now,
+  c.item-item.ensures,
+  sym (ap (λ (i : Item _ _). i.queue) c.new-item.ensures ∙ c.queue-queue.ensures),
+)
+
+-- the lists are sound once the pair stands in the item's place
+pub evict_to_capacity-requires : goal.evict_to_capacity-requires
+evict_to_capacity-requires g c =
+    let rules = rules_by g.M.Policy g.P.Touch.Touches.may_count c.args.terms.now in
+    let key = c.args.key in
+    let lists = c.args.self.now.lists in
+    let token = number c.args.token in
+    let strategy = strategy_of c.args.strategy in
+    let item = c.item-item.result.now in
+    let touched = c.min-touched.result in
+    let was = c.rewrite.result in
+    let found = subst (λ h. Finds (g.K.PartialEq.eq key) h lists (found_item c.args.token))
+    c.requires.hash_is c.requires.found in
+    let rewrites = subst (λ l. Rewrites l token c.new-item.result was c.rewrite.new.self)
+    c.take_touch-touches.ensures.same c.rewrite.ensures in
+    let is = subst (λ l. IsItemOf l token item) c.take_touch-touches.ensures.same
+    c.item-item.ensures in
+    let same = over_item-same g.P.SharedPlaceholder.ticket_of c.args.self.now
+    c.apart.ensures.apart g.K.PartialEq.eq rules key token found c.new-item.result was
+    c.rewrite.new.self rewrites item is in
+    let few : touched ≤ 2 = omega (arith, c.min-touched.ensures, c.from-2.ensures) in
+    record {
+      sound = over_item-sound g.P.SharedPlaceholder.ticket_of c.args.self.now
+          c.apart.ensures.apart g.K.PartialEq.eq rules key token found c.new-item.result was
+          c.rewrite.new.self rewrites g.met.K.Eq.laws
+          (ap (λ (i : Item _ _). i.key) c.new-item.ensures)
+          (ap (λ (i : Item _ _). i.queue) c.new-item.ensures ∙ c.queue-queue.ensures
+          ∙ ap (λ (i : Item _ _). i.queue) same)
+          (subst (λ m. m ≤ 2)
+          (sym (ap (λ (i : Item _ _). i.mark) c.new-item.ensures ∙ c.mark_after-mark.ensures))
+          (mark_after-le 2 strategy touched few)) c.requires.sound;
+    }
+
+pub returns-clause-writes : goal.returns-clause-writes
+returns-clause-writes g c =
+    let rules = rules_by g.M.Policy g.P.Touch.Touches.may_count c.args.terms.now in
+    let key = c.args.key in
+    let value = c.args.weighed.value in
+    let lists = c.args.self.now.lists in
+    let token = number c.args.token in
+    let strategy = strategy_of c.args.strategy in
+    let item = c.item-item.result.now in
+    let n = c.take_touch-touches.result in
+    let was = c.rewrite.result in
+    let found = subst (λ h. Finds (g.K.PartialEq.eq key) h lists (found_item c.args.token))
+    c.requires.hash_is c.requires.found in
+    let rewrites = subst (λ l. Rewrites l token c.new-item.result was c.rewrite.new.self)
+    c.take_touch-touches.ensures.same c.rewrite.ensures in
+    let is = subst (λ l. IsItemOf l token item) c.take_touch-touches.ensures.same
+    c.item-item.ensures in
+    let same = over_item-same g.P.SharedPlaceholder.ticket_of c.args.self.now
+    c.apart.ensures.apart g.K.PartialEq.eq rules key token found c.new-item.result was
+    c.rewrite.new.self rewrites item is in
+    let touched : c.min-touched.result ≡ raised_by 2 n item.mark =
+    omega (
+      arith,
+      c.min-touched.ensures,
+      c.saturating_add.ensures,
+      c.from.ensures,
+      c.from-2.ensures,
+      c.mark.ensures,
+    ) in
+    let mark : c.mark_after-mark.result ≡ mark_after 2 strategy (raised_by 2 n was.mark) =
+    c.mark_after-mark.ensures
+    ∙ ap (λ m. mark_after 2 strategy m) touched
+    ∙ ap (λ (i : Item g.row.K.Denot g.row.V.Denot). mark_after 2 strategy (raised_by 2 n i.mark))
+    same in
+    let queue : c.queue-queue.result ≡ was.queue = c.queue-queue.ensures
+    ∙ ap (λ (i : Item g.row.K.Denot g.row.V.Denot). i.queue) same in
+    let hooks = g.M.Policy.hooks c.args.terms.now in
+    let told : RunsHooks hooks (evicted was.queue was.key was.value ∷ []) c.args.state.now
+    c.report.new.state =
+    subst (λ (b : Queue × (g.row.K.Denot × g.row.V.Denot)). RunsHooks hooks
+    (evicted b.0 b.1.0 b.1.1 ∷ []) c.args.state.now c.report.new.state)
+    (λ j. (queue j, c.into_pair-old_key.ensures j)) c.report.ensures in
+    let evicts = c.evict_to_capacity.ensures.evicts in
+    record {
+      calls = evicted was.queue was.key was.value ∷ evicts.calls;
+      holds = (
+        λ steady. over_item-writes g.P.SharedPlaceholder.ticket_of c.args.self.now
+            c.apart.ensures.apart g.K.PartialEq.eq rules key token found c.new-item.result was
+            c.rewrite.new.self rewrites c.requires.sound value strategy n
+            c.take_touch-touches.ensures.counted
+            (c.new-item.ensures ∙ (λ j. record c.new-item.result {
+              key = key;
+              value = value;
+              weight = c.requires.weight_is j;
+              mark = mark j;
+              reads = 0;
+              queue = queue j;
+            })) _ evicts.calls (evicts.holds.0 steady),
+        AreAdmittedCalls.writes (evicted was.queue was.key was.value ∷ []) evicts.calls
+            (IsReplacement.one was.queue was.key was.value) evicts.holds.1,
+      );
+      runs = RunsHooks-append hooks (evicted was.queue was.key was.value ∷ []) evicts.calls
+          c.args.state.now c.report.new.state c.evict_to_capacity.new.state told evicts.runs;
+    }
+
+pub returns-clause-work : goal.returns-clause-work
+returns-clause-work g c =
+    let rules = rules_by g.M.Policy g.P.Touch.Touches.may_count c.args.terms.now in
+    let key = c.args.key in
+    let lists = c.args.self.now.lists in
+    let token = number c.args.token in
+    let was = c.rewrite.result in
+    let found = subst (λ h. Finds (g.K.PartialEq.eq key) h lists (found_item c.args.token))
+    c.requires.hash_is c.requires.found in
+    let rewrites = subst (λ l. Rewrites l token c.new-item.result was c.rewrite.new.self)
+    c.take_touch-touches.ensures.same c.rewrite.ensures in
+    PaysFor-within _ _ _ _ _ _ _
+    (over_item-count g.P.SharedPlaceholder.ticket_of c.args.self.now c.apart.ensures.apart
+    g.K.PartialEq.eq rules key token found c.new-item.result was c.rewrite.new.self rewrites)
+    c.evict_to_capacity.ensures.work

@@ -1,0 +1,76 @@
+-- What stands under a query, in the lists of a cache.
+use Rattle.std.specs.Prelude.{◌≡◌, ℕ, ◌<◌, ◌≤◌, Bool, true, List, Some, None, Option}
+use Rattle.std.specs.List.{AllByRecursion}
+use Rattle.std.specs.Int.NonZero.{non_zero_u32_get}
+use Rattle.std.specs.declared.num.NonZeroU32.{NonZeroU32 as Token}
+use Rattle.quick_cache_model.specs.declared.refusal.Refusal.{Refusal}
+use Rattle.quick_cache_model.specs.declared.refusal.Refusal.TheVariants.{Memory, SlotsFull, TicketsSpent, Finished}
+use Rattle.quick_cache_model.specs.CacheState.{CacheState, Item, UpToOrder, Place, default_mark_cut}
+use Rattle.quick_cache_model.specs.Finding.{IsItemAt}
+use Rattle.quick_cache_model.specs.Lookups.{looked_up, LooksUp}
+use Rattle.quick_cache_model.specs.Removal.{pair_of}
+use Rattle.quick_cache_model.specs.Writes.{Strategy}
+use Rattle.quick_cache_model.specs.Refusals.{slot_count}
+use Rattle.quick_cache_lists.specs.Lists.{Lists, IsItemOf}
+use Rattle.quick_cache_lists.specs.declared.found.Found.{Found}
+use Rattle.quick_cache_lists.specs.declared.found.Found.TheVariants.{Item as found_item, Loading as found_loading, Ghost as found_ghost, Nothing as found_nothing}
+use Rattle.quick_cache_policy.specs.Contents.{state_of}
+use Rattle.quick_cache_policy.specs.Writing.{is_insert}
+use Rattle.quick_cache_policy.specs.declared.contents.Contents.{Contents}
+
+-- each key that the query stands for is kept under its hash
+pub record AreUnder {K V P : Type 0} (stands_for : K → Bool) (hash : ℕ) (lists : Lists K V P)
+    : Type 0 where
+  pub hot : AllByRecursion (λ held. stands_for held.item.key ≡ true → held.hash ≡ hash) lists.hot
+  pub cold : AllByRecursion (λ held. stands_for held.item.key ≡ true → held.hash ≡ hash) lists.cold
+  pub still : AllByRecursion
+      (λ held. stands_for held.item.key ≡ true → held.hash ≡ hash) lists.still
+  pub loading : AllByRecursion
+      (λ waiting. stands_for waiting.key ≡ true → waiting.hash ≡ hash) lists.loading
+
+-- here is an item whose key the query stands for
+pub record IsThere {K V : Type 0} (stands_for : K → Bool) (state : CacheState K V) (item : Item K V)
+    : Type 0 where
+  pub place : Place
+  pub before : List (Item K V)
+  pub after : List (Item K V)
+  pub at : IsItemAt stands_for state place before item after
+
+-- a write makes a new entry: an insert does where nothing is found
+abbrev pub TakesSlot : Found → Strategy → Type 0
+TakesSlot found_nothing strategy = is_insert strategy ≡ true
+TakesSlot (found_item token) strategy = ⊥
+TakesSlot (found_loading token) strategy = ⊥
+TakesSlot (found_ghost token) strategy = ⊥
+
+-- Room was made where the write is to make a new entry, or else there was no slot or no memory for
+-- it.
+abbrev pub Provides : Found → Strategy → (taken : ℕ) → (room : ℕ) → Option Refusal → Type 0
+Provides found strategy taken room None =
+    (TakesSlot found strategy → taken < slot_count) × (TakesSlot found strategy → 0 < room)
+Provides found strategy taken room (Some Memory) =
+    TakesSlot found strategy × (taken < slot_count)
+Provides found strategy taken room (Some SlotsFull) =
+    TakesSlot found strategy × (slot_count ≤ taken)
+Provides found strategy taken room (Some TicketsSpent) = ⊥
+Provides found strategy taken room (Some Finished) = ⊥
+
+module _ {K V P A T : Type 0} (ticket_of : P → ℕ) (stands_for : K → Bool)
+    (old : Contents K V P A T) where
+  -- the query stands for the key of the item of this token, and it was looked up
+  pub record IsLookedUp (token : Token) (new : Contents K V P A T) : Type 0 where
+    pub item : Item K V
+    pub now : IsItemOf new.lists (non_zero_u32_get token) (looked_up default_mark_cut item)
+    pub value : UpToOrder
+        (LooksUp stands_for (state_of ticket_of old) (λ i. i.value) (Some item.value))
+        (state_of ticket_of new)
+    pub pair : UpToOrder
+        (LooksUp stands_for (state_of ticket_of old) pair_of (Some (pair_of item)))
+        (state_of ticket_of new)
+
+  -- nothing was found, which shows neither a value nor a pair
+  pub record IsMissed (new : Contents K V P A T) : Type 0 where
+    pub value : UpToOrder (LooksUp stands_for (state_of ticket_of old) (λ i. i.value) None)
+        (state_of ticket_of new)
+    pub pair : UpToOrder (LooksUp stands_for (state_of ticket_of old) pair_of None)
+        (state_of ticket_of new)

@@ -1,0 +1,10 @@
+pub mod Contents
+pub mod Lifecycles
+pub mod Policies
+pub mod Work
+pub mod Rounds
+pub mod Advances
+pub mod HotRounds
+pub mod Writing
+pub mod Finding
+pub mod Copies

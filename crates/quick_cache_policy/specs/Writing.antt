@@ -1,0 +1,125 @@
+-- Writes: their answers, and the hook calls that they make.
+use Rattle.std.specs.Prelude.{◌≡◌, ℕ, ◌⊎◌, Bool, true, false, List, [], ◌∷◌, ◌++◌, Option, Some, None, Result, Ok, Err}
+use Rattle.quick_cache_model.specs.declared.queue.Queue.{Queue}
+use Rattle.quick_cache_model.specs.declared.refusal.Refusal.{Refusal}
+use Rattle.quick_cache_model.specs.CacheState.{CacheState, UpToOrder}
+use Rattle.quick_cache_model.specs.Admission.{Admitted, TooHeavy, ChecksAdmission}
+use Rattle.quick_cache_model.specs.Hooks.{Rules, Hooks, HookCall, Calls, BeforeEvict, EvictCold, evicted}
+use Rattle.quick_cache_model.specs.Refusals.{Needs, IsProvided, MayRefuse, needs_of_insert}
+use Rattle.quick_cache_model.specs.Writes.{Strategy, Insert, Replace, SoftReplace, Writes, RejectsTooHeavy}
+use Rattle.quick_cache_policy.specs.declared.admission.Admission.{Admission}
+use Rattle.quick_cache_policy.specs.declared.admission.Admission.TheVariants.{Admitted as code_admitted, TooHeavy as code_too_heavy}
+use Rattle.quick_cache_policy.specs.declared.strategy.InsertStrategy.{InsertStrategy}
+use Rattle.quick_cache_policy.specs.declared.strategy.InsertStrategy.TheVariants.{Insert as insert_variant, Replace as replace_variant}
+use Rattle.quick_cache_policy.specs.Advances.{AreEvictions}
+
+-- what the code calls a strategy
+abbrev pub strategy_of : InsertStrategy → Strategy
+strategy_of insert_variant = Insert
+strategy_of (replace_variant true) = SoftReplace
+strategy_of (replace_variant false) = Replace
+
+-- whether a write makes an item where none is
+abbrev pub is_insert : Strategy → Bool
+is_insert Insert = true
+is_insert Replace = false
+is_insert SoftReplace = false
+
+-- a replace needs nothing that may run out
+abbrev pub needs_of_write : {K V : Type 0} (stands_for : K → Bool) (hash : ℕ)
+    (state : CacheState K V) → Strategy → Needs
+needs_of_write stands_for hash state Insert = needs_of_insert stands_for hash state
+needs_of_write stands_for hash state Replace = record { ticket = ⊥; slot = ⊥; memory = ⊥ }
+needs_of_write stands_for hash state SoftReplace = record { ticket = ⊥; slot = ⊥; memory = ⊥ }
+
+-- the pair that leaves for another one is told to a hook, if there is one
+pub data IsReplacement {K V : Type 0} : List (HookCall K V) → Type 0 where
+  none : IsReplacement []
+  one : (queue : Queue) (key : K) (value : V) → IsReplacement (evicted queue key value ∷ [])
+
+-- an item that leaves for a pair is told, and then the victims are
+pub data AreAdmittedCalls {K V : Type 0} : List (HookCall K V) → Type 0 where
+  writes : (replaced rest : List (HookCall K V)) → IsReplacement replaced → AreEvictions rest
+      → AreAdmittedCalls (replaced ++ rest)
+
+-- The calls of a write, in their order: `before_evict` for the pair itself, where it is too heavy;
+-- then the item that it takes the place of; and then the victims, or the pair itself where it is
+-- turned away.
+pub data AreWriteCalls {K V : Type 0} : List (HookCall K V) → Type 0 where
+  admits : (rest : List (HookCall K V)) → AreAdmittedCalls rest → AreWriteCalls rest
+  lightens : (key : K) (value left : V) (rest : List (HookCall K V)) → AreAdmittedCalls rest
+      → AreWriteCalls (BeforeEvict key value left ∷ rest)
+  rejects : (key : K) (value left : V) (replaced : List (HookCall K V)) → IsReplacement replaced
+      → AreWriteCalls (BeforeEvict key value left ∷ replaced ++ EvictCold key left ∷ [])
+  gives_back : (key : K) (value left : V) (replaced : List (HookCall K V)) → IsReplacement replaced
+      → AreWriteCalls (BeforeEvict key value left ∷ replaced)
+
+module _ {K V : Type 0} where
+  -- The calls are those of a write. Where pinning is steady, they are those of a step to this state,
+  -- up to the order of what has none.
+  abbrev pub Writing : (steady : Type 0) → (step : List (HookCall K V) → CacheState K V → Type 0)
+      → (new : CacheState K V) → List (HookCall K V) → Type 0
+  Writing steady step new calls = (steady → UpToOrder (step calls) new) × AreWriteCalls calls
+
+  -- the same of the write of a pair that was admitted
+  abbrev pub WritingAdmitted : (steady : Type 0)
+      → (step : List (HookCall K V) → CacheState K V → Type 0)
+      → (new : CacheState K V) → List (HookCall K V) → Type 0
+  WritingAdmitted steady step new calls =
+      (steady → UpToOrder (step calls) new) × AreAdmittedCalls calls
+
+-- A pair that is too heavy was turned away, after `before_evict` left this value: the item under its
+-- key leaves, and an insert tells the pair to the cold hook.
+abbrev pub Rejecting : {K V : Type 0} → (equal_to : K → Bool) → (key : K) → Strategy
+    → (old : CacheState K V) → (left : V) → Option (K × V) → (new : CacheState K V)
+    → List (HookCall K V) → Type 0
+Rejecting {V = V} equal_to key strategy old left answer new calls =
+    RejectsTooHeavy equal_to key strategy old left calls answer new
+    × ((value : V) → AreWriteCalls (BeforeEvict key value left ∷ calls))
+
+module _ {K V : Type 0} (steady : Type 0) (rules : Rules K V) (hot_target : ℕ) (key : K)
+    (value : V) where
+  -- What a check of a pair answered. The value that was left is weighed; and only a pair that was
+  -- handed to `before_evict` is too heavy.
+  abbrev pub Checks : Admission V → List (HookCall K V) → Type 0
+  Checks (code_admitted admitted) calls =
+      (steady → ChecksAdmission rules hot_target key value calls (Admitted admitted.value))
+      × (admitted.weight ≡ rules.weight key admitted.value)
+      × (calls ≡ [] ⊎ (calls ≡ BeforeEvict key value admitted.value ∷ []))
+  Checks (code_too_heavy left) calls =
+      (steady → ChecksAdmission rules hot_target key value calls (TooHeavy left))
+      × (calls ≡ BeforeEvict key value left ∷ [])
+
+module _ {K V S : Type 0} (steady : Type 0) (hooks : Hooks K V S) (rules : Rules K V)
+    (equal : K → K → Bool) (strategy : Strategy) (old : CacheState K V) (first : S) (key : K)
+    (value : V) where
+  -- what it needs of slots and memory
+  abbrev pub needs : Needs
+  needs = needs_of_write (equal key) (rules.hash key) old strategy
+
+  -- the pair was written, with this answer, and there was a slot where one was needed
+  pub record Wrote (answer : Option (K × V)) (new : CacheState K V) (last : S) : Type 0 where
+    pub provided : IsProvided needs old
+    pub step : Calls hooks
+        (Writing steady (λ calls now. Writes rules (equal key) key strategy old value calls answer now)
+        new) first last
+
+  -- a refused write changed nothing, called no hook, and gives the pair back
+  pub record RefusesWrite (back_key : K) (back_value : V) (refusal : Refusal) (new : CacheState K V)
+      (last : S) : Type 0 where
+    pub key_back : back_key ≡ key
+    pub value_back : back_value ≡ value
+    pub unchanged : new ≡ old
+    pub no_hook : last ≡ first
+    pub cause : MayRefuse needs old refusal
+
+  -- the answer of a write that gave a pair back: it was not admitted, or refused
+  abbrev pub GivesBack : K → V → Option Refusal → CacheState K V → S → Type 0
+  GivesBack back_key back_value None new last = Wrote (Some (back_key, back_value)) new last
+  GivesBack back_key back_value (Some refusal) new last =
+      RefusesWrite back_key back_value refusal new last
+
+  -- the answer of a write
+  abbrev pub AnswersWrite : Result (Unit {0}) (K × V × Option Refusal) → CacheState K V → S → Type 0
+  AnswersWrite (Ok done) new last = Wrote None new last
+  AnswersWrite (Err back) new last = GivesBack back.0 back.1 back.2 new last

@@ -1,0 +1,86 @@
+//! The lists and the numbers of a cache.
+ghost use Rattle.std.specs.Prelude.{◌≡◌, ℕ, IfOk, IfErr, IsOk, OnOk, ◌≤◌, ◌+◌, ◌-◌, min, length};
+ghost use Rattle.quick_cache_lists.specs.Lists.{no_lists};
+ghost use Rattle.quick_cache_model.specs.CacheState.{empty_state};
+ghost use Rattle.quick_cache_model.specs.Refusals.{slot_count, slots_taken};
+ghost use Rattle.quick_cache_model.specs.declared.refusal.Refusal.TheVariants.{Memory};
+ghost use Rattle.quick_cache_policy.specs.Contents.{AreSizes, IsSound, state_of, work_of};
+ghost use Rattle.quick_cache_policy.specs.Work.{no_work};
+
+use crate::placeholder::SharedPlaceholder;
+use quick_cache_lists::Lists;
+use quick_cache_model::Refusal;
+use std::alloc::{Allocator, Global};
+use std::hash::Hash;
+
+/// The lists of a cache, its sizes and its counts. The steps of a call are its methods.
+#[derive(Drop)]
+pub struct Contents<K: Eq + Hash, V, P: SharedPlaceholder<K>, A: Allocator = Global> {
+    pub lists: Lists<K, V, P, P::Touch, A>,
+    pub capacity: u64,
+    pub hot_target: u64,
+    pub ghost_limit: usize,
+    pub hits: u64,
+    pub misses: u64,
+    /// The ticket of the next placeholder.
+    pub next_ticket: u64,
+    /// How many hot advances were made, and how many visits in them. Only contracts read these.
+    pub advances: u64,
+    pub visits: u64,
+}
+
+impl<K: Eq + Hash, V, P: SharedPlaceholder<K>, A: Allocator> Contents<K, V, P, A> {
+    /// The contents of an empty cache. It takes no memory; `Memory` is a refused clone of the
+    /// allocator.
+    pub fn new(
+        alloc: A,
+        capacity: u64,
+        hot_target: u64,
+        ghost_limit: usize,
+    ) -> Result<Self, Refusal>
+    where
+        A: Clone,
+        requires sized { AreSizes capacity hot_target ghost_limit }
+        ensures state { IfOk result (λ made.
+            state_of P.ticket_of made ≡ empty_state capacity hot_target ghost_limit) }
+        ensures sound { IfOk result
+            (λ made. (hashed : K → ℕ) → IsSound P.ticket_of K.eq hashed made) }
+        ensures room { IfOk result (λ made. made.lists.room ≡ 0) }
+        ensures work { IfOk result (λ made. work_of made ≡ no_work) }
+        ensures succeeds { A.is_infallible alloc → IsOk result }
+        ensures refused { IfErr result (λ refusal. refusal ≡ Memory) }
+    {
+        Ok(Contents {
+            lists: Lists::new(alloc)?,
+            capacity,
+            hot_target,
+            ghost_limit,
+            hits: 0,
+            misses: 0,
+            next_ticket: 1,
+            advances: 0,
+            visits: 0,
+        })
+    }
+
+    /// Makes room for so many more entries, and for the ghosts that as many inserts can leave.
+    pub fn reserve(&mut self, additional: usize) -> Result<(), Refusal>
+        ensures room { OnOk result (min additional
+            (slot_count - slots_taken (state_of P.ticket_of self.old)) ≤ self.new.lists.room) }
+        ensures grows { self.old.lists.room ≤ self.new.lists.room }
+
+        // Where there is that room already it succeeds.
+        ensures succeeds { min (additional + min additional self.old.ghost_limit)
+            (slot_count - slots_taken (state_of P.ticket_of self.old)) ≤ self.old.lists.room
+            → IsOk result }
+        ensures refused { IfErr result (λ refusal. refusal ≡ Memory) }
+        ensures same { self.new ≡ record self.old {
+          lists = record self.old.lists {
+            room = self.new.lists.room;
+          };
+        } }
+    {
+        let ghosts = additional.min(self.ghost_limit);
+        self.lists.reserve(additional.saturating_add(ghosts))
+    }
+}

@@ -1,0 +1,26 @@
+//! What a cache does: which entries leave, how room is made for others, and who is told.
+//!
+//! It works on the lists of `quick_cache_lists` and names no slot and no link. A cache's numbers and
+//! lists are its `Contents`, whose methods are the steps of a call; what the cache goes by is a
+//! `Policy`.
+#![tactic(auto)]
+
+mod admission;
+mod cold;
+mod contents;
+mod copies;
+mod evict;
+mod hot;
+mod insert;
+mod lookup;
+mod overwrite;
+mod peek;
+mod placeholder;
+mod policy;
+mod strategy;
+mod victim;
+
+pub use contents::Contents;
+pub use placeholder::{SharedPlaceholder, Touches};
+pub use policy::{Policy, Terms};
+pub use strategy::InsertStrategy;

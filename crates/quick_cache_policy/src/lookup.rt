@@ -1,0 +1,82 @@
+//! Look-ups and removals.
+ghost use Rattle.std.specs.Prelude.{◌≡◌, ℕ, ◌≤◌, MatchOption};
+ghost use Rattle.quick_cache_model.specs.Removal.{Removes};
+ghost use Rattle.quick_cache_model.specs.CacheState.{UpToOrder, IsValid};
+ghost use Rattle.quick_cache_policy.specs.Contents.{IsSound, state_of};
+ghost use Rattle.quick_cache_policy.specs.Finding.{AreUnder, IsLookedUp, IsMissed};
+
+use crate::contents::Contents;
+use crate::hot::MARK_CUT;
+use crate::placeholder::SharedPlaceholder;
+use quick_cache_lists::{Entry, Found};
+use quick_cache_model::{Equivalent, Token};
+use std::alloc::Allocator;
+use std::hash::Hash;
+
+impl<K: Eq + Hash, V, P: SharedPlaceholder<K>, A: Allocator> Contents<K, V, P, A> {
+    /// Takes note of a look-up: the item is marked and read, and a hit is counted, or a miss.
+    pub fn look_up<Q: Equivalent<K>>(&mut self, hash: u64, query: &Q) -> Option<Token>
+        requires valid { IsValid K.eq (state_of P.ticket_of self.old) }
+        requires under { AreUnder (Q.equivalent query.now) hash self.old.lists }
+        ensures looks_up { MatchOption result
+            (IsMissed P.ticket_of (Q.equivalent query.now) self.old self.new)
+            (λ token. IsLookedUp P.ticket_of (Q.equivalent query.now) self.old token self.new) }
+        ensures sound { (hashed : K → ℕ) → IsSound P.ticket_of K.eq hashed self.old
+            → IsSound P.ticket_of K.eq hashed self.new }
+        ensures room { self.new.lists.room ≡ self.old.lists.room }
+        ensures same { self.new ≡ record self.old {
+          lists = self.new.lists;
+          hits = self.new.hits;
+          misses = self.new.misses;
+        } }
+    {
+        self.lists.apart();
+        let Found::Item(token) = self.lists.find(hash, query) else {
+            self.misses = self.misses.saturating_add(1);
+            return None;
+        };
+        let item = self.lists.item(token);
+        let mark = item.mark().min(MARK_CUT - 1) + 1;
+        let reads = item.reads().saturating_add(1);
+        self.lists.set_counts(token, mark, reads);
+        self.hits = self.hits.saturating_add(1);
+        Some(token)
+    }
+
+    /// Takes out the item under the query, and gives its pair, or the placeholder, or a ghost of its
+    /// hash.
+    pub fn remove<Q: Equivalent<K>>(&mut self, hash: u64, query: &Q) -> Option<(K, V)>
+    where
+        K: Drop,
+        V: Drop,
+        requires under { AreUnder (Q.equivalent query.now) hash self.old.lists }
+        ensures removes { UpToOrder
+            (Removes (Q.equivalent query.now) (state_of P.ticket_of self.old) hash result)
+            (state_of P.ticket_of self.new) }
+        ensures sound { (hashed : K → ℕ) → IsSound P.ticket_of K.eq hashed self.old
+            → IsSound P.ticket_of K.eq hashed self.new }
+        ensures room { self.old.lists.room ≤ self.new.lists.room }
+        ensures same { self.new ≡ record self.old { lists = self.new.lists } }
+    {
+        self.lists.apart();
+        match self.lists.find(hash, query) {
+            Found::Item(token) => {
+                let slot = self.lists.take(token, false);
+                match slot.entry {
+                    Entry::Item(item) => Some(item.into_pair()),
+                    Entry::Loading(_) => unreachable!(),
+                    Entry::Ghost => unreachable!(),
+                }
+            }
+            Found::Loading(token) => {
+                let _ = self.lists.take(token, false);
+                None
+            }
+            Found::Ghost(token) => {
+                let _ = self.lists.take(token, false);
+                None
+            }
+            Found::Nothing => None,
+        }
+    }
+}

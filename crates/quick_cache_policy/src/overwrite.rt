@@ -1,0 +1,155 @@
+//! A pair over what stands under its key: an item, a placeholder, or a ghost of its hash.
+ghost use Rattle.std.specs.Prelude.{◌≡◌, ℕ, ◌+◌, ◌≤◌, None};
+ghost use Rattle.quick_cache_lists.specs.Lists.{Finds};
+ghost use Rattle.quick_cache_model.specs.Hooks.{Calls};
+ghost use Rattle.quick_cache_model.specs.Writes.{WritesAdmitted, Insert};
+ghost use Rattle.quick_cache_policy.specs.Contents.{IsSound, state_of, ring_count, work_of};
+ghost use Rattle.quick_cache_policy.specs.Policies.{rules_by};
+ghost use Rattle.quick_cache_policy.specs.Work.{WorksWithin};
+ghost use Rattle.quick_cache_policy.specs.Writing.{strategy_of, WritingAdmitted};
+
+use crate::admission::{Weighed, report};
+use crate::contents::Contents;
+use crate::hot::MARK_CUT;
+use crate::placeholder::{SharedPlaceholder, Touches};
+use crate::policy::Policy;
+use crate::strategy::InsertStrategy;
+use quick_cache_lists::{Entry, Found, Resident};
+use quick_cache_model::{Queue, Token};
+use std::alloc::Allocator;
+use std::hash::Hash;
+
+impl<K: Eq + Hash + Drop, V: Drop, P: SharedPlaceholder<K>, A: Allocator> Contents<K, V, P, A> {
+    /// Writes a pair over an item: it takes the item's queue and its place, and the item's touches
+    /// are taken in before.
+    pub(crate) fn overwrite<M: Policy<K, V>>(
+        &mut self,
+        token: Token,
+        terms: &M,
+        state: &mut M::RequestState,
+        hash: u64,
+        key: K,
+        weighed: Weighed<V>,
+        strategy: InsertStrategy,
+    )
+        requires sound { IsSound P.ticket_of K.eq (M.hashed terms.now) self.old }
+        requires hash_is { hash ≡ M.hashed terms.now key }
+        requires weight_is { weighed.weight ≡ M.weight_of terms.now key weighed.value }
+        requires found { Finds (K.eq key) hash self.old.lists (Found.Item token) }
+        ensures writes { Calls (M.hooks terms.now)
+            (WritingAdmitted (M.steady terms.now)
+            (λ calls. WritesAdmitted (rules_by M.Policy P.Touch.may_count terms.now)
+            (K.eq key) key (strategy_of strategy) (state_of P.ticket_of self.old) weighed.value calls
+            None)
+            (state_of P.ticket_of self.new))
+            state.old state.new }
+        ensures sound { IsSound P.ticket_of K.eq (M.hashed terms.now) self.new }
+        ensures room { self.old.lists.room ≤ self.new.lists.room }
+        ensures work { WorksWithin
+            (ring_count Queue.Hot self.old + ring_count Queue.Cold self.old + 1)
+            (work_of self.old) (work_of self.new) }
+        ensures same { self.new ≡ record self.old {
+          lists = self.new.lists;
+          advances = self.new.advances;
+          visits = self.new.visits;
+        } }
+    {
+        self.lists.apart();
+        let touches = self.lists.take_touch(token);
+        let item = self.lists.item(token);
+        let queue = item.queue();
+        let touched = u64::from(item.mark())
+            .saturating_add(touches)
+            .min(u64::from(MARK_CUT)) as u8;
+        let mark = strategy.mark_after(touched);
+        let Weighed { value, weight } = weighed;
+        // The touches were taken in, so the count of them begins anew, whatever it begins with.
+        let mut touch = P::Touch::default();
+        let _ = touch.take();
+        let item = Resident::new(key, value, weight, mark, queue, touch);
+        let (old_key, old_value) = self.lists.rewrite(token, item).into_pair();
+        report(queue, terms, state, old_key, old_value);
+        self.evict_to_capacity(0, terms, state);
+    }
+
+    /// Inserts a pair over a ghost of its hash: it is hot, whatever the target.
+    pub(crate) fn insert_over_ghost<M: Policy<K, V>>(
+        &mut self,
+        token: Token,
+        terms: &M,
+        state: &mut M::RequestState,
+        hash: u64,
+        key: K,
+        weighed: Weighed<V>,
+    )
+        requires sound { IsSound P.ticket_of K.eq (M.hashed terms.now) self.old }
+        requires hash_is { hash ≡ M.hashed terms.now key }
+        requires weight_is { weighed.weight ≡ M.weight_of terms.now key weighed.value }
+        requires found { Finds (K.eq key) hash self.old.lists (Found.Ghost token) }
+        ensures writes { Calls (M.hooks terms.now)
+            (WritingAdmitted (M.steady terms.now)
+            (λ calls. WritesAdmitted (rules_by M.Policy P.Touch.may_count terms.now)
+            (K.eq key) key Insert (state_of P.ticket_of self.old) weighed.value calls None)
+            (state_of P.ticket_of self.new))
+            state.old state.new }
+        ensures sound { IsSound P.ticket_of K.eq (M.hashed terms.now) self.new }
+        ensures room { self.old.lists.room ≤ self.new.lists.room }
+        ensures work { WorksWithin
+            (ring_count Queue.Hot self.old + ring_count Queue.Cold self.old + 1)
+            (work_of self.old) (work_of self.new) }
+        ensures same { self.new ≡ record self.old {
+          lists = self.new.lists;
+          advances = self.new.advances;
+          visits = self.new.visits;
+        } }
+    {
+        self.lists.apart();
+        let Weighed { value, weight } = weighed;
+        let item = Resident::new(key, value, weight, 0, Queue::Hot, P::Touch::default());
+        let _ = self.lists.replace(token, false, Entry::Item(item));
+        self.evict_to_capacity(0, terms, state);
+    }
+
+    /// Inserts a pair over the placeholder of its key: it takes the placeholder's queue, and a mark.
+    pub(crate) fn insert_over_loading<M: Policy<K, V>>(
+        &mut self,
+        token: Token,
+        terms: &M,
+        state: &mut M::RequestState,
+        hash: u64,
+        key: K,
+        weighed: Weighed<V>,
+    )
+        requires sound { IsSound P.ticket_of K.eq (M.hashed terms.now) self.old }
+        requires hash_is { hash ≡ M.hashed terms.now key }
+        requires weight_is { weighed.weight ≡ M.weight_of terms.now key weighed.value }
+        requires found { Finds (K.eq key) hash self.old.lists (Found.Loading token) }
+        ensures writes { Calls (M.hooks terms.now)
+            (WritingAdmitted (M.steady terms.now)
+            (λ calls. WritesAdmitted (rules_by M.Policy P.Touch.may_count terms.now)
+            (K.eq key) key Insert (state_of P.ticket_of self.old) weighed.value calls None)
+            (state_of P.ticket_of self.new))
+            state.old state.new }
+        ensures sound { IsSound P.ticket_of K.eq (M.hashed terms.now) self.new }
+        ensures room { self.old.lists.room ≤ self.new.lists.room }
+        ensures work { WorksWithin
+            (ring_count Queue.Hot self.old + ring_count Queue.Cold self.old + 1)
+            (work_of self.old) (work_of self.new) }
+        ensures same { self.new ≡ record self.old {
+          lists = self.new.lists;
+          advances = self.new.advances;
+          visits = self.new.visits;
+        } }
+    {
+        self.lists.apart();
+        let queue = match &self.lists.entry(token).entry {
+            Entry::Loading(awaited) => awaited.queue,
+            Entry::Item(_) => unreachable!(),
+            Entry::Ghost => unreachable!(),
+        };
+        let Weighed { value, weight } = weighed;
+        let item = Resident::new(key, value, weight, 1, queue, P::Touch::default());
+        let _ = self.lists.replace(token, false, Entry::Item(item));
+        self.evict_to_capacity(0, terms, state);
+    }
+}

@@ -1,0 +1,37 @@
+//! What a write does where nothing stands under its key, and how it counts where something does.
+ghost use Rattle.std.specs.Prelude.{◌≡◌};
+ghost use Rattle.quick_cache_model.specs.CacheState.{default_mark_cut};
+ghost use Rattle.quick_cache_model.specs.Writes.{mark_after};
+ghost use Rattle.quick_cache_policy.specs.Writing.{strategy_of, is_insert};
+
+/// What a write does where nothing stands under its key, and how it counts where something does.
+#[derive(Debug, Clone, Copy, PartialEq, Eq)]
+pub enum InsertStrategy {
+    /// Writes the pair in any case.
+    Insert,
+    /// Writes only over an item. A soft replace is no use of the item, and leaves its mark.
+    Replace { soft: bool },
+}
+
+impl InsertStrategy {
+    /// The mark of an item that is written over.
+    pub(crate) fn mark_after(self, mark: u8) -> u8
+        ensures { result ≡ mark_after default_mark_cut (strategy_of self) mark }
+    {
+        match self {
+            InsertStrategy::Insert => mark.min(1) + 1,
+            InsertStrategy::Replace { soft: false } => mark.min(1) + 1,
+            InsertStrategy::Replace { soft: true } => mark,
+        }
+    }
+
+    /// Whether a pair is written where no item stands under its key.
+    pub(crate) fn makes_items(self) -> bool
+        ensures { result ≡ is_insert (strategy_of self) }
+    {
+        match self {
+            InsertStrategy::Insert => true,
+            InsertStrategy::Replace { soft: _ } => false,
+        }
+    }
+}

@@ -1,0 +1,96 @@
+//! Walks over what a shard holds, in the order in which it would be visited.
+ghost use Rattle.std.specs.Iterator.{YieldsFirst, YieldsFirstBy, item_count};
+
+use quick_cache_lists::{GhostIter as Ghosts, RingIter as Ring};
+use quick_cache_policy::SharedPlaceholder;
+use std::alloc::{Allocator, Global};
+use std::hash::Hash;
+use std::iter::FusedIterator;
+use std::marker::Model;
+
+/// The items of a ring, each as its key, its value and its mark; the next to be visited comes
+/// first.
+#[derive(Drop)]
+pub struct RingIter<'a, K: Eq + Hash, V, P: SharedPlaceholder<K>, A: Allocator = Global> {
+    pub(crate) items: Ring<'a, K, V, P, P::Touch, A>,
+}
+
+impl<'a, K: Eq + Hash, V, P: SharedPlaceholder<K>, A: Allocator> Model
+    for RingIter<'a, K, V, P, A> {
+    ghost use Rattle.std.specs.Prelude.{ℕ, List, map};
+    ghost use Rattle.quick_cache_shard.specs.Shard.{shown};
+
+    ghost Value = { List (K × V × ℕ) };
+
+    ghost view = { λ it. map shown it.items };
+}
+
+impl<'a, K: Eq + Hash, V, P: SharedPlaceholder<K>, A: Allocator> Iterator
+    for RingIter<'a, K, V, P, A> {
+    type Item = (&'a K, &'a V, u8);
+
+    ghost next_gives = { YieldsFirstBy (λ item. (item.0.now, item.1.now, item.2)) (λ rest. rest) };
+
+    ghost remaining = { item_count (λ rest. rest) };
+
+    fn next(&mut self) -> Option<(&'a K, &'a V, u8)> {
+        let item = self.items.next()?;
+        Some((item.key(), item.value(), item.mark()))
+    }
+
+    fn size_hint(&self) -> (usize, Option<usize>) {
+        (self.items.len(), Some(self.items.len()))
+    }
+}
+
+impl<'a, K: Eq + Hash, V, P: SharedPlaceholder<K>, A: Allocator> ExactSizeIterator
+    for RingIter<'a, K, V, P, A> {
+    fn len(&self) -> usize {
+        self.items.len()
+    }
+}
+
+impl<'a, K: Eq + Hash, V, P: SharedPlaceholder<K>, A: Allocator> FusedIterator
+    for RingIter<'a, K, V, P, A> {}
+
+/// The hashes of the ghosts, the oldest first.
+#[derive(Drop)]
+pub struct GhostIter<'a, K: Eq + Hash, V, P: SharedPlaceholder<K>, A: Allocator = Global> {
+    pub(crate) hashes: Ghosts<'a, K, V, P, P::Touch, A>,
+}
+
+impl<'a, K: Eq + Hash, V, P: SharedPlaceholder<K>, A: Allocator> Model
+    for GhostIter<'a, K, V, P, A> {
+    ghost use Rattle.std.specs.Prelude.{ℕ, List};
+
+    ghost Value = { List ℕ };
+
+    ghost view = { λ it. it.hashes };
+}
+
+impl<'a, K: Eq + Hash, V, P: SharedPlaceholder<K>, A: Allocator> Iterator
+    for GhostIter<'a, K, V, P, A> {
+    type Item = u64;
+
+    ghost next_gives = { YieldsFirst (λ rest. rest) };
+
+    ghost remaining = { item_count (λ rest. rest) };
+
+    fn next(&mut self) -> Option<u64> {
+        self.hashes.next()
+    }
+
+    fn size_hint(&self) -> (usize, Option<usize>) {
+        (self.hashes.len(), Some(self.hashes.len()))
+    }
+}
+
+impl<'a, K: Eq + Hash, V, P: SharedPlaceholder<K>, A: Allocator> ExactSizeIterator
+    for GhostIter<'a, K, V, P, A> {
+    fn len(&self) -> usize {
+        self.hashes.len()
+    }
+}
+
+impl<'a, K: Eq + Hash, V, P: SharedPlaceholder<K>, A: Allocator> FusedIterator
+    for GhostIter<'a, K, V, P, A> {}
