@@ -13,8 +13,7 @@ fn copy_any<K: Eq + Hash + Clone, V: Clone>(cache: &Cache<K, V>) -> Result<Cache
     cache.try_clone()
 }
 
-/// Bytes as a key. That equal bytes are met one by one is a lemma, which is named here.
-#[tactic(auto, using(crate::proofs::CopyLemmas::pointwise_numbers))]
+/// Bytes as a key. That equal bytes are met one by one is a lemma.
 fn copy_by_bytes(cache: &Cache<Vec<u8>, u64>) -> Result<Cache<Vec<u8>, u64>, Refusal> {
     copy_any(cache)
 }
