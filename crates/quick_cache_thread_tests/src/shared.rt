@@ -80,9 +80,15 @@ fn a_new_cache_holds_as_much_as_it_is_made_for(rt: HostRuntime) -> Result<(), Fa
     }
     let mut counts = (0u64, 0u64, 0u64);
     for key in 1..4 {
-        counts.0 += u64::from(cache.get(&rt, &key)?.is_some());
-        counts.1 += u64::from(weighted.get(&rt, &key)?.is_some());
-        counts.2 += u64::from(whole.get(&rt, &key)?.is_some());
+        counts.0 = counts
+            .0
+            .saturating_add(u64::from(cache.get(&rt, &key)?.is_some()));
+        counts.1 = counts
+            .1
+            .saturating_add(u64::from(weighted.get(&rt, &key)?.is_some()));
+        counts.2 = counts
+            .2
+            .saturating_add(u64::from(whole.get(&rt, &key)?.is_some()));
     }
     assert_eq!(rt; counts, (2, 3, 2));
     let text = format!(in rt.alloc(); "{cache:?}, {:?}", DefaultLifecycle::<u64, u64>::new())?;
