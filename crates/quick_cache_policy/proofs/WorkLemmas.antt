@@ -52,22 +52,6 @@ PaysFor-then extra more hot cold hot1 cold1 hot2 cold2 old mid new first second 
       visited = omega (arith, each, both, first.visited, second.visited);
     }
 
--- a promotion pays for the advance that answers no after it
-pub PaysFor-promoted : (hot cold hot1 cold1 hot2 cold2 : ℕ) (old new : Work) → hot1 ≡ hot + 1
-    → cold1 + 1 ≡ cold → PaysFor 1 hot1 cold1 hot2 cold2 old new
-    → PaysFor 0 hot cold hot2 cold2 old new
-PaysFor-promoted hot cold hot1 cold1 hot2 cold2 old new more fewer pays =
-    let same : 3 * (hot1 + cold1) * pays.advances ≡ 3 * (hot + cold) * pays.advances =
-    ap (λ n. 3 * n * pays.advances) (omega (arith, more, fewer)) in
-    record {
-      advances = pays.advances;
-      visits = pays.visits;
-      does = pays.does;
-      members = omega (arith, pays.members, more, fewer);
-      paid = omega (arith, pays.paid, more, fewer);
-      visited = omega (arith, pays.visited, same);
-    }
-
 -- a cold item that left is no work
 pub PaysFor-evicted : (hot cold hot1 cold1 : ℕ) (old new : Work) → hot1 ≡ hot → cold1 + 1 ≡ cold
     → new ≡ old → old.advances < 2 ^ 64 → old.visits < 2 ^ 64

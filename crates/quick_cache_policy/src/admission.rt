@@ -113,8 +113,8 @@ impl<K: Eq + Hash + Drop, V: Drop, P: SharedPlaceholder<K>, A: Allocator> Conten
         }
     }
 
-    /// Turns away a pair that is too heavy, with the item under its key: an insert tells the pair to
-    /// the cold hook, a replace gives it back.
+    /// Turns away a pair that is too heavy, with the item under its key: an insert tells the pair
+    /// to the cold hook, a replace gives it back.
     pub(crate) fn reject_too_heavy<M: Policy<K, V>>(
         &mut self,
         found: Found,
