@@ -1,15 +1,14 @@
 -- An item that a query found and that is taken out: in the state, and among the keys that stand
 -- under their hashes.
-use Rattle.std.proofs.Common.{◌≡◌, ◌⊎◌, ℕ, ◌+◌, ◌≤◌, ◌<◌, Bool, true, false, inl, inr, arith, List, [], ◌∷◌, ◌++◌, Option, Some, None, refl, sym, ap, subst, ◌∙◌}
+use Rattle.std.proofs.Common.{◌≡◌, ℕ, Bool, false, List, [], ◌∷◌, ◌++◌, refl, sym, ap, subst, ◌∙◌}
 use Rattle.std.specs.List.{AllByRecursion}
-use Rattle.std.specs.Cmp.{IsEquivalence}
-use Rattle.quick_cache_model.specs.CacheState.{CacheState, Item, Place, InHot, InCold, InStill, with_items, IsValid}
+use Rattle.quick_cache_model.specs.CacheState.{Item, Place, InHot, InCold, InStill, with_items, IsValid}
 use Rattle.quick_cache_model.specs.Finding.{IsItemAt, HasNoItem}
-use Rattle.quick_cache_model.specs.Hooks.{HookCall, EvictCold, evicted, Hooks, RunsHooks, Calls}
-use Rattle.quick_cache_model.specs.Writes.{TakesOutItem, was_there, was_absent}
+use Rattle.quick_cache_model.specs.Hooks.{evicted}
+use Rattle.quick_cache_model.specs.Writes.{TakesOutItem, was_there}
 use Rattle.quick_cache_model.proofs.EachElement.{all-without}
 use Rattle.quick_cache_model.proofs.Valid.Edits.{without-valid}
-use Rattle.quick_cache_lists.specs.Lists.{Lists, HeldItem, HeldLoading, HeldGhost, StandsIn, HasItem, FindsItem, IsEntry, HasEntry, AreApart, Finds, items_at, without_entry}
+use Rattle.quick_cache_lists.specs.Lists.{HeldItem, FindsItem, IsEntry, AreApart, Finds, items_at, without_entry}
 use Rattle.quick_cache_lists.specs.Views.{items_of}
 use Rattle.quick_cache_lists.specs.declared.entry.Entry.{Entry}
 use Rattle.quick_cache_lists.specs.declared.entry.Awaited.{Awaited}
@@ -20,7 +19,6 @@ use Rattle.quick_cache_lists.proofs.CallerLemmas.{items_of-around, without-hot, 
 use Rattle.quick_cache_lists.proofs.StandingLemmas.{not-loading, not-ghost, entry-is_item}
 use Rattle.quick_cache_policy.specs.Contents.{AreHashed, IsSound, state_of}
 use Rattle.quick_cache_policy.specs.Finding.{AreUnder}
-use Rattle.quick_cache_policy.specs.Writing.{IsReplacement, none, one}
 use Rattle.quick_cache_policy.specs.declared.contents.Contents.{Contents}
 use Rattle.quick_cache_policy.proofs.FindLemmas.{HasNoKey-state, HasNothing-state, IsItemAt-stands, IsLoadingAt-stands, HasNoItem-loading}
 

@@ -1,17 +1,15 @@
 -- Room for a write, the calls of one, and its answer.
-use Rattle.std.proofs.Common.{◌≡◌, ℕ, ◌+◌, ◌*◌, ◌^◌, arith, ◌<◌, ◌≤◌, Bool, true, false, true≢false, List, [], ◌∷◌, ◌++◌, Option, Some, None, refl, sym, ap, subst, ◌∙◌, inl, inr, append_assoc}
+use Rattle.std.proofs.Common.{◌≡◌, ℕ, ◌+◌, ◌*◌, ◌^◌, arith, ◌<◌, ◌≤◌, Bool, true, false, true≢false, List, [], ◌∷◌, ◌++◌, Option, Some, None, refl, sym, ap, subst, inl, inr}
 use Rattle.quick_cache_model.specs.declared.refusal.Refusal.{Refusal}
 use Rattle.quick_cache_model.specs.declared.refusal.Refusal.TheVariants.{Memory, SlotsFull, TicketsSpent, Finished}
-use Rattle.quick_cache_model.specs.CacheState.{CacheState, UpToOrder}
-use Rattle.quick_cache_model.specs.Admission.{Admitted, TooHeavy, ChecksAdmission}
+use Rattle.quick_cache_model.specs.CacheState.{CacheState}
 use Rattle.quick_cache_model.specs.Finding.{HasNothing, HasNoItem}
-use Rattle.quick_cache_model.specs.Hooks.{Rules, Hooks, HookCall, BeforeEvict, EvictCold, Calls}
-use Rattle.quick_cache_model.specs.Refusals.{IsProvided, MayRefuse, memory_refused, slots_full, slots_taken, slot_count}
+use Rattle.quick_cache_model.specs.Hooks.{Rules, Hooks, HookCall, EvictCold, Calls}
+use Rattle.quick_cache_model.specs.Refusals.{IsProvided, MayRefuse, memory_refused, slots_full, slots_taken}
 use Rattle.quick_cache_model.specs.Writes.{Strategy, Insert, Replace, SoftReplace, IsReplace, Writes, WritesAdmitted, RejectsTooHeavy, TakesOutItem}
 use Rattle.quick_cache_model.proofs.OrderLaws.{UpToOrder-exact, UpToOrder-map}
 use Rattle.quick_cache_lists.specs.declared.found.Found.{Found}
 use Rattle.quick_cache_lists.specs.declared.found.Found.TheVariants.{Item as found_item, Loading as found_loading, Ghost as found_ghost, Nothing as found_nothing}
-use Rattle.quick_cache_policy.specs.declared.admission.Admission.{Admission}
 use Rattle.quick_cache_policy.specs.declared.admission.Admission.TheVariants.{Admitted as code_admitted, TooHeavy as code_too_heavy}
 use Rattle.std.proofs.lemmas.List.{length-map}
 use Rattle.quick_cache_lists.specs.Lists.{HeldItem, HeldGhost, Finds, entry_count}
@@ -22,7 +20,7 @@ use Rattle.quick_cache_policy.specs.Work.{Work, WorksWithin}
 use Rattle.quick_cache_policy.proofs.HotLemmas.{counted_up-zero}
 use Rattle.quick_cache_policy.specs.Advances.{AreEvictions}
 use Rattle.quick_cache_policy.specs.Finding.{TakesSlot, Provides}
-use Rattle.quick_cache_policy.specs.Writing.{is_insert, needs_of_write, needs, IsReplacement, AreAdmittedCalls, AreWriteCalls, Writing, WritingAdmitted, Rejecting, Checks, Wrote, RefusesWrite}
+use Rattle.quick_cache_policy.specs.Writing.{is_insert, needs_of_write, IsReplacement, AreAdmittedCalls, AreWriteCalls, Writing, WritingAdmitted, Rejecting, Checks, Wrote}
 use Rattle.quick_cache_policy.proofs.FindLemmas.{Finds-nothing}
 
 -- what makes items is an insert

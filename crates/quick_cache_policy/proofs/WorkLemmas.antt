@@ -1,6 +1,6 @@
 -- How much work was done: the counts of advances and of visits, one step after another.
-use Rattle.std.proofs.Common.{◌≡◌, ℕ, ◌+◌, ◌*◌, ◌^◌, ◌<◌, ◌≤◌, arith, ap, ◌∙◌}
-use Rattle.std.proofs.Math.Nat.{mul-le-mul_left, mul-le-mul_right}
+use Rattle.std.proofs.Common.{◌≡◌, ℕ, ◌+◌, ◌*◌, ◌^◌, ◌<◌, ◌≤◌, arith, ap}
+use Rattle.std.proofs.Math.Nat.{mul-le-mul_right}
 use Rattle.quick_cache_policy.specs.Work.{Work, DoesMore, PaysFor}
 
 -- nothing more was done
