@@ -1,5 +1,5 @@
 //! Writes: inserts and replaces.
-ghost use Rattle.std.specs.Prelude.{◌≡◌, ℕ, ◌+◌, ◌≤◌, ◌<◌, None, Some, IfErr, IsSome, true};
+ghost use Rattle.std.specs.Prelude.{◌≡◌, ◌+◌, ◌≤◌, ◌<◌, None, Some, IfErr, IsSome, true};
 ghost use Rattle.quick_cache_lists.specs.Lists.{Finds, entry_count};
 ghost use Rattle.quick_cache_model.specs.Hooks.{Calls};
 ghost use Rattle.quick_cache_model.specs.Writes.{WritesAdmitted, Writes, Insert};

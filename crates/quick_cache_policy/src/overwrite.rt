@@ -1,5 +1,5 @@
 //! A pair over what stands under its key: an item, a placeholder, or a ghost of its hash.
-ghost use Rattle.std.specs.Prelude.{◌≡◌, ℕ, ◌+◌, ◌≤◌, None};
+ghost use Rattle.std.specs.Prelude.{◌≡◌, ◌+◌, ◌≤◌, None};
 ghost use Rattle.quick_cache_lists.specs.Lists.{Finds};
 ghost use Rattle.quick_cache_model.specs.Hooks.{Calls};
 ghost use Rattle.quick_cache_model.specs.Writes.{WritesAdmitted, Insert};

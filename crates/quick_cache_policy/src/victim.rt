@@ -1,5 +1,5 @@
 //! The items that leave a ring.
-ghost use Rattle.std.specs.Prelude.{◌≡◌, ◌≢◌, ℕ, ◌+◌, ◌-◌, ◌<◌, ◌≤◌, Some, length, drop};
+ghost use Rattle.std.specs.Prelude.{◌≡◌, ◌≢◌, ◌+◌, ◌-◌, ◌<◌, ◌≤◌, Some, length, drop};
 ghost use Rattle.quick_cache_lists.specs.Lists.{IsFirstOf};
 ghost use Rattle.quick_cache_lists.specs.Views.{hashes_of};
 ghost use Rattle.quick_cache_model.specs.Hooks.{Calls};
