@@ -8,7 +8,7 @@ use Rattle.quick_cache_lists.specs.declared.entry.Slot.{Slot}
 use Rattle.quick_cache_lists.specs.declared.ring.Ring.{Ring}
 use Rattle.quick_cache_lists.specs.declared.rings.Rings.{Rings}
 use Rattle.quick_cache_lists.specs.Lists.{Lists, entry_count}
-use Rattle.quick_cache_lists.specs.Slots.{is_under_at, is_ghost_at, weight_at, Stand, AmongHot, AmongCold, AmongStill, AmongLoading, AmongGhosts, stand_of, has_hash, item_of, still_of, loading_of, ghost_of}
+use Rattle.quick_cache_lists.specs.Slots.{is_under_at, is_item_under_at, is_ghost_at, weight_at, Stand, AmongHot, AmongCold, AmongStill, AmongLoading, AmongGhosts, stand_of, has_hash, item_of, still_of, loading_of, ghost_of}
 
 -- before the rest, what there is
 abbrev pub put : {Y : Type 0} → Option Y → List Y → List Y
@@ -106,3 +106,10 @@ module _ {K V P T : Type 0} where
         × (is_ghost_at (item_at slab t) ≡ true → shade ≢ None)
     pub noted : IfSome shade (λ t. HasPair table hash (non_zero_u32_get t)
         × (is_ghost_at (item_at slab (non_zero_u32_get t)) ≡ true))
+
+  -- a walk along the tokens of a hash, with these left, that passed no item whose key passes
+  pub record PassesNoItem (slab : LinkedSlab (Slot K V P T)) (table : Table) (hash : ℕ)
+      (stands_for : K → Bool) (left : List ℕ) : Type 0 where
+    pub left_has : (t : ℕ) → 0 < times t left → HasPair table hash t
+    pub passed : (t : ℕ) → HasPair table hash t → times t left ≡ 0
+        → is_item_under_at stands_for (item_at slab t) ≡ false

@@ -1,6 +1,6 @@
 //! What stands in a slot.
 ghost use Rattle.std.specs.Prelude.{◌≡◌, true, false, IfOk, OnErr};
-ghost use Rattle.quick_cache_lists.specs.Slots.{is_under, is_ghost, is_item, weight_in, slot_changed, stand_in, loading_in};
+ghost use Rattle.quick_cache_lists.specs.Slots.{is_under, is_item_under, is_ghost, is_item, weight_in, slot_changed, stand_in, loading_in};
 ghost use Rattle.quick_cache_lists.specs.Lists.{with_counts, with_weight, requeued, is_placeholder, is_weightless};
 ghost use Rattle.quick_cache_lists.specs.Copies.{IsEntryCopy};
 
@@ -114,6 +114,20 @@ impl<K, V, P, T> Slot<K, V, P, T> {
         match &self.entry {
             Entry::Item(resident) => query.equivalent(resident.key()),
             Entry::Loading(awaited) => query.equivalent(&awaited.key),
+            Entry::Ghost => false,
+        }
+    }
+
+    /// Whether it has an item for whose key the query stands.
+    #[inline(always)]
+    pub(crate) fn is_item_under<Q: Equivalent<K>>(&self, query: &Q) -> bool
+    where
+        K: Eq + Hash,
+        ensures { result ≡ is_item_under (Q.equivalent query.now) self.now }
+    {
+        match &self.entry {
+            Entry::Item(resident) => query.equivalent(resident.key()),
+            Entry::Loading(_) => false,
             Entry::Ghost => false,
         }
     }

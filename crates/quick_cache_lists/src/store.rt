@@ -14,6 +14,7 @@ use quick_cache_table::Table;
 use std::alloc::Allocator;
 
 /// Puts an entry into a slot and its hash into the table.
+#[inline(always)]
 pub(crate) fn place<K, V, P, T, A: Allocator>(
     slab: &mut LinkedSlab<Slot<K, V, P, T>, A>,
     table: &mut Table<A>,
@@ -39,6 +40,7 @@ pub(crate) fn place<K, V, P, T, A: Allocator>(
 }
 
 /// Takes an entry out of its slot and its hash out of the table, and answers the token behind it.
+#[inline(always)]
 pub(crate) fn displace<K, V, P, T, A: Allocator>(
     slab: &mut LinkedSlab<Slot<K, V, P, T>, A>,
     table: &mut Table<A>,
