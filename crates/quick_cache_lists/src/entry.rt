@@ -38,8 +38,8 @@ pub(crate) enum Stand {
 /// An entry under its hash.
 #[derive(Drop)]
 pub struct Slot<K, V, P, T> {
-    pub hash: u64,
     pub entry: Entry<K, V, P, T>,
+    pub hash: u64,
 }
 
 impl Stand {
