@@ -1,11 +1,10 @@
 //! What stands in a slot.
-ghost use Rattle.std.specs.Prelude.{◌≡◌, true, false, IfOk, OnErr};
+ghost use Rattle.std.specs.Prelude.{◌≡◌, true};
 ghost use Rattle.quick_cache_lists.specs.Slots.{is_under, is_ghost, is_item, weight_in, slot_changed, stand_in, loading_in};
-ghost use Rattle.quick_cache_lists.specs.Lists.{with_counts, with_weight, requeued, is_placeholder, is_weightless};
-ghost use Rattle.quick_cache_lists.specs.Copies.{IsEntryCopy};
+ghost use Rattle.quick_cache_lists.specs.Lists.{with_counts, with_weight, requeued, is_weightless};
 
 use crate::resident::Resident;
-use quick_cache_model::{Equivalent, Queue, Refusal, Touches};
+use quick_cache_model::{Equivalent, Queue, Touches};
 use std::hash::Hash;
 use std::mem::replace;
 
@@ -85,21 +84,6 @@ impl<K, V, P, T> Entry<K, V, P, T> {
             Entry::Item(resident) => resident.stand(),
             Entry::Loading(_) => Stand::AmongLoading,
             Entry::Ghost => Stand::AmongGhosts,
-        }
-    }
-}
-
-impl<K: Clone + Drop, V: Clone + Drop, P, T: Touches> Entry<K, V, P, T> {
-    /// A copy of an item, with no touches, or another ghost. A refusal is for want of memory.
-    pub(crate) fn try_copy(&self) -> Result<Self, Refusal>
-        requires { is_placeholder self.now ≡ false }
-        ensures copies { IfOk result (IsEntryCopy K.is_clone V.is_clone self.now) }
-        ensures refused { OnErr result (result ≡ Err Refusal.Memory) }
-    {
-        match self {
-            Entry::Item(resident) => Ok(Entry::Item(resident.try_copy()?)),
-            Entry::Loading(_) => unreachable!(),
-            Entry::Ghost => Ok(Entry::Ghost),
         }
     }
 }

@@ -9,6 +9,8 @@ mod looks;
 mod moves;
 mod walks;
 
+pub use copies::Copying;
+
 use crate::entry::Slot;
 use crate::rings::Rings;
 use quick_cache_model::Refusal;
