@@ -1,5 +1,5 @@
 -- A copy of sound contents is sound, since a clone of a key counts as the key does.
-use Rattle.std.proofs.Common.{◌≡◌, ℕ, ◌<◌, ◌==◌, Bool, true, cond, List, [], ◌∷◌, refl, sym, ap, subst, ◌∙◌, arith}
+use Rattle.std.proofs.Common.{◌≡◌, ℕ, ◌<◌, ◌==◌, Bool, cond, List, [], ◌∷◌, refl, sym, ap, subst, arith}
 use Rattle.std.specs.Cmp.{IsEquivalence}
 use Rattle.std.specs.List.{AllByRecursion, AllZip, count_by}
 use Rattle.std.proofs.lemmas.List.Sums.{sum_by-cons}
@@ -13,7 +13,7 @@ use Rattle.quick_cache_lists.specs.Copies.{AreCopies, IsHeldCopy, IsItemCopy, Is
 use Rattle.quick_cache_lists.specs.Lists.{HeldItem, HeldLoading, Lists}
 use Rattle.quick_cache_lists.specs.Views.{hashes_of, items_of, loading_entries}
 use Rattle.quick_cache_policy.specs.declared.contents.Contents.{Contents}
-use Rattle.quick_cache_policy.specs.Contents.{AreHashed, IsSound, state_of}
+use Rattle.quick_cache_policy.specs.Contents.{IsSound, state_of}
 use Rattle.quick_cache_policy.specs.Copies.{ClonesAreEqual, IsCopyOf, IsLoadingCopy, IsShare}
 
 module _ {K V : Type 0} (clones_key : K → K → Type 0) (clones_value : V → V → Type 0) where

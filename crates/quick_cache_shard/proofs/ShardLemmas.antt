@@ -42,26 +42,3 @@ MatchOption-some none some (Some x) is says gives = gives x says
 pub MatchResult-ok : {X E : Type 0} (ok : X → Type 0) (err : E → Type 0) (answer : Result X E)
     (x : X) → answer ≡ Ok x → MatchResult answer ok err → ok x
 MatchResult-ok ok err answer x is says = subst (λ r. MatchResult r ok err) is says
-
--- entries stand under their hashes by another function that gives the same
-pub IsSound-alike : {K V P A T : Type 0} (ticket_of : P → ℕ) (equal : K → K → Bool)
-    (hash other : K → ℕ) (contents : Contents K V P A T) → ((key : K) → other key ≡ hash key)
-    → IsSound ticket_of equal hash contents → IsSound ticket_of equal other contents
-IsSound-alike {K} {V} {P} ticket_of equal hash other contents alike sound =
-    let item : (held : HeldItem K V) → held.hash ≡ hash held.item.key
-    → held.hash ≡ other held.item.key = λ held is. is ∙ sym (alike held.item.key) in
-    let P : HeldItem K V → Type 0 = λ held. held.hash ≡ hash held.item.key in
-    let Q : HeldItem K V → Type 0 = λ held. held.hash ≡ other held.item.key in
-    record {
-      valid = sound.valid;
-      sized = sound.sized;
-      hashed = record {
-        hot = each-weaker P Q item contents.lists.hot sound.hashed.hot;
-        cold = each-weaker P Q item contents.lists.cold sound.hashed.cold;
-        still = each-weaker P Q item contents.lists.still sound.hashed.still;
-        loading = each-weaker (λ waiting. waiting.hash ≡ hash waiting.key)
-            (λ waiting. waiting.hash ≡ other waiting.key)
-            (λ waiting is. is ∙ sym (alike waiting.key)) contents.lists.loading
-            sound.hashed.loading;
-      };
-    }
