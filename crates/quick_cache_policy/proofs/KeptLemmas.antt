@@ -16,8 +16,8 @@ use Rattle.quick_cache_policy.specs.Rounds.{Stopped, Passed, AfterTouches, EndsA
 use Rattle.quick_cache_policy.specs.Rounds.{EndsSomeUnpinned, EndsAtVictim, MeetsVictim, GivesUp}
 use Rattle.quick_cache_policy.specs.Rounds.{Advancing, KeepsItems}
 use Rattle.quick_cache_policy.proofs.MarkLemmas.{MayRaise-length}
-use Rattle.quick_cache_policy.proofs.EachLemmas.{each-append, each-left, each-right, each-weaker}
-use Rattle.quick_cache_policy.proofs.EachLemmas.{each-mapped}
+use Rattle.quick_cache_model.proofs.EachElement.{all-append, all-left, all-right, all-weaker}
+use Rattle.quick_cache_policy.proofs.MappedLemmas.{each-mapped}
 use Rattle.quick_cache_policy.proofs.RoundLemmas.{Going-length, rounds-begin, rounds-reach}
 
 -- One round is an advance of that round alone.
@@ -38,7 +38,7 @@ module _ {K V : Type 0} (cut : ℕ) (queue : Queue) where
   -- the items of a ring have at most the greatest mark
   pub HaveAtMost-ring : (items : List (Item K V)) → AllByRecursion (IsRingItem cut queue) items
       → HaveAtMost cut items
-  HaveAtMost-ring = each-weaker (IsRingItem cut queue) (λ item. item.mark ≤ cut)
+  HaveAtMost-ring = all-weaker (IsRingItem cut queue) (λ item. item.mark ≤ cut)
       (λ item ring. ring.marked)
 
   -- lowered marks
@@ -90,10 +90,10 @@ module _ {K V : Type 0} (cut : ℕ) (queue : Queue) where
       → AllByRecursion (IsRingItem cut queue) old → AllByRecursion (IsRingItem cut queue) new
   HasVictimFirst-ring old new first ring =
       let whole = subst (λ l. AllByRecursion (IsRingItem cut queue) l) first.split ring in
-      let front = each-left (IsRingItem cut queue) first.before (first.item ∷ first.after) whole in
-      let back = each-right (IsRingItem cut queue) first.before (first.item ∷ first.after) whole in
+      let front = all-left (IsRingItem cut queue) first.before (first.item ∷ first.after) whole in
+      let back = all-right (IsRingItem cut queue) first.before (first.item ∷ first.after) whole in
       subst (λ l. AllByRecursion (IsRingItem cut queue) l) (sym first.turned)
-      (each-append (IsRingItem cut queue)
+      (all-append (IsRingItem cut queue)
       (map (lowered first.rounds) (first.item ∷ first.after))
       (map (lowered (first.rounds + 1)) first.before)
       (map_lowered-ring first.rounds (first.item ∷ first.after) back)
@@ -107,11 +107,11 @@ module _ {K V : Type 0} (cut : ℕ) (queue : Queue) where
       → AllByRecursion (IsRingItem cut queue) old → AllByRecursion (IsRingItem cut queue) now
   Going-ring steady pinned takes_touches may_count old visited unpinned now g ring =
       let whole = subst (λ l. AllByRecursion (IsRingItem cut queue) l) g.split ring in
-      let front = each-left (IsRingItem cut queue) g.done g.rest whole in
+      let front = all-left (IsRingItem cut queue) g.done g.rest whole in
       let raised = MayRaise-ring takes_touches may_count g.done g.raised g.raises front in
       subst (λ l. AllByRecursion (IsRingItem cut queue) l) (sym g.now_is)
-      (each-append (IsRingItem cut queue) g.rest (map (lowered 1) g.raised)
-      (each-right (IsRingItem cut queue) g.done g.rest whole) (map_lowered-ring 1 g.raised raised))
+      (all-append (IsRingItem cut queue) g.rest (map (lowered 1) g.raised)
+      (all-right (IsRingItem cut queue) g.done g.rest whole) (map_lowered-ring 1 g.raised raised))
 
 -- Sums over the items of what is not the mark.
 module _ {K V : Type 0} (f : Item K V → ℕ)

@@ -10,7 +10,7 @@ use Rattle.quick_cache_model.proofs.TouchLaws.{with_touches-key, with_touches-va
 use Rattle.quick_cache_model.proofs.TouchLaws.{with_touches-mark, RaisesMarks-same}
 use Rattle.quick_cache_policy.specs.Rounds.{MayTake, MayRaise, AreUnmarked, HaveAtMost}
 use Rattle.quick_cache_policy.specs.Rounds.{AfterTouches, EndsSomeUnpinned, marks_of, advance_measure}
-use Rattle.quick_cache_policy.proofs.EachLemmas.{each-mapped}
+use Rattle.quick_cache_policy.proofs.MappedLemmas.{each-mapped}
 
 module _ {K V : Type 0} where
   -- an item without a mark is the same when its mark is lowered
