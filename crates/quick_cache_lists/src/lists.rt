@@ -9,10 +9,9 @@ mod looks;
 mod moves;
 mod walks;
 
-pub use copies::Copying;
-
 use crate::entry::Slot;
 use crate::rings::Rings;
+pub use copies::Copying;
 use quick_cache_model::Refusal;
 use quick_cache_slab::LinkedSlab;
 use quick_cache_table::Table;
