@@ -1,4 +1,5 @@
 pub mod CommandLemmas
+pub mod EventLemmas
 pub mod LineLemmas
 pub mod PrintLemmas
 pub mod RunLemmas

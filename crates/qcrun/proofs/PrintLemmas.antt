@@ -4,7 +4,9 @@ use Rattle.std.proofs.lemmas.List.{append-nil}
 use Rattle.std.specs.Fmt.{decimal}
 use Rattle.std.specs.Io.KnownBytes.{Appends}
 use Rattle.std.specs.Prelude.{codes}
-use Rattle.qcrun.specs.Printed.{item_text, items_text, spaced_number, ghosts_text}
+use Rattle.qcrun.specs.declared.events.Event.{Event}
+use Rattle.qcrun.specs.Events.{event_text}
+use Rattle.qcrun.specs.Printed.{item_text, items_text, spaced_number, ghosts_text, line_of, event_lines}
 
 -- nothing is appended where nothing is written
 pub Appends-nothing : (bytes : Option (List ℕ)) → Appends bytes bytes []
@@ -67,6 +69,16 @@ ghosts_text-cons hash hashes = refl
 pub ghosts_text-nil : (hashes : List ℕ) → hashes ≡ [] → ghosts_text hashes ≡ []
 unfolding ghosts_text
 ghosts_text-nil hashes none = ap ghosts_text none
+
+-- the lines of events, from the first on
+pub event_lines-cons : (event : Event) (events : List Event)
+    → event_lines (event ∷ events) ≡ line_of (event_text event) ++ event_lines events
+unfolding event_lines
+event_lines-cons event events = refl
+
+pub event_lines-nil : (events : List Event) → events ≡ [] → event_lines events ≡ []
+unfolding event_lines
+event_lines-nil events none = ap event_lines none
 
 -- an item's text is appended, as its parts are printed
 pub Appends-item : (old new : Option (List ℕ)) (key value mark : ℕ)

@@ -2,7 +2,9 @@
 #![tactic(auto)]
 
 mod command;
+mod events;
 mod hash;
+mod kinds;
 mod lines;
 mod print;
 mod reply;

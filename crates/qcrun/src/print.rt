@@ -1,8 +1,9 @@
 //! Prints what became of a command.
 ghost use Rattle.std.specs.Prelude.{◌++◌, OnOk, codes};
 ghost use Rattle.std.specs.Io.KnownBytes.{Appends};
-ghost use Rattle.qcrun.specs.Printed.{counts_text, ghosts_text, items_text, line_of, outcome_text, shown_text};
+ghost use Rattle.qcrun.specs.Printed.{counts_text, event_lines, events_text, ghosts_text, items_text, line_of, outcome_text, shown_text};
 
+use crate::events::{Event, Events};
 use crate::session::{NumberCache, Outcome, Session};
 use quick_cache_shard::{GhostIter, RingIter, SharedPlaceholder};
 use std::alloc::Allocator;
@@ -14,18 +15,43 @@ use std::io::{self, Write};
 ///
 /// A write that failed.
 pub fn print<A: Allocator + Copy, W: Write>(
-    outcome: Outcome,
+    outcome: &Outcome<A>,
     session: &Session<A>,
     writer: &mut W,
 ) -> io::Result<()>
     ensures { OnOk result (Appends (W.contents writer.old) (W.contents writer.new)
-        (outcome_text outcome session.now.cache)) }
+        (outcome_text outcome.now session.now.cache)) }
 {
     match (outcome, session.cache()) {
-        (Outcome::Answered(answer), _) => writeln!(writer, "{answer}"),
+        (Outcome::Answered(events, answer), _) => {
+            print_events(events, writer)?;
+            writeln!(writer, "{answer}")
+        }
         (Outcome::Shows, Some(cache)) => show(cache, writer),
         (Outcome::Shows, None) | (Outcome::NoCache, _) => Ok(()),
     }
+}
+
+/// Prints the events of a command, or that they are lost.
+fn print_events<A: Allocator, W: Write>(events: &Events<A>, writer: &mut W) -> io::Result<()>
+    ensures { OnOk result (Appends (W.contents writer.old) (W.contents writer.new)
+        (events_text events.now)) }
+{
+    match events {
+        Some(events) => print_each(events, writer),
+        None => writeln!(writer, "events lost"),
+    }
+}
+
+/// Prints each event in a line of its own.
+fn print_each<W: Write>(events: &[Event], writer: &mut W) -> io::Result<()>
+    ensures { OnOk result (Appends (W.contents writer.old) (W.contents writer.new)
+        (event_lines events.now)) }
+{
+    for event in events {
+        writeln!(writer, "{event}")?;
+    }
+    Ok(())
 }
 
 /// Prints what a cache holds: the rings from the head, the ghosts from the oldest, and the counts.
