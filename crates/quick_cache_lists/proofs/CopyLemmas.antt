@@ -379,7 +379,7 @@ length-AllZip R (x ∷ xs) [] all = absurd all
 length-AllZip R (x ∷ xs) (y ∷ ys) all = ap suc (length-AllZip R xs ys all.1)
 
 -- the tokens behind p, so many
-abbrev ascending : ℕ → ℕ → List ℕ
+abbrev pub ascending : ℕ → ℕ → List ℕ
 ascending p zero = []
 ascending p (suc n) = suc p ∷ ascending (suc p) n
 
@@ -390,7 +390,7 @@ ascending-push p (suc n) =
     ap (λ xs. suc p ∷ xs) (ascending-push (suc p) n
     ∙ ap (λ m. ascending (suc p) n ++ suc m ∷ []) e)
 
-upto-ascending : (n : ℕ) → upto n ≡ ascending 0 n
+pub upto-ascending : (n : ℕ) → upto n ≡ ascending 0 n
 upto-ascending zero = refl
 upto-ascending (suc n) =
     let e : n ≡ 0 + n = omega arith in

@@ -21,3 +21,4 @@ pub mod OneEntryLemmas
 pub mod WalkLemmas
 pub mod StandingLemmas
 pub mod CopyLemmas
+pub mod ResidentLemmas

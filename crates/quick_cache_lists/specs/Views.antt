@@ -1,11 +1,15 @@
 -- What the lists stand for once tokens are dropped: the lists of a cache.
 use Rattle.std.specs.Prelude.{ℕ, Bool, true, false, List, ◌++◌, map}
 use Rattle.quick_cache_model.specs.CacheState.{Item, LoadingEntry}
-use Rattle.quick_cache_lists.specs.Lists.{HeldItem, HeldLoading, HeldGhost}
+use Rattle.quick_cache_lists.specs.Lists.{HeldItem, HeldLoading, HeldGhost, Lists}
 
 -- the items of these entries
 abbrev pub items_of : {K V : Type 0} → List (HeldItem K V) → List (Item K V)
 items_of entries = map (λ held. held.item) entries
+
+-- all items: of the hot ring, of the cold ring, and of weight 0
+abbrev pub residents : {K V P : Type 0} → Lists K V P → List (Item K V)
+residents lists = items_of lists.hot ++ items_of lists.cold ++ items_of lists.still
 
 -- the hashes of these ghosts
 abbrev pub hashes_of : List HeldGhost → List ℕ

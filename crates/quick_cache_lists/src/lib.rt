@@ -18,4 +18,4 @@ pub use entry::{Awaited, Entry, Slot};
 pub use found::Found;
 pub use lists::Lists;
 pub use resident::Resident;
-pub use walk::{GhostIter, RingIter};
+pub use walk::{GhostIter, ItemIter, RingIter};

@@ -1,4 +1,5 @@
-//! Walks along a ring, from its head on. A step is one look at a slot.
+//! Walks along a ring, from its head on, and over all items. A step along a ring is one look at a
+//! slot.
 ghost use Rattle.std.specs.Prelude.{◌≡◌, length};
 ghost use Rattle.std.specs.Iterator.{YieldsFirst, YieldsFirstBy, item_count};
 
@@ -6,6 +7,7 @@ use crate::entry::{Entry, Slot};
 use crate::resident::Resident;
 use quick_cache_model::Token;
 use quick_cache_slab::LinkedSlab;
+use quick_cache_slab::linked_slab::Iter;
 use std::alloc::{Allocator, Global};
 use std::iter::FusedIterator;
 use std::marker::Model;
@@ -153,3 +155,55 @@ impl<'a, K, V, P, T, A: Allocator> ExactSizeIterator for GhostIter<'a, K, V, P, 
 }
 
 impl<'a, K, V, P, T, A: Allocator> FusedIterator for GhostIter<'a, K, V, P, T, A> {}
+
+/// All items, those of weight 0 too, by ascending token. A step looks at each slot up to the next
+/// item.
+#[derive(Drop)]
+pub struct ItemIter<'a, K, V, P, T> {
+    pub(crate) slots: Iter<'a, Slot<K, V, P, T>>,
+    // How many items are left.
+    pub(crate) left: usize,
+}
+
+impl<'a, K, V, P, T> Model for ItemIter<'a, K, V, P, T> {
+    ghost use Rattle.std.specs.Prelude.{◌≡◌, List, length};
+    ghost use Rattle.quick_cache_model.specs.CacheState.{Item};
+
+    ghost Value = { List (Item K V) };
+
+    ghost use Rattle.quick_cache_lists.specs.Walks.{items_in};
+
+    ghost view = { λ it. items_in it.slots };
+
+    ghost invariant = { λ it. length (items_in it.slots) ≡ it.left };
+}
+
+impl<'a, K, V, P, T> Iterator for ItemIter<'a, K, V, P, T> {
+    type Item = &'a Resident<K, V, T>;
+
+    ghost next_gives = { YieldsFirstBy (λ item. item.now) (λ rest. rest) };
+
+    ghost remaining = { item_count (λ rest. rest) };
+
+    fn next(&mut self) -> Option<&'a Resident<K, V, T>> {
+        while let Some(slot) = self.slots.next() {
+            if let Entry::Item(resident) = &slot.entry {
+                self.left -= 1;
+                return Some(resident);
+            }
+        }
+        None
+    }
+
+    fn size_hint(&self) -> (usize, Option<usize>) {
+        (self.left, Some(self.left))
+    }
+}
+
+impl<'a, K, V, P, T> ExactSizeIterator for ItemIter<'a, K, V, P, T> {
+    fn len(&self) -> usize {
+        self.left
+    }
+}
+
+impl<'a, K, V, P, T> FusedIterator for ItemIter<'a, K, V, P, T> {}

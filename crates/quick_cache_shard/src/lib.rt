@@ -8,4 +8,4 @@ mod walk;
 pub use quick_cache_model::Token;
 pub use quick_cache_policy::{InsertStrategy, SharedPlaceholder, Touches};
 pub use shard::CacheShard;
-pub use walk::{GhostIter, RingIter};
+pub use walk::{GhostIter, Iter, RingIter};

@@ -1,7 +1,8 @@
-//! Walks over what a shard holds, in the order in which it would be visited.
+//! Walks over what a shard holds: over a ring in the order in which it would be visited, and over
+//! all items in none.
 ghost use Rattle.std.specs.Iterator.{YieldsFirst, YieldsFirstBy, item_count};
 
-use quick_cache_lists::{GhostIter as Ghosts, RingIter as Ring};
+use quick_cache_lists::{GhostIter as Ghosts, ItemIter as Items, RingIter as Ring};
 use quick_cache_policy::SharedPlaceholder;
 use std::alloc::{Allocator, Global};
 use std::hash::Hash;
@@ -94,3 +95,43 @@ impl<'a, K: Eq + Hash, V, P: SharedPlaceholder<K>, A: Allocator> ExactSizeIterat
 
 impl<'a, K: Eq + Hash, V, P: SharedPlaceholder<K>, A: Allocator> FusedIterator
     for GhostIter<'a, K, V, P, A> {}
+
+/// All items, those of weight 0 too, each once as its key and its value, in no order that is told.
+#[derive(Drop)]
+pub struct Iter<'a, K: Eq + Hash, V, P: SharedPlaceholder<K>> {
+    pub(crate) items: Items<'a, K, V, P, P::Touch>,
+}
+
+impl<'a, K: Eq + Hash, V, P: SharedPlaceholder<K>> Model for Iter<'a, K, V, P> {
+    ghost use Rattle.std.specs.Prelude.{List, map};
+    ghost use Rattle.quick_cache_model.specs.Removal.{pair_of};
+
+    ghost Value = { List (K × V) };
+
+    ghost view = { λ it. map pair_of it.items };
+}
+
+impl<'a, K: Eq + Hash, V, P: SharedPlaceholder<K>> Iterator for Iter<'a, K, V, P> {
+    type Item = (&'a K, &'a V);
+
+    ghost next_gives = { YieldsFirstBy (λ pair. (pair.0.now, pair.1.now)) (λ rest. rest) };
+
+    ghost remaining = { item_count (λ rest. rest) };
+
+    fn next(&mut self) -> Option<(&'a K, &'a V)> {
+        let item = self.items.next()?;
+        Some(item.pair())
+    }
+
+    fn size_hint(&self) -> (usize, Option<usize>) {
+        (self.items.len(), Some(self.items.len()))
+    }
+}
+
+impl<'a, K: Eq + Hash, V, P: SharedPlaceholder<K>> ExactSizeIterator for Iter<'a, K, V, P> {
+    fn len(&self) -> usize {
+        self.items.len()
+    }
+}
+
+impl<'a, K: Eq + Hash, V, P: SharedPlaceholder<K>> FusedIterator for Iter<'a, K, V, P> {}

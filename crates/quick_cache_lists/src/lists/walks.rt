@@ -1,11 +1,12 @@
-//! Walks over the lists, each in its order.
+//! Walks over the lists: over a ring in its order, and over all items in none.
 ghost use Rattle.std.specs.Prelude.{◌≡◌};
+ghost use Rattle.std.specs.List.Sorted.{IsPermutation};
 ghost use Rattle.quick_cache_model.specs.CacheState.{ring_place};
 ghost use Rattle.quick_cache_lists.specs.Lists.{items_at};
-ghost use Rattle.quick_cache_lists.specs.Views.{items_of, hashes_of};
+ghost use Rattle.quick_cache_lists.specs.Views.{items_of, hashes_of, residents};
 
 use crate::lists::Lists;
-use crate::walk::{GhostIter, RingIter, Walk};
+use crate::walk::{GhostIter, ItemIter, RingIter, Walk};
 use quick_cache_model::Queue;
 use std::alloc::Allocator;
 
@@ -39,6 +40,17 @@ impl<K, V, P, T, A: Allocator> Lists<K, V, P, T, A> {
                 at: self.rings.ghosts.head,
                 left: self.rings.ghosts.count,
             },
+        }
+    }
+
+    /// All items, those of weight 0 too, by ascending token.
+    pub fn iter_items(&self) -> ItemIter<'_, K, V, P, T>
+        ensures { IsPermutation (residents self.now) result }
+    {
+        self.slab.validate();
+        ItemIter {
+            slots: self.slab.iter(),
+            left: self.item_count(),
         }
     }
 }

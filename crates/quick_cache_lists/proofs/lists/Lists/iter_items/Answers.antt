@@ -1,0 +1,20 @@
+use Rattle.std.proofs.Common.{sym, ap, ◌∙◌, length}
+use Rattle.std.proofs.lemmas.List.Sorted.{length_permutation}
+use Rattle.quick_cache_lists.specs.Views.{residents}
+use Rattle.quick_cache_lists.proofs.ResidentLemmas.{IsPermutation-items_in, length-residents}
+use Rattle.quick_cache_lists.proofs.lists.Lists.iter_items.Goals as goal
+
+pub invariant_of-result : goal.invariant_of-result
+invariant_of-result g c =
+    let i = c.self.inside in
+    let all = IsPermutation-items_in i.slab i.table i.rings.hot i.rings.cold i.rings.ghosts
+    c.validate.ensures c.self.invariant.standing in
+    rw c.iter.ensures (length_permutation _ _ all
+    ∙ ap (λ lists. length (residents lists)) c.self.view_is
+    ∙ length-residents c.args.self.now ∙ sym c.item_count.ensures)
+
+pub returns : goal.returns
+returns g c =
+    let i = c.self.inside in
+    rw (← c.self.view_is, c.iter.ensures) (IsPermutation-items_in i.slab i.table i.rings.hot
+    i.rings.cold i.rings.ghosts c.validate.ensures c.self.invariant.standing)
