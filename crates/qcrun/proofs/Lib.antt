@@ -5,3 +5,4 @@ pub mod PrintLemmas
 pub mod RunLemmas
 pub mod ServedLemmas
 pub mod SessionLemmas
+pub mod StillLemmas

@@ -6,7 +6,7 @@ use Rattle.std.specs.Io.KnownBytes.{Appends}
 use Rattle.std.specs.Prelude.{codes}
 use Rattle.qcrun.specs.declared.events.Event.{Event}
 use Rattle.qcrun.specs.Events.{event_text}
-use Rattle.qcrun.specs.Printed.{item_text, items_text, spaced_number, ghosts_text, line_of, event_lines}
+use Rattle.qcrun.specs.Printed.{item_text, items_text, spaced_number, ghosts_text, line_of, event_lines, pair_text, pairs_text}
 
 -- nothing is appended where nothing is written
 pub Appends-nothing : (bytes : Option (List ℕ)) → Appends bytes bytes []
@@ -69,6 +69,24 @@ ghosts_text-cons hash hashes = refl
 pub ghosts_text-nil : (hashes : List ℕ) → hashes ≡ [] → ghosts_text hashes ≡ []
 unfolding ghosts_text
 ghosts_text-nil hashes none = ap ghosts_text none
+
+-- the text of pairs, from the first on
+pub pairs_text-cons : (pair : ℕ × ℕ) (pairs : List (ℕ × ℕ))
+    → pairs_text (pair ∷ pairs) ≡ pair_text pair ++ pairs_text pairs
+unfolding pairs_text
+pairs_text-cons pair pairs = refl
+
+pub pairs_text-nil : (pairs : List (ℕ × ℕ)) → pairs ≡ [] → pairs_text pairs ≡ []
+unfolding pairs_text
+pairs_text-nil pairs none = ap pairs_text none
+
+-- a pair's text is appended, as its parts are printed
+pub Appends-pair : (old new : Option (List ℕ)) (key value : ℕ)
+    → Appends old new (codes " " ++ (decimal key ++ (codes ":" ++ decimal value)))
+    → Appends old new (pair_text (key, value))
+Appends-pair old new key value appended =
+    subst (Appends old new) (ap (λ text. 32 ∷ text)
+    (sym (append_assoc (decimal key) (codes ":") (decimal value)))) appended
 
 -- the lines of events, from the first on
 pub event_lines-cons : (event : Event) (events : List Event)

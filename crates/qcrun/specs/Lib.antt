@@ -8,3 +8,4 @@ pub mod Remainder
 pub mod Runs
 pub mod Served
 pub mod Sessions
+pub mod Still

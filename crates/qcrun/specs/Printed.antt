@@ -32,6 +32,15 @@ unfoldable pub ghosts_text : List ℕ → List ℕ
 ghosts_text [] = []
 ghosts_text (hash ∷ hashes) = spaced_number hash ++ ghosts_text hashes
 
+-- a pair's key and value, behind a space
+abbrev pub pair_text : ℕ × ℕ → List ℕ
+pair_text pair = codes " " ++ decimal pair.0 ++ codes ":" ++ decimal pair.1
+
+-- pairs, one after another
+unfoldable pub pairs_text : List (ℕ × ℕ) → List ℕ
+pairs_text [] = []
+pairs_text (pair ∷ pairs) = pair_text pair ++ pairs_text pairs
+
 -- how many items there are, their weight, the hot target and the ghost limit
 abbrev pub counts_text : CacheState ℕ ℕ → List ℕ
 counts_text state =
@@ -39,12 +48,19 @@ counts_text state =
     ++ spaced_number (min (total_weight state) (2 ^ 64 - 1))
     ++ spaced_number state.hot_target ++ spaced_number state.ghost_limit
 
--- what a cache holds: the rings from the head, the ghosts from the oldest, and the counts
-abbrev pub shown_text : CacheState ℕ ℕ → List ℕ
-shown_text state =
+-- the rings, each from the head
+abbrev pub rings_text : CacheState ℕ ℕ → List ℕ
+rings_text state =
     line_of (codes "hot" ++ items_text (map shown state.hot))
     ++ line_of (codes "cold" ++ items_text (map shown state.cold))
+
+-- what a cache holds: the rings from the head, the ghosts from the oldest, these items of weight 0,
+-- and the counts
+abbrev pub shown_text : CacheState ℕ ℕ → (still : List (ℕ × ℕ)) → List ℕ
+shown_text state still =
+    rings_text state
     ++ line_of (codes "ghosts" ++ ghosts_text state.ghosts)
+    ++ line_of (codes "still" ++ pairs_text still)
     ++ line_of (counts_text state)
 
 -- events, each in a line of its own
@@ -61,6 +77,6 @@ events_text (Some events) = event_lines events.items
 -- the events
 abbrev pub outcome_text : {We B L A : Type 0} → Outcome A → Option (Shard ℕ ℕ We B L) → List ℕ
 outcome_text (Answered events answer) cache = events_text events ++ line_of (text_of answer)
-outcome_text Shows (Some cache) = shown_text cache.state
-outcome_text Shows None = []
+outcome_text (Shows still) (Some cache) = shown_text cache.state still.items
+outcome_text (Shows still) None = []
 outcome_text NoCache cache = []

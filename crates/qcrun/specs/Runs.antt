@@ -34,7 +34,8 @@ pub data ServesLine {We B L : Type 0} (A : Type 0) (rules : Shard ℕ ℕ We B L
       → IsLineOf line command → ServesCommand rules old command outcome new
       → (outcome ≡ NoCache → ⊥) → ServesLine A rules old line true new (outcome_text outcome new)
   lacks_cache : (command : Command) (new : Option (Shard ℕ ℕ We B L)) → IsLineOf line command
-      → ServesCommand rules old command NoCache new → ServesLine A rules old line false new []
+      → ServesCommand {A = A} rules old command NoCache new
+      → ServesLine A rules old line false new []
   is_no_command : ((command : Command) → IsLineOf line command → ⊥)
       → ServesLine A rules old line false old []
 

@@ -19,6 +19,7 @@ use Rattle.qcrun.specs.declared.events.Event.{Event}
 use Rattle.qcrun.specs.Answers.{answer_of}
 use Rattle.qcrun.specs.Events.{LeavesByKind, TellsOf}
 use Rattle.qcrun.specs.Served.{Serves}
+use Rattle.qcrun.specs.Still.{AreStill}
 
 -- the command that asks for a call
 abbrev pub command_of : Call ℕ ℕ → Command
@@ -41,6 +42,13 @@ module _ {We B L : Type 0} where
         → MakesCache items weight old Done (Some cache)
     lacks_memory : MakesCache items weight old (Refused Memory) old
 
+module _ {A : Type 0} where
+  -- What becomes of `show`: the items of weight 0 are put in order, or there was no memory for that.
+  pub data ShowsCache (state : CacheState ℕ ℕ) : Outcome A → Type 0 where
+    shows : (still : Vec (ℕ × ℕ) A) → AreStill state still.items → ShowsCache state (Shows still)
+    lacks_memory : (events : Option (Vec Event A)) → TellsOf [] events
+        → ShowsCache state (Answered events (Refused Memory))
+
 module _ {We B L A : Type 0} where
   -- The cache that stood, the command, what became of it, and the cache that stands. The events are
   -- those of the hook calls, each of which leaves a value what its kind has left.
@@ -57,7 +65,8 @@ module _ {We B L A : Type 0} where
         → LeavesByKind hook_calls → TellsOf hook_calls events
         → ServesCommand rules (Some cache) (command_of call) (Answered events (answer_of reply))
         (Some new)
-    shows : (cache : Shard ℕ ℕ We B L) → ServesCommand rules (Some cache) Show Shows (Some cache)
+    shows_cache : (cache : Shard ℕ ℕ We B L) (outcome : Outcome A) → ShowsCache cache.state outcome
+        → ServesCommand rules (Some cache) Show outcome (Some cache)
     lacks_cache_for_call : (call : Call ℕ ℕ)
         → ServesCommand rules None (command_of call) NoCache None
     lacks_cache_to_show : ServesCommand rules None Show NoCache None

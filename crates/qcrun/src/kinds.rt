@@ -20,8 +20,15 @@ impl Weighter<u64, u64> for LastDigits {
     ghost weight_of = { λ _ _ value. weight_of value };
 
     fn weight(&self, _key: &u64, val: &u64) -> u64 {
-        *val % WEIGHTS
+        weight_of(*val)
     }
+}
+
+/// The weight of a value.
+pub fn weight_of(value: u64) -> u64
+    ensures { result ≡ weight_of value }
+{
+    value % WEIGHTS
 }
 
 /// The kind of a value.

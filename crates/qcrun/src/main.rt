@@ -10,6 +10,7 @@ mod print;
 mod reply;
 mod serve;
 mod session;
+mod still;
 #[cfg(test)]
 mod tests;
 

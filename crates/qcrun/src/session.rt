@@ -4,27 +4,21 @@ ghost use Rattle.quick_cache_model.specs.Hooks.{Calls};
 ghost use Rattle.quick_cache_shard.specs.Shard.{rules_of, hooks_of, ClonesExactly};
 ghost use Rattle.quick_cache_unsync.specs.Touches.{no_touches};
 ghost use Rattle.qcrun.specs.Served.{Serves, first_reply};
-ghost use Rattle.qcrun.specs.Sessions.{MakesCache, ServesCommand};
+ghost use Rattle.qcrun.specs.Sessions.{MakesCache, ServesCommand, ShowsCache};
 
 use crate::command::Command;
 use crate::events::Events;
 use crate::hash::{RemainderBuilder, RemainderHasher};
 use crate::kinds::{ByKind, LastDigits};
 use crate::reply::Answer;
+use crate::still::still;
 use quick_cache_model::{Lifecycle, Refusal, Weighter};
 use quick_cache_unsync::{Cache, Call, Reply, run};
 use std::alloc::Allocator;
 use std::hash::{BuildHasher, Hash, Hasher};
 
 /// A cache of numbers.
-pub type NumberCache<A> = Cache<
-    u64,
-    u64,
-    LastDigits,
-    RemainderBuilder,
-    ByKind<A>,
-    A,
->;
+pub type NumberCache<A> = Cache<u64, u64, LastDigits, RemainderBuilder, ByKind<A>, A>;
 
 /// The first reply, or that it was refused for want of memory.
 fn first_reply<K: Drop, V: Drop, M: Allocator>(replies: Vec<Reply<K, V>, M>) -> Reply<K, V>
@@ -113,10 +107,20 @@ fn make_call<
 pub enum Outcome<A: Allocator> {
     /// It was served, with these events, and this is its answer.
     Answered(Events<A>, Answer),
-    /// The cache is to be shown.
-    Shows,
+    /// The cache is to be shown, and these are its items of weight 0, by key.
+    Shows(Vec<(u64, u64), A>),
     /// It asked for a cache, and none stands.
     NoCache,
+}
+
+/// Finds what is to be shown of a cache beside its rings and numbers.
+fn look<A: Allocator + Copy>(alloc: A, cache: &NumberCache<A>) -> Outcome<A>
+    ensures shows { ShowsCache cache.now.state result }
+{
+    match still(alloc, cache) {
+        Ok(still) => Outcome::Shows(still),
+        Err(_) => Outcome::Answered(Some(Vec::new(alloc)), Answer::Refused(Refusal::Memory)),
+    }
 }
 
 /// The cache that stands, if one was made.
@@ -153,7 +157,7 @@ impl<A: Allocator + Copy> Session<A> {
             Command::Insert(key, value) => Call::Insert(key, value),
             Command::Get(key) => Call::Get(key),
             Command::Remove(key) => Call::Remove(key),
-            Command::Cache(..) | Command::Show => return Outcome::Shows,
+            Command::Cache(..) | Command::Show => return look(self.alloc, cache),
         };
         let reply = make_call(self.alloc, cache, call, &mut events);
         Outcome::Answered(events, Answer::from(reply))

@@ -23,7 +23,7 @@ returns-in-Cache-command g c =
     let asked : c.args.command ≡ Show =
     ⊎_elim (λ new. absurd (c.in_default.not-Cache new.0 new.1 new.2)) (λ show. show)
     c.in-Cache-command.is in
-    rw c.in-Some.is (rw asked (ServesCommand.shows c.in-Some.cache))
+    rw c.in-Some.is (rw asked (ServesCommand.shows_cache c.in-Some.cache _ c.look.ensures.shows))
 
 -- a call was made
 pub returns : goal.returns
