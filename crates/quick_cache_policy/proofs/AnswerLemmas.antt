@@ -1,18 +1,15 @@
 -- Room for a write, the calls of one, and its answer.
-use Rattle.std.proofs.Common.{◌≡◌, ℕ, ◌+◌, ◌*◌, ◌^◌, arith, ◌<◌, ◌≤◌, Bool, true, false, true≢false, List, [], ◌∷◌, ◌++◌, Option, Some, None, refl, sym, ap, subst, ◌∙◌, inl, inr, append_assoc}
+use Rattle.std.proofs.Common.{◌≡◌, ℕ, ◌+◌, ◌*◌, ◌^◌, arith, ◌<◌, ◌≤◌, Bool, true, false, true≢false, List, [], ◌∷◌, ◌++◌, Option, Some, None, refl, sym, ap, subst, inl, inr}
 use Rattle.quick_cache_model.specs.declared.refusal.Refusal.{Refusal}
 use Rattle.quick_cache_model.specs.declared.refusal.Refusal.TheVariants.{Memory, SlotsFull, TicketsSpent, Finished}
-use Rattle.quick_cache_model.specs.CacheState.{CacheState, UpToOrder}
-use Rattle.quick_cache_model.specs.Admission.{Admitted, TooHeavy, ChecksAdmission}
+use Rattle.quick_cache_model.specs.CacheState.{CacheState}
 use Rattle.quick_cache_model.specs.Finding.{HasNothing, HasNoItem}
-use Rattle.quick_cache_model.specs.Hooks.{Rules, Hooks, HookCall, BeforeEvict, EvictCold, Calls}
-use Rattle.quick_cache_model.specs.Refusals.{IsProvided, MayRefuse, memory_refused, slots_full, slots_taken, slot_count}
+use Rattle.quick_cache_model.specs.Hooks.{Rules, Hooks, HookCall, EvictCold, Calls}
+use Rattle.quick_cache_model.specs.Refusals.{IsProvided, MayRefuse, memory_refused, slots_full, slots_taken}
 use Rattle.quick_cache_model.specs.Writes.{Strategy, Insert, Replace, SoftReplace, IsReplace, Writes, WritesAdmitted, RejectsTooHeavy, TakesOutItem}
 use Rattle.quick_cache_model.proofs.OrderLaws.{UpToOrder-exact, UpToOrder-map}
-use Rattle.quick_cache_model.proofs.HookLaws.{RunsHooks-append}
 use Rattle.quick_cache_lists.specs.declared.found.Found.{Found}
 use Rattle.quick_cache_lists.specs.declared.found.Found.TheVariants.{Item as found_item, Loading as found_loading, Ghost as found_ghost, Nothing as found_nothing}
-use Rattle.quick_cache_policy.specs.declared.admission.Admission.{Admission}
 use Rattle.quick_cache_policy.specs.declared.admission.Admission.TheVariants.{Admitted as code_admitted, TooHeavy as code_too_heavy}
 use Rattle.std.proofs.lemmas.List.{length-map}
 use Rattle.quick_cache_lists.specs.Lists.{HeldItem, HeldGhost, Finds, entry_count}
@@ -23,7 +20,7 @@ use Rattle.quick_cache_policy.specs.Work.{Work, WorksWithin}
 use Rattle.quick_cache_policy.proofs.HotLemmas.{counted_up-zero}
 use Rattle.quick_cache_policy.specs.Advances.{AreEvictions}
 use Rattle.quick_cache_policy.specs.Finding.{TakesSlot, Provides}
-use Rattle.quick_cache_policy.specs.Writing.{is_insert, needs_of_write, needs, IsReplacement, AreAdmittedCalls, AreWriteCalls, Writing, WritingAdmitted, Rejecting, Checks, Wrote, RefusesWrite}
+use Rattle.quick_cache_policy.specs.Writing.{is_insert, needs_of_write, IsReplacement, AreAdmittedCalls, AreWriteCalls, Writing, WritingAdmitted, Rejecting, Checks, Wrote}
 use Rattle.quick_cache_policy.proofs.FindLemmas.{Finds-nothing}
 
 -- what makes items is an insert
@@ -46,7 +43,7 @@ module _ {K V : Type 0} (equal_to : K → Bool) (key : K) (strategy : Strategy)
       → Rejecting equal_to key strategy old left None new (calls ++ EvictCold key left ∷ [])
   Rejecting-reports is = (
     RejectsTooHeavy.reports calls new (insert-of strategy is) takes,
-    λ value. AreWriteCalls.rejects key value left calls replaced,
+    λ value. AreWriteCalls.rejects left calls replaced,
   )
 
   -- a replace gives it back
@@ -54,7 +51,7 @@ module _ {K V : Type 0} (equal_to : K → Bool) (key : K) (strategy : Strategy)
       → Rejecting equal_to key strategy old left (Some (key, left)) new calls
   Rejecting-gives_back is = (
     RejectsTooHeavy.gives_back calls new (replace-of strategy is) takes,
-    λ value. AreWriteCalls.gives_back key value left calls replaced,
+    λ value. AreWriteCalls.gives_back left calls replaced,
   )
 
 -- a replace that finds no item gives the pair back, and calls nothing
@@ -75,17 +72,6 @@ WritingAdmitted-gives_back hooks steady rules equal_to key value strategy old fi
   runs = refl;
 }
 
--- the calls of two parts of a call, one behind the other
-pub Calls-then : {K V S : Type 0} (hooks : Hooks K V S) (P Q R : List (HookCall K V) → Type 0)
-    (first mid last : S)
-    → ((calls rest : List (HookCall K V)) → P calls → Q rest → R (calls ++ rest))
-    → Calls hooks P first mid → Calls hooks Q mid last → Calls hooks R first last
-Calls-then hooks P Q R first mid last both a b = record {
-  calls = a.calls ++ b.calls;
-  holds = both a.calls b.calls a.holds b.holds;
-  runs = RunsHooks-append hooks a.calls b.calls first mid last a.runs b.runs;
-}
-
 module _ {K V : Type 0} (steady : Type 0) (rules : Rules K V) (equal_to : K → Bool) (key : K)
     (strategy : Strategy) (old : CacheState K V) (value : V) (answer : Option (K × V))
     (new : CacheState K V) where
@@ -94,7 +80,7 @@ module _ {K V : Type 0} (steady : Type 0) (rules : Rules K V) (equal_to : K → 
       → Checks steady rules old.hot_target key value (code_admitted admitted) first
       → WritingAdmitted steady
       (λ calls. WritesAdmitted rules equal_to key strategy old admitted.value calls answer) new rest
-      → Writing steady
+      → Writing steady key value
       (λ calls now. Writes rules equal_to key strategy old value calls answer now) new
       (first ++ rest)
   Writing-admitted admitted first rest checks writes = (
@@ -104,10 +90,10 @@ module _ {K V : Type 0} (steady : Type 0) (rules : Rules K V) (equal_to : K → 
         (λ now step. Writes.admitted first rest admitted.value answer now (checks.0 s) step)
         (writes.0 s),
     elim checks.2 [
-      | inl nothing ↦ subst (λ l. AreWriteCalls (l ++ rest)) (sym nothing)
+      | inl nothing ↦ subst (λ l. AreWriteCalls key value (l ++ rest)) (sym nothing)
           (AreWriteCalls.admits rest writes.1)
-      | inr once ↦ subst (λ l. AreWriteCalls (l ++ rest)) (sym once)
-          (AreWriteCalls.lightens key value admitted.value rest writes.1)
+      | inr once ↦ subst (λ l. AreWriteCalls key value (l ++ rest)) (sym once)
+          (AreWriteCalls.lightens admitted.value rest writes.1)
     ],
   )
 
@@ -115,13 +101,13 @@ module _ {K V : Type 0} (steady : Type 0) (rules : Rules K V) (equal_to : K → 
   pub Writing-too_heavy : (left : V) (first rest : List (HookCall K V))
       → Checks steady rules old.hot_target key value (code_too_heavy left) first
       → Rejecting equal_to key strategy old left answer new rest
-      → Writing steady
+      → Writing steady key value
       (λ calls now. Writes rules equal_to key strategy old value calls answer now) new
       (first ++ rest)
   Writing-too_heavy left first rest checks rejects = (
     λ s. UpToOrder-exact (Writes rules equal_to key strategy old value (first ++ rest) answer) new
         (Writes.too_heavy first rest left answer new (checks.0 s) rejects.0),
-    subst (λ l. AreWriteCalls (l ++ rest)) (sym checks.1) (rejects.1 value),
+    subst (λ l. AreWriteCalls key value (l ++ rest)) (sym checks.1) (rejects.1 value),
   )
 
 module _ {K V : Type 0} (stands_for : K → Bool) (hash : ℕ) (state : CacheState K V)
@@ -204,7 +190,7 @@ module _ {K V P A T S : Type 0} (steady : Type 0) (hooks : Hooks K V S) (rules :
   pub Wrote-provided : Finds (equal key) (rules.hash key) old.lists found
       → Provides found strategy (entry_count old.lists) ready.lists.room None
       → ready ≡ record old { lists = record old.lists { room = ready.lists.room } }
-      → Calls hooks (Writing steady
+      → Calls hooks (Writing steady key value
       (λ calls now. Writes rules (equal key) key strategy (state_of ticket_of ready) value calls
       answer now) new) first last
       → Wrote steady hooks rules equal strategy (state_of ticket_of old) first key value answer new
@@ -215,7 +201,7 @@ module _ {K V P A T S : Type 0} (steady : Type 0) (hooks : Hooks K V S) (rules :
         strategy
         (subst (λ (n : ℕ). Provides found strategy n ready.lists.room None)
         (entry_count-taken ticket_of old) provides);
-    step = subst (λ (state : CacheState K V). Calls hooks (Writing steady
+    step = subst (λ (state : CacheState K V). Calls hooks (Writing steady key value
         (λ calls now. Writes rules (equal key) key strategy state value calls answer now) new)
         first last) (ap (state_of ticket_of) same) writes;
   }

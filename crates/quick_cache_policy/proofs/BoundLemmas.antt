@@ -1,5 +1,5 @@
 -- The work of a write, by what its eviction pays for.
-use Rattle.std.proofs.Common.{◌≡◌, ℕ, ◌+◌, ◌*◌, ◌≤◌, arith}
+use Rattle.std.proofs.Common.{ℕ, ◌+◌, ◌*◌, ◌≤◌, arith}
 use Rattle.std.proofs.lemmas.Nat.{mul-le}
 use Rattle.quick_cache_policy.specs.Work.{Work, PaysFor, WorksWithin}
 

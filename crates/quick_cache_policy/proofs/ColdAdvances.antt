@@ -1,8 +1,8 @@
 -- A cold advance: what it comes to after the search.
-use Rattle.std.proofs.Common.{◌≡◌, ℕ, ◌+◌, ◌-◌, ◌<◌, Bool, true, false, List, [], ◌∷◌, ◌++◌, refl, sym, ap, subst, ◌∙◌}
+use Rattle.std.proofs.Common.{◌≡◌, ◌-◌, Bool, true, List, [], ◌∷◌, ◌++◌, sym, ap, subst, ◌∙◌}
 use Rattle.std.specs.List.{AllByRecursion}
 use Rattle.quick_cache_model.specs.declared.queue.Queue.TheVariants.{Hot, Cold}
-use Rattle.quick_cache_model.specs.CacheState.{CacheState, Item, UpToOrder, default_mark_cut}
+use Rattle.quick_cache_model.specs.CacheState.{CacheState, Item, default_mark_cut}
 use Rattle.quick_cache_model.specs.Eviction.{AdvancesHot, AdvancesCold, EvictsToTarget, EvictsVictim}
 use Rattle.quick_cache_model.specs.Eviction.{IsPassed, promoted}
 use Rattle.quick_cache_model.specs.Touches.{RaisesMarks}

@@ -15,7 +15,7 @@ use Rattle.quick_cache_lists.proofs.CallerLemmas.{items_of-split}
 use Rattle.quick_cache_policy.specs.Contents.{AreHashed, state_of}
 use Rattle.quick_cache_policy.specs.Finding.{AreUnder}
 use Rattle.quick_cache_policy.specs.declared.contents.Contents.{Contents}
-use Rattle.quick_cache_policy.proofs.EachLemmas.{each-weaker}
+use Rattle.quick_cache_model.proofs.EachElement.{all-weaker}
 
 module _ {X Y : Type 0} (P : X → Type 0) (Q : Y → Type 0) (f : X → Y) where
   -- from the elements to their images in another type
@@ -44,19 +44,13 @@ module _ {K V P : Type 0} (stands_for : K → Bool) (hash : ℕ) (lists : Lists 
       let P : HeldItem K V → Type 0 = λ held. held.hash ≡ hashed held.item.key in
       let Q : HeldItem K V → Type 0 = λ held. stands_for held.item.key ≡ true → held.hash ≡ hash in
       record {
-        hot = each-weaker P Q item lists.hot are.hot;
-        cold = each-weaker P Q item lists.cold are.cold;
-        still = each-weaker P Q item lists.still are.still;
-        loading = each-weaker (λ waiting. waiting.hash ≡ hashed waiting.key)
+        hot = all-weaker P Q item lists.hot are.hot;
+        cold = all-weaker P Q item lists.cold are.cold;
+        still = all-weaker P Q item lists.still are.still;
+        loading = all-weaker (λ waiting. waiting.hash ≡ hashed waiting.key)
             (λ waiting. stands_for waiting.key ≡ true → waiting.hash ≡ hash)
             (λ waiting is passes. is ∙ same waiting.key passes) lists.loading are.loading;
       }
-
--- both of two facts of each element
-each-both : {X : Type 0} (P Q : X → Type 0) (xs : List X) → AllByRecursion P xs
-    → AllByRecursion Q xs → AllByRecursion (λ x. P x × Q x) xs
-each-both P Q [] a b = tt
-each-both P Q (x ∷ xs) a b = ((a.0, b.0), each-both P Q xs a.1 b.1)
 
 module _ {K V P A T : Type 0} (ticket_of : P → ℕ) (stands_for : K → Bool) (hash : ℕ)
     (contents : Contents K V P A T) where

@@ -20,7 +20,7 @@ use Rattle.quick_cache_policy.specs.Contents.{IsSound}
 use Rattle.quick_cache_policy.specs.HotRounds.{VisitsHot, VisitsFirst, RoundEnds}
 use Rattle.quick_cache_policy.specs.Rounds.{MayTake, Going, KeepsItems}
 use Rattle.quick_cache_policy.proofs.HotLemmas.{counted_up-zero, counted_up-twice}
-use Rattle.quick_cache_policy.proofs.EachLemmas.{each-append}
+use Rattle.quick_cache_model.proofs.EachElement.{all-append}
 use Rattle.quick_cache_policy.proofs.KeptLemmas.{EndsAllPinned-keeps, EndsSomeUnpinned-keeps, EndsAtVictim-keeps}
 use Rattle.quick_cache_policy.proofs.RoundLemmas.{round-begins, Going-length, round-passes_pinned, round-passes_marked, round-stops, round-over_pinned, round-over_unpinned}
 
@@ -148,7 +148,7 @@ module _ {K V P A T : Type 0} (hash : K → ℕ) (steady : Type 0) (pinned : K �
         hot = hot;
         changes = record {
           hashed = subst (AllByRecursion (λ (h : HeldItem K V). h.hash ≡ hash h.item.key)) (sym hot)
-              (each-append (λ (h : HeldItem K V). h.hash ≡ hash h.item.key) v.rest (made ∷ [])
+              (all-append (λ (h : HeldItem K V). h.hash ≡ hash h.item.key) v.rest (made ∷ [])
               under.1 (under.0, tt));
           counted = first.counted;
           same = ap (λ (l : Lists K V P). record mid { lists = l })

@@ -14,11 +14,11 @@ use Rattle.quick_cache_model.proofs.KeyCounts.{keys}
 use Rattle.quick_cache_policy.specs.Rounds.{HaveAtMost, MayRaise, HasVictimFirst, IsLowered, Going}
 use Rattle.quick_cache_policy.specs.Rounds.{Stopped, Passed, AfterTouches, EndsAllPinned}
 use Rattle.quick_cache_policy.specs.Rounds.{EndsSomeUnpinned, EndsAtVictim, MeetsVictim, GivesUp}
-use Rattle.quick_cache_policy.specs.Rounds.{Advancing, KeepsItems}
+use Rattle.quick_cache_policy.specs.Rounds.{KeepsItems}
 use Rattle.quick_cache_policy.proofs.MarkLemmas.{MayRaise-length}
-use Rattle.quick_cache_policy.proofs.EachLemmas.{each-append, each-left, each-right, each-weaker}
-use Rattle.quick_cache_policy.proofs.EachLemmas.{each-mapped}
-use Rattle.quick_cache_policy.proofs.RoundLemmas.{Going-length, rounds-begin, rounds-reach}
+use Rattle.quick_cache_model.proofs.EachElement.{all-append, all-left, all-right, all-weaker}
+use Rattle.quick_cache_policy.proofs.MappedLemmas.{each-mapped}
+use Rattle.quick_cache_policy.proofs.RoundLemmas.{rounds-begin, rounds-reach}
 
 -- One round is an advance of that round alone.
 module _ {K V : Type 0} (steady : Type 0) (pinned : K → V → Bool) where
@@ -38,7 +38,7 @@ module _ {K V : Type 0} (cut : ℕ) (queue : Queue) where
   -- the items of a ring have at most the greatest mark
   pub HaveAtMost-ring : (items : List (Item K V)) → AllByRecursion (IsRingItem cut queue) items
       → HaveAtMost cut items
-  HaveAtMost-ring = each-weaker (IsRingItem cut queue) (λ item. item.mark ≤ cut)
+  HaveAtMost-ring = all-weaker (IsRingItem cut queue) (λ item. item.mark ≤ cut)
       (λ item ring. ring.marked)
 
   -- lowered marks
@@ -90,28 +90,14 @@ module _ {K V : Type 0} (cut : ℕ) (queue : Queue) where
       → AllByRecursion (IsRingItem cut queue) old → AllByRecursion (IsRingItem cut queue) new
   HasVictimFirst-ring old new first ring =
       let whole = subst (λ l. AllByRecursion (IsRingItem cut queue) l) first.split ring in
-      let front = each-left (IsRingItem cut queue) first.before (first.item ∷ first.after) whole in
-      let back = each-right (IsRingItem cut queue) first.before (first.item ∷ first.after) whole in
+      let front = all-left (IsRingItem cut queue) first.before (first.item ∷ first.after) whole in
+      let back = all-right (IsRingItem cut queue) first.before (first.item ∷ first.after) whole in
       subst (λ l. AllByRecursion (IsRingItem cut queue) l) (sym first.turned)
-      (each-append (IsRingItem cut queue)
+      (all-append (IsRingItem cut queue)
       (map (lowered first.rounds) (first.item ∷ first.after))
       (map (lowered (first.rounds + 1)) first.before)
       (map_lowered-ring first.rounds (first.item ∷ first.after) back)
       (map_lowered-ring (first.rounds + 1) first.before front))
-
-  -- the middle of a round
-  pub Going-ring : (steady : Type 0) (pinned : K → V → Bool) (takes_touches : Bool)
-      (may_count : ℕ → Type 0) (old : List (Item K V)) (visited : ℕ) (unpinned : Bool)
-      (now : List (Item K V))
-      → Going steady pinned takes_touches cut may_count old visited unpinned now
-      → AllByRecursion (IsRingItem cut queue) old → AllByRecursion (IsRingItem cut queue) now
-  Going-ring steady pinned takes_touches may_count old visited unpinned now g ring =
-      let whole = subst (λ l. AllByRecursion (IsRingItem cut queue) l) g.split ring in
-      let front = each-left (IsRingItem cut queue) g.done g.rest whole in
-      let raised = MayRaise-ring takes_touches may_count g.done g.raised g.raises front in
-      subst (λ l. AllByRecursion (IsRingItem cut queue) l) (sym g.now_is)
-      (each-append (IsRingItem cut queue) g.rest (map (lowered 1) g.raised)
-      (each-right (IsRingItem cut queue) g.done g.rest whole) (map_lowered-ring 1 g.raised raised))
 
 -- Sums over the items of what is not the mark.
 module _ {K V : Type 0} (f : Item K V → ℕ)
@@ -342,21 +328,6 @@ module _ {K V : Type 0} (cut : ℕ) where
 
   module _ (steady : Type 0) (pinned : K → V → Bool) (takes_touches : Bool)
       (may_count : ℕ → Type 0) (old new : List (Item K V)) (visits : ℕ) where
-    -- the middle of a round
-    pub Going-keeps : (unpinned : Bool)
-        → Going steady pinned takes_touches cut may_count old visits unpinned new
-        → KeepsItems cut old new
-    Going-keeps unpinned g = record {
-      ring = λ queue. Going-ring cut queue steady pinned takes_touches may_count old visits
-          unpinned new g;
-      same_keys = λ test. Going-keys test steady pinned takes_touches cut may_count old visits
-          unpinned new g;
-      same_weight = Going-weight steady pinned takes_touches cut may_count old visits
-          unpinned new g;
-      same_length = Going-length steady pinned takes_touches cut may_count old visits
-          unpinned new g;
-    }
-
     -- the three ends of a round
     pub EndsAllPinned-keeps : AfterTouches takes_touches cut may_count old
         (λ mid. EndsAllPinned steady pinned mid new visits) → KeepsItems cut old new
@@ -388,11 +359,3 @@ module _ {K V : Type 0} (cut : ℕ) where
     GivesUp-keeps a = KeepsItems-trans old a.mid new
         (MayRaise-keeps takes_touches may_count old a.mid a.raises)
         (IsLowered-keeps a.mid new a.holds.is_lowered)
-
-    -- between two rounds of a whole advance
-    pub Advancing-keeps : Advancing steady pinned takes_touches cut may_count old new visits
-        → KeepsItems cut old new
-    Advancing-keeps a = KeepsItems-trans old a.mid new
-        (MayRaise-keeps true may_count old a.mid a.raises)
-        (IsLowered-keeps a.mid new
-        (record { rounds = a.rounds.rounds; lowers = a.rounds.lowers }))

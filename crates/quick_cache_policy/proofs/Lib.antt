@@ -1,4 +1,4 @@
-pub mod EachLemmas
+pub mod MappedLemmas
 pub mod MarkLemmas
 pub mod SeenLemmas
 pub mod RoundLemmas

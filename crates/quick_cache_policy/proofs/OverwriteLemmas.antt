@@ -1,19 +1,18 @@
 -- A pair over a ghost, over a placeholder and over an item: the lists are the state that the write
 -- leads to before room is made, but for the order of what has none, and stay sound.
-use Rattle.std.proofs.Common.{◌≡◌, ℕ, ◌+◌, ◌*◌, ◌≤◌, Bool, true, false, List, [], ◌∷◌, ◌++◌, map, length, Option, None, refl, sym, ap, subst, ◌∙◌, arith}
+use Rattle.std.proofs.Common.{◌≡◌, ℕ, ◌+◌, ◌≤◌, Bool, false, List, ◌++◌, length, None, refl, sym, ap, subst, ◌∙◌, arith}
 use Rattle.std.specs.Cmp.{IsEquivalence}
 use Rattle.std.proofs.lemmas.List.{map-append}
-use Rattle.quick_cache_model.specs.CacheState.{CacheState, Item, LoadingEntry, SameButOrder, UpToOrder, IsValid, keys_by}
+use Rattle.quick_cache_model.specs.CacheState.{CacheState, Item, LoadingEntry, SameButOrder, UpToOrder, keys_by}
 use Rattle.quick_cache_model.specs.declared.queue.Queue.TheVariants.{Hot}
-use Rattle.quick_cache_model.specs.CacheState.{entered as model_entered, rewritten}
-use Rattle.quick_cache_model.specs.Finding.{IsItemAt, IsLoadingAt, IsGhostAt}
-use Rattle.quick_cache_model.specs.Hooks.{Rules, HookCall, evicted}
+use Rattle.quick_cache_model.specs.CacheState.{entered as model_entered}
+use Rattle.quick_cache_model.specs.Finding.{IsLoadingAt, IsGhostAt}
+use Rattle.quick_cache_model.specs.Hooks.{Rules, HookCall}
 use Rattle.quick_cache_model.specs.Eviction.{EvictsToCapacity}
-use Rattle.quick_cache_model.specs.Writes.{Strategy, Insert, WritesAdmitted, new_item, mark_after}
-use Rattle.quick_cache_model.specs.Touches.{TakesTouches, first_mark}
+use Rattle.quick_cache_model.specs.Writes.{Insert, WritesAdmitted, new_item}
 use Rattle.quick_cache_model.proofs.Eviction.Keys.{keys_by-none}
 use Rattle.quick_cache_model.proofs.OrderLaws.{EvictsToCapacity-reordered, UpToOrder-map, UpToOrder-reordered}
-use Rattle.quick_cache_model.proofs.Valid.Edits.{entered-valid, without_ghost-valid, unloaded-valid, keys_by-unloaded, keys_by-taken, rewritten-valid}
+use Rattle.quick_cache_model.proofs.Valid.Edits.{entered-valid, without_ghost-valid, unloaded-valid, keys_by-unloaded, keys_by-taken}
 use Rattle.quick_cache_model.proofs.Valid.Orders.{SameButOrder-valid}
 use Rattle.std.specs.List.{AllByRecursion}
 use Rattle.quick_cache_model.proofs.EachElement.{all-without}

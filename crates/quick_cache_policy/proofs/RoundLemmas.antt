@@ -11,8 +11,8 @@ use Rattle.quick_cache_policy.specs.Rounds.{HaveAtMost, MayTake, MayRaise, After
 use Rattle.quick_cache_policy.specs.Rounds.{Stopped, EndsAllPinned, EndsSomeUnpinned, EndsAtVictim}
 use Rattle.quick_cache_policy.specs.Rounds.{Seen, Going, Rounds, IsMet, NoneUnpinned}
 use Rattle.quick_cache_policy.specs.Rounds.{HasVictimFirst, IsLowered}
-use Rattle.quick_cache_policy.proofs.EachLemmas.{each-right, each-weaker}
-use Rattle.quick_cache_policy.proofs.EachLemmas.{each-mapped, each-unmapped, map-split}
+use Rattle.quick_cache_model.proofs.EachElement.{all-right, all-weaker}
+use Rattle.quick_cache_policy.proofs.MappedLemmas.{each-mapped, each-unmapped, map-split}
 use Rattle.quick_cache_policy.proofs.SeenLemmas.{seen-begins, seen-pinned, seen-marked}
 use Rattle.quick_cache_policy.proofs.MarkLemmas.{lowered-none, lowered-twice, lowered-all}
 use Rattle.quick_cache_policy.proofs.MarkLemmas.{MayRaise-append, MayRaise-length, MayRaise-same}
@@ -345,7 +345,7 @@ module _ {K V : Type 0} (steady : Type 0) (pinned : K → V → Bool) where
       let item = u.v_of in
       let unpinned : IsUnpinned pinned item =
       sym (ap (λ (i : Item K V). pinned i.key i.value) u.middle) ∙ stopped.unpinned s in
-      let here = each-right (λ i. IsUnpinned pinned i → r.rounds ≤ i.mark) u.before_of
+      let here = all-right (λ i. IsUnpinned pinned i → r.rounds ≤ i.mark) u.before_of
       (item ∷ u.after_of) (subst (HaveMarks pinned r.rounds) u.split (r.passes s)) in
       let is : item.mark ≡ r.rounds =
       omega (arith, ap (λ (i : Item K V). i.mark) u.middle, stopped.unmarked, here.0 unpinned) in
@@ -361,11 +361,11 @@ module _ {K V : Type 0} (steady : Type 0) (pinned : K → V → Bool) where
         split = u.split;
         is_victim = record {
           unpinned = unpinned;
-          earlier = each-weaker (λ i. IsUnpinned pinned i → r.rounds + 1 ≤ i.mark)
+          earlier = all-weaker (λ i. IsUnpinned pinned i → r.rounds + 1 ≤ i.mark)
               (λ i. IsUnpinned pinned i → item.mark < i.mark)
               (λ i h p. let above : r.rounds + 1 ≤ i.mark = h p in omega (arith, is, above))
               u.before_of front;
-          later = each-weaker (λ i. IsUnpinned pinned i → r.rounds ≤ i.mark)
+          later = all-weaker (λ i. IsUnpinned pinned i → r.rounds ≤ i.mark)
               (λ i. IsUnpinned pinned i → item.mark ≤ i.mark)
               (λ i h p. let above : r.rounds ≤ i.mark = h p in omega (arith, is, above))
               u.after_of here.1;

@@ -1,6 +1,6 @@
 -- How much work was done: the counts of advances and of visits, one step after another.
-use Rattle.std.proofs.Common.{◌≡◌, ℕ, ◌+◌, ◌*◌, ◌^◌, ◌<◌, ◌≤◌, arith, ap, ◌∙◌}
-use Rattle.std.proofs.Math.Nat.{mul-le-mul_left, mul-le-mul_right}
+use Rattle.std.proofs.Common.{◌≡◌, ℕ, ◌+◌, ◌*◌, ◌^◌, ◌<◌, ◌≤◌, arith, ap}
+use Rattle.std.proofs.Math.Nat.{mul-le-mul_right}
 use Rattle.quick_cache_policy.specs.Work.{Work, DoesMore, PaysFor}
 
 -- nothing more was done
@@ -50,22 +50,6 @@ PaysFor-then extra more hot cold hot1 cold1 hot2 cold2 old mid new first second 
       members = omega (arith, first.members, second.members);
       paid = omega (arith, first.paid, second.paid);
       visited = omega (arith, each, both, first.visited, second.visited);
-    }
-
--- a promotion pays for the advance that answers no after it
-pub PaysFor-promoted : (hot cold hot1 cold1 hot2 cold2 : ℕ) (old new : Work) → hot1 ≡ hot + 1
-    → cold1 + 1 ≡ cold → PaysFor 1 hot1 cold1 hot2 cold2 old new
-    → PaysFor 0 hot cold hot2 cold2 old new
-PaysFor-promoted hot cold hot1 cold1 hot2 cold2 old new more fewer pays =
-    let same : 3 * (hot1 + cold1) * pays.advances ≡ 3 * (hot + cold) * pays.advances =
-    ap (λ n. 3 * n * pays.advances) (omega (arith, more, fewer)) in
-    record {
-      advances = pays.advances;
-      visits = pays.visits;
-      does = pays.does;
-      members = omega (arith, pays.members, more, fewer);
-      paid = omega (arith, pays.paid, more, fewer);
-      visited = omega (arith, pays.visited, same);
     }
 
 -- a cold item that left is no work

@@ -18,8 +18,8 @@ pub record DoesMore (advances visits : ℕ) (old new : Work) : Type 0 where
   pub visits_are : new.visits ≡ counted_up visits old.visits
 
 -- From so many hot and cold items to so many. Each hot advance but `extra` of them is paid for by
--- what the number of hot items and twice that of cold ones lose, and each makes at most three visits
--- to each item.
+-- what the number of hot items and twice that of cold ones lose, and each makes at most three
+-- visits to each item.
 pub record PaysFor (extra : ℕ) (old_hot old_cold new_hot new_cold : ℕ) (old new : Work)
     : Type 0 where
   pub advances : ℕ

@@ -42,24 +42,26 @@ pub data AreAdmittedCalls {K V : Type 0} : List (HookCall K V) → Type 0 where
   writes : (replaced rest : List (HookCall K V)) → IsReplacement replaced → AreEvictions rest
       → AreAdmittedCalls (replaced ++ rest)
 
--- The calls of a write, in their order: `before_evict` for the pair itself, where it is too heavy;
--- then the item that it takes the place of; and then the victims, or the pair itself where it is
--- turned away.
-pub data AreWriteCalls {K V : Type 0} : List (HookCall K V) → Type 0 where
-  admits : (rest : List (HookCall K V)) → AreAdmittedCalls rest → AreWriteCalls rest
-  lightens : (key : K) (value left : V) (rest : List (HookCall K V)) → AreAdmittedCalls rest
-      → AreWriteCalls (BeforeEvict key value left ∷ rest)
-  rejects : (key : K) (value left : V) (replaced : List (HookCall K V)) → IsReplacement replaced
-      → AreWriteCalls (BeforeEvict key value left ∷ replaced ++ EvictCold key left ∷ [])
-  gives_back : (key : K) (value left : V) (replaced : List (HookCall K V)) → IsReplacement replaced
-      → AreWriteCalls (BeforeEvict key value left ∷ replaced)
+-- The calls of a write of a pair, in their order: `before_evict` for that pair, where it is too
+-- heavy; then the item that it takes the place of; and then the victims, or the pair with the value
+-- that was left, where it is turned away.
+pub data AreWriteCalls {K V : Type 0} (key : K) (value : V) : List (HookCall K V) → Type 0 where
+  admits : (rest : List (HookCall K V)) → AreAdmittedCalls rest → AreWriteCalls key value rest
+  lightens : (left : V) (rest : List (HookCall K V)) → AreAdmittedCalls rest
+      → AreWriteCalls key value (BeforeEvict key value left ∷ rest)
+  rejects : (left : V) (replaced : List (HookCall K V)) → IsReplacement replaced
+      → AreWriteCalls key value (BeforeEvict key value left ∷ replaced ++ EvictCold key left ∷ [])
+  gives_back : (left : V) (replaced : List (HookCall K V)) → IsReplacement replaced
+      → AreWriteCalls key value (BeforeEvict key value left ∷ replaced)
 
 module _ {K V : Type 0} where
-  -- The calls are those of a write. Where pinning is steady, they are those of a step to this state,
-  -- up to the order of what has none.
-  abbrev pub Writing : (steady : Type 0) → (step : List (HookCall K V) → CacheState K V → Type 0)
+  -- The calls are those of a write of the pair. Where pinning is steady, they are those of a step
+  -- to this state, up to the order of what has none.
+  abbrev pub Writing : (steady : Type 0) → (key : K) → (value : V)
+      → (step : List (HookCall K V) → CacheState K V → Type 0)
       → (new : CacheState K V) → List (HookCall K V) → Type 0
-  Writing steady step new calls = (steady → UpToOrder (step calls) new) × AreWriteCalls calls
+  Writing steady key value step new calls =
+      (steady → UpToOrder (step calls) new) × AreWriteCalls key value calls
 
   -- the same of the write of a pair that was admitted
   abbrev pub WritingAdmitted : (steady : Type 0)
@@ -68,14 +70,14 @@ module _ {K V : Type 0} where
   WritingAdmitted steady step new calls =
       (steady → UpToOrder (step calls) new) × AreAdmittedCalls calls
 
--- A pair that is too heavy was turned away, after `before_evict` left this value: the item under its
--- key leaves, and an insert tells the pair to the cold hook.
+-- A pair that is too heavy was turned away, after `before_evict` left this value: the item under
+-- its key leaves, and an insert tells the pair to the cold hook.
 abbrev pub Rejecting : {K V : Type 0} → (equal_to : K → Bool) → (key : K) → Strategy
     → (old : CacheState K V) → (left : V) → Option (K × V) → (new : CacheState K V)
     → List (HookCall K V) → Type 0
 Rejecting {V = V} equal_to key strategy old left answer new calls =
     RejectsTooHeavy equal_to key strategy old left calls answer new
-    × ((value : V) → AreWriteCalls (BeforeEvict key value left ∷ calls))
+    × ((value : V) → AreWriteCalls key value (BeforeEvict key value left ∷ calls))
 
 module _ {K V : Type 0} (steady : Type 0) (rules : Rules K V) (hot_target : ℕ) (key : K)
     (value : V) where
@@ -101,8 +103,9 @@ module _ {K V S : Type 0} (steady : Type 0) (hooks : Hooks K V S) (rules : Rules
   pub record Wrote (answer : Option (K × V)) (new : CacheState K V) (last : S) : Type 0 where
     pub provided : IsProvided needs old
     pub step : Calls hooks
-        (Writing steady (λ calls now. Writes rules (equal key) key strategy old value calls answer now)
-        new) first last
+        (Writing steady key value
+        (λ calls now. Writes rules (equal key) key strategy old value calls answer now) new)
+        first last
 
   -- a refused write changed nothing, called no hook, and gives the pair back
   pub record RefusesWrite (back_key : K) (back_value : V) (refusal : Refusal) (new : CacheState K V)

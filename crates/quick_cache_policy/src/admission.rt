@@ -1,9 +1,8 @@
 //! Whether a pair may come in at all, and what becomes of one that may not.
-ghost use Rattle.std.specs.Prelude.{◌≡◌, ℕ, ◌≤◌, [], ◌∷◌, None, true};
-ghost use Rattle.std.specs.Int.NonZero.{non_zero_u32_get as number};
-ghost use Rattle.quick_cache_lists.specs.Lists.{Finds, HasItemToken};
+ghost use Rattle.std.specs.Prelude.{◌≡◌, ◌≤◌, [], ◌∷◌, None, true};
+ghost use Rattle.quick_cache_lists.specs.Lists.{Finds};
 ghost use Rattle.quick_cache_model.specs.Hooks.{Calls, RunsHooks, evicted};
-ghost use Rattle.quick_cache_model.specs.Writes.{TakesOutItem, RejectsTooHeavy};
+ghost use Rattle.quick_cache_model.specs.Writes.{TakesOutItem};
 ghost use Rattle.quick_cache_policy.specs.Contents.{IsSound, state_of};
 ghost use Rattle.quick_cache_policy.specs.Policies.{rules_by};
 ghost use Rattle.quick_cache_policy.specs.Writing.{strategy_of, is_insert, Checks, IsReplacement, Rejecting};
@@ -113,8 +112,8 @@ impl<K: Eq + Hash + Drop, V: Drop, P: SharedPlaceholder<K>, A: Allocator> Conten
         }
     }
 
-    /// Turns away a pair that is too heavy, with the item under its key: an insert tells the pair to
-    /// the cold hook, a replace gives it back.
+    /// Turns away a pair that is too heavy, with the item under its key: an insert tells the pair
+    /// to the cold hook, a replace gives it back.
     pub(crate) fn reject_too_heavy<M: Policy<K, V>>(
         &mut self,
         found: Found,

@@ -1,6 +1,5 @@
 //! The lists and the numbers of a cache.
-ghost use Rattle.std.specs.Prelude.{◌≡◌, ℕ, IfOk, IfErr, IsOk, OnOk, ◌≤◌, ◌+◌, ◌-◌, min, length};
-ghost use Rattle.quick_cache_lists.specs.Lists.{no_lists};
+ghost use Rattle.std.specs.Prelude.{◌≡◌, ℕ, IfOk, IfErr, IsOk, OnOk, ◌≤◌, ◌+◌, ◌-◌, min};
 ghost use Rattle.quick_cache_model.specs.CacheState.{empty_state};
 ghost use Rattle.quick_cache_model.specs.Refusals.{slot_count, slots_taken};
 ghost use Rattle.quick_cache_model.specs.declared.refusal.Refusal.TheVariants.{Memory};

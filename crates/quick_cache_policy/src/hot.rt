@@ -1,6 +1,6 @@
 //! Hot advances: items are visited from the head of the hot ring, round and round, and pay a mark
 //! each time, up to the first that is not pinned and has no mark to pay.
-ghost use Rattle.std.specs.Prelude.{◌≡◌, ℕ, ◌+◌, ◌<◌, ◌≤◌, Bool, if◌then◌else◌};
+ghost use Rattle.std.specs.Prelude.{◌≡◌, ◌+◌, ◌<◌, ◌≤◌, Bool, if◌then◌else◌};
 ghost use Rattle.std.specs.Int.NonZero.{non_zero_u32_get as number};
 ghost use Rattle.quick_cache_lists.specs.Lists.{HasItemToken};
 ghost use Rattle.quick_cache_model.specs.CacheState.{keys_by};
@@ -13,7 +13,7 @@ ghost use Rattle.quick_cache_policy.specs.Policies.{rules_by};
 ghost use Rattle.quick_cache_policy.specs.Work.{PaysFor};
 
 use crate::contents::Contents;
-use crate::placeholder::{SharedPlaceholder, Touches};
+use crate::placeholder::SharedPlaceholder;
 use crate::policy::Policy;
 use quick_cache_model::{Queue, Token};
 use std::alloc::Allocator;

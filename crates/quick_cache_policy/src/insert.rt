@@ -1,5 +1,5 @@
 //! Writes: inserts and replaces.
-ghost use Rattle.std.specs.Prelude.{◌≡◌, ℕ, ◌+◌, ◌≤◌, ◌<◌, None, Some, IfErr, IsSome, true};
+ghost use Rattle.std.specs.Prelude.{◌≡◌, ◌+◌, ◌≤◌, ◌<◌, None, Some, IfErr, IsSome, true};
 ghost use Rattle.quick_cache_lists.specs.Lists.{Finds, entry_count};
 ghost use Rattle.quick_cache_model.specs.Hooks.{Calls};
 ghost use Rattle.quick_cache_model.specs.Writes.{WritesAdmitted, Writes, Insert};
@@ -12,7 +12,7 @@ ghost use Rattle.quick_cache_policy.specs.Writing.{strategy_of, is_insert, Writi
 
 use crate::admission::{Admission, Weighed};
 use crate::contents::Contents;
-use crate::placeholder::{SharedPlaceholder, Touches};
+use crate::placeholder::SharedPlaceholder;
 use crate::policy::Policy;
 use crate::strategy::InsertStrategy;
 use quick_cache_lists::{Entry, Found, Resident};
@@ -43,7 +43,8 @@ impl<K: Eq + Hash + Drop, V: Drop, P: SharedPlaceholder<K>, A: Allocator> Conten
         self.lists.make_room().err()
     }
 
-    /// Inserts a pair under a key of which nothing is known. Its ring is chosen before room is made.
+    /// Inserts a pair under a key of which nothing is known. Its ring is chosen before room is
+    /// made.
     fn insert_new<M: Policy<K, V>>(
         &mut self,
         terms: &M,
@@ -105,8 +106,8 @@ impl<K: Eq + Hash + Drop, V: Drop, P: SharedPlaceholder<K>, A: Allocator> Conten
         ensures writes { Calls (M.hooks terms.now)
             (WritingAdmitted (M.steady terms.now)
             (λ calls. WritesAdmitted (rules_by M.Policy P.Touch.may_count terms.now)
-            (K.eq key) key (strategy_of strategy) (state_of P.ticket_of self.old) weighed.value calls
-            result)
+            (K.eq key) key (strategy_of strategy) (state_of P.ticket_of self.old) weighed.value
+            calls result)
             (state_of P.ticket_of self.new))
             state.old state.new }
         // An insert takes the pair.
@@ -170,9 +171,10 @@ impl<K: Eq + Hash + Drop, V: Drop, P: SharedPlaceholder<K>, A: Allocator> Conten
         requires found { Finds (K.eq key) hash self.old.lists found }
         requires room { TakesSlot found (strategy_of strategy) → 0 < self.old.lists.room }
         ensures writes { Calls (M.hooks terms.now)
-            (Writing (M.steady terms.now)
+            (Writing (M.steady terms.now) key value
             (λ calls. Writes (rules_by M.Policy P.Touch.may_count terms.now)
-            (K.eq key) key (strategy_of strategy) (state_of P.ticket_of self.old) value calls result)
+            (K.eq key) key (strategy_of strategy) (state_of P.ticket_of self.old) value
+            calls result)
             (state_of P.ticket_of self.new))
             state.old state.new }
         // An insert takes the pair.

@@ -1,7 +1,7 @@
 //! What a cache does: which entries leave, how room is made for others, and who is told.
 //!
-//! It works on the lists of `quick_cache_lists` and names no slot and no link. A cache's numbers and
-//! lists are its `Contents`, whose methods are the steps of a call; what the cache goes by is a
+//! It works on the lists of `quick_cache_lists` and names no slot and no link. A cache's numbers
+//! and lists are its `Contents`, whose methods are the steps of a call; what the cache goes by is a
 //! `Policy`.
 #![tactic(auto)]
 

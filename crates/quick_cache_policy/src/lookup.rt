@@ -43,8 +43,8 @@ impl<K: Eq + Hash, V, P: SharedPlaceholder<K>, A: Allocator> Contents<K, V, P, A
         Some(token)
     }
 
-    /// Takes out the item under the query, and gives its pair, or the placeholder, or a ghost of its
-    /// hash.
+    /// Takes out the item under the query, and gives its pair, or the placeholder, or a ghost of
+    /// its hash.
     pub fn remove<Q: Equivalent<K>>(&mut self, hash: u64, query: &Q) -> Option<(K, V)>
     where
         K: Drop,

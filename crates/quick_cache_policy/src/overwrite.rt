@@ -1,5 +1,5 @@
 //! A pair over what stands under its key: an item, a placeholder, or a ghost of its hash.
-ghost use Rattle.std.specs.Prelude.{◌≡◌, ℕ, ◌+◌, ◌≤◌, None};
+ghost use Rattle.std.specs.Prelude.{◌≡◌, ◌+◌, ◌≤◌, None};
 ghost use Rattle.quick_cache_lists.specs.Lists.{Finds};
 ghost use Rattle.quick_cache_model.specs.Hooks.{Calls};
 ghost use Rattle.quick_cache_model.specs.Writes.{WritesAdmitted, Insert};
@@ -11,7 +11,7 @@ ghost use Rattle.quick_cache_policy.specs.Writing.{strategy_of, WritingAdmitted}
 use crate::admission::{Weighed, report};
 use crate::contents::Contents;
 use crate::hot::MARK_CUT;
-use crate::placeholder::{SharedPlaceholder, Touches};
+use crate::placeholder::SharedPlaceholder;
 use crate::policy::Policy;
 use crate::strategy::InsertStrategy;
 use quick_cache_lists::{Entry, Found, Resident};
@@ -39,8 +39,8 @@ impl<K: Eq + Hash + Drop, V: Drop, P: SharedPlaceholder<K>, A: Allocator> Conten
         ensures writes { Calls (M.hooks terms.now)
             (WritingAdmitted (M.steady terms.now)
             (λ calls. WritesAdmitted (rules_by M.Policy P.Touch.may_count terms.now)
-            (K.eq key) key (strategy_of strategy) (state_of P.ticket_of self.old) weighed.value calls
-            None)
+            (K.eq key) key (strategy_of strategy) (state_of P.ticket_of self.old) weighed.value
+            calls None)
             (state_of P.ticket_of self.new))
             state.old state.new }
         ensures sound { IsSound P.ticket_of K.eq (M.hashed terms.now) self.new }
@@ -63,10 +63,8 @@ impl<K: Eq + Hash + Drop, V: Drop, P: SharedPlaceholder<K>, A: Allocator> Conten
             .min(u64::from(MARK_CUT)) as u8;
         let mark = strategy.mark_after(touched);
         let Weighed { value, weight } = weighed;
-        // The touches were taken in, so the count of them begins anew, whatever it begins with.
-        let mut touch = P::Touch::default();
-        let _ = touch.take();
-        let item = Resident::new(key, value, weight, mark, queue, touch);
+        // It goes on with the old item's counter, which was emptied.
+        let item = Resident::new(key, value, weight, mark, queue, P::Touch::default());
         let (old_key, old_value) = self.lists.rewrite(token, item).into_pair();
         report(queue, terms, state, old_key, old_value);
         self.evict_to_capacity(0, terms, state);
@@ -110,7 +108,8 @@ impl<K: Eq + Hash + Drop, V: Drop, P: SharedPlaceholder<K>, A: Allocator> Conten
         self.evict_to_capacity(0, terms, state);
     }
 
-    /// Inserts a pair over the placeholder of its key: it takes the placeholder's queue, and a mark.
+    /// Inserts a pair over the placeholder of its key: it takes the placeholder's queue, and a
+    /// mark.
     pub(crate) fn insert_over_loading<M: Policy<K, V>>(
         &mut self,
         token: Token,

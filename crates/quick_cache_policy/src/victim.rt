@@ -1,5 +1,5 @@
 //! The items that leave a ring.
-ghost use Rattle.std.specs.Prelude.{◌≡◌, ◌≢◌, ℕ, ◌+◌, ◌-◌, ◌<◌, ◌≤◌, Some, length, drop};
+ghost use Rattle.std.specs.Prelude.{◌≡◌, ◌≢◌, ◌+◌, ◌-◌, ◌<◌, ◌≤◌, Some, length, drop};
 ghost use Rattle.quick_cache_lists.specs.Lists.{IsFirstOf};
 ghost use Rattle.quick_cache_lists.specs.Views.{hashes_of};
 ghost use Rattle.quick_cache_model.specs.Hooks.{Calls};
@@ -40,8 +40,9 @@ fn decide<K: Eq + Hash, V, T: Touches, M: Policy<K, V>>(
 }
 
 impl<K: Eq + Hash + Drop, V: Drop, P: SharedPlaceholder<K>, A: Allocator> Contents<K, V, P, A> {
-    /// Lets the first item of a ring go. `before_evict` may change its value, which is then weighed:
-    /// of weight 0 it stays, beside the rings; else it leaves, and a cold one leaves a ghost.
+    /// Lets the first item of a ring go. `before_evict` may change its value, which is then
+    /// weighed: of weight 0 it stays, beside the rings; else it leaves, and a cold one leaves a
+    /// ghost.
     pub(crate) fn evict_first<M: Policy<K, V>>(
         &mut self,
         queue: Queue,

@@ -6,7 +6,7 @@ use Rattle.quick_cache_policy.specs.Contents.{IsSound, state_of, work_of}
 use Rattle.quick_cache_shard.specs.Shard.{Shard, IsSoundShard}
 use Rattle.quick_cache_policy.specs.declared.contents.Contents.{Contents}
 use Rattle.quick_cache_lists.specs.Lists.{HeldItem, HeldLoading}
-use Rattle.quick_cache_policy.proofs.EachLemmas.{each-weaker}
+use Rattle.quick_cache_model.proofs.EachElement.{all-weaker}
 use Rattle.quick_cache_policy.proofs.AnswerLemmas.{entry_count-taken}
 
 module _ {K V P A T We B L : Type 0} (ticket_of : P → ℕ) (equal : K → K → Bool) (hash : K → ℕ)
@@ -56,10 +56,10 @@ IsSound-alike {K} {V} {P} ticket_of equal hash other contents alike sound =
       valid = sound.valid;
       sized = sound.sized;
       hashed = record {
-        hot = each-weaker P Q item contents.lists.hot sound.hashed.hot;
-        cold = each-weaker P Q item contents.lists.cold sound.hashed.cold;
-        still = each-weaker P Q item contents.lists.still sound.hashed.still;
-        loading = each-weaker (λ waiting. waiting.hash ≡ hash waiting.key)
+        hot = all-weaker P Q item contents.lists.hot sound.hashed.hot;
+        cold = all-weaker P Q item contents.lists.cold sound.hashed.cold;
+        still = all-weaker P Q item contents.lists.still sound.hashed.still;
+        loading = all-weaker (λ waiting. waiting.hash ≡ hash waiting.key)
             (λ waiting. waiting.hash ≡ other waiting.key)
             (λ waiting is. is ∙ sym (alike waiting.key)) contents.lists.loading
             sound.hashed.loading;

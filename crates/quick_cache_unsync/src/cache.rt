@@ -80,6 +80,41 @@ impl<K: Eq + Hash, V, A: Allocator> Cache<
     }
 }
 
+impl<K: Eq + Hash, V, We, A: Allocator> Cache<
+    K,
+    V,
+    We,
+    DefaultHashBuilder,
+    DefaultLifecycle<K, V>,
+    A,
+> {
+    /// An empty cache that is made for so many items and may hold so much weight, by that weigher,
+    /// with all other defaults. It allocates nothing.
+    ///
+    /// # Errors
+    ///
+    /// `Memory` where the allocator could not be cloned.
+    pub fn with_weighter(alloc: A, items: usize, weight: u64, weigher: We) -> Result<Self, Refusal>
+    where
+        A: Clone,
+        We: Drop,
+        ensures makes { IfOk result (λ cache. cache ≡ record {
+          state = empty_state weight (hot_target_of weight default_hot_share)
+              (ghost_limit_of items default_ghost_share);
+          weigher = weigher;
+          builder = cache.builder;
+          lifecycle = cache.lifecycle;
+          room = 0;
+          work = no_work;
+        }) }
+        ensures succeeds { A.is_infallible alloc → IsOk result }
+        ensures refused { IfErr result (λ refusal. refusal ≡ Memory) }
+    {
+        let (builder, lifecycle) = (DefaultHashBuilder::new(), DefaultLifecycle::new());
+        Cache::with(alloc, items, weight, weigher, builder, lifecycle)
+    }
+}
+
 impl<K: Eq + Hash, V, We, B: BuildHasher, L, A: Allocator> Cache<K, V, We, B, L, A> {
     ghost use Rattle.quick_cache_unsync.specs.Lent.{ends_so};
 

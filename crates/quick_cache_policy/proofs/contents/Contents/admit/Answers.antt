@@ -1,4 +1,4 @@
-use Rattle.std.proofs.Common.{◌≡◌, [], ◌∷◌, refl, sym, ◌∙◌, inl, inr, arith}
+use Rattle.std.proofs.Common.{[], ◌∷◌, refl, sym, ◌∙◌, inl, inr, arith}
 use Rattle.quick_cache_model.specs.Admission.{ChecksAdmission}
 use Rattle.quick_cache_model.specs.Hooks.{BeforeEvict}
 use Rattle.quick_cache_policy.proofs.contents.Contents.admit.Goals as goal

@@ -1,10 +1,9 @@
-use Rattle.std.proofs.Common.{◌≡◌, ℕ, ◌+◌, List, [], ◌∷◌, refl, sym, ap, subst, ◌∙◌, inl, inr, arith}
+use Rattle.std.proofs.Common.{ℕ, [], refl, sym, ap, subst, ◌∙◌, inr}
 use Rattle.std.specs.Int.NonZero.{non_zero_u32_get as number}
 use Rattle.quick_cache_model.specs.declared.queue.Queue.TheVariants.{Hot}
 use Rattle.quick_cache_model.specs.CacheState.{Item}
 use Rattle.quick_cache_lists.specs.Lists.{Finds}
 use Rattle.quick_cache_lists.specs.declared.found.Found.TheVariants.{Ghost as found_ghost}
-use Rattle.quick_cache_policy.specs.Contents.{work_of}
 use Rattle.quick_cache_policy.specs.Policies.{rules_by}
 use Rattle.quick_cache_policy.specs.Writing.{AreAdmittedCalls, IsReplacement}
 use Rattle.quick_cache_policy.proofs.OverwriteLemmas.{over_ghost-writes, over_ghost-sound, over_ghost-count}

@@ -1,6 +1,5 @@
-use Rattle.std.proofs.Common.{◌≡◌, ℕ, ◌+◌, List, [], ◌∷◌, refl, sym, ap, subst, ◌∙◌, inl, inr, arith}
+use Rattle.std.proofs.Common.{[], ap, subst, ◌∙◌, inl, inr}
 use Rattle.std.specs.Int.NonZero.{non_zero_u32_get as number}
-use Rattle.quick_cache_model.specs.declared.queue.Queue.{Queue}
 use Rattle.quick_cache_model.specs.CacheState.{Item}
 use Rattle.quick_cache_lists.specs.Lists.{Finds}
 use Rattle.quick_cache_lists.specs.declared.found.Found.TheVariants.{Loading as found_loading}

@@ -1,5 +1,5 @@
 use Rattle.std.proofs.Common.{subst, sym}
-use Rattle.quick_cache_lists.specs.Lists.{Lists, no_lists}
+use Rattle.quick_cache_lists.specs.Lists.{Lists}
 use Rattle.quick_cache_model.proofs.Valid.States.{empty_state-valid}
 use Rattle.quick_cache_policy.specs.Contents.{IsSound}
 use Rattle.quick_cache_policy.proofs.contents.Contents.new.Goals as goal

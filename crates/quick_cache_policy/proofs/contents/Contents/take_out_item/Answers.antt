@@ -1,4 +1,4 @@
-use Rattle.std.proofs.Common.{◌≡◌, ℕ, [], ◌∷◌, refl, sym, ap, subst, ◌∙◌, inl, arith}
+use Rattle.std.proofs.Common.{[], ◌∷◌, refl, sym, ap, subst, ◌∙◌, inl, arith}
 use Rattle.std.specs.Int.NonZero.{non_zero_u32_get as number}
 use Rattle.quick_cache_model.specs.declared.queue.Queue.{Queue}
 use Rattle.quick_cache_model.specs.CacheState.{Item}
@@ -6,7 +6,7 @@ use Rattle.quick_cache_model.specs.Hooks.{RunsHooks, evicted}
 use Rattle.quick_cache_model.specs.Writes.{TakesOutItem, was_absent}
 use Rattle.quick_cache_lists.specs.Lists.{Finds}
 use Rattle.quick_cache_policy.specs.Contents.{IsSound, state_of}
-use Rattle.quick_cache_policy.specs.Writing.{IsReplacement, none, one}
+use Rattle.quick_cache_policy.specs.Writing.{none, one}
 use Rattle.quick_cache_policy.proofs.FindLemmas.{AreHashed-under}
 use Rattle.quick_cache_policy.proofs.AdmissionLemmas.{Finds-no_item, FindsItem-leaves, FindsItem-item, FindsItem-loading, FindsItem-ghost, LeavesItem-takes, LeavesItem-sound}
 use Rattle.quick_cache_policy.proofs.contents.Contents.take_out_item.Goals as goal

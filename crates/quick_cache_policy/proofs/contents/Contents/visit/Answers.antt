@@ -1,4 +1,4 @@
-use Rattle.std.proofs.Common.{◌-◌, ◌∙◌, true, false, sym, ap, ap₂, arith}
+use Rattle.std.proofs.Common.{◌-◌, ◌∙◌, sym, ap, ap₂, arith}
 use Rattle.quick_cache_policy.proofs.HotLemmas.{IsVisited-by}
 use Rattle.quick_cache_policy.proofs.contents.Contents.visit.Goals as goal
 

@@ -4,7 +4,8 @@ use Rattle.quick_cache_policy.specs.Work.{WorksWithin}
 use Rattle.quick_cache_policy.specs.Contents.{state_of, ring_count, work_of}
 use Rattle.quick_cache_policy.specs.Policies.{rules_by}
 use Rattle.quick_cache_policy.specs.Writing.{strategy_of}
-use Rattle.quick_cache_policy.proofs.AnswerLemmas.{WorksWithin-none, Calls-then, Writing-admitted, Writing-too_heavy}
+use Rattle.quick_cache_policy.proofs.AnswerLemmas.{WorksWithin-none, Writing-admitted, Writing-too_heavy}
+use Rattle.quick_cache_policy.proofs.LoopLemmas.{Calls-then}
 use Rattle.quick_cache_policy.proofs.contents.Contents.write.Goals as goal
 
 -- the calls of the check, and then those of the write

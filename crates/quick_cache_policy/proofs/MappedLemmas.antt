@@ -1,29 +1,6 @@
--- Facts of each element of a list, by recursion on the list, and lists that are images.
+-- Facts of each element of a list and of their images, and where the list of images is split.
 use Rattle.std.proofs.Common.{◌≡◌, List, [], ◌∷◌, ◌++◌, map, refl, ap}
 use Rattle.std.specs.List.{AllByRecursion}
-
-module _ {X : Type 0} (P : X → Type 0) where
-  -- what holds in two lists holds in both, one behind the other
-  pub each-append : (xs ys : List X) → AllByRecursion P xs → AllByRecursion P ys
-      → AllByRecursion P (xs ++ ys)
-  each-append [] ys a b = b
-  each-append (x ∷ xs) ys a b = (a.0, each-append xs ys a.1 b)
-
-  -- what holds in a list holds in its front
-  pub each-left : (xs ys : List X) → AllByRecursion P (xs ++ ys) → AllByRecursion P xs
-  each-left [] ys a = tt
-  each-left (x ∷ xs) ys a = (a.0, each-left xs ys a.1)
-
-  -- and in what stands behind that
-  pub each-right : (xs ys : List X) → AllByRecursion P (xs ++ ys) → AllByRecursion P ys
-  each-right [] ys a = a
-  each-right (x ∷ xs) ys a = each-right xs ys a.1
-
-  -- what follows from a fact holds where the fact does
-  pub each-weaker : (Q : X → Type 0) → ((x : X) → P x → Q x) → (xs : List X) → AllByRecursion P xs
-      → AllByRecursion Q xs
-  each-weaker Q h [] a = tt
-  each-weaker Q h (x ∷ xs) a = (h x a.0, each-weaker Q h xs a.1)
 
 module _ {X : Type 0} (P Q : X → Type 0) (f : X → X) where
   -- from the elements to their images

@@ -1,0 +1,3 @@
+pub mod FitLemmas
+pub mod FitWrites
+pub mod GetLemmas

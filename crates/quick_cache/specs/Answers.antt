@@ -1,0 +1,43 @@
+-- The answers of calls whose state before nobody knows.
+use Rattle.std.specs.Prelude.{Bool, List, Option, Result, Ok, Err}
+use Rattle.quick_cache_model.specs.declared.refusal.Refusal.{Refusal}
+use Rattle.quick_cache_model.specs.declared.refusal.Refusal.TheVariants.{Memory}
+use Rattle.quick_cache_model.specs.CacheState.{CacheState, Item, Place, UpToOrder}
+use Rattle.quick_cache_model.specs.Finding.{IsItemAt}
+use Rattle.quick_cache_model.specs.Hooks.{Rules, Hooks}
+use Rattle.quick_cache_model.specs.Lookups.{LooksUp}
+use Rattle.quick_cache_unsync.specs.CacheStep.{IsShown}
+use Rattle.quick_cache_unsync.specs.Inserts.{Inserts, InsertsAlone}
+
+module _ {K V : Type 0} (stands_for : K → Bool) (is_clone : V → V → Type 0)
+    (old : CacheState K V) where
+  -- The answer shows a clone of what was found. A look-up is refused only where there is an item,
+  -- of whose value the clone failed, and then it changes nothing.
+  pub data Gets : Result (Option V) Refusal → CacheState K V → Type 0 where
+    gets : (found shown : Option V) (new : CacheState K V)
+        → UpToOrder (LooksUp stands_for old (λ item. item.value) found) new
+        → IsShown is_clone found shown
+        → Gets (Ok shown) new
+    refuses : (place : Place) (before : List (Item K V)) (item : Item K V)
+        (after : List (Item K V))
+        → IsItemAt stands_for old place before item after → Gets (Err Memory) old
+
+  -- some state comes of it
+  pub record GetsSo (answer : Result (Option V) Refusal) : Type 0 where
+    pub new : CacheState K V
+    pub step : Gets answer new
+
+module _ {K V S : Type 0} (steady : Type 0) (hooks : Hooks K V S) (rules : Rules K V)
+    (equal : K → K → Bool) (old : CacheState K V) where
+  -- an insert answers so and leads the request state from the first to the last, and some state
+  -- comes of it
+  pub record InsertsSo (first : S) (key : K) (value : V)
+      (answer : Result (Unit {0}) (K × V × Refusal)) (last : S) : Type 0 where
+    pub new : CacheState K V
+    pub step : Inserts steady hooks rules equal old first key value answer new last
+
+  -- the same with a request state of the call's own, a default one at first
+  pub record InsertsAloneSo (is_default : S → Type 0) (key : K) (value : V)
+      (answer : Result (Unit {0}) (K × V × Refusal)) : Type 0 where
+    pub new : CacheState K V
+    pub step : InsertsAlone steady hooks rules equal old is_default key value answer new

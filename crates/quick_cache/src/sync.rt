@@ -1,0 +1,10 @@
+//! The cache that threads share.
+
+mod cache;
+mod lifecycle;
+mod locked;
+mod placeholder;
+mod touches;
+
+pub use cache::Cache;
+pub use lifecycle::DefaultLifecycle;

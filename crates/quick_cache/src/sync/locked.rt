@@ -1,0 +1,158 @@
+//! A shard as its lock keeps it: each call is one step of it.
+ghost use Rattle.std.specs.Prelude.{◌≡◌, IfOk, IfErr, IsOk};
+ghost use Rattle.quick_cache_model.specs.declared.refusal.Refusal.TheVariants.{Memory};
+ghost use Rattle.quick_cache_model.specs.CacheState.{empty_state};
+ghost use Rattle.quick_cache_model.specs.Sizes.{hot_target_of, ghost_limit_of, default_hot_share, default_ghost_share};
+ghost use Rattle.quick_cache_shard.specs.Shard.{no_work, rules_of, hooks_of};
+ghost use Rattle.quick_cache_unsync.specs.Inserts.{Inserts};
+ghost use Rattle.quick_cache.specs.Answers.{Gets};
+ghost use Rattle.quick_cache.specs.Locked.{IsKept};
+ghost use Rattle.quick_cache.specs.Touches.{any_touches};
+
+use crate::sync::placeholder::Placeholder;
+use quick_cache_base::options::{DEFAULT_GHOST_ALLOCATION, DEFAULT_HOT_ALLOCATION};
+use quick_cache_base::{Equivalent, Lifecycle, Refusal, Weighter};
+use quick_cache_shard::{CacheShard, InsertStrategy};
+use std::alloc::{Allocator, Global};
+use std::hash::{BuildHasher, Hash};
+use std::marker::Model;
+
+/// A shard behind a lock, whose state is valid and whose values fit their keys.
+#[derive(Drop)]
+pub struct LockedShard<
+    K: Eq + Hash + Drop,
+    V: Drop,
+    We,
+    B: BuildHasher,
+    L: Lifecycle<K, V>,
+    A: Allocator = Global,
+> {
+    shard: CacheShard<K, V, We, B, L, Placeholder, A>,
+}
+
+impl<K: Eq + Hash + Drop, V: Drop, We, B: BuildHasher, L: Lifecycle<K, V>, A: Allocator> Model
+    for LockedShard<K, V, We, B, L, A> {
+    ghost use Rattle.quick_cache_shard.specs.Shard.{Shard};
+    ghost use Rattle.quick_cache.specs.Locked.{StaysFit};
+
+    ghost Value = { Shard K V We B L };
+
+    ghost view = { λ locked. locked.shard };
+
+    ghost invariant = { λ locked. StaysFit L.Lifecycle locked.shard };
+}
+
+impl<
+    K: Eq + Hash + Drop,
+    V: Drop,
+    We,
+    B: BuildHasher,
+    L: Lifecycle<K, V>,
+    A: Allocator,
+> LockedShard<K, V, We, B, L, A> {
+    /// An empty shard for so many items and so much weight, with the default shares.
+    pub fn new(
+        alloc: A,
+        items: usize,
+        weight: u64,
+        weigher: We,
+        builder: B,
+        lifecycle: L,
+    ) -> Result<Self, Refusal>
+    where
+        A: Clone,
+        We: Drop,
+        B: Drop,
+        L: Drop,
+        ensures makes { IfOk result (λ locked. locked ≡ record {
+          state = empty_state weight (hot_target_of weight default_hot_share)
+              (ghost_limit_of items default_ghost_share);
+          weigher = weigher;
+          builder = builder;
+          lifecycle = lifecycle;
+          room = 0;
+          work = no_work;
+        }) }
+        ensures succeeds { A.is_infallible alloc → IsOk result }
+        ensures refused { IfErr result (λ refusal. refusal ≡ Memory) }
+    {
+        let shard = CacheShard::new(
+            alloc,
+            DEFAULT_HOT_ALLOCATION,
+            DEFAULT_GHOST_ALLOCATION,
+            items,
+            weight,
+            weigher,
+            builder,
+            lifecycle,
+        )?;
+        Ok(LockedShard { shard })
+    }
+
+    /// Tells what always holds of it.
+    fn is_kept(&self)
+        ensures { IsKept L.Lifecycle K.eq self.now }
+    {
+        self.shard.len();
+    }
+
+    /// Looks the query's key up, and clones what it finds. The clone is made first, so that a refused one changes
+    /// nothing.
+    pub fn get<Q: Equivalent<K>>(&mut self, query: &Q) -> Result<Option<V>, Refusal>
+    where
+        V: Clone,
+        ensures step { Gets (Q.equivalent query.now) V.is_clone self.old.state result
+            self.new.state }
+        ensures same { self.new ≡ record self.old { state = self.new.state } }
+        ensures kept { IsKept L.Lifecycle K.eq self.old }
+    {
+        self.is_kept();
+        let hash = self.shard.hash(query);
+        match self.shard.peek(hash, query) {
+            None => {
+                let _ = self.shard.get(hash, query);
+                Ok(None)
+            }
+            Some(value) => match value.clone() {
+                Ok(copy) => {
+                    let _ = self.shard.get(hash, query);
+                    Ok(Some(copy))
+                }
+                Err(_) => Err(Refusal::Memory),
+            },
+        }
+    }
+
+    /// Inserts a pair whose value fits its key, and hands what leaves to the lifecycle, with this request state.
+    pub fn insert(
+        &mut self,
+        key: K,
+        value: V,
+        state: &mut L::RequestState,
+    ) -> Result<(), (K, V, Refusal)>
+    where
+        We: Weighter<K, V>,
+        requires fits { L.fits key value }
+        // Where pinning is steady, the write is a step of its definition.
+        ensures inserts { Inserts (L.steady self.old.lifecycle) (hooks_of L.Lifecycle self.old)
+            (rules_of any_touches K.Hash.hash_input We.Weighter B.BuildHasher B.Hasher.Hasher
+            L.Lifecycle self.old)
+            K.eq self.old.state state.old key value result self.new.state state.new }
+        ensures same { self.new ≡ record self.old {
+          state = self.new.state;
+          room = self.new.room;
+          work = self.new.work;
+        } }
+        ensures kept { IsKept L.Lifecycle K.eq self.old }
+    {
+        self.is_kept();
+        let hash = self.shard.hash(&key);
+        match self
+            .shard
+            .insert(state, hash, key, value, InsertStrategy::Insert)
+        {
+            Ok(()) => Ok(()),
+            Err((key, value, refusal)) => Err((key, value, refusal.unwrap())),
+        }
+    }
+}

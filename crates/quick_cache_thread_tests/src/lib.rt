@@ -1,0 +1,8 @@
+//! Tests of the cache that threads share, and a caller that knows of each value what its lifecycle says.
+#![tactic(auto)]
+
+#[cfg(test)]
+mod refused;
+#[cfg(test)]
+mod shared;
+pub mod twice;

@@ -1,0 +1,73 @@
+//! Refusals: a clone that fails, and a growth for which there is no memory.
+ghost use Rattle.std.specs.Prelude.{◌≡◌};
+
+use quick_cache::sync::{Cache, DefaultLifecycle};
+use quick_cache::{DefaultHashBuilder, Refusal, UnitWeighter};
+use rationed::Rationed;
+use std::alloc::{AllocError, Global};
+use std::test::Fail;
+
+/// A number that cannot be cloned where it is odd.
+#[derive(Drop)]
+struct Coy {
+    number: u64,
+}
+
+impl Clone for Coy {
+    ghost is_clone = { λ old new. new ≡ old };
+
+    fn clone(&self) -> Result<Self, AllocError> {
+        if self.number % 2 == 0 {
+            Ok(Coy {
+                number: self.number,
+            })
+        } else {
+            Err(AllocError)
+        }
+    }
+}
+
+#[test]
+fn a_refused_clone_is_a_refusal_for_memory(rt: HostRuntime) -> Result<(), Fail> {
+    let cache: Cache<u64, Coy> = Cache::new(rt.alloc(), 100)?;
+    assert!(rt; cache.insert(&rt, 1, Coy { number: 11 }).is_ok());
+    assert!(rt; cache.insert(&rt, 2, Coy { number: 22 }).is_ok());
+    let Err(refusal) = cache.get(&rt, &1) else {
+        panic!(rt; "the clone is refused");
+    };
+    assert_eq!(rt; refusal, Refusal::Memory);
+    let Ok(Some(found)) = cache.get(&rt, &2) else {
+        panic!(rt; "there is a value, which can be cloned");
+    };
+    assert_eq!(rt; found.number, 22);
+    let Ok(None) = cache.get(&rt, &3) else {
+        panic!(rt; "there is none");
+    };
+    Ok(())
+}
+
+/// A cache whose growths can be refused.
+type RationedCache<'a> = Cache<
+    u64,
+    u64,
+    UnitWeighter,
+    DefaultHashBuilder,
+    DefaultLifecycle<u64, u64>,
+    &'a Rationed<Global>,
+>;
+
+#[test]
+fn a_pair_for_which_there_is_no_memory_comes_back(rt: HostRuntime) -> Result<(), Fail> {
+    let ration = Rationed::new(rt.alloc(), 0);
+    let cache: RationedCache<'_> = Cache::new(&ration, 5)?;
+    assert_eq!(rt; cache.insert(&rt, 1, 10), Err((1, 10, Refusal::Memory)));
+    assert_eq!(rt; cache.get(&rt, &1), Ok(None));
+    ration.allow(8);
+    assert_eq!(rt; cache.insert(&rt, 1, 10), Ok(()));
+    // With no memory, what is there can be read and written over.
+    ration.allow(0);
+    assert_eq!(rt; cache.get(&rt, &1), Ok(Some(10)));
+    assert_eq!(rt; cache.insert(&rt, 1, 11), Ok(()));
+    assert_eq!(rt; cache.get(&rt, &1), Ok(Some(11)));
+    Ok(())
+}
