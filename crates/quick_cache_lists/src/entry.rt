@@ -138,22 +138,34 @@ impl<K, V, P, T> Slot<K, V, P, T> {
         }
     }
 
-    /// Takes another entry, and gives the old one back.
+    /// Takes another entry, and gives the old one back. An item in the place of an item goes on
+    /// with its counter of touches.
     pub(crate) fn replace(&mut self, entry: Entry<K, V, P, T>) -> Entry<K, V, P, T>
         ensures new { self.new ≡ record self.old { entry = entry } }
         ensures old { result ≡ self.old.entry }
     {
+        let mut entry = entry;
+        if let Entry::Item(item) = &mut self.entry {
+            if let Entry::Item(resident) = &mut entry {
+                item.swap_touch(resident);
+            }
+        }
         replace(&mut self.entry, entry)
     }
 
-    /// Takes another item for the one that it has, and gives the old one back.
+    /// Takes another item for the one that it has, and gives the old one back. The other goes on
+    /// with the counter of touches.
     pub(crate) fn rewrite(&mut self, resident: Resident<K, V, T>) -> Resident<K, V, T>
         requires { is_item self.old ≡ true }
         ensures new { self.new ≡ slot_changed (λ _. resident) self.old }
         ensures old { self.old.entry ≡ Entry.Item result }
     {
+        let mut resident = resident;
         match &mut self.entry {
-            Entry::Item(item) => replace(item, resident),
+            Entry::Item(item) => {
+                item.swap_touch(&mut resident);
+                replace(item, resident)
+            }
             Entry::Loading(_) => unreachable!(),
             Entry::Ghost => unreachable!(),
         }
