@@ -6,7 +6,7 @@ use Rattle.std.proofs.lemmas.Bool.{false≢true}
 use Rattle.std.specs.Char.{digit_value}
 use Rattle.std.specs.Prelude.{codes, IsErr}
 use Rattle.std.specs.Str.Parse.{AllDigits}
-use Rattle.qcrun.specs.Commands.{spaced, IsNumber, AreNumbers, IsPlainValue, IsLineOf, IsOkExactly}
+use Rattle.qcrun.specs.Commands.{spaced, IsNumber, AreNumbers, IsLineOf, IsOkExactly}
 use Rattle.qcrun.specs.declared.command.Command.{Command}
 use Rattle.qcrun.specs.declared.command.Command.TheVariants.{Cache, Insert, Get, Remove, Show}
 
@@ -97,7 +97,6 @@ AreNumbers-parts words first second split lacks numbers are =
 abbrev pub IsCall : List ℕ → List ℕ → Command → Type 0
 IsCall name words (Cache items weight) = (name ≡ codes "cache") × AreNumbers words (items, weight)
 IsCall name words (Insert key value) = (name ≡ codes "insert") × AreNumbers words (key, value)
-    × IsPlainValue value
 IsCall name words (Get key) = (name ≡ codes "get") × IsNumber words key
 IsCall name words (Remove key) = (name ≡ codes "remove") × IsNumber words key
 IsCall name words Show = ⊥
@@ -130,7 +129,7 @@ IsLineOf-split line name words split lacks (Cache items weight) is =
 IsLineOf-split line name words split lacks (Insert key value) is =
     let same = spaced-same name words (codes "insert") is.0 lacks
     (LacksSpace-tested (codes "insert") refl) (sym split ∙ is.1) in
-    (same.0, subst (λ w. AreNumbers w (key, value)) (sym same.1) is.2, is.3)
+    (same.0, subst (λ w. AreNumbers w (key, value)) (sym same.1) is.2)
 IsLineOf-split line name words split lacks (Get key) is =
     let same = spaced-same name words (codes "get") is.0 lacks
     (LacksSpace-tested (codes "get") refl) (sym split ∙ is.1) in
@@ -154,14 +153,13 @@ IsCall-cache name words named (Get key) is = absurd (omega (arith, ap length (sy
 IsCall-cache name words named (Remove key) is = absurd (omega (arith, ap length (sym named ∙ is.0)))
 IsCall-cache name words named Show is = absurd is
 
--- behind the first word `insert` stand a key and a plain value
+-- behind the first word `insert` stand a key and a value
 pub IsCall-insert : (name words : List ℕ) → name ≡ codes "insert" → (command : Command)
     → IsCall name words command
-    → (pair : ℕ × ℕ) × AreNumbers words pair × IsPlainValue pair.1
-    × (command ≡ Insert pair.0 pair.1)
+    → (pair : ℕ × ℕ) × AreNumbers words pair × (command ≡ Insert pair.0 pair.1)
 IsCall-insert name words named (Cache items weight) is =
     absurd (omega (arith, ap length (sym named ∙ is.0)))
-IsCall-insert name words named (Insert key value) is = ((key, value), is.1, is.2, refl)
+IsCall-insert name words named (Insert key value) is = ((key, value), is.1, refl)
 IsCall-insert name words named (Get key) is = absurd (omega (arith, ap length (sym named ∙ is.0)))
 IsCall-insert name words named (Remove key) is =
     absurd (omega (arith, ap (λ word. get_or word 0 0) (sym named ∙ is.0)))

@@ -4,7 +4,9 @@ use Rattle.std.proofs.lemmas.List.{append-nil}
 use Rattle.std.specs.Fmt.{decimal}
 use Rattle.std.specs.Io.KnownBytes.{Appends}
 use Rattle.std.specs.Prelude.{codes}
-use Rattle.qcrun.specs.Printed.{item_text, items_text, spaced_number, ghosts_text}
+use Rattle.qcrun.specs.declared.events.Event.{Event}
+use Rattle.qcrun.specs.Events.{event_text}
+use Rattle.qcrun.specs.Printed.{item_text, items_text, spaced_number, ghosts_text, line_of, event_lines, pair_text, pairs_text}
 
 -- nothing is appended where nothing is written
 pub Appends-nothing : (bytes : Option (List ℕ)) → Appends bytes bytes []
@@ -67,6 +69,34 @@ ghosts_text-cons hash hashes = refl
 pub ghosts_text-nil : (hashes : List ℕ) → hashes ≡ [] → ghosts_text hashes ≡ []
 unfolding ghosts_text
 ghosts_text-nil hashes none = ap ghosts_text none
+
+-- the text of pairs, from the first on
+pub pairs_text-cons : (pair : ℕ × ℕ) (pairs : List (ℕ × ℕ))
+    → pairs_text (pair ∷ pairs) ≡ pair_text pair ++ pairs_text pairs
+unfolding pairs_text
+pairs_text-cons pair pairs = refl
+
+pub pairs_text-nil : (pairs : List (ℕ × ℕ)) → pairs ≡ [] → pairs_text pairs ≡ []
+unfolding pairs_text
+pairs_text-nil pairs none = ap pairs_text none
+
+-- a pair's text is appended, as its parts are printed
+pub Appends-pair : (old new : Option (List ℕ)) (key value : ℕ)
+    → Appends old new (codes " " ++ (decimal key ++ (codes ":" ++ decimal value)))
+    → Appends old new (pair_text (key, value))
+Appends-pair old new key value appended =
+    subst (Appends old new) (ap (λ text. 32 ∷ text)
+    (sym (append_assoc (decimal key) (codes ":") (decimal value)))) appended
+
+-- the lines of events, from the first on
+pub event_lines-cons : (event : Event) (events : List Event)
+    → event_lines (event ∷ events) ≡ line_of (event_text event) ++ event_lines events
+unfolding event_lines
+event_lines-cons event events = refl
+
+pub event_lines-nil : (events : List Event) → events ≡ [] → event_lines events ≡ []
+unfolding event_lines
+event_lines-nil events none = ap event_lines none
 
 -- an item's text is appended, as its parts are printed
 pub Appends-item : (old new : Option (List ℕ)) (key value mark : ℕ)

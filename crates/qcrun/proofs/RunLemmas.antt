@@ -90,11 +90,11 @@ first_line text line long =
       longer = omega (arith, length-append line end.front);
     }
 
-module _ {We B L : Type 0} (rules : Shard ℕ ℕ We B L → Rules ℕ ℕ) where
+module _ {We B L A : Type 0} (rules : Shard ℕ ℕ We B L → Rules ℕ ℕ) where
   -- a line's command asked for a cache, and none stands
-  pub ServesLine-lacks : {old new : Option (Shard ℕ ℕ We B L)} {line : List ℕ} {outcome : Outcome}
+  pub ServesLine-lacks : {old new : Option (Shard ℕ ℕ We B L)} {line : List ℕ} {outcome : Outcome A}
       (command : Command) → IsLineOf line command → ServesCommand rules old command outcome new
-      → outcome ≡ NoCache → ServesLine rules old line false new []
+      → outcome ≡ NoCache → ServesLine A rules old line false new []
   ServesLine-lacks {old} {new} command is serves lacks =
       ServesLine.lacks_cache command new is
       (subst (λ outcome. ServesCommand rules old command outcome new) lacks serves)

@@ -1,5 +1,5 @@
 -- The lines that are commands.
-use Rattle.std.specs.Prelude.{◌≡◌, ◌↔◌, Result, Ok, ℕ, ◌/◌, ◌%◌, ◌^◌, ◌<◌, ◌≤◌, List, ◌∷◌, ◌++◌, length, codes}
+use Rattle.std.specs.Prelude.{◌≡◌, ◌↔◌, Result, Ok, ℕ, ◌^◌, ◌<◌, ◌≤◌, List, ◌∷◌, ◌++◌, length, codes}
 use Rattle.std.specs.Str.Parse.{IsNumeral, digits_value}
 use Rattle.qcrun.specs.declared.command.Command.{Command}
 use Rattle.qcrun.specs.declared.command.Command.TheVariants.{Cache, Insert, Get, Remove, Show}
@@ -27,17 +27,12 @@ AreNumbers words numbers = (first : List ℕ) × (second : List ℕ) × IsNumber
     × IsNumber second numbers.1
     × (words ≡ spaced first second)
 
--- a value of weight 1, which is of none of the kinds that are not served yet
-abbrev pub IsPlainValue : ℕ → Type 0
-IsPlainValue value = (value % 100 ≡ 1) × ((1 ≤ value / 100) × (value / 100 ≤ 3) → ⊥)
-
 -- the line of a command: its name, and its numbers behind it
 abbrev pub IsLineOf : List ℕ → Command → Type 0
 IsLineOf line (Cache items weight) = (words : List ℕ) × (line ≡ spaced (codes "cache") words)
     × AreNumbers words (items, weight)
 IsLineOf line (Insert key value) =
     (words : List ℕ) × (line ≡ spaced (codes "insert") words) × AreNumbers words (key, value)
-    × IsPlainValue value
 IsLineOf line (Get key) = (word : List ℕ) × (line ≡ spaced (codes "get") word) × IsNumber word key
 IsLineOf line (Remove key) = (word : List ℕ) × (line ≡ spaced (codes "remove") word)
     × IsNumber word key

@@ -1,8 +1,8 @@
 -- What a command does to the cache that stands, and what became of it.
-use Rattle.std.specs.Prelude.{◌≡◌, ℕ, Option, Some, None, nat_eq}
+use Rattle.std.specs.Prelude.{◌≡◌, ℕ, List, [], Option, Some, None, Vec, nat_eq}
 use Rattle.quick_cache_model.specs.declared.refusal.Refusal.TheVariants.{Memory}
 use Rattle.quick_cache_model.specs.CacheState.{CacheState, empty_state}
-use Rattle.quick_cache_model.specs.Hooks.{Rules}
+use Rattle.quick_cache_model.specs.Hooks.{Rules, HookCall}
 use Rattle.quick_cache_model.specs.Sizes.{hot_target_of, ghost_limit_of}
 use Rattle.quick_cache_model.specs.Sizes.{default_hot_share, default_ghost_share}
 use Rattle.quick_cache_shard.specs.Shard.{Shard}
@@ -15,8 +15,11 @@ use Rattle.qcrun.specs.declared.reply.Answer.{Answer}
 use Rattle.qcrun.specs.declared.reply.Answer.TheVariants.{Done, Refused}
 use Rattle.qcrun.specs.declared.session.Outcome.{Outcome}
 use Rattle.qcrun.specs.declared.session.Outcome.TheVariants.{Answered, Shows, NoCache}
+use Rattle.qcrun.specs.declared.events.Event.{Event}
 use Rattle.qcrun.specs.Answers.{answer_of}
+use Rattle.qcrun.specs.Events.{LeavesByKind, TellsOf}
 use Rattle.qcrun.specs.Served.{Serves}
+use Rattle.qcrun.specs.Still.{AreStill}
 
 -- the command that asks for a call
 abbrev pub command_of : Call ℕ ℕ → Command
@@ -39,17 +42,31 @@ module _ {We B L : Type 0} where
         → MakesCache items weight old Done (Some cache)
     lacks_memory : MakesCache items weight old (Refused Memory) old
 
-  -- The cache that stood, the command, what became of it, and the cache that stands.
+module _ {A : Type 0} where
+  -- What becomes of `show`: the items of weight 0 are put in order, or there was no memory for that.
+  pub data ShowsCache (state : CacheState ℕ ℕ) : Outcome A → Type 0 where
+    shows : (still : Vec (ℕ × ℕ) A) → AreStill state still.items → ShowsCache state (Shows still)
+    lacks_memory : (events : Option (Vec Event A)) → TellsOf [] events
+        → ShowsCache state (Answered events (Refused Memory))
+
+module _ {We B L A : Type 0} where
+  -- The cache that stood, the command, what became of it, and the cache that stands. The events are
+  -- those of the hook calls, each of which leaves a value what its kind has left.
   pub data ServesCommand (rules : Shard ℕ ℕ We B L → Rules ℕ ℕ)
-      : Option (Shard ℕ ℕ We B L) → Command → Outcome → Option (Shard ℕ ℕ We B L) → Type 0 where
+      : Option (Shard ℕ ℕ We B L) → Command → Outcome A → Option (Shard ℕ ℕ We B L) → Type 0 where
     makes_cache : (items weight : ℕ) (old new : Option (Shard ℕ ℕ We B L)) (answer : Answer)
-        → MakesCache items weight old answer new
-        → ServesCommand rules old (Cache items weight) (Answered answer) new
+        (events : Option (Vec Event A))
+        → MakesCache items weight old answer new → TellsOf [] events
+        → ServesCommand rules old (Cache items weight) (Answered events answer) new
     makes_call : (cache new : Shard ℕ ℕ We B L) (call : Call ℕ ℕ) (reply : Reply ℕ ℕ)
+        (hook_calls : List (HookCall ℕ ℕ)) (events : Option (Vec Event A))
         → new ≡ record cache { state = new.state; room = new.room; work = new.work }
-        → Serves (rules cache) nat_eq cache.state call reply new.state
-        → ServesCommand rules (Some cache) (command_of call) (Answered (answer_of reply)) (Some new)
-    shows : (cache : Shard ℕ ℕ We B L) → ServesCommand rules (Some cache) Show Shows (Some cache)
+        → Serves (rules cache) nat_eq cache.state call reply hook_calls new.state
+        → LeavesByKind hook_calls → TellsOf hook_calls events
+        → ServesCommand rules (Some cache) (command_of call) (Answered events (answer_of reply))
+        (Some new)
+    shows_cache : (cache : Shard ℕ ℕ We B L) (outcome : Outcome A) → ShowsCache cache.state outcome
+        → ServesCommand rules (Some cache) Show outcome (Some cache)
     lacks_cache_for_call : (call : Call ℕ ℕ)
         → ServesCommand rules None (command_of call) NoCache None
     lacks_cache_to_show : ServesCommand rules None Show NoCache None

@@ -1,8 +1,8 @@
 //! Commands, and the lines that they are read from.
-ghost use Rattle.std.specs.Prelude.{◌↔◌, Some, codes, IsTrue};
+ghost use Rattle.std.specs.Prelude.{Some, codes};
 ghost use Rattle.std.specs.Result.{OkIff};
 ghost use Rattle.std.specs.Str.Parse.{digits_value};
-ghost use Rattle.qcrun.specs.Commands.{AreNumbers, IsNumeralInRange, IsOkExactly, IsPlainValue};
+ghost use Rattle.qcrun.specs.Commands.{AreNumbers, IsNumeralInRange, IsOkExactly};
 
 use std::fmt::{self, Display, Formatter, Write};
 use std::str::FromStr;
@@ -18,7 +18,7 @@ pub enum Command {
     Get(u64),
     /// `remove KEY`
     Remove(u64),
-    /// `show`: what the cache holds, the rings from the head and the ghosts from the oldest.
+    /// `show`: what the cache holds, the rings from the head, the ghosts from the oldest and what weighs nothing by key.
     Show,
 }
 
@@ -62,15 +62,6 @@ fn numbers(words: &str) -> Result<(u64, u64), NotACommand>
     Ok((number(first)?, number(second)?))
 }
 
-/// Whether a value may be inserted. Its last two digits are its weight, which is 1 for now, and what stands before
-/// them is its kind: of the kinds 1, 2 and 3 none is served yet.
-fn is_plain(value: u64) -> bool
-    ensures { IsTrue result ↔ IsPlainValue value }
-{
-    let kind = value / 100;
-    value % 100 == 1 && (kind < 1 || kind > 3)
-}
-
 impl FromStr for Command {
     type Err = NotACommand;
 
@@ -93,9 +84,6 @@ impl FromStr for Command {
             }
             "insert" => {
                 let (key, value) = numbers(words)?;
-                if !is_plain(value) {
-                    return Err(NotACommand);
-                }
                 Ok(Command::Insert(key, value))
             }
             "get" => Ok(Command::Get(number(words)?)),

@@ -2,12 +2,15 @@
 #![tactic(auto)]
 
 mod command;
+mod events;
 mod hash;
+mod kinds;
 mod lines;
 mod print;
 mod reply;
 mod serve;
 mod session;
+mod still;
 #[cfg(test)]
 mod tests;
 

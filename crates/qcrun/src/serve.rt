@@ -9,11 +9,11 @@ ghost use Rattle.qcrun.specs.Runs.{PrintsLine, ServesKnown, ServesLine, bad_line
 
 use crate::command::{Command, NotACommand};
 use crate::hash::{RemainderBuilder, RemainderHasher};
+use crate::kinds::{ByKind, LastDigits};
 use crate::lines::{Line, read_line};
 use crate::print::print;
 use crate::session::{Outcome, Session};
-use quick_cache_model::{Lifecycle, UnitWeighter, Weighter};
-use quick_cache_unsync::DefaultLifecycle;
+use quick_cache_model::{Lifecycle, Weighter};
 use std::alloc::Allocator;
 use std::hash::{BuildHasher, Hash, Hasher};
 use std::io::{self, BufReader, ErrorKind, Read, Write};
@@ -41,10 +41,10 @@ trait LineServer {
 }
 
 impl<A: Allocator + Copy> LineServer for Session<A> {
-    ghost serves_line = { λ old line served new printed. ServesLine
+    ghost serves_line = { λ old line served new printed. ServesLine A
         (rules_of no_touches ⟦<u64 as Hash>⟧.hash_input
-        ⟦<UnitWeighter as Weighter<u64, u64>>⟧ ⟦<RemainderBuilder as BuildHasher>⟧
-        ⟦<RemainderHasher as Hasher>⟧ ⟦<DefaultLifecycle<u64, u64> as Lifecycle<u64, u64>>⟧)
+        ⟦<LastDigits as Weighter<u64, u64>>⟧ ⟦<RemainderBuilder as BuildHasher>⟧
+        ⟦<RemainderHasher as Hasher>⟧ ⟦<ByKind<A> as Lifecycle<u64, u64>>⟧)
         old.cache line served new.cache printed };
 
     fn serve_line<W: Write>(&mut self, line: &[u8], writer: &mut W) -> io::Result<bool> {
@@ -58,7 +58,7 @@ impl<A: Allocator + Copy> LineServer for Session<A> {
         match self.serve(command) {
             Outcome::NoCache => Ok(false),
             outcome => {
-                print(outcome, self, writer)?;
+                print(&outcome, self, writer)?;
                 Ok(true)
             }
         }

@@ -1,27 +1,24 @@
 //! The cache that stands, and what commands do to it.
 ghost use Rattle.std.specs.Prelude.{◌≡◌, None, option_copied};
-ghost use Rattle.quick_cache_shard.specs.Shard.{rules_of, ClonesExactly};
+ghost use Rattle.quick_cache_model.specs.Hooks.{Calls};
+ghost use Rattle.quick_cache_shard.specs.Shard.{rules_of, hooks_of, ClonesExactly};
 ghost use Rattle.quick_cache_unsync.specs.Touches.{no_touches};
 ghost use Rattle.qcrun.specs.Served.{Serves, first_reply};
-ghost use Rattle.qcrun.specs.Sessions.{MakesCache, ServesCommand};
+ghost use Rattle.qcrun.specs.Sessions.{MakesCache, ServesCommand, ShowsCache};
 
 use crate::command::Command;
+use crate::events::Events;
 use crate::hash::{RemainderBuilder, RemainderHasher};
+use crate::kinds::{ByKind, LastDigits};
 use crate::reply::Answer;
-use quick_cache_model::{Lifecycle, Refusal, UnitWeighter, Weighter};
-use quick_cache_unsync::{Cache, Call, DefaultLifecycle, Reply, run};
+use crate::still::still;
+use quick_cache_model::{Lifecycle, Refusal, Weighter};
+use quick_cache_unsync::{Cache, Call, Reply, run};
 use std::alloc::Allocator;
 use std::hash::{BuildHasher, Hash, Hasher};
 
 /// A cache of numbers.
-pub type NumberCache<A> = Cache<
-    u64,
-    u64,
-    UnitWeighter,
-    RemainderBuilder,
-    DefaultLifecycle<u64, u64>,
-    A,
->;
+pub type NumberCache<A> = Cache<u64, u64, LastDigits, RemainderBuilder, ByKind<A>, A>;
 
 /// The first reply, or that it was refused for want of memory.
 fn first_reply<K: Drop, V: Drop, M: Allocator>(replies: Vec<Reply<K, V>, M>) -> Reply<K, V>
@@ -51,9 +48,10 @@ fn insert<
 ) -> Reply<K, V>
     requires clones { ClonesExactly V.is_clone }
     requires steady { L.steady cache.old.lifecycle }
-    ensures serves { Serves
+    ensures serves { Calls (hooks_of L.Lifecycle cache.old) (λ calls. Serves
         (rules_of no_touches K.Hash.hash_input We.Weighter B.BuildHasher B.Hasher.Hasher L.Lifecycle cache.old)
-        K.eq cache.old.state (Call.Insert key value) result cache.new.state }
+        K.eq cache.old.state (Call.Insert key value) result calls cache.new.state)
+        state.old state.new }
     ensures same { cache.new ≡ record cache.old {
       state = cache.new.state;
       room = cache.new.room;
@@ -87,9 +85,10 @@ fn make_call<
 ) -> Reply<K, V>
     requires clones { ClonesExactly V.is_clone }
     requires steady { L.steady cache.old.lifecycle }
-    ensures serves { Serves
+    ensures serves { Calls (hooks_of L.Lifecycle cache.old) (λ calls. Serves
         (rules_of no_touches K.Hash.hash_input We.Weighter B.BuildHasher B.Hasher.Hasher L.Lifecycle cache.old)
-        K.eq cache.old.state call result cache.new.state }
+        K.eq cache.old.state call result calls cache.new.state)
+        state.old state.new }
     ensures same { cache.new ≡ record cache.old {
       state = cache.new.state;
       room = cache.new.room;
@@ -104,14 +103,24 @@ fn make_call<
 }
 
 /// What became of a command.
-#[derive(Debug, Clone, Copy, PartialEq, Eq)]
-pub enum Outcome {
-    /// It was served, and this is its answer.
-    Answered(Answer),
-    /// The cache is to be shown.
-    Shows,
+#[derive(Drop)]
+pub enum Outcome<A: Allocator> {
+    /// It was served, with these events, and this is its answer.
+    Answered(Events<A>, Answer),
+    /// The cache is to be shown, and these are its items of weight 0, by key.
+    Shows(Vec<(u64, u64), A>),
     /// It asked for a cache, and none stands.
     NoCache,
+}
+
+/// Finds what is to be shown of a cache beside its rings and numbers.
+fn look<A: Allocator + Copy>(alloc: A, cache: &NumberCache<A>) -> Outcome<A>
+    ensures shows { ShowsCache cache.now.state result }
+{
+    match still(alloc, cache) {
+        Ok(still) => Outcome::Shows(still),
+        Err(_) => Outcome::Answered(Some(Vec::new(alloc)), Answer::Refused(Refusal::Memory)),
+    }
 }
 
 /// The cache that stands, if one was made.
@@ -130,15 +139,16 @@ impl<A: Allocator + Copy> Session<A> {
     }
 
     /// Serves a command. It prints nothing.
-    pub fn serve(&mut self, command: Command) -> Outcome
+    pub fn serve(&mut self, command: Command) -> Outcome<A>
         ensures { ServesCommand
-            (rules_of no_touches ⟦<u64 as Hash>⟧.hash_input ⟦<UnitWeighter as Weighter<u64, u64>>⟧
+            (rules_of no_touches ⟦<u64 as Hash>⟧.hash_input ⟦<LastDigits as Weighter<u64, u64>>⟧
             ⟦<RemainderBuilder as BuildHasher>⟧ ⟦<RemainderHasher as Hasher>⟧
-            ⟦<DefaultLifecycle<u64, u64> as Lifecycle<u64, u64>>⟧)
+            ⟦<ByKind<A> as Lifecycle<u64, u64>>⟧)
             self.old.cache command result self.new.cache }
     {
+        let mut events = Some(Vec::new(self.alloc));
         if let Command::Cache(items, weight) = command {
-            return Outcome::Answered(self.make_cache(items, weight));
+            return Outcome::Answered(events, self.make_cache(items, weight));
         }
         let Some(cache) = &mut self.cache else {
             return Outcome::NoCache;
@@ -147,9 +157,10 @@ impl<A: Allocator + Copy> Session<A> {
             Command::Insert(key, value) => Call::Insert(key, value),
             Command::Get(key) => Call::Get(key),
             Command::Remove(key) => Call::Remove(key),
-            Command::Cache(..) | Command::Show => return Outcome::Shows,
+            Command::Cache(..) | Command::Show => return look(self.alloc, cache),
         };
-        Outcome::Answered(Answer::from(make_call(self.alloc, cache, call, &mut ())))
+        let reply = make_call(self.alloc, cache, call, &mut events);
+        Outcome::Answered(events, Answer::from(reply))
     }
 
     /// The cache that stands.
@@ -167,9 +178,9 @@ impl<A: Allocator + Copy> Session<A> {
             self.alloc,
             items,
             weight,
-            UnitWeighter,
+            LastDigits,
             RemainderBuilder,
-            DefaultLifecycle::new(),
+            ByKind::new(),
         );
         match made {
             Ok(cache) => {

@@ -3,7 +3,7 @@ use Rattle.std.specs.Prelude.{◌≡◌, ◌≢◌, ℕ, zero, suc, ◌+◌, ◌
 use Rattle.std.specs.Int.NonZero.{non_zero_u32_get}
 use Rattle.std.specs.declared.num.NonZeroU32.{NonZeroU32 as Token}
 use Rattle.quick_cache_slab.specs.LinkedSlab.{LinkedSlab, item_at, ring_from, times, next_token, spare, IsAlone}
-use Rattle.quick_cache_table.specs.Table.{Table, has_pair, HasPair, pair_count}
+use Rattle.quick_cache_table.specs.Table.{Table, has_pair, HasPair, pair_count, AddsPair}
 use Rattle.quick_cache_lists.specs.declared.entry.Slot.{Slot}
 use Rattle.quick_cache_lists.specs.declared.ring.Ring.{Ring}
 use Rattle.quick_cache_lists.specs.declared.rings.Rings.{Rings}
@@ -76,6 +76,13 @@ module _ {K V P T : Type 0} where
     pub few : length slab.slots ≤ 4294967295
     pub light : (token : ℕ) → weight_at (item_at slab token) < 18446744073709551616
     pub counted : pair_count table + length slab.free ≡ length slab.slots
+
+  -- the hashes of these entries came to the table one by one
+  abbrev pub AddsPairs : List (ℕ × Slot K V P T) → (old new : Table) → Type 0
+  AddsPairs [] old new = new ≡ old
+  AddsPairs (entry ∷ entries) old new =
+      (between : Table) × AddsPair old between entry.1.hash entry.0
+      × AddsPairs entries between new
 
   -- each ring has its entries, and the others stand alone
   pub record IsStanding (slab : LinkedSlab (Slot K V P T)) (hot cold ghosts : Ring) : Type 0 where

@@ -1,11 +1,10 @@
 //! What stands in a slot.
-ghost use Rattle.std.specs.Prelude.{◌≡◌, true, false, IfOk, OnErr};
+ghost use Rattle.std.specs.Prelude.{◌≡◌, true};
 ghost use Rattle.quick_cache_lists.specs.Slots.{is_under, is_item_under, is_ghost, is_item, weight_in, slot_changed, stand_in, loading_in};
-ghost use Rattle.quick_cache_lists.specs.Lists.{with_counts, with_weight, requeued, is_placeholder, is_weightless};
-ghost use Rattle.quick_cache_lists.specs.Copies.{IsEntryCopy};
+ghost use Rattle.quick_cache_lists.specs.Lists.{with_counts, with_weight, requeued, is_weightless};
 
 use crate::resident::Resident;
-use quick_cache_model::{Equivalent, Queue, Refusal, Touches};
+use quick_cache_model::{Equivalent, Queue, Touches};
 use std::hash::Hash;
 use std::mem::replace;
 
@@ -89,21 +88,6 @@ impl<K, V, P, T> Entry<K, V, P, T> {
     }
 }
 
-impl<K: Clone + Drop, V: Clone + Drop, P, T: Touches> Entry<K, V, P, T> {
-    /// A copy of an item, with no touches, or another ghost. A refusal is for want of memory.
-    pub(crate) fn try_copy(&self) -> Result<Self, Refusal>
-        requires { is_placeholder self.now ≡ false }
-        ensures copies { IfOk result (IsEntryCopy K.is_clone V.is_clone self.now) }
-        ensures refused { OnErr result (result ≡ Err Refusal.Memory) }
-    {
-        match self {
-            Entry::Item(resident) => Ok(Entry::Item(resident.try_copy()?)),
-            Entry::Loading(_) => unreachable!(),
-            Entry::Ghost => Ok(Entry::Ghost),
-        }
-    }
-}
-
 impl<K, V, P, T> Slot<K, V, P, T> {
     /// Whether the query stands for the key of an item or of a placeholder.
     pub(crate) fn is_under<Q: Equivalent<K>>(&self, query: &Q) -> bool
@@ -168,22 +152,34 @@ impl<K, V, P, T> Slot<K, V, P, T> {
         }
     }
 
-    /// Takes another entry, and gives the old one back.
+    /// Takes another entry, and gives the old one back. An item in the place of an item goes on
+    /// with its counter of touches.
     pub(crate) fn replace(&mut self, entry: Entry<K, V, P, T>) -> Entry<K, V, P, T>
         ensures new { self.new ≡ record self.old { entry = entry } }
         ensures old { result ≡ self.old.entry }
     {
+        let mut entry = entry;
+        if let Entry::Item(item) = &mut self.entry {
+            if let Entry::Item(resident) = &mut entry {
+                item.swap_touch(resident);
+            }
+        }
         replace(&mut self.entry, entry)
     }
 
-    /// Takes another item for the one that it has, and gives the old one back.
+    /// Takes another item for the one that it has, and gives the old one back. The other goes on
+    /// with the counter of touches.
     pub(crate) fn rewrite(&mut self, resident: Resident<K, V, T>) -> Resident<K, V, T>
         requires { is_item self.old ≡ true }
         ensures new { self.new ≡ slot_changed (λ _. resident) self.old }
         ensures old { self.old.entry ≡ Entry.Item result }
     {
+        let mut resident = resident;
         match &mut self.entry {
-            Entry::Item(item) => replace(item, resident),
+            Entry::Item(item) => {
+                item.swap_touch(&mut resident);
+                replace(item, resident)
+            }
             Entry::Loading(_) => unreachable!(),
             Entry::Ghost => unreachable!(),
         }

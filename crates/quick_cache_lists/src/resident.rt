@@ -7,6 +7,7 @@ ghost use Rattle.quick_cache_lists.specs.Lists.{with_counts, with_weight, requeu
 use crate::entry::Stand;
 use quick_cache_model::{Queue, Refusal, Touches};
 use std::marker::Model;
+use std::mem::swap;
 
 /// An item: its pair, the weight that it counts for, how often it was used lately and read, and its
 /// ring.
@@ -161,6 +162,14 @@ impl<K, V, T> Resident<K, V, T> {
         ensures same { self.new ≡ self.old }
     {
         self.touch.take()
+    }
+
+    /// Exchanges its counter of touches for that of another item.
+    pub(crate) fn swap_touch(&mut self, other: &mut Self)
+        ensures same { self.new ≡ self.old }
+        ensures other { other.new ≡ other.old }
+    {
+        swap(&mut self.touch, &mut other.touch);
     }
 
     /// A copy, with no touches. A refusal is for want of memory.

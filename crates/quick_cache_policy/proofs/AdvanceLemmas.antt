@@ -1,6 +1,6 @@
 -- A whole hot advance, round after round, and that it is the one of the definitions.
-use Rattle.std.proofs.Common.{◌≡◌, ℕ, ◌+◌, ◌-◌, ◌*◌, ◌<◌, ◌≤◌, Bool, true, false, true≢false, List, [], ◌∷◌, ◌++◌, length, map}
-use Rattle.std.proofs.Common.{refl, sym, ap, subst, ◌∙◌, arith}
+use Rattle.std.proofs.Common.{◌≡◌, ℕ, ◌+◌, ◌*◌, ◌≤◌, Bool, true, false, true≢false, List, [], ◌∷◌, length, map}
+use Rattle.std.proofs.Common.{refl, sym, subst, ◌∙◌, arith}
 use Rattle.quick_cache_model.specs.declared.queue.Queue.TheVariants.{Hot}
 use Rattle.quick_cache_model.specs.CacheState.{CacheState, Item, restarted_behind}
 use Rattle.quick_cache_model.specs.Hooks.{Rules, HookCall}
@@ -9,7 +9,7 @@ use Rattle.quick_cache_model.specs.Eviction.{lowered, IsFirstVictim, EvictsVicti
 use Rattle.quick_cache_model.proofs.TouchLaws.{RaisesMarks-same}
 use Rattle.quick_cache_policy.specs.Rounds.{HaveAtMost, MayRaise, AfterTouches, Rounds}
 use Rattle.quick_cache_policy.specs.Rounds.{EndsAllPinned, EndsSomeUnpinned, EndsAtVictim}
-use Rattle.quick_cache_policy.specs.Rounds.{Advancing, MeetsVictim, GivesUp, IsMet, NoneUnpinned, HasVictimFirst}
+use Rattle.quick_cache_policy.specs.Rounds.{Advancing, MeetsVictim, GivesUp, IsMet, NoneUnpinned}
 use Rattle.quick_cache_policy.proofs.MarkLemmas.{HaveAtMost-raised, RaisesMarks-length}
 use Rattle.quick_cache_policy.proofs.RoundLemmas.{rounds-begin, rounds-go_on, rounds-give_up}
 use Rattle.quick_cache_policy.proofs.RoundLemmas.{rounds-lower, rounds-reach, rounds-stop}
@@ -108,14 +108,6 @@ module _ {K V : Type 0} (steady : Type 0) (pinned : K → V → Bool) (cut : ℕ
         };
       }
 
-  -- the visits before a round and in it, as many as there were items at first
-  pub advance-within : (takes_touches : Bool) (old now : List (Item K V)) (n k : ℕ)
-      → Advancing steady pinned takes_touches cut may_count old now n → k ≤ length now
-      → n + k ≤ (cut + 1) * length old
-  advance-within takes_touches old now n k a le =
-      subst (λ m. n + k ≤ (cut + 1) * m) (RaisesMarks-length cut may_count old a.mid a.raises)
-      (visits-within steady pinned cut a.mid now n k a.rounds le)
-
   -- the visits of a whole advance that met a victim
   pub MeetsVictim-within : (old new : List (Item K V)) (visits : ℕ)
       → AfterTouches true cut may_count old
@@ -132,21 +124,6 @@ module _ {K V : Type 0} (steady : Type 0) (pinned : K → V → Bool) (cut : ℕ
   GivesUp-within old new visits a =
       subst (λ m. visits ≤ (cut + 1) * m) (RaisesMarks-length cut may_count old a.mid a.raises)
       a.holds.within
-
-module _ {K V : Type 0} where
-  -- the victim that stands first has no mark left
-  pub HasVictimFirst-unmarked : (old new rest : List (Item K V)) (x : Item K V)
-      → HasVictimFirst old new → new ≡ x ∷ rest → x.mark ≡ 0
-  HasVictimFirst-unmarked old new rest x first is =
-      let same : lowered first.rounds first.item ∷ map (lowered first.rounds) first.after
-      ++ map (lowered (first.rounds + 1)) first.before ≡ x ∷ rest = sym first.turned ∙ is in
-      let heads : lowered first.rounds first.item ≡ x = cc in
-      let marks : first.item.mark - first.rounds ≡ x.mark = ap (λ (i : Item K V). i.mark) heads in
-      omega (arith, marks, first.unmarked)
-
-  -- and a ring that begins with its victim is not empty
-  pub HasVictimFirst-some : (old new : List (Item K V)) → HasVictimFirst old new → 0 < length new
-  HasVictimFirst-some old new first = omega (arith, ap length first.turned)
 
 module _ {K V : Type 0} (rules : Rules K V) where
   -- the victim is the one of the definition

@@ -142,24 +142,3 @@ module _ {K V : Type 0} (steady : Type 0) (pinned : K → V → Bool) (may_count
     HasPassed-found Marked new found none more looks = HasPassed-marked new none more looks
     HasPassed-found Victim new found none more looks = HasPassed-victim new none more looks
     HasPassed-found AllPassed new found none more looks = absurd (found refl)
-
-    -- all were passed by, and the ring turned once round
-    pub HasPassed-all : passed ≡ length old → Searches steady pinned may_count old AllPassed now
-    HasPassed-all all = go has.rest refl
-      where
-        go : (left : List (Item K V)) → has.rest ≡ left
-            → Searches steady pinned may_count old AllPassed now
-        go [] none = record {
-          cold = has.news;
-          raised = subst (λ l. RaisesMarks default_mark_cut may_count l has.news)
-              (sym (has.split ∙ ap (λ l. has.olds ++ l) none ∙ append-nil has.olds)) has.raised;
-          ends = (has.passed_by, has.now_is ∙ ap (λ l. l ++ has.news) none);
-        }
-        go (x ∷ xs) some = absurd (omega (
-          arith,
-          all,
-          has.count,
-          ap (length {A = Item K V}) has.split,
-          ap (length {A = Item K V}) some,
-          length-append has.olds has.rest,
-        ))

@@ -59,12 +59,6 @@ module _ {K V P : Type 0} (stands_for : K → Bool) (hash : ℕ) (lists : Lists 
             (λ waiting is passes. is ∙ same waiting.key passes) lists.loading are.loading;
       }
 
--- both of two facts of each element
-each-both : {X : Type 0} (P Q : X → Type 0) (xs : List X) → AllByRecursion P xs
-    → AllByRecursion Q xs → AllByRecursion (λ x. P x × Q x) xs
-each-both P Q [] a b = tt
-each-both P Q (x ∷ xs) a b = ((a.0, b.0), each-both P Q xs a.1 b.1)
-
 module _ {K V P A T : Type 0} (ticket_of : P → ℕ) (stands_for : K → Bool) (hash : ℕ)
     (contents : Contents K V P A T) where
   items-fail : (entries : List (HeldItem K V))

@@ -1,5 +1,5 @@
 -- A hot advance over the contents of a cache: what its visits and its eviction come to.
-use Rattle.std.proofs.Common.{◌≡◌, ◌≢◌, ℕ, ◌+◌, ◌*◌, ◌<◌, ◌≤◌, Bool, true, false, [], length}
+use Rattle.std.proofs.Common.{◌≡◌, ◌≢◌, ℕ, ◌+◌, ◌*◌, ◌≤◌, Bool, true, false, [], length}
 use Rattle.std.proofs.Common.{refl, sym, ap, subst, arith}
 use Rattle.std.proofs.lemmas.List.{length-map}
 use Rattle.quick_cache_model.specs.declared.queue.Queue.TheVariants.{Hot, Cold}
@@ -11,18 +11,10 @@ use Rattle.quick_cache_model.proofs.OrderLaws.{UpToOrder-exact, UpToOrder-map}
 use Rattle.quick_cache_lists.specs.Views.{items_of}
 use Rattle.quick_cache_policy.specs.declared.contents.Contents.{Contents}
 use Rattle.quick_cache_policy.specs.Advances.{AreEvictions, Evicting, FirstIsEvicted}
-use Rattle.quick_cache_policy.specs.Contents.{IsSound, state_of}
+use Rattle.quick_cache_policy.specs.Contents.{state_of}
 use Rattle.quick_cache_policy.specs.HotRounds.{VisitsHot, SeekEnds}
 use Rattle.quick_cache_policy.specs.Work.{Work, PaysFor}
-use Rattle.quick_cache_policy.proofs.AdvanceLemmas.{AdvancesHot-met, AdvancesHot-none, MeetsVictim-within, GivesUp-within, HasVictimFirst-some}
-
-module _ {K V P A T : Type 0} (hash : K → ℕ) (equal : K → K → Bool) (ticket_of : P → ℕ) where
-  -- counts of work are no part of what always holds
-  pub IsSound-counted : (old : Contents K V P A T) (advances : ℕ)
-      → IsSound ticket_of equal hash old
-      → IsSound ticket_of equal hash (record old { advances = advances })
-  IsSound-counted old advances sound =
-      record { valid = sound.valid; sized = sound.sized; hashed = sound.hashed }
+use Rattle.quick_cache_policy.proofs.AdvanceLemmas.{AdvancesHot-met, AdvancesHot-none, MeetsVictim-within, GivesUp-within}
 
 -- the queues are two
 pub cold≢hot : Cold ≢ Hot
@@ -131,15 +123,4 @@ module _ {K V P A T S : Type 0} (ticket_of : P → ℕ) (steady : Type 0) (rules
         items,
         GivesUp-within steady rules.pinned default_mark_cut rules.may_count
             (items_of old.lists.hot) (items_of now.lists.hot) seeks.visits ends,
-      )
-
-  -- a victim is there to be evicted
-  pub SeekEnds-there : met ≡ true → 0 < length now.lists.hot
-  SeekEnds-there there =
-      let ends = subst (λ b. SeekEnds steady rules.pinned rules.may_count b
-      (items_of old.lists.hot) (items_of now.lists.hot) seeks.visits) there seeks.ends in
-      omega (
-        arith,
-        length-map now.lists.hot (λ held. held.item),
-        HasVictimFirst-some ends.mid (items_of now.lists.hot) ends.holds.victim_first,
       )

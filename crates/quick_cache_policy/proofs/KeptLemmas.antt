@@ -14,11 +14,11 @@ use Rattle.quick_cache_model.proofs.KeyCounts.{keys}
 use Rattle.quick_cache_policy.specs.Rounds.{HaveAtMost, MayRaise, HasVictimFirst, IsLowered, Going}
 use Rattle.quick_cache_policy.specs.Rounds.{Stopped, Passed, AfterTouches, EndsAllPinned}
 use Rattle.quick_cache_policy.specs.Rounds.{EndsSomeUnpinned, EndsAtVictim, MeetsVictim, GivesUp}
-use Rattle.quick_cache_policy.specs.Rounds.{Advancing, KeepsItems}
+use Rattle.quick_cache_policy.specs.Rounds.{KeepsItems}
 use Rattle.quick_cache_policy.proofs.MarkLemmas.{MayRaise-length}
 use Rattle.quick_cache_model.proofs.EachElement.{all-append, all-left, all-right, all-weaker}
 use Rattle.quick_cache_policy.proofs.MappedLemmas.{each-mapped}
-use Rattle.quick_cache_policy.proofs.RoundLemmas.{Going-length, rounds-begin, rounds-reach}
+use Rattle.quick_cache_policy.proofs.RoundLemmas.{rounds-begin, rounds-reach}
 
 -- One round is an advance of that round alone.
 module _ {K V : Type 0} (steady : Type 0) (pinned : K → V → Bool) where
@@ -98,20 +98,6 @@ module _ {K V : Type 0} (cut : ℕ) (queue : Queue) where
       (map (lowered (first.rounds + 1)) first.before)
       (map_lowered-ring first.rounds (first.item ∷ first.after) back)
       (map_lowered-ring (first.rounds + 1) first.before front))
-
-  -- the middle of a round
-  pub Going-ring : (steady : Type 0) (pinned : K → V → Bool) (takes_touches : Bool)
-      (may_count : ℕ → Type 0) (old : List (Item K V)) (visited : ℕ) (unpinned : Bool)
-      (now : List (Item K V))
-      → Going steady pinned takes_touches cut may_count old visited unpinned now
-      → AllByRecursion (IsRingItem cut queue) old → AllByRecursion (IsRingItem cut queue) now
-  Going-ring steady pinned takes_touches may_count old visited unpinned now g ring =
-      let whole = subst (λ l. AllByRecursion (IsRingItem cut queue) l) g.split ring in
-      let front = all-left (IsRingItem cut queue) g.done g.rest whole in
-      let raised = MayRaise-ring takes_touches may_count g.done g.raised g.raises front in
-      subst (λ l. AllByRecursion (IsRingItem cut queue) l) (sym g.now_is)
-      (all-append (IsRingItem cut queue) g.rest (map (lowered 1) g.raised)
-      (all-right (IsRingItem cut queue) g.done g.rest whole) (map_lowered-ring 1 g.raised raised))
 
 -- Sums over the items of what is not the mark.
 module _ {K V : Type 0} (f : Item K V → ℕ)
@@ -342,21 +328,6 @@ module _ {K V : Type 0} (cut : ℕ) where
 
   module _ (steady : Type 0) (pinned : K → V → Bool) (takes_touches : Bool)
       (may_count : ℕ → Type 0) (old new : List (Item K V)) (visits : ℕ) where
-    -- the middle of a round
-    pub Going-keeps : (unpinned : Bool)
-        → Going steady pinned takes_touches cut may_count old visits unpinned new
-        → KeepsItems cut old new
-    Going-keeps unpinned g = record {
-      ring = λ queue. Going-ring cut queue steady pinned takes_touches may_count old visits
-          unpinned new g;
-      same_keys = λ test. Going-keys test steady pinned takes_touches cut may_count old visits
-          unpinned new g;
-      same_weight = Going-weight steady pinned takes_touches cut may_count old visits
-          unpinned new g;
-      same_length = Going-length steady pinned takes_touches cut may_count old visits
-          unpinned new g;
-    }
-
     -- the three ends of a round
     pub EndsAllPinned-keeps : AfterTouches takes_touches cut may_count old
         (λ mid. EndsAllPinned steady pinned mid new visits) → KeepsItems cut old new
@@ -388,11 +359,3 @@ module _ {K V : Type 0} (cut : ℕ) where
     GivesUp-keeps a = KeepsItems-trans old a.mid new
         (MayRaise-keeps takes_touches may_count old a.mid a.raises)
         (IsLowered-keeps a.mid new a.holds.is_lowered)
-
-    -- between two rounds of a whole advance
-    pub Advancing-keeps : Advancing steady pinned takes_touches cut may_count old new visits
-        → KeepsItems cut old new
-    Advancing-keeps a = KeepsItems-trans old a.mid new
-        (MayRaise-keeps true may_count old a.mid a.raises)
-        (IsLowered-keeps a.mid new
-        (record { rounds = a.rounds.rounds; lowers = a.rounds.lowers }))

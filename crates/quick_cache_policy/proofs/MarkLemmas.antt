@@ -1,24 +1,17 @@
 -- Marks of a list of items: lowered, raised, and their sum.
 use Rattle.std.proofs.Common.{◌≡◌, ℕ, ◌+◌, ◌-◌, ◌*◌, ◌<◌, ◌≤◌, Bool, true, false, List, [], ◌∷◌, ◌++◌, length, map}
-use Rattle.std.proofs.Common.{refl, sym, ap, ap₂, subst, ◌∙◌, arith, inl, inr}
+use Rattle.std.proofs.Common.{refl, sym, ap, ap₂, subst, arith, inl, inr}
 use Rattle.std.proofs.lemmas.Bool.{cases_lt}
 use Rattle.std.proofs.lemmas.List.Sums.{sum_by-cons}
 use Rattle.quick_cache_model.specs.CacheState.{Item}
 use Rattle.quick_cache_model.specs.Eviction.{lowered}
 use Rattle.quick_cache_model.specs.Touches.{RaisesMarks}
-use Rattle.quick_cache_model.proofs.TouchLaws.{with_touches-key, with_touches-value}
 use Rattle.quick_cache_model.proofs.TouchLaws.{with_touches-mark, RaisesMarks-same}
 use Rattle.quick_cache_policy.specs.Rounds.{MayTake, MayRaise, AreUnmarked, HaveAtMost}
 use Rattle.quick_cache_policy.specs.Rounds.{AfterTouches, EndsSomeUnpinned, marks_of, advance_measure}
 use Rattle.quick_cache_policy.proofs.MappedLemmas.{each-mapped}
 
 module _ {K V : Type 0} where
-  -- an item without a mark is the same when its mark is lowered
-  pub lowered-unmarked : (n : ℕ) (item : Item K V) → item.mark ≡ 0 → lowered n item ≡ item
-  lowered-unmarked n item none =
-      let e : item.mark - n ≡ item.mark = omega (arith, none) in
-      ap (λ m. record item { mark = m }) e
-
   -- lowered by 0, the items are the same
   pub lowered-none : (items : List (Item K V)) → map (lowered 0) items ≡ items
   lowered-none [] = refl
@@ -108,13 +101,6 @@ module _ {K V : Type 0} (cut : ℕ) (may_count : ℕ → Type 0) where
       → MayRaise takes_touches cut may_count items items
   MayRaise-same true may items = RaisesMarks-same cut may_count may items
   MayRaise-same false may items = refl
-
-  -- touches change no pin
-  pub MayTake-pinned : (pinned : K → V → Bool) (takes_touches : Bool) (x y : Item K V)
-      → MayTake takes_touches cut may_count x y → pinned y.key y.value ≡ pinned x.key x.value
-  MayTake-pinned pinned true x y takes = ap (λ (i : Item K V). pinned i.key i.value) takes.2
-      ∙ ap₂ pinned (with_touches-key cut takes.0 x) (with_touches-value cut takes.0 x)
-  MayTake-pinned pinned false x y takes = ap (λ (i : Item K V). pinned i.key i.value) takes
 
   -- one item
   pub MayRaise-one : (takes_touches : Bool) (x y : Item K V)

@@ -13,7 +13,7 @@ ghost use Rattle.quick_cache_policy.specs.Policies.{rules_by};
 ghost use Rattle.quick_cache_policy.specs.Work.{PaysFor};
 
 use crate::contents::Contents;
-use crate::placeholder::{SharedPlaceholder, Touches};
+use crate::placeholder::SharedPlaceholder;
 use crate::policy::Policy;
 use quick_cache_model::{Queue, Token};
 use std::alloc::Allocator;

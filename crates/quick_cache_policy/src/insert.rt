@@ -12,7 +12,7 @@ ghost use Rattle.quick_cache_policy.specs.Writing.{strategy_of, is_insert, Writi
 
 use crate::admission::{Admission, Weighed};
 use crate::contents::Contents;
-use crate::placeholder::{SharedPlaceholder, Touches};
+use crate::placeholder::SharedPlaceholder;
 use crate::policy::Policy;
 use crate::strategy::InsertStrategy;
 use quick_cache_lists::{Entry, Found, Resident};

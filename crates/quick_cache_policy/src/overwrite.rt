@@ -11,7 +11,7 @@ ghost use Rattle.quick_cache_policy.specs.Writing.{strategy_of, WritingAdmitted}
 use crate::admission::{Weighed, report};
 use crate::contents::Contents;
 use crate::hot::MARK_CUT;
-use crate::placeholder::{SharedPlaceholder, Touches};
+use crate::placeholder::SharedPlaceholder;
 use crate::policy::Policy;
 use crate::strategy::InsertStrategy;
 use quick_cache_lists::{Entry, Found, Resident};
@@ -63,10 +63,8 @@ impl<K: Eq + Hash + Drop, V: Drop, P: SharedPlaceholder<K>, A: Allocator> Conten
             .min(u64::from(MARK_CUT)) as u8;
         let mark = strategy.mark_after(touched);
         let Weighed { value, weight } = weighed;
-        // The touches were taken in, so the count of them begins anew, whatever it begins with.
-        let mut touch = P::Touch::default();
-        let _ = touch.take();
-        let item = Resident::new(key, value, weight, mark, queue, touch);
+        // It goes on with the old item's counter, which was emptied.
+        let item = Resident::new(key, value, weight, mark, queue, P::Touch::default());
         let (old_key, old_value) = self.lists.rewrite(token, item).into_pair();
         report(queue, terms, state, old_key, old_value);
         self.evict_to_capacity(0, terms, state);

@@ -66,9 +66,10 @@ impl<K, V, P, T, A: Allocator> Lists<K, V, P, T, A> {
         slot.set_counts(mark, reads);
     }
 
-    /// Puts another item of the same ring in the place of the item of a token, and gives the old one
-    /// back. Where only one of the two weighs something, the old one leaves its list, its ring
-    /// begins behind it, and the other is put last as with `put`.
+    /// Puts another item of the same ring in the place of the item of a token, and gives the old
+    /// one back. The other goes on with the counter of touches. Where only one of the two weighs
+    /// something, the old one leaves its list, its ring begins behind it, and the other is put last
+    /// as with `put`.
     pub fn rewrite(&mut self, token: Token, resident: Resident<K, V, T>) -> Resident<K, V, T>
         requires { HasItemOfQueue self.old (number token) resident.queue }
         ensures { Rewrites self.old (number token) resident result self.new }

@@ -1,4 +1,4 @@
-use Rattle.std.proofs.Common.{Option, sym, subst}
+use Rattle.std.proofs.Common.{[], Option, refl, sym, subst}
 use Rattle.quick_cache_model.specs.CacheState.{Item}
 use Rattle.quick_cache_model.specs.Lookups.{LooksUp}
 use Rattle.quick_cache_shard.specs.Shard.{UpToOrder}
@@ -15,11 +15,18 @@ returns-in-Get-clause-serves g c =
     UpToOrder (LooksUp (g.K.PartialEq.eq c.in-Get.key) c.args.cache.now.state of answer)
     c.get.follows.lender-at-none.state)
     (sym c.copied.ensures) c.get.follows.holds-at-none.0 in
-    rw c.in-Get.is (Serves.gets c.in-Get.key c.copied.result _
-    (CacheStep.gets c.in-Get.key c.copied.result c.copied.result _ looks
-    (IsShown-itself c.copied.result)))
+    record {
+      calls = [];
+      holds = rw c.in-Get.is (Serves.gets c.in-Get.key c.copied.result _
+          (CacheStep.gets c.in-Get.key c.copied.result c.copied.result _ looks
+          (IsShown-itself c.copied.result)));
+      runs = refl;
+    }
 
 pub returns-in-Remove-clause-serves : goal.returns-in-Remove-clause-serves
-returns-in-Remove-clause-serves g c =
-    rw c.in-Remove.is (Serves.removes c.in-Remove.key c.remove.result _
-    (CacheStep.removes c.in-Remove.key c.remove.result _ c.remove.ensures.removes))
+returns-in-Remove-clause-serves g c = record {
+  calls = [];
+  holds = rw c.in-Remove.is (Serves.removes c.in-Remove.key c.remove.result _
+      (CacheStep.removes c.in-Remove.key c.remove.result _ c.remove.ensures.removes));
+  runs = refl;
+}

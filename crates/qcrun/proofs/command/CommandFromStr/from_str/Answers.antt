@@ -1,6 +1,6 @@
-use Rattle.std.proofs.Common.{◌≡◌, Some, Ok, ℕ, refl, sym, ap, subst, ◌∙◌, arith}
+use Rattle.std.proofs.Common.{◌≡◌, Some, Ok, ℕ, sym, ap, ◌∙◌, arith}
 use Rattle.std.proofs.lemmas.Str.Pattern.{split_parts}
-use Rattle.qcrun.specs.Commands.{spaced, IsPlainValue, IsLineOf}
+use Rattle.qcrun.specs.Commands.{spaced, IsLineOf}
 use Rattle.qcrun.specs.declared.command.Command.TheVariants.{Cache, Insert}
 use Rattle.qcrun.proofs.CommandLemmas.{IsOkExactly-ok, IsOkExactly-err, IsLineOf-split, IsCall-cache, IsCall-insert, same_ok}
 use Rattle.qcrun.proofs.command.CommandFromStr.from_str.Goals as goal
@@ -52,40 +52,21 @@ returns-in_err-key-in-insert c =
     let refused = c.in_err-key-in-insert.was in
     absurd cc)
 
--- the value is of a weight or a kind that is not served
-pub returns-then-not-is_plain : goal.returns-then-not-is_plain
-returns-then-not-is_plain c =
+-- what stands behind `insert` is a key and a value, in one way
+pub returns-in_ok-key-in-insert : goal.returns-in_ok-key-in-insert
+returns-in_ok-key-in-insert c =
     let parts = split_parts 32 c.args.line.now
     (Some (c.in-Some.name, c.in-Some.words)) c.in-Some.ensures.cases (omega arith) in
     let pair : ℕ × ℕ = (c.in_ok-key-in-insert.key, c.in_ok-key-in-insert.value) in
     let answer : c.numbers-in-insert.result ≡ Ok pair = c.in_ok-key-in-insert.was in
-    IsOkExactly-err (IsLineOf c.args.line.now) _ refl
-    (λ command is.
-    let call = IsCall-insert _ _ c.in-insert.is command
-    (IsLineOf-split _ _ _ parts.0 parts.1 command is) in
-    let known : pair ≡ call.0 = same_ok c.numbers-in-insert.result answer
-    ((c.numbers-in-insert.ensures call.0).0 call.1) in
-    let plain = c.is_plain.ensures.1 (subst (λ (p : ℕ × ℕ). IsPlainValue p.1) (sym known) call.2) in
-    let refused = c.if-not-is_plain.true in
-    absurd cc)
-
--- what stands behind `insert` is a key and a plain value, in one way
-pub returns-else-not-is_plain : goal.returns-else-not-is_plain
-returns-else-not-is_plain c =
-    let parts = split_parts 32 c.args.line.now
-    (Some (c.in-Some.name, c.in-Some.words)) c.in-Some.ensures.cases (omega arith) in
-    let pair : ℕ × ℕ = (c.in_ok-key-in-insert.key, c.in_ok-key-in-insert.value) in
-    let answer : c.numbers-in-insert.result ≡ Ok pair = c.in_ok-key-in-insert.was in
-    let not_refused = c.if-not-is_plain.false in
     IsOkExactly-ok (IsLineOf c.args.line.now) (Insert pair.0 pair.1) (
       c.in-Some.words.now,
       parts.0 ∙ ap (λ name. spaced name c.in-Some.words.now) c.in-insert.is,
       (c.numbers-in-insert.ensures pair).1 answer,
-      c.is_plain.ensures.0 not_refused,
     )
     (λ command is.
     let call = IsCall-insert _ _ c.in-insert.is command
     (IsLineOf-split _ _ _ parts.0 parts.1 command is) in
     let known : pair ≡ call.0 = same_ok c.numbers-in-insert.result answer
     ((c.numbers-in-insert.ensures call.0).0 call.1) in
-    call.3 ∙ ap (λ (p : ℕ × ℕ). Insert p.0 p.1) (sym known))
+    call.2 ∙ ap (λ (p : ℕ × ℕ). Insert p.0 p.1) (sym known))
