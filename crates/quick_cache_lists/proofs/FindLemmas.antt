@@ -12,9 +12,9 @@ use Rattle.quick_cache_lists.specs.declared.entry.Entry.{Entry}
 use Rattle.quick_cache_lists.specs.declared.entry.Entry.TheVariants.{Item as item_variant, Loading as loading_variant, Ghost as ghost_variant}
 use Rattle.quick_cache_lists.specs.declared.entry.Slot.{Slot}
 use Rattle.quick_cache_lists.specs.declared.ring.Ring.{Ring}
-use Rattle.quick_cache_lists.specs.Lists.{HeldItem, HeldLoading, HeldGhost, StandsIn, HasNoKey, HasNothing, FindsItem, FindsLoading}
-use Rattle.quick_cache_lists.specs.Slots.{has_hash, item_of, if_still, still_of, loading_of, ghost_of, is_under_at, is_ghost_at, is_item_at}
-use Rattle.quick_cache_lists.specs.Sound.{gather, upto, tokens_of, lists_of, IsKeyed, IsStanding, IsWalked}
+use Rattle.quick_cache_lists.specs.Lists.{HeldItem, HeldLoading, HeldGhost, StandsIn, HasNoItem, HasNoKey, HasNothing, FindsItem, FindsLoading}
+use Rattle.quick_cache_lists.specs.Slots.{has_hash, item_of, if_still, still_of, loading_of, ghost_of, is_under_at, is_item_under_at, is_ghost_at, is_item_at}
+use Rattle.quick_cache_lists.specs.Sound.{gather, upto, tokens_of, lists_of, IsKeyed, IsStanding, IsWalked, PassesNoItem}
 use Rattle.quick_cache_lists.proofs.GatherLemmas.{gather-all}
 use Rattle.quick_cache_lists.proofs.StandLemmas.{HasItem-from, StandsIn-loading, StandsIn-ghosts}
 
@@ -65,6 +65,37 @@ module _ {K V P T : Type 0} where
           )
       by_entry hash (loading_variant awaited) e = absurd (cc)
       by_entry hash ghost_variant e = absurd (cc)
+
+  item_under_held : (stands_for : K → Bool) (t : ℕ) (o : Option (Slot K V P T))
+      (held : HeldItem K V) → item_of t o ≡ Some held
+      → is_item_under_at stands_for o ≡ stands_for held.item.key
+  item_under_held stands_for t None held is = absurd (cc)
+  item_under_held stands_for t (Some slot) held is = by_entry slot.hash slot.entry is
+    where
+      by_entry : (hash : ℕ) (entry : Entry K V P T)
+          → item_of t (Some (record { hash = hash; entry = entry })) ≡ Some held
+          → is_item_under_at stands_for (Some (record { hash = hash; entry = entry }))
+          ≡ stands_for held.item.key
+      by_entry hash (item_variant item) e =
+          let same : record { token = t; hash = hash; item = item } ≡ held = cc in
+          ap (λ (y : HeldItem K V). stands_for y.item.key) same
+      by_entry hash (loading_variant awaited) e = absurd (cc)
+      by_entry hash ghost_variant e = absurd (cc)
+
+  -- what has an item under the query is an item, and is under it
+  pub item_under-is : (stands_for : K → Bool) (o : Option (Slot K V P T))
+      → is_item_under_at stands_for o ≡ true
+      → (is_under_at stands_for o ≡ true) × (is_item_at o ≡ true)
+  item_under-is stands_for None is = absurd (true≢false (sym is))
+  item_under-is stands_for (Some slot) is = by_entry slot.hash slot.entry is
+    where
+      by_entry : (hash : ℕ) (entry : Entry K V P T)
+          → is_item_under_at stands_for (Some (record { hash = hash; entry = entry })) ≡ true
+          → (is_under_at stands_for (Some (record { hash = hash; entry = entry })) ≡ true)
+          × (is_item_at (Some (record { hash = hash; entry = entry })) ≡ true)
+      by_entry hash (item_variant item) e = (e, refl)
+      by_entry hash (loading_variant awaited) e = absurd (true≢false (sym e))
+      by_entry hash ghost_variant e = absurd (true≢false (sym e))
 
   under_waiting : (stands_for : K → Bool) (t : ℕ) (o : Option (Slot K V P T))
       (waiting : HeldLoading K P) → loading_of t o ≡ Some waiting
@@ -140,6 +171,28 @@ module _ {K V P T : Type 0} where
         of_held t held is same =
             let meant = under_held stands_for t (item_at slab t) held is in
             sym meant.0 ∙ none t (hashed t held.hash (item_at slab t) refl (meant.1 hash) same)
+
+    pub HasNoItem-from : ((t : ℕ) → HasPair table hash t
+        → is_item_under_at stands_for (item_at slab t) ≡ false)
+        → HasNoItem stands_for hash (lists_of slab table hot cold ghosts)
+    HasNoItem-from none = record {
+      hot = gather-all (λ held. held.hash ≡ hash → stands_for held.item.key ≡ false)
+          (λ token. item_of token (item_at slab token)) (tokens_of slab hot.head)
+          (λ t y some is. of_held t y is);
+      cold = gather-all (λ held. held.hash ≡ hash → stands_for held.item.key ≡ false)
+          (λ token. item_of token (item_at slab token)) (tokens_of slab cold.head)
+          (λ t y some is. of_held t y is);
+      still = gather-all (λ held. held.hash ≡ hash → stands_for held.item.key ≡ false)
+          (λ token. still_of token (item_at slab token)) (upto (length slab.slots))
+          (λ t y some is. of_held t y (held_still _ y is));
+    }
+      where
+        of_held : (t : ℕ) (held : HeldItem K V) → item_of t (item_at slab t) ≡ Some held
+            → held.hash ≡ hash → stands_for held.item.key ≡ false
+        of_held t held is same =
+            let meant = under_held stands_for t (item_at slab t) held is in
+            sym (item_under_held stands_for t (item_at slab t) held is)
+            ∙ none t (hashed t held.hash (item_at slab t) refl (meant.1 hash) same)
 
     pub HasNothing-from : ((t : ℕ) → HasPair table hash t
         → is_under_at stands_for (item_at slab t) ≡ false)
@@ -319,6 +372,48 @@ module _ {K V P T : Type 0} where
         subst (λ (o : Option Token). IfSome o
         (λ t. HasPair table hash (non_zero_u32_get t)
         × (is_ghost_at (item_at slab (non_zero_u32_get t)) ≡ true))) seen walked.noted
+
+    -- the same of a walk that seeks an item alone
+    pub PassesNoItem-start : (tokens : List ℕ) → IsTokensOf table hash tokens
+        → PassesNoItem slab table hash stands_for tokens
+    PassesNoItem-start tokens are = record {
+      left_has = λ t some. elim (counted_pair tokens t are) [
+        | inl has ↦ has.0
+        | inr misses ↦ absurd (omega (arith, misses.1))
+      ];
+      passed = λ t has none. elim (counted_pair tokens t are) [
+        | inl there ↦ absurd (omega (arith, there.1))
+        | inr misses ↦ absurd (true≢false (sym has ∙ misses.0))
+      ];
+    }
+
+    pub PassesNoItem-past : (tokens rest : List ℕ) (token : Token)
+        → tokens ≡ non_zero_u32_get token ∷ rest
+        → is_item_under_at stands_for (item_at slab (non_zero_u32_get token)) ≡ false
+        → PassesNoItem slab table hash stands_for tokens
+        → PassesNoItem slab table hash stands_for rest
+    PassesNoItem-past tokens rest token first differs walked = record {
+      left_has = λ t some. walked.left_has t (rw first (omega arith));
+      passed = λ t has none. elim (cases_eq (non_zero_u32_get token) t) [
+        | inl same ↦ subst
+            (λ (u : ℕ). is_item_under_at stands_for (item_at slab u) ≡ false) same differs
+        | inr other ↦ walked.passed t has (rw first
+            (omega (arith, times-other t (non_zero_u32_get token) rest other)))
+      ];
+    }
+
+    pub PassesNoItem-has : (tokens rest : List ℕ) (token : Token)
+        → tokens ≡ non_zero_u32_get token ∷ rest
+        → PassesNoItem slab table hash stands_for tokens
+        → HasPair table hash (non_zero_u32_get token)
+    PassesNoItem-has tokens rest token first walked =
+        walked.left_has (non_zero_u32_get token)
+        (rw first (omega (arith, times-here (non_zero_u32_get token) rest)))
+
+    pub PassesNoItem-none : (tokens : List ℕ) → tokens ≡ []
+        → PassesNoItem slab table hash stands_for tokens → (t : ℕ) → HasPair table hash t
+        → is_item_under_at stands_for (item_at slab t) ≡ false
+    PassesNoItem-none tokens end walked t has = walked.passed t has (rw end refl)
 
 module _ {K V P T : Type 0} where
   hashed_some : (hash : ℕ) (o : Option (Slot K V P T)) → has_hash hash o ≡ true → IsSome o

@@ -1,5 +1,5 @@
 -- A walk over all slots comes to each item once.
-use Rattle.std.proofs.Common.{◌≡◌, ◌≢◌, ◌⊎◌, ℕ, suc, ◌+◌, ◌≤◌, ◌==◌, if◌then◌else◌, Bool, true, false, List, [], ◌∷◌, ◌++◌, length, filter_map, get_or, Option, Some, None, refl, sym, ap, subst, ◌∙◌, inl, inr, arith}
+use Rattle.std.proofs.Common.{◌≡◌, ◌≢◌, ◌⊎◌, ℕ, zero, suc, ◌+◌, ◌≤◌, ◌==◌, if◌then◌else◌, Bool, true, false, List, [], ◌∷◌, ◌++◌, length, filter_map, get_or, Option, Some, None, refl, sym, ap, subst, ◌∙◌, inl, inr, arith}
 use Rattle.std.proofs.lemmas.List.{map-append, length-append, length-map}
 use Rattle.std.specs.Int.NonZero.{non_zero_u32_get}
 use Rattle.std.specs.declared.num.NonZeroU32.{NonZeroU32 as Token}
@@ -20,11 +20,29 @@ use Rattle.quick_cache_lists.specs.Slots.{Stand, AmongHot, AmongCold, AmongStill
 use Rattle.quick_cache_lists.specs.Sound.{put, gather, upto, tokens_of, lists_of, IsRingOf, IsStanding}
 use Rattle.quick_cache_lists.specs.Views.{items_of, residents}
 use Rattle.quick_cache_lists.specs.Walks.{items_in}
-use Rattle.quick_cache_lists.proofs.CopyLemmas.{ascending, upto-ascending}
 use Rattle.quick_cache_lists.proofs.GatherLemmas.{gather-append, gather-same, times-upto}
 use Rattle.quick_cache_lists.proofs.SlabFrames.{occupied_within, times-split}
 use Rattle.quick_cache_lists.proofs.SoundLemmas.{out_of_ring}
 use Rattle.quick_cache_lists.proofs.WalkLemmas.{items_in-gather}
+
+-- the tokens behind p, so many
+abbrev ascending : ℕ → ℕ → List ℕ
+ascending p zero = []
+ascending p (suc n) = suc p ∷ ascending (suc p) n
+
+ascending-push : (p n : ℕ) → ascending p (suc n) ≡ ascending p n ++ suc (p + n) ∷ []
+ascending-push p zero = let e : p ≡ p + 0 = omega arith in ap (λ m. suc m ∷ []) e
+ascending-push p (suc n) =
+    let e : suc p + n ≡ p + suc n = omega arith in
+    ap (λ xs. suc p ∷ xs) (ascending-push (suc p) n
+    ∙ ap (λ m. ascending (suc p) n ++ suc m ∷ []) e)
+
+upto-ascending : (n : ℕ) → upto n ≡ ascending 0 n
+upto-ascending zero = refl
+upto-ascending (suc n) =
+    let e : n ≡ 0 + n = omega arith in
+    ap (λ xs. xs ++ suc n ∷ []) (upto-ascending n) ∙ ap (λ m. ascending 0 n ++ suc m ∷ []) e
+    ∙ sym (ascending-push 0 n)
 
 module _ {Y : Type 0} where
   gather-none : (f : ℕ → Option Y) (xs : List ℕ)

@@ -154,6 +154,14 @@ module _ {K V P : Type 0} where
     pub loading : AllByRecursion
         (λ waiting. waiting.hash ≡ hash → stands_for waiting.key ≡ false) lists.loading
 
+  -- no item of that hash has a key that passes
+  pub record HasNoItem (stands_for : K → Bool) (hash : ℕ) (lists : Lists K V P) : Type 0 where
+    pub hot : AllByRecursion (λ held. held.hash ≡ hash → stands_for held.item.key ≡ false) lists.hot
+    pub cold : AllByRecursion
+        (λ held. held.hash ≡ hash → stands_for held.item.key ≡ false) lists.cold
+    pub still : AllByRecursion
+        (λ held. held.hash ≡ hash → stands_for held.item.key ≡ false) lists.still
+
   -- no item has such a key, nor a placeholder, and there is no ghost of that hash
   pub record HasNothing (stands_for : K → Bool) (hash : ℕ) (lists : Lists K V P) : Type 0 where
     pub keys : HasNoKey stands_for hash lists

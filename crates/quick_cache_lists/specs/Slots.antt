@@ -55,6 +55,19 @@ module _ {K V P T : Type 0} where
   is_under_at stands_for None = false
   is_under_at stands_for (Some slot) = is_under stands_for slot
 
+  abbrev pub has_item_under : (K → Bool) → Entry K V P T → Bool
+  has_item_under stands_for (item_variant item) = stands_for item.key
+  has_item_under stands_for (loading_variant awaited) = false
+  has_item_under stands_for ghost_variant = false
+
+  -- the slot has an item whose key passes
+  abbrev pub is_item_under : (K → Bool) → Slot K V P T → Bool
+  is_item_under stands_for slot = has_item_under stands_for slot.entry
+
+  abbrev pub is_item_under_at : (K → Bool) → Option (Slot K V P T) → Bool
+  is_item_under_at stands_for None = false
+  is_item_under_at stands_for (Some slot) = is_item_under stands_for slot
+
   abbrev pub entry_is_ghost : Entry K V P T → Bool
   entry_is_ghost (item_variant item) = false
   entry_is_ghost (loading_variant awaited) = false

@@ -3,12 +3,12 @@ use Rattle.std.specs.Prelude.{◌≡◌, ◌≢◌, ℕ, zero, suc, ◌+◌, ◌
 use Rattle.std.specs.Int.NonZero.{non_zero_u32_get}
 use Rattle.std.specs.declared.num.NonZeroU32.{NonZeroU32 as Token}
 use Rattle.quick_cache_slab.specs.LinkedSlab.{LinkedSlab, item_at, ring_from, times, next_token, spare, IsAlone}
-use Rattle.quick_cache_table.specs.Table.{Table, has_pair, HasPair, pair_count}
+use Rattle.quick_cache_table.specs.Table.{Table, has_pair, HasPair, pair_count, AddsPair}
 use Rattle.quick_cache_lists.specs.declared.entry.Slot.{Slot}
 use Rattle.quick_cache_lists.specs.declared.ring.Ring.{Ring}
 use Rattle.quick_cache_lists.specs.declared.rings.Rings.{Rings}
 use Rattle.quick_cache_lists.specs.Lists.{Lists, entry_count}
-use Rattle.quick_cache_lists.specs.Slots.{is_under_at, is_ghost_at, weight_at, Stand, AmongHot, AmongCold, AmongStill, AmongLoading, AmongGhosts, stand_of, has_hash, item_of, still_of, loading_of, ghost_of}
+use Rattle.quick_cache_lists.specs.Slots.{is_under_at, is_item_under_at, is_ghost_at, weight_at, Stand, AmongHot, AmongCold, AmongStill, AmongLoading, AmongGhosts, stand_of, has_hash, item_of, still_of, loading_of, ghost_of}
 
 -- before the rest, what there is
 abbrev pub put : {Y : Type 0} → Option Y → List Y → List Y
@@ -77,6 +77,13 @@ module _ {K V P T : Type 0} where
     pub light : (token : ℕ) → weight_at (item_at slab token) < 18446744073709551616
     pub counted : pair_count table + length slab.free ≡ length slab.slots
 
+  -- the hashes of these entries came to the table one by one
+  abbrev pub AddsPairs : List (ℕ × Slot K V P T) → (old new : Table) → Type 0
+  AddsPairs [] old new = new ≡ old
+  AddsPairs (entry ∷ entries) old new =
+      (between : Table) × AddsPair old between entry.1.hash entry.0
+      × AddsPairs entries between new
+
   -- each ring has its entries, and the others stand alone
   pub record IsStanding (slab : LinkedSlab (Slot K V P T)) (hot cold ghosts : Ring) : Type 0 where
     pub hot_ring : IsRingOf slab hot AmongHot
@@ -106,3 +113,10 @@ module _ {K V P T : Type 0} where
         × (is_ghost_at (item_at slab t) ≡ true → shade ≢ None)
     pub noted : IfSome shade (λ t. HasPair table hash (non_zero_u32_get t)
         × (is_ghost_at (item_at slab (non_zero_u32_get t)) ≡ true))
+
+  -- a walk along the tokens of a hash, with these left, that passed no item whose key passes
+  pub record PassesNoItem (slab : LinkedSlab (Slot K V P T)) (table : Table) (hash : ℕ)
+      (stands_for : K → Bool) (left : List ℕ) : Type 0 where
+    pub left_has : (t : ℕ) → 0 < times t left → HasPair table hash t
+    pub passed : (t : ℕ) → HasPair table hash t → times t left ≡ 0
+        → is_item_under_at stands_for (item_at slab t) ≡ false

@@ -1,11 +1,10 @@
 //! What stands in a slot.
-ghost use Rattle.std.specs.Prelude.{◌≡◌, true, false, IfOk, OnErr};
-ghost use Rattle.quick_cache_lists.specs.Slots.{is_under, is_ghost, is_item, weight_in, slot_changed, stand_in, loading_in};
-ghost use Rattle.quick_cache_lists.specs.Lists.{with_counts, with_weight, requeued, is_placeholder, is_weightless};
-ghost use Rattle.quick_cache_lists.specs.Copies.{IsEntryCopy};
+ghost use Rattle.std.specs.Prelude.{◌≡◌, true};
+ghost use Rattle.quick_cache_lists.specs.Slots.{is_under, is_item_under, is_ghost, is_item, weight_in, slot_changed, stand_in, loading_in};
+ghost use Rattle.quick_cache_lists.specs.Lists.{with_counts, with_weight, requeued, is_weightless};
 
 use crate::resident::Resident;
-use quick_cache_model::{Equivalent, Queue, Refusal, Touches};
+use quick_cache_model::{Equivalent, Queue, Touches};
 use std::hash::Hash;
 use std::mem::replace;
 
@@ -38,8 +37,8 @@ pub(crate) enum Stand {
 /// An entry under its hash.
 #[derive(Drop)]
 pub struct Slot<K, V, P, T> {
-    pub hash: u64,
     pub entry: Entry<K, V, P, T>,
+    pub hash: u64,
 }
 
 impl Stand {
@@ -89,21 +88,6 @@ impl<K, V, P, T> Entry<K, V, P, T> {
     }
 }
 
-impl<K: Clone + Drop, V: Clone + Drop, P, T: Touches> Entry<K, V, P, T> {
-    /// A copy of an item, with no touches, or another ghost. A refusal is for want of memory.
-    pub(crate) fn try_copy(&self) -> Result<Self, Refusal>
-        requires { is_placeholder self.now ≡ false }
-        ensures copies { IfOk result (IsEntryCopy K.is_clone V.is_clone self.now) }
-        ensures refused { OnErr result (result ≡ Err Refusal.Memory) }
-    {
-        match self {
-            Entry::Item(resident) => Ok(Entry::Item(resident.try_copy()?)),
-            Entry::Loading(_) => unreachable!(),
-            Entry::Ghost => Ok(Entry::Ghost),
-        }
-    }
-}
-
 impl<K, V, P, T> Slot<K, V, P, T> {
     /// Whether the query stands for the key of an item or of a placeholder.
     pub(crate) fn is_under<Q: Equivalent<K>>(&self, query: &Q) -> bool
@@ -114,6 +98,20 @@ impl<K, V, P, T> Slot<K, V, P, T> {
         match &self.entry {
             Entry::Item(resident) => query.equivalent(resident.key()),
             Entry::Loading(awaited) => query.equivalent(&awaited.key),
+            Entry::Ghost => false,
+        }
+    }
+
+    /// Whether it has an item for whose key the query stands.
+    #[inline(always)]
+    pub(crate) fn is_item_under<Q: Equivalent<K>>(&self, query: &Q) -> bool
+    where
+        K: Eq + Hash,
+        ensures { result ≡ is_item_under (Q.equivalent query.now) self.now }
+    {
+        match &self.entry {
+            Entry::Item(resident) => query.equivalent(resident.key()),
+            Entry::Loading(_) => false,
             Entry::Ghost => false,
         }
     }

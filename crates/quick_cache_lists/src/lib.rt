@@ -2,7 +2,7 @@
 //! by their hashes.
 //!
 //! No policy stands here. It knows nothing of weighers, hooks or hash functions: weights and hashes
-//! are handed in.
+//! are handed in, and a copy is handed what hashes its keys.
 #![tactic(auto)]
 
 mod entry;
@@ -16,6 +16,6 @@ mod walk;
 
 pub use entry::{Awaited, Entry, Slot};
 pub use found::Found;
-pub use lists::Lists;
+pub use lists::{Copying, Lists};
 pub use resident::Resident;
 pub use walk::{GhostIter, ItemIter, RingIter};

@@ -11,6 +11,7 @@ mod walks;
 
 use crate::entry::Slot;
 use crate::rings::Rings;
+pub use copies::Copying;
 use quick_cache_model::Refusal;
 use quick_cache_slab::LinkedSlab;
 use quick_cache_table::Table;

@@ -13,14 +13,14 @@ use std::mem::swap;
 /// ring.
 #[derive(Drop)]
 pub struct Resident<K, V, T> {
-    key: K,
-    value: V,
-    weight: u64,
     mark: u8,
-    reads: u64,
     queue: Queue,
     // What readers counted since the cache last took it in.
     touch: T,
+    key: K,
+    value: V,
+    reads: u64,
+    weight: u64,
 }
 
 impl<K, V, T> Model for Resident<K, V, T> {

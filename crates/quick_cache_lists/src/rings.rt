@@ -38,6 +38,7 @@ impl Rings {
     }
 
     /// Puts a token that is a ring of its own last in the ring of that list, if it is one.
+    #[inline(always)]
     pub(crate) fn enter<S, A: Allocator>(
         &mut self,
         slab: &mut LinkedSlab<S, A>,
@@ -59,6 +60,7 @@ impl Rings {
 
     /// Takes a token out of the counts of the ring of that list, if it is one. The ring begins
     /// behind the token where it restarts, or where it began with the token.
+    #[inline(always)]
     pub(crate) fn leave(
         &mut self,
         token: Token,

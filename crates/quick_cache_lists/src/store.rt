@@ -1,19 +1,21 @@
 //! The slots and the table in step: each entry is in a slot, and its hash leads to the slot.
-ghost use Rattle.std.specs.Prelude.{◌≡◌, ◌+◌, ◌<◌, Some};
+ghost use Rattle.std.specs.Prelude.{◌≡◌, ◌+◌, ◌<◌, ◌≤◌, ℕ, length, map, Some};
 ghost use Rattle.std.specs.Int.NonZero.{non_zero_u32_get as number};
-ghost use Rattle.quick_cache_slab.specs.LinkedSlab.{next_token, IsOccupied, IsNextOf, item_at};
-ghost use Rattle.quick_cache_table.specs.Table.{pair_count};
+ghost use Rattle.quick_cache_slab.specs.LinkedSlab.{next_token, times, IsOccupied, IsNextOf, item_at};
+ghost use Rattle.quick_cache_table.specs.Table.{pair_count, HasPair};
 ghost use Rattle.quick_cache_lists.specs.Frames.{IsPlaced, IsRemoved};
 ghost use Rattle.quick_cache_lists.specs.Slots.{weight_in};
-ghost use Rattle.quick_cache_lists.specs.Sound.{IsKeyed, room_of};
+ghost use Rattle.quick_cache_lists.specs.Sound.{AddsPairs, IsKeyed, room_of};
 
 use crate::entry::Slot;
 use quick_cache_model::Token;
 use quick_cache_slab::LinkedSlab;
+use quick_cache_slab::linked_slab::IterFrom;
 use quick_cache_table::Table;
 use std::alloc::Allocator;
 
 /// Puts an entry into a slot and its hash into the table.
+#[inline(always)]
 pub(crate) fn place<K, V, P, T, A: Allocator>(
     slab: &mut LinkedSlab<Slot<K, V, P, T>, A>,
     table: &mut Table<A>,
@@ -39,6 +41,7 @@ pub(crate) fn place<K, V, P, T, A: Allocator>(
 }
 
 /// Takes an entry out of its slot and its hash out of the table, and answers the token behind it.
+#[inline(always)]
 pub(crate) fn displace<K, V, P, T, A: Allocator>(
     slab: &mut LinkedSlab<Slot<K, V, P, T>, A>,
     table: &mut Table<A>,
@@ -59,5 +62,21 @@ pub(crate) fn displace<K, V, P, T, A: Allocator>(
             (slot, next)
         }
         None => unreachable!(),
+    }
+}
+
+/// Puts the hash of each of these entries into a table that has none of their tokens.
+pub(crate) fn key_all<K, V, P, T, A: Allocator>(
+    table: &mut Table<A>,
+    entries: IterFrom<'_, Slot<K, V, P, T>>,
+)
+    requires room { length entries ≤ table.old.room }
+    requires once { (token : ℕ) → times token (map (λ entry. entry.0) entries) ≤ 1 }
+    requires apart { (hash token : ℕ) → HasPair table.old hash token
+        → times token (map (λ entry. entry.0) entries) ≡ 0 }
+    ensures adds { AddsPairs entries.entry table.old table.new }
+{
+    for (token, slot) in entries {
+        table.insert_reserved(slot.hash, token);
     }
 }

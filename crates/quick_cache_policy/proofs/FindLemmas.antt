@@ -1,6 +1,6 @@
 -- What a query finds in the lists is what it finds in the state: the lists look at the entries of
 -- its hash, and the keys that it stands for are under that hash.
-use Rattle.std.proofs.Common.{◌≡◌, ◌≢◌, ℕ, ◌≤◌, Bool, true, false, true≢false, List, [], ◌∷◌, ◌++◌, map, refl, sym, ap, subst, ◌∙◌, arith}
+use Rattle.std.proofs.Common.{◌≡◌, ◌≢◌, ℕ, ◌≤◌, Bool, true, false, true≢false, List, [], ◌∷◌, ◌++◌, map, Option, Some, None, MatchOption, refl, sym, ap, subst, ◌∙◌, arith}
 use Rattle.std.specs.List.{AllByRecursion}
 use Rattle.std.proofs.lemmas.List.{map-append}
 use Rattle.quick_cache_model.specs.CacheState.{CacheState, LoadingEntry, Place, InHot, InCold, InStill, keys_by}
@@ -8,6 +8,7 @@ use Rattle.quick_cache_model.specs.Finding.{IsItemAt, IsLoadingAt, IsGhostAt, Ha
 use Rattle.quick_cache_model.proofs.EachElement.{all-middle}
 use Rattle.quick_cache_model.proofs.KeyCounts.{one_if, none-from_keys, loading_keys-split}
 use Rattle.quick_cache_lists.specs.Lists.{Lists, HeldItem, HeldLoading, HeldGhost, StandsIn, HasItem, HasNoKey, HasNothing, FindsItem, Finds, items_at}
+use Rattle.quick_cache_lists.specs.Lists.{HasNoItem as HasNoItemUnder}
 use Rattle.quick_cache_lists.specs.Views.{items_of, hashes_of, loading_entry, loading_entries}
 use Rattle.quick_cache_lists.specs.declared.found.Found.{Found}
 use Rattle.quick_cache_lists.specs.declared.found.Found.TheVariants.{Item as found_item, Loading as found_loading, Ghost as found_ghost, Nothing as found_nothing}
@@ -16,6 +17,12 @@ use Rattle.quick_cache_policy.specs.Contents.{AreHashed, state_of}
 use Rattle.quick_cache_policy.specs.Finding.{AreUnder}
 use Rattle.quick_cache_policy.specs.declared.contents.Contents.{Contents}
 use Rattle.quick_cache_model.proofs.EachElement.{all-weaker}
+
+-- what holds of an answer that is none
+pub none-found : {X P : Type 0} (Q : X → Type 0) (answer : Option X)
+    → ((x : X) → answer ≡ Some x → ⊥) → MatchOption answer P Q → P
+none-found Q None not is = is
+none-found Q (Some x) not is = absurd (not x refl)
 
 module _ {X Y : Type 0} (P : X → Type 0) (Q : Y → Type 0) (f : X → Y) where
   -- from the elements to their images in another type
@@ -85,6 +92,16 @@ module _ {K V P A T : Type 0} (ticket_of : P → ℕ) (stands_for : K → Bool) 
       still = items-fail contents.lists.still under.still none.still;
     };
     loading = loading-fail contents.lists.loading under.loading none.loading;
+  }
+
+  -- no item under the hash is no item at all
+  pub HasNoItem-state : AreUnder stands_for hash contents.lists
+      → HasNoItemUnder stands_for hash contents.lists
+      → HasNoItem stands_for (state_of ticket_of contents)
+  HasNoItem-state under none = record {
+    hot = items-fail contents.lists.hot under.hot none.hot;
+    cold = items-fail contents.lists.cold under.cold none.cold;
+    still = items-fail contents.lists.still under.still none.still;
   }
 
   -- nothing, in the lists and in the state

@@ -1,16 +1,39 @@
 //! A copy of a cache's contents.
-ghost use Rattle.std.specs.Prelude.{◌≡◌, ℕ, true, IfOk, IfErr};
-ghost use Rattle.quick_cache_model.specs.CacheState.{UpToOrder};
+ghost use Rattle.std.specs.Prelude.{◌≡◌, ℕ, IfOk, IfErr};
+ghost use Rattle.quick_cache_model.specs.Hashing.{hash_of};
 ghost use Rattle.quick_cache_model.specs.declared.refusal.Refusal.TheVariants.{Memory};
 ghost use Rattle.quick_cache_policy.specs.Contents.{IsSound, state_of, work_of};
-ghost use Rattle.quick_cache_policy.specs.Copies.{ClonesAreEqual, IsCopyOf};
+ghost use Rattle.quick_cache_policy.specs.Copies.{ClonesAreEqual, IsCopyOf, IsShare};
 ghost use Rattle.quick_cache_policy.specs.Work.{no_work};
 
 use crate::contents::Contents;
 use crate::placeholder::SharedPlaceholder;
-use quick_cache_model::Refusal;
+use quick_cache_lists::Copying;
+use quick_cache_model::{Refusal, hash_of};
 use std::alloc::Allocator;
-use std::hash::Hash;
+use std::hash::{BuildHasher, Hash};
+
+// A copy whose keys are hashed by a builder, and whose placeholders are shared.
+#[derive(Drop)]
+struct HashedAnew<'a, B> {
+    builder: &'a B,
+}
+
+impl<'a, K: Eq + Hash, P: SharedPlaceholder<K>, B: BuildHasher> Copying<K, P>
+    for HashedAnew<'a, B> {
+    ghost hash_of = { λ anew key.
+        hash_of B.BuildHasher B.Hasher.Hasher anew.builder.now (K.hash_input key) };
+
+    ghost shares = { λ anew. IsShare P.idx_of P.ticket_of };
+
+    fn hash(&self, key: &K) -> u64 {
+        hash_of(self.builder, key)
+    }
+
+    fn share(&self, placeholder: &P) -> P {
+        placeholder.share()
+    }
+}
 
 impl<
     K: Eq + Hash + Clone + Drop,
@@ -18,18 +41,16 @@ impl<
     P: SharedPlaceholder<K>,
     A: Allocator + Clone,
 > Contents<K, V, P, A> {
-    /// Contents of clones of the keys and values, with the same marks, order and counts. What is
-    /// being loaded is not copied.
-    pub fn try_copy(&self) -> Result<Self, Refusal>
+    /// Contents of clones of the keys and values, with the same marks, order and counts, and with
+    /// the placeholders of these. Its keys are hashed by that builder.
+    pub fn try_copy<B: BuildHasher>(&self, builder: &B) -> Result<Self, Refusal>
         requires keys { ClonesAreEqual K.eq K.is_clone }
-        ensures copies { IfOk result (λ copy. UpToOrder
-            (IsCopyOf K.is_clone V.is_clone (state_of P.ticket_of self.now))
-            (state_of P.ticket_of copy)) }
-        // Where equal keys have equal hashes, the copy is sound as this one is.
-        ensures sound { (hashed : K → ℕ)
-            → ((first second : K) → K.eq first second ≡ true → hashed first ≡ hashed second)
-            → IsSound P.ticket_of K.eq hashed self.now
-            → IfOk result (IsSound P.ticket_of K.eq hashed) }
+        ensures copies { IfOk result (λ copy. IsCopyOf K.is_clone V.is_clone
+            (state_of P.ticket_of self.now) (state_of P.ticket_of copy)) }
+        // By whatever hashes these are sound, the copy is so by those of the builder.
+        ensures sound { (hashed : K → ℕ) → IsSound P.ticket_of K.eq hashed self.now
+            → IfOk result (IsSound P.ticket_of K.eq
+            (λ key. hash_of B.BuildHasher B.Hasher.Hasher builder.now (K.hash_input key))) }
         ensures work { IfOk result (λ copy. work_of copy ≡ no_work) }
         ensures refused { IfErr result (λ refusal. refusal ≡ Memory) }
     {
@@ -38,7 +59,7 @@ impl<
             return Err(Refusal::Memory);
         };
         Ok(Contents {
-            lists: self.lists.try_clone(alloc)?,
+            lists: self.lists.try_clone(alloc, &HashedAnew { builder })?,
             capacity: self.capacity,
             hot_target: self.hot_target,
             ghost_limit: self.ghost_limit,

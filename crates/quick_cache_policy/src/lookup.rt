@@ -1,7 +1,7 @@
 //! Look-ups and removals.
 ghost use Rattle.std.specs.Prelude.{◌≡◌, ℕ, ◌≤◌, MatchOption};
 ghost use Rattle.quick_cache_model.specs.Removal.{Removes};
-ghost use Rattle.quick_cache_model.specs.CacheState.{UpToOrder, IsValid};
+ghost use Rattle.quick_cache_model.specs.CacheState.{UpToOrder};
 ghost use Rattle.quick_cache_policy.specs.Contents.{IsSound, state_of};
 ghost use Rattle.quick_cache_policy.specs.Finding.{AreUnder, IsLookedUp, IsMissed};
 
@@ -15,8 +15,8 @@ use std::hash::Hash;
 
 impl<K: Eq + Hash, V, P: SharedPlaceholder<K>, A: Allocator> Contents<K, V, P, A> {
     /// Takes note of a look-up: the item is marked and read, and a hit is counted, or a miss.
+    #[inline]
     pub fn look_up<Q: Equivalent<K>>(&mut self, hash: u64, query: &Q) -> Option<Token>
-        requires valid { IsValid K.eq (state_of P.ticket_of self.old) }
         requires under { AreUnder (Q.equivalent query.now) hash self.old.lists }
         ensures looks_up { MatchOption result
             (IsMissed P.ticket_of (Q.equivalent query.now) self.old self.new)
@@ -31,7 +31,7 @@ impl<K: Eq + Hash, V, P: SharedPlaceholder<K>, A: Allocator> Contents<K, V, P, A
         } }
     {
         self.lists.apart();
-        let Found::Item(token) = self.lists.find(hash, query) else {
+        let Some(token) = self.lists.find_item(hash, query) else {
             self.misses = self.misses.saturating_add(1);
             return None;
         };

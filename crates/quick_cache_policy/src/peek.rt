@@ -1,13 +1,12 @@
 //! A look that changes nothing.
 ghost use Rattle.std.specs.Prelude.{MatchOption};
-ghost use Rattle.quick_cache_model.specs.CacheState.{IsValid};
 ghost use Rattle.quick_cache_model.specs.Finding.{HasNoItem};
 ghost use Rattle.quick_cache_policy.specs.Contents.{state_of};
 ghost use Rattle.quick_cache_policy.specs.Finding.{AreUnder, IsThere};
 
 use crate::contents::Contents;
 use crate::placeholder::SharedPlaceholder;
-use quick_cache_lists::{Found, Resident};
+use quick_cache_lists::Resident;
 use quick_cache_model::Equivalent;
 use std::alloc::Allocator;
 use std::hash::Hash;
@@ -15,14 +14,13 @@ use std::hash::Hash;
 impl<K: Eq + Hash, V, P: SharedPlaceholder<K>, A: Allocator> Contents<K, V, P, A> {
     /// The item under the query. Nothing changes.
     pub fn peek<Q: Equivalent<K>>(&self, hash: u64, query: &Q) -> Option<&Resident<K, V, P::Touch>>
-        requires valid { IsValid K.eq (state_of P.ticket_of self.now) }
         requires under { AreUnder (Q.equivalent query.now) hash self.now.lists }
         ensures { MatchOption result
             (HasNoItem (Q.equivalent query.now) (state_of P.ticket_of self.now))
             (λ item. IsThere (Q.equivalent query.now) (state_of P.ticket_of self.now) item.now) }
     {
         self.lists.apart();
-        let Found::Item(token) = self.lists.find(hash, query) else {
+        let Some(token) = self.lists.find_item(hash, query) else {
             return None;
         };
         Some(self.lists.item(token))

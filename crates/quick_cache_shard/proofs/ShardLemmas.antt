@@ -1,12 +1,10 @@
 -- What always holds of a shard.
-use Rattle.std.proofs.Common.{◌≡◌, ℕ, ◌≤◌, Bool, true, false, true≢false, Option, Some, None, MatchOption, Result, Ok, MatchResult, sym, subst, ◌∙◌, arith}
+use Rattle.std.proofs.Common.{◌≡◌, ℕ, ◌≤◌, Bool, true, false, true≢false, Option, Some, None, MatchOption, Result, Ok, MatchResult, sym, subst, arith}
 use Rattle.std.specs.Option.{is_some}
 use Rattle.quick_cache_lists.specs.Lists.{entry_count}
 use Rattle.quick_cache_policy.specs.Contents.{IsSound, state_of, work_of}
 use Rattle.quick_cache_shard.specs.Shard.{Shard, IsSoundShard}
 use Rattle.quick_cache_policy.specs.declared.contents.Contents.{Contents}
-use Rattle.quick_cache_lists.specs.Lists.{HeldItem, HeldLoading}
-use Rattle.quick_cache_model.proofs.EachElement.{all-weaker}
 use Rattle.quick_cache_policy.proofs.AnswerLemmas.{entry_count-taken}
 
 module _ {K V P A T We B L : Type 0} (ticket_of : P → ℕ) (equal : K → K → Bool) (hash : K → ℕ)
@@ -42,26 +40,3 @@ MatchOption-some none some (Some x) is says gives = gives x says
 pub MatchResult-ok : {X E : Type 0} (ok : X → Type 0) (err : E → Type 0) (answer : Result X E)
     (x : X) → answer ≡ Ok x → MatchResult answer ok err → ok x
 MatchResult-ok ok err answer x is says = subst (λ r. MatchResult r ok err) is says
-
--- entries stand under their hashes by another function that gives the same
-pub IsSound-alike : {K V P A T : Type 0} (ticket_of : P → ℕ) (equal : K → K → Bool)
-    (hash other : K → ℕ) (contents : Contents K V P A T) → ((key : K) → other key ≡ hash key)
-    → IsSound ticket_of equal hash contents → IsSound ticket_of equal other contents
-IsSound-alike {K} {V} {P} ticket_of equal hash other contents alike sound =
-    let item : (held : HeldItem K V) → held.hash ≡ hash held.item.key
-    → held.hash ≡ other held.item.key = λ held is. is ∙ sym (alike held.item.key) in
-    let P : HeldItem K V → Type 0 = λ held. held.hash ≡ hash held.item.key in
-    let Q : HeldItem K V → Type 0 = λ held. held.hash ≡ other held.item.key in
-    record {
-      valid = sound.valid;
-      sized = sound.sized;
-      hashed = record {
-        hot = all-weaker P Q item contents.lists.hot sound.hashed.hot;
-        cold = all-weaker P Q item contents.lists.cold sound.hashed.cold;
-        still = all-weaker P Q item contents.lists.still sound.hashed.still;
-        loading = all-weaker (λ waiting. waiting.hash ≡ hash waiting.key)
-            (λ waiting. waiting.hash ≡ other waiting.key)
-            (λ waiting is. is ∙ sym (alike waiting.key)) contents.lists.loading
-            sound.hashed.loading;
-      };
-    }

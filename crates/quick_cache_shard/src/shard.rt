@@ -15,7 +15,7 @@ ghost use Rattle.quick_cache_model.specs.Removal.{Removes, pair_of};
 ghost use Rattle.quick_cache_model.specs.Sizes.{hot_target_of, ghost_limit_of};
 ghost use Rattle.quick_cache_policy.specs.Work.{no_work, WorksWithin};
 ghost use Rattle.quick_cache_policy.specs.Writing.{strategy_of, is_insert, AnswersWrite};
-ghost use Rattle.quick_cache_policy.specs.Copies.{ClonesAreEqual, ClonesHashAlike, IsCopyOf};
+ghost use Rattle.quick_cache_policy.specs.Copies.{ClonesAreEqual, IsCopyOf};
 ghost use Rattle.quick_cache_shard.specs.Shard.{rules_of, hooks_of, UpToOrder, IsSoundShard, HasItem};
 ghost use Rattle.quick_cache_model.specs.Refusals.{slots_taken, slot_count};
 
@@ -117,7 +117,8 @@ impl<K: Eq + Hash, V, We, B: BuildHasher, L, P: SharedPlaceholder<K>, A: Allocat
     }
 
     /// A cache of clones of the keys and values, with the same marks, order and counts, or
-    /// `Memory`. Its room is its own, and it has no placeholders.
+    /// `Memory`. Its room is its own, its builder hashes its keys, and the two share the
+    /// placeholders.
     pub fn try_clone(&self) -> Result<Self, Refusal>
     where
         K: Clone + Drop,
@@ -127,17 +128,14 @@ impl<K: Eq + Hash, V, We, B: BuildHasher, L, P: SharedPlaceholder<K>, A: Allocat
         L: Clone,
         A: Clone,
         requires keys { ClonesAreEqual K.eq K.is_clone }
-        requires hashes { ClonesHashAlike B.BuildHasher B.Hasher.Hasher B.is_clone
-            self.now.builder }
-        ensures copies { IfOk result (λ copy. UpToOrder
-            (IsCopyOf K.is_clone V.is_clone self.now.state) copy.state) }
+        ensures copies { IfOk result (λ copy.
+            IsCopyOf K.is_clone V.is_clone self.now.state copy.state) }
         ensures weigher { IfOk result (λ copy. We.is_clone self.now.weigher copy.weigher) }
         ensures builder { IfOk result (λ copy. B.is_clone self.now.builder copy.builder) }
         ensures lifecycle { IfOk result (λ copy. L.is_clone self.now.lifecycle copy.lifecycle) }
         ensures work { IfOk result (λ copy. copy.work ≡ no_work) }
         ensures refused { IfErr result (λ refusal. refusal ≡ Memory) }
     {
-        let contents = self.contents.try_copy()?;
         let weigher: Result<_, _> = self.terms.weigher.clone();
         let builder: Result<_, _> = self.terms.builder.clone();
         let lifecycle: Result<_, _> = self.terms.lifecycle.clone();
@@ -145,7 +143,7 @@ impl<K: Eq + Hash, V, We, B: BuildHasher, L, P: SharedPlaceholder<K>, A: Allocat
             return Err(Refusal::Memory);
         };
         Ok(CacheShard {
-            contents,
+            contents: self.contents.try_copy(&builder)?,
             terms: Terms {
                 weigher,
                 builder,
@@ -234,6 +232,7 @@ impl<K: Eq + Hash, V, We, B: BuildHasher, L, P: SharedPlaceholder<K>, A: Allocat
 
     /// The value under the query, which is handed in with its hash. A find counts a hit, marks the
     /// item and counts a read of it; else a miss is counted.
+    #[inline]
     pub fn get<Q: Equivalent<K>>(&mut self, hash: u64, query: &Q) -> Option<&V>
         requires hash_is { hash ≡ hash_of B.BuildHasher B.Hasher.Hasher self.old.builder
             (Q.hash_input query.now) }

@@ -1,5 +1,7 @@
 pub mod AllRings
 pub mod AtTokens
+pub mod CopiedNodes
+pub mod CountedSlots
 pub mod EditsByToken
 pub mod FreeTokens
 pub mod IteratedItems

@@ -25,7 +25,7 @@ pub next_after : (link first past first' : ℕ)
 next_after link first past first' (inl last) = last.1 ∙ rw (eq-eqb link first last.0) refl
 next_after link first past first' (inr more) = more.1 ∙ rw (ne_eqb link first more.0) refl
 
-AreRings-same : (next prev : ℕ → ℕ) (held held' : ℕ → Bool) → ((t : ℕ) → held' t ≡ held t)
+pub AreRings-same : (next prev : ℕ → ℕ) (held held' : ℕ → Bool) → ((t : ℕ) → held' t ≡ held t)
     → AreRings next prev held → AreRings next prev held'
 AreRings-same next prev held held' same rings = record {
   back = λ t there. rings.back t (sym (same t) ∙ there);

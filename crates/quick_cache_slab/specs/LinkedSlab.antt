@@ -1,5 +1,6 @@
 -- What a contract sees of a `LinkedSlab`: tokens with items, their rings, and the free tokens.
 use Rattle.std.specs.Prelude.{◌≡◌, ◌≢◌, ◌↔◌, ℕ, zero, suc, ◌+◌, ◌-◌, ◌<◌, ◌≤◌, cond, eqb, List, [], ◌∷◌, ◌++◌, length, map, drop, filter_map, Option, Some, None, IsSome, slice_index_or, slice_set}
+use Rattle.std.specs.List.{AllZip}
 use Rattle.std.specs.Int.NonZero.{non_zero_u32_get}
 use Rattle.std.specs.declared.num.NonZeroU32.{NonZeroU32 as Token}
 
@@ -148,6 +149,18 @@ module _ {T : Type 0} where
   -- the slab with another item at an occupied token
   abbrev pub with_item : LinkedSlab T → ℕ → T → LinkedSlab T
   with_item slab token item = record slab { slots = with_token slab.slots token (Some item) }
+
+  -- a copy stands where an item stands, and nothing where nothing does
+  abbrev pub IsSlotCopy : (T → T → Type 0) → Option T → Option T → Type 0
+  IsSlotCopy is_copy None None = Unit {0}
+  IsSlotCopy is_copy None (Some copy) = ⊥
+  IsSlotCopy is_copy (Some item) None = ⊥
+  IsSlotCopy is_copy (Some item) (Some copy) = is_copy item copy
+
+  -- copies of the items under the tokens of these, in the same rings, and the same free tokens
+  pub record AreItemCopies (is_copy : T → T → Type 0) (slab copy : LinkedSlab T) : Type 0 where
+    pub slots : AllZip (IsSlotCopy is_copy) slab.slots copy.slots
+    pub same : copy ≡ record slab { slots = copy.slots; room = copy.room }
 
   -- an empty slab with this room
   abbrev pub emptied : ℕ → LinkedSlab T

@@ -1,7 +1,7 @@
 -- How a `LinkedSlab` lays out its slots. No public clause cites this module.
 use Rattle.std.specs.Prelude.{◌≡◌, ℕ, zero, suc, ◌+◌, ◌-◌, ◌<◌, ◌≤◌, min, Bool, true, false, cond, eqb, ltb, List, [], ◌∷◌, length, map, Option, None, is_some}
 use Rattle.std.specs.List.{range_with_len}
-use Rattle.quick_cache_slab.specs.LinkedSlab.{LinkedSlab, at_token, with_token, first_or, times, without, joined}
+use Rattle.quick_cache_slab.specs.LinkedSlab.{LinkedSlab, IsSlotCopy, at_token, with_token, first_or, times, without, joined}
 use Rattle.std.specs.Int.NonZero.{non_zero_u32_get}
 use Rattle.quick_cache_slab.specs.declared.linked_slab.links.Node.{Node}
 
@@ -131,3 +131,9 @@ module _ {T : Type 0} where
   -- the backward links of the nodes
   abbrev pub prevs_of : List (Node T) → List ℕ
   prevs_of nodes = map (λ node. non_zero_u32_get node.prev) nodes
+
+  -- a node with the same links, and a copy of the item if it has one
+  pub record IsNodeCopy (is_copy : T → T → Type 0) (node copy : Node T) : Type 0 where
+    pub next : copy.next ≡ node.next
+    pub prev : copy.prev ≡ node.prev
+    pub item : IsSlotCopy is_copy node.item copy.item

@@ -4,6 +4,7 @@ ghost use Rattle.std.specs.Int.NonZero.{non_zero_u32_get as number};
 ghost use Rattle.quick_cache_slab.specs.LinkedSlab.{item_at, IsOccupied, ring_from, successor, next_token, spare, left, IsFull, placed, linked, unlinked, removed, IsNextOf, IsAlone, IsAloneIf, JoinsEnd, IsParted, items, entries_after, emptied, times};
 ghost use Rattle.quick_cache_slab.specs.SlabEdits.{PlacesItem, LinksToken, UnlinksToken, RemovesItem};
 
+mod copies;
 mod counts;
 mod drain;
 mod growth;
@@ -12,6 +13,7 @@ mod iter;
 mod links;
 mod unchecked;
 
+pub use copies::CopyItem;
 pub use drain::Drain;
 use growth::make_room;
 pub use item::ItemMut;

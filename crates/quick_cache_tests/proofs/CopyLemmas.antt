@@ -3,9 +3,9 @@ use lib.Pointwise.{pointwise}
 use Rattle.std.proofs.Common.{◌≡◌, ℕ, Bool, true, nat_eq, List, [], ◌∷◌, Result, Ok, Err, IfOk, refl, ◌∙◌}
 use Rattle.std.specs.Cmp.{nat_eq_equiv}
 use Rattle.std.specs.List.{AllZip}
-use Rattle.quick_cache_model.specs.CacheState.{CacheState, Item, UpToOrder}
+use Rattle.quick_cache_model.specs.CacheState.{CacheState, Item, LoadingEntry}
 use Rattle.quick_cache_lists.specs.Copies.{IsItemCopy}
-use Rattle.quick_cache_shard.specs.Copies.{ClonesAreEqual, IsCopyOf}
+use Rattle.quick_cache_shard.specs.Copies.{ClonesAreEqual, IsCopyOf, IsLoadingCopy}
 use Rattle.quick_cache_shard.specs.Shard.{ClonesExactly}
 
 -- clones of a list's elements are equal to them one by one
@@ -25,7 +25,7 @@ pointwise_numbers xs ys clones =
     pointwise_clones (λ (x : ℕ) (y : ℕ). y ≡ x) nat_eq
     (λ x y same. rw same (nat_eq_equiv.refl x)) xs ys clones
 
--- where a clone is the very thing, a copy is the very state, but for what is being loaded
+-- where a clone is the very thing, a copy is the very state
 module _ {K V : Type 0} (clones_key : K → K → Type 0) (clones_value : V → V → Type 0)
     (keys : ClonesExactly clones_key) (values : ClonesExactly clones_value) where
   items-same : (xs ys : List (Item K V)) → AllZip (IsItemCopy clones_key clones_value) xs ys
@@ -39,26 +39,31 @@ module _ {K V : Type 0} (clones_key : K → K → Type 0) (clones_value : V → 
       let first : y ≡ x = copies.0.same ∙ (λ i. record x { key = key i; value = value i }) in
       λ i. first i ∷ items-same xs ys copies.1 i
 
+  loading-same : (xs ys : List (LoadingEntry K)) → AllZip (IsLoadingCopy clones_key) xs ys
+      → ys ≡ xs
+  loading-same [] [] copies = refl
+  loading-same [] (y ∷ ys) copies = absurd copies
+  loading-same (x ∷ xs) [] copies = absurd copies
+  loading-same (x ∷ xs) (y ∷ ys) copies =
+      let key = keys x.key y.key copies.0.key in
+      let first : y ≡ x = copies.0.same ∙ (λ i. record x { key = key i }) in
+      λ i. first i ∷ loading-same xs ys copies.1 i
+
   IsCopyOf-exact : (state copy : CacheState K V) → IsCopyOf clones_key clones_value state copy
-      → copy ≡ record state { loading = [] }
+      → copy ≡ state
   IsCopyOf-exact state copy is =
       is.same
       ∙ (λ i. record state {
         hot = items-same state.hot copy.hot is.hot i;
         cold = items-same state.cold copy.cold is.cold i;
         still = items-same state.still copy.still is.still i;
-        loading = [];
+        loading = loading-same state.loading copy.loading is.loading i;
       })
 
   -- so is one that was made
   pub copies-exactly : {C E : Type 0} (state_of : C → CacheState K V) (state : CacheState K V)
       (result : Result C E)
-      → IfOk result (λ copy. UpToOrder (IsCopyOf clones_key clones_value state) (state_of copy))
-      → IfOk result (λ copy. UpToOrder (λ new. new ≡ record state { loading = [] })
-      (state_of copy))
-  copies-exactly state_of state (Ok copy) is = record {
-    ordered = is.ordered;
-    holds = IsCopyOf-exact state is.ordered is.holds;
-    same = is.same;
-  }
+      → IfOk result (λ copy. IsCopyOf clones_key clones_value state (state_of copy))
+      → IfOk result (λ copy. state_of copy ≡ state)
+  copies-exactly state_of state (Ok copy) is = IsCopyOf-exact state (state_of copy) is
   copies-exactly state_of state (Err refusal) is = is

@@ -9,7 +9,7 @@ ghost use Rattle.quick_cache_model.specs.Hashing.{hash_of};
 ghost use Rattle.quick_cache_model.specs.Lookups.{Sees, LooksUp};
 ghost use Rattle.quick_cache_model.specs.Removal.{Removes};
 ghost use Rattle.quick_cache_model.specs.Sizes.{hot_target_of, ghost_limit_of, default_hot_share, default_ghost_share};
-ghost use Rattle.quick_cache_shard.specs.Copies.{ClonesAreEqual, ClonesHashAlike, IsCopyOf};
+ghost use Rattle.quick_cache_shard.specs.Copies.{ClonesAreEqual, IsCopyOf};
 ghost use Rattle.quick_cache_shard.specs.Shard.{no_work, rules_of, hooks_of, HasItem, IsSoundShard, WorksWithin, UpToOrder};
 ghost use Rattle.quick_cache_unsync.specs.Inserts.{Inserts, InsertsAlone};
 ghost use Rattle.quick_cache_unsync.specs.Touches.{no_touches};
@@ -177,10 +177,8 @@ impl<K: Eq + Hash, V, We, B: BuildHasher, L, A: Allocator> Cache<K, V, We, B, L,
         L: Clone,
         A: Clone,
         requires keys { ClonesAreEqual K.eq K.is_clone }
-        requires hashes { ClonesHashAlike B.BuildHasher B.Hasher.Hasher B.is_clone
-            self.now.builder }
-        ensures copies { IfOk result (λ copy. UpToOrder
-            (IsCopyOf K.is_clone V.is_clone self.now.state) copy.state) }
+        ensures copies { IfOk result (λ copy.
+            IsCopyOf K.is_clone V.is_clone self.now.state copy.state) }
         ensures weigher { IfOk result (λ copy. We.is_clone self.now.weigher copy.weigher) }
         ensures builder { IfOk result (λ copy. B.is_clone self.now.builder copy.builder) }
         ensures lifecycle { IfOk result (λ copy. L.is_clone self.now.lifecycle copy.lifecycle) }
@@ -221,6 +219,7 @@ impl<K: Eq + Hash, V, We, B: BuildHasher, L, A: Allocator> Cache<K, V, We, B, L,
     }
 
     /// Looks the query's key up: the item is marked and read, and a hit or a miss is counted. It takes no memory.
+    #[inline]
     pub fn get<Q: Equivalent<K>>(&mut self, query: &Q) -> Option<&V>
         ensures* looks_up { sem 𝓛 (ends_so K.row V.row We.row B.row L.row A.row B.Hasher.row
             K.eq K.Hash.hash_input B.BuildHasher B.Hasher.Hasher A.Allocator self.entry

@@ -31,6 +31,7 @@ impl<K, V, P, T, A: Allocator> Lists<K, V, P, T, A> {
 
     /// Takes an entry out. Its ring keeps the order of the rest, or begins behind it where it
     /// restarts.
+    #[inline(always)]
     pub fn take(&mut self, token: Token, restarts: bool) -> Slot<K, V, P, T>
         requires { HasEntry self.old (number token) }
         ensures taken { IsEntry self.old (number token) result.hash result.entry }

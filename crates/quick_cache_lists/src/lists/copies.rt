@@ -1,77 +1,110 @@
-//! A copy of the lists: clones of the keys and the values, under tokens of their own.
-ghost use Rattle.std.specs.Prelude.{◌≡◌, ◌≤◌, false, length, filter, IfOk, IfErr, OnOk, OnErr};
-ghost use Rattle.std.specs.List.{AllByRecursion};
-ghost use Rattle.quick_cache_lists.specs.Lists.{is_placeholder, is_weightless};
-ghost use Rattle.quick_cache_lists.specs.Copies.{AreCopies, PutsCopies};
+//! A copy of the lists, slot for slot: clones of the keys and the values, under the same tokens.
+ghost use Rattle.std.specs.Prelude.{◌≡◌, ℕ, IfOk, IfErr, OnErr};
+ghost use Rattle.quick_cache_lists.specs.Copies.{AreCopies, IsAwaitedCopy, IsSlotCopy};
 
-use crate::entry::Slot;
+use crate::entry::{Awaited, Entry, Slot};
 use crate::lists::Lists;
-use crate::walk::Walk;
+use crate::store::key_all;
 use quick_cache_model::{Refusal, Touches};
-use quick_cache_slab::linked_slab::Iter;
+use quick_cache_slab::linked_slab::CopyItem;
+use quick_cache_table::Table;
 use std::alloc::Allocator;
 
-impl<K: Clone + Drop, V: Clone + Drop, P: Drop, T: Touches, A: Allocator> Lists<K, V, P, T, A> {
-    // Puts a copy of each slot of a ring last. A refusal is for want of memory.
-    fn put_ring(&mut self, walk: Walk<'_, Slot<K, V, P, T>, A>) -> Result<(), Refusal>
-        requires room { length walk ≤ self.old.room }
-        requires loaded { AllByRecursion (λ slot. is_placeholder slot.entry ≡ false) walk }
-        ensures copies { OnOk result
-            (PutsCopies K.is_clone V.is_clone walk.entry self.old self.new) }
-        ensures refused { OnErr result (result ≡ Err Refusal.Memory) }
-    {
-        for slot in walk {
-            let entry = slot.entry.try_copy()?;
-            self.put(slot.hash, entry);
-        }
-        Ok(())
-    }
+/// What a copy goes by: how it hashes its keys, and what stands in for a placeholder.
+pub trait Copying<K, P> {
+    /// The hash of a key of the copy.
+    ghost hash_of: { Self → K → ℕ };
 
-    // Puts a copy of each item last that weighs nothing. A refusal is for want of memory.
-    fn put_still(&mut self, slots: Iter<'_, Slot<K, V, P, T>>) -> Result<(), Refusal>
-        requires room { length (filter (λ slot. is_weightless slot.entry) slots) ≤ self.old.room }
-        ensures copies { OnOk result (PutsCopies K.is_clone V.is_clone
-            (filter (λ slot. is_weightless slot.entry) slots.entry) self.old self.new) }
+    /// The second placeholder stands in for the first.
+    ghost shares: { Self → P → P → Type 0 };
+
+    fn hash(&self, key: &K) -> u64
+        ensures { result ≡ hash_of self.now key.now };
+
+    /// The placeholder that the copy has for this one.
+    fn share(&self, placeholder: &P) -> P
+        ensures { shares self.now placeholder.now result };
+}
+
+// How the slots are copied.
+#[derive(Drop)]
+struct Copier<'a, C> {
+    by: &'a C,
+}
+
+impl<K: Clone + Drop, P> Awaited<K, P> {
+    // A copy of a key that is being loaded. A refusal is for want of memory.
+    fn try_copy<C: Copying<K, P>>(&self, by: &C) -> Result<Self, Refusal>
+        ensures copies { IfOk result (IsAwaitedCopy K.is_clone (C.shares by.now) self.now) }
         ensures refused { OnErr result (result ≡ Err Refusal.Memory) }
     {
-        for slot in slots {
-            if slot.entry.is_weightless() {
-                let entry = slot.entry.try_copy()?;
-                self.put(slot.hash, entry);
+        let Ok(key) = self.key.clone() else {
+            return Err(Refusal::Memory);
+        };
+        Ok(Awaited {
+            key,
+            queue: self.queue,
+            placeholder: by.share(&self.placeholder),
+        })
+    }
+}
+
+impl<'a, K: Clone + Drop, V: Clone + Drop, P: Drop, T: Touches, C: Copying<K, P>> CopyItem<
+    Slot<K, V, P, T>,
+> for Copier<'a, C> {
+    ghost is_copy = { λ copier. IsSlotCopy K.is_clone V.is_clone (C.hash_of copier.by.now)
+        (C.shares copier.by.now) };
+
+    fn copy(&self, slot: &Slot<K, V, P, T>) -> Result<Slot<K, V, P, T>, Refusal> {
+        match &slot.entry {
+            Entry::Item(resident) => {
+                let copy = resident.try_copy()?;
+                Ok(Slot {
+                    hash: self.by.hash(copy.key()),
+                    entry: Entry::Item(copy),
+                })
             }
+            Entry::Loading(awaited) => {
+                let copy = awaited.try_copy(self.by)?;
+                Ok(Slot {
+                    hash: self.by.hash(&copy.key),
+                    entry: Entry::Loading(copy),
+                })
+            }
+            Entry::Ghost => Ok(Slot {
+                hash: slot.hash,
+                entry: Entry::Ghost,
+            }),
         }
-        Ok(())
     }
+}
 
-    /// A copy in memory of its own: clones of the keys and the values, with no touches. It has
-    /// tokens of its own, and nothing that is being loaded.
+impl<K: Clone + Drop, V: Clone + Drop, P: Drop, T: Touches, A: Allocator> Lists<K, V, P, T, A> {
+    /// A copy in memory of its own: clones of the keys and the values, with no touches, and shared
+    /// placeholders. Each stands under its token, and under the hash that the copy gives its key; a
+    /// ghost keeps its hash.
     ///
-    /// Memory for all entries is asked for first. A refusal is for want of memory, be it of a clone.
-    pub fn try_clone(&self, alloc: A) -> Result<Self, Refusal>
+    /// A refusal is for want of memory, be it of a clone.
+    pub fn try_clone<C: Copying<K, P>>(&self, alloc: A, by: &C) -> Result<Self, Refusal>
     where
         A: Clone,
-        ensures copies { IfOk result (AreCopies K.is_clone V.is_clone self.now) }
+        ensures copies { IfOk result (AreCopies K.is_clone V.is_clone (C.hash_of by.now)
+            (C.shares by.now) self.now) }
         ensures refused { IfErr result (λ refused. refused ≡ Refusal.Memory) }
     {
-        self.apart();
-        let mut copy = Lists::new(alloc)?;
-        copy.reserve(self.table.len())?;
-        copy.put_ring(Walk {
-            slab: &self.slab,
-            at: self.rings.hot.head,
-            left: self.rings.hot.count,
-        })?;
-        copy.put_ring(Walk {
-            slab: &self.slab,
-            at: self.rings.cold.head,
-            left: self.rings.cold.count,
-        })?;
-        copy.put_still(self.slab.iter())?;
-        copy.put_ring(Walk {
-            slab: &self.slab,
-            at: self.rings.ghosts.head,
-            left: self.rings.ghosts.count,
-        })?;
-        Ok(copy)
+        self.slab.validate();
+        let Ok(for_slots) = alloc.clone() else {
+            return Err(Refusal::Memory);
+        };
+        let slab = self.slab.try_copy(for_slots, &Copier { by })?;
+        let mut table = Table::new(alloc)?;
+        table.reserve(slab.len())?;
+        key_all(&mut table, slab.iter_from(None));
+        Ok(Lists {
+            slab,
+            table,
+            rings: self.rings,
+            loading: self.loading,
+        })
     }
 }

@@ -1,8 +1,8 @@
 //! What the lists have: found by a query, or seen at a token.
-ghost use Rattle.std.specs.Prelude.{◌≡◌};
+ghost use Rattle.std.specs.Prelude.{◌≡◌, MatchOption};
 ghost use Rattle.std.specs.Int.NonZero.{non_zero_u32_get as number};
 ghost use Rattle.quick_cache_model.specs.CacheState.{ring_place};
-ghost use Rattle.quick_cache_lists.specs.Lists.{Finds, HasEntry, IsEntry, HasItemToken, IsItemOf, HasRingToken, next_in_ring, IsFirstAbove, number_or_zero, IsFirstOf, items_at};
+ghost use Rattle.quick_cache_lists.specs.Lists.{Finds, FindsItem, HasNoItem, HasEntry, IsEntry, HasItemToken, IsItemOf, HasRingToken, next_in_ring, IsFirstAbove, number_or_zero, IsFirstOf, items_at};
 
 use crate::entry::{Entry, Slot};
 use crate::found::Found;
@@ -38,6 +38,24 @@ impl<K, V, P, T, A: Allocator> Lists<K, V, P, T, A> {
             Some(token) => Found::Ghost(token),
             None => Found::Nothing,
         }
+    }
+
+    /// The item of that hash whose key the query stands for.
+    #[inline]
+    pub fn find_item<Q: Equivalent<K>>(&self, hash: u64, query: &Q) -> Option<Token>
+    where
+        K: Eq + Hash,
+        ensures { MatchOption result
+            (HasNoItem (Q.equivalent query.now) hash self.now)
+            (λ token. FindsItem (Q.equivalent query.now) hash self.now (number token)) }
+    {
+        for token in self.table.iter_hash(hash) {
+            let (slot, _) = unsafe { self.slab.get_unchecked(token) };
+            if slot.is_item_under(query) {
+                return Some(token);
+            }
+        }
+        None
     }
 
     /// The token of the item that is visited next.

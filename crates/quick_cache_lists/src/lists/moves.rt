@@ -10,6 +10,7 @@ use std::alloc::Allocator;
 impl<K, V, P, T, A: Allocator> Lists<K, V, P, T, A> {
     /// Puts another entry under a token, and answers the old one. The old one leaves its list as
     /// with `take`, the new one is put last as with `put`; the hash stays, and no room is needed.
+    #[inline(always)]
     pub fn replace(
         &mut self,
         token: Token,

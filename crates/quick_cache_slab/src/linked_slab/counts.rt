@@ -1,5 +1,5 @@
 //! What a `LinkedSlab` tells of itself.
-ghost use Rattle.std.specs.Prelude.{◌≡◌, ◌↔◌, count_by, is_some};
+ghost use Rattle.std.specs.Prelude.{◌≡◌, ◌↔◌, ◌+◌, length, count_by, is_some};
 ghost use Rattle.std.specs.Int.NonZero.{non_zero_u32_get as number};
 ghost use Rattle.quick_cache_slab.specs.LinkedSlab.{next_token, IsFull, IsParted};
 
@@ -19,7 +19,9 @@ impl<T, A: Allocator> LinkedSlab<T, A> {
 
     /// How many items there are. It looks at each slot.
     pub fn len(&self) -> usize
-        ensures { result ≡ count_by is_some self.now.slots }
+        ensures items { result ≡ count_by is_some self.now.slots }
+        // Each slot has an item or is free.
+        ensures free { result + length self.now.free ≡ length self.now.slots }
     {
         links::occupied_count(self.nodes.as_slice())
     }

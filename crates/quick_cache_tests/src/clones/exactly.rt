@@ -1,7 +1,7 @@
 //! Where a clone is the very value, as that of a number, the very value is shown.
-ghost use Rattle.std.specs.Prelude.{◌≡◌, [], IfOk, nat_eq};
+ghost use Rattle.std.specs.Prelude.{◌≡◌, IfOk, nat_eq};
 ghost use Rattle.quick_cache_loading.specs.LoadingRun.{LoadingRun};
-ghost use Rattle.quick_cache_shard.specs.Shard.{rules_of, hooks_of, ClonesExactly, UpToOrder};
+ghost use Rattle.quick_cache_shard.specs.Shard.{rules_of, hooks_of, ClonesExactly};
 ghost use Rattle.quick_cache_unsync.specs.CacheRun.{RunsCalls};
 ghost use Rattle.quick_cache_unsync.specs.CacheStep.{IsItself};
 ghost use Rattle.quick_cache_unsync.specs.Touches.{no_touches};
@@ -54,10 +54,9 @@ fn run_numbers<We: Weighter<u64, u64> + Drop, B: BuildHasher + Drop, L: Lifecycl
     run(alloc, cache, calls, state)
 }
 
-/// A copy of numbers has the very state, but for what is being loaded, and for the order of what has none.
+/// A copy of numbers has the very state.
 fn copy_numbers(cache: &Cache<u64, u64>) -> Result<Cache<u64, u64>, Refusal>
-    ensures { IfOk result (λ copy.
-        UpToOrder (λ state. state ≡ record cache.now.state { loading = [] }) copy.state) }
+    ensures { IfOk result (λ copy. copy.state ≡ cache.now.state) }
 {
     cache.try_clone()
 }

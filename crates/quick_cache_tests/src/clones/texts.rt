@@ -3,7 +3,7 @@ ghost use Rattle.std.specs.Prelude.{◌≡◌, IfOk, IfSome, string_bytes, strin
 ghost use Rattle.quick_cache_loading.specs.LoadingRun.{LoadingRun};
 ghost use Rattle.quick_cache_loading.specs.LoadingStep.{LoadingStep};
 ghost use Rattle.quick_cache_shard.specs.Copies.{IsCopyOf};
-ghost use Rattle.quick_cache_shard.specs.Shard.{rules_of, hooks_of, UpToOrder};
+ghost use Rattle.quick_cache_shard.specs.Shard.{rules_of, hooks_of};
 ghost use Rattle.quick_cache_tests.specs.Shown.{HasSameBytes, IsShownUnder};
 ghost use Rattle.quick_cache_unsync.specs.CacheRun.{RunsCalls};
 ghost use Rattle.quick_cache_unsync.specs.Touches.{no_touches};
@@ -55,7 +55,7 @@ fn get_text(alloc: Global, cache: &mut Cache<String, String>, key: String) -> Op
 /// A copy has texts of the same bytes, in the same order, with the same marks.
 fn copy_texts(cache: &Cache<String, String>) -> Result<Cache<String, String>, Refusal>
     ensures { IfOk result (λ copy.
-        UpToOrder (IsCopyOf HasSameBytes HasSameBytes cache.now.state) copy.state) }
+        IsCopyOf HasSameBytes HasSameBytes cache.now.state copy.state) }
 {
     cache.try_clone()
 }

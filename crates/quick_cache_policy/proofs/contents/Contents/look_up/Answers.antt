@@ -10,7 +10,8 @@ use Rattle.quick_cache_lists.specs.Lists.{HeldItem}
 use Rattle.quick_cache_lists.proofs.StandingLemmas.{found-same}
 use Rattle.quick_cache_policy.specs.Contents.{IsSound, state_of}
 use Rattle.quick_cache_policy.specs.Finding.{IsLookedUp}
-use Rattle.quick_cache_policy.proofs.LookupLemmas.{counted, looks_up-hit, counted-item, counted-sound, not_found}
+use Rattle.quick_cache_policy.proofs.FindLemmas.{none-found, HasNoItem-state}
+use Rattle.quick_cache_policy.proofs.LookupLemmas.{counted, looks_up-hit, counted-item, counted-sound}
 use Rattle.quick_cache_policy.proofs.contents.Contents.look_up.Goals as goal
 
 -- nothing was found, and a miss is counted
@@ -19,9 +20,8 @@ returns-in_default g c =
     let ticket_of = g.P.SharedPlaceholder.ticket_of in
     let contents = c.args.self.now in
     let stands_for = g.Q.Equivalent.equivalent c.args.query.now in
-    let none = not_found ticket_of contents g.K.PartialEq.eq g.met.K.Eq.laws stands_for
-    (λ first second. g.met.Q.Equivalent.same_key c.args.query.now first second) c.args.hash
-    c.find.result c.requires.under c.requires.valid c.in_default.not-Item c.find.ensures in
+    let none = HasNoItem-state ticket_of stands_for c.args.hash contents c.requires.under
+    (none-found _ _ c.in_default.not-Some c.find_item.ensures) in
     let count : c.saturating_add-self.result ≡ counted_up 1 contents.misses =
     omega (arith, c.saturating_add-self.ensures) in
     let now = ap (λ (n : ℕ). record (state_of ticket_of contents) { misses = n }) count in
@@ -50,16 +50,16 @@ returns-clause-looks_up g c =
     let ticket_of = g.P.SharedPlaceholder.ticket_of in
     let contents = c.args.self.now in
     let stands_for = g.Q.Equivalent.equivalent c.args.query.now in
-    let t = number c.in-Item.token in
+    let t = number c.in-Some.token in
     let apart = c.apart.ensures.apart in
     let item = c.item-item.result.now in
     let hash = c.item-item.ensures.0 in
     let has = c.item-item.ensures.1 in
     let passes = ap (λ (h : HeldItem _ _). stands_for h.item.key)
     (found-same contents.lists apart t
-    (record { token = t; hash = c.args.hash; item = c.in-Item.ensures.item })
-    (record { token = t; hash = hash; item = item }) c.in-Item.ensures.stands has refl refl)
-    ∙ c.in-Item.ensures.passes in
+    (record { token = t; hash = c.args.hash; item = c.in-Some.ensures.item })
+    (record { token = t; hash = hash; item = item }) c.in-Some.ensures.stands has refl refl)
+    ∙ c.in-Some.ensures.passes in
     let mark = c.min-mark.result + 1 in
     let mark_is : mark ≡ raised_by default_mark_cut 1 item.mark =
     omega (arith, c.mark.ensures, c.min-mark.ensures) in
@@ -75,7 +75,7 @@ returns-clause-looks_up g c =
       lists = c.set_counts.ensures i;
       hits = hits i;
     } in
-    subst (λ s. IsLookedUp ticket_of stands_for contents c.in-Item.token s) (sym now)
+    subst (λ s. IsLookedUp ticket_of stands_for contents c.in-Some.token s) (sym now)
     (record {
       item = item;
       now = counted-item ticket_of contents apart t hash item mark reads mark_is reads_are has;
@@ -90,16 +90,16 @@ returns-clause-sound g c = λ hashed sound.
     let ticket_of = g.P.SharedPlaceholder.ticket_of in
     let contents = c.args.self.now in
     let stands_for = g.Q.Equivalent.equivalent c.args.query.now in
-    let t = number c.in-Item.token in
+    let t = number c.in-Some.token in
     let apart = c.apart.ensures.apart in
     let item = c.item-item.result.now in
     let hash = c.item-item.ensures.0 in
     let has = c.item-item.ensures.1 in
     let passes = ap (λ (h : HeldItem _ _). stands_for h.item.key)
     (found-same contents.lists apart t
-    (record { token = t; hash = c.args.hash; item = c.in-Item.ensures.item })
-    (record { token = t; hash = hash; item = item }) c.in-Item.ensures.stands has refl refl)
-    ∙ c.in-Item.ensures.passes in
+    (record { token = t; hash = c.args.hash; item = c.in-Some.ensures.item })
+    (record { token = t; hash = hash; item = item }) c.in-Some.ensures.stands has refl refl)
+    ∙ c.in-Some.ensures.passes in
     let mark = c.min-mark.result + 1 in
     let mark_is : mark ≡ raised_by default_mark_cut 1 item.mark =
     omega (arith, c.mark.ensures, c.min-mark.ensures) in

@@ -3,30 +3,27 @@ use Rattle.std.specs.Int.NonZero.{non_zero_u32_get as number}
 use Rattle.quick_cache_lists.specs.Lists.{HeldItem}
 use Rattle.quick_cache_lists.specs.Views.{items_of}
 use Rattle.quick_cache_lists.proofs.StandingLemmas.{found-same}
-use Rattle.quick_cache_policy.proofs.FindLemmas.{IsItemAt-stands}
-use Rattle.quick_cache_policy.proofs.LookupLemmas.{not_found}
+use Rattle.quick_cache_policy.proofs.FindLemmas.{none-found, HasNoItem-state, IsItemAt-stands}
 use Rattle.quick_cache_policy.proofs.contents.Contents.peek.Goals as goal
 
 -- no item was found
 pub returns-in_default : goal.returns-in_default
 returns-in_default g c =
-    not_found g.P.SharedPlaceholder.ticket_of c.args.self.now g.K.PartialEq.eq g.met.K.Eq.laws
-    (g.Q.Equivalent.equivalent c.args.query.now)
-    (λ first second. g.met.Q.Equivalent.same_key c.args.query.now first second) c.args.hash
-    c.find.result c.requires.under c.requires.valid c.in_default.not-Item c.find.ensures
+    HasNoItem-state g.P.SharedPlaceholder.ticket_of (g.Q.Equivalent.equivalent c.args.query.now)
+    c.args.hash c.args.self.now c.requires.under (none-found _ _ c.in_default.not-Some c.find_item.ensures)
 
 -- the item of the token is the one that was found
 pub returns : goal.returns
 returns g c =
     let stands_for = g.Q.Equivalent.equivalent c.args.query.now in
-    let t = number c.in-Item.token in
+    let t = number c.in-Some.token in
     let item = c.item.result.now in
     let has = c.item.ensures.1 in
     let passes = ap (λ (h : HeldItem g.row.K.Denot g.row.V.Denot). stands_for h.item.key)
     (found-same c.args.self.now.lists c.apart.ensures.apart t
-    (record { token = t; hash = c.args.hash; item = c.in-Item.ensures.item })
-    (record { token = t; hash = c.item.ensures.0; item = item }) c.in-Item.ensures.stands has refl
-    refl) ∙ c.in-Item.ensures.passes in
+    (record { token = t; hash = c.args.hash; item = c.in-Some.ensures.item })
+    (record { token = t; hash = c.item.ensures.0; item = item }) c.in-Some.ensures.stands has refl
+    refl) ∙ c.in-Some.ensures.passes in
     record {
       place = has.place;
       before = items_of has.stands.before;

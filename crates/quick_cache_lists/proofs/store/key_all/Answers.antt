@@ -1,0 +1,46 @@
+use Rattle.std.proofs.Common.{◌≤◌, length, sym, ap, subst, refl, rules, arith}
+use Rattle.std.specs.Int.NonZero.{non_zero_u32_get as number}
+use Rattle.quick_cache_lists.specs.Sound.{AddsPairs}
+use Rattle.quick_cache_lists.proofs.CopyLemmas.{first-times, rest-times, rest-apart}
+use Rattle.quick_cache_lists.proofs.store.key_all.Goals as goal
+
+pub loop-token-init : goal.loop-token-init
+loop-token-init g c =
+    rw c.into_iter-token-iterator.ensures.into_iter_gives (record {
+      room = c.requires.room;
+      once = c.requires.once;
+      apart = c.requires.apart;
+      adds = λ last adds. adds;
+    })
+
+-- a token that is left has no pair
+pub insert_reserved-requires-clause-is_new : goal.insert_reserved-requires-clause-is_new
+insert_reserved-requires-clause-is_new g c =
+    λ has. omega (
+      arith,
+      first-times (number c.in-Some.token) c.in-Some.slot.now c.loop-token.token-iterator
+          c.next.new.self c.in-Some.ensures.steps,
+      c.loop-token.invariant.apart c.in-Some.slot.now.hash (number c.in-Some.token) has,
+    )
+
+pub loop-token-preserved : goal.loop-token-preserved
+loop-token-preserved g c =
+    let t = number c.in-Some.token in
+    let slot = c.in-Some.slot.now in
+    let all = c.loop-token.token-iterator in
+    let rest = c.next.new.self in
+    let cut = c.in-Some.ensures.steps in
+    record {
+      room = omega (arith, ap length cut, c.loop-token.invariant.room, c.insert_reserved.ensures.room);
+      once = λ token. omega
+          (arith, rest-times token t slot all rest cut, c.loop-token.invariant.once token);
+      apart = rest-apart c.loop-token.table c.insert_reserved.new.self slot.hash t slot all rest cut
+          c.insert_reserved.ensures.adds c.loop-token.invariant.once c.loop-token.invariant.apart;
+      adds = λ last adds. c.loop-token.invariant.adds last
+          (rw cut (c.insert_reserved.new.self, c.insert_reserved.ensures.adds, adds));
+    }
+
+pub returns : goal.returns
+returns g c = record {
+  adds = c.loop-token.invariant.adds c.loop-token.table (rw c.in-None.ensures.steps.0 refl);
+}
