@@ -1,0 +1,11 @@
+use Rattle.std.proofs.Common.{◌≡◌, Option, Some, None, sym, ◌∙◌}
+use Rattle.quick_cache_lists.proofs.ItemLemmas.{item_by_token}
+use Rattle.quick_cache_lists.proofs.lists.Lists.numbered.Goals as goal
+
+-- the first slot is that of the token 1
+pub returns : goal.returns
+returns g c = λ has.
+    let i = c.self.inside in
+    let at = item_by_token i.slab i.table i.rings.hot i.rings.cold i.rings.ghosts 0
+    (rw (← c.self.view_is) at has) in
+    absurd (cc (at.2))
