@@ -1,6 +1,6 @@
 //! Caches are made, copied, and given room.
 use quick_cache_unsync::{
-    Cache, DefaultHashBuilder, DefaultLifecycle, Refusal, UnitWeighter, Weighter,
+    Cache, DefaultHashBuilder, DefaultLifecycle, OptionsBuilder, UnitWeighter, Weighter,
 };
 use std::test::Fail;
 
@@ -71,5 +71,24 @@ fn try_clone(rt: HostRuntime) -> Result<(), Fail> {
         (Some(10), None)
     );
     assert_eq!(rt; cache.get(&2).copied(), Some(20));
+    Ok(())
+}
+
+#[test]
+fn with_options(rt: HostRuntime) -> Result<(), Fail> {
+    let options = OptionsBuilder::new()
+        .estimated_items_capacity(100)
+        .weight_capacity(1000)
+        .hot_allocation(900000)
+        .build()?;
+    let mut cache: Cache<u64, u64> = Cache::with_options(
+        rt.alloc(),
+        options,
+        UnitWeighter,
+        DefaultHashBuilder::new(),
+        DefaultLifecycle::new(),
+    )?;
+    cache.insert(1, 10)?;
+    assert_eq!(rt; (cache.capacity(), cache.shard().hot_target()), (1000, 900));
     Ok(())
 }

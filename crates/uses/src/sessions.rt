@@ -11,8 +11,8 @@ pub struct Session {
     pub pages: u64,
 }
 
-/// The sessions that left in a call, to be written back. A call of a cache of unit weights lets two leave at
-/// most: an old session under the key, and one that makes room.
+/// The sessions that left in a call, to be written back. A call of a cache of unit weights lets two
+/// leave at most: an old session under the key, and one that makes room.
 pub type Leaving = [Option<(u64, Session)>; 2];
 
 /// Hands on what leaves.
@@ -89,8 +89,8 @@ impl Sessions {
     ///
     /// # Errors
     ///
-    /// Where there is no memory. A session that left and could not be written is lost then, as it would be on
-    /// a disk that is full.
+    /// Where there is no memory. A session that left and could not be written is lost then, as it
+    /// would be on a disk that is full.
     pub fn keep(&mut self, visitor: u64, session: Session) -> Result<(), Refusal> {
         let mut leaving = Leaving::default();
         self.in_use
