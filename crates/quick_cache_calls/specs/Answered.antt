@@ -1,5 +1,5 @@
 -- Replies that answer their call.
-use Rattle.std.specs.Prelude.{◌≡◌, Bool, true, false, List, [], ◌∷◌, Result, Ok, Err, Vec}
+use Rattle.std.specs.Prelude.{◌≡◌, Bool, true, false, List, ◌∷◌, Result, Ok, Err, Vec}
 use Rattle.quick_cache_calls.specs.declared.call.Call.{Call}
 use Rattle.quick_cache_calls.specs.declared.call.Call.TheVariants.{Get, Peek}
 use Rattle.quick_cache_calls.specs.declared.reply.Reply.{Reply}
