@@ -17,6 +17,8 @@ pub mod AdmissionLemmas
 pub mod AnswerLemmas
 pub mod EnterLemmas
 pub mod LookupLemmas
+pub mod TokenLemmas
+pub mod RetainLemmas
 pub mod ColdSoundLemmas
 pub mod ColdLemmas
 pub mod FirstLemmas

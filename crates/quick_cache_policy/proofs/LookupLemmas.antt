@@ -1,11 +1,9 @@
 -- What look-ups and removals find, and what they leave.
-use Rattle.std.proofs.Common.{◌≡◌, ℕ, ◌+◌, ◌≤◌, Bool, true, false, true≢false, List, [], ◌∷◌, ◌++◌, Option, Some, None, refl, sym, ap, subst, ◌∙◌, arith}
+use Rattle.std.proofs.Common.{◌≡◌, ℕ, ◌+◌, Bool, true, false, List, ◌∷◌, ◌++◌, Option, Some, None, refl, sym, ap, subst, ◌∙◌}
 use Rattle.std.specs.List.{AllByRecursion}
-use Rattle.std.specs.declared.num.NonZeroU32.{NonZeroU32 as Token}
 use Rattle.std.proofs.lemmas.List.{map-append}
 use Rattle.quick_cache_model.specs.CacheState.{CacheState, Item, LoadingEntry, Place, InHot, InCold, InStill, UpToOrder, IsValid, default_mark_cut}
 use Rattle.quick_cache_model.specs.CacheState.{with_items as model_with_items}
-use Rattle.quick_cache_model.specs.Finding.{HasNoItem}
 use Rattle.quick_cache_model.specs.Lookups.{looked_up, after_hit, LooksUp}
 use Rattle.quick_cache_model.specs.Removal.{Removes}
 use Rattle.quick_cache_model.specs.Touches.{raised_by, counted_up}
@@ -13,11 +11,6 @@ use Rattle.quick_cache_model.proofs.EachElement.{all-without}
 use Rattle.quick_cache_model.proofs.OrderLaws.{UpToOrder-exact}
 use Rattle.quick_cache_model.proofs.Valid.Lookups.{LooksUp-valid, Removes-valid}
 use Rattle.quick_cache_lists.specs.Lists.{HeldItem, HeldLoading, HeldGhost, Lists, AreApart, StandsIn, HasItem, HasNoKey, IsItemOf, items_at, with_items, with_change, with_counts, without_entry}
-use Rattle.std.specs.Cmp.{IsEquivalence}
-use Rattle.quick_cache_model.proofs.KeyCounts.{one, one_if, loading_keys, loading_keys-split, none-from_keys}
-use Rattle.quick_cache_lists.specs.Lists.{Finds}
-use Rattle.quick_cache_lists.specs.declared.found.Found.{Found}
-use Rattle.quick_cache_lists.specs.declared.found.Found.TheVariants.{Item as found_item, Loading as found_loading, Ghost as found_ghost, Nothing as found_nothing}
 use Rattle.quick_cache_lists.specs.Views.{items_of, hashes_of, loading_entry, loading_entries}
 use Rattle.quick_cache_lists.proofs.CallerLemmas.{change-hot, change-cold, change-still, without-hot, without-cold, without-still, without-loading, without-ghost}
 use Rattle.quick_cache_policy.specs.declared.contents.Contents.{Contents}
@@ -196,7 +189,7 @@ module _ {K V P A T : Type 0} (ticket_of : P → ℕ) (contents : Contents K V P
   -- an item
   module _ (token : ℕ) (held : HeldItem K V) (has : HasItem contents.lists held)
       (named : held.token ≡ token) where
-    without_item : without_entry false token contents.lists
+    pub without_item : without_entry false token contents.lists
         ≡ record (with_items has.place (has.stands.before ++ has.stands.after) contents.lists) {
           next = held.token;
           room = contents.lists.room + 1;
@@ -205,7 +198,7 @@ module _ {K V P A T : Type 0} (ticket_of : P → ℕ) (contents : Contents K V P
         ∙ without-at contents.lists apart has.place has.stands.before has.stands.after held
         has.stands.split
 
-    without_item-state : state_with ticket_of contents (without_entry false token contents.lists)
+    pub without_item-state : state_with ticket_of contents (without_entry false token contents.lists)
         ≡ model_with_items has.place (items_of has.stands.before ++ items_of has.stands.after)
         (state_of ticket_of contents)
     without_item-state =

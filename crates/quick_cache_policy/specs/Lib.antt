@@ -8,3 +8,6 @@ pub mod HotRounds
 pub mod Writing
 pub mod Finding
 pub mod Copies
+pub mod Predicates
+pub mod Tokens
+pub mod Stats

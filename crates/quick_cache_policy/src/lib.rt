@@ -17,7 +17,10 @@ mod overwrite;
 mod peek;
 mod placeholder;
 mod policy;
+mod removal;
+mod stats;
 mod strategy;
+mod tokens;
 mod victim;
 
 pub use contents::Contents;

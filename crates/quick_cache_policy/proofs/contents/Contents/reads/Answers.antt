@@ -1,0 +1,15 @@
+use Rattle.std.proofs.Common.{arith}
+use Rattle.quick_cache_policy.proofs.contents.Contents.reads.Goals as goal
+
+-- what readers counted since comes to the reads
+pub returns : goal.returns
+returns g c =
+    record {
+      item = c.in_ok-item.item.now;
+      there = c.in_ok-item.ensures;
+      shows = (
+        c.seen.result,
+        c.seen.ensures,
+        omega (arith, c.saturating_add.ensures, c.reads.ensures),
+      );
+    }
