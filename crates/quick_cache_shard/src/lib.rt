@@ -2,7 +2,10 @@
 #![tactic(auto)]
 
 mod readers;
+mod removal;
 mod shard;
+mod stats;
+mod tokens;
 mod walk;
 
 pub use quick_cache_model::Token;

@@ -8,6 +8,7 @@ pub use Rattle.quick_cache_shard.specs.Shard
 pub use Rattle.quick_cache_shard.specs.Copies
 pub use Rattle.quick_cache_shard.specs.Writing
 pub use Rattle.quick_cache_shard.specs.Work
+pub use Rattle.quick_cache_shard.specs.Predicates
 pub use Rattle.quick_cache_model.specs.Hashing
 pub use Rattle.quick_cache_model.specs.CacheState
 pub use Rattle.quick_cache_model.specs.Hooks

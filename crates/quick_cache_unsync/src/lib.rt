@@ -3,15 +3,19 @@
 
 mod cache;
 mod calls;
+mod iter;
 mod lifecycle;
 mod options;
 mod placeholder;
+mod removal;
+mod stats;
 
 pub use cache::Cache;
 pub use calls::{Call, Reply, run};
+pub use iter::Iter;
 pub use lifecycle::DefaultLifecycle;
 pub use quick_cache_base::options::{Options, OptionsBuilder};
 pub use quick_cache_model::{
-    DefaultHashBuilder, Equivalent, Lifecycle, Refusal, ToKey, UnitWeighter, Weighter, hash_of,
+    DefaultHashBuilder, Equivalent, ItemStats, Lifecycle, MemoryUsed, Refusal, ToKey, UnitWeighter, Weighter, hash_of,
 };
 pub use quick_cache_shard::CacheShard;

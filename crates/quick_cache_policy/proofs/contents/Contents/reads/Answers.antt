@@ -1,4 +1,4 @@
-use Rattle.std.proofs.Common.{arith}
+use Rattle.std.proofs.Common.{rules, arith}
 use Rattle.quick_cache_policy.proofs.contents.Contents.reads.Goals as goal
 
 -- what readers counted since comes to the reads
@@ -7,6 +7,7 @@ returns g c =
     record {
       item = c.in_ok-item.item.now;
       there = c.in_ok-item.ensures;
+      within = search rules;
       shows = (
         c.seen.result,
         c.seen.ensures,

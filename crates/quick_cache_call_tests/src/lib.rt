@@ -1,0 +1,5 @@
+//! Tests of the calls of a cache for one thread, by what they show.
+#![tactic(auto)]
+
+#[cfg(test)]
+mod removal;

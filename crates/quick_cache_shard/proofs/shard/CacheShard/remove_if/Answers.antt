@@ -1,0 +1,21 @@
+use Rattle.std.specs.Fn.{FnOnceReturnsAt}
+use Rattle.quick_cache_model.proofs.OrderLaws.{UpToOrder-map}
+use Rattle.quick_cache_policy.proofs.TokenLemmas.{RemovesAsked-test}
+use Rattle.quick_cache_shard.proofs.ShardLemmas.{IsSound-shard}
+use Rattle.quick_cache_shard.proofs.shard.CacheShard.remove_if.Goals as goal
+
+pub invariant_of-self : goal.invariant_of-self
+invariant_of-self g c = c.remove_if-taken.ensures.sound _ c.self.invariant
+
+-- what a pure test answers, the predicate answered
+pub returns-clause-removes : goal.returns-clause-removes
+returns-clause-removes g c = λ passes as_test.
+    rw (← c.self.view_is) (UpToOrder-map _ _ _
+    (λ state. RemovesAsked-test (g.Q.Equivalent.equivalent c.args.query.now)
+    (FnOnceReturnsAt g.F.FnOnce c.args.wanted) passes as_test _ state c.remove_if-taken.result)
+    c.remove_if-taken.ensures.removes)
+
+pub returns-clause-sound : goal.returns-clause-sound
+returns-clause-sound g c =
+    IsSound-shard g.P.SharedPlaceholder.ticket_of g.K.PartialEq.eq _ c.remove_if-taken.new.self
+    (c.remove_if-taken.ensures.sound _ c.self.invariant) c.apart.ensures.within _ _ _

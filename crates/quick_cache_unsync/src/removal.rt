@@ -1,0 +1,77 @@
+//! Removals by a predicate, and of all that there is.
+ghost use Rattle.std.specs.Prelude.{◌≡◌, ◌≤◌, ◌+◌, Bool};
+ghost use Rattle.std.specs.Fn.{FnOnceReturnsAt};
+ghost use Rattle.quick_cache_model.specs.Refusals.{slots_taken};
+ghost use Rattle.quick_cache_model.specs.Removal.{RemovesIf, Retains, cleared};
+ghost use Rattle.quick_cache_shard.specs.Predicates.{Answers, IsAnsweredAs, IsTestedAs, RemovesAsked, RetainsAsked};
+ghost use Rattle.quick_cache_shard.specs.Shard.{IsSoundShard, UpToOrder};
+
+use crate::cache::Cache;
+use quick_cache_model::Equivalent;
+use std::alloc::Allocator;
+use std::hash::{BuildHasher, Hash};
+
+impl<K: Eq + Hash, V, We, B: BuildHasher, L, A: Allocator> Cache<K, V, We, B, L, A> {
+    /// Takes the item under the query's key out where its value is wanted, and gives its pair. Its
+    /// ring keeps the order of the rest, and a ghost stays. The counts stay, no hook is called, and
+    /// it takes no memory.
+    pub fn remove_if<Q: Equivalent<K>, F: FnOnce(&V) -> bool>(
+        &mut self,
+        query: &Q,
+        wanted: F,
+    ) -> Option<(K, V)>
+        requires callable { F.IsAlwaysCallable wanted }
+
+        // Where the predicate answers as a pure test does, it is the removal by that test.
+        ensures removes { (passes : V → Bool) → IsTestedAs F.FnOnce wanted passes
+            → UpToOrder (RemovesIf (Q.equivalent query.now) self.old.state passes result)
+            self.new.state }
+
+        // Whatever it answers, the item goes or stays by that.
+        ensures asks { UpToOrder (RemovesAsked (Q.equivalent query.now) self.old.state
+            (FnOnceReturnsAt F.FnOnce wanted) result) self.new.state }
+        ensures room { self.old.room ≤ self.new.room }
+        ensures same { self.new ≡ record self.old { state = self.new.state; room = self.new.room } }
+        ensures sound { IsSoundShard K.eq self.new }
+    {
+        let hash = self.shard.hash(query);
+        self.shard.remove_if(hash, query, wanted)
+    }
+
+    /// Shows each item to the predicate and drops those that it does not keep. The rings keep the
+    /// order of the rest; placeholders and ghosts stay, and so do the counts. No hook is called,
+    /// and it takes no memory.
+    pub fn retain<F: Fn(&K, &V) -> bool>(&mut self, keep: F)
+    where
+        K: Drop,
+        V: Drop,
+        requires callable { F.IsAlwaysCallable keep }
+
+        // Where the predicate answers as a pure test does, it is the retain by that test.
+        ensures retains { (keeps : K → V → Bool) → IsAnsweredAs F.Fn keep keeps
+            → UpToOrder (Retains keeps self.old.state) self.new.state }
+
+        // Whatever it answers, each item goes or stays by that.
+        ensures asks { UpToOrder (RetainsAsked (Answers F.Fn keep) self.old.state) self.new.state }
+        ensures room { self.old.room ≤ self.new.room }
+        ensures same { self.new ≡ record self.old { state = self.new.state; room = self.new.room } }
+        ensures sound { IsSoundShard K.eq self.new }
+    {
+        self.shard.retain(keep);
+    }
+
+    /// Drops all items, and forgets those that left. The counts, the sizes and the memory stay. No
+    /// hook is called.
+    pub fn clear(&mut self)
+    where
+        K: Drop,
+        V: Drop,
+        ensures clears { self.new ≡ record self.old {
+          state = cleared self.old.state;
+          room = self.old.room + slots_taken self.old.state;
+        } }
+        ensures sound { IsSoundShard K.eq self.new }
+    {
+        self.shard.clear();
+    }
+}
