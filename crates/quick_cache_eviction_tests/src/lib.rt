@@ -3,10 +3,6 @@
 #![tactic(auto)]
 
 #[cfg(test)]
-mod kinds;
-#[cfg(test)]
-mod parts;
-#[cfg(test)]
 mod pins;
 #[cfg(test)]
 mod rings;
