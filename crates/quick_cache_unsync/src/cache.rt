@@ -37,7 +37,7 @@ pub struct Cache<
     L = DefaultLifecycle<K, V>,
     A: Allocator = Global,
 > {
-    shard: CacheShard<K, V, We, B, L, Placeholder, A>,
+    pub(crate) shard: CacheShard<K, V, We, B, L, Placeholder, A>,
 }
 
 impl<K: Eq + Hash, V, We, B: BuildHasher, L, A: Allocator> Model for Cache<K, V, We, B, L, A> {

@@ -3,8 +3,10 @@
 
 mod cache;
 mod calls;
+mod capacity;
 mod lifecycle;
 mod placeholder;
+mod replace;
 
 pub use cache::Cache;
 pub use calls::{Call, Reply, run};
