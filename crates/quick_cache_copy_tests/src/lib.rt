@@ -1,5 +1,5 @@
-//! Tests of copies: what a call shows of a value is a clone of it. Callers that keep texts, numbers, and
-//! keys of their own.
+//! Tests of copies: what a call shows of a value is a clone of it. Callers that keep texts,
+//! numbers, and keys of their own.
 #![tactic(auto)]
 
 #[cfg(test)]

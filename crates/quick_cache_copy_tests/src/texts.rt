@@ -35,7 +35,8 @@ fn run_texts<
     run(alloc, cache, calls, state)
 }
 
-/// Looks one key up by a run. A text that is given has the bytes of the text that stands under the key.
+/// Looks one key up by a run. A text that is given has the bytes of the text that stands under the
+/// key.
 fn get_text(alloc: Global, cache: &mut Cache<String, String>, key: String) -> Option<String>
     ensures { IfSome result (IsShownUnder (string_eq key) HasSameBytes cache.old.state) }
 {

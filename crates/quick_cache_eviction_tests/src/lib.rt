@@ -1,5 +1,5 @@
-//! Tests of eviction: what leaves a cache and in which order, which hooks are told, and what a walk then
-//! shows.
+//! Tests of eviction: what leaves a cache and in which order, which hooks are told, and what a walk
+//! then shows.
 #![tactic(auto)]
 
 #[cfg(test)]

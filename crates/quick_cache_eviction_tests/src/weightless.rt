@@ -1,5 +1,5 @@
-//! Items that weigh nothing, be it from the first or since a hook changed them, and items that became
-//! light enough.
+//! Items that weigh nothing, be it from the first or since a hook changed them, and items that
+//! became light enough.
 ghost use Rattle.std.specs.Prelude.{◌≡◌};
 
 use quick_cache_test_parts::caches::of_weight;

@@ -41,7 +41,8 @@ fn touched_items_outlive_an_eviction(rt: HostRuntime) -> Result<(), Fail> {
     for key in [1, 2, 3] {
         assert!(rt; put(&mut shard, &mut told, key, key));
     }
-    // The cold item 2 was touched, so it is promoted. Then the hot item 1, touched too, outlives it.
+    // The cold item 2 was touched, so it is promoted. Then the hot item 1, touched too, outlives
+    // it.
     assert!(rt; shows(shard.iter_hot(), &[(1, 0)]));
     assert!(rt; shows(shard.iter_cold(), &[(3, 0)]));
     assert!(rt; shows_ghosts(shard.iter_ghosts(), &[]));

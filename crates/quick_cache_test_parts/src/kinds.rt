@@ -1,5 +1,5 @@
-//! Values of kinds, a lifecycle that goes by the kind, and a weigher. A value is a hundred times its kind
-//! and its weight.
+//! Values of kinds, a lifecycle that goes by the kind, and a weigher. A value is a hundred times
+//! its kind and its weight.
 ghost use Rattle.std.specs.Prelude.{◌==◌, ◌/◌, ◌%◌};
 
 use quick_cache_unsync::{Lifecycle, Weighter};
@@ -49,8 +49,8 @@ impl Events {
     }
 }
 
-/// Pins values of kind 1. Before an eviction a value of kind 2 becomes one that weighs nothing, and one of
-/// kind 3 one that weighs 1.
+/// Pins values of kind 1. Before an eviction a value of kind 2 becomes one that weighs nothing, and
+/// one of kind 3 one that weighs 1.
 #[derive(Drop)]
 pub struct Kinds;
 

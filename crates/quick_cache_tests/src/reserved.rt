@@ -13,7 +13,8 @@ type RationedCache<'a> = Cache<
     &'a Rationed<Global>,
 >;
 
-/// The keys and the marks of both rings and the ghosts in their order, drawn together into one number.
+/// The keys and the marks of both rings and the ghosts in their order, drawn together into one
+/// number.
 fn order_of(cache: &RationedCache<'_>) -> u64 {
     let mut drawn = 0u64;
     for (key, _, mark) in cache.shard().iter_hot() {
@@ -45,8 +46,8 @@ fn seen_of(cache: &RationedCache<'_>) -> (usize, u64, u64, u64, u64) {
     )
 }
 
-/// Inserts new keys up to the first that is refused. Gives that key, and whether the refusal left all that
-/// can be seen as it was.
+/// Inserts new keys up to the first that is refused. Gives that key, and whether the refusal left
+/// all that can be seen as it was.
 fn first_refused(cache: &mut RationedCache<'_>) -> Option<(u64, bool)> {
     for key in 100..1100 {
         let before = seen_of(cache);
