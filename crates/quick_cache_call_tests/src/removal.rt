@@ -59,8 +59,14 @@ fn three_gets_are_three_reads_and_a_peek_is_none(rt: HostRuntime) -> Result<(), 
         cache.get(&1);
     }
     cache.peek(&1);
-    assert_eq!(rt; cache.item_stats(&1).map(|stats| stats.access_count), Some(3));
-    assert_eq!(rt; cache.item_stats(&2).map(|stats| stats.access_count), Some(0));
+    assert_eq!(rt;
+        cache.item_stats(&1).map(|stats| stats.access_count),
+        Some(3)
+    );
+    assert_eq!(rt;
+        cache.item_stats(&2).map(|stats| stats.access_count),
+        Some(0)
+    );
     assert_eq!(rt; cache.item_stats(&9).map(|stats| stats.access_count), None);
     Ok(())
 }

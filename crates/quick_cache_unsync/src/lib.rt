@@ -3,11 +3,13 @@
 
 mod cache;
 mod calls;
+mod capacity;
 mod iter;
 mod lifecycle;
 mod options;
 mod placeholder;
 mod removal;
+mod replace;
 mod stats;
 
 pub use cache::Cache;
@@ -16,6 +18,7 @@ pub use iter::Iter;
 pub use lifecycle::DefaultLifecycle;
 pub use quick_cache_base::options::{Options, OptionsBuilder};
 pub use quick_cache_model::{
-    DefaultHashBuilder, Equivalent, ItemStats, Lifecycle, MemoryUsed, Refusal, ToKey, UnitWeighter, Weighter, hash_of,
+    DefaultHashBuilder, Equivalent, ItemStats, Lifecycle, MemoryUsed, Refusal, ToKey, UnitWeighter,
+    Weighter, hash_of,
 };
 pub use quick_cache_shard::CacheShard;
