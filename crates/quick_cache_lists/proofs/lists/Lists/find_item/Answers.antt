@@ -1,6 +1,5 @@
-use Rattle.std.proofs.Common.{◌∙◌, sym, ap, subst, List, ℕ}
+use Rattle.std.proofs.Common.{◌∙◌, sym, ap, subst}
 use Rattle.std.specs.Int.NonZero.{non_zero_u32_get as number}
-use Rattle.quick_cache_table.specs.Table.{IsTokensOf}
 use Rattle.quick_cache_lists.specs.Slots.{is_item_under_at}
 use Rattle.quick_cache_lists.specs.Sound.{PassesNoItem}
 use Rattle.quick_cache_lists.proofs.FindLemmas.{occupied_by_pair, item_under-is, FindsItem-from, HasNoItem-from, PassesNoItem-start, PassesNoItem-past, PassesNoItem-has, PassesNoItem-none}
