@@ -9,6 +9,7 @@ ghost use Rattle.quick_cache_call_laws.specs.CallLaws.{RunsAreSteps, RunsStayVal
 ghost use Rattle.quick_cache_call_laws.specs.CallLaws.{RunsStaySized};
 ghost use Rattle.quick_cache_call_laws.specs.CallLaws.{SecondRemovesGiveNothing};
 ghost use Rattle.quick_cache_call_laws.specs.CallLaws.{SecondRetainsRemoveNothing};
+ghost use Rattle.quick_cache_call_laws.specs.Victims.{PinnedPairsAreNoVictims};
 
 use quick_cache_laws::laws::{fill_law, removal_law, size_law, valid_law, write_law};
 use quick_cache_model::Touches;
@@ -53,3 +54,9 @@ pub fn run_law<K: Eq + Clone, V: Clone, F, T: Touches, M: Allocator>()
     valid_law::<K, V, T>();
     size_law::<K, V, T>();
 }
+
+/// In no run of calls is a pinned pair a victim, or turned away for its weight: `before_evict` is
+/// called on pairs alone that are not pinned.
+pub fn victim_law<K: Eq + Clone, V: Clone, F, T: Touches, M: Allocator>()
+    ensures { PinnedPairsAreNoVictims K V F M K.eq K.is_clone V.is_clone T.may_count }
+{}
