@@ -28,3 +28,5 @@ pub mod BoundLemmas
 pub mod CopyLemmas
 pub mod RewriteLemmas
 pub mod NewLemmas
+pub mod MakeLemmas
+pub mod FillLemmas

@@ -35,6 +35,13 @@ impl<'a, K: Eq + Hash, P: SharedPlaceholder<K>> Meaning<K, P> for SameTicket<'a,
     }
 }
 
+/// The mark of a value that comes in, where others waited for it or not.
+fn mark_if(waited: bool) -> u8
+    ensures { result ≡ (if waited then 1 else 0) }
+{
+    if waited { 1 } else { 0 }
+}
+
 impl<K: Eq + Hash + Drop, V: Drop, P: SharedPlaceholder<K>, A: Allocator> Contents<K, V, P, A> {
     /// Puts a pair that was admitted in, under a key that is nowhere, and makes room behind it where
     /// it weighs something. It is hot if it fits the hot target, and else of the given queue.
@@ -85,7 +92,7 @@ impl<K: Eq + Hash + Drop, V: Drop, P: SharedPlaceholder<K>, A: Allocator> Conten
         } else {
             otherwise
         };
-        let mark = u8::from(marked);
+        let mark = mark_if(marked);
         let item = Resident::new(key, value, weight, mark, queue, P::Touch::default());
         let _ = self.lists.put(hash, Entry::Item(item));
         if weight > 0 {

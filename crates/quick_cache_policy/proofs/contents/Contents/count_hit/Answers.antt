@@ -36,11 +36,11 @@ returns-clause-looks_up g c =
     let reads = c.saturating_add-reads.result in
     let reads_are : reads ≡ counted_up 1 item.reads =
     omega (arith, c.reads.ensures, c.saturating_add-reads.ensures) in
-    let hits : c.saturating_add-self-2.result ≡ counted_up 1 contents.hits =
-    omega (arith, c.saturating_add-self-2.ensures) in
+    let hits : c.saturating_add-self.result ≡ counted_up 1 contents.hits =
+    omega (arith, c.saturating_add-self.ensures) in
     let now : record contents {
       lists = c.set_counts.new.self;
-      hits = c.saturating_add-self-2.result;
+      hits = c.saturating_add-self.result;
     } ≡ counted contents t mark reads = λ i. record contents {
       lists = c.set_counts.ensures i;
       hits = hits i;
@@ -76,11 +76,11 @@ returns-clause-sound g c = λ hashed sound.
     let reads = c.saturating_add-reads.result in
     let reads_are : reads ≡ counted_up 1 item.reads =
     omega (arith, c.reads.ensures, c.saturating_add-reads.ensures) in
-    let hits : c.saturating_add-self-2.result ≡ counted_up 1 contents.hits =
-    omega (arith, c.saturating_add-self-2.ensures) in
+    let hits : c.saturating_add-self.result ≡ counted_up 1 contents.hits =
+    omega (arith, c.saturating_add-self.ensures) in
     let now : record contents {
       lists = c.set_counts.new.self;
-      hits = c.saturating_add-self-2.result;
+      hits = c.saturating_add-self.result;
     } ≡ counted contents t mark reads = λ i. record contents {
       lists = c.set_counts.ensures i;
       hits = hits i;
