@@ -1,5 +1,5 @@
 -- A placeholder that was made: the state that it leads to, and why none is made.
-use Rattle.std.proofs.Common.{◌≡◌, ◌≢◌, ℕ, ◌+◌, ◌-◌, ◌≤◌, ◌<◌, Bool, true, false, true≢false, List, [], ◌∷◌, ◌++◌, refl, sym, ap, subst, ◌∙◌, arith}
+use Rattle.std.proofs.Common.{◌≡◌, ◌≢◌, ℕ, ◌+◌, ◌-◌, ◌≤◌, ◌<◌, Bool, true, false, true≢false, List, [], ◌∷◌, ◌++◌, Result, Ok, Err, IsErr, IsErrAnd, refl, sym, ap, subst, ◌∙◌, arith}
 use Rattle.std.specs.List.{AllByRecursion}
 use Rattle.std.specs.Cmp.{IsEquivalence}
 use Rattle.std.proofs.lemmas.List.{map-append}
@@ -19,11 +19,12 @@ use Rattle.quick_cache_model.proofs.Valid.Edits.{after_miss-valid, with_placehol
 use Rattle.quick_cache_model.proofs.Valid.Orders.{SameButOrder-valid}
 use Rattle.quick_cache_lists.specs.declared.entry.Awaited.{Awaited}
 use Rattle.quick_cache_lists.specs.declared.entry.Entry.TheVariants.{Loading as loading_variant}
-use Rattle.quick_cache_lists.specs.Lists.{HeldLoading, Lists, PutsLast}
+use Rattle.quick_cache_lists.specs.Lists.{HeldLoading, Lists, PutsLast, slots_left}
 use Rattle.quick_cache_lists.specs.Views.{loading_entry, loading_entries}
 use Rattle.quick_cache_policy.specs.declared.contents.Contents.{Contents}
 use Rattle.quick_cache_policy.specs.Contents.{AreHashed, IsSound, state_of}
-use Rattle.quick_cache_policy.specs.Loading.{IsMade, MakesNone}
+use Rattle.quick_cache_policy.specs.Loading.{IsMade, MakesNone, Makes}
+use Rattle.quick_cache_policy.proofs.AnswerLemmas.{entry_count-taken}
 use Rattle.quick_cache_policy.proofs.EnterLemmas.{state_with}
 use Rattle.quick_cache_policy.proofs.SoundLemmas.{state_of-reordered, AreHashed-reordered}
 
@@ -89,6 +90,27 @@ module _ {K V : Type 0} (stands_for : K → Bool) (gives : K → Type 0) (hash :
     cause = memory_refused provided none;
     unchanged = refl;
   }
+
+-- what is handed on by `?` is the refusal of the call before
+module _ {K V P A X : Type 0} (ticket_of : P → ℕ) (stands_for : K → Bool) (gives : K → Type 0)
+    (hash : ℕ) (old new : Contents K V P A X) (refusal : Refusal) where
+  pub Makes-refused : (answer : Result P Refusal) → IsErr answer
+      → IsErrAnd answer (λ handed. handed ≡ refusal)
+      → MakesNone stands_for gives hash (state_of ticket_of old) refusal (state_of ticket_of new)
+      → Makes ticket_of stands_for gives hash old answer new
+  Makes-refused (Ok placeholder) is same none = absurd same
+  Makes-refused (Err handed) is same none =
+      subst (λ r. MakesNone stands_for gives hash (state_of ticket_of old) r
+      (state_of ticket_of new)) (sym same) none
+
+-- the slots are full where none is left
+pub full-slots : {K V P A X : Type 0} (ticket_of : P → ℕ) (contents : Contents K V P A X)
+    → slots_left contents.lists ≡ 0 → slot_count ≤ slots_taken (state_of ticket_of contents)
+full-slots ticket_of contents none = omega (arith, none, entry_count-taken ticket_of contents)
+
+pub free-slot : {K V P A X : Type 0} (ticket_of : P → ℕ) (contents : Contents K V P A X)
+    → slots_left contents.lists ≢ 0 → slots_taken (state_of ticket_of contents) < slot_count
+free-slot ticket_of contents some = omega (arith, some, entry_count-taken ticket_of contents)
 
 -- ---- one that was put last
 

@@ -41,8 +41,8 @@ returns-clause-meets g c =
     let is = entry-is_loading contents.lists c.apart.ensures.apart (number c.args.token)
     c.entry.result.now.hash c.entry.result.now.entry c.entry.ensures found.waiting found.stands
     found.named c.in-Loading.awaited c.in-Loading.is in
-    let ticket : ticket_of found.waiting.placeholder ≡ ticket_of c.share.result =
-    sym (c.share.ensures.ticket ∙ ap (λ (w : HeldLoading _ _). ticket_of w.placeholder) is) in
+    let ticket : ticket_of found.waiting.placeholder ≡ ticket_of c.share-shared.result =
+    sym (c.share-shared.ensures.ticket ∙ ap (λ (w : HeldLoading _ _). ticket_of w.placeholder) is) in
     let hits : counted_up 1 contents.hits ≡ c.saturating_add-self.result =
     omega (arith, c.saturating_add-self.ensures) in
     UpToOrder-exact _ _
