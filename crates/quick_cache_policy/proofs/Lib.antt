@@ -30,3 +30,5 @@ pub mod RewriteLemmas
 pub mod NewLemmas
 pub mod MakeLemmas
 pub mod FillLemmas
+pub mod GhostLemmas
+pub mod CapacityLemmas

@@ -6,6 +6,7 @@
 #![tactic(auto)]
 
 mod admission;
+mod capacity;
 mod cold;
 mod contents;
 mod copies;

@@ -3,9 +3,11 @@
 
 mod cache;
 mod calls;
+mod capacity;
 mod lifecycle;
 mod options;
 mod placeholder;
+mod replace;
 
 pub use cache::Cache;
 pub use calls::{Call, Reply, run};
