@@ -1,0 +1,3 @@
+pub mod StepParts
+pub mod CallSteps
+pub mod CallWrites
