@@ -8,6 +8,8 @@ pub mod HotRounds
 pub mod Writing
 pub mod Finding
 pub mod Copies
+pub mod Filling
+pub mod Loading
 pub mod Predicates
 pub mod Tokens
 pub mod Stats

@@ -2,6 +2,7 @@
 #![tactic(auto)]
 
 mod capacity;
+mod loading;
 mod readers;
 mod removal;
 mod shard;
