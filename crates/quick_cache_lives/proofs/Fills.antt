@@ -1,14 +1,12 @@
 -- A call that loads: it takes a placeholder, which is filled with a pair of an equal key, or given
 -- up.
-use Rattle.std.proofs.Common.{◌≡◌, ℕ, ◌≤◌, ◌<◌, ◌==◌, Bool, true, false, List, []}
-use Rattle.std.proofs.Common.{◌∷◌, ◌++◌, map, None, IsPermutation, refl, sym, ap, subst}
+use Rattle.std.proofs.Common.{◌≡◌, ℕ, Bool, true, false, List, []}
+use Rattle.std.proofs.Common.{◌∷◌, ◌++◌, map, None, IsPermutation, ap, subst}
 use Rattle.std.proofs.Common.{arith}
 use Rattle.std.specs.Cmp.{IsEquivalence}
 use Rattle.std.specs.List.{AllByRecursion}
 use Rattle.std.specs.Prelude.{count_by}
-use Rattle.std.proofs.lemmas.Bool.{eq-eqb}
 use Rattle.std.proofs.lemmas.List.Sorted.{IsPermutation-refl, IsPermutation-sym}
-use Rattle.quick_cache_model.specs.declared.queue.Queue.TheVariants.{Hot, Cold}
 use Rattle.quick_cache_model.specs.CacheState.{CacheState, LoadingEntry, IsValid, UpToOrder, entered}
 use Rattle.quick_cache_model.specs.Hooks.{Rules, HookCall, EvictCold}
 use Rattle.quick_cache_model.specs.Admission.{Admission, Admitted, TooHeavy, ChecksAdmission}
@@ -16,15 +14,14 @@ use Rattle.quick_cache_model.specs.Placeholders.{MakesPlaceholder, MeetsPlacehol
 use Rattle.quick_cache_model.specs.Placeholders.{GivesUpPlaceholder, FillsPlaceholder}
 use Rattle.quick_cache_model.specs.Placeholders.{MakesRoomFor}
 use Rattle.quick_cache_model.specs.Writes.{new_item, queue_for}
-use Rattle.quick_cache_model.proofs.EachElement.{all-append, all-middle, all-permutation}
-use Rattle.quick_cache_model.proofs.EachElement.{all-weaker}
-use Rattle.quick_cache_model.proofs.KeyCounts.{one_if, loading_keys-split}
+use Rattle.quick_cache_model.proofs.EachElement.{all-middle}
+use Rattle.quick_cache_model.proofs.KeyCounts.{loading_keys-split}
 use Rattle.quick_cache_model.proofs.Valid.Placeholders.{MakesPlaceholder-valid}
 use Rattle.quick_cache_model.proofs.Valid.Placeholders.{MeetsPlaceholder-valid}
 use Rattle.quick_cache_model.proofs.Valid.Placeholders.{GivesUpPlaceholder-valid}
 use Rattle.quick_cache_model.proofs.Valid.Placeholders.{FillsPlaceholder-valid}
-use Rattle.quick_cache_model.proofs.Valid.Tickets.{tickets, tickets-cons, tickets-append}
 use Rattle.quick_cache_calls.specs.Loads.{TakesPlaceholder, Loads, LoadsNothing}
+use Rattle.quick_cache_calls.proofs.TakenKeys.{IsTicketOf, stands_for, taken_keys}
 use Rattle.quick_cache_lives.specs.Fates.{Comes, fate_of, residents}
 use Rattle.quick_cache_lives.proofs.Eviction.{EvictsToCapacity-tells}
 use Rattle.quick_cache_lives.proofs.Leads.{Leads, Leads-same, Leads-from, Leads-changes}
@@ -62,85 +59,8 @@ module _ {K V : Type 0} where
       (MakesRoomFor.takes_some calls new heavy evicts) =
       EvictsToCapacity-tells rules 0 mid calls new evicts
 
--- the entries of a ticket, if any, have keys that the test passes
-abbrev IsTicketOf : {K : Type 0} → (K → Bool) → ℕ → LoadingEntry K → Type 0
-IsTicketOf test ticket entry = entry.ticket ≡ ticket → test entry.key ≡ true
-
--- entries none of which has a ticket
-no_ticket : {K : Type 0} (test : K → Bool) (ticket : ℕ) (entries : List (LoadingEntry K))
-    → tickets ticket entries ≡ 0 → AllByRecursion (IsTicketOf test ticket) entries
-no_ticket test ticket [] none = tt
-no_ticket test ticket (entry ∷ entries) none = (
-  λ same. absurd (omega (
-    arith,
-    none,
-    tickets-cons ticket entry entries,
-    ap one_if (eq-eqb entry.ticket ticket same),
-  )),
-  no_ticket test ticket entries (omega (arith, none, tickets-cons ticket entry entries)),
-)
-
--- the next ticket is new
-new_ticket : {K : Type 0} (test : K → Bool) (next : ℕ) (entries : List (LoadingEntry K))
-    → AllByRecursion (λ entry. entry.ticket < next) entries
-    → AllByRecursion (IsTicketOf test next) entries
-new_ticket test next entries given =
-    all-weaker (λ entry. entry.ticket < next) (IsTicketOf test next)
-    (λ entry below same. absurd (omega (arith, below, same))) entries given
-
 module _ {K V : Type 0} (equal : K → K → Bool) (laws : IsEquivalence equal) (key : K) where
   module _ (hash : ℕ) (old : CacheState K V) (valid : IsValid equal old) where
-    -- the placeholder that is made has an equal key
-    made_key : (own : K) (new : CacheState K V) → MakesPlaceholder (equal key) old hash own new
-        → AllByRecursion (IsTicketOf (equal key) old.next_ticket) new.loading
-    made_key own _ (MakesPlaceholder.on_nothing stands nothing) =
-        all-append (IsTicketOf (equal key) old.next_ticket) old.loading
-        (record { key = own; queue = Cold; ticket = old.next_ticket } ∷ [])
-        (new_ticket (equal key) old.next_ticket old.loading valid.tickets_given)
-        (λ same. stands, tt)
-    made_key own _ (MakesPlaceholder.on_ghost before after stands there) =
-        all-append (IsTicketOf (equal key) old.next_ticket) old.loading
-        (record { key = own; queue = Hot; ticket = old.next_ticket } ∷ [])
-        (new_ticket (equal key) old.next_ticket old.loading valid.tickets_given)
-        (λ same. stands, tt)
-
-    -- and so has one that is met
-    met_key : (ticket : ℕ) (new : CacheState K V) → MeetsPlaceholder (equal key) old ticket new
-        → AllByRecursion (IsTicketOf (equal key) ticket) new.loading
-    met_key _ _ (MeetsPlaceholder.is_there before entry after there) =
-        let has : one_if (entry.ticket == entry.ticket) ≡ 1 =
-        ap one_if (eq-eqb entry.ticket entry.ticket refl) in
-        let counts : tickets entry.ticket (before ++ entry ∷ after) ≤ 1 =
-        subst (λ entries. tickets entry.ticket entries ≤ 1) there.split
-        (valid.one_entry_a_ticket entry.ticket) in
-        let first : tickets entry.ticket before ≡ 0 =
-        omega (
-          arith,
-          counts,
-          has,
-          tickets-append entry.ticket before (entry ∷ after),
-          tickets-cons entry.ticket entry after,
-        ) in
-        let last : tickets entry.ticket after ≡ 0 =
-        omega (
-          arith,
-          counts,
-          has,
-          tickets-append entry.ticket before (entry ∷ after),
-          tickets-cons entry.ticket entry after,
-        ) in
-        subst (λ entries. AllByRecursion (IsTicketOf (equal key) entry.ticket) entries)
-        (sym there.split)
-        (all-append (IsTicketOf (equal key) entry.ticket) before (entry ∷ after)
-        (no_ticket (equal key) entry.ticket before first)
-        (λ same. there.passes, no_ticket (equal key) entry.ticket after last))
-
-    taken_key : (ticket : ℕ) (new : CacheState K V)
-        → TakesPlaceholder (equal key) hash old ticket new
-        → AllByRecursion (IsTicketOf (equal key) ticket) new.loading
-    taken_key _ new (TakesPlaceholder.makes own _ provided makes) = made_key own new makes
-    taken_key ticket new (TakesPlaceholder.meets _ _ meets) = met_key ticket new meets
-
     -- a placeholder that is made, or met, changes no pair
     makes-same : (own : K) (new : CacheState K V) → MakesPlaceholder (equal key) old hash own new
         → IsPermutation (residents old) (residents new)
@@ -148,11 +68,6 @@ module _ {K V : Type 0} (equal : K → K → Bool) (laws : IsEquivalence equal) 
         IsPermutation-refl (residents old)
     makes-same own _ (MakesPlaceholder.on_ghost before after stands there) =
         IsPermutation-refl (residents old)
-
-    stands_for : (own : K) (new : CacheState K V) → MakesPlaceholder (equal key) old hash own new
-        → equal key own ≡ true
-    stands_for own _ (MakesPlaceholder.on_nothing stands nothing) = stands
-    stands_for own _ (MakesPlaceholder.on_ghost before after stands there) = stands
 
     meets-same : (ticket : ℕ) (new : CacheState K V) → MeetsPlaceholder (equal key) old ticket new
         → IsPermutation (residents old) (residents new)
@@ -164,7 +79,7 @@ module _ {K V : Type 0} (equal : K → K → Bool) (laws : IsEquivalence equal) 
     takes-told _ new (TakesPlaceholder.makes own _ provided makes) =
         Told-same equal old new valid
         (MakesPlaceholder-valid equal laws (equal key) hash own old new
-        (λ x. laws.congr key own x (stands_for own new makes)) makes valid)
+        (λ x. laws.congr key own x (stands_for equal key hash old own new makes)) makes valid)
         (makes-same own new makes)
     takes-told ticket new (TakesPlaceholder.meets _ _ meets) =
         Told-same equal old new valid
@@ -256,19 +171,12 @@ module _ {K V : Type 0} (equal : K → K → Bool) (laws : IsEquivalence equal) 
           Told-ordered equal (TakesPlaceholder (equal key) hash old ticket) old [] mid takes
           (λ state take. takes-told hash old valid ticket state take)
 
-      taken_keys : (ticket : ℕ) (mid : CacheState K V)
-          → UpToOrder (TakesPlaceholder (equal key) hash old ticket) mid
-          → AllByRecursion (IsTicketOf (equal key) ticket) mid.loading
-      taken_keys ticket mid takes =
-          all-permutation (IsTicketOf (equal key) ticket) takes.ordered.loading mid.loading
-          takes.same.loading (taken_key hash old valid ticket takes.ordered takes.holds)
-
       -- a call that loads a value
       pub Loads-told : (value : V) (calls : List (HookCall K V)) (new : CacheState K V)
           → Loads rules (equal key) hash old value calls new → IsFilled old value calls new
       Loads-told value calls new loads =
           let takes = taken-told loads.ticket loads.mid loads.takes in
-          let keys = taken_keys loads.ticket loads.mid loads.takes in
+          let keys = taken_keys equal key hash old valid loads.ticket loads.mid loads.takes in
           let fill = fills-told rules loads.ticket loads.mid takes.valid keys value calls
           loads.fills.ordered loads.fills.holds in
           record {
@@ -284,7 +192,7 @@ module _ {K V : Type 0} (equal : K → K → Bool) (laws : IsEquivalence equal) 
           → LoadsNothing rules (equal key) hash old new → Told equal old [] new
       LoadsNothing-told new loads =
           let takes = taken-told loads.ticket loads.mid loads.takes in
-          let keys = taken_keys loads.ticket loads.mid loads.takes in
+          let keys = taken_keys equal key hash old valid loads.ticket loads.mid loads.takes in
           Told-append equal old loads.mid new [] [] takes
           (Told-ordered equal (GivesUpPlaceholder loads.ticket loads.mid) loads.mid [] new
           loads.gives_up

@@ -10,3 +10,4 @@ pub mod Fills
 pub mod Quiet
 pub mod Steps
 pub mod Runs
+pub mod CallerLemmas

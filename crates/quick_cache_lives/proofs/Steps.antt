@@ -245,8 +245,8 @@ module _ {K V F M : Type 0} (rules : Rules K V) (equal : K → K → Bool)
       (λ state remove. RemovesIf-told equal laws old valid (equal key) (answers wanted key) answer
       state remove))
   CacheStep-booked old valid _ _ _ _
-      (CacheStep.finds call key given left found shown mid new load looks is writes) =
-      found_booked old valid key given call left found shown mid new load
+      (CacheStep.finds call key given left found shown mid new is_load looks is writes) =
+      found_booked old valid key given call left found shown mid new is_load
       (looked_told rules equal laws old valid key (Some found) mid looks) writes
   CacheStep-booked old valid _ _ _ _ (CacheStep.loads key value there calls new loads tells) =
       let h = Loads-told equal laws key rules (rules.hash key) old valid value calls new loads in
@@ -281,11 +281,11 @@ module _ {K V F M : Type 0} (rules : Rules K V) (equal : K → K → Bool)
       booked old valid _ _ [] new [] [] refl refl
       (LoadsNothing-told equal laws key rules (rules.hash key) old valid new loads)
   CacheStep-booked old valid _ _ _ _
-      (CacheStep.refuses_found call key given left refusal place before item after load there
-      cause) = refused_load old valid key given call left refusal load
+      (CacheStep.refuses_found call key given left refusal place before item after is_load there
+      cause) = refused_load old valid key given call left refusal is_load
   CacheStep-booked old valid _ _ _ _
-      (CacheStep.refuses_load call key given left refusal load cause) =
-      refused_load old valid key given call left refusal load
+      (CacheStep.refuses_load call key given left refusal is_load cause) =
+      refused_load old valid key given call left refusal is_load
   CacheStep-booked old valid _ _ _ _ (CacheStep.walks found pairs order shown) =
       booked old valid _ _ [] old [] [] refl refl (Told-nothing equal old valid)
   CacheStep-booked old valid _ _ _ _ (CacheStep.drains pairs new drains) =

@@ -1,11 +1,12 @@
 -- Conservation: over every run of calls, no pair that a cache was handed is lost, made, or told of
 -- twice, and a key has the value that was last written for it, or none.
-use Rattle.std.specs.Prelude.{◌≡◌, ℕ, Bool, true, List, [], ◌∷◌, ◌++◌, Option, Some}
+use Rattle.std.specs.Prelude.{◌≡◌, ℕ, Bool, true, List, [], ◌∷◌, ◌++◌, Option, Some, Result, Vec}
 use Rattle.std.specs.List.{AllByRecursion}
 use Rattle.quick_cache_model.specs.CacheState.{CacheState, IsValid}
-use Rattle.quick_cache_model.specs.Hooks.{Rules, HookCall}
+use Rattle.quick_cache_model.specs.Hooks.{Rules, Hooks, HookCall, RunsHooks}
 use Rattle.quick_cache_calls.specs.declared.call.Call.{Call}
 use Rattle.quick_cache_calls.specs.declared.reply.Reply.{Reply}
+use Rattle.quick_cache_calls.specs.Answered.{replies_of}
 use Rattle.quick_cache_calls.specs.CacheStep.{CacheStep}
 use Rattle.quick_cache_calls.specs.CacheRun.{CacheRun}
 use Rattle.quick_cache_lives.specs.Fates.{Fate, Befalls, last_written, residents}
@@ -47,6 +48,21 @@ module _ {K V F M : Type 0} (rules : Rules K V) (equal : K → K → Bool)
     pub values : (key : K) (value : Option V)
         → IsLastOf (equal key) value (residents old)
         → IsLastOf (equal key) (last_written (equal key) value fates) (residents new)
+
+  -- The calls that were made, be they all or those for whose replies there was room, keep their
+  -- pairs, from each balanced book of the first state. Their hooks are those that led the request
+  -- state from the first to the last.
+  pub record ConservesCalls {S A : Type 0} (hooks : Hooks K V S) (old : CacheState K V) (first : S)
+      (calls : List (Call K V F))
+      (result : Result (Vec (Reply K V M) A) (Vec (Reply K V M) A × Vec (Call K V F) A))
+      (new : CacheState K V) (last : S) : Type 0 where
+    pub made : List (Call K V F)
+    pub unmade : List (Call K V F)
+    pub parts : calls ≡ made ++ unmade
+    pub hook_calls : List (HookCall K V)
+    pub runs : RunsHooks hooks hook_calls first last
+    pub conserves : (book : Book K V) → IsBookOf old book → IsBalanced book
+        → Conserves old book made (replies_of result) hook_calls new
 
 module _ (K V : Type 0) where
   -- A book can be opened for every state: its residents are numbered, and nothing has ended.

@@ -28,5 +28,7 @@ pub mod BoundLemmas
 pub mod CopyLemmas
 pub mod RewriteLemmas
 pub mod NewLemmas
+pub mod MakeLemmas
+pub mod FillLemmas
 pub mod GhostLemmas
 pub mod CapacityLemmas

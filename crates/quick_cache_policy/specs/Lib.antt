@@ -8,3 +8,5 @@ pub mod HotRounds
 pub mod Writing
 pub mod Finding
 pub mod Copies
+pub mod Filling
+pub mod Loading

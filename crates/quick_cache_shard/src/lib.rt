@@ -2,6 +2,7 @@
 #![tactic(auto)]
 
 mod capacity;
+mod loading;
 mod readers;
 mod shard;
 mod walk;
