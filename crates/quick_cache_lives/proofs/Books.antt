@@ -3,11 +3,14 @@ use Rattle.std.proofs.Common.{◌≡◌, ℕ, ◌+◌, ◌==◌, cond, List, [],
 use Rattle.std.proofs.Common.{IsPermutation, ap, subst, arith}
 use Rattle.std.specs.Prelude.{nat_lt, if◌then◌else◌, count_by}
 use Rattle.std.proofs.lemmas.Bool.Decides.{nat_tests}
+use Rattle.std.proofs.lemmas.List.{length-map}
+use Rattle.std.proofs.lemmas.List.Sorted.{length_permutation}
 use Rattle.std.proofs.lemmas.List.Sums.{sum_by-append, sum_by-cons}
 use Rattle.std.proofs.lemmas.List.Sorted.{IsPermutation-refl, IsPermutation-trans}
 use Rattle.std.proofs.lemmas.List.Sorted.{IsPermutation-cons, sum_by-IsPermutation}
 use Rattle.quick_cache_model.specs.CacheState.{CacheState}
 use Rattle.quick_cache_lives.specs.Books.{Life, Book, living, Follows, IsBookOf, IsBalanced}
+use Rattle.quick_cache_lives.specs.Conservation.{arrivals, departures}
 use Rattle.quick_cache_lives.specs.Fates.{Fate, residents}
 use Rattle.quick_cache_lives.proofs.Leads.{Leads}
 use Rattle.quick_cache_lives.proofs.Shuffles.{picked}
@@ -159,4 +162,30 @@ module _ {K V : Type 0} where
         λ n. let e : 0 + length pairs ≡ length pairs = omega arith in
             let none : below n 0 ≡ 0 = grind (arith, nat_tests) in
             omega (arith, ap (below n) e, none, counted-numbered n 0 pairs),
+      )
+
+  -- how many lives a book has
+  Follows-length : {book new : Book K V} {fates : List (Fate K V)} → Follows book fates new
+      → length book.lives + arrivals fates ≡ length new.lives + departures fates
+  Follows-length (Follows.done book) = refl
+  Follows-length (Follows.begins book key value fates new follows) =
+      omega (arith, Follows-length follows)
+  Follows-length (Follows.goes_on book number key value left others fates new order follows) =
+      omega (arith, Follows-length follows, length_permutation _ _ order)
+  Follows-length (Follows.ends book number key value others fates new order follows) =
+      omega (arith, Follows-length follows, length_permutation _ _ order)
+
+  -- and how many residents there are before and after
+  pub Follows-counted : (old new : CacheState K V) (first last : Book K V)
+      (fates : List (Fate K V)) → IsBookOf old first → Follows first fates last
+      → IsBookOf new last
+      → length (residents old) + arrivals fates ≡ length (residents new) + departures fates
+  Follows-counted old new first last fates of_old follows of_new =
+      omega (
+        arith,
+        Follows-length follows,
+        length_permutation _ _ of_old,
+        length_permutation _ _ of_new,
+        length-map first.lives living,
+        length-map last.lives living,
       )

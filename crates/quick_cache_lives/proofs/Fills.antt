@@ -29,7 +29,7 @@ use Rattle.quick_cache_lives.proofs.Leads.{Leads-leaves, Tells, Tells-append}
 use Rattle.quick_cache_lives.proofs.Residents.{residents-entered, counted-residents}
 use Rattle.quick_cache_lives.proofs.Told.{Told, Told-same, Told-append, Told-ordered}
 use Rattle.quick_cache_lives.proofs.Told.{Told-reordered}
-use Rattle.quick_cache_lives.proofs.Values.{arrivals-hooks, Leads-last}
+use Rattle.quick_cache_lives.proofs.Values.{comings-hooks, Leads-last}
 use Rattle.quick_cache_lives.proofs.Writes.{value_of}
 
 module _ {K V : Type 0} where
@@ -116,7 +116,7 @@ module _ {K V : Type 0} (equal : K → K → Bool) (laws : IsEquivalence equal) 
             last = λ k last_value last. Leads-last (equal k) last_value comes
                 (omega (
                   arith,
-                  arrivals-hooks (equal k) calls,
+                  comings-hooks (equal k) calls,
                   counted-residents (equal k) old,
                   valid.one_entry_a_key k,
                   ap (λ entries. count_by (λ own. equal k own.key) entries) split,

@@ -11,3 +11,4 @@ pub mod Quiet
 pub mod Steps
 pub mod Runs
 pub mod CallerLemmas
+pub mod Examples

@@ -32,7 +32,7 @@ use Rattle.quick_cache_lives.proofs.Leads.{Leads-leaves, Leads-all}
 use Rattle.quick_cache_lives.proofs.Residents.{residents-between, residents-split}
 use Rattle.quick_cache_lives.proofs.Residents.{residents-rewritten}
 use Rattle.quick_cache_lives.proofs.Told.{Told, Told-quiet, Told-same, Told-nothing}
-use Rattle.quick_cache_lives.proofs.Values.{arrivals-hooks, arrivals-leaving}
+use Rattle.quick_cache_lives.proofs.Values.{comings-hooks, comings-leaving}
 
 module _ {K V : Type 0} where
   -- a hit that is counted changes no item
@@ -126,7 +126,7 @@ module _ {K V : Type 0} (equal : K → K → Bool) (laws : IsEquivalence equal)
       ∙ ap (λ l. filter keep old.hot ++ l) (filter-append keep old.cold old.still))) in
       Told-quiet equal old (map leaving (dropped keeps)) new valid
       (Retains-valid equal keeps old new retains valid)
-      (λ key. arrivals-leaving (equal key) (dropped keeps))
+      (λ key. comings-leaving (equal key) (dropped keeps))
       (Leads-from (residents old) (dropped keeps ++ residents new)
       (subst (λ pairs. IsPermutation (residents old) (dropped keeps ++ pairs)) (sym stay)
       (IsPermutation-trans (residents old)
@@ -145,7 +145,7 @@ module _ {K V : Type 0} (equal : K → K → Bool) (laws : IsEquivalence equal)
       → Told equal old (map leaving pairs) new
   all_out pairs new order none is_valid =
       Told-quiet equal old (map leaving pairs) new valid is_valid
-      (λ key. arrivals-leaving (equal key) pairs)
+      (λ key. comings-leaving (equal key) pairs)
       (Leads-from (residents old) pairs order
       (subst (λ all. Leads pairs (map leaving pairs) all) (sym none)
       (subst (λ all. Leads all (map leaving pairs) []) (append-nil pairs) (Leads-all pairs []))))
@@ -172,7 +172,7 @@ module _ {K V : Type 0} (equal : K → K → Bool) (laws : IsEquivalence equal)
         Told-quiet equal old (map fate_of calls) _ valid
         (SetsCapacity-valid equal rules capacity old _ calls
         (SetsCapacity.sets mid calls evicts) valid)
-        (λ key. arrivals-hooks (equal key) calls)
+        (λ key. comings-hooks (equal key) calls)
         (EvictsToCapacity-tells rules 0 (resized rules capacity old) calls mid evicts)
 
     -- a value that was written through a reference, or none

@@ -17,7 +17,10 @@ use Rattle.quick_cache_model.specs.Removal.{pair_of}
 use Rattle.quick_cache_model.proofs.KeyCounts.{keys, keys-cons, keys-append, keys-none}
 use Rattle.quick_cache_model.proofs.TouchLaws.{with_touches-key, with_touches-value}
 use Rattle.quick_cache_lives.specs.Fates.{residents}
-use Rattle.quick_cache_lives.proofs.Values.{counted, counted-cons}
+use Rattle.quick_cache_model.specs.CacheState.{IsValid}
+use Rattle.std.proofs.Common.{Option}
+use Rattle.quick_cache_lives.specs.Conservation.{IsLastOf}
+use Rattle.quick_cache_lives.proofs.Values.{counted, counted-cons, last_found}
 
 -- what is in the middle comes first, also behind and before other lists
 middle_behind : {X : Type 0} (front before : List X) (x : X) (after rest : List X)
@@ -300,3 +303,11 @@ module _ {K : Type 0} (test : K → Bool) {V : Type 0} where
         keys-none test state.cold none.cold,
         keys-none test state.still none.still,
       )
+
+module _ {K V : Type 0} (equal : K → K → Bool) where
+  -- in a valid state each key has a value, or none
+  pub value_of_key : (state : CacheState K V) → IsValid equal state → (key : K)
+      → (value : Option V) × IsLastOf (equal key) value (residents state)
+  value_of_key state valid key =
+      last_found (equal key) (residents state)
+      (omega (arith, counted-residents (equal key) state, valid.one_entry_a_key key))

@@ -10,7 +10,7 @@ use Rattle.quick_cache_lives.specs.Conservation.{IsLastOf}
 use Rattle.quick_cache_lives.specs.Fates.{Fate, last_written, residents}
 use Rattle.quick_cache_lives.proofs.Leads.{Leads, Leads-append, Leads-to}
 use Rattle.quick_cache_lives.proofs.Residents.{residents-ordered, counted-residents}
-use Rattle.quick_cache_lives.proofs.Values.{arrivals, Leads-last, last_written-append}
+use Rattle.quick_cache_lives.proofs.Values.{comings, Leads-last, last_written-append}
 
 module _ {K V : Type 0} (equal : K → K → Bool) where
   -- each key has its last value
@@ -29,7 +29,7 @@ module _ {K V : Type 0} (equal : K → K → Bool) where
   -- a step in which no pair comes
   pub Told-quiet : (old : CacheState K V) (fates : List (Fate K V)) (new : CacheState K V)
       → IsValid equal old → IsValid equal new
-      → ((key : K) → arrivals (equal key) fates ≡ 0)
+      → ((key : K) → comings (equal key) fates ≡ 0)
       → Leads (residents old) fates (residents new) → Told old fates new
   Told-quiet old fates new was valid none leads = record {
     leads = leads;

@@ -1,6 +1,6 @@
 -- Which value was last written under a key.
 use Rattle.std.proofs.Common.{◌≡◌, ℕ, ◌+◌, ◌≤◌, Bool, true, false, cond, List, [], ◌∷◌, ◌++◌, map}
-use Rattle.std.proofs.Common.{if◌then◌else◌, Option, Some, IsPermutation, refl, sym, ap, arith, ◌∙◌}
+use Rattle.std.proofs.Common.{if◌then◌else◌, Option, Some, None, IsPermutation, refl, sym, ap, arith, ◌∙◌}
 use Rattle.std.specs.Prelude.{count_by}
 use Rattle.std.proofs.lemmas.List.Sums.{sum_by-cons}
 use Rattle.std.proofs.lemmas.List.Sorted.{sum_by-IsPermutation}
@@ -27,30 +27,30 @@ module _ {K V : Type 0} (test : K → Bool) where
       sum_by-IsPermutation (λ (x : K × V). cond (test x.0) 1 0) pairs others order
 
   -- how many come with such a key
-  abbrev pub arrivals : List (Fate K V) → ℕ
-  arrivals [] = 0
-  arrivals (Comes key value ∷ fates) = one test key + arrivals fates
-  arrivals (Changes key value left ∷ fates) = arrivals fates
-  arrivals (Leaves key value ∷ fates) = arrivals fates
+  abbrev pub comings : List (Fate K V) → ℕ
+  comings [] = 0
+  comings (Comes key value ∷ fates) = one test key + comings fates
+  comings (Changes key value left ∷ fates) = comings fates
+  comings (Leaves key value ∷ fates) = comings fates
 
   -- none by a hook
-  pub arrivals-hooks : (calls : List (HookCall K V)) → arrivals (map fate_of calls) ≡ 0
-  arrivals-hooks [] = refl
-  arrivals-hooks (BeforeEvict key value left ∷ calls) = arrivals-hooks calls
-  arrivals-hooks (EvictHot key value ∷ calls) = arrivals-hooks calls
-  arrivals-hooks (EvictCold key value ∷ calls) = arrivals-hooks calls
+  pub comings-hooks : (calls : List (HookCall K V)) → comings (map fate_of calls) ≡ 0
+  comings-hooks [] = refl
+  comings-hooks (BeforeEvict key value left ∷ calls) = comings-hooks calls
+  comings-hooks (EvictHot key value ∷ calls) = comings-hooks calls
+  comings-hooks (EvictCold key value ∷ calls) = comings-hooks calls
 
   -- nor where pairs leave
-  pub arrivals-leaving : (pairs : List (K × V)) → arrivals (map leaving pairs) ≡ 0
-  arrivals-leaving [] = refl
-  arrivals-leaving (pair ∷ pairs) = arrivals-leaving pairs
+  pub comings-leaving : (pairs : List (K × V)) → comings (map leaving pairs) ≡ 0
+  comings-leaving [] = refl
+  comings-leaving (pair ∷ pairs) = comings-leaving pairs
 
-  pub arrivals-append : (fates more : List (Fate K V))
-      → arrivals (fates ++ more) ≡ arrivals fates + arrivals more
-  arrivals-append [] more = omega arith
-  arrivals-append (Comes key value ∷ fates) more = omega (arith, arrivals-append fates more)
-  arrivals-append (Changes key value left ∷ fates) more = arrivals-append fates more
-  arrivals-append (Leaves key value ∷ fates) more = arrivals-append fates more
+  pub comings-append : (fates more : List (Fate K V))
+      → comings (fates ++ more) ≡ comings fates + comings more
+  comings-append [] more = omega arith
+  comings-append (Comes key value ∷ fates) more = omega (arith, comings-append fates more)
+  comings-append (Changes key value left ∷ fates) more = comings-append fates more
+  comings-append (Leaves key value ∷ fates) more = comings-append fates more
 
   -- the last of some fates and more
   pub last_written-append : (value : Option V) (fates more : List (Fate K V))
@@ -96,7 +96,7 @@ module _ {K V : Type 0} (test : K → Bool) where
 
   -- Where at most one pair in all has such a key, each has the value last written for it.
   pub Leads-last : {pairs others : List (K × V)} {fates : List (Fate K V)} (value : Option V)
-      → Leads pairs fates others → arrivals fates + counted pairs ≤ 1
+      → Leads pairs fates others → comings fates + counted pairs ≤ 1
       → IsLastOf test value pairs → IsLastOf test (last_written test value fates) others
   Leads-last value (Leads.rests pairs others order) single last =
       all-permutation (λ pair. test pair.0 ≡ true → value ≡ Some pair.1) pairs others order last
@@ -131,3 +131,23 @@ module _ {K V : Type 0} (test : K → Bool) where
         counted-order pairs ((key, own) ∷ rest) order,
         counted-cons (key, own) rest,
       )) here.1
+
+  -- where at most one pair has such a key, there is such a value, or none
+  pub last_found : (pairs : List (K × V)) → counted pairs ≤ 1
+      → (value : Option V) × IsLastOf test value pairs
+  last_found [] single = (None, tt)
+  last_found (pair ∷ pairs) single =
+      go (test pair.0) refl
+      (last_found pairs (omega (arith, single, counted-cons pair pairs)))
+    where
+      go : (b : Bool) → test pair.0 ≡ b → (value : Option V) × IsLastOf test value pairs
+          → (value : Option V) × IsLastOf test value (pair ∷ pairs)
+      go true is rest = (
+        Some pair.1,
+        (
+          λ passes. refl,
+          last-none (Some pair.1) pairs
+              (omega (arith, single, counted-cons pair pairs, ap one_if is)),
+        ),
+      )
+      go false is rest = (rest.0, (λ passes. absurd cc, rest.1))

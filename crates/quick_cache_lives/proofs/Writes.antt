@@ -30,8 +30,8 @@ use Rattle.quick_cache_lives.proofs.Residents.{residents-split, residents-entere
 use Rattle.quick_cache_lives.proofs.Residents.{residents-rewritten, counted-residents}
 use Rattle.quick_cache_lives.proofs.Residents.{counted-absent}
 use Rattle.quick_cache_lives.proofs.Told.{Told}
-use Rattle.quick_cache_lives.proofs.Values.{arrivals, arrivals-append, arrivals-hooks}
-use Rattle.quick_cache_lives.proofs.Values.{arrivals-leaving, counted, counted-cons}
+use Rattle.quick_cache_lives.proofs.Values.{comings, comings-append, comings-hooks}
+use Rattle.quick_cache_lives.proofs.Values.{comings-leaving, counted, counted-cons}
 use Rattle.quick_cache_lives.proofs.Values.{counted-order, Leads-last, last_written-leaving}
 
 -- the value of an admission
@@ -91,7 +91,7 @@ module _ {K V : Type 0} (equal : K → K → Bool) (laws : IsEquivalence equal) 
 
     -- what is told of a write
     pub Written-told : (new : CacheState K V) (value : V) (fates : List (Fate K V))
-        → Written new value fates → ((k : K) → arrivals (equal k) fates ≡ 0)
+        → Written new value fates → ((k : K) → comings (equal k) fates ≡ 0)
         → IsValid equal new → Told equal old (Comes key value ∷ fates) new
     Written-told new _ _ (Written.beside value fates none leads) quiet is_valid =
         let comes = Leads.comes key value (residents old) fates (residents new) leads in record {
@@ -116,8 +116,8 @@ module _ {K V : Type 0} (equal : K → K → Bool) (laws : IsEquivalence equal) 
                 arith,
                 single_over pair rest same order k,
                 quiet k,
-                arrivals-append (equal k) front (leaving pair ∷ back),
-                arrivals-append (equal k) front back,
+                comings-append (equal k) front (leaving pair ∷ back),
+                comings-append (equal k) front back,
               )) here.1);
         }
 
@@ -282,9 +282,9 @@ module _ {K V : Type 0} (equal : K → K → Bool) (laws : IsEquivalence equal) 
           (writes-written strategy value calls answer new writes)
           (λ k. omega (
             arith,
-            arrivals-append (equal k) (map fate_of calls)
+            comings-append (equal k) (map fate_of calls)
                 (map leaving (option_to_list answer)),
-            arrivals-hooks (equal k) calls,
-            arrivals-leaving (equal k) (option_to_list answer),
+            comings-hooks (equal k) calls,
+            comings-leaving (equal k) (option_to_list answer),
           ))
           (Writes-valid equal laws rules key strategy old value new calls answer writes valid)

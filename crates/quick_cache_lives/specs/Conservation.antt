@@ -1,6 +1,7 @@
 -- Conservation: over every run of calls, no pair that a cache was handed is lost, made, or told of
 -- twice, and a key has the value that was last written for it, or none.
-use Rattle.std.specs.Prelude.{◌≡◌, ℕ, Bool, true, List, [], ◌∷◌, ◌++◌, Option, Some, Result, Vec}
+use Rattle.std.specs.Prelude.{◌≡◌, ℕ, ◌+◌, length, Bool, true, List, [], ◌∷◌, ◌++◌, Option, Some}
+use Rattle.std.specs.Prelude.{Result, Vec}
 use Rattle.std.specs.List.{AllByRecursion}
 use Rattle.quick_cache_model.specs.CacheState.{CacheState, IsValid}
 use Rattle.quick_cache_model.specs.Hooks.{Rules, Hooks, HookCall, RunsHooks}
@@ -9,8 +10,24 @@ use Rattle.quick_cache_calls.specs.declared.reply.Reply.{Reply}
 use Rattle.quick_cache_calls.specs.Answered.{replies_of}
 use Rattle.quick_cache_calls.specs.CacheStep.{CacheStep}
 use Rattle.quick_cache_calls.specs.CacheRun.{CacheRun}
-use Rattle.quick_cache_lives.specs.Fates.{Fate, Befalls, last_written, residents}
+use Rattle.quick_cache_lives.specs.Fates.{Fate, Comes, Changes, Leaves, Befalls}
+use Rattle.quick_cache_lives.specs.Fates.{last_written, residents}
 use Rattle.quick_cache_lives.specs.Books.{Book, Follows, IsBookOf, IsBalanced}
+
+module _ {K V : Type 0} where
+  -- how many pairs come
+  abbrev pub arrivals : List (Fate K V) → ℕ
+  arrivals [] = 0
+  arrivals (Comes key value ∷ fates) = 1 + arrivals fates
+  arrivals (Changes key value left ∷ fates) = arrivals fates
+  arrivals (Leaves key value ∷ fates) = arrivals fates
+
+  -- how many leave
+  abbrev pub departures : List (Fate K V) → ℕ
+  departures [] = 0
+  departures (Comes key value ∷ fates) = departures fates
+  departures (Changes key value left ∷ fates) = departures fates
+  departures (Leaves key value ∷ fates) = 1 + departures fates
 
 -- each of these pairs whose key passes the test has this value
 abbrev pub IsLastOf : {K V : Type 0} → (K → Bool) → Option V → List (K × V) → Type 0
@@ -69,6 +86,18 @@ module _ (K V : Type 0) where
   abbrev pub BooksCanBeOpened : Type 0
   BooksCanBeOpened = (state : CacheState K V)
       → (book : Book K V) × IsBookOf state book × (book.ended ≡ []) × IsBalanced book
+
+  -- In a valid state each key has a value, or none.
+  abbrev pub ValuesCanBeFound : (K → K → Bool) → Type 0
+  ValuesCanBeFound equal = (state : CacheState K V) → IsValid equal state → (key : K)
+      → (value : Option V) × IsLastOf (equal key) value (residents state)
+
+  -- A book that follows fates loses no pair and makes none: those that were resident at first and
+  -- those that came are as many as those that are resident at last and those that left.
+  abbrev pub PairsAddUp : Type 0
+  PairsAddUp = (old new : CacheState K V) (first last : Book K V) (fates : List (Fate K V))
+      → IsBookOf old first → Follows first fates last → IsBookOf new last
+      → length (residents old) + arrivals fates ≡ length (residents new) + departures fates
 
   -- Every run from a valid state keeps its pairs, from every balanced book of that state, whatever
   -- the rules are, and what predicates answer.

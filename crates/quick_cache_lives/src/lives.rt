@@ -1,6 +1,7 @@
 //! The law of conservation. Its function does nothing, and its contract is a theorem about words of
 //! `specs/`.
 ghost use Rattle.quick_cache_lives.specs.Conservation.{BooksCanBeOpened, RunsConserve};
+ghost use Rattle.quick_cache_lives.specs.Conservation.{PairsAddUp, ValuesCanBeFound};
 
 use quick_cache_model::Touches;
 use std::alloc::Allocator;
@@ -13,5 +14,11 @@ use std::alloc::Allocator;
 /// book may end either number, since no event and no reply tells these two apart.
 pub fn conservation_law<K: Eq + Clone, V: Clone, F, T: Touches, M: Allocator>()
     ensures opens { BooksCanBeOpened K V }
+    ensures finds { ValuesCanBeFound K V K.eq }
     ensures conserves { RunsConserve K V F M K.eq K.is_clone V.is_clone T.may_count }
+{}
+
+/// A book loses no pair and makes none.
+pub fn book_law<K, V>()
+    ensures { PairsAddUp K V }
 {}

@@ -212,7 +212,7 @@ impl<T> Node<T> {
         }
     }
 
-    /// The item of an occupied slot, for writing.
+    /// The item of an occupied slot, for writing. It does not look either.
     #[inline]
     pub(crate) fn item_mut(&mut self) -> &mut T
         requires { IsSome self.old.item }
@@ -220,6 +220,14 @@ impl<T> Node<T> {
             (λ item. record self.old { item = Some item })) }
         ensures value { self.old.item ≡ Some result.now }
     {
-        self.item.as_mut().unwrap()
+        match &mut self.item {
+            Some(item) => item,
+            None => {
+                let too_far = usize::BITS;
+                let mut none = [0u8; 0];
+                none[1 << too_far] = 0;
+                unreachable!()
+            }
+        }
     }
 }
