@@ -43,7 +43,8 @@ module _ {We B L : Type 0} where
     lacks_memory : MakesCache items weight old (Refused Memory) old
 
 module _ {A : Type 0} where
-  -- What becomes of `show`: the items of weight 0 are put in order, or there was no memory for that.
+  -- What becomes of `show`: the items of weight 0 are put in order, or there was no memory for
+  -- that.
   pub data ShowsCache (state : CacheState ℕ ℕ) : Outcome A → Type 0 where
     shows : (still : Vec (ℕ × ℕ) A) → AreStill state still.items → ShowsCache state (Shows still)
     lacks_memory : (events : Option (Vec Event A)) → TellsOf [] events

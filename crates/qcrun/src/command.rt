@@ -18,7 +18,8 @@ pub enum Command {
     Get(u64),
     /// `remove KEY`
     Remove(u64),
-    /// `show`: what the cache holds, the rings from the head, the ghosts from the oldest and what weighs nothing by key.
+    /// `show`: what the cache holds, the rings from the head, the ghosts from the oldest and what
+    /// weighs nothing by key.
     Show,
 }
 

@@ -49,7 +49,8 @@ fn value_left(value: u64) -> u64
     }
 }
 
-/// Pins values of the first kind, lightens those of the second and the third, and keeps what it is told.
+/// Pins values of the first kind, lightens those of the second and the third, and keeps what it is
+/// told.
 #[derive(Drop)]
 pub struct ByKind<A> {
     events: PhantomData<A>,

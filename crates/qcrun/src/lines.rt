@@ -19,8 +19,8 @@ pub enum Line {
     End,
 }
 
-/// Reads the next line into the buffer, without its line feed, which the last line may lack. It reads no more than a
-/// line of the greatest length has.
+/// Reads the next line into the buffer, without its line feed, which the last line may lack. It
+/// reads no more than a line of the greatest length has.
 ///
 /// # Errors
 ///

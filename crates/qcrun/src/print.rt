@@ -54,8 +54,8 @@ fn print_each<W: Write>(events: &[Event], writer: &mut W) -> io::Result<()>
     Ok(())
 }
 
-/// Prints what a cache holds: the rings from the head, the ghosts from the oldest, the items of weight 0, and the
-/// counts.
+/// Prints what a cache holds: the rings from the head, the ghosts from the oldest, the items of
+/// weight 0, and the counts.
 fn show<A: Allocator, W: Write>(
     cache: &NumberCache<A>,
     still: &[(u64, u64)],

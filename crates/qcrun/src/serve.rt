@@ -65,10 +65,12 @@ impl<A: Allocator + Copy> LineServer for Session<A> {
     }
 }
 
-/// Serves the commands of a reader, one a line, writes their replies, and gives the status to end with.
+/// Serves the commands of a reader, one a line, writes their replies, and gives the status to end
+/// with.
 ///
-/// 0 at the end of the input; 1 where a read or a write failed, or where there was no memory to read into, and then
-/// nothing more is written; 2 behind a line that could not be served, which is told by its number.
+/// 0 at the end of the input; 1 where a read or a write failed, or where there was no memory to
+/// read into, and then nothing more is written; 2 behind a line that could not be served, which is
+/// told by its number.
 pub fn serve<A: Allocator + Copy, R: Read + Drop, W: Write>(
     alloc: A,
     reader: R,

@@ -30,7 +30,8 @@ fn first_reply<K: Drop, V: Drop, M: Allocator>(replies: Vec<Reply<K, V>, M>) -> 
     }
 }
 
-/// Inserts a pair, by a run of one call. Where there is no memory for the call or for its reply, nothing changes.
+/// Inserts a pair, by a run of one call. Where there is no memory for the call or for its reply,
+/// nothing changes.
 fn insert<
     K: Eq + Hash + Drop,
     V: Clone + Drop,
@@ -49,7 +50,8 @@ fn insert<
     requires clones { ClonesExactly V.is_clone }
     requires steady { L.steady cache.old.lifecycle }
     ensures serves { Calls (hooks_of L.Lifecycle cache.old) (λ calls. Serves
-        (rules_of no_touches K.Hash.hash_input We.Weighter B.BuildHasher B.Hasher.Hasher L.Lifecycle cache.old)
+        (rules_of no_touches K.Hash.hash_input We.Weighter B.BuildHasher B.Hasher.Hasher
+        L.Lifecycle cache.old)
         K.eq cache.old.state (Call.Insert key value) result calls cache.new.state)
         state.old state.new }
     ensures same { cache.new ≡ record cache.old {
@@ -86,7 +88,8 @@ fn make_call<
     requires clones { ClonesExactly V.is_clone }
     requires steady { L.steady cache.old.lifecycle }
     ensures serves { Calls (hooks_of L.Lifecycle cache.old) (λ calls. Serves
-        (rules_of no_touches K.Hash.hash_input We.Weighter B.BuildHasher B.Hasher.Hasher L.Lifecycle cache.old)
+        (rules_of no_touches K.Hash.hash_input We.Weighter B.BuildHasher B.Hasher.Hasher
+        L.Lifecycle cache.old)
         K.eq cache.old.state call result calls cache.new.state)
         state.old state.new }
     ensures same { cache.new ≡ record cache.old {
@@ -170,7 +173,8 @@ impl<A: Allocator + Copy> Session<A> {
         self.cache.as_ref()
     }
 
-    /// Puts an empty cache in the place of the one that stood, which stays where there is no memory.
+    /// Puts an empty cache in the place of the one that stood, which stays where there is no
+    /// memory.
     fn make_cache(&mut self, items: usize, weight: u64) -> Answer
         ensures makes { MakesCache items weight self.old.cache result self.new.cache }
     {

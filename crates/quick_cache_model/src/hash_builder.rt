@@ -5,10 +5,11 @@ ghost use Rattle.quick_cache_model.specs.Hashing.{hash_of};
 use std::fmt::{Debug, Formatter, Write};
 use std::hash::{BuildHasher, BuildHasherDefault, FoldHasher, Hash, Hasher};
 
-/// Builds the kit's fast folding hasher, always with the same seed, so that equal programs see equal hashes.
+/// Builds the kit's fast folding hasher, always with the same seed, so that equal programs see
+/// equal hashes.
 ///
-/// Who chooses the keys can choose such as collide: where keys come from a stranger, hand a cache a builder with a
-/// seed drawn at random, as std's `RandomState`.
+/// Who chooses the keys can choose such as collide: where keys come from a stranger, hand a cache a
+/// builder with a seed drawn at random, as std's `RandomState`.
 #[derive(Clone, Drop)]
 pub struct DefaultHashBuilder {
     inner: BuildHasherDefault<FoldHasher>,
@@ -52,7 +53,8 @@ impl Debug for DefaultHashBuilder {
     }
 }
 
-/// The hash of a key or a query, as the builder's hashers make it. Each hash that the cache keeps is this one.
+/// The hash of a key or a query, as the builder's hashers make it. Each hash that the cache keeps
+/// is this one.
 pub fn hash_of<B: BuildHasher, Q: Hash>(builder: &B, query: &Q) -> u64
     ensures { result ≡ hash_of B.BuildHasher B.Hasher.Hasher builder.now (Q.hash_input query.now) }
 {

@@ -1,5 +1,5 @@
-//! The vocabulary of the cache: what it asks of its keys, weigher and lifecycle, how it refuses, and what it is, in
-//! definitions over three plain lists.
+//! The vocabulary of the cache: what it asks of its keys, weigher and lifecycle, how it refuses,
+//! and what it is, in definitions over three plain lists.
 #![tactic(auto)]
 
 pub mod equivalent;

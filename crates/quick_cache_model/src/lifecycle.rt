@@ -1,14 +1,15 @@
 //! What is told of entries that leave.
 ghost use Rattle.std.specs.Prelude.{◌≡◌, ℕ, Bool, false, IsTrue};
 
-/// Decides which entries are pinned, and is told of each entry that is evicted, replaced or turned away.
+/// Decides which entries are pinned, and is told of each entry that is evicted, replaced or turned
+/// away.
 ///
-/// A call makes one request state, hands it to each hook in the order of the events, and drops it at its end.
-/// An entry that is removed, cleared or drained is told to no hook.
+/// A call makes one request state, hands it to each hook in the order of the events, and drops it
+/// at its end. An entry that is removed, cleared or drained is told to no hook.
 ///
-/// What a hook does is stated by a relation between the state before, the pair, and the state after. Rust gives the
-/// hooks default bodies; here each lifecycle writes its own, since the body of a default cannot be proved to meet
-/// a relation that is chosen later.
+/// What a hook does is stated by a relation between the state before, the pair, and the state
+/// after. Rust gives the hooks default bodies; here each lifecycle writes its own, since the body
+/// of a default cannot be proved to meet a relation that is chosen later.
 pub trait Lifecycle<K: Eq + Drop, V: Drop> {
     /// What a call keeps between its hooks.
     type RequestState: Default + Drop;
@@ -19,7 +20,8 @@ pub trait Lifecycle<K: Eq + Drop, V: Drop> {
     /// Where it is steady, which pairs are pinned.
     ghost pinned: { Self → K → V → Bool } = { λ _ _ _. false };
 
-    /// What holds of every value that is stored under a key: a fact for contracts, of the type alone.
+    /// What holds of every value that is stored under a key: a fact for contracts, of the type
+    /// alone.
     ghost fits: { K → V → Type 0 } = { λ _ _. Unit {0} };
 
     /// From a state, at a pair, to the state after and the value that is left.
@@ -36,8 +38,8 @@ pub trait Lifecycle<K: Eq + Drop, V: Drop> {
     fn is_pinned(&self, key: &K, val: &V) -> bool
         ensures { steady self.now → result ≡ pinned self.now key.now val.now };
 
-    /// Called before an entry is evicted, and before a pair that is too heavy is turned away. An entry whose weight is
-    /// then 0 stays, and a pair that is then light enough is admitted.
+    /// Called before an entry is evicted, and before a pair that is too heavy is turned away. An
+    /// entry whose weight is then 0 stays, and a pair that is then light enough is admitted.
     fn before_evict(&self, state: &mut Self::RequestState, key: &K, val: &mut V)
         ensures { before_evict_gives self.now state.old key.now val.old state.new val.new };
 

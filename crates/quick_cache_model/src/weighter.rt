@@ -1,9 +1,11 @@
 //! What an entry weighs.
 ghost use Rattle.std.specs.Prelude.{◌≡◌, ℕ};
 
-/// Gives each entry its weight, in units of the caller's own: the capacity of a cache is in the same unit.
+/// Gives each entry its weight, in units of the caller's own: the capacity of a cache is in the
+/// same unit.
 ///
-/// An entry of weight 0 is never evicted. The weight of an entry is asked anew after each write to its value.
+/// An entry of weight 0 is never evicted. The weight of an entry is asked anew after each write to
+/// its value.
 pub trait Weighter<K, V> {
     /// A function of the weigher, the key and the value.
     ghost weight_of: { Self → K → V → ℕ };

@@ -43,8 +43,8 @@ fn mark_if(waited: bool) -> u8
 }
 
 impl<K: Eq + Hash + Drop, V: Drop, P: SharedPlaceholder<K>, A: Allocator> Contents<K, V, P, A> {
-    /// Puts a pair that was admitted in, under a key that is nowhere, and makes room behind it where
-    /// it weighs something. It is hot if it fits the hot target, and else of the given queue.
+    /// Puts a pair that was admitted in, under a key that is nowhere, and makes room behind it
+    /// where it weighs something. It is hot if it fits the hot target, and else of the given queue.
     fn enter<M: Policy<K, V>>(
         &mut self,
         terms: &M,
@@ -100,7 +100,8 @@ impl<K: Eq + Hash + Drop, V: Drop, P: SharedPlaceholder<K>, A: Allocator> Conten
         }
     }
 
-    /// Fills the placeholder of a token: it goes in any case, and its pair is put in or turned away.
+    /// Fills the placeholder of a token: it goes in any case, and its pair is put in or turned
+    /// away.
     fn fill<M: Policy<K, V>>(
         &mut self,
         token: Token,
@@ -157,8 +158,8 @@ impl<K: Eq + Hash + Drop, V: Drop, P: SharedPlaceholder<K>, A: Allocator> Conten
     /// Fills the placeholder of that ticket with a value, marked where others waited for it. The
     /// value comes back where the placeholder is gone.
     ///
-    /// It asks for no memory. Where the placeholder is not in the slot that it names, and some key is
-    /// being loaded, each slot is looked at.
+    /// It asks for no memory. Where the placeholder is not in the slot that it names, and some key
+    /// is being loaded, each slot is looked at.
     pub fn replace_placeholder<M: Policy<K, V>>(
         &mut self,
         terms: &M,

@@ -143,8 +143,8 @@ impl<K: Eq + Hash + Drop, V: Drop, P: SharedPlaceholder<K>, A: Allocator> Conten
     /// that stands there is met, which counts a hit. Else one is made, which takes the next ticket
     /// and counts a miss: a hot one in the place of a ghost of the hash, or a cold one.
     ///
-    /// The flag says that the placeholder is new. Only a new one takes memory: tickets are looked at
-    /// first, then slots, and memory is asked for last, all before anything changes.
+    /// The flag says that the placeholder is new. Only a new one takes memory: tickets are looked
+    /// at first, then slots, and memory is asked for last, all before anything changes.
     pub fn get_or_placeholder<Q: ToKey<K>>(
         &mut self,
         hash: u64,

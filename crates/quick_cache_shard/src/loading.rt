@@ -55,11 +55,11 @@ impl<
     }
 
     /// Fills the placeholder of that ticket with a value, which is marked where others waited for
-    /// it. The value passes the admission check: one that is too heavy is told to the cold hook, and
-    /// the placeholder goes. Room is made for what weighs something.
+    /// it. The value passes the admission check: one that is too heavy is told to the cold hook,
+    /// and the placeholder goes. Room is made for what weighs something.
     ///
-    /// It asks for no memory. It looks for the placeholder in the slot that this names, and where it
-    /// is not there and some key is being loaded, in each slot.
+    /// It asks for no memory. It looks for the placeholder in the slot that this names, and where
+    /// it is not there and some key is being loaded, in each slot.
     ///
     /// # Errors
     ///
@@ -99,8 +99,8 @@ impl<
         answer
     }
 
-    /// Takes the placeholder of that ticket out, if it is there, and calls no hook. It is looked for
-    /// as by `replace_placeholder`.
+    /// Takes the placeholder of that ticket out, if it is there, and calls no hook. It is looked
+    /// for as by `replace_placeholder`.
     pub fn remove_placeholder(&mut self, placeholder: &P)
         ensures gives_up { UpToOrder
             (GivesUpPlaceholder (P.ticket_of placeholder.now) self.old.state) self.new.state }

@@ -152,12 +152,13 @@ impl<K: Eq + Hash, V, We, B: BuildHasher, L, P: SharedPlaceholder<K>, A: Allocat
         })
     }
 
-    /// Makes room for so many more entries, and for the ghosts that as many inserts can leave, so that they ask for no
-    /// memory; or for all entries that there can still be.
+    /// Makes room for so many more entries, and for the ghosts that as many inserts can leave, so
+    /// that they ask for no memory; or for all entries that there can still be.
     ///
     /// # Errors
     ///
-    /// `Memory` where there is not enough. Room that was already made may stay, and nothing else has changed.
+    /// `Memory` where there is not enough. Room that was already made may stay, and nothing else
+    /// has changed.
     pub fn reserve(&mut self, additional: usize) -> Result<(), Refusal>
         ensures room { OnOk result (min additional (slot_count - slots_taken self.old.state)
             ≤ self.new.room) }

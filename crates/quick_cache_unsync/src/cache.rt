@@ -257,7 +257,8 @@ impl<K: Eq + Hash, V, We, B: BuildHasher, L, A: Allocator> Cache<K, V, We, B, L,
     where
         K: Drop,
         V: Drop,
-        ensures removes { let hash = hash_of B.BuildHasher B.Hasher.Hasher self.old.builder (Q.hash_input query.now) in
+        ensures removes { let hash = hash_of B.BuildHasher B.Hasher.Hasher self.old.builder
+            (Q.hash_input query.now) in
             UpToOrder (Removes (Q.equivalent query.now) self.old.state hash result) self.new.state }
         ensures room { self.old.room ≤ self.new.room }
         ensures same { self.new ≡ record self.old { state = self.new.state; room = self.new.room } }
@@ -279,7 +280,8 @@ impl<K: Eq + Hash, V, We, B: BuildHasher, L, A: Allocator> Cache<K, V, We, B, L,
         L: Lifecycle<K, V>,
         // Where pinning is steady, the write is a step of its definition.
         ensures inserts { InsertsAlone (L.steady self.old.lifecycle) (hooks_of L.Lifecycle self.old)
-            (rules_of no_touches K.Hash.hash_input We.Weighter B.BuildHasher B.Hasher.Hasher L.Lifecycle self.old)
+            (rules_of no_touches K.Hash.hash_input We.Weighter B.BuildHasher B.Hasher.Hasher
+            L.Lifecycle self.old)
             K.eq self.old.state L.RequestState.is_default key value result self.new.state }
         // It takes room for one entry at most, and asks for memory only where there is no room.
         ensures room { self.old.room ≤ self.new.room + 1 }
@@ -318,7 +320,8 @@ impl<K: Eq + Hash, V, We, B: BuildHasher, L, A: Allocator> Cache<K, V, We, B, L,
         L: Lifecycle<K, V>,
         // Where pinning is steady, the write is a step of its definition.
         ensures inserts { Inserts (L.steady self.old.lifecycle) (hooks_of L.Lifecycle self.old)
-            (rules_of no_touches K.Hash.hash_input We.Weighter B.BuildHasher B.Hasher.Hasher L.Lifecycle self.old)
+            (rules_of no_touches K.Hash.hash_input We.Weighter B.BuildHasher B.Hasher.Hasher
+            L.Lifecycle self.old)
             K.eq self.old.state state.old key value result self.new.state state.new }
         // It takes room for one entry at most, and asks for memory only where there is no room.
         ensures room { self.old.room ≤ self.new.room + 1 }

@@ -48,7 +48,8 @@ fn get<
     A: Allocator,
 >(cache: &mut Cache<K, V, We, B, L, A>, key: K) -> Reply<K, V>
     ensures step { CacheStep
-        (rules_of no_touches K.Hash.hash_input We.Weighter B.BuildHasher B.Hasher.Hasher L.Lifecycle cache.old)
+        (rules_of no_touches K.Hash.hash_input We.Weighter B.BuildHasher B.Hasher.Hasher
+        L.Lifecycle cache.old)
         K.eq V.is_clone cache.old.state (Call.Get key) result [] cache.new.state }
     ensures same { cache.new ≡ record cache.old { state = cache.new.state } }
     // A look-up is refused only where a clone fails.
@@ -85,7 +86,8 @@ fn act<
     // Where pinning is steady, the call is a step of its definition.
     ensures step { L.steady cache.old.lifecycle → (calls : List (HookCall K V))
         × CacheStep
-        (rules_of no_touches K.Hash.hash_input We.Weighter B.BuildHasher B.Hasher.Hasher L.Lifecycle cache.old)
+        (rules_of no_touches K.Hash.hash_input We.Weighter B.BuildHasher B.Hasher.Hasher
+        L.Lifecycle cache.old)
         K.eq V.is_clone cache.old.state call result calls cache.new.state
         × RunsHooks (hooks_of L.Lifecycle cache.old) calls state.old state.new }
     ensures same { cache.new ≡ record cache.old {
@@ -106,9 +108,11 @@ fn act<
     }
 }
 
-/// Makes the calls in their order, and gives their replies. The hooks are handed the one request state.
+/// Makes the calls in their order, and gives their replies. The hooks are handed the one request
+/// state.
 ///
-/// Room for the replies is made before the first call, and the clone that a reply shows before its call.
+/// Room for the replies is made before the first call, and the clone that a reply shows before its
+/// call.
 ///
 /// # Errors
 ///
@@ -129,7 +133,8 @@ pub fn run<
 ) -> Result<Vec<Reply<K, V>, M>, (Vec<Reply<K, V>, M>, Vec<Call<K, V>, M>)>
     // Where pinning is steady, the calls are a run of the definition.
     ensures runs { L.steady cache.old.lifecycle → RunsCalls
-        (rules_of no_touches K.Hash.hash_input We.Weighter B.BuildHasher B.Hasher.Hasher L.Lifecycle cache.old)
+        (rules_of no_touches K.Hash.hash_input We.Weighter B.BuildHasher B.Hasher.Hasher
+        L.Lifecycle cache.old)
         K.eq V.is_clone (hooks_of L.Lifecycle cache.old)
         cache.old.state state.old calls.items result cache.new.state state.new }
     ensures same { cache.new ≡ record cache.old {

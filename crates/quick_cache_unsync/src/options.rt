@@ -13,8 +13,8 @@ use std::alloc::Allocator;
 use std::hash::{BuildHasher, Hash};
 
 impl<K: Eq + Hash, V, We, B: BuildHasher, L, A: Allocator> Cache<K, V, We, B, L, A> {
-    /// An empty cache of the sizes and the shares that the options tell. It allocates nothing. How many
-    /// shards they ask for means nothing to a cache for one thread.
+    /// An empty cache of the sizes and the shares that the options tell. It allocates nothing. How
+    /// many shards they ask for means nothing to a cache for one thread.
     ///
     /// # Errors
     ///

@@ -29,8 +29,8 @@ pub(super) fn make_room<T, A: Allocator>(
 impl<T, A: Allocator> LinkedSlab<T, A> {
     /// Makes room for so many more items, or for all that a slab can still have.
     ///
-    /// Free slots count, so where these and the room suffice it asks for no memory. It reads at most
-    /// as many slots as are asked for. A refusal is for want of memory.
+    /// Free slots count, so where these and the room suffice it asks for no memory. It reads at
+    /// most as many slots as are asked for. A refusal is for want of memory.
     pub fn reserve(&mut self, additional: usize) -> Result<(), Refusal>
         ensures kept { self.new ≡ record self.old { room = self.new.room } }
         ensures room { OnOk result (min additional (left self.old) ≤ spare self.new) }
