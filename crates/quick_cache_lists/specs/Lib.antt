@@ -5,3 +5,4 @@ pub mod Frames
 pub mod Views
 pub mod Walks
 pub mod Copies
+pub mod Lent

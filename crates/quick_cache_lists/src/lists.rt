@@ -7,6 +7,7 @@ mod copies;
 mod counts;
 mod looks;
 mod moves;
+mod values;
 mod walks;
 
 use crate::entry::Slot;

@@ -28,3 +28,4 @@ pub mod BoundLemmas
 pub mod CopyLemmas
 pub mod RewriteLemmas
 pub mod NewLemmas
+pub mod ReferenceLemmas

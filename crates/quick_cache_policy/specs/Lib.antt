@@ -7,4 +7,6 @@ pub mod Advances
 pub mod HotRounds
 pub mod Writing
 pub mod Finding
+pub mod References
+pub mod Lent
 pub mod Copies

@@ -17,6 +17,7 @@ mod overwrite;
 mod peek;
 mod placeholder;
 mod policy;
+mod reference;
 mod strategy;
 mod victim;
 

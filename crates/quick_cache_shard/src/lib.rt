@@ -2,6 +2,7 @@
 #![tactic(auto)]
 
 mod readers;
+mod reference;
 mod shard;
 mod walk;
 

@@ -39,7 +39,7 @@ pub struct CacheShard<
     A: Allocator = Global,
 > {
     pub(crate) contents: Contents<K, V, P, A>,
-    terms: Terms<We, B, L>,
+    pub(crate) terms: Terms<We, B, L>,
 }
 
 impl<K: Eq + Hash, V, We, B: BuildHasher, L, P: SharedPlaceholder<K>, A: Allocator> Model
