@@ -1,5 +1,5 @@
-//! The cache under the names of the Rust crate: the one that threads share, the one for one thread, and what both are
-//! made of.
+//! The cache under the names of the Rust crate: the one that threads share, the one for one thread,
+//! and what both are made of.
 #![tactic(auto)]
 
 pub mod shard;

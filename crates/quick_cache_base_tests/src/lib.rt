@@ -1,5 +1,5 @@
-//! Tests of what stands below the cache: the slab, the table, the loading core, options and sizes, and the test
-//! allocator.
+//! Tests of what stands below the cache: the slab, the table, the loading core, options and sizes,
+//! and the test allocator.
 #![tactic(auto)]
 
 #[cfg(test)]

@@ -1,4 +1,5 @@
-//! Each allocation of the containers refused in turn: what they held stays, and the call succeeds once there is memory.
+//! Each allocation of the containers refused in turn: what they held stays, and the call succeeds
+//! once there is memory.
 use crate::table::put;
 use quick_cache_base::linked_slab::LinkedSlab;
 use quick_cache_base::{Refusal, Table, Token};

@@ -1,11 +1,7 @@
-//! Tests of eviction: what leaves a cache and in which order, which hooks are told, and what a walk then
-//! shows.
+//! Tests of eviction: what leaves a cache and in which order, which hooks are told, and what a walk
+//! then shows.
 #![tactic(auto)]
 
-#[cfg(test)]
-mod kinds;
-#[cfg(test)]
-mod parts;
 #[cfg(test)]
 mod pins;
 #[cfg(test)]

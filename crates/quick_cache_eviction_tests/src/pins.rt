@@ -1,7 +1,7 @@
 //! Items that are pinned.
-use crate::kinds::{BesideKind, Events, Hook, Kinds};
-use crate::parts::{ShardOfKinds, of_weight, shows};
 use quick_cache_shard::InsertStrategy;
+use quick_cache_test_parts::caches::{ShardOfKinds, of_weight, shows};
+use quick_cache_test_parts::kinds::{BesideKind, Events, Hook, Kinds};
 use quick_cache_unsync::{CacheShard, DefaultHashBuilder};
 use std::test::Fail;
 

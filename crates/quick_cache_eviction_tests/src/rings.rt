@@ -1,6 +1,6 @@
 //! Which items leave the rings, in which order, and which hooks are told.
-use crate::kinds::{Events, Hook};
-use crate::parts::{of_units, of_weight, shows};
+use quick_cache_test_parts::caches::{of_units, of_weight, shows};
+use quick_cache_test_parts::kinds::{Events, Hook};
 use quick_cache_unsync::Cache;
 use std::test::Fail;
 

@@ -1,5 +1,5 @@
 //! A walk over all items.
-use crate::parts::of_weight;
+use quick_cache_test_parts::caches::of_weight;
 use std::test::Fail;
 
 #[test]

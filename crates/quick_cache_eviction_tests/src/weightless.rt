@@ -1,9 +1,9 @@
-//! Items that weigh nothing, be it from the first or since a hook changed them, and items that became
-//! light enough.
+//! Items that weigh nothing, be it from the first or since a hook changed them, and items that
+//! became light enough.
 ghost use Rattle.std.specs.Prelude.{◌≡◌};
 
-use crate::kinds::{Events, Hook};
-use crate::parts::of_weight;
+use quick_cache_test_parts::caches::of_weight;
+use quick_cache_test_parts::kinds::{Events, Hook};
 use quick_cache_unsync::{Cache, Weighter};
 use std::test::Fail;
 

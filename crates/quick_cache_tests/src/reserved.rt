@@ -13,11 +13,46 @@ type RationedCache<'a> = Cache<
     &'a Rationed<Global>,
 >;
 
-/// Inserts new keys up to the first that is refused, and gives that key.
-fn first_refused(cache: &mut RationedCache<'_>) -> Option<u64> {
+/// The keys and the marks of both rings and the ghosts in their order, drawn together into one
+/// number.
+fn order_of(cache: &RationedCache<'_>) -> u64 {
+    let mut drawn = 0u64;
+    for (key, _, mark) in cache.shard().iter_hot() {
+        drawn = drawn
+            .wrapping_mul(31)
+            .wrapping_add(*key)
+            .wrapping_add(mark as u64);
+    }
+    for (key, _, mark) in cache.shard().iter_cold() {
+        drawn = drawn
+            .wrapping_mul(37)
+            .wrapping_add(*key)
+            .wrapping_add(mark as u64);
+    }
+    for hash in cache.shard().iter_ghosts() {
+        drawn = drawn.wrapping_mul(41).wrapping_add(hash);
+    }
+    drawn
+}
+
+/// All that can be seen of a cache.
+fn seen_of(cache: &RationedCache<'_>) -> (usize, u64, u64, u64, u64) {
+    (
+        cache.len(),
+        cache.weight(),
+        cache.hits(),
+        cache.misses(),
+        order_of(cache),
+    )
+}
+
+/// Inserts new keys up to the first that is refused. Gives that key, and whether the refusal left
+/// all that can be seen as it was.
+fn first_refused(cache: &mut RationedCache<'_>) -> Option<(u64, bool)> {
     for key in 100..1100 {
+        let before = seen_of(cache);
         if cache.insert(key, key) == Err((key, key, Refusal::Memory)) {
-            return Some(key);
+            return Some((key, seen_of(cache) == before));
         }
     }
     None
@@ -32,9 +67,10 @@ fn reserved_room_needs_no_memory(rt: HostRuntime) -> Result<(), Fail> {
     for key in 1..=3 {
         assert_eq!(rt; cache.insert(key, key), Ok(()));
     }
-    let Some(refused) = first_refused(&mut cache) else {
+    let Some((refused, same)) = first_refused(&mut cache) else {
         return Err(Fail::new("no insert was refused"));
     };
+    assert!(rt; same, "the refusal changed something");
     let len = cache.len();
     assert_eq!(rt; len as u64, refused.saturating_sub(97));
     assert!(rt; !cache.contains_key(&refused));

@@ -1,4 +1,5 @@
-//! Tests of the cache that threads share, and a caller that knows of each value what its lifecycle says.
+//! Tests of the cache that threads share, and a caller that knows of each value what its lifecycle
+//! says.
 #![tactic(auto)]
 
 #[cfg(test)]

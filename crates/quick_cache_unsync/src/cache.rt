@@ -37,7 +37,7 @@ pub struct Cache<
     L = DefaultLifecycle<K, V>,
     A: Allocator = Global,
 > {
-    shard: CacheShard<K, V, We, B, L, Placeholder, A>,
+    pub(crate) shard: CacheShard<K, V, We, B, L, Placeholder, A>,
 }
 
 impl<K: Eq + Hash, V, We, B: BuildHasher, L, A: Allocator> Model for Cache<K, V, We, B, L, A> {
@@ -118,8 +118,8 @@ impl<K: Eq + Hash, V, We, A: Allocator> Cache<
 impl<K: Eq + Hash, V, We, B: BuildHasher, L, A: Allocator> Cache<K, V, We, B, L, A> {
     ghost use Rattle.quick_cache_unsync.specs.Lent.{ends_so};
 
-    /// An empty cache that is made for so many items and may hold so much weight, with the default shares.
-    /// It allocates nothing.
+    /// An empty cache that is made for so many items and may hold so much weight, with the default
+    /// shares. It allocates nothing.
     ///
     /// # Errors
     ///
@@ -218,7 +218,8 @@ impl<K: Eq + Hash, V, We, B: BuildHasher, L, A: Allocator> Cache<K, V, We, B, L,
         &self.shard
     }
 
-    /// Looks the query's key up: the item is marked and read, and a hit or a miss is counted. It takes no memory.
+    /// Looks the query's key up: the item is marked and read, and a hit or a miss is counted. It
+    /// takes no memory.
     #[inline]
     pub fn get<Q: Equivalent<K>>(&mut self, query: &Q) -> Option<&V>
         ensures* looks_up { sem 𝓛 (ends_so K.row V.row We.row B.row L.row A.row B.Hasher.row
@@ -250,7 +251,8 @@ impl<K: Eq + Hash, V, We, B: BuildHasher, L, A: Allocator> Cache<K, V, We, B, L,
         self.shard.contains(hash, query)
     }
 
-    /// Takes the item under the query's key out, or a ghost of its hash. No hook is called, and no memory taken.
+    /// Takes the item under the query's key out, or a ghost of its hash. No hook is called, and no
+    /// memory taken.
     pub fn remove<Q: Equivalent<K>>(&mut self, query: &Q) -> Option<(K, V)>
     where
         K: Drop,
@@ -295,13 +297,14 @@ impl<K: Eq + Hash, V, We, B: BuildHasher, L, A: Allocator> Cache<K, V, We, B, L,
         self.insert_with_lifecycle(key, value, &mut state)
     }
 
-    /// Inserts a pair, and hands what leaves to the lifecycle, with this request state. A pair that is heavier than
-    /// the hot target is turned away and told to the cold hook, and the answer is `Ok`.
+    /// Inserts a pair, and hands what leaves to the lifecycle, with this request state. A pair that
+    /// is heavier than the hot target is turned away and told to the cold hook, and the answer is
+    /// `Ok`.
     ///
     /// # Errors
     ///
-    /// The pair and why: `SlotsFull` or `Memory`, only where nothing stood under its key. Nothing changed then, and
-    /// no hook was called.
+    /// The pair and why: `SlotsFull` or `Memory`, only where nothing stood under its key. Nothing
+    /// changed then, and no hook was called.
     pub fn insert_with_lifecycle(
         &mut self,
         key: K,

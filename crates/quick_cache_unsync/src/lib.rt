@@ -4,11 +4,13 @@
 mod cache;
 mod calls;
 mod lifecycle;
+mod options;
 mod placeholder;
 
 pub use cache::Cache;
 pub use calls::{Call, Reply, run};
 pub use lifecycle::DefaultLifecycle;
+pub use quick_cache_base::options::{Options, OptionsBuilder};
 pub use quick_cache_model::{
     DefaultHashBuilder, Equivalent, Lifecycle, Refusal, ToKey, UnitWeighter, Weighter, hash_of,
 };

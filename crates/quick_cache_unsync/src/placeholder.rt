@@ -1,4 +1,5 @@
-//! What stands at a key that is being loaded, and the count of touches, where a cache has one thread.
+//! What stands at a key that is being loaded, and the count of touches, where a cache has one
+//! thread.
 ghost use Rattle.std.specs.Prelude.{◌≡◌, refl, IfOk, IsOk};
 ghost use Rattle.std.specs.Int.NonZero.{non_zero_u32_get};
 ghost use Rattle.quick_cache_unsync.specs.Touches.{no_touches};

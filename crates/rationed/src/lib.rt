@@ -4,9 +4,9 @@
 use std::alloc::{AllocError, Allocator};
 use std::cell::Cell;
 
-/// An allocator that hands out a ration of blocks of another one, and then refuses. A `&Rationed` is
-/// an allocator that may be copied, so that a test can go on changing the ration. A collection that
-/// grows takes a new block.
+/// An allocator that hands out a ration of blocks of another one, and then refuses. A `&Rationed`
+/// is an allocator that may be copied, so that a test can go on changing the ration. A collection
+/// that grows takes a new block.
 #[derive(Drop)]
 pub struct Rationed<B: Allocator> {
     inner: B,

@@ -1,4 +1,5 @@
-//! The slab as a static library: one call runs a list of operations on a new slab, and writes each answer.
+//! The slab as a static library: one call runs a list of operations on a new slab, and writes each
+//! answer.
 #![tactic(auto)]
 
 use quick_cache_slab::linked_slab::{LinkedSlab, Token};
@@ -40,7 +41,8 @@ fn remove(slab: &mut LinkedSlab<Payload>, token: Token) -> u64 {
     }
 }
 
-// Operation `i` is `kinds[i]` (0 get, 1 insert, 2 remove, else move) at `tokens[i]` and `heads[i]`; its answer goes to `answers[i]`.
+// Operation `i` is `kinds[i]` (0 get, 1 insert, 2 remove, else move) at `tokens[i]` and `heads[i]`;
+// its answer goes to `answers[i]`.
 fn run_all(
     alloc: Global,
     kinds: &[u8],

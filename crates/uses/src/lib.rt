@@ -1,8 +1,10 @@
 //! Small uses of the cache, which the README and the guide show word for word. Each runs as a test.
 #![tactic(auto)]
 
+pub mod blocks;
 pub mod borrowed;
 pub mod listener;
 pub mod promises;
 pub mod runs;
+pub mod sessions;
 pub mod weigher;

@@ -13,7 +13,8 @@ pub fn number_under<K: Eq + Hash>(cache: &Cache<K, u64>, key: &K) -> Option<u64>
     cache.peek(key).copied()
 }
 
-/// Puts a zero under a key, in a cache of any weigher and lifecycle: the work is bounded by the items.
+/// Puts a zero under a key, in a cache of any weigher and lifecycle: the work is bounded by the
+/// items.
 pub fn put_zero<K: Eq + Hash + Drop, We: Weighter<K, u64>, B: BuildHasher, L: Lifecycle<K, u64>>(
     cache: &mut Cache<K, u64, We, B, L>,
     key: K,

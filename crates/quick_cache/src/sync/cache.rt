@@ -19,9 +19,9 @@ use std::sync::{RwLock, Wait};
 
 /// A cache of a bounded weight, which threads share by reference.
 ///
-/// Each call takes the lock, makes one step of the shard behind it, and lets the lock go. What the shard was at that
-/// moment nobody knows, so a contract says that the call answers as the step does from some shard whose state is
-/// valid and whose values fit their keys.
+/// Each call takes the lock, makes one step of the shard behind it, and lets the lock go. What the
+/// shard was at that moment nobody knows, so a contract says that the call answers as the step does
+/// from some shard whose state is valid and whose values fit their keys.
 #[derive(Drop)]
 pub struct Cache<
     K: Eq + Hash + Drop,
@@ -65,8 +65,8 @@ impl<K: Eq + Hash + Drop, V: Drop, We, A: Allocator> Cache<
     DefaultLifecycle<K, V>,
     A,
 > {
-    /// An empty cache that is made for so many items and may hold so much weight by this weigher, with the default
-    /// builder and lifecycle. It allocates nothing.
+    /// An empty cache that is made for so many items and may hold so much weight by this weigher,
+    /// with the default builder and lifecycle. It allocates nothing.
     ///
     /// # Errors
     ///
@@ -97,8 +97,8 @@ impl<K: Eq + Hash + Drop, V: Drop, We, B: BuildHasher, L: Lifecycle<K, V>, A: Al
     L,
     A,
 > {
-    /// An empty cache that is made for so many items and may hold so much weight, with the default shares. It
-    /// allocates nothing.
+    /// An empty cache that is made for so many items and may hold so much weight, with the default
+    /// shares. It allocates nothing.
     ///
     /// # Errors
     ///
@@ -125,8 +125,8 @@ impl<K: Eq + Hash + Drop, V: Drop, We, B: BuildHasher, L: Lifecycle<K, V>, A: Al
         })
     }
 
-    /// Looks the query's key up and gives a clone of its value, made under the lock: the item is marked and read,
-    /// and a hit or a miss is counted.
+    /// Looks the query's key up and gives a clone of its value, made under the lock: the item is
+    /// marked and read, and a hit or a miss is counted.
     ///
     /// # Errors
     ///
@@ -143,8 +143,8 @@ impl<K: Eq + Hash + Drop, V: Drop, We, B: BuildHasher, L: Lifecycle<K, V>, A: Al
         self.shard.write(rt).get(query)
     }
 
-    /// Inserts a pair, and hands what leaves to the lifecycle, with a request state of its own, which is made before
-    /// the lock is taken and dropped once it is released.
+    /// Inserts a pair, and hands what leaves to the lifecycle, with a request state of its own,
+    /// which is made before the lock is taken and dropped once it is released.
     ///
     /// # Errors
     ///
@@ -163,13 +163,14 @@ impl<K: Eq + Hash + Drop, V: Drop, We, B: BuildHasher, L: Lifecycle<K, V>, A: Al
         self.insert_with_lifecycle(rt, key, value, &mut state)
     }
 
-    /// Inserts a pair, and hands what leaves to the lifecycle, with this request state. A pair that is heavier than
-    /// the hot target is turned away and told to the cold hook, and the answer is `Ok`.
+    /// Inserts a pair, and hands what leaves to the lifecycle, with this request state. A pair that
+    /// is heavier than the hot target is turned away and told to the cold hook, and the answer is
+    /// `Ok`.
     ///
     /// # Errors
     ///
-    /// The pair and why: `SlotsFull` or `Memory`, only where nothing stood under its key. Nothing changed then, and
-    /// no hook was called.
+    /// The pair and why: `SlotsFull` or `Memory`, only where nothing stood under its key. Nothing
+    /// changed then, and no hook was called.
     pub fn insert_with_lifecycle<R: Wait>(
         &self,
         rt: &R,

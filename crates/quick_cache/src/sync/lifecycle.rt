@@ -6,8 +6,8 @@ use quick_cache_base::Lifecycle;
 use std::fmt::{Debug, Formatter, Write};
 use std::marker::PhantomData;
 
-/// Pins nothing, and keeps the first two pairs that leave in a call, so that they are dropped once the lock is
-/// released. It drops those that leave after them.
+/// Pins nothing, and keeps the first two pairs that leave in a call, so that they are dropped once
+/// the lock is released. It drops those that leave after them.
 #[derive(Drop)]
 pub struct DefaultLifecycle<K, V> {
     pairs: PhantomData<(K, V)>,

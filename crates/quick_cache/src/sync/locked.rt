@@ -96,8 +96,8 @@ impl<
         self.shard.len();
     }
 
-    /// Looks the query's key up, and clones what it finds. The clone is made first, so that a refused one changes
-    /// nothing.
+    /// Looks the query's key up, and clones what it finds. The clone is made first, so that a
+    /// refused one changes nothing.
     pub fn get<Q: Equivalent<K>>(&mut self, query: &Q) -> Result<Option<V>, Refusal>
     where
         V: Clone,
@@ -123,7 +123,8 @@ impl<
         }
     }
 
-    /// Inserts a pair whose value fits its key, and hands what leaves to the lifecycle, with this request state.
+    /// Inserts a pair whose value fits its key, and hands what leaves to the lifecycle, with this
+    /// request state.
     pub fn insert(
         &mut self,
         key: K,

@@ -1,4 +1,5 @@
-//! What will stand at a key that is being loaded, where threads share the cache. No call makes one yet.
+//! What will stand at a key that is being loaded, where threads share the cache. No call makes one
+//! yet.
 ghost use Rattle.std.specs.Prelude.{◌≡◌, IfOk, IsOk};
 ghost use Rattle.std.specs.Int.NonZero.{non_zero_u32_get};
 

@@ -43,7 +43,8 @@ fn a_clone_has_ten_thousand_entries(rt: HostRuntime) -> Result<(), Fail> {
     Ok(())
 }
 
-/// Makes so many calls by one `run`, by threes: an insert, a look-up of what it inserted, and its removal.
+/// Makes so many calls by one `run`, by threes: an insert, a look-up of what it inserted, and its
+/// removal.
 fn run_by_threes(rt: &impl Abort, alloc: Global, count: u64) -> Result<(), Fail> {
     let mut cache: Cache<u64, u64> = Cache::new(alloc, 3)?;
     let mut calls = Vec::new(alloc);

@@ -1,4 +1,5 @@
-//! What a cache asks of its allocator: nothing where a call takes no memory, and not much more than it needs.
+//! What a cache asks of its allocator: nothing where a call takes no memory, and not much more than
+//! it needs.
 use bumpalo::Bump;
 use quick_cache_base::{DefaultHashBuilder, UnitWeighter};
 use quick_cache_unsync::{Cache, DefaultLifecycle};

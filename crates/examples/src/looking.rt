@@ -1,0 +1,71 @@
+//! What stands in a cache is looked up, or looked at.
+use quick_cache_unsync::Cache;
+use std::test::Fail;
+
+#[test]
+fn get(rt: HostRuntime) -> Result<(), Fail> {
+    let mut cache = Cache::new(rt.alloc(), 5)?;
+    cache.insert("square", 4)?;
+    assert_eq!(rt; cache.get(&"square").copied(), Some(4));
+    assert_eq!(rt; cache.get(&"circle").copied(), None);
+    assert_eq!(rt; (cache.hits(), cache.misses()), (1, 1));
+    Ok(())
+}
+
+#[test]
+fn peek(rt: HostRuntime) -> Result<(), Fail> {
+    let mut cache = Cache::new(rt.alloc(), 5)?;
+    cache.insert("square", 4)?;
+    assert_eq!(rt; cache.peek(&"square").copied(), Some(4));
+    // A look is no use of the item, and no hit.
+    assert_eq!(rt; (cache.hits(), cache.misses()), (0, 0));
+    Ok(())
+}
+
+#[test]
+fn contains_key(rt: HostRuntime) -> Result<(), Fail> {
+    let mut cache = Cache::new(rt.alloc(), 5)?;
+    cache.insert("square", 4)?;
+    assert!(rt; cache.contains_key(&"square"));
+    assert!(rt; !cache.contains_key(&"circle"));
+    Ok(())
+}
+
+#[test]
+fn shard(rt: HostRuntime) -> Result<(), Fail> {
+    let mut cache: Cache<u64, u64> = Cache::new(rt.alloc(), 100)?;
+    cache.insert(1, 10)?;
+    cache.get(&1);
+    let mut marks = 0;
+    for (key, value, mark) in cache.shard().iter_hot() {
+        assert_eq!(rt; (*key, *value, mark), (1, 10, 1));
+        marks += 1;
+    }
+    assert_eq!(rt; marks, 1);
+    assert_eq!(rt;
+        (cache.shard().hot_target(), cache.shard().ghost_limit()),
+        (97, 50)
+    );
+    Ok(())
+}
+
+#[test]
+fn len_is_empty_weight_and_capacity(rt: HostRuntime) -> Result<(), Fail> {
+    let mut cache: Cache<u64, u64> = Cache::new(rt.alloc(), 5)?;
+    assert!(rt; cache.is_empty());
+    cache.insert(1, 10)?;
+    assert!(rt; !cache.is_empty());
+    assert_eq!(rt; (cache.len(), cache.weight(), cache.capacity()), (1, 1, 5));
+    Ok(())
+}
+
+#[test]
+fn hits_and_misses(rt: HostRuntime) -> Result<(), Fail> {
+    let mut cache: Cache<u64, u64> = Cache::new(rt.alloc(), 5)?;
+    cache.insert(1, 10)?;
+    for key in [1, 1, 2] {
+        cache.get(&key);
+    }
+    assert_eq!(rt; (cache.hits(), cache.misses()), (2, 1));
+    Ok(())
+}

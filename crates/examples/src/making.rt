@@ -1,0 +1,94 @@
+//! Caches are made, copied, and given room.
+use quick_cache_unsync::{
+    Cache, DefaultHashBuilder, DefaultLifecycle, OptionsBuilder, UnitWeighter, Weighter,
+};
+use std::test::Fail;
+
+/// Weighs a list of numbers by how many there are.
+#[derive(Clone, Drop)]
+struct BySize;
+
+impl Weighter<u64, [u64; 4]> for BySize {
+    ghost weight_of = { λ _ _ _. 4 };
+
+    fn weight(&self, _key: &u64, _val: &[u64; 4]) -> u64 {
+        4
+    }
+}
+
+#[test]
+fn new(rt: HostRuntime) -> Result<(), Fail> {
+    let mut cache = Cache::new(rt.alloc(), 100)?;
+    cache.insert("square", 4)?;
+    assert_eq!(rt; (cache.len(), cache.capacity()), (1, 100));
+    Ok(())
+}
+
+#[test]
+fn with_weighter(rt: HostRuntime) -> Result<(), Fail> {
+    let mut cache = Cache::with_weighter(rt.alloc(), 100, 1000, BySize)?;
+    cache.insert(1, [1, 2, 3, 4])?;
+    assert_eq!(rt;
+        (cache.len(), cache.weight(), cache.capacity()),
+        (1, 4, 1000)
+    );
+    Ok(())
+}
+
+#[test]
+fn with(rt: HostRuntime) -> Result<(), Fail> {
+    let mut cache: Cache<u64, u64> = Cache::with(
+        rt.alloc(),
+        100,
+        50,
+        UnitWeighter,
+        DefaultHashBuilder::new(),
+        DefaultLifecycle::new(),
+    )?;
+    cache.insert(1, 10)?;
+    assert_eq!(rt; (cache.weight(), cache.capacity()), (1, 50));
+    Ok(())
+}
+
+#[test]
+fn reserve(rt: HostRuntime) -> Result<(), Fail> {
+    let mut cache: Cache<u64, u64> = Cache::new(rt.alloc(), 100)?;
+    // Three inserts of new keys, and the ghosts that they leave, now ask for no memory.
+    assert_eq!(rt; cache.reserve(3), Ok(()));
+    cache.insert(1, 10)?;
+    assert_eq!(rt; cache.len(), 1);
+    Ok(())
+}
+
+#[test]
+fn try_clone(rt: HostRuntime) -> Result<(), Fail> {
+    let mut cache: Cache<u64, u64> = Cache::new(rt.alloc(), 5)?;
+    cache.insert(1, 10)?;
+    let mut copy = cache.try_clone()?;
+    cache.insert(2, 20)?;
+    assert_eq!(rt;
+        (copy.get(&1).copied(), copy.get(&2).copied()),
+        (Some(10), None)
+    );
+    assert_eq!(rt; cache.get(&2).copied(), Some(20));
+    Ok(())
+}
+
+#[test]
+fn with_options(rt: HostRuntime) -> Result<(), Fail> {
+    let options = OptionsBuilder::new()
+        .estimated_items_capacity(100)
+        .weight_capacity(1000)
+        .hot_allocation(900000)
+        .build()?;
+    let mut cache: Cache<u64, u64> = Cache::with_options(
+        rt.alloc(),
+        options,
+        UnitWeighter,
+        DefaultHashBuilder::new(),
+        DefaultLifecycle::new(),
+    )?;
+    cache.insert(1, 10)?;
+    assert_eq!(rt; (cache.capacity(), cache.shard().hot_target()), (1000, 900));
+    Ok(())
+}

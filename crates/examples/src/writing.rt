@@ -1,0 +1,70 @@
+//! Pairs are written.
+ghost use Rattle.std.specs.Prelude.{◌≡◌};
+
+use quick_cache_unsync::{Cache, DefaultHashBuilder, Lifecycle, UnitWeighter};
+use std::test::Fail;
+
+/// Counts what leaves.
+#[derive(Drop)]
+struct Leaving;
+
+impl Lifecycle<u64, u64> for Leaving {
+    type RequestState = u64;
+
+    ghost before_evict_gives = { λ _ _ _ value _ left. left ≡ value };
+
+    ghost on_evict_gives = { λ _ _ _ _ _. Unit {0} };
+
+    ghost on_evict_cold_gives = { λ _ _ _ _ _. Unit {0} };
+
+    ghost on_evict_hot_gives = { λ _ _ _ _ _. Unit {0} };
+
+    ghost keeps_fits = { λ _ _ _ _ _ _ _ fits. fits };
+
+    ghost same_fits = { λ _ _ _ _ fits. fits };
+
+    fn is_pinned(&self, _key: &u64, _val: &u64) -> bool {
+        false
+    }
+
+    fn before_evict(&self, _state: &mut u64, _key: &u64, _val: &mut u64) {}
+
+    fn on_evict(&self, state: &mut u64, _key: u64, _val: u64) {
+        *state = state.saturating_add(1);
+    }
+
+    fn on_evict_cold(&self, state: &mut u64, key: u64, val: u64) {
+        self.on_evict(state, key, val);
+    }
+
+    fn on_evict_hot(&self, state: &mut u64, key: u64, val: u64) {
+        self.on_evict(state, key, val);
+    }
+}
+
+#[test]
+fn insert(rt: HostRuntime) -> Result<(), Fail> {
+    let mut cache = Cache::new(rt.alloc(), 5)?;
+    cache.insert("square", 4)?;
+    cache.insert("square", 16)?;
+    assert_eq!(rt; cache.peek(&"square").copied(), Some(16));
+    Ok(())
+}
+
+#[test]
+fn insert_with_lifecycle(rt: HostRuntime) -> Result<(), Fail> {
+    let mut cache = Cache::with(
+        rt.alloc(),
+        2,
+        2,
+        UnitWeighter,
+        DefaultHashBuilder::new(),
+        Leaving,
+    )?;
+    let mut left = 0;
+    for key in [1, 2, 3] {
+        cache.insert_with_lifecycle(key, key, &mut left)?;
+    }
+    assert_eq!(rt; (cache.len(), left), (2, 1));
+    Ok(())
+}

@@ -1,0 +1,51 @@
+//! Touches that readers left at an item become marks of it, each one.
+use crate::rows::{Tested, empty, put, replaced};
+use quick_cache_shard::Touches;
+use quick_cache_test_parts::caches::{shows, shows_ghosts};
+use quick_cache_test_parts::counting::Told;
+use quick_cache_test_parts::placeholder::Touched;
+use std::alloc::Global;
+use std::process::Abort;
+use std::test::Fail;
+
+/// Writes over an item that was touched, and checks the mark that it then has.
+fn check_mark<T: Touches>(
+    rt: &impl Abort,
+    shard: Tested<u64, u64, T>,
+    mark: u8,
+) -> Result<(), Fail> {
+    let mut shard = shard;
+    let mut told = Told::default();
+    assert!(rt; put(&mut shard, &mut told, 1, 10));
+    assert!(rt; shows(shard.iter_hot(), &[(1, 0)]));
+    assert_eq!(rt; replaced(&mut shard, &mut told, 1, 11, true), Ok(()));
+    assert!(rt; shows(shard.iter_hot(), &[(1, mark)]), "mark {mark}");
+    // They were taken, so they count once.
+    assert_eq!(rt; replaced(&mut shard, &mut told, 1, 12, true), Ok(()));
+    assert!(rt; shows(shard.iter_hot(), &[(1, mark)]), "mark {mark} again");
+    Ok(())
+}
+
+#[test]
+fn an_overwrite_takes_touches_in_up_to_two(rt: HostRuntime) -> Result<(), Fail> {
+    check_mark::<Touched<0>>(&rt, empty(rt.alloc(), 4)?, 0)?;
+    check_mark::<Touched<1>>(&rt, empty(rt.alloc(), 4)?, 1)?;
+    check_mark::<Touched<2>>(&rt, empty(rt.alloc(), 4)?, 2)?;
+    check_mark::<Touched<18446744073709551615>>(&rt, empty(rt.alloc(), 4)?, 2)
+}
+
+#[test]
+fn touched_items_outlive_an_eviction(rt: HostRuntime) -> Result<(), Fail> {
+    let mut shard: Tested<u64, u64, Touched<1>> = empty(rt.alloc(), 2)?;
+    let mut told = Told::default();
+    for key in [1, 2, 3] {
+        assert!(rt; put(&mut shard, &mut told, key, key));
+    }
+    // The cold item 2 was touched, so it is promoted. Then the hot item 1, touched too, outlives
+    // it.
+    assert!(rt; shows(shard.iter_hot(), &[(1, 0)]));
+    assert!(rt; shows(shard.iter_cold(), &[(3, 0)]));
+    assert!(rt; shows_ghosts(shard.iter_ghosts(), &[]));
+    assert_eq!(rt; (told.hot, told.cold), (1, 0));
+    Ok(())
+}

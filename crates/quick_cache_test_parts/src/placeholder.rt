@@ -1,0 +1,107 @@
+//! Placeholders, and counters of touches that begin with a number of a test's choice.
+ghost use Rattle.std.specs.Prelude.{◌≡◌, ⊤};
+ghost use Rattle.std.specs.Int.NonZero.{non_zero_u32_get};
+ghost use Rattle.std.proofs.Common.{refl};
+
+use quick_cache_base::{Refusal, ToKey};
+use quick_cache_shard::{SharedPlaceholder, Token, Touches};
+use std::hash::Hash;
+use std::marker::PhantomData;
+use std::mem::replace;
+
+/// No reader counts anything.
+#[derive(Default, Drop)]
+pub struct NoTouches;
+
+impl Touches for NoTouches {
+    ghost may_count = { λ n. n ≡ 0 };
+
+    ghost none_counted = { refl };
+
+    fn add(&self) {}
+
+    fn seen(&self) -> u64 {
+        0
+    }
+
+    fn take(&mut self) -> u64 {
+        0
+    }
+}
+
+/// As if so many readers had touched an item as soon as it came.
+#[derive(Drop)]
+pub struct Touched<const COUNT: u64> {
+    count: u64,
+}
+
+impl<const COUNT: u64> Default for Touched<COUNT> {
+    fn default() -> Self {
+        Touched { count: COUNT }
+    }
+}
+
+impl<const COUNT: u64> Touches for Touched<COUNT> {
+    ghost may_count = { λ _. ⊤ };
+
+    ghost none_counted = { tt };
+
+    fn add(&self) {}
+
+    fn seen(&self) -> u64 {
+        self.count
+    }
+
+    fn take(&mut self) -> u64 {
+        replace(&mut self.count, 0)
+    }
+}
+
+/// A placeholder that is its three numbers, in a cache whose items count touches so.
+#[derive(Drop)]
+pub struct Placeholder<T = NoTouches> {
+    hash: u64,
+    idx: Token,
+    ticket: u64,
+    touch: PhantomData<T>,
+}
+
+impl<K: Eq + Hash, T: Touches> SharedPlaceholder<K> for Placeholder<T> {
+    type Touch = T;
+
+    ghost hash_of = { λ placeholder. placeholder.hash };
+
+    ghost idx_of = { λ placeholder. non_zero_u32_get placeholder.idx };
+
+    ghost ticket_of = { λ placeholder. placeholder.ticket };
+
+    fn new<Q: ToKey<K>>(hash: u64, idx: Token, ticket: u64, _query: &Q) -> Result<Self, Refusal> {
+        Ok(Placeholder {
+            hash,
+            idx,
+            ticket,
+            touch: PhantomData,
+        })
+    }
+
+    fn same_as(&self, other: &Self) -> bool {
+        self.ticket == other.ticket
+    }
+
+    fn hash(&self) -> u64 {
+        self.hash
+    }
+
+    fn idx(&self) -> Token {
+        self.idx
+    }
+
+    fn share(&self) -> Self {
+        Placeholder {
+            hash: self.hash,
+            idx: self.idx,
+            ticket: self.ticket,
+            touch: PhantomData,
+        }
+    }
+}
