@@ -47,13 +47,3 @@ module _ {K V : Type 0} (stands_for : K → Bool) where
     pub at : IsItemAt stands_for old place before item after
     pub weighs : UpToOrder
         (λ state. state ≡ reweighed rules place before item after item.value old) new
-
-  -- The item under the query got this value, and was weighed by it.
-  pub record WritesUnder (rules : Rules K V) (value : V) (old new : CacheState K V) : Type 0 where
-    pub place : Place
-    pub before : List (Item K V)
-    pub item : Item K V
-    pub after : List (Item K V)
-    pub at : IsItemAt stands_for old place before item after
-    pub weighs : UpToOrder
-        (λ state. state ≡ reweighed rules place before item after value old) new

@@ -39,18 +39,18 @@ module _ {K V P A T : Type 0} (ticket_of : P → ℕ) (contents : Contents K V P
     (found : FindsItem stands_for hash contents.lists token) (equal : K → K → Bool)
     (same : (first second : K) → stands_for first ≡ true → stands_for second ≡ true
     → equal first second ≡ true) (hashed : K → ℕ) (sound : IsSound ticket_of equal hashed contents)
-    where
-  -- it is the only one under the query
-  pub found-single : keys_by stands_for (state_of ticket_of contents) ≤ 1
-  found-single = keys_by-query stands_for equal same (state_of ticket_of contents) sound.valid
-      found.item.key found.passes
+  where
+    -- it is the only one under the query
+    pub found-single : keys_by stands_for (state_of ticket_of contents) ≤ 1
+    found-single = keys_by-query stands_for equal same (state_of ticket_of contents) sound.valid
+        found.item.key found.passes
 
-  -- the value of the item of the token is the one under the query
-  pub found-shown : (item : Item K V) → IsItemOf contents.lists token item → (value : V)
-      → value ≡ item.value → IsValueUnder stands_for (state_of ticket_of contents) value
-  found-shown item is value shown = λ place before other after at.
-      shown ∙ ap (λ (i : Item K V). i.value)
-      (found-value ticket_of contents apart token stands_for hash found item is
-      ∙ same_everywhere stands_for (state_of ticket_of contents) found-single _ place _ found.item _
-      before other after
-      (found-there ticket_of contents apart token stands_for hash found) at)
+    -- the value of the item of the token is the one under the query
+    pub found-shown : (item : Item K V) → IsItemOf contents.lists token item → (value : V)
+        → value ≡ item.value → IsValueUnder stands_for (state_of ticket_of contents) value
+    found-shown item is value shown = λ place before other after at.
+        shown ∙ ap (λ (i : Item K V). i.value)
+        (found-value ticket_of contents apart token stands_for hash found item is
+        ∙ same_everywhere stands_for (state_of ticket_of contents) found-single _ place _ found.item _
+        before other after
+        (found-there ticket_of contents apart token stands_for hash found) at)

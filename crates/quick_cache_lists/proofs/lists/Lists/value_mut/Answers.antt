@@ -59,8 +59,7 @@ returns g c =
       record {
         writes_back = tt;
         value =
-            let seen = value_in_slot slot.entry c.value_mut.result.now c.value_mut.ensures.value in
-            (
+            let seen = value_in_slot slot.entry c.value_mut.result.now c.value_mut.ensures.value in (
               seen.0,
               (
                 slot.hash,
