@@ -1,7 +1,8 @@
 //! A value that is written where it stands.
 ghost use Rattle.std.specs.Prelude.{◌≡◌, ◌<◌};
-ghost use Rattle.std.specs.Bool.{OnTrue};
+ghost use Rattle.std.specs.Bool.{OnTrue, OnFalse};
 ghost use Rattle.std.specs.Borrow.{sem};
+ghost use Rattle.quick_cache_model.specs.Finding.{HasNoItem};
 ghost use Rattle.quick_cache_model.specs.Hashing.{hash_of};
 ghost use Rattle.quick_cache_policy.specs.References.{count_under, IsValueUnder, ReweighsUnder, NotesLookUp};
 ghost use Rattle.quick_cache_shard.specs.Shard.{rules_of};
@@ -34,6 +35,17 @@ impl<K: Eq + Hash, V, We, B: BuildHasher, L, P: SharedPlaceholder<K>, A: Allocat
         ensures same { self.new ≡ record self.old { state = self.new.state } }
     {
         self.contents.look_up(hash, query).is_some()
+    }
+
+    /// Whether there is an item under the query. Nothing changes.
+    #[inline]
+    pub fn has_item<Q: Equivalent<K>>(&self, hash: u64, query: &Q) -> bool
+        requires hash_is { hash ≡ hash_of B.BuildHasher B.Hasher.Hasher self.now.builder
+            (Q.hash_input query.now) }
+        ensures there { OnTrue result (0 < count_under (Q.equivalent query.now) self.now.state) }
+        ensures absent { OnFalse result (HasNoItem (Q.equivalent query.now) self.now.state) }
+    {
+        self.contains(hash, query)
     }
 
     /// The value of the item under the query, which is known to be there. Nothing changes.

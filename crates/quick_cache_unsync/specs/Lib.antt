@@ -2,6 +2,7 @@ pub mod Answered
 pub mod Touches
 pub mod Inserts
 pub mod Lent
+pub mod References
 pub mod CacheStep
 pub mod CacheRun
 pub use Rattle.quick_cache_shard.specs.Shard
@@ -19,3 +20,4 @@ pub use Rattle.quick_cache_model.specs.Lookups
 pub use Rattle.quick_cache_model.specs.Removal
 pub use Rattle.quick_cache_model.specs.Sizes
 pub use Rattle.quick_cache_model.specs.Refusals
+pub mod LentValues

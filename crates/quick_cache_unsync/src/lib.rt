@@ -6,6 +6,7 @@ mod calls;
 mod lifecycle;
 mod options;
 mod placeholder;
+mod reference;
 
 pub use cache::Cache;
 pub use calls::{Call, Reply, run};
@@ -15,3 +16,4 @@ pub use quick_cache_model::{
     DefaultHashBuilder, Equivalent, Lifecycle, Refusal, ToKey, UnitWeighter, Weighter, hash_of,
 };
 pub use quick_cache_shard::CacheShard;
+pub use reference::RefMut;

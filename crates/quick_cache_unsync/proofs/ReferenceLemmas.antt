@@ -1,0 +1,33 @@
+-- What a caller that wrote through a reference knows.
+use Rattle.std.proofs.Common.{◌≡◌, ℕ, ◌<◌, Bool, true, false, List, ◌++◌, ◌∷◌, Option, Some, None, refl, ap, subst, sym, ◌∙◌}
+use Rattle.std.proofs.Math.Bridge.{le_prop}
+use Rattle.std.proofs.Math.Nat.{ℕ_set}
+use Rattle.std.specs.declared.cmp.PartialEq as partial_eq
+use Rattle.std.specs.declared.default.Default as default
+use Rattle.std.specs.declared.hash.Hash as hash
+use Rattle.std.specs.declared.hash.Hasher as hasher
+use Rattle.std.specs.declared.hash.BuildHasher as builder
+use Rattle.quick_cache_model.specs.declared.equivalent.Equivalent as equivalent
+use Rattle.quick_cache_model.specs.declared.weighter.Weighter as weighter
+use Rattle.quick_cache_model.specs.declared.lifecycle.Lifecycle as lifecycle
+use Rattle.quick_cache_model.specs.Hashing.{hash_of}
+use Rattle.quick_cache_shard.specs.References.{count_under, with_value_under}
+use Rattle.quick_cache_unsync.specs.LentValues.{with_value}
+use Rattle.quick_cache_unsync.specs.declared.reference.RefMut.{RefMut}
+
+module _ {Q K V We B L A H S : Type 0} {query : equivalent.Ghosts Q K} {query_hash : hash.Ghosts Q}
+    {query_eq : partial_eq.Ghosts Q} {key_eq : partial_eq.Ghosts K} {key_hash : hash.Ghosts K}
+    {weigh : weighter.Ghosts We K V} {make : builder.Ghosts B H} {hashes : hasher.Ghosts H}
+    {life : lifecycle.Ghosts L K V S} {start : default.Ghosts S} where
+  -- only one proof says that the item is there, and that the hash is the query's
+  pub is_with_value : (r : RefMut Q K V We B L A H S query query_hash query_eq key_eq key_hash weigh
+      make hashes life start) (value : V)
+      → (there : 0 < count_under (query.equivalent r.query.now)
+      (with_value_under (query.equivalent r.query.now) value r.cache.now.state))
+      → (hash_is : r.hash ≡ hash_of make hashes r.cache.now.builder
+      (query_hash.hash_input r.query.now))
+      → record (with_value r value) { there = there; hash_is = hash_is } ≡ with_value r value
+  is_with_value r value there hash_is = λ i. record (with_value r value) {
+    there = le_prop there (with_value r value).there i;
+    hash_is = ℕ_set _ _ hash_is r.hash_is i;
+  }
