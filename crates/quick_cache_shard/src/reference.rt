@@ -5,7 +5,7 @@ ghost use Rattle.std.specs.Borrow.{sem};
 ghost use Rattle.quick_cache_model.specs.Finding.{HasNoItem};
 ghost use Rattle.quick_cache_model.specs.Hashing.{hash_of};
 ghost use Rattle.quick_cache_policy.specs.References.{count_under, IsValueUnder, ReweighsUnder, NotesLookUp};
-ghost use Rattle.quick_cache_shard.specs.Shard.{rules_of};
+ghost use Rattle.quick_cache_shard.specs.Shard.{rules_of, IsSoundShard};
 
 use crate::shard::CacheShard;
 use quick_cache_model::{Equivalent, Lifecycle, Weighter};
@@ -33,8 +33,11 @@ impl<K: Eq + Hash, V, We, B: BuildHasher, L, P: SharedPlaceholder<K>, A: Allocat
             self.new.state }
         ensures there { OnTrue result (0 < count_under (Q.equivalent query.now) self.new.state) }
         ensures same { self.new ≡ record self.old { state = self.new.state } }
+        ensures sound { IsSoundShard K.eq self.new }
     {
-        self.contents.look_up(hash, query).is_some()
+        let found = self.contents.look_up(hash, query).is_some();
+        self.contents.lists.apart();
+        found
     }
 
     /// Whether there is an item under the query. Nothing changes.
@@ -44,6 +47,7 @@ impl<K: Eq + Hash, V, We, B: BuildHasher, L, P: SharedPlaceholder<K>, A: Allocat
             (Q.hash_input query.now) }
         ensures there { OnTrue result (0 < count_under (Q.equivalent query.now) self.now.state) }
         ensures absent { OnFalse result (HasNoItem (Q.equivalent query.now) self.now.state) }
+        ensures sound { IsSoundShard K.eq self.now }
     {
         self.contains(hash, query)
     }

@@ -7,6 +7,7 @@ mod lifecycle;
 mod options;
 mod placeholder;
 mod reference;
+mod writes_through;
 
 pub use cache::Cache;
 pub use calls::{Call, Reply, run};
@@ -17,3 +18,4 @@ pub use quick_cache_model::{
 };
 pub use quick_cache_shard::CacheShard;
 pub use reference::RefMut;
+pub use writes_through::{poke, set};

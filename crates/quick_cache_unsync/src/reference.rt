@@ -5,7 +5,7 @@ ghost use Rattle.quick_cache_model.specs.Finding.{HasNoItem};
 ghost use Rattle.quick_cache_model.specs.Hashing.{hash_of};
 ghost use Rattle.quick_cache_model.specs.Lookups.{LooksUp};
 ghost use Rattle.quick_cache_shard.specs.References.{count_under, IsValueUnder, NotesLookUp, ReweighsUnder};
-ghost use Rattle.quick_cache_shard.specs.Shard.{rules_of, UpToOrder};
+ghost use Rattle.quick_cache_shard.specs.Shard.{rules_of, UpToOrder, IsSoundShard};
 ghost use Rattle.quick_cache_unsync.specs.Touches.{no_touches};
 
 use crate::cache::Cache;
@@ -183,6 +183,7 @@ impl<
             self.old.state true (lent r).state) }
         ensures same { IfSome result (λ r. lent r
             ≡ record self.old { state = (lent r).state }) }
+        ensures sound { IfSome result (λ r. IsSoundShard K.eq (lent r)) }
     {
         let hash = self.shard.hash(query);
         if !self.shard.look_up(hash, query) {
@@ -209,6 +210,7 @@ impl<
         ensures query { IfSome result (λ r. query_of r ≡ query.now) }
         ensures same { IfSome result (λ r. lent r ≡ self.old) }
         ensures absent { IfNone result (HasNoItem (Q.equivalent query.now) self.old.state) }
+        ensures sound { IsSoundShard K.eq self.old }
     {
         let hash = self.shard.hash(query);
         if !self.shard.has_item(hash, query) {
