@@ -92,3 +92,14 @@ fn with_options(rt: HostRuntime) -> Result<(), Fail> {
     assert_eq!(rt; (cache.capacity(), cache.shard().hot_target()), (1000, 900));
     Ok(())
 }
+
+#[test]
+fn set_capacity(rt: HostRuntime) -> Result<(), Fail> {
+    let mut cache: Cache<u64, u64> = Cache::new(rt.alloc(), 5)?;
+    for key in 0..5u64 {
+        cache.insert(key, key)?;
+    }
+    cache.set_capacity(2);
+    assert_eq!(rt; (cache.capacity(), cache.len()), (2, 2));
+    Ok(())
+}

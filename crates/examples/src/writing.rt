@@ -68,3 +68,35 @@ fn insert_with_lifecycle(rt: HostRuntime) -> Result<(), Fail> {
     assert_eq!(rt; (cache.len(), left), (2, 1));
     Ok(())
 }
+
+#[test]
+fn replace(rt: HostRuntime) -> Result<(), Fail> {
+    let mut cache = Cache::new(rt.alloc(), 5)?;
+    cache.insert("square", 4)?;
+    assert_eq!(rt; cache.replace("square", 16, false), Ok(()));
+    // A replace writes over items alone.
+    assert_eq!(rt; cache.replace("circle", 3, false), Err(("circle", 3)));
+    assert_eq!(rt; cache.peek(&"square").copied(), Some(16));
+    Ok(())
+}
+
+#[test]
+fn replace_with_lifecycle(rt: HostRuntime) -> Result<(), Fail> {
+    let mut cache = Cache::with(
+        rt.alloc(),
+        5,
+        5,
+        UnitWeighter,
+        DefaultHashBuilder::new(),
+        Leaving,
+    )?;
+    cache.insert(1, 10)?;
+    let mut left = 0;
+    assert_eq!(rt;
+        cache.replace_with_lifecycle(1, 11, true, &mut left),
+        Ok(())
+    );
+    // The pair that stood there left.
+    assert_eq!(rt; (cache.peek(&1).copied(), left), (Some(11), 1));
+    Ok(())
+}

@@ -1,0 +1,3 @@
+pub mod TakenKeys
+pub mod RunLemmas
+pub mod ShownLemmas

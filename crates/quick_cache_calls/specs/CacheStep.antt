@@ -24,7 +24,8 @@ use Rattle.quick_cache_calls.specs.declared.reply.Reply.{Reply}
 use Rattle.quick_cache_calls.specs.declared.reply.Reply.TheVariants.{Done, RefusedPair}
 use Rattle.quick_cache_calls.specs.declared.reply.Reply.TheVariants.{NotAdmitted, Value, Flag, Pair}
 use Rattle.quick_cache_calls.specs.declared.reply.Reply.TheVariants.{Found, Loaded, LoadFailed}
-use Rattle.quick_cache_calls.specs.declared.reply.Reply.TheVariants.{Filled, Dropped, Pairs, Refused}
+use Rattle.quick_cache_calls.specs.declared.reply.Reply.TheVariants.{Filled, Dropped, Pairs}
+use Rattle.quick_cache_calls.specs.declared.reply.Reply.TheVariants.{Refused}
 use Rattle.quick_cache_calls.specs.declared.reply.Reply.TheVariants.{Stats as Reads}
 use Rattle.quick_cache_calls.specs.declared.reply.Reply.TheVariants.{Counts as Numbers}
 use Rattle.quick_cache_calls.specs.Kinds.{replacement, IsLook, IsLoad, MakesRoom}

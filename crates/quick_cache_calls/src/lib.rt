@@ -1,4 +1,5 @@
-//! The calls of a cache for one thread and their replies, and what each call, and each list of calls, may do.
+//! The calls of a cache for one thread and their replies, and what each call, and each list of
+//! calls, may do.
 #![tactic(auto)]
 
 pub mod call;

@@ -29,7 +29,8 @@ pub enum Reply<K, V, M: Allocator = Global> {
     Filled,
     /// The guard was dropped.
     Dropped,
-    /// The pairs of a walk, in no order: clones of the residents, or the residents that were drained.
+    /// The pairs of a walk, in no order: clones of the residents, or the residents that were
+    /// drained.
     Pairs(Vec<(K, V), M>),
     /// The numbers of the cache.
     Counts {

@@ -3,6 +3,8 @@
 #![tactic(auto)]
 
 #[cfg(test)]
+mod capacity;
+#[cfg(test)]
 mod pins;
 #[cfg(test)]
 mod rings;

@@ -1,6 +1,6 @@
 -- Copied slots under the hashes of a new table are copies of the lists.
-use Rattle.std.proofs.Common.{◌≡◌, ◌≢◌, ℕ, zero, suc, ◌+◌, ◌<◌, ◌≤◌, ◌==◌, if◌then◌else◌, Bool, true, false, List, [], ◌∷◌, cond, map, length, count_by, Option, Some, None, IfSome, is_some, refl, sym, ap, subst, ◌∙◌, inl, inr, arith}
-use Rattle.std.proofs.lemmas.Bool.{cases_eq, eq-eqb, ne_eqb, cases_Bool}
+use Rattle.std.proofs.Common.{◌≡◌, ◌≢◌, ℕ, zero, suc, ◌+◌, ◌<◌, ◌≤◌, ◌==◌, if◌then◌else◌, Bool, true, false, List, [], ◌∷◌, cond, map, length, count_by, Option, Some, None, IfSome, is_some, refl, sym, ap, ◌∙◌, inl, inr, arith}
+use Rattle.std.proofs.lemmas.Bool.{cases_eq, eq-eqb, ne_eqb}
 use Rattle.std.proofs.lemmas.List.Sums.{sum_by-cons}
 use Rattle.std.specs.List.{AllZip}
 use Rattle.std.specs.Int.NonZero.{non_zero_u32_get}
@@ -15,9 +15,9 @@ use Rattle.quick_cache_lists.specs.declared.entry.Entry.TheVariants.{Item as ite
 use Rattle.quick_cache_lists.specs.declared.entry.Slot.{Slot}
 use Rattle.quick_cache_lists.specs.declared.ring.Ring.{Ring}
 use Rattle.quick_cache_lists.specs.declared.rings.Rings.{Rings}
-use Rattle.quick_cache_lists.specs.Copies.{AreCopies, IsAwaitedCopy, IsEntryCopy, IsHeldCopy, IsItemCopy, IsSlotCopy, IsWaitingCopy}
-use Rattle.quick_cache_lists.specs.Lists.{HeldGhost, HeldItem, HeldLoading, Lists, entry_count}
-use Rattle.quick_cache_lists.specs.Slots.{Stand, AmongStill, ghost_of, has_hash, if_still, item_of, loading_of, ring_stand, stand_of, stand_of_item, still_of, weight_at}
+use Rattle.quick_cache_lists.specs.Copies.{AreCopies, IsEntryCopy, IsHeldCopy, IsItemCopy, IsSlotCopy, IsWaitingCopy}
+use Rattle.quick_cache_lists.specs.Lists.{HeldItem, HeldLoading}
+use Rattle.quick_cache_lists.specs.Slots.{Stand, ghost_of, has_hash, if_still, item_of, loading_of, stand_of, stand_of_item, still_of, weight_at}
 use Rattle.quick_cache_lists.specs.Sound.{AddsPairs, AreAlone, IsKeyed, IsRingOf, IsSound, IsStanding, gather, lists_of, put, tokens_of, upto, weigh}
 use Rattle.quick_cache_lists.proofs.GatherLemmas.{weigh-same}
 

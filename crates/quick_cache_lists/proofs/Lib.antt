@@ -23,3 +23,4 @@ pub mod WalkLemmas
 pub mod StandingLemmas
 pub mod CopyLemmas
 pub mod ResidentLemmas
+pub mod PlaceholderLemmas

@@ -6,3 +6,4 @@ pub mod Views
 pub mod Walks
 pub mod Copies
 pub mod Lent
+pub mod Placeholders

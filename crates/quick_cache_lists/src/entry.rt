@@ -133,6 +133,24 @@ impl<K, V, P, T> Slot<K, V, P, T> {
         }
     }
 
+    /// The item that it has.
+    ///
+    /// It does not look whether it has one: a shift too far has no value, and so tells the compiler
+    /// what the proof says, that no one comes there.
+    #[inline(always)]
+    pub(crate) fn item(&self) -> &Resident<K, V, T>
+        requires { is_item self.now ≡ true }
+        ensures { self.now.entry ≡ Entry.Item result.now }
+    {
+        let too_far = usize::BITS;
+        let none: &[Resident<K, V, T>] = &[];
+        match &self.entry {
+            Entry::Item(resident) => resident,
+            Entry::Loading(_) => &none[1 << too_far],
+            Entry::Ghost => &none[1 << too_far],
+        }
+    }
+
     /// Gives an item another mark and another count of reads.
     pub(crate) fn set_counts(&mut self, mark: u8, reads: u64)
         requires { is_item self.old ≡ true }

@@ -16,6 +16,6 @@ mod walk;
 
 pub use entry::{Awaited, Entry, Slot};
 pub use found::Found;
-pub use lists::{Copying, Lists};
+pub use lists::{Copying, Lists, Meaning};
 pub use resident::Resident;
 pub use walk::{GhostIter, ItemIter, RingIter};

@@ -7,12 +7,14 @@ mod copies;
 mod counts;
 mod looks;
 mod moves;
+mod placeholders;
 mod values;
 mod walks;
 
 use crate::entry::Slot;
 use crate::rings::Rings;
 pub use copies::Copying;
+pub use placeholders::Meaning;
 use quick_cache_model::Refusal;
 use quick_cache_slab::LinkedSlab;
 use quick_cache_table::Table;

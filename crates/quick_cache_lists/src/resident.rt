@@ -18,9 +18,10 @@ pub struct Resident<K, V, T> {
     queue: Queue,
     // What readers counted since the cache last took it in.
     touch: T,
+    // A look-up touches what stands from here on up to the value, so it stands together.
+    reads: u64,
     key: K,
     value: V,
-    reads: u64,
     weight: u64,
 }
 

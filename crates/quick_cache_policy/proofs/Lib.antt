@@ -29,3 +29,7 @@ pub mod CopyLemmas
 pub mod RewriteLemmas
 pub mod NewLemmas
 pub mod ReferenceLemmas
+pub mod MakeLemmas
+pub mod FillLemmas
+pub mod GhostLemmas
+pub mod CapacityLemmas

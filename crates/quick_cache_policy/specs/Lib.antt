@@ -10,3 +10,5 @@ pub mod Finding
 pub mod References
 pub mod Lent
 pub mod Copies
+pub mod Filling
+pub mod Loading

@@ -1,5 +1,5 @@
 //! Writes: inserts and replaces.
-ghost use Rattle.std.specs.Prelude.{◌≡◌, ◌+◌, ◌≤◌, ◌<◌, None, Some, IfErr, IsSome, true};
+ghost use Rattle.std.specs.Prelude.{◌≡◌, ◌+◌, ◌≤◌, ◌<◌, None, Some, IfErr, IsSome, true, false};
 ghost use Rattle.quick_cache_lists.specs.Lists.{Finds, entry_count};
 ghost use Rattle.quick_cache_model.specs.Hooks.{Calls};
 ghost use Rattle.quick_cache_model.specs.Writes.{WritesAdmitted, Writes, Insert};
@@ -114,6 +114,9 @@ impl<K: Eq + Hash + Drop, V: Drop, P: SharedPlaceholder<K>, A: Allocator> Conten
         ensures taken { is_insert (strategy_of strategy) ≡ true → result ≡ None }
         ensures sound { IsSound P.ticket_of K.eq (M.hashed terms.now) self.new }
         ensures room { self.old.lists.room ≤ self.new.lists.room + 1 }
+        // A replace takes none.
+        ensures keeps_room { is_insert (strategy_of strategy) ≡ false
+            → self.old.lists.room ≤ self.new.lists.room }
         ensures work { WorksWithin
             (ring_count Queue.Hot self.old + ring_count Queue.Cold self.old + 1)
             (work_of self.old) (work_of self.new) }
@@ -181,6 +184,9 @@ impl<K: Eq + Hash + Drop, V: Drop, P: SharedPlaceholder<K>, A: Allocator> Conten
         ensures taken { is_insert (strategy_of strategy) ≡ true → result ≡ None }
         ensures sound { IsSound P.ticket_of K.eq (M.hashed terms.now) self.new }
         ensures room { self.old.lists.room ≤ self.new.lists.room + 1 }
+        // A replace takes none.
+        ensures keeps_room { is_insert (strategy_of strategy) ≡ false
+            → self.old.lists.room ≤ self.new.lists.room }
         ensures work { WorksWithin
             (ring_count Queue.Hot self.old + ring_count Queue.Cold self.old + 1)
             (work_of self.old) (work_of self.new) }
@@ -220,12 +226,17 @@ impl<K: Eq + Hash + Drop, V: Drop, P: SharedPlaceholder<K>, A: Allocator> Conten
             (rules_by M.Policy P.Touch.may_count terms.now)
             K.eq (strategy_of strategy) (state_of P.ticket_of self.old) state.old key value result
             (state_of P.ticket_of self.new) state.new }
-        // Only a replace gives a pair back with no refusal.
+        // Only a replace gives a pair back with no refusal, and it is never refused.
         ensures taken { is_insert (strategy_of strategy) ≡ true
             → IfErr result (λ back. IsSome back.2) }
+        ensures unrefused { is_insert (strategy_of strategy) ≡ false
+            → IfErr result (λ back. back.2 ≡ None) }
         ensures sound { IsSound P.ticket_of K.eq (M.hashed terms.now) self.new }
         // It takes room for one entry at most, and asks for memory only where there is no room.
         ensures room { self.old.lists.room ≤ self.new.lists.room + 1 }
+        // A replace takes none.
+        ensures keeps_room { is_insert (strategy_of strategy) ≡ false
+            → self.old.lists.room ≤ self.new.lists.room }
         ensures asks { IfErr result (λ back. back.2 ≡ Some Memory → self.old.lists.room ≡ 0) }
         ensures work { WorksWithin
             (ring_count Queue.Hot self.old + ring_count Queue.Cold self.old + 1)

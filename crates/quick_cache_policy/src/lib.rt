@@ -6,12 +6,15 @@
 #![tactic(auto)]
 
 mod admission;
+mod capacity;
 mod cold;
 mod contents;
 mod copies;
 mod evict;
+mod fill;
 mod hot;
 mod insert;
+mod loading;
 mod lookup;
 mod overwrite;
 mod peek;

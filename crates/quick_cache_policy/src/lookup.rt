@@ -1,5 +1,7 @@
 //! Look-ups and removals.
 ghost use Rattle.std.specs.Prelude.{◌≡◌, ℕ, ◌≤◌, MatchOption};
+ghost use Rattle.std.specs.Int.NonZero.{non_zero_u32_get as number};
+ghost use Rattle.quick_cache_lists.specs.Lists.{FindsItem};
 ghost use Rattle.quick_cache_model.specs.Removal.{Removes};
 ghost use Rattle.quick_cache_model.specs.CacheState.{UpToOrder};
 ghost use Rattle.quick_cache_policy.specs.Contents.{IsSound, state_of};
@@ -30,17 +32,33 @@ impl<K: Eq + Hash, V, P: SharedPlaceholder<K>, A: Allocator> Contents<K, V, P, A
           misses = self.new.misses;
         } }
     {
-        self.lists.apart();
         let Some(token) = self.lists.find_item(hash, query) else {
             self.misses = self.misses.saturating_add(1);
             return None;
         };
+        self.count_hit(token, hash, query);
+        Some(token)
+    }
+
+    /// Counts a hit at an item that the query found: it is marked and read.
+    #[inline]
+    pub(crate) fn count_hit<Q: Equivalent<K>>(&mut self, token: Token, hash: u64, _query: &Q)
+        requires found { FindsItem (Q.equivalent _query.now) hash self.old.lists (number token) }
+        ensures looks_up { IsLookedUp P.ticket_of (Q.equivalent _query.now) self.old token self.new }
+        ensures sound { (hashed : K → ℕ) → IsSound P.ticket_of K.eq hashed self.old
+            → IsSound P.ticket_of K.eq hashed self.new }
+        ensures room { self.new.lists.room ≡ self.old.lists.room }
+        ensures same { self.new ≡ record self.old {
+          lists = self.new.lists;
+          hits = self.new.hits;
+        } }
+    {
+        self.lists.apart();
         let item = self.lists.item(token);
         let mark = item.mark().min(MARK_CUT - 1) + 1;
         let reads = item.reads().saturating_add(1);
         self.lists.set_counts(token, mark, reads);
         self.hits = self.hits.saturating_add(1);
-        Some(token)
     }
 
     /// Takes out the item under the query, and gives its pair, or the placeholder, or a ghost of

@@ -152,6 +152,23 @@ impl<K: Eq + Hash + Drop, V: Drop, P: SharedPlaceholder<K>, A: Allocator> Conten
         if self.lists.ghost_count() <= self.ghost_limit {
             return;
         }
+        self.forget_ghost();
+    }
+
+    /// Forgets the oldest ghost.
+    pub(crate) fn forget_ghost(&mut self)
+        requires some { 0 < length self.old.lists.ghosts }
+        ensures ghosts { hashes_of self.new.lists.ghosts
+            ≡ drop 1 (hashes_of self.old.lists.ghosts) }
+        ensures room { self.old.lists.room ≤ self.new.lists.room }
+        ensures same { self.new ≡ record self.old {
+          lists = record self.old.lists {
+            ghosts = self.new.lists.ghosts;
+            next = self.new.lists.next;
+            room = self.new.lists.room;
+          };
+        } }
+    {
         let Some(oldest) = self.lists.oldest_ghost() else {
             unreachable!();
         };

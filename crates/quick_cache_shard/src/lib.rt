@@ -1,6 +1,8 @@
 //! One cache: each call is the step of its definition.
 #![tactic(auto)]
 
+mod capacity;
+mod loading;
 mod readers;
 mod reference;
 mod shard;

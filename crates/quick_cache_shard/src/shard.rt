@@ -1,5 +1,5 @@
 //! The shard: its calls, and what a contract sees of it.
-ghost use Rattle.std.specs.Prelude.{◌≡◌, IfOk, IfErr, IsOk, MatchOption, option_copied, ◌≤◌, ◌+◌, OnErr, Some, min, ◌-◌, OnOk, length, IsSome, true};
+ghost use Rattle.std.specs.Prelude.{◌≡◌, IfOk, IfErr, IsOk, MatchOption, option_copied, ◌≤◌, ◌+◌, OnErr, Some, min, ◌-◌, OnOk, length, IsSome, true, false, None};
 ghost use Rattle.std.specs.Bool.{OnTrue, OnFalse};
 ghost use Rattle.std.specs.Borrow.{sem};
 ghost use Rattle.std.specs.Option.{option_map};
@@ -207,11 +207,16 @@ impl<K: Eq + Hash, V, We, B: BuildHasher, L, P: SharedPlaceholder<K>, A: Allocat
             B.Hasher.Hasher L.Lifecycle self.old)
             K.eq (strategy_of strategy) self.old.state state.old key value result
             self.new.state state.new }
-        // Only a replace gives a pair back with no refusal.
+        // Only a replace gives a pair back with no refusal, and it is never refused.
         ensures taken { is_insert (strategy_of strategy) ≡ true
             → IfErr result (λ back. IsSome back.2) }
-        // It takes room for one entry at most, and asks for memory only where there is no room.
+        ensures unrefused { is_insert (strategy_of strategy) ≡ false
+            → IfErr result (λ back. back.2 ≡ None) }
+        // It takes room for one entry at most, and asks for memory only where there is no room. A
+        // replace takes none.
         ensures room { self.old.room ≤ self.new.room + 1 }
+        ensures keeps_room { is_insert (strategy_of strategy) ≡ false
+            → self.old.room ≤ self.new.room }
         ensures asks { IfErr result (λ back. back.2 ≡ Some Memory → self.old.room ≡ 0) }
         // How much work it takes, whatever is pinned.
         ensures work { WorksWithin (length self.old.state.hot + length self.old.state.cold + 1)

@@ -1,6 +1,9 @@
 pub mod Answered
 pub mod Touches
+pub mod Alone
 pub mod Inserts
+pub mod Replaces
+pub mod SetsCapacity
 pub mod Lent
 pub mod References
 pub mod CacheStep

@@ -3,10 +3,12 @@
 
 mod cache;
 mod calls;
+mod capacity;
 mod lifecycle;
 mod options;
 mod placeholder;
 mod reference;
+mod replace;
 mod writes_through;
 
 pub use cache::Cache;

@@ -4,7 +4,7 @@ ghost use Rattle.std.specs.Int.NonZero.{non_zero_u32_get as number};
 ghost use Rattle.quick_cache_model.specs.CacheState.{ring_place};
 ghost use Rattle.quick_cache_lists.specs.Lists.{Finds, FindsItem, HasNoItem, HasEntry, IsEntry, HasItemToken, IsItemOf, HasRingToken, next_in_ring, IsFirstAbove, number_or_zero, IsFirstOf, items_at};
 
-use crate::entry::{Entry, Slot};
+use crate::entry::Slot;
 use crate::found::Found;
 use crate::lists::Lists;
 use crate::resident::Resident;
@@ -49,7 +49,14 @@ impl<K, V, P, T, A: Allocator> Lists<K, V, P, T, A> {
             (HasNoItem (Q.equivalent query.now) hash self.now)
             (λ token. FindsItem (Q.equivalent query.now) hash self.now (number token)) }
     {
-        for token in self.table.iter_hash(hash) {
+        let mut tokens = self.table.iter_hash(hash);
+        // Nearly always the first is the one that is sought.
+        let first = tokens.next()?;
+        let (slot, _) = unsafe { self.slab.get_unchecked(first) };
+        if slot.is_item_under(query) {
+            return Some(first);
+        }
+        for token in tokens {
             let (slot, _) = unsafe { self.slab.get_unchecked(token) };
             if slot.is_item_under(query) {
                 return Some(token);
@@ -83,11 +90,7 @@ impl<K, V, P, T, A: Allocator> Lists<K, V, P, T, A> {
         ensures { IsItemOf self.now (number token) result.now }
     {
         let (slot, _) = unsafe { self.slab.get_unchecked(token) };
-        match &slot.entry {
-            Entry::Item(resident) => resident,
-            Entry::Loading(_) => unreachable!(),
-            Entry::Ghost => unreachable!(),
-        }
+        slot.item()
     }
 
     /// The token behind an item of a ring, which is the item's own where no other stands there.

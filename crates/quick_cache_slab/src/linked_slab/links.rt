@@ -194,6 +194,25 @@ impl<T> Node<T> {
     ghost use Rattle.quick_cache_slab.specs.contracts.linked_slab.links.Node.{the_row};
 
     /// The item of an occupied slot.
+    ///
+    /// It does not look whether there is one: a shift too far has no value, and so tells the
+    /// compiler what the proof says, that no one comes there.
+    #[inline(always)]
+    pub(crate) fn item(&self) -> &T
+        requires { IsSome self.now.item }
+        ensures { self.now.item ≡ Some result.now }
+    {
+        match &self.item {
+            Some(item) => item,
+            None => {
+                let too_far = usize::BITS;
+                let none: &[T] = &[];
+                &none[1 << too_far]
+            }
+        }
+    }
+
+    /// The item of an occupied slot, for writing. It does not look either.
     #[inline]
     pub(crate) fn item_mut(&mut self) -> &mut T
         requires { IsSome self.old.item }
@@ -201,6 +220,14 @@ impl<T> Node<T> {
             (λ item. record self.old { item = Some item })) }
         ensures value { self.old.item ≡ Some result.now }
     {
-        self.item.as_mut().unwrap()
+        match &mut self.item {
+            Some(item) => item,
+            None => {
+                let too_far = usize::BITS;
+                let mut none = [0u8; 0];
+                none[1 << too_far] = 0;
+                unreachable!()
+            }
+        }
     }
 }

@@ -20,10 +20,7 @@ impl<T, A: Allocator> LinkedSlab<T, A> {
         ensures next { number result.1 ≡ successor self.now (number token) }
     {
         let node = &self.nodes[place(token)];
-        match &node.item {
-            Some(item) => (item, node.next),
-            None => unreachable!(),
-        }
+        (node.item(), node.next)
     }
 
     /// The item of an occupied token, for writing, and the token behind it in its ring.

@@ -62,7 +62,8 @@ impl<'a> Walk<'a> {
     // The position of the next pair of the hash in the group that is being read.
     //
     // A lane is left behind once its place was compared, and not before: a look-up that ends there
-    // does not need the rest.
+    // does not need the rest. Each way leaves it behind in words of its own, since the compiler
+    // would work out what both ask for before it compares.
     #[inline(always)]
     fn next_in_group(&mut self) -> Option<usize>
         requires { IsWalk self.old }
@@ -80,7 +81,7 @@ impl<'a> Walk<'a> {
             let lane = self.lanes.trailing_zeros() as usize;
             let position = LANES * (self.home ^ self.step) + lane;
             if self.places[position].hash() == self.hash {
-                self.lanes &= self.lanes - 1;
+                self.lanes ^= 1 << lane;
                 return Some(position);
             }
             self.lanes &= self.lanes - 1;

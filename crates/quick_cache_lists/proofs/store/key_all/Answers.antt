@@ -1,6 +1,5 @@
-use Rattle.std.proofs.Common.{◌≤◌, length, sym, ap, subst, refl, rules, arith}
+use Rattle.std.proofs.Common.{length, ap, refl, arith}
 use Rattle.std.specs.Int.NonZero.{non_zero_u32_get as number}
-use Rattle.quick_cache_lists.specs.Sound.{AddsPairs}
 use Rattle.quick_cache_lists.proofs.CopyLemmas.{first-times, rest-times, rest-apart}
 use Rattle.quick_cache_lists.proofs.store.key_all.Goals as goal
 

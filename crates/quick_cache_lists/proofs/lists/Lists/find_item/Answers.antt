@@ -1,36 +1,85 @@
-use Rattle.std.proofs.Common.{◌∙◌, sym, ap, subst, List, ℕ}
+use Rattle.std.proofs.Common.{◌∙◌, sym, ap, subst}
 use Rattle.std.specs.Int.NonZero.{non_zero_u32_get as number}
-use Rattle.quick_cache_table.specs.Table.{IsTokensOf}
 use Rattle.quick_cache_lists.specs.Slots.{is_item_under_at}
+use Rattle.quick_cache_lists.specs.Sound.{PassesNoItem}
 use Rattle.quick_cache_lists.proofs.FindLemmas.{occupied_by_pair, item_under-is, FindsItem-from, HasNoItem-from, PassesNoItem-start, PassesNoItem-past, PassesNoItem-has, PassesNoItem-none}
 use Rattle.quick_cache_lists.proofs.lists.Lists.find_item.Goals as goal
 
-pub loop-token-init : goal.loop-token-init
-loop-token-init g c =
-    PassesNoItem-start _ _ _ _ _ (subst
-    (λ (tokens : List ℕ). IsTokensOf c.self.inside.table c.args.hash tokens)
-    (sym c.into_iter-token-iterator.ensures.into_iter_gives) c.iter_hash-token-items.ensures)
+pub returns-in_err-first : goal.returns-in_err-first
+returns-in_err-first g c =
+    let i = c.self.inside in
+    let stands_for = g.Q.Equivalent.equivalent c.args.query.now in
+    let start = PassesNoItem-start i.slab i.table c.args.hash stands_for _
+    c.iter_hash-tokens.ensures in
+    rw (c.from_residual.ensures, ← c.self.view_is) (HasNoItem-from i.slab i.table i.rings.hot
+    i.rings.cold i.rings.ghosts c.self.invariant.standing c.self.invariant.keyed _ c.args.hash
+    (PassesNoItem-none i.slab i.table c.args.hash _ _ c.in_err-first.ensures.steps.0 start))
+
+pub get_unchecked-requires : goal.get_unchecked-requires
+get_unchecked-requires g c =
+    let i = c.self.inside in
+    let start = PassesNoItem-start i.slab i.table c.args.hash
+    (g.Q.Equivalent.equivalent c.args.query.now) _ c.iter_hash-tokens.ensures in
+    let has = PassesNoItem-has i.slab i.table c.args.hash _ _ _ c.in_ok-first.first
+    c.in_ok-first.ensures.steps start in
+    occupied_by_pair i.slab i.table c.self.invariant.keyed c.args.hash (number c.in_ok-first.first) has
 
 pub returns-then-is_item_under : goal.returns-then-is_item_under
 returns-then-is_item_under g c =
     let i = c.self.inside in
     let stands_for = g.Q.Equivalent.equivalent c.args.query.now in
-    let has = PassesNoItem-has i.slab i.table c.args.hash _ _ _ c.in-Some.token
-    c.in-Some.ensures.steps c.loop-token.invariant in
+    let start = PassesNoItem-start i.slab i.table c.args.hash stands_for _
+    c.iter_hash-tokens.ensures in
+    let has = PassesNoItem-has i.slab i.table c.args.hash _ _ _ c.in_ok-first.first
+    c.in_ok-first.ensures.steps start in
     let is = item_under-is stands_for _
     (ap (is_item_under_at stands_for) c.get_unchecked.ensures.item
     ∙ sym c.is_item_under.ensures ∙ c.if-is_item_under.true) in
     rw (← c.self.view_is) (FindsItem-from i.slab i.table i.rings.hot i.rings.cold i.rings.ghosts
-    c.self.invariant.standing c.self.invariant.keyed _ c.args.hash (number c.in-Some.token) has
+    c.self.invariant.standing c.self.invariant.keyed _ c.args.hash (number c.in_ok-first.first) has
     is.0 is.1)
+
+pub loop-token-init : goal.loop-token-init
+loop-token-init g c =
+    let i = c.self.inside in
+    let stands_for = g.Q.Equivalent.equivalent c.args.query.now in
+    let start = PassesNoItem-start i.slab i.table c.args.hash stands_for _
+    c.iter_hash-tokens.ensures in
+    subst (PassesNoItem i.slab i.table c.args.hash stands_for)
+    (sym c.into_iter-token-iterator.ensures.into_iter_gives)
+    (PassesNoItem-past i.slab i.table c.args.hash _ _ _ c.in_ok-first.first c.in_ok-first.ensures.steps
+    (ap (is_item_under_at stands_for) c.get_unchecked.ensures.item
+    ∙ sym c.is_item_under.ensures ∙ c.if-is_item_under.false) start)
+
+pub get_unchecked-requires-in-loop-token : goal.get_unchecked-requires-in-loop-token
+get_unchecked-requires-in-loop-token g c =
+    let i = c.self.inside in
+    let has = PassesNoItem-has i.slab i.table c.args.hash _ _ _ c.in-Some.token
+    c.in-Some.ensures.steps c.loop-token.invariant in
+    occupied_by_pair i.slab i.table c.self.invariant.keyed c.args.hash
+    (number c.in-Some.token) has
+
+pub returns-then-is_item_under-2 : goal.returns-then-is_item_under-2
+returns-then-is_item_under-2 g c =
+    let i = c.self.inside in
+    let stands_for = g.Q.Equivalent.equivalent c.args.query.now in
+    let has = PassesNoItem-has i.slab i.table c.args.hash _ _ _ c.in-Some.token
+    c.in-Some.ensures.steps c.loop-token.invariant in
+    let is = item_under-is stands_for _
+    (ap (is_item_under_at stands_for) c.get_unchecked-in-loop-token.ensures.item
+    ∙ sym c.is_item_under-in-loop-token.ensures ∙ c.if-is_item_under-2.true) in
+    rw (← c.self.view_is) (FindsItem-from i.slab i.table i.rings.hot i.rings.cold i.rings.ghosts
+    c.self.invariant.standing c.self.invariant.keyed _ c.args.hash
+    (number c.in-Some.token) has is.0 is.1)
 
 pub loop-token-preserved : goal.loop-token-preserved
 loop-token-preserved g c =
     let i = c.self.inside in
-    PassesNoItem-past i.slab i.table c.args.hash _ _ _ c.in-Some.token c.in-Some.ensures.steps
+    PassesNoItem-past i.slab i.table c.args.hash _ _ _ c.in-Some.token
+    c.in-Some.ensures.steps
     (ap (is_item_under_at (g.Q.Equivalent.equivalent c.args.query.now))
-    c.get_unchecked.ensures.item ∙ sym c.is_item_under.ensures ∙ c.if-is_item_under.false)
-    c.loop-token.invariant
+    c.get_unchecked-in-loop-token.ensures.item ∙ sym c.is_item_under-in-loop-token.ensures
+    ∙ c.if-is_item_under-2.false) c.loop-token.invariant
 
 pub returns : goal.returns
 returns g c =
@@ -39,10 +88,3 @@ returns g c =
     c.self.invariant.standing c.self.invariant.keyed _ c.args.hash
     (PassesNoItem-none i.slab i.table c.args.hash _ _ c.in-None.ensures.steps.0
     c.loop-token.invariant))
-
-pub get_unchecked-requires : goal.get_unchecked-requires
-get_unchecked-requires g c =
-    let i = c.self.inside in
-    let has = PassesNoItem-has i.slab i.table c.args.hash _ _ _ c.in-Some.token
-    c.in-Some.ensures.steps c.loop-token.invariant in
-    occupied_by_pair i.slab i.table c.self.invariant.keyed c.args.hash (number c.in-Some.token) has

@@ -11,32 +11,23 @@ get_unchecked-requires g c =
     (number c.args.token) (rw (← c.self.view_is) at c.requires) in
     rw has.2 refl
 
-pub unreachable-requires : goal.unreachable-requires
-unreachable-requires g c =
+pub item-requires : goal.item-requires
+item-requires g c =
     let i = c.self.inside in
     let has = item_by_token i.slab i.table i.rings.hot i.rings.cold i.rings.ghosts
     (number c.args.token) (rw (← c.self.view_is) at c.requires) in
     let is = item_is _ c.get_unchecked.result.0.now has.0 has.1 has.2 c.get_unchecked.ensures.item
     in
-    cc (is, c.in-Loading.is)
-
-pub unreachable-requires-in-Ghost : goal.unreachable-requires-in-Ghost
-unreachable-requires-in-Ghost g c =
-    let i = c.self.inside in
-    let has = item_by_token i.slab i.table i.rings.hot i.rings.cold i.rings.ghosts
-    (number c.args.token) (rw (← c.self.view_is) at c.requires) in
-    let is = item_is _ c.get_unchecked.result.0.now has.0 has.1 has.2 c.get_unchecked.ensures.item
-    in
-    cc (is, c.in-Ghost.is)
+    rw is refl
 
 pub returns : goal.returns
 returns g c =
     let i = c.self.inside in
     let at = c.get_unchecked.ensures.item
-    ∙ ap (λ entry. Some (record c.get_unchecked.result.0.now { entry = entry })) c.in-Item.is in (
+    ∙ ap (λ entry. Some (record c.get_unchecked.result.0.now { entry = entry })) c.item.ensures in (
       c.get_unchecked.result.0.now.hash,
       rw (← c.self.view_is)
           (HasItem-from i.slab i.table i.rings.hot i.rings.cold i.rings.ghosts
           c.self.invariant.standing (number c.args.token) c.get_unchecked.result.0.now.hash
-          c.in-Item.resident at),
+          c.item.result.now at),
     )

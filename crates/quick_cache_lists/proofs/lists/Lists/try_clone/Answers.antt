@@ -1,9 +1,5 @@
-use Rattle.std.proofs.Common.{◌≡◌, ◌≤◌, ◌+◌, length, count_by, is_some, min, sym, ap, subst, ◌∙◌, arith}
-use Rattle.quick_cache_slab.specs.LinkedSlab.{LinkedSlab}
-use Rattle.quick_cache_table.specs.Table.{pair_count}
-use Rattle.quick_cache_lists.specs.declared.entry.Slot.{Slot}
-use Rattle.quick_cache_lists.specs.Sound.{IsKeyed, AddsPairs}
-use Rattle.quick_cache_lists.proofs.CopyLemmas.{IsKeyed-all, IsSound-copied, length-past, light-copied, lists_of-copied, past-once, slots-copied}
+use Rattle.std.proofs.Common.{◌≡◌, ◌≤◌, ◌+◌, length, count_by, is_some, ap, ◌∙◌, arith}
+use Rattle.quick_cache_lists.proofs.CopyLemmas.{IsKeyed-all, IsSound-copied, length-past, light-copied, lists_of-copied, past-once}
 use Rattle.quick_cache_lists.proofs.lists.Lists.try_clone.Goals as goal
 
 -- there are no more entries than room was made for

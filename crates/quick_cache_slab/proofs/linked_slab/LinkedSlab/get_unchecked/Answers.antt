@@ -4,14 +4,13 @@ use Rattle.quick_cache_slab.proofs.NodeFields.{item_read, next_read, taken_in_no
 use Rattle.quick_cache_slab.proofs.SlabViews.{successor-view}
 use Rattle.quick_cache_slab.proofs.linked_slab.LinkedSlab.get_unchecked.Goals as goal
 
-pub unreachable-requires : goal.unreachable-requires
-unreachable-requires g c =
+pub item-requires : goal.item-requires
+item-requires g c =
     let nodes = c.self.inside.nodes.items in
     let taken = rw (← c.self.view_is) at c.requires in
     let read = item_read nodes c.args.token.value c.place.result c.index-node.result.now
     c.place.ensures (taken_in_nodes nodes c.args.token.value taken) in
-    true≢false (sym taken ∙ ap is_some
-    (read ∙ ap (λ n. n.item) (sym c.index-node.ensures) ∙ c.in-None.is))
+    ap is_some (ap (λ n. n.item) c.index-node.ensures ∙ sym read) ∙ taken
 
 pub returns-clause-item : goal.returns-clause-item
 returns-clause-item g c =
@@ -19,7 +18,7 @@ returns-clause-item g c =
     let taken = rw (← c.self.view_is) at c.requires in
     let read = item_read nodes c.args.token.value c.place.result c.index-node.result.now
     c.place.ensures (taken_in_nodes nodes c.args.token.value taken) in
-    rw (← c.self.view_is) (read ∙ ap (λ n. n.item) (sym c.index-node.ensures) ∙ c.in-Some.is)
+    rw (← c.self.view_is) (read ∙ ap (λ n. n.item) (sym c.index-node.ensures) ∙ c.item.ensures)
 
 pub returns-clause-next : goal.returns-clause-next
 returns-clause-next g c =

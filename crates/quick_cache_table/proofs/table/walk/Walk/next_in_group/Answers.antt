@@ -2,6 +2,7 @@ use Rattle.std.proofs.Common.{◌≡◌, ◌<◌, List, ◌∷◌, length, arith
 use Rattle.quick_cache_table.specs.declared.table.groups.Place.{Place}
 use Rattle.quick_cache_table.specs.declared.table.walk.Walk.{Walk}
 use Rattle.quick_cache_table.specs.TableGroups.{hash_at, place_at, tokens_left}
+use Rattle.quick_cache_table.proofs.GroupLanes.{turned_lowest}
 use Rattle.quick_cache_table.proofs.WalkedTokens.{looks_at_lane, behind_lane, lane_position}
 use Rattle.quick_cache_table.proofs.table.walk.Walk.next_in_group.Goals as goal
 
@@ -21,7 +22,9 @@ bounds-self-position c =
 
 pub returns-then-hash-self-clause-walk : goal.returns-then-hash-self-clause-walk
 returns-then-hash-self-clause-walk c =
-    (looks_at_lane c.loop-self.self c.loop-self.invariant.walk (omega arith)).still
+    let walk : Walk = c.loop-self.self in
+    rw (turned_lowest walk.lanes (omega arith) (omega (arith, c.loop-self.invariant.walk.few)))
+    (looks_at_lane walk c.loop-self.invariant.walk (omega arith)).still
 
 pub returns-then-hash-self-clause-within : goal.returns-then-hash-self-clause-within
 returns-then-hash-self-clause-within c =
@@ -37,15 +40,17 @@ returns-then-hash-self-clause-some c =
     let place : List Place → Place = λ places. place_at places (lane_position walk) in
     let same : hash_at (place walk.places.now) ≡ walk.hash =
     sym c.hash.ensures ∙ c.if-hash-self.true in
+    let turned = turned_lowest walk.lanes (omega arith)
+    (omega (arith, c.loop-self.invariant.walk.few)) in
     let P : List Place → Type 0 = λ places.
     (0 < (place places).token) × (hash_at (place places) ≡ c.args.self.now.hash) ×
     (tokens_left c.args.self.now ≡ (place places).token ∷ tokens_left (behind_lane walk)) in
-    subst P (ap (λ (walk : Walk). walk.places.now) c.loop-self.invariant.stays) (
+    rw turned (subst P (ap (λ (walk : Walk). walk.places.now) c.loop-self.invariant.stays) (
       looks.taken,
       same ∙ ap (λ (walk : Walk). walk.hash) c.loop-self.invariant.stays,
       sym
           c.loop-self.invariant.left ∙ looks.take same,
-    )
+    ))
 
 -- a place with the tag and another hash is passed over
 pub loop-self-preserved : goal.loop-self-preserved

@@ -1,0 +1,4 @@
+pub mod StepParts
+pub mod CallSteps
+pub mod CallWrites
+pub mod Victims

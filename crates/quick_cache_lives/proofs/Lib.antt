@@ -1,0 +1,14 @@
+pub mod Leads
+pub mod Shuffles
+pub mod Books
+pub mod Values
+pub mod Residents
+pub mod Eviction
+pub mod Told
+pub mod Writes
+pub mod Fills
+pub mod Quiet
+pub mod Steps
+pub mod Runs
+pub mod CallerLemmas
+pub mod Examples

@@ -1,0 +1,297 @@
+-- A placeholder that leaves, and the pair that comes in its place.
+use Rattle.std.proofs.Common.{◌≡◌, ◌≢◌, ℕ, ◌+◌, ◌≤◌, ◌<◌, ◌==◌, if◌then◌else◌, Bool, true, false, List, [], ◌∷◌, ◌++◌, length, None, refl, sym, ap, subst, ◌∙◌, inl, inr, arith}
+use Rattle.std.specs.Cmp.{IsEquivalence}
+use Rattle.std.specs.List.{AllByRecursion}
+use Rattle.std.proofs.lemmas.Bool.{eqb-true, eqb-false, eq-eqb}
+use Rattle.std.proofs.lemmas.List.{map-append}
+use Rattle.quick_cache_model.specs.CacheState.{CacheState, Item, LoadingEntry, SameButOrder, UpToOrder, keys_by}
+use Rattle.quick_cache_model.specs.CacheState.{entered as model_entered}
+use Rattle.quick_cache_model.specs.Eviction.{EvictsToCapacity}
+use Rattle.quick_cache_model.specs.Hooks.{Rules, HookCall, BeforeEvict, EvictCold}
+use Rattle.quick_cache_model.specs.Placeholders.{IsLoadingTicket, HasNoTicket, GivesUpPlaceholder, MakesRoomFor, FillsPlaceholder}
+use Rattle.quick_cache_model.specs.Touches.{first_mark}
+use Rattle.quick_cache_model.specs.Writes.{new_item, queue_for}
+use Rattle.quick_cache_model.proofs.EachElement.{all-middle}
+use Rattle.quick_cache_model.proofs.OrderLaws.{UpToOrder-map, UpToOrder-exact}
+use Rattle.quick_cache_model.proofs.Valid.Edits.{entered-valid, keys_by-unloaded, keys_by-taken}
+use Rattle.quick_cache_model.proofs.Valid.Orders.{SameButOrder-valid}
+use Rattle.quick_cache_lists.specs.declared.entry.Awaited.{Awaited}
+use Rattle.quick_cache_lists.specs.declared.entry.Entry.{Entry}
+use Rattle.quick_cache_lists.specs.declared.entry.Entry.TheVariants.{Item as item_variant, Loading as loading_variant}
+use Rattle.quick_cache_lists.specs.Lists.{HeldItem, HeldLoading, Lists, AreApart, StandsIn, IsEntry, PutsLast, entered, without_entry}
+use Rattle.quick_cache_lists.specs.Placeholders.{HasNoPlaceholder}
+use Rattle.quick_cache_lists.specs.Views.{loading_entry, loading_entries}
+use Rattle.quick_cache_lists.proofs.StandingLemmas.{Standing, standing_of, known_standing, StandsIn-loading}
+use Rattle.quick_cache_policy.specs.declared.admission.Admission.TheVariants.{Admitted as code_admitted, TooHeavy as code_too_heavy}
+use Rattle.quick_cache_policy.specs.declared.contents.Contents.{Contents}
+use Rattle.quick_cache_policy.specs.Advances.{AreEvictions, Evicting}
+use Rattle.quick_cache_policy.specs.Contents.{AreHashed, IsSound, state_of}
+use Rattle.quick_cache_policy.specs.Filling.{AreFillCalls, Fills}
+use Rattle.quick_cache_policy.specs.Writing.{Checks}
+use Rattle.quick_cache_policy.proofs.EnterLemmas.{state_with, entered-state, AreHashed-entered, AreHashed-room, entered-count}
+use Rattle.quick_cache_policy.proofs.FindLemmas.{each-image}
+use Rattle.quick_cache_policy.proofs.LookupLemmas.{without_loading, loading-sound}
+use Rattle.quick_cache_policy.proofs.OverwriteLemmas.{evicts-from}
+use Rattle.quick_cache_policy.proofs.SoundLemmas.{state_of-reordered, AreHashed-reordered}
+
+-- what has the token of a placeholder is that placeholder
+pub entry-is_loading : {K V P T : Type 0} (lists : Lists K V P) → AreApart lists
+    → (token hash : ℕ) (entry : Entry K V P T) → IsEntry lists token hash entry
+    → (waiting : HeldLoading K P) → StandsIn lists.loading waiting → waiting.token ≡ token
+    → (awaited : Awaited K P) → entry ≡ loading_variant awaited
+    → record {
+      token = token;
+      hash = hash;
+      key = awaited.key;
+      queue = awaited.queue;
+      placeholder = awaited.placeholder;
+    } ≡ waiting
+entry-is_loading {K = K} {V = V} {P = P} {T = T} lists apart token hash entry is waiting stands named awaited e =
+    same (sym (ap (λ (x : Entry K V P T). standing_of token hash x) e)
+    ∙ known_standing lists apart (Standing.OfLoading waiting)
+    (StandsIn-loading lists waiting stands) token hash entry named is)
+  where
+    same : ◌≡◌ {A = Standing K V P} (Standing.OfLoading (record {
+      token = token;
+      hash = hash;
+      key = awaited.key;
+      queue = awaited.queue;
+      placeholder = awaited.placeholder;
+    })) (Standing.OfLoading waiting) → record {
+      token = token;
+      hash = hash;
+      key = awaited.key;
+      queue = awaited.queue;
+      placeholder = awaited.placeholder;
+    } ≡ waiting
+    same s = cc s
+
+-- two tickets are equal where the test says so
+same-ticket : (first second : ℕ) → (first == second) ≡ true → second ≡ first
+same-ticket first second is = sym (eqb-true first second is)
+
+other-ticket : (first second : ℕ) → (first == second) ≡ false → second ≢ first
+other-ticket first second isnt same = eqb-false first second isnt (sym same)
+
+-- where no placeholder has the ticket, none has it in the state
+pub HasNoTicket-state : {K V P A X : Type 0} (ticket_of : P → ℕ) (contents : Contents K V P A X)
+    (ticket : ℕ) → HasNoPlaceholder (λ other. ticket == ticket_of other) contents.lists
+    → HasNoTicket ticket (state_of ticket_of contents)
+HasNoTicket-state {K} {V} {P} ticket_of contents ticket none =
+    each-image (λ (waiting : HeldLoading K P). (ticket == ticket_of waiting.placeholder) ≡ false)
+    (λ (entry : LoadingEntry K). entry.ticket ≢ ticket) (loading_entry ticket_of)
+    (λ waiting isnt. other-ticket ticket (ticket_of waiting.placeholder) isnt)
+    contents.lists.loading none
+
+-- a placeholder is under the hash of its key
+pub waiting-under : {K V P : Type 0} (hashed : K → ℕ) (lists : Lists K V P)
+    (waiting : HeldLoading K P) → StandsIn lists.loading waiting → AreHashed hashed lists
+    → waiting.hash ≡ hashed waiting.key
+waiting-under {K} {V} {P} hashed lists waiting stands are =
+    all-middle (λ (w : HeldLoading K P). w.hash ≡ hashed w.key) stands.before waiting stands.after
+    (subst (λ (l : List (HeldLoading K P)). AllByRecursion (λ w. w.hash ≡ hashed w.key) l)
+    stands.split are.loading)
+
+-- ---- a placeholder that leaves
+
+module _ {K V P A X : Type 0} (ticket_of : P → ℕ) (contents : Contents K V P A X)
+    (apart : AreApart contents.lists) (token : ℕ) (waiting : HeldLoading K P)
+    (stands : StandsIn contents.lists.loading waiting) (named : waiting.token ≡ token) where
+  -- the state without it
+  abbrev pub left : CacheState K V
+  left = record (state_of ticket_of contents) {
+    loading = loading_entries ticket_of stands.before ++ loading_entries ticket_of stands.after;
+  }
+
+  pub left-state : state_with ticket_of contents (without_entry false token contents.lists) ≡ left
+  left-state =
+      ap (state_with ticket_of contents)
+      (without_loading ticket_of contents apart (λ _. true) 0 token waiting stands named)
+      ∙ ap (λ (l : List (LoadingEntry K)). record (state_of ticket_of contents) { loading = l })
+      (map-append (loading_entry ticket_of) stands.before stands.after)
+
+  -- it was there
+  pub left-there : (ticket : ℕ) → (ticket == ticket_of waiting.placeholder) ≡ true
+      → IsLoadingTicket ticket (state_of ticket_of contents)
+      (loading_entries ticket_of stands.before) (loading_entry ticket_of waiting)
+      (loading_entries ticket_of stands.after)
+  left-there ticket is = record {
+    split = ap (loading_entries ticket_of) stands.split
+        ∙ map-append (loading_entry ticket_of) stands.before (waiting ∷ stands.after);
+    is_of_ticket = same-ticket ticket (ticket_of waiting.placeholder) is;
+  }
+
+  pub left-gives_up : (ticket : ℕ) → (ticket == ticket_of waiting.placeholder) ≡ true
+      → GivesUpPlaceholder ticket (state_of ticket_of contents)
+      (state_with ticket_of contents (without_entry false token contents.lists))
+  left-gives_up ticket is =
+      subst (λ (s : CacheState K V). GivesUpPlaceholder ticket (state_of ticket_of contents) s)
+      (sym left-state)
+      (GivesUpPlaceholder.was_there (loading_entries ticket_of stands.before)
+      (loading_entry ticket_of waiting) (loading_entries ticket_of stands.after)
+      (left-there ticket is))
+
+  -- what is sound stays so
+  pub left-sound : (equal : K → K → Bool) (hashed : K → ℕ) → IsSound ticket_of equal hashed contents
+      → IsSound ticket_of equal hashed
+      (record contents { lists = without_entry false token contents.lists })
+  left-sound equal hashed sound =
+      loading-sound ticket_of contents apart (λ _. true) 0 token waiting stands named equal refl
+      hashed sound
+
+  -- its key is nowhere then
+  pub left-nowhere : (equal : K → K → Bool) → IsEquivalence equal → (hashed : K → ℕ)
+      → IsSound ticket_of equal hashed contents
+      → keys_by (equal waiting.key)
+      (state_with ticket_of contents (without_entry false token contents.lists)) ≡ 0
+  left-nowhere equal laws hashed sound =
+      subst (λ (s : CacheState K V). keys_by (equal waiting.key) s ≡ 0) (sym left-state)
+      (keys_by-taken equal laws waiting.key (state_of ticket_of contents) left waiting.key
+      (laws.refl waiting.key)
+      (keys_by-unloaded (equal waiting.key) (loading_entries ticket_of stands.before)
+      (loading_entry ticket_of waiting) (loading_entries ticket_of stands.after)
+      (state_of ticket_of contents) (left-there (ticket_of waiting.placeholder)
+      (itself (ticket_of waiting.placeholder))).split) sound.valid)
+    where
+      itself : (n : ℕ) → (n == n) ≡ true
+      itself n = eq-eqb n n refl
+
+  -- the rings stay
+  pub left-count : length (without_entry false token contents.lists).hot
+      + length (without_entry false token contents.lists).cold
+      ≡ length contents.lists.hot + length contents.lists.cold
+  left-count = ap (λ (l : Lists K V P). length l.hot + length l.cold)
+      (without_loading ticket_of contents apart (λ _. true) 0 token waiting stands named)
+
+-- ---- a pair that is put in
+
+module _ {K V P A X T : Type 0} (ticket_of : P → ℕ) (contents : Contents K V P A X)
+    (token hash : ℕ) (item : Item K V) (new : Lists K V P)
+    (puts : PutsLast {T = T} contents.lists token hash (item_variant item) new) where
+  held : HeldItem K V
+  held = record { token = token; hash = hash; item = item }
+
+  pub put-same : SameButOrder (model_entered item (state_of ticket_of contents))
+      (state_with ticket_of contents new)
+  unfolding held
+  put-same = subst (λ (s : CacheState K V). SameButOrder s (state_with ticket_of contents new))
+      (entered-state ticket_of contents held contents.lists)
+      (state_of-reordered ticket_of contents _ new puts.put)
+
+  pub put-sound : (equal : K → K → Bool) → IsEquivalence equal → (hashed : K → ℕ)
+      → keys_by (equal item.key) (state_of ticket_of contents) ≡ 0 → item.mark ≤ 2
+      → hash ≡ hashed item.key → IsSound ticket_of equal hashed contents
+      → IsSound ticket_of equal hashed (record contents { lists = new })
+  unfolding held
+  put-sound equal laws hashed nowhere marked under sound = record {
+    valid = SameButOrder-valid equal _ (state_with ticket_of contents new) put-same
+        (entered-valid equal laws item (state_of ticket_of contents) nowhere marked sound.valid);
+    sized = sound.sized;
+    hashed = AreHashed-reordered hashed _ new puts.put
+        (AreHashed-room hashed new.next new.room (entered held contents.lists)
+        (AreHashed-entered hashed held contents.lists under sound.hashed));
+  }
+
+  -- the rings have one item more at most
+  pub put-count : length new.hot + length new.cold
+      ≤ length contents.lists.hot + length contents.lists.cold + 1
+  unfolding held
+  put-count = omega (
+    arith,
+    ap (λ (l : Lists K V P). length l.hot + length l.cold) puts.put.same,
+    entered-count held contents.lists,
+  )
+
+  -- room is made where it weighs something
+  pub put-evicts : (rules : Rules K V) (weight : ℕ) → 0 < weight → (pair : Item K V) → item ≡ pair
+      → (last : CacheState K V) (calls : List (HookCall K V))
+      → UpToOrder (EvictsToCapacity rules 0 (state_with ticket_of contents new) calls) last
+      → UpToOrder (MakesRoomFor 0 (state_of ticket_of contents) rules weight
+      (model_entered pair (state_of ticket_of contents)) calls) last
+  put-evicts rules weight heavy pair is last calls evicts =
+      UpToOrder-map _ _ last (λ state e. MakesRoomFor.takes_some calls state heavy e)
+      (evicts-from rules (model_entered pair (state_of ticket_of contents))
+      (state_with ticket_of contents new) last calls
+      (subst (λ (i : Item K V). SameButOrder (model_entered i (state_of ticket_of contents))
+      (state_with ticket_of contents new)) is put-same) evicts)
+
+  -- and none where it does not
+  pub put-stays : (rules : Rules K V) (weight : ℕ) → weight ≡ 0 → (pair : Item K V) → item ≡ pair
+      → UpToOrder (MakesRoomFor 0 (state_of ticket_of contents) rules weight
+      (model_entered pair (state_of ticket_of contents)) []) (state_with ticket_of contents new)
+  put-stays rules weight none pair is = record {
+    ordered = model_entered pair (state_of ticket_of contents);
+    holds = MakesRoomFor.takes_none none;
+    same = subst (λ (i : Item K V). SameButOrder (model_entered i (state_of ticket_of contents))
+        (state_with ticket_of contents new)) is put-same;
+  }
+
+-- ---- the fill
+
+module _ {K V : Type 0} (rules : Rules K V) (weight : ℕ) (mid : CacheState K V) where
+  -- whose placeholder it is does not matter to the room
+  makes-room : (ticket other : ℕ) (state old : CacheState K V) (calls : List (HookCall K V))
+      (new : CacheState K V) → MakesRoomFor ticket state rules weight mid calls new
+      → MakesRoomFor other old rules weight mid calls new
+  makes-room ticket other state old _ _ (MakesRoomFor.takes_none light) =
+      MakesRoomFor.takes_none light
+  makes-room ticket other state old _ _ (MakesRoomFor.takes_some calls new heavy evicts) =
+      MakesRoomFor.takes_some calls new heavy evicts
+
+module _ {K V : Type 0} (steady : Type 0) (ticket : ℕ) (old : CacheState K V) (rules : Rules K V)
+    (marked : Bool) (value : V) (before : List (LoadingEntry K)) (entry : LoadingEntry K)
+    (after : List (LoadingEntry K)) (there : IsLoadingTicket ticket old before entry after)
+    (mid : CacheState K V) (is : mid ≡ record old { loading = before ++ after }) where
+  -- a pair that was admitted
+  pub Fills-admitted : (new : CacheState K V) (weighed : _) (first rest : List (HookCall K V))
+      → Checks steady rules old.hot_target entry.key value (code_admitted weighed) first
+      → Evicting steady (MakesRoomFor 0 mid rules weighed.weight
+      (model_entered (new_item rules entry.key weighed.value
+      (queue_for rules mid entry.key weighed.value entry.queue)
+      (if marked then first_mark old.mark_cut else 0)) mid))
+      new rest
+      → Fills steady ticket old rules marked value new (first ++ rest)
+  Fills-admitted new weighed first rest checks makes = record {
+    before = before;
+    entry = entry;
+    after = after;
+    there = there;
+    order = elim checks.2 [
+      | inl nothing ↦ subst (λ l. AreFillCalls entry.key value (l ++ rest)) (sym nothing)
+          (AreFillCalls.admits rest makes.1)
+      | inr once ↦ subst (λ l. AreFillCalls entry.key value (l ++ rest)) (sym once)
+          (AreFillCalls.lightens weighed.value rest makes.1)
+    ];
+    step = λ s. UpToOrder-map _ _ new
+        (λ now room. FillsPlaceholder.fills before entry after weighed.value first rest now there
+        (checks.0 s) room)
+        (UpToOrder-map _ _ new
+        (λ now room. makes-room rules (rules.weight entry.key weighed.value) _ 0 ticket mid old rest
+        now room)
+        (subst (λ (n : ℕ). UpToOrder (MakesRoomFor 0 mid rules n (entered_in
+        (record old { loading = before ++ after })) rest) new) checks.1
+        (subst (λ (m : CacheState K V). UpToOrder (MakesRoomFor 0 mid rules weighed.weight
+        (entered_in m) rest) new) is (makes.0 s))));
+  }
+    where
+      entered_in : CacheState K V → CacheState K V
+      entered_in m = model_entered (new_item rules entry.key weighed.value
+          (queue_for rules m entry.key weighed.value entry.queue)
+          (if marked then first_mark old.mark_cut else 0)) m
+
+  -- one that is too heavy
+  pub Fills-too_heavy : (heavy : V) (first : List (HookCall K V))
+      → Checks steady rules old.hot_target entry.key value (code_too_heavy heavy) first
+      → Fills steady ticket old rules marked value mid (first ++ EvictCold entry.key heavy ∷ [])
+  Fills-too_heavy heavy first checks = record {
+    before = before;
+    entry = entry;
+    after = after;
+    there = there;
+    order = subst (λ l. AreFillCalls entry.key value (l ++ EvictCold entry.key heavy ∷ []))
+        (sym checks.1) (AreFillCalls.turns_away heavy);
+    step = λ s. UpToOrder-exact _ _
+        (subst (λ (m : CacheState K V). FillsPlaceholder ticket old rules marked value
+        (first ++ EvictCold entry.key heavy ∷ []) None m) (sym is)
+        (FillsPlaceholder.too_heavy before entry after heavy first there (checks.0 s)));
+  }

@@ -1,0 +1,20 @@
+use Rattle.std.proofs.Common.{[], refl}
+use Rattle.quick_cache_policy.proofs.FillLemmas.{HasNoTicket-state}
+use Rattle.quick_cache_policy.proofs.FindLemmas.{none-found}
+use Rattle.quick_cache_policy.proofs.contents.Contents.replace_placeholder.Goals as goal
+
+-- it is gone
+pub returns-in_default-clause-fills : goal.returns-in_default-clause-fills
+returns-in_default-clause-fills g c =
+    let ticket_of = g.P.SharedPlaceholder.ticket_of in
+    record {
+      calls = [];
+      holds = record {
+        gone = HasNoTicket-state ticket_of c.args.self.now (ticket_of c.args.placeholder.now)
+            (none-found _ _ c.in_default.not-Some c.find_placeholder.ensures);
+        value_back = refl;
+        no_hook = refl;
+        unchanged = refl;
+      };
+      runs = refl;
+    }

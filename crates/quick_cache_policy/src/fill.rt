@@ -1,0 +1,222 @@
+//! A placeholder that is filled with a value, or given up.
+ghost use Rattle.std.specs.Prelude.{◌≡◌, ℕ, ◌+◌, ◌≤◌, ◌<◌, MatchOption, ◌==◌, None, if◌then◌else◌};
+ghost use Rattle.std.specs.Int.NonZero.{non_zero_u32_get as number};
+ghost use Rattle.quick_cache_lists.specs.Placeholders.{FindsPlaceholder, HasNoPlaceholder};
+ghost use Rattle.quick_cache_model.specs.CacheState.{UpToOrder, entered, keys_by};
+ghost use Rattle.quick_cache_model.specs.Hooks.{Calls};
+ghost use Rattle.quick_cache_model.specs.Placeholders.{GivesUpPlaceholder, MakesRoomFor};
+ghost use Rattle.quick_cache_model.specs.Writes.{new_item, queue_for};
+ghost use Rattle.quick_cache_policy.specs.Advances.{Evicting};
+ghost use Rattle.quick_cache_policy.specs.Contents.{IsSound, state_of, ring_count, work_of};
+ghost use Rattle.quick_cache_policy.specs.Filling.{AnswersFill, Fills};
+ghost use Rattle.quick_cache_policy.specs.Policies.{rules_by};
+ghost use Rattle.quick_cache_policy.specs.Work.{WorksWithin};
+
+use crate::admission::{Admission, Weighed};
+use crate::contents::Contents;
+use crate::placeholder::SharedPlaceholder;
+use crate::policy::Policy;
+use quick_cache_lists::{Awaited, Entry, Meaning, Resident};
+use quick_cache_model::{Queue, Token};
+use std::alloc::Allocator;
+use std::hash::Hash;
+
+// The placeholder of the same ticket.
+#[derive(Drop)]
+struct SameTicket<'a, P> {
+    placeholder: &'a P,
+}
+
+impl<'a, K: Eq + Hash, P: SharedPlaceholder<K>> Meaning<K, P> for SameTicket<'a, P> {
+    ghost means = { λ same other. P.ticket_of same.placeholder.now == P.ticket_of other };
+
+    fn means(&self, placeholder: &P) -> bool {
+        self.placeholder.same_as(placeholder)
+    }
+}
+
+/// The mark of a value that comes in, where others waited for it or not.
+fn mark_if(waited: bool) -> u8
+    ensures { result ≡ (if waited then 1 else 0) }
+{
+    if waited { 1 } else { 0 }
+}
+
+impl<K: Eq + Hash + Drop, V: Drop, P: SharedPlaceholder<K>, A: Allocator> Contents<K, V, P, A> {
+    /// Puts a pair that was admitted in, under a key that is nowhere, and makes room behind it where
+    /// it weighs something. It is hot if it fits the hot target, and else of the given queue.
+    fn enter<M: Policy<K, V>>(
+        &mut self,
+        terms: &M,
+        state: &mut M::RequestState,
+        hash: u64,
+        key: K,
+        otherwise: Queue,
+        weighed: Weighed<V>,
+        marked: bool,
+    )
+        requires sound { IsSound P.ticket_of K.eq (M.hashed terms.now) self.old }
+        requires hash_is { hash ≡ M.hashed terms.now key }
+        requires weight_is { weighed.weight ≡ M.weight_of terms.now key weighed.value }
+        requires nowhere { keys_by (K.eq key) (state_of P.ticket_of self.old) ≡ 0 }
+        requires room { 0 < self.old.lists.room }
+        ensures enters { Calls (M.hooks terms.now)
+            (Evicting (M.steady terms.now)
+            (MakesRoomFor 0 (state_of P.ticket_of self.old)
+            (rules_by M.Policy P.Touch.may_count terms.now) weighed.weight
+            (entered (new_item (rules_by M.Policy P.Touch.may_count terms.now) key weighed.value
+            (queue_for (rules_by M.Policy P.Touch.may_count terms.now)
+            (state_of P.ticket_of self.old) key weighed.value otherwise)
+            (if marked then 1 else 0))
+            (state_of P.ticket_of self.old)))
+            (state_of P.ticket_of self.new))
+            state.old state.new }
+        ensures sound { IsSound P.ticket_of K.eq (M.hashed terms.now) self.new }
+        ensures room { self.old.lists.room ≤ self.new.lists.room + 1 }
+        ensures work { WorksWithin
+            (ring_count Queue.Hot self.old + ring_count Queue.Cold self.old + 1)
+            (work_of self.old) (work_of self.new) }
+        ensures same { self.new ≡ record self.old {
+          lists = self.new.lists;
+          advances = self.new.advances;
+          visits = self.new.visits;
+        } }
+    {
+        // Read for the proof: the counts are within their types.
+        let _advances = self.advances;
+        let _visits = self.visits;
+        let Weighed { value, weight } = weighed;
+        let hot_weight = self.lists.weight(Queue::Hot) + u128::from(weight);
+        let queue = if hot_weight <= u128::from(self.hot_target) {
+            Queue::Hot
+        } else {
+            otherwise
+        };
+        let mark = mark_if(marked);
+        let item = Resident::new(key, value, weight, mark, queue, P::Touch::default());
+        let _ = self.lists.put(hash, Entry::Item(item));
+        if weight > 0 {
+            self.evict_to_capacity(0, terms, state);
+        }
+    }
+
+    /// Fills the placeholder of a token: it goes in any case, and its pair is put in or turned away.
+    fn fill<M: Policy<K, V>>(
+        &mut self,
+        token: Token,
+        terms: &M,
+        state: &mut M::RequestState,
+        placeholder: &P,
+        marked: bool,
+        value: V,
+    )
+        requires sound { IsSound P.ticket_of K.eq (M.hashed terms.now) self.old }
+        requires found { FindsPlaceholder
+            (λ other. P.ticket_of placeholder.now == P.ticket_of other)
+            self.old.lists (number token) }
+        ensures fills { Calls (M.hooks terms.now)
+            (Fills (M.steady terms.now) (P.ticket_of placeholder.now) (state_of P.ticket_of self.old)
+            (rules_by M.Policy P.Touch.may_count terms.now) marked value
+            (state_of P.ticket_of self.new))
+            state.old state.new }
+        ensures sound { IsSound P.ticket_of K.eq (M.hashed terms.now) self.new }
+        ensures room { self.old.lists.room ≤ self.new.lists.room }
+        ensures work { WorksWithin
+            (ring_count Queue.Hot self.old + ring_count Queue.Cold self.old + 1)
+            (work_of self.old) (work_of self.new) }
+        ensures same { self.new ≡ record self.old {
+          lists = self.new.lists;
+          advances = self.new.advances;
+          visits = self.new.visits;
+        } }
+    {
+        // Read for the proof: the counts are within their types.
+        let _advances = self.advances;
+        let _visits = self.visits;
+        self.lists.apart();
+        let slot = self.lists.take(token, false);
+        let hash = slot.hash;
+        let awaited = match slot.entry {
+            Entry::Loading(awaited) => awaited,
+            Entry::Item(_) => unreachable!(),
+            Entry::Ghost => unreachable!(),
+        };
+        let Awaited {
+            key,
+            queue,
+            placeholder: _,
+        } = awaited;
+        match self.admit(terms, state, &key, value) {
+            Admission::Admitted(weighed) => {
+                self.enter(terms, state, hash, key, queue, weighed, marked);
+            }
+            Admission::TooHeavy(value) => terms.on_evict_cold(state, key, value),
+        }
+    }
+
+    /// Fills the placeholder of that ticket with a value, marked where others waited for it. The
+    /// value comes back where the placeholder is gone.
+    ///
+    /// It asks for no memory. Where the placeholder is not in the slot that it names, and some key is
+    /// being loaded, each slot is looked at.
+    pub fn replace_placeholder<M: Policy<K, V>>(
+        &mut self,
+        terms: &M,
+        state: &mut M::RequestState,
+        placeholder: &P,
+        marked: bool,
+        value: V,
+    ) -> Result<(), V>
+        requires sound { IsSound P.ticket_of K.eq (M.hashed terms.now) self.old }
+        ensures fills { Calls (M.hooks terms.now)
+            (AnswersFill (M.steady terms.now) (P.ticket_of placeholder.now)
+            (state_of P.ticket_of self.old) (rules_by M.Policy P.Touch.may_count terms.now)
+            marked value result (state_of P.ticket_of self.new))
+            state.old state.new }
+        ensures sound { IsSound P.ticket_of K.eq (M.hashed terms.now) self.new }
+        ensures room { self.old.lists.room ≤ self.new.lists.room }
+        ensures work { WorksWithin
+            (ring_count Queue.Hot self.old + ring_count Queue.Cold self.old + 1)
+            (work_of self.old) (work_of self.new) }
+        ensures same { self.new ≡ record self.old {
+          lists = self.new.lists;
+          advances = self.new.advances;
+          visits = self.new.visits;
+        } }
+    {
+        // Read for the proof: the counts are within their types.
+        let _advances = self.advances;
+        let _visits = self.visits;
+        let named = placeholder.idx();
+        let Some(token) = self
+            .lists
+            .find_placeholder(named, &SameTicket { placeholder })
+        else {
+            return Err(value);
+        };
+        self.fill(token, terms, state, placeholder, marked, value);
+        Ok(())
+    }
+
+    /// Takes the placeholder of that ticket out, if it is there. It is looked for as by
+    /// `replace_placeholder`.
+    pub fn remove_placeholder(&mut self, placeholder: &P)
+        ensures gives_up { UpToOrder
+            (GivesUpPlaceholder (P.ticket_of placeholder.now) (state_of P.ticket_of self.old))
+            (state_of P.ticket_of self.new) }
+        ensures sound { (hashed : K → ℕ) → IsSound P.ticket_of K.eq hashed self.old
+            → IsSound P.ticket_of K.eq hashed self.new }
+        ensures room { self.old.lists.room ≤ self.new.lists.room }
+        ensures same { self.new ≡ record self.old { lists = self.new.lists } }
+    {
+        self.lists.apart();
+        let named = placeholder.idx();
+        let Some(token) = self
+            .lists
+            .find_placeholder(named, &SameTicket { placeholder })
+        else {
+            return;
+        };
+        let _ = self.lists.take(token, false);
+    }
+}

@@ -1,0 +1,114 @@
+//! Placeholders: made or met by a look-up, filled, or given up.
+ghost use Rattle.std.specs.Prelude.{◌≡◌, ◌≤◌, ◌+◌, length, true};
+ghost use Rattle.quick_cache_model.specs.Hashing.{hash_of};
+ghost use Rattle.quick_cache_model.specs.Hooks.{Calls};
+ghost use Rattle.quick_cache_model.specs.Placeholders.{GivesUpPlaceholder};
+ghost use Rattle.quick_cache_policy.specs.Filling.{AnswersFill};
+ghost use Rattle.quick_cache_policy.specs.Work.{WorksWithin};
+ghost use Rattle.quick_cache_shard.specs.Loading.{LooksUpOrMakes};
+ghost use Rattle.quick_cache_shard.specs.Shard.{rules_of, hooks_of, UpToOrder, IsSoundShard};
+
+use crate::shard::CacheShard;
+use quick_cache_model::{Lifecycle, Refusal, ToKey, Token, Weighter};
+use quick_cache_policy::SharedPlaceholder;
+use std::alloc::Allocator;
+use std::hash::{BuildHasher, Hash};
+
+impl<
+    K: Eq + Hash + Drop,
+    V: Drop,
+    We,
+    B: BuildHasher,
+    L,
+    P: SharedPlaceholder<K>,
+    A: Allocator,
+> CacheShard<K, V, We, B, L, P, A> {
+    /// Looks the query's key up as `get` does, and gives the token of its item. A placeholder that
+    /// stands there is met, which counts a hit. Else one is made, which takes the next ticket and
+    /// counts a miss: a hot one in the place of a ghost of the hash, or a cold one.
+    ///
+    /// The flag says that the placeholder is new.
+    ///
+    /// # Errors
+    ///
+    /// Only where one would be made: `TicketsSpent`, `SlotsFull` where there is no ghost either, or
+    /// `Memory`, of which the key, the placeholder and a slot may ask. Nothing has changed then.
+    pub fn get_or_placeholder<Q: ToKey<K>>(
+        &mut self,
+        hash: u64,
+        query: &Q,
+    ) -> Result<Result<Token, (P, bool)>, Refusal>
+        requires hash_is { hash ≡ hash_of B.BuildHasher B.Hasher.Hasher self.old.builder
+            (Q.hash_input query.now) }
+        requires stands { (key : K) → Q.to_key_gives query.now key
+            → Q.equivalent query.now key ≡ true }
+        ensures answers { LooksUpOrMakes P.ticket_of (Q.equivalent query.now)
+            (Q.to_key_gives query.now) hash self.old.state result self.new.state }
+        // It takes room for one entry at most.
+        ensures room { self.old.room ≤ self.new.room + 1 }
+        ensures same { self.new ≡ record self.old { state = self.new.state; room = self.new.room } }
+        ensures sound { IsSoundShard K.eq self.new }
+    {
+        let answer = self.contents.get_or_placeholder(hash, query);
+        self.contents.lists.apart();
+        answer
+    }
+
+    /// Fills the placeholder of that ticket with a value, which is marked where others waited for
+    /// it. The value passes the admission check: one that is too heavy is told to the cold hook, and
+    /// the placeholder goes. Room is made for what weighs something.
+    ///
+    /// It asks for no memory. It looks for the placeholder in the slot that this names, and where it
+    /// is not there and some key is being loaded, in each slot.
+    ///
+    /// # Errors
+    ///
+    /// The value, where the placeholder is gone. Nothing has changed then, and no hook was called.
+    pub fn replace_placeholder(
+        &mut self,
+        state: &mut L::RequestState,
+        placeholder: &P,
+        referenced: bool,
+        value: V,
+    ) -> Result<(), V>
+    where
+        We: Weighter<K, V>,
+        L: Lifecycle<K, V>,
+        // Where pinning is steady, the fill is a step of its definition.
+        ensures fills { Calls (hooks_of L.Lifecycle self.old)
+            (AnswersFill (L.steady self.old.lifecycle) (P.ticket_of placeholder.now) self.old.state
+            (rules_of P.Touch.may_count K.Hash.hash_input We.Weighter B.BuildHasher
+            B.Hasher.Hasher L.Lifecycle self.old)
+            referenced value result self.new.state)
+            state.old state.new }
+        ensures room { self.old.room ≤ self.new.room }
+        // How much work it takes, whatever is pinned.
+        ensures work { WorksWithin (length self.old.state.hot + length self.old.state.cold + 1)
+            self.old.work self.new.work }
+        ensures same { self.new ≡ record self.old {
+          state = self.new.state;
+          room = self.new.room;
+          work = self.new.work;
+        } }
+        ensures sound { IsSoundShard K.eq self.new }
+    {
+        let answer = self
+            .contents
+            .replace_placeholder(&self.terms, state, placeholder, referenced, value);
+        self.contents.lists.apart();
+        answer
+    }
+
+    /// Takes the placeholder of that ticket out, if it is there, and calls no hook. It is looked for
+    /// as by `replace_placeholder`.
+    pub fn remove_placeholder(&mut self, placeholder: &P)
+        ensures gives_up { UpToOrder
+            (GivesUpPlaceholder (P.ticket_of placeholder.now) self.old.state) self.new.state }
+        ensures room { self.old.room ≤ self.new.room }
+        ensures same { self.new ≡ record self.old { state = self.new.state; room = self.new.room } }
+        ensures sound { IsSoundShard K.eq self.new }
+    {
+        self.contents.remove_placeholder(placeholder);
+        self.contents.lists.apart();
+    }
+}

@@ -1,0 +1,82 @@
+//! Setting the capacity of a cache.
+ghost use Rattle.std.specs.Prelude.{◌≡◌, ◌+◌, ◌≤◌, length};
+ghost use Rattle.quick_cache_model.specs.Sizes.{rescaled_target, rescaled_limit};
+ghost use Rattle.quick_cache_shard.specs.Shard.{rules_of, hooks_of, WorksWithin};
+ghost use Rattle.quick_cache_unsync.specs.Alone.{IsDoneAlone};
+ghost use Rattle.quick_cache_unsync.specs.SetsCapacity.{SetsCapacityTo};
+ghost use Rattle.quick_cache_unsync.specs.Touches.{no_touches};
+
+use crate::cache::Cache;
+use quick_cache_model::{Lifecycle, Weighter};
+use std::alloc::Allocator;
+use std::hash::{BuildHasher, Hash};
+
+impl<
+    K: Eq + Hash + Drop,
+    V: Drop,
+    We: Weighter<K, V>,
+    B: BuildHasher,
+    L: Lifecycle<K, V>,
+    A: Allocator,
+> Cache<K, V, We, B, L, A> {
+    /// Sets the weight that the cache may hold, and evicts what is too much, with a request state
+    /// of its own. The hot target and the ghost limit change in proportion, rounded down; from
+    /// capacity 0 the target is that of the default share, and the limit stays. The oldest ghosts
+    /// go that are too many then. It takes no memory.
+    pub fn set_capacity(&mut self, capacity: u64)
+        // Where pinning is steady, it is a step of its definition.
+        ensures sets { IsDoneAlone L.RequestState.is_default
+            (λ first last. SetsCapacityTo (L.steady self.old.lifecycle)
+            (hooks_of L.Lifecycle self.old)
+            (rules_of no_touches K.Hash.hash_input We.Weighter B.BuildHasher B.Hasher.Hasher
+            L.Lifecycle self.old) capacity self.old.state first self.new.state last) }
+        // The sizes, whatever is pinned.
+        ensures capacity { self.new.state.capacity ≡ capacity }
+        ensures target { self.new.state.hot_target
+            ≡ rescaled_target self.old.state.capacity capacity self.old.state.hot_target }
+        ensures limit { self.new.state.ghost_limit
+            ≡ rescaled_limit self.old.state.capacity capacity self.old.state.ghost_limit }
+        // The present capacity changes none of them.
+        ensures present { capacity ≡ self.old.state.capacity
+            → (self.new.state.hot_target ≡ self.old.state.hot_target)
+            × (self.new.state.ghost_limit ≡ self.old.state.ghost_limit) }
+        ensures room { self.old.room ≤ self.new.room }
+        // How much work it takes, whatever is pinned.
+        ensures work { WorksWithin (length self.old.state.hot + length self.old.state.cold + 1)
+            self.old.work self.new.work }
+        ensures same { self.new ≡ record self.old {
+          state = self.new.state;
+          room = self.new.room;
+          work = self.new.work;
+        } }
+    {
+        let mut state = L::RequestState::default();
+        self.set_capacity_with_lifecycle(capacity, &mut state);
+    }
+
+    /// Sets the weight that the cache may hold, and evicts what is too much, with this request
+    /// state.
+    pub(crate) fn set_capacity_with_lifecycle(&mut self, capacity: u64, state: &mut L::RequestState)
+        ensures sets { SetsCapacityTo (L.steady self.old.lifecycle) (hooks_of L.Lifecycle self.old)
+            (rules_of no_touches K.Hash.hash_input We.Weighter B.BuildHasher B.Hasher.Hasher
+            L.Lifecycle self.old) capacity self.old.state state.old self.new.state state.new }
+        ensures capacity { self.new.state.capacity ≡ capacity }
+        ensures target { self.new.state.hot_target
+            ≡ rescaled_target self.old.state.capacity capacity self.old.state.hot_target }
+        ensures limit { self.new.state.ghost_limit
+            ≡ rescaled_limit self.old.state.capacity capacity self.old.state.ghost_limit }
+        ensures present { capacity ≡ self.old.state.capacity
+            → (self.new.state.hot_target ≡ self.old.state.hot_target)
+            × (self.new.state.ghost_limit ≡ self.old.state.ghost_limit) }
+        ensures room { self.old.room ≤ self.new.room }
+        ensures work { WorksWithin (length self.old.state.hot + length self.old.state.cold + 1)
+            self.old.work self.new.work }
+        ensures same { self.new ≡ record self.old {
+          state = self.new.state;
+          room = self.new.room;
+          work = self.new.work;
+        } }
+    {
+        self.shard.set_capacity(capacity, state);
+    }
+}
