@@ -5,4 +5,5 @@ pub mod Frames
 pub mod Views
 pub mod Walks
 pub mod Copies
+pub mod Lent
 pub mod Placeholders

@@ -40,6 +40,10 @@ with_counts mark reads item = record item { mark = mark; reads = reads }
 abbrev pub with_weight : {K V : Type 0} → (weight : ℕ) → Item K V → Item K V
 with_weight weight item = record item { weight = weight }
 
+-- the item with another value
+abbrev pub with_value : {K V : Type 0} → (value : V) → Item K V → Item K V
+with_value value item = record item { value = value }
+
 -- the item with another queue, mark and weight
 abbrev pub requeued : {K V : Type 0} → Queue → (mark weight : ℕ) → Item K V → Item K V
 requeued queue mark weight item = record item { queue = queue; mark = mark; weight = weight }
@@ -353,6 +357,11 @@ module _ {K V P : Type 0} where
   abbrev pub IsItemOf : Lists K V P → (token : ℕ) → Item K V → Type 0
   IsItemOf lists token item =
       (hash : ℕ) × HasItem lists (record { token = token; hash = hash; item = item })
+
+  -- the value is that of the item of that token
+  abbrev pub IsValueAt : Lists K V P → (token : ℕ) → V → Type 0
+  IsValueAt lists token value =
+      (item : Item K V) × IsItemOf lists token item × (value ≡ item.value)
 
   -- an item of that queue has the token
   abbrev pub HasItemOfQueue : Lists K V P → (token : ℕ) → Queue → Type 0

@@ -1,6 +1,7 @@
 //! What stands in a slot.
 ghost use Rattle.std.specs.Prelude.{◌≡◌, true};
-ghost use Rattle.quick_cache_lists.specs.Slots.{is_under, is_item_under, is_ghost, is_item, weight_in, slot_changed, stand_in, loading_in};
+ghost use Rattle.std.specs.Borrow.{sem};
+ghost use Rattle.quick_cache_lists.specs.Slots.{entry_is_item, is_under, is_item_under, is_ghost, is_item, weight_in, slot_changed, stand_in, loading_in};
 ghost use Rattle.quick_cache_lists.specs.Lists.{with_counts, with_weight, requeued, is_weightless};
 
 use crate::resident::Resident;
@@ -54,6 +55,8 @@ impl Stand {
 }
 
 impl<K, V, P, T> Entry<K, V, P, T> {
+    ghost use Rattle.quick_cache_lists.specs.Lent.{lends_entry_value, IsValueOf};
+
     /// What it weighs: only an item weighs something.
     pub(crate) fn weight(&self) -> u64
         ensures { result ≡ weight_in self.now }
@@ -73,6 +76,20 @@ impl<K, V, P, T> Entry<K, V, P, T> {
             Entry::Item(resident) => resident.weight() == 0,
             Entry::Loading(_) => false,
             Entry::Ghost => false,
+        }
+    }
+
+    /// The value of an item, to write.
+    pub(crate) fn value_mut(&mut self) -> &mut V
+        requires { entry_is_item self.old ≡ true }
+        ensures* writes_back { sem 𝓛 (lends_entry_value K.row V.row P.row T.row self.entry
+            result) }
+        ensures value { IsValueOf self.old result.now }
+    {
+        match self {
+            Entry::Item(resident) => resident.value_mut(),
+            Entry::Loading(_) => unreachable!(),
+            Entry::Ghost => unreachable!(),
         }
     }
 

@@ -9,6 +9,7 @@ mod looks;
 mod moves;
 mod placeholders;
 mod tokens;
+mod values;
 mod walks;
 
 use crate::entry::Slot;

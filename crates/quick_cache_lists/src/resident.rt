@@ -1,5 +1,6 @@
 //! An item, as a slot has it.
 ghost use Rattle.std.specs.Prelude.{◌≡◌, IfOk, OnErr};
+ghost use Rattle.std.specs.Borrow.{sem};
 ghost use Rattle.quick_cache_lists.specs.Copies.{IsItemCopy};
 ghost use Rattle.quick_cache_lists.specs.Slots.{stand_of_item};
 ghost use Rattle.quick_cache_lists.specs.Lists.{with_counts, with_weight, requeued};
@@ -40,6 +41,8 @@ impl<K, V, T> Model for Resident<K, V, T> {
 }
 
 impl<K, V, T> Resident<K, V, T> {
+    ghost use Rattle.quick_cache_lists.specs.Lent.{lends_value};
+
     /// An item that was never read.
     pub fn new(key: K, value: V, weight: u64, mark: u8, queue: Queue, touch: T) -> Self
         ensures { result ≡ record {
@@ -97,6 +100,14 @@ impl<K, V, T> Resident<K, V, T> {
         ensures { result.now ≡ self.now.value }
     {
         &self.value
+    }
+
+    /// The value, to write. The item keeps its weight.
+    pub(crate) fn value_mut(&mut self) -> &mut V
+        ensures* writes_back { sem 𝓛 (lends_value K.row V.row T.row self.entry result) }
+        ensures value { result.now ≡ self.old.value }
+    {
+        &mut self.value
     }
 
     /// The key and the value.

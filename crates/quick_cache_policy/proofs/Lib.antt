@@ -30,6 +30,7 @@ pub mod BoundLemmas
 pub mod CopyLemmas
 pub mod RewriteLemmas
 pub mod NewLemmas
+pub mod ReferenceLemmas
 pub mod MakeLemmas
 pub mod FillLemmas
 pub mod GhostLemmas

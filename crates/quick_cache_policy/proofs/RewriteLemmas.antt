@@ -130,7 +130,7 @@ module _ {K V P A X : Type 0} (ticket_of : P → ℕ) (contents : Contents K V P
       (subst (λ (h : HeldItem K V). equal key h.item.key ≡ true) (sym one) found.passes)
 
   -- the lists are the state with the item in its place, but for the order of what has none
-  over_item-state : SameButOrder
+  pub over_item-state : SameButOrder
       (rewritten rewrites.place (items_of rewrites.before) item (items_of rewrites.after)
       (state_of ticket_of contents))
       (state_with ticket_of contents new)

@@ -7,6 +7,8 @@ pub mod Advances
 pub mod HotRounds
 pub mod Writing
 pub mod Finding
+pub mod References
+pub mod Lent
 pub mod Copies
 pub mod Filling
 pub mod Loading

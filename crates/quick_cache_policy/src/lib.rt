@@ -20,6 +20,7 @@ mod overwrite;
 mod peek;
 mod placeholder;
 mod policy;
+mod reference;
 mod removal;
 mod stats;
 mod strategy;

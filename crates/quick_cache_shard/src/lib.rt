@@ -4,6 +4,7 @@
 mod capacity;
 mod loading;
 mod readers;
+mod reference;
 mod removal;
 mod shard;
 mod stats;

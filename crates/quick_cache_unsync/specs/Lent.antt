@@ -1,11 +1,12 @@
 -- What a cache ends as, once a reference into it has ended. This module alone names the row of its
 -- type parameters.
 use Rattle.std.specs.Prelude.{ℕ, Bool, List, ⊤}
-use Rattle.std.specs.Borrow.{Fml, RattleType, MutBor, follows_so}
+use Rattle.std.specs.Borrow.{Fml, RattleType, MutBor, Lends, follows_so}
 use Rattle.std.specs.declared.alloc.Allocator.{Ghosts}
 use Rattle.std.specs.declared.hash.Hasher as hasher
 use Rattle.std.specs.declared.hash.BuildHasher as builder
 use mathlib.Core.Option.{none}
+use Rattle.quick_cache_shard.specs.References.{with_value_under}
 use Rattle.quick_cache_shard.specs.Shard.{Shard}
 use Rattle.quick_cache_unsync.specs.contracts.cache.Cache.{the_row}
 
@@ -20,3 +21,9 @@ module _ (K V We B L A H : RattleType) (equal : K.Denot → K.Denot → Bool)
   abbrev pub ends_so : MutBor (Shard K.Denot V.Denot We.Denot B.Denot L.Denot)
       → (Shard K.Denot V.Denot We.Denot B.Denot L.Denot → Type 0) → Fml
   ends_so cache P = follows_so row_of row_of cache.ghost_name none (λ _ _. ⊤) P
+
+  -- it ends with the last value written under the query
+  abbrev pub lends_under : MutBor (Shard K.Denot V.Denot We.Denot B.Denot L.Denot)
+      → (K.Denot → Bool) → MutBor V.Denot → Fml
+  lends_under cache stands_for r = Lends row_of V cache r
+      (λ value. record cache.now { state = with_value_under stands_for value cache.now.state })

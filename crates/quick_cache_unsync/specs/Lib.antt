@@ -5,6 +5,7 @@ pub mod Inserts
 pub mod Replaces
 pub mod SetsCapacity
 pub mod Lent
+pub mod References
 pub mod CacheStep
 pub mod CacheRun
 pub use Rattle.quick_cache_shard.specs.Shard
@@ -23,3 +24,4 @@ pub use Rattle.quick_cache_model.specs.Lookups
 pub use Rattle.quick_cache_model.specs.Removal
 pub use Rattle.quick_cache_model.specs.Sizes
 pub use Rattle.quick_cache_model.specs.Refusals
+pub mod LentValues

@@ -8,9 +8,11 @@ mod iter;
 mod lifecycle;
 mod options;
 mod placeholder;
+mod reference;
 mod removal;
 mod replace;
 mod stats;
+mod writes_through;
 
 pub use cache::Cache;
 pub use calls::{Call, Reply, run};
@@ -22,3 +24,5 @@ pub use quick_cache_model::{
     Weighter, hash_of,
 };
 pub use quick_cache_shard::CacheShard;
+pub use reference::RefMut;
+pub use writes_through::{poke, set};

@@ -1,0 +1,107 @@
+//! A value that is written where it stands.
+ghost use Rattle.std.specs.Prelude.{◌≡◌, ◌<◌};
+ghost use Rattle.std.specs.Bool.{OnTrue, OnFalse};
+ghost use Rattle.std.specs.Borrow.{sem};
+ghost use Rattle.quick_cache_model.specs.Finding.{HasNoItem};
+ghost use Rattle.quick_cache_model.specs.Hashing.{hash_of};
+ghost use Rattle.quick_cache_policy.specs.References.{count_under, IsValueUnder, ReweighsUnder, NotesLookUp};
+ghost use Rattle.quick_cache_shard.specs.Shard.{rules_of, IsSoundShard};
+
+use crate::shard::CacheShard;
+use quick_cache_model::{Equivalent, Lifecycle, Weighter};
+use quick_cache_policy::SharedPlaceholder;
+use std::alloc::Allocator;
+use std::hash::{BuildHasher, Hash};
+
+impl<K: Eq + Hash, V, We, B: BuildHasher, L, P: SharedPlaceholder<K>, A: Allocator> CacheShard<
+    K,
+    V,
+    We,
+    B,
+    L,
+    P,
+    A,
+> {
+    ghost use Rattle.quick_cache_shard.specs.Lent.{lends_under};
+
+    /// Counts a look-up as `get` does, and tells whether an item was found.
+    #[inline]
+    pub fn look_up<Q: Equivalent<K>>(&mut self, hash: u64, query: &Q) -> bool
+        requires hash_is { hash ≡ hash_of B.BuildHasher B.Hasher.Hasher self.old.builder
+            (Q.hash_input query.now) }
+        ensures looks_up { NotesLookUp (Q.equivalent query.now) self.old.state result
+            self.new.state }
+        ensures there { OnTrue result (0 < count_under (Q.equivalent query.now) self.new.state) }
+        ensures same { self.new ≡ record self.old { state = self.new.state } }
+        ensures sound { IsSoundShard K.eq self.new }
+    {
+        let found = self.contents.look_up(hash, query).is_some();
+        self.contents.lists.apart();
+        found
+    }
+
+    /// Whether there is an item under the query. Nothing changes.
+    #[inline]
+    pub fn has_item<Q: Equivalent<K>>(&self, hash: u64, query: &Q) -> bool
+        requires hash_is { hash ≡ hash_of B.BuildHasher B.Hasher.Hasher self.now.builder
+            (Q.hash_input query.now) }
+        ensures there { OnTrue result (0 < count_under (Q.equivalent query.now) self.now.state) }
+        ensures absent { OnFalse result (HasNoItem (Q.equivalent query.now) self.now.state) }
+        ensures sound { IsSoundShard K.eq self.now }
+    {
+        self.contains(hash, query)
+    }
+
+    /// The value of the item under the query, which is known to be there. Nothing changes.
+    #[inline]
+    pub fn value_under<Q: Equivalent<K>>(&self, hash: u64, query: &Q) -> &V
+        requires hash_is { hash ≡ hash_of B.BuildHasher B.Hasher.Hasher self.now.builder
+            (Q.hash_input query.now) }
+        requires there { 0 < count_under (Q.equivalent query.now) self.now.state }
+        ensures { IsValueUnder (Q.equivalent query.now) self.now.state result.now }
+    {
+        self.contents.lists.apart();
+        let token = self.contents.token_under(hash, query);
+        self.contents.lists.item(token).value()
+    }
+
+    /// The value of the item under the query, which is known to be there, to write. The item keeps
+    /// its place and its weight.
+    #[inline]
+    pub fn value_mut<Q: Equivalent<K>>(&mut self, hash: u64, query: &Q) -> &mut V
+        requires hash_is { hash ≡ hash_of B.BuildHasher B.Hasher.Hasher self.old.builder
+            (Q.hash_input query.now) }
+        requires there { 0 < count_under (Q.equivalent query.now) self.old.state }
+        ensures* writes_back { sem 𝓛 (lends_under K.row V.row We.row B.row L.row P.row A.row
+            B.Hasher.row P.Touch.row K.eq K.hash_input B.BuildHasher B.Hasher.Hasher
+            P.SharedPlaceholder P.Touch.is_default P.Touch.may_count
+            P.Touch.none_counted A.Allocator self.entry (Q.equivalent query.now) result) }
+        ensures value { IsValueUnder (Q.equivalent query.now) self.old.state result.now }
+    {
+        self.contents.lists.apart();
+        let token = self.contents.token_under(hash, query);
+        self.contents.value_mut(token)
+    }
+
+    /// Weighs the item under the query anew, which is known to be there. One that lost its weight
+    /// leaves its ring, which begins behind it; one that gained weight is put last in the ring of
+    /// its queue; and any other keeps its place. Nothing is evicted, whatever the weight.
+    pub fn reweigh<Q: Equivalent<K>>(&mut self, hash: u64, query: &Q)
+    where
+        K: Drop,
+        V: Drop,
+        We: Weighter<K, V>,
+        L: Lifecycle<K, V>,
+        requires hash_is { hash ≡ hash_of B.BuildHasher B.Hasher.Hasher self.old.builder
+            (Q.hash_input query.now) }
+        requires there { 0 < count_under (Q.equivalent query.now) self.old.state }
+        ensures reweighs { ReweighsUnder (Q.equivalent query.now)
+            (rules_of P.Touch.may_count K.Hash.hash_input We.Weighter B.BuildHasher
+            B.Hasher.Hasher L.Lifecycle self.old)
+            self.old.state self.new.state }
+        ensures there { 0 < count_under (Q.equivalent query.now) self.new.state }
+        ensures same { self.new ≡ record self.old { state = self.new.state } }
+    {
+        self.contents.reweigh(hash, query, &self.terms);
+    }
+}

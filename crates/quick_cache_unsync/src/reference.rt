@@ -1,0 +1,225 @@
+//! A reference to a value of the cache, to write. As it goes, the item is weighed anew.
+ghost use Rattle.std.specs.Prelude.{◌≡◌, ◌<◌, IfSome, IfNone, None, true};
+ghost use Rattle.std.specs.Borrow.{sem};
+ghost use Rattle.quick_cache_model.specs.Finding.{HasNoItem};
+ghost use Rattle.quick_cache_model.specs.Hashing.{hash_of};
+ghost use Rattle.quick_cache_model.specs.Lookups.{LooksUp};
+ghost use Rattle.quick_cache_shard.specs.References.{count_under, IsValueUnder, NotesLookUp, ReweighsUnder};
+ghost use Rattle.quick_cache_shard.specs.Shard.{rules_of, UpToOrder, IsSoundShard};
+ghost use Rattle.quick_cache_unsync.specs.Touches.{no_touches};
+
+use crate::cache::Cache;
+use quick_cache_model::{Equivalent, Lifecycle, Weighter};
+use std::alloc::{Allocator, Global};
+use std::hash::{BuildHasher, Hash};
+use std::ops::{Deref, DerefMut};
+
+/// A reference to the value under a query. When it is dropped, the item gets the weight of the value
+/// that it then has, and nothing is evicted. One that is leaked leaves the item its old weight.
+pub struct RefMut<
+    'a,
+    Q: Equivalent<K>,
+    K: Eq + Hash + Drop,
+    V: Drop,
+    We: Weighter<K, V>,
+    B: BuildHasher,
+    L: Lifecycle<K, V>,
+    A: Allocator = Global,
+> {
+    cache: &'a mut Cache<K, V, We, B, L, A>,
+    query: &'a Q,
+    hash: u64,
+    ghost there: { 0 < count_under (Q.equivalent query.now) cache.now.state },
+    ghost hash_is: { hash
+        ≡ hash_of B.BuildHasher B.Hasher.Hasher cache.now.builder (Q.hash_input query.now) },
+}
+
+impl<
+    Q: Equivalent<K>,
+    K: Eq + Hash + Drop,
+    V: Drop,
+    We: Weighter<K, V>,
+    B: BuildHasher,
+    L: Lifecycle<K, V>,
+    A: Allocator,
+> Drop for RefMut<'_, Q, K, V, We, B, L, A> {
+    fn drop(self)
+        ensures reweighs { ReweighsUnder (Q.equivalent self.entry.query.now)
+            (rules_of no_touches K.Hash.hash_input We.Weighter B.BuildHasher B.Hasher.Hasher
+            L.Lifecycle self.entry.cache.now)
+            self.entry.cache.now.state self.exit.0.now.state }
+        ensures same { self.exit.0.now
+            ≡ record self.entry.cache.now { state = self.exit.0.now.state } }
+    {
+        let RefMut { cache, query, hash } = self;
+        cache.reweigh(hash, query);
+    }
+}
+
+impl<
+    Q: Equivalent<K>,
+    K: Eq + Hash + Drop,
+    V: Drop,
+    We: Weighter<K, V>,
+    B: BuildHasher,
+    L: Lifecycle<K, V>,
+    A: Allocator,
+> Deref for RefMut<'_, Q, K, V, We, B, L, A> {
+    type Target = V;
+
+    ghost deref_gives = { λ p x. IsValueUnder (Q.equivalent p.query.now) p.cache.now.state x };
+
+    fn deref(&self) -> &V
+        ensures { IsValueUnder (Q.equivalent self.now.query.now) self.now.cache.now.state
+            result.now }
+    {
+        self.cache.value_under(self.hash, self.query)
+    }
+}
+
+impl<
+    Q: Equivalent<K>,
+    K: Eq + Hash + Drop,
+    V: Drop,
+    We: Weighter<K, V>,
+    B: BuildHasher,
+    L: Lifecycle<K, V>,
+    A: Allocator,
+> DerefMut for RefMut<'_, Q, K, V, We, B, L, A> {
+    ghost use Rattle.quick_cache_unsync.specs.LentValues.{writes_back};
+
+    ghost deref_mut_gives = { λ p x. IsValueUnder (Q.equivalent p.query.now) p.cache.now.state x };
+
+    fn deref_mut(&mut self) -> &mut V
+        ensures* writes_back { sem 𝓛 (writes_back Q.row K.row V.row We.row B.row L.row A.row
+            B.Hasher.row L.RequestState.row Q.equivalent Q.hash_input Q.eq K.eq K.hash_input
+            We.Weighter B.BuildHasher B.Hasher.Hasher L.Lifecycle L.RequestState.is_default
+            A.Allocator self.entry result) }
+        ensures value { IsValueUnder (Q.equivalent self.old.query.now) self.old.cache.now.state
+            result.now }
+    {
+        let (hash, query) = (self.hash, self.query);
+        self.cache.value_mut(hash, query)
+    }
+}
+
+impl<K: Eq + Hash, V, We, B: BuildHasher, L, A: Allocator> Cache<K, V, We, B, L, A> {
+    ghost use Rattle.quick_cache_unsync.specs.Lent.{lends_under};
+
+    // The value of the item under the query, which is known to be there.
+    fn value_under<Q: Equivalent<K>>(&self, hash: u64, query: &Q) -> &V
+        requires hash_is { hash ≡ hash_of B.BuildHasher B.Hasher.Hasher self.now.builder
+            (Q.hash_input query.now) }
+        requires there { 0 < count_under (Q.equivalent query.now) self.now.state }
+        ensures { IsValueUnder (Q.equivalent query.now) self.now.state result.now }
+    {
+        self.shard.value_under(hash, query)
+    }
+
+    // The same, to write.
+    fn value_mut<Q: Equivalent<K>>(&mut self, hash: u64, query: &Q) -> &mut V
+        requires hash_is { hash ≡ hash_of B.BuildHasher B.Hasher.Hasher self.old.builder
+            (Q.hash_input query.now) }
+        requires there { 0 < count_under (Q.equivalent query.now) self.old.state }
+        ensures* writes_back { sem 𝓛 (lends_under K.row V.row We.row B.row L.row A.row
+            B.Hasher.row K.eq K.Hash.hash_input B.BuildHasher B.Hasher.Hasher A.Allocator
+            self.entry (Q.equivalent query.now) result) }
+        ensures value { IsValueUnder (Q.equivalent query.now) self.old.state result.now }
+    {
+        self.shard.value_mut(hash, query)
+    }
+
+    // Weighs the item under the query anew, which is known to be there.
+    fn reweigh<Q: Equivalent<K>>(&mut self, hash: u64, query: &Q)
+    where
+        K: Drop,
+        V: Drop,
+        We: Weighter<K, V>,
+        L: Lifecycle<K, V>,
+        requires hash_is { hash ≡ hash_of B.BuildHasher B.Hasher.Hasher self.old.builder
+            (Q.hash_input query.now) }
+        requires there { 0 < count_under (Q.equivalent query.now) self.old.state }
+        ensures reweighs { ReweighsUnder (Q.equivalent query.now)
+            (rules_of no_touches K.Hash.hash_input We.Weighter B.BuildHasher B.Hasher.Hasher
+            L.Lifecycle self.old)
+            self.old.state self.new.state }
+        ensures there { 0 < count_under (Q.equivalent query.now) self.new.state }
+        ensures same { self.new ≡ record self.old { state = self.new.state } }
+    {
+        self.shard.reweigh(hash, query);
+    }
+}
+
+impl<
+    K: Eq + Hash + Drop,
+    V: Drop,
+    We: Weighter<K, V>,
+    B: BuildHasher,
+    L: Lifecycle<K, V>,
+    A: Allocator,
+> Cache<K, V, We, B, L, A> {
+    ghost use Rattle.quick_cache_unsync.specs.LentValues.{rests_if_none, lender, lent, query_of};
+
+    /// A reference to the value under the query's key, to write, by a look-up: the item is marked
+    /// and read, and a hit or a miss is counted. It takes no memory.
+    ///
+    /// Once the reference is dropped, the item has the weight of the value that was left. One that
+    /// lost its weight leaves its ring, one that gained weight is put last in the ring of its queue,
+    /// and nothing is evicted, so that the cache may then be heavier than its capacity.
+    pub fn get_mut<'a, Q: Equivalent<K>>(
+        &'a mut self,
+        query: &'a Q,
+    ) -> Option<RefMut<'a, Q, K, V, We, B, L, A>>
+        ensures* rests { sem 𝓛 (rests_if_none Q.row K.row V.row We.row B.row L.row A.row
+            B.Hasher.row L.RequestState.row Q.equivalent Q.hash_input Q.eq K.eq K.hash_input
+            We.Weighter B.BuildHasher B.Hasher.Hasher L.Lifecycle L.RequestState.is_default
+            A.Allocator self.entry result
+            (λ new. UpToOrder (LooksUp (Q.equivalent query.now) self.old.state
+            (λ item. item.value) None) new.state
+            × (new ≡ record self.old { state = new.state }))) }
+        ensures lends { IfSome result (λ r. lender r ≡ self.entry.ghost_name) }
+        ensures query { IfSome result (λ r. query_of r ≡ query.now) }
+        ensures looks_up { IfSome result (λ r. NotesLookUp (Q.equivalent query.now)
+            self.old.state true (lent r).state) }
+        ensures same { IfSome result (λ r. lent r
+            ≡ record self.old { state = (lent r).state }) }
+        ensures sound { IfSome result (λ r. IsSoundShard K.eq (lent r)) }
+    {
+        let hash = self.shard.hash(query);
+        if !self.shard.look_up(hash, query) {
+            return None;
+        }
+        Some(RefMut {
+            cache: self,
+            query,
+            hash,
+        })
+    }
+
+    /// A reference to the value under the query's key, to write, which is no use of the item: nothing
+    /// is counted or marked. It is weighed anew as with `get_mut`.
+    pub fn peek_mut<'a, Q: Equivalent<K>>(
+        &'a mut self,
+        query: &'a Q,
+    ) -> Option<RefMut<'a, Q, K, V, We, B, L, A>>
+        ensures* rests { sem 𝓛 (rests_if_none Q.row K.row V.row We.row B.row L.row A.row
+            B.Hasher.row L.RequestState.row Q.equivalent Q.hash_input Q.eq K.eq K.hash_input
+            We.Weighter B.BuildHasher B.Hasher.Hasher L.Lifecycle L.RequestState.is_default
+            A.Allocator self.entry result (λ new. new ≡ self.old)) }
+        ensures lends { IfSome result (λ r. lender r ≡ self.entry.ghost_name) }
+        ensures query { IfSome result (λ r. query_of r ≡ query.now) }
+        ensures same { IfSome result (λ r. lent r ≡ self.old) }
+        ensures absent { IfNone result (HasNoItem (Q.equivalent query.now) self.old.state) }
+        ensures sound { IsSoundShard K.eq self.old }
+    {
+        let hash = self.shard.hash(query);
+        if !self.shard.has_item(hash, query) {
+            return None;
+        }
+        Some(RefMut {
+            cache: self,
+            query,
+            hash,
+        })
+    }
+}
