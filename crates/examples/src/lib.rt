@@ -6,6 +6,8 @@ mod looking;
 #[cfg(test)]
 mod making;
 #[cfg(test)]
+mod references;
+#[cfg(test)]
 mod removing;
 #[cfg(test)]
 mod writing;

@@ -69,3 +69,39 @@ fn hits_and_misses(rt: HostRuntime) -> Result<(), Fail> {
     assert_eq!(rt; (cache.hits(), cache.misses()), (2, 1));
     Ok(())
 }
+
+#[test]
+fn item_stats(rt: HostRuntime) -> Result<(), Fail> {
+    let mut cache: Cache<u64, u64> = Cache::new(rt.alloc(), 5)?;
+    cache.insert(1, 10)?;
+    cache.get(&1);
+    cache.peek(&1);
+    assert_eq!(rt;
+        cache.item_stats(&1).map(|stats| stats.access_count),
+        Some(1)
+    );
+    Ok(())
+}
+
+#[test]
+fn iter(rt: HostRuntime) -> Result<(), Fail> {
+    let mut cache: Cache<u64, u64> = Cache::new(rt.alloc(), 5)?;
+    cache.insert(1, 10)?;
+    cache.insert(2, 20)?;
+    let mut sum = 0u64;
+    for (key, value) in cache.iter() {
+        sum = sum.saturating_add(*key).saturating_add(*value);
+    }
+    assert_eq!(rt; sum, 33);
+    Ok(())
+}
+
+#[test]
+fn memory_used(rt: HostRuntime) -> Result<(), Fail> {
+    let mut cache: Cache<u64, u64> = Cache::new(rt.alloc(), 5)?;
+    cache.insert(1, 10)?;
+    // In bytes: the slots, and the table that finds them.
+    assert!(rt; cache.memory_used().entries > 0);
+    assert!(rt; cache.memory_used().map > 0);
+    Ok(())
+}

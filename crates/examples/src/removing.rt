@@ -10,3 +10,35 @@ fn remove(rt: HostRuntime) -> Result<(), Fail> {
     assert_eq!(rt; cache.remove(&"square"), None);
     Ok(())
 }
+
+#[test]
+fn remove_if(rt: HostRuntime) -> Result<(), Fail> {
+    let mut cache = Cache::new(rt.alloc(), 5)?;
+    cache.insert("square", 4)?;
+    assert_eq!(rt; cache.remove_if(&"square", |sides| *sides > 4), None);
+    assert_eq!(rt;
+        cache.remove_if(&"square", |sides| *sides == 4),
+        Some(("square", 4))
+    );
+    Ok(())
+}
+
+#[test]
+fn retain(rt: HostRuntime) -> Result<(), Fail> {
+    let mut cache: Cache<u64, u64> = Cache::new(rt.alloc(), 5)?;
+    for key in 1..4u64 {
+        cache.insert(key, key * 10)?;
+    }
+    cache.retain(|key, value| *key == 1 || *value == 30);
+    assert_eq!(rt; (cache.len(), cache.contains_key(&2)), (2, false));
+    Ok(())
+}
+
+#[test]
+fn clear(rt: HostRuntime) -> Result<(), Fail> {
+    let mut cache = Cache::new(rt.alloc(), 5)?;
+    cache.insert("square", 4)?;
+    cache.clear();
+    assert!(rt; cache.is_empty());
+    Ok(())
+}

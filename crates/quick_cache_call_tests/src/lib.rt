@@ -2,4 +2,6 @@
 #![tactic(auto)]
 
 #[cfg(test)]
+mod references;
+#[cfg(test)]
 mod removal;

@@ -4,14 +4,13 @@ use std::alloc::Global;
 use std::test::Fail;
 
 /// A cache for a hundred items with the pairs (1, 10), (2, 20) and (3, 30).
-fn of_three(alloc: Global) -> Result<Cache<u64, u64>, (u64, u64, Refusal)> {
-    let mut cache = match Cache::new(alloc, 100) {
-        Ok(cache) => cache,
-        Err(refusal) => return Err((0, 0, refusal)),
-    };
-    cache.insert(1, 10)?;
-    cache.insert(2, 20)?;
-    cache.insert(3, 30)?;
+fn of_three(alloc: Global) -> Result<Cache<u64, u64>, Refusal> {
+    let mut cache = Cache::new(alloc, 100)?;
+    for key in 1..4u64 {
+        cache
+            .insert(key, key * 10)
+            .map_err(|(_, _, refusal)| refusal)?;
+    }
     Ok(cache)
 }
 
