@@ -1,3 +1,4 @@
 pub mod StepLemmas
 pub mod RunLemmas
 pub mod ShownLemmas
+pub mod LoadLemmas

@@ -5,6 +5,7 @@ pub mod Inserts
 pub mod Replaces
 pub mod SetsCapacity
 pub mod Lent
+pub mod Loads
 pub mod CacheStep
 pub mod CacheRun
 pub use Rattle.quick_cache_shard.specs.Shard

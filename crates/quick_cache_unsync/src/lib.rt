@@ -5,6 +5,7 @@ mod cache;
 mod calls;
 mod capacity;
 mod lifecycle;
+mod loader;
 mod options;
 mod placeholder;
 mod replace;
