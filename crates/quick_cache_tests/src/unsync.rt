@@ -1,5 +1,6 @@
 //! The cache for one thread: first examples, lists of calls, and refused growths.
 mod large;
+mod loads;
 mod memory;
 
 use quick_cache_base::{DefaultHashBuilder, Refusal, UnitWeighter};

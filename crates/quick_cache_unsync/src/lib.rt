@@ -6,6 +6,7 @@ mod calls;
 mod capacity;
 mod iter;
 mod lifecycle;
+mod loader;
 mod options;
 mod placeholder;
 mod reference;

@@ -1,0 +1,100 @@
+//! Values that a loader makes where there is none.
+ghost use Rattle.std.specs.Prelude.{◌≡◌, ◌+◌, ◌≤◌, true};
+ghost use Rattle.quick_cache_model.specs.Hashing.{hash_of};
+ghost use Rattle.quick_cache_shard.specs.Shard.{rules_of, hooks_of};
+ghost use Rattle.quick_cache_unsync.specs.Loads.{IsAwaited, EndsLoad, Loads};
+ghost use Rattle.quick_cache_unsync.specs.Touches.{no_touches};
+
+use crate::cache::Cache;
+use crate::placeholder::Placeholder;
+use quick_cache_model::{Lifecycle, Refusal, ToKey, Weighter};
+use std::alloc::Allocator;
+use std::hash::{BuildHasher, Hash};
+
+impl<
+    K: Eq + Hash + Drop,
+    V: Drop,
+    We: Weighter<K, V>,
+    B: BuildHasher,
+    L: Lifecycle<K, V>,
+    A: Allocator,
+> Cache<K, V, We, B, L, A> {
+    /// Ends a load with what the loader gives, and tells whether the key is resident then.
+    fn end_load<Q: ToKey<K>, E, F: FnOnce() -> Result<V, E>>(
+        &mut self,
+        hash: u64,
+        query: &Q,
+        placeholder: &Placeholder,
+        load: F,
+    ) -> Result<bool, E>
+        requires hash_is { hash ≡ hash_of B.BuildHasher B.Hasher.Hasher self.old.builder
+            (Q.hash_input query.now) }
+        requires awaited { IsAwaited placeholder.now.ticket self.old.state }
+        requires load { F.pre load }
+        ensures ends { EndsLoad (L.steady self.old.lifecycle) (hooks_of L.Lifecycle self.old)
+            (rules_of no_touches K.Hash.hash_input We.Weighter B.BuildHasher B.Hasher.Hasher
+            L.Lifecycle self.old)
+            L.RequestState.is_default (Q.equivalent query.now) placeholder.now.ticket (F.post load)
+            self.old.state result self.new.state }
+        ensures room { self.old.room ≤ self.new.room }
+        ensures same { self.new ≡ record self.old {
+          state = self.new.state;
+          room = self.new.room;
+          work = self.new.work;
+        } }
+    {
+        match load() {
+            Ok(value) => {
+                let mut state = L::RequestState::default();
+                let _ = self
+                    .shard
+                    .replace_placeholder(&mut state, placeholder, false, value);
+                Ok(self.shard.contains(hash, query))
+            }
+            Err(error) => {
+                self.shard.remove_placeholder(placeholder);
+                Err(error)
+            }
+        }
+    }
+
+    /// Looks the query's key up as `get` does. Where no item stands under it, calls the loader and
+    /// puts its value in, with a request state of the call's own. The answer tells whether the key
+    /// is resident when the call returns; `peek` shows its value then.
+    ///
+    /// # Errors
+    ///
+    /// The inner one is the loader's, and leaves no placeholder. The outer one is a refusal, which
+    /// comes before the loader is called, and only where no key is found: `TicketsSpent`,
+    /// `SlotsFull` or `Memory`. Nothing has changed then.
+    pub fn get_or_insert_with<Q: ToKey<K>, E, F: FnOnce() -> Result<V, E>>(
+        &mut self,
+        query: &Q,
+        load: F,
+    ) -> Result<Result<bool, E>, Refusal>
+        requires stands { (key : K) → Q.to_key_gives query.now key
+            → Q.equivalent query.now key ≡ true }
+        requires load { F.pre load }
+        // Where pinning is steady, a value fills the placeholder by a step of its definition.
+        ensures loads { Loads (L.steady self.old.lifecycle) (hooks_of L.Lifecycle self.old)
+            (rules_of no_touches K.Hash.hash_input We.Weighter B.BuildHasher B.Hasher.Hasher
+            L.Lifecycle self.old)
+            L.RequestState.is_default (Q.equivalent query.now) (Q.to_key_gives query.now)
+            (hash_of B.BuildHasher B.Hasher.Hasher self.old.builder (Q.hash_input query.now))
+            (F.post load) self.old.state result self.new.state }
+        // It takes room for one entry at most.
+        ensures room { self.old.room ≤ self.new.room + 1 }
+        ensures same { self.new ≡ record self.old {
+          state = self.new.state;
+          room = self.new.room;
+          work = self.new.work;
+        } }
+    {
+        let hash = self.shard.hash(query);
+        match self.shard.get_or_placeholder(hash, query) {
+            Ok(Ok(_)) => Ok(Ok(true)),
+            Ok(Err((placeholder, _))) => Ok(self.end_load(hash, query, &placeholder, load)),
+            Err(refusal) => Err(refusal),
+        }
+    }
+}
