@@ -4,6 +4,7 @@
 mod cache;
 mod calls;
 mod capacity;
+mod filling;
 mod iter;
 mod lifecycle;
 mod loader;

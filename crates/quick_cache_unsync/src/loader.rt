@@ -2,14 +2,34 @@
 ghost use Rattle.std.specs.Prelude.{◌≡◌, ◌+◌, ◌≤◌, true};
 ghost use Rattle.quick_cache_model.specs.Hashing.{hash_of};
 ghost use Rattle.quick_cache_shard.specs.Shard.{rules_of, hooks_of};
-ghost use Rattle.quick_cache_unsync.specs.Loads.{IsAwaited, EndsLoad, Loads};
+ghost use Rattle.quick_cache_unsync.specs.Loads.{IsAwaited, EndsLoad, LooksUpOrTakes, AnswersLoad};
+ghost use Rattle.quick_cache_calls.specs.References.{TellsItem};
 ghost use Rattle.quick_cache_unsync.specs.Touches.{no_touches};
 
 use crate::cache::Cache;
 use crate::placeholder::Placeholder;
-use quick_cache_model::{Lifecycle, Refusal, ToKey, Weighter};
+use quick_cache_model::{Equivalent, Lifecycle, Refusal, ToKey, Weighter};
 use std::alloc::Allocator;
 use std::hash::{BuildHasher, Hash};
+
+impl<K: Eq + Hash, V, We, B: BuildHasher, L, A: Allocator> Cache<K, V, We, B, L, A> {
+    /// The hash of a query.
+    pub(crate) fn hash_of<Q: Equivalent<K>>(&self, query: &Q) -> u64
+        ensures { result ≡ hash_of B.BuildHasher B.Hasher.Hasher self.now.builder
+            (Q.hash_input query.now) }
+    {
+        self.shard.hash(query)
+    }
+
+    /// Whether an item stands under the query.
+    fn is_resident<Q: Equivalent<K>>(&self, hash: u64, query: &Q) -> bool
+        requires hash_is { hash ≡ hash_of B.BuildHasher B.Hasher.Hasher self.now.builder
+            (Q.hash_input query.now) }
+        ensures { TellsItem (Q.equivalent query.now) self.now.state result }
+    {
+        self.shard.contains(hash, query)
+    }
+}
 
 impl<
     K: Eq + Hash + Drop,
@@ -19,6 +39,28 @@ impl<
     L: Lifecycle<K, V>,
     A: Allocator,
 > Cache<K, V, We, B, L, A> {
+    /// Looks the query's key up, or takes a placeholder for it where there is no item.
+    pub(crate) fn begin_load<Q: ToKey<K>>(
+        &mut self,
+        hash: u64,
+        query: &Q,
+    ) -> Result<Option<Placeholder>, Refusal>
+        requires hash_is { hash ≡ hash_of B.BuildHasher B.Hasher.Hasher self.old.builder
+            (Q.hash_input query.now) }
+        requires stands { (key : K) → Q.to_key_gives query.now key
+            → Q.equivalent query.now key ≡ true }
+        ensures takes { LooksUpOrTakes (Q.equivalent query.now) (Q.to_key_gives query.now) hash
+            self.old.state (λ placeholder. placeholder.ticket) result self.new.state }
+        ensures room { self.old.room ≤ self.new.room + 1 }
+        ensures same { self.new ≡ record self.old { state = self.new.state; room = self.new.room } }
+    {
+        match self.shard.get_or_placeholder(hash, query) {
+            Ok(Ok(_)) => Ok(None),
+            Ok(Err((placeholder, _))) => Ok(Some(placeholder)),
+            Err(refusal) => Err(refusal),
+        }
+    }
+
     /// Ends a load with what the loader gives, and tells whether the key is resident then.
     fn end_load<Q: ToKey<K>, E, F: FnOnce() -> Result<V, E>>(
         &mut self,
@@ -46,10 +88,8 @@ impl<
         match load() {
             Ok(value) => {
                 let mut state = L::RequestState::default();
-                let _ = self
-                    .shard
-                    .replace_placeholder(&mut state, placeholder, false, value);
-                Ok(self.shard.contains(hash, query))
+                self.fill(&mut state, placeholder, value);
+                Ok(self.is_resident(hash, query))
             }
             Err(error) => {
                 self.shard.remove_placeholder(placeholder);
@@ -76,7 +116,7 @@ impl<
             → Q.equivalent query.now key ≡ true }
         requires load { F.pre load }
         // Where pinning is steady, a value fills the placeholder by a step of its definition.
-        ensures loads { Loads (L.steady self.old.lifecycle) (hooks_of L.Lifecycle self.old)
+        ensures loads { AnswersLoad (L.steady self.old.lifecycle) (hooks_of L.Lifecycle self.old)
             (rules_of no_touches K.Hash.hash_input We.Weighter B.BuildHasher B.Hasher.Hasher
             L.Lifecycle self.old)
             L.RequestState.is_default (Q.equivalent query.now) (Q.to_key_gives query.now)
@@ -90,10 +130,10 @@ impl<
           work = self.new.work;
         } }
     {
-        let hash = self.shard.hash(query);
-        match self.shard.get_or_placeholder(hash, query) {
-            Ok(Ok(_)) => Ok(Ok(true)),
-            Ok(Err((placeholder, _))) => Ok(self.end_load(hash, query, &placeholder, load)),
+        let hash = self.hash_of(query);
+        match self.begin_load(hash, query) {
+            Ok(None) => Ok(Ok(true)),
+            Ok(Some(placeholder)) => Ok(self.end_load(hash, query, &placeholder, load)),
             Err(refusal) => Err(refusal),
         }
     }
