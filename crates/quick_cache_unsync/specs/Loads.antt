@@ -1,13 +1,13 @@
 -- Loading a key's value by a loader or a guard, and what comes of it.
-use Rattle.std.specs.Prelude.{ℕ, Bool, true, false, List, Option, Some, None, Result, Ok, Err}
+use Rattle.std.specs.Prelude.{ℕ, Bool, true, false, Option, Some, None, Result, Ok, Err}
 use Rattle.quick_cache_model.specs.declared.refusal.Refusal.{Refusal}
 use Rattle.quick_cache_model.specs.CacheState.{CacheState, UpToOrder}
-use Rattle.quick_cache_model.specs.Hooks.{Rules, Hooks, HookCall, Calls}
+use Rattle.quick_cache_model.specs.Hooks.{Rules, Hooks, Calls}
 use Rattle.quick_cache_model.specs.Lookups.{LooksUp}
 use Rattle.quick_cache_model.specs.Placeholders.{HasNoTicket, GivesUpPlaceholder}
-use Rattle.quick_cache_calls.specs.Loads.{Loads, LoadsNothing}
+use Rattle.quick_cache_calls.specs.Loads.{LoadsNothing}
 use Rattle.quick_cache_calls.specs.References.{TellsItem}
-use Rattle.quick_cache_shard.specs.Filling.{Fills}
+use Rattle.quick_cache_shard.specs.Filling.{Fills, AnswersFill}
 use Rattle.quick_cache_shard.specs.Loading.{IsMadeOrMet, MakesNone}
 
 -- a placeholder of the ticket is there
@@ -23,6 +23,13 @@ module _ {K V S : Type 0} (steady : Type 0) (hooks : Hooks K V S) (rules : Rules
     pub last : S
     pub begins : is_default first
     pub fills : Calls hooks (Fills steady ticket old rules false value new) first last
+
+-- A value fills the placeholder of a ticket, and is dropped where that is gone: nothing changes then.
+module _ {K V S : Type 0} (steady : Type 0) (hooks : Hooks K V S) (rules : Rules K V)
+    (ticket : ℕ) (old : CacheState K V) (value : V) (first : S) where
+  pub record FillsIfThere (new : CacheState K V) (last : S) : Type 0 where
+    pub answer : Result (Unit {0}) V
+    pub fills : Calls hooks (AnswersFill steady ticket old rules false value answer new) first last
 
 -- A loader's result is put under a key that is awaited under this ticket: a value fills the
 -- placeholder, and the answer tells whether the key is resident then; an error gives the

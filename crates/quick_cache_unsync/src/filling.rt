@@ -1,9 +1,10 @@
 //! Placeholders that this crate made, which are filled where they stand.
 ghost use Rattle.std.specs.Prelude.{◌≡◌, ◌≤◌, false};
 ghost use Rattle.quick_cache_model.specs.Hooks.{Calls};
+ghost use Rattle.quick_cache_model.specs.Placeholders.{GivesUpPlaceholder};
 ghost use Rattle.quick_cache_shard.specs.Filling.{Fills};
-ghost use Rattle.quick_cache_shard.specs.Shard.{rules_of, hooks_of};
-ghost use Rattle.quick_cache_unsync.specs.Loads.{IsAwaited};
+ghost use Rattle.quick_cache_shard.specs.Shard.{rules_of, hooks_of, UpToOrder};
+ghost use Rattle.quick_cache_unsync.specs.Loads.{IsAwaited, FillsIfThere};
 ghost use Rattle.quick_cache_unsync.specs.Touches.{no_touches};
 
 use crate::cache::Cache;
@@ -40,5 +41,38 @@ impl<
         let _ = self
             .shard
             .replace_placeholder(state, placeholder, false, value);
+    }
+
+    /// Fills the placeholder, or drops the value where that is gone. It asks for no memory.
+    pub(crate) fn fill_if_there(
+        &mut self,
+        state: &mut L::RequestState,
+        placeholder: &Placeholder,
+        value: V,
+    )
+        ensures fills { FillsIfThere (L.steady self.old.lifecycle) (hooks_of L.Lifecycle self.old)
+            (rules_of no_touches K.Hash.hash_input We.Weighter B.BuildHasher B.Hasher.Hasher
+            L.Lifecycle self.old)
+            placeholder.now.ticket self.old.state value state.old self.new.state state.new }
+        ensures room { self.old.room ≤ self.new.room }
+        ensures same { self.new ≡ record self.old {
+          state = self.new.state;
+          room = self.new.room;
+          work = self.new.work;
+        } }
+    {
+        let _ = self
+            .shard
+            .replace_placeholder(state, placeholder, false, value);
+    }
+
+    /// Takes the placeholder out, and calls no hook.
+    pub(crate) fn give_up(&mut self, placeholder: &Placeholder)
+        ensures gives_up { UpToOrder
+            (GivesUpPlaceholder placeholder.now.ticket self.old.state) self.new.state }
+        ensures room { self.old.room ≤ self.new.room }
+        ensures same { self.new ≡ record self.old { state = self.new.state; room = self.new.room } }
+    {
+        self.shard.remove_placeholder(placeholder);
     }
 }

@@ -5,6 +5,7 @@ mod cache;
 mod calls;
 mod capacity;
 mod filling;
+mod guard;
 mod iter;
 mod lifecycle;
 mod loader;
@@ -18,6 +19,7 @@ mod writes_through;
 
 pub use cache::Cache;
 pub use calls::{Call, Reply, run};
+pub use guard::Guard;
 pub use iter::Iter;
 pub use lifecycle::DefaultLifecycle;
 pub use quick_cache_base::options::{Options, OptionsBuilder};

@@ -92,7 +92,7 @@ impl<
                 Ok(self.is_resident(hash, query))
             }
             Err(error) => {
-                self.shard.remove_placeholder(placeholder);
+                self.give_up(placeholder);
                 Err(error)
             }
         }
