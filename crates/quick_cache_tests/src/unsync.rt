@@ -1,6 +1,5 @@
 //! The cache for one thread: first examples, lists of calls, and refused growths.
 mod large;
-mod loads;
 mod memory;
 
 use quick_cache_base::{DefaultHashBuilder, Refusal, UnitWeighter};
