@@ -1,20 +1,23 @@
 -- A placeholder that was taken is there, and loads by the words of calls.
-use Rattle.std.proofs.Common.{◌≡◌, ◌≢◌, ℕ, Bool, true, false, List, [], ◌∷◌, ◌++◌, Result, Ok, Err, Some, None, refl, sym, ap, subst, ◌∙◌}
+use Rattle.std.proofs.Common.{◌≡◌, ◌≢◌, ◌<◌, ℕ, cond, arith, Bool, true, false, List, [], ◌∷◌, ◌++◌, Result, Ok, Err, Some, None, refl, sym, ap, subst, ◌∙◌}
 use Rattle.std.specs.List.{AllByRecursion}
-use Rattle.std.proofs.lemmas.List.Sorted.{IsPermutation-sym}
-use Rattle.quick_cache_model.specs.CacheState.{CacheState, LoadingEntry, UpToOrder}
+use Rattle.std.proofs.lemmas.List.Sorted.{IsPermutation-sym, sum_by-IsPermutation}
+use Rattle.quick_cache_model.specs.CacheState.{CacheState, LoadingEntry, UpToOrder, InHot, InCold, InStill}
 use Rattle.quick_cache_model.specs.Hooks.{Rules, Hooks, Calls}
+use Rattle.quick_cache_model.specs.Lookups.{LooksUp, looked_up}
+use Rattle.quick_cache_model.proofs.KeyCounts.{one_if, keys-split}
+use Rattle.quick_cache_shard.specs.References.{count_under}
 use Rattle.quick_cache_model.specs.Placeholders.{MakesPlaceholder, MeetsPlaceholder, HasNoTicket, GivesUpPlaceholder}
 use Rattle.quick_cache_model.proofs.EachElement.{all-middle, all-permutation}
-use Rattle.quick_cache_model.proofs.OrderLaws.{UpToOrder-map}
-use Rattle.quick_cache_calls.specs.Loads.{TakesPlaceholder, LoadsNothing}
+use Rattle.quick_cache_model.proofs.OrderLaws.{UpToOrder-map, SameButOrder-keys}
+use Rattle.quick_cache_calls.specs.Loads.{TakesPlaceholder, Loads, LoadsNothing}
 use Rattle.quick_cache_shard.specs.Filling.{AnswersFill, Fills}
 use Rattle.quick_cache_shard.specs.Loading.{IsMadeOrMet}
 use Rattle.quick_cache_calls.specs.References.{TellsItem}
 use Rattle.std.specs.Bool.{OnTrue, OnFalse}
 use Rattle.quick_cache_model.specs.Finding.{HasNoItem}
 use Rattle.quick_cache_shard.specs.Shard.{HasItem}
-use Rattle.quick_cache_unsync.specs.Loads.{IsAwaited, Takes, EndsLoad, AnswersLoad}
+use Rattle.quick_cache_unsync.specs.Loads.{IsAwaited, Takes, FillsIfThere, EndsLoad, AnswersLoad}
 
 module _ {K V : Type 0} (stands_for : K → Bool) (gives : K → Type 0) (hash : ℕ)
     (old : CacheState K V) where
@@ -134,3 +137,69 @@ ends-load-by steady hooks rules now before same is_default stands_for gives hash
     old mid new ticket answer takes
     (subst (λ s. EndsLoad (steady s) (hooks s) (rules s) is_default stands_for ticket given mid
     answer new) same ends)
+
+-- what fills a placeholder that was taken is, where pinning is steady, a step of its definition
+pub Fills-loads : {K V S : Type 0} (steady : Type 0) (hooks : Hooks K V S) (rules : Rules K V)
+    (stands_for : K → Bool) (gives : K → Type 0) (hash ticket : ℕ) (value : V)
+    (old mid new : CacheState K V) (first last : S) → steady
+    → Takes stands_for gives hash old ticket mid
+    → Calls hooks (Fills steady ticket mid rules false value new) first last
+    → Calls hooks (λ calls. Loads rules stands_for hash old value calls new) first last
+Fills-loads steady hooks rules stands_for gives hash ticket value old mid new first last is takes
+    fills =
+    record {
+      calls = fills.calls;
+      holds = record {
+        ticket = ticket;
+        mid = mid;
+        takes = Takes-takes stands_for gives hash old ticket mid takes;
+        fills = fills.holds.step is;
+      };
+      runs = fills.runs;
+    }
+
+-- a guard fills the placeholder that it was given
+pub FillsIfThere-loads : {K V S : Type 0} (steady : Type 0) (hooks : Hooks K V S)
+    (rules : Rules K V) (stands_for : K → Bool) (gives : K → Type 0) (hash ticket : ℕ) (value : V)
+    (old mid new : CacheState K V) (first last : S) → steady
+    → Takes stands_for gives hash old ticket mid
+    → FillsIfThere steady hooks rules ticket mid value first new last
+    → Calls hooks (λ calls. Loads rules stands_for hash old value calls new) first last
+FillsIfThere-loads steady hooks rules stands_for gives hash ticket value old mid new first last is
+    takes fills =
+    Fills-loads steady hooks rules stands_for gives hash ticket value old mid new first last is takes
+    (Fills-awaited steady hooks rules ticket false value mid new first last fills.answer
+    (Takes-awaited stands_for gives hash old ticket mid takes) fills.fills)
+
+-- ---- an item that was found is there
+
+hit-there : {K V : Type 0} (stands_for : K → Bool) (old : CacheState K V) (value : V)
+    (state : CacheState K V) → LooksUp stands_for old (λ item. item.value) (Some value) state
+    → 0 < count_under stands_for state
+hit-there stands_for old _ _ (LooksUp.hit InHot before item after at) = omega (
+  arith,
+  keys-split stands_for before (looked_up old.mark_cut item) after,
+  ap one_if at.passes,
+)
+hit-there stands_for old _ _ (LooksUp.hit InCold before item after at) = omega (
+  arith,
+  keys-split stands_for before (looked_up old.mark_cut item) after,
+  ap one_if at.passes,
+)
+hit-there stands_for old _ _ (LooksUp.hit InStill before item after at) = omega (
+  arith,
+  keys-split stands_for before (looked_up old.mark_cut item) after,
+  ap one_if at.passes,
+)
+
+pub found-there : {K V : Type 0} (stands_for : K → Bool) (old : CacheState K V) (value : V)
+    (new : CacheState K V)
+    → UpToOrder (LooksUp stands_for old (λ item. item.value) (Some value)) new
+    → 0 < count_under stands_for new
+found-there {K} stands_for old value new up = omega (
+  arith,
+  hit-there stands_for old value up.ordered up.holds,
+  SameButOrder-keys stands_for up.ordered new up.same,
+  sum_by-IsPermutation (λ (entry : LoadingEntry K). cond (stands_for entry.key) 1 0)
+      up.ordered.loading new.loading up.same.loading,
+)

@@ -1,5 +1,5 @@
 //! A reference to a value of the cache, to write. As it goes, the item is weighed anew.
-ghost use Rattle.std.specs.Prelude.{◌≡◌, ◌<◌, IfSome, IfNone, None, true};
+ghost use Rattle.std.specs.Prelude.{◌≡◌, ◌<◌, IfSome, IfNone, IfOk, None, true};
 ghost use Rattle.std.specs.Borrow.{sem};
 ghost use Rattle.quick_cache_model.specs.Finding.{HasNoItem};
 ghost use Rattle.quick_cache_model.specs.Hashing.{hash_of};
@@ -9,7 +9,8 @@ ghost use Rattle.quick_cache_shard.specs.Shard.{rules_of, UpToOrder, IsSoundShar
 ghost use Rattle.quick_cache_unsync.specs.Touches.{no_touches};
 
 use crate::cache::Cache;
-use quick_cache_model::{Equivalent, Lifecycle, Weighter};
+use crate::guard::Guard;
+use quick_cache_model::{Equivalent, Lifecycle, Refusal, ToKey, Weighter};
 use std::alloc::{Allocator, Global};
 use std::hash::{BuildHasher, Hash};
 use std::ops::{Deref, DerefMut};
@@ -159,6 +160,7 @@ impl<
     A: Allocator,
 > Cache<K, V, We, B, L, A> {
     ghost use Rattle.quick_cache_unsync.specs.LentValues.{rests_if_none, lender, lent, query_of};
+    ghost use Rattle.quick_cache_unsync.specs.LentGuards.{lender_of, lent_of, FindsOrTakes};
 
     /// A reference to the value under the query's key, to write, by a look-up: the item is marked
     /// and read, and a hit or a miss is counted. It takes no memory.
@@ -221,5 +223,45 @@ impl<
             query,
             hash,
         })
+    }
+
+    /// A reference to the value under the query's key, to write, as `get_mut` gives it; or, where no
+    /// item stands under it, the right to fill a placeholder of the key.
+    ///
+    /// # Errors
+    ///
+    /// Only where neither an item nor a placeholder is found: `TicketsSpent`, `SlotsFull` or
+    /// `Memory`. Nothing has changed then.
+    pub fn get_mut_or_guard<'a, Q: ToKey<K>>(
+        &'a mut self,
+        query: &'a Q,
+    ) -> Result<Result<RefMut<'a, Q, K, V, We, B, L, A>, Guard<'a, K, V, We, B, L, A>>, Refusal>
+        requires stands { (key : K) → Q.to_key_gives query.now key
+            → Q.equivalent query.now key ≡ true }
+        // Open: the clause of the refused cache, by `rests_if_refused` of LentGuards, as `rests` of
+        // `get_mut` (RestsIfErr in the place of RestsIfNone, and P as `new ≡ self.old`).
+        ensures lends { IfOk result (λ given. lender_of given ≡ self.entry.ghost_name) }
+        ensures answers { IfOk result (λ given. FindsOrTakes (Q.equivalent query.now)
+            (Q.to_key_gives query.now)
+            (hash_of B.BuildHasher B.Hasher.Hasher self.old.builder (Q.hash_input query.now))
+            query.now self.old.state given) }
+        ensures same { IfOk result (λ given. lent_of given ≡ record self.old {
+          state = (lent_of given).state;
+          room = (lent_of given).room;
+        }) }
+    {
+        let hash = self.hash_of(query);
+        match self.begin_load(hash, query) {
+            Ok(None) => Ok(Ok(RefMut {
+                cache: self,
+                query,
+                hash,
+            })),
+            Ok(Some(placeholder)) => Ok(Err(Guard {
+                cache: self,
+                placeholder,
+            })),
+            Err(refusal) => Err(refusal),
+        }
     }
 }
