@@ -1,4 +1,5 @@
 pub mod StepLemmas
+pub mod CallSteps
 pub mod RunLemmas
 pub mod ShownLemmas
 pub mod ReferenceLemmas

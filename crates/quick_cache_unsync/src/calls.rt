@@ -7,6 +7,11 @@ ghost use Rattle.quick_cache_unsync.specs.CacheRun.{RunsCalls};
 ghost use Rattle.quick_cache_unsync.specs.CacheStep.{CacheStep};
 ghost use Rattle.quick_cache_unsync.specs.Touches.{no_touches};
 
+mod looks;
+mod removals;
+mod sizes;
+mod writes;
+
 use crate::cache::Cache;
 use quick_cache_model::{Lifecycle, Refusal, Weighter};
 use std::alloc::Allocator;
