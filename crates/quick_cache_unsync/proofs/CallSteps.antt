@@ -1,24 +1,38 @@
 -- Steps of single calls.
-use Rattle.std.proofs.Common.{Bool, true, false, List, [], Option, Some, None, refl, sym, subst}
-use Rattle.std.specs.Prelude.{IsSome}
+use Rattle.std.proofs.Common.{◌≡◌, ℕ, Bool, true, false, List, [], Option, Some, None, refl, sym, subst}
+use Rattle.std.specs.Prelude.{IsSome, min, ◌^◌, ◌-◌}
 use Rattle.std.specs.Bool.{OnTrue, OnFalse}
 use Rattle.quick_cache_model.specs.declared.refusal.Refusal.{Refusal}
 use Rattle.quick_cache_model.specs.declared.refusal.Refusal.TheVariants.{Memory}
-use Rattle.quick_cache_model.specs.CacheState.{CacheState, Item, UpToOrder}
+use Rattle.quick_cache_model.specs.CacheState.{CacheState, Item, item_count, total_weight}
+use Rattle.quick_cache_model.specs.Removal.{cleared}
 use Rattle.quick_cache_model.specs.Finding.{HasNoItem}
 use Rattle.quick_cache_model.specs.Hooks.{Rules, Hooks, HookCall, RunsHooks}
 use Rattle.quick_cache_model.specs.Lookups.{Sees}
 use Rattle.quick_cache_model.specs.Refusals.{MayRefuse, IsProvided, needs_of_clone}
 use Rattle.quick_cache_shard.specs.Shard.{Wrote, RefusesWrite, HasItem}
 use Rattle.quick_cache_model.specs.Writes.{Insert as insertion}
+use denote.Ref.{Bor}
+use denote.Param.Members.{Shared}
+use Rattle.quick_cache_shard.specs.Predicates.{Answers, IsAnsweredAs}
 use Rattle.quick_cache_calls.specs.declared.call.Call.{Call}
 use Rattle.quick_cache_calls.specs.declared.call.Call.TheVariants.{Insert, Replace, GetMut}
+use Rattle.quick_cache_calls.specs.declared.call.Call.TheVariants.{Counts, Reserve, Clear}
 use Rattle.quick_cache_calls.specs.declared.reply.Reply.TheVariants.{Done, RefusedPair, NotAdmitted}
 use Rattle.quick_cache_calls.specs.declared.reply.Reply.TheVariants.{Flag, Refused}
+use Rattle.quick_cache_calls.specs.declared.reply.Reply.TheVariants.{Counts as Numbers}
 use Rattle.quick_cache_calls.specs.CacheStep.{CacheStep}
 use Rattle.quick_cache_calls.specs.Kinds.{IsLook, MakesRoom, replacement}
 use Rattle.quick_cache_calls.specs.References.{TellsItem}
 use Rattle.quick_cache_unsync.specs.References.{Sets}
+
+-- a predicate that answers as a test does answers so beside a key
+pub tested : {F K V : Type 0} (calls : Shared F (Bor K × (Bor V × Unit {0})) Bool) (keep : F)
+    (keeps : K → V → Bool) → IsAnsweredAs calls keep keeps → (key : K) (shown value : V)
+    (answer : Bool) → shown ≡ value → Answers calls keep key shown answer
+    → answer ≡ keeps key value
+tested calls keep keeps as_test key shown value answer same says =
+    as_test key value answer (subst (λ v. Answers calls keep key v answer) same says)
 
 module _ {K V : Type 0} (old : CacheState K V) where
   -- memory for a clone may be refused
@@ -49,6 +63,53 @@ module _ {K V F M : Type 0} (rules : Rules K V) (equal : K → K → Bool)
       → CacheStep {M = M} rules equal shows_key shows answers old call (Refused Memory) [] old
   refused_room call makes_room =
       CacheStep.refuses_room call Memory makes_room (clone_refused old)
+
+  -- room was made, or refused, and the state is as it was
+  pub reserved : (count : ℕ) (new : CacheState K V) → new ≡ old
+      → CacheStep {M = M} rules equal shows_key shows answers old (Reserve count) Done [] new
+  reserved count new same =
+      subst (λ state. CacheStep {M = M} rules equal shows_key shows answers old (Reserve count) Done
+      [] state) (sym same) (CacheStep.reserves count)
+
+  pub refused_reserve : (count : ℕ) (refusal : Refusal) (new : CacheState K V)
+      → refusal ≡ Memory → new ≡ old
+      → CacheStep {M = M} rules equal shows_key shows answers old (Reserve count) (Refused refusal)
+      [] new
+  refused_reserve count refusal new memory same =
+      subst (λ (x : Refusal × CacheState K V). CacheStep {M = M} rules equal shows_key shows answers
+      old (Reserve count) (Refused x.0) [] x.1) (λ i. (sym memory i, sym same i))
+      (refused_room (Reserve count) (MakesRoom.reserve count))
+
+  -- all was cleared
+  pub clears_all : (new : CacheState K V) → new ≡ cleared old
+      → CacheStep {M = M} rules equal shows_key shows answers old Clear Done [] new
+  clears_all new clears =
+      subst (λ state. CacheStep {M = M} rules equal shows_key shows answers old Clear Done [] state)
+      (sym clears) CacheStep.clears
+
+  -- the numbers of the cache were told
+  pub counted : (len weight capacity hits misses : ℕ) → len ≡ item_count old
+      → weight ≡ min (total_weight old) (2 ^ 64 - 1) → capacity ≡ old.capacity → hits ≡ old.hits
+      → misses ≡ old.misses
+      → CacheStep {M = M} rules equal shows_key shows answers old Counts
+      (Numbers len weight capacity hits misses) [] old
+  counted len weight capacity hits misses is_len is_weight is_capacity is_hits is_misses =
+      subst (λ (n : ℕ × ℕ × ℕ × ℕ × ℕ). CacheStep {M = M} rules equal shows_key shows answers old
+      Counts (Numbers n.0 n.1 n.2 n.3 n.4) [] old)
+      (λ i. (
+        sym is_len i,
+        sym is_weight i,
+        sym is_capacity i,
+        sym is_hits i,
+        sym is_misses i,
+      )) CacheStep.counts
+
+  pub refused_as_room : (call : Call K V F) → MakesRoom call → (refusal : Refusal)
+      → refusal ≡ Memory
+      → CacheStep {M = M} rules equal shows_key shows answers old call (Refused refusal) [] old
+  refused_as_room call makes_room refusal memory =
+      subst (λ cause. CacheStep {M = M} rules equal shows_key shows answers old call
+      (Refused cause) [] old) (sym memory) (refused_room call makes_room)
 
   -- a value that was written through `get_mut`
   pub set : (key : K) (value : V) (there : Bool) (new : CacheState K V)

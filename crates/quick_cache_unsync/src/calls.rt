@@ -10,6 +10,7 @@ ghost use Rattle.quick_cache_unsync.specs.Touches.{no_touches};
 mod looks;
 mod removals;
 mod sizes;
+mod walks;
 mod writes;
 
 use crate::cache::Cache;

@@ -1,7 +1,7 @@
 //! Calls that take items out, each with its reply.
 ghost use Rattle.std.specs.Prelude.{◌≡◌, [], Bool};
 ghost use Rattle.quick_cache_calls.specs.CacheStep.{CacheStep};
-ghost use Rattle.quick_cache_shard.specs.Predicates.{IsAnsweredAs};
+ghost use Rattle.quick_cache_shard.specs.Predicates.{Answers, IsAnsweredAs};
 ghost use Rattle.quick_cache_shard.specs.Shard.{rules_of};
 ghost use Rattle.quick_cache_unsync.specs.Touches.{no_touches};
 
@@ -54,7 +54,11 @@ pub(crate) fn remove_if<
         cache.new.state }
     ensures same { cache.new ≡ record cache.old { state = cache.new.state; room = cache.new.room } }
 {
-    Reply::Pair(cache.remove_if(&key, |value| wanted(&key, value)))
+    let is_wanted = |value: &V| -> bool
+        requires { F.IsAlwaysCallable wanted }
+        ensures { Answers F.Fn wanted key value.now result }
+    { wanted(&key, value) };
+    Reply::Pair(cache.remove_if(&key, is_wanted))
 }
 
 /// Drops the items that the predicate does not keep.
