@@ -21,9 +21,10 @@ returns-in-Show g c =
     c.look.ensures.shows))
 
 -- any other command asks for a call
-pub make_call-reply-requires-asks : goal.make_call-reply-requires-asks
-make_call-reply-requires-asks g c =
-    asks_call c.args.command c.in_default.not-Cache c.in_default-command.not-Show
+pub make_call-reply-requires : goal.make_call-reply-requires
+make_call-reply-requires g c = record {
+  asks = asks_call c.args.command c.in_default.not-Cache c.in_default-command.not-Show;
+}
 
 -- a call was made
 pub returns : goal.returns
