@@ -149,9 +149,11 @@ IsLineOf-alone line lacks command is = go (numbers_of command) is.2
   where
     go : (numbers : List ℕ) → AreNumbers is.0 numbers
         → (line ≡ name_of command) × ([] ≡ numbers)
-    go [] none =
-        (is.1 ∙ ap (λ (words : List ℕ). name_of command ++ words) none
-        ∙ append-nil (name_of command), refl)
+    go [] none = (
+      is.1 ∙ ap (λ (words : List ℕ). name_of command ++ words) none
+          ∙ append-nil (name_of command),
+      refl,
+    )
     go (number ∷ numbers) are =
         absurd (spaced-has_space (name_of command) (are.0 ++ are.1)
         (subst LacksSpace (is.1 ∙ ap (λ (words : List ℕ). name_of command ++ words) are.4) lacks))
@@ -166,29 +168,29 @@ HasNumbers-alone line command has = (
 )
 
 module _ (line name words : List ℕ) (split : line ≡ spaced name words) (lacks : LacksSpace name)
-    where
-  -- a line that is split at its first space is a name and numbers behind it
-  pub IsLineOf-split : (command : Command) → IsLineOf line command
-      → (name ≡ name_of command) × AreNumbers (32 ∷ words) (numbers_of command)
-  IsLineOf-split command is = go (numbers_of command) is.2
-    where
-      go : (numbers : List ℕ) → AreNumbers is.0 numbers
-          → (name ≡ name_of command) × AreNumbers (32 ∷ words) numbers
-      go [] none =
-          absurd (spaced-has_space name words (subst LacksSpace
-          (sym (is.1 ∙ ap (λ (more : List ℕ). name_of command ++ more) none
-          ∙ append-nil (name_of command)) ∙ split) (name_of-lacks_space command)))
-      go (number ∷ numbers) are =
-          let same = spaced-same name words (name_of command) (are.0 ++ are.1) lacks
-          (name_of-lacks_space command)
-          (sym split ∙ is.1 ∙ ap (λ (more : List ℕ). name_of command ++ more) are.4) in
-          (same.0, (are.0, are.1, are.2, are.3, ap (λ (more : List ℕ). 32 ∷ more) same.1))
+  where
+    -- a line that is split at its first space is a name and numbers behind it
+    pub IsLineOf-split : (command : Command) → IsLineOf line command
+        → (name ≡ name_of command) × AreNumbers (32 ∷ words) (numbers_of command)
+    IsLineOf-split command is = go (numbers_of command) is.2
+      where
+        go : (numbers : List ℕ) → AreNumbers is.0 numbers
+            → (name ≡ name_of command) × AreNumbers (32 ∷ words) numbers
+        go [] none =
+            absurd (spaced-has_space name words (subst LacksSpace
+            (sym (is.1 ∙ ap (λ (more : List ℕ). name_of command ++ more) none
+            ∙ append-nil (name_of command)) ∙ split) (name_of-lacks_space command)))
+        go (number ∷ numbers) are =
+            let same = spaced-same name words (name_of command) (are.0 ++ are.1) lacks
+            (name_of-lacks_space command)
+            (sym split ∙ is.1 ∙ ap (λ (more : List ℕ). name_of command ++ more) are.4) in
+            (same.0, (are.0, are.1, are.2, are.3, ap (λ (more : List ℕ). 32 ∷ more) same.1))
 
-  -- and the other way round
-  pub IsLineOf-joined : (command : Command) → name ≡ name_of command
-      → AreNumbers (32 ∷ words) (numbers_of command) → IsLineOf line command
-  IsLineOf-joined command named are =
-      (32 ∷ words, split ∙ ap (λ (n : List ℕ). spaced n words) named, are)
+    -- and the other way round
+    pub IsLineOf-joined : (command : Command) → name ≡ name_of command
+        → AreNumbers (32 ∷ words) (numbers_of command) → IsLineOf line command
+    IsLineOf-joined command named are =
+        (32 ∷ words, split ∙ ap (λ (n : List ℕ). spaced n words) named, are)
 
 -- a number has no space
 pub IsNumber-lacks_space : (word : List ℕ) (number : ℕ) → IsNumber word number → LacksSpace word
@@ -247,9 +249,13 @@ module _ (words first second : List ℕ) (split : words ≡ spaced first second)
   -- and two numbers stand there
   pub AreNumbers-of_two : (one other : ℕ) → IsNumber first one → IsNumber second other
       → AreNumbers (32 ∷ words) (one ∷ other ∷ [])
-  AreNumbers-of_two one other is also =
-      (first, 32 ∷ second, is, AreNumbers-of_one second other also,
-      ap (λ (more : List ℕ). 32 ∷ more) split)
+  AreNumbers-of_two one other is also = (
+    first,
+    32 ∷ second,
+    is,
+    AreNumbers-of_one second other also,
+    ap (λ (more : List ℕ). 32 ∷ more) split,
+  )
 
 -- behind two words of a command's line stands nothing more
 pub AreNumbers-last : (words : List ℕ) (command : Command) (number : ℕ) (numbers : List ℕ)

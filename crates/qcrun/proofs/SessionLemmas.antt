@@ -1,5 +1,5 @@
 -- What a session owes for a command, from what its parts did.
-use Rattle.std.proofs.Common.{◌≡◌, ℕ, List, Option, Some, None, Vec, refl}
+use Rattle.std.proofs.Common.{◌≡◌, ℕ, List, Option, Some, Vec, refl}
 use Rattle.std.specs.Prelude.{IsSome}
 use Rattle.std.specs.declared.alloc.Global.{Global}
 use Rattle.quick_cache_model.specs.Hooks.{Rules, HookCall}

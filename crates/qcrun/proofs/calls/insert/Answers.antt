@@ -1,4 +1,4 @@
-use Rattle.std.proofs.Common.{[], refl}
+use Rattle.std.proofs.Common.{[]}
 use Rattle.quick_cache_calls.specs.CacheStep.{CacheStep}
 use Rattle.qcrun.proofs.calls.insert.Goals as goal
 
@@ -7,8 +7,11 @@ returns-in-Ok-clause-serves g c =
     let wrote = c.in-Ok.ensures.inserts in
     record {
       calls = wrote.step.calls;
-      holds = (CacheStep.inserts c.args.key c.args.value wrote.step.calls _ wrote.provided
-          (wrote.step.holds.0 tt), tt);
+      holds = (
+        CacheStep.inserts c.args.key c.args.value wrote.step.calls _ wrote.provided
+            (wrote.step.holds.0 tt),
+        tt,
+      );
       runs = wrote.step.runs;
     }
 

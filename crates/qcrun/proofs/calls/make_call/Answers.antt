@@ -17,9 +17,15 @@ returns-in-Get-clause-serves g c =
     (sym c.copied.ensures) c.get.follows.holds-at-none.0 in
     record {
       calls = [];
-      holds = rw c.in-Get.is (call.Get c.in-Get.key, refl,
-          (CacheStep.gets c.in-Get.key c.copied.result c.copied.result _ looks
-          (IsShown-itself c.copied.result), tt));
+      holds = rw c.in-Get.is (
+        call.Get c.in-Get.key,
+        refl,
+        (
+          CacheStep.gets c.in-Get.key c.copied.result c.copied.result _ looks
+              (IsShown-itself c.copied.result),
+          tt,
+        ),
+      );
       runs = refl;
     }
 
@@ -32,25 +38,37 @@ returns-in-Peek-clause-serves g c =
     of answer) (sym c.copied-in-Peek.ensures) c.peek.ensures.sees in
     record {
       calls = [];
-      holds = rw c.in-Peek.is (call.Peek c.in-Peek.key, refl,
-          (CacheStep.peeks c.in-Peek.key found found sees (IsShown-itself found), tt));
+      holds = rw c.in-Peek.is (
+        call.Peek c.in-Peek.key,
+        refl,
+        (CacheStep.peeks c.in-Peek.key found found sees (IsShown-itself found), tt),
+      );
       runs = refl;
     }
 
 pub returns-in-Remove-clause-serves : goal.returns-in-Remove-clause-serves
 returns-in-Remove-clause-serves g c = record {
   calls = [];
-  holds = rw c.in-Remove.is (call.Remove c.in-Remove.key, refl,
-      (CacheStep.removes c.in-Remove.key c.remove.result _ c.remove.ensures.removes, tt));
+  holds = rw c.in-Remove.is (
+    call.Remove c.in-Remove.key,
+    refl,
+    (CacheStep.removes c.in-Remove.key c.remove.result _ c.remove.ensures.removes, tt),
+  );
   runs = refl;
 }
 
 pub returns-in-RemoveIf-clause-serves : goal.returns-in-RemoveIf-clause-serves
 returns-in-RemoveIf-clause-serves g c = record {
   calls = [];
-  holds = rw c.in-RemoveIf.is (call.RemoveIf c.in-RemoveIf.key c.in-RemoveIf.value, refl,
-      (CacheStep.removes_if c.in-RemoveIf.key c.in-RemoveIf.value c.remove_value.result _
-      c.remove_value.ensures.removes, tt));
+  holds = rw c.in-RemoveIf.is (
+    call.RemoveIf c.in-RemoveIf.key c.in-RemoveIf.value,
+    refl,
+    (
+      CacheStep.removes_if c.in-RemoveIf.key c.in-RemoveIf.value c.remove_value.result _
+          c.remove_value.ensures.removes,
+      tt,
+    ),
+  );
   runs = refl;
 }
 
@@ -60,26 +78,40 @@ returns-in-Set-clause-serves g c =
     let sets = c.set.ensures.sets in
     record {
       calls = [];
-      holds = rw c.in-Set.is (call.GetMut c.in-Set.key c.in-Set.value, refl,
-          (CacheStep.gets_mut c.in-Set.key c.in-Set.value sets.found c.set.result sets.mid _
-          sets.looks sets.writes, tt));
+      holds = rw c.in-Set.is (
+        call.GetMut c.in-Set.key c.in-Set.value,
+        refl,
+        (
+          CacheStep.gets_mut c.in-Set.key c.in-Set.value sets.found c.set.result sets.mid _
+              sets.looks sets.writes,
+          tt,
+        ),
+      );
       runs = refl;
     }
 
 pub returns-in-Poke-clause-serves : goal.returns-in-Poke-clause-serves
 returns-in-Poke-clause-serves g c = record {
   calls = [];
-  holds = rw c.in-Poke.is (call.PeekMut c.in-Poke.key c.in-Poke.value, refl,
-      (CacheStep.peeks_mut c.in-Poke.key c.in-Poke.value c.poke.result _ c.poke.ensures.writes,
-      tt));
+  holds = rw c.in-Poke.is (
+    call.PeekMut c.in-Poke.key c.in-Poke.value,
+    refl,
+    (
+      CacheStep.peeks_mut c.in-Poke.key c.in-Poke.value c.poke.result _ c.poke.ensures.writes,
+      tt,
+    ),
+  );
   runs = refl;
 }
 
 pub returns-in-Stats-clause-serves : goal.returns-in-Stats-clause-serves
 returns-in-Stats-clause-serves g c = record {
   calls = [];
-  holds = rw c.in-Stats.is (call.Stats c.in-Stats.key, refl,
-      (CacheStep.tells_reads c.in-Stats.key c.reads.result c.reads.ensures.sees, tt));
+  holds = rw c.in-Stats.is (
+    call.Stats c.in-Stats.key,
+    refl,
+    (CacheStep.tells_reads c.in-Stats.key c.reads.result c.reads.ensures.sees, tt),
+  );
   runs = refl;
 }
 
@@ -96,8 +128,11 @@ returns-in-Capacity-clause-serves g c =
     let set = c.set_capacity_with_lifecycle.ensures.sets in
     record {
       calls = set.calls;
-      holds = rw c.in-Capacity.is (call.SetCapacity c.in-Capacity.weight, refl,
-          (CacheStep.sets_capacity c.in-Capacity.weight set.calls _ (set.holds.0 tt), tt));
+      holds = rw c.in-Capacity.is (
+        call.SetCapacity c.in-Capacity.weight,
+        refl,
+        (CacheStep.sets_capacity c.in-Capacity.weight set.calls _ (set.holds.0 tt), tt),
+      );
       runs = set.runs;
     }
 

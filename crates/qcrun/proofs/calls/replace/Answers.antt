@@ -6,8 +6,11 @@ returns-in-Ok-clause-serves g c =
     let wrote = c.in-Ok.ensures.replaces in
     record {
       calls = wrote.step.calls;
-      holds = (CacheStep.replaces c.args.key c.args.value c.args.soft wrote.step.calls _
-          (wrote.step.holds.0 tt), tt);
+      holds = (
+        CacheStep.replaces c.args.key c.args.value c.args.soft wrote.step.calls _
+            (wrote.step.holds.0 tt),
+        tt,
+      );
       runs = wrote.step.runs;
     }
 
@@ -17,7 +20,10 @@ returns-in-Err-clause-serves g c =
     let wrote = c.in-Err.ensures.replaces in
     record {
       calls = wrote.step.calls;
-      holds = (CacheStep.gives_back c.args.key c.args.value c.args.soft
-          (c.in-Err.key, c.in-Err.value) wrote.step.calls _ (wrote.step.holds.0 tt), tt);
+      holds = (
+        CacheStep.gives_back c.args.key c.args.value c.args.soft
+            (c.in-Err.key, c.in-Err.value) wrote.step.calls _ (wrote.step.holds.0 tt),
+        tt,
+      );
       runs = wrote.step.runs;
     }

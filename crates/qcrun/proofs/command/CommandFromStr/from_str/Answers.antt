@@ -1,4 +1,4 @@
-use Rattle.std.proofs.Common.{◌≡◌, ℕ, List, [], ◌∷◌, None, Some, sym, ap, subst, ◌∙◌, arith}
+use Rattle.std.proofs.Common.{ℕ, List, [], ◌∷◌, None, Some, sym, ap, subst, ◌∙◌, arith}
 use Rattle.std.proofs.lemmas.Str.Pattern.{split_parts}
 use Rattle.qcrun.specs.Commands.{AreNumbers, HasNumbers, IsLineOf, numbers_of}
 use Rattle.qcrun.proofs.CommandLemmas.{IsOkExactly-as, IsOkExactly-err, IsLineOf-split}
@@ -90,8 +90,9 @@ returns c =
     (λ command is.
     let split = IsLineOf-split _ _ _ parts.0 parts.1 command is in
     let two = AreNumbers-two _ _ _ words.0 words.1 (numbers_of command) split.1 in
-    let last = AreNumbers-last _ command two.0 two.1 two.4 two.3 in
-    (split.0,
-    (λ i. (first.1 ∙ two.2.1) i ∷ (second.1 ∙ last.1.1) i ∷ [])
-    ∙ ap (λ (ns : List ℕ). two.0 ∷ ns) (sym last.2) ∙ sym two.4))
+    let last = AreNumbers-last _ command two.0 two.1 two.4 two.3 in (
+      split.0,
+      (λ i. (first.1 ∙ two.2.1) i ∷ (second.1 ∙ last.1.1) i ∷ [])
+          ∙ ap (λ (ns : List ℕ). two.0 ∷ ns) (sym last.2) ∙ sym two.4,
+    ))
     c.with_numbers.ensures
