@@ -15,13 +15,13 @@ use std::mem::swap;
 pub struct Resident<K, V, T> {
     mark: u8,
     queue: Queue,
+    weight: u32,
     // What readers counted since the cache last took it in.
     touch: T,
     // A look-up touches what stands from here on up to the value, so it stands together.
     reads: u64,
     key: K,
     value: V,
-    weight: u64,
 }
 
 impl<K, V, T> Model for Resident<K, V, T> {
@@ -54,7 +54,7 @@ impl<K, V, T> Resident<K, V, T> {
         Resident {
             key,
             value,
-            weight,
+            weight: weight as u32,
             mark,
             reads: 0,
             queue,
@@ -78,7 +78,7 @@ impl<K, V, T> Resident<K, V, T> {
     pub fn weight(&self) -> u64
         ensures { result ≡ self.now.weight }
     {
-        self.weight
+        u64::from(self.weight)
     }
 
     pub fn mark(&self) -> u8
@@ -145,14 +145,14 @@ impl<K, V, T> Resident<K, V, T> {
     {
         self.queue = queue;
         self.mark = mark;
-        self.weight = weight;
+        self.weight = weight as u32;
     }
 
     /// Takes another weight.
     pub(crate) fn set_weight(&mut self, weight: u64)
         ensures { self.new ≡ with_weight weight self.old }
     {
-        self.weight = weight;
+        self.weight = weight as u32;
     }
 
     /// Takes the count of touches, which begins anew.

@@ -12,7 +12,7 @@ use groups::{MOST_PAIRS, Place, capacity, groups_for};
 use quick_cache_model::{Refusal, Token};
 use std::alloc::{Allocator, Global};
 use std::marker::Model;
-pub use tokens::Tokens;
+pub use tokens::{Tags, Tokens};
 use walk::{Walk, position_of};
 
 /// A set of pairs of a hash and a token.
@@ -26,6 +26,7 @@ pub struct Table<A: Allocator = Global> {
     // The tag of each place, or 0 where it is free.
     tags: Vec<u8, A>,
     places: Vec<Place, A>,
+    tokens: Vec<u32, A>,
     // For each group, how far from it the pairs are whose home it is.
     reaches: Vec<u32, A>,
     // One less than how many groups there are.
@@ -71,12 +72,16 @@ impl<A: Allocator> Table<A> {
         let Ok(for_tags) = alloc.clone() else {
             return Err(Refusal::Memory);
         };
+        let Ok(for_tokens) = alloc.clone() else {
+            return Err(Refusal::Memory);
+        };
         let Ok(for_reaches) = alloc.clone() else {
             return Err(Refusal::Memory);
         };
         Ok(Table {
             tags: Vec::new(for_tags),
             places: Vec::new(alloc),
+            tokens: Vec::new(for_tokens),
             reaches: Vec::new(for_reaches),
             mask: 0,
             len: 0,
@@ -134,6 +139,11 @@ impl<A: Allocator> Table<A> {
         }
         let count = groups_for(self.len + wanted);
         groups::grow(&mut self.tags, &mut self.places, &mut self.reaches, count)?;
+        self.tokens.clear();
+        let _ = self.tokens.resize(count * 16, 0);
+        for i in 0..self.places.len() {
+            self.tokens[i] = self.places[i].token;
+        }
         self.mask = count - 1;
         Ok(())
     }
@@ -148,7 +158,7 @@ impl<A: Allocator> Table<A> {
         ensures room { self.new.room + 1 ≡ self.old.room }
         ensures allocated { self.new.allocated ≡ self.old.allocated }
     {
-        groups::take_place(
+        let position = groups::take_place(
             self.tags.as_mut_slice(),
             self.places.as_mut_slice(),
             self.reaches.as_mut_slice(),
@@ -156,6 +166,7 @@ impl<A: Allocator> Table<A> {
             hash,
             token.get(),
         );
+        self.tokens[position] = token.get();
         self.len += 1;
     }
 
@@ -225,6 +236,19 @@ impl<A: Allocator> Table<A> {
             }
         }
         None
+    }
+
+    #[inline(always)]
+    pub fn iter_tag(&self, hash: u64) -> Tags<'_>
+    {
+        let walk = Walk::new(
+            self.tags.as_slice(),
+            self.places.as_slice(),
+            self.reaches.as_slice(),
+            self.mask,
+            hash,
+        );
+        Tags { walk, tokens: self.tokens.as_slice() }
     }
 
     /// Removes every pair. The room and the memory stay.

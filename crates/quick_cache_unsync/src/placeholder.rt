@@ -33,7 +33,7 @@ impl Touches for NoTouches {
 pub struct Placeholder {
     hash: u64,
     idx: Token,
-    ticket: u64,
+    ticket: u32,
 }
 
 impl<K: Eq + Hash> SharedPlaceholder<K> for Placeholder {
@@ -52,7 +52,7 @@ impl<K: Eq + Hash> SharedPlaceholder<K> for Placeholder {
         ensures idx { IfOk result (λ made. made.idx ≡ idx) }
         ensures ticket { IfOk result (λ made. made.ticket ≡ ticket) }
     {
-        Ok(Placeholder { hash, idx, ticket })
+        Ok(Placeholder { hash, idx, ticket: ticket as u32 })
     }
 
     fn same_as(&self, other: &Self) -> bool {

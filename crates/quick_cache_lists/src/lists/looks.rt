@@ -49,7 +49,7 @@ impl<K, V, P, T, A: Allocator> Lists<K, V, P, T, A> {
             (HasNoItem (Q.equivalent query.now) hash self.now)
             (λ token. FindsItem (Q.equivalent query.now) hash self.now (number token)) }
     {
-        let mut tokens = self.table.iter_hash(hash);
+        let mut tokens = self.table.iter_tag(hash);
         // Nearly always the first is the one that is sought.
         let first = tokens.next()?;
         let (slot, _) = unsafe { self.slab.get_unchecked(first) };

@@ -150,17 +150,12 @@ pub(crate) fn take_place(
     mask: usize,
     hash: u64,
     token: u32,
-)
-    requires whole { IsWhole tags.old places.old reaches.old mask }
-    requires token { 0 < token }
-    requires room { 0 < count_by is_free places.old }
-    ensures whole { IsWhole tags.new places.new reaches.new mask }
-    ensures gains { HasOneMore places.old places.new hash token }
-    ensures groups { length reaches.new ≡ length reaches.old }
+) -> usize
 {
     let position = untagged(tags, mask, home_of(hash, mask));
     tag_place(tags, reaches, mask, hash, position);
     places[position] = Place::new(hash, token);
+    position
 }
 
 // Houses the pair at that position, where it has no tag, and each that makes room for the one

@@ -40,3 +40,19 @@ impl<'a> Iterator for Tokens<'a> {
 }
 
 impl<'a> FusedIterator for Tokens<'a> {}
+
+#[derive(Drop)]
+pub struct Tags<'a> {
+    pub(crate) walk: Walk<'a>,
+    pub(crate) tokens: &'a [u32],
+}
+
+impl<'a> Iterator for Tags<'a> {
+    type Item = Token;
+
+    #[inline(always)]
+    fn next(&mut self) -> Option<Token> {
+        let position = self.walk.next_tagged()?;
+        Some(unsafe { Token::new_unchecked(self.tokens[position]) })
+    }
+}

@@ -115,6 +115,28 @@ impl<'a> Walk<'a> {
         None
     }
 
+    #[inline(always)]
+    pub(crate) fn next_tagged(&mut self) -> Option<usize>
+    {
+        if self.lanes != 0 {
+            let lane = self.lanes.trailing_zeros() as usize;
+            let position = LANES * (self.home ^ self.step) + lane;
+            self.lanes &= self.lanes - 1;
+            return Some(position);
+        }
+        while self.step < self.reach() {
+            self.step += 1;
+            self.lanes = lanes_of(self.tags, self.home ^ self.step, tag_of(self.hash));
+            if self.lanes != 0 {
+                let lane = self.lanes.trailing_zeros() as usize;
+                let position = LANES * (self.home ^ self.step) + lane;
+                self.lanes &= self.lanes - 1;
+                return Some(position);
+            }
+        }
+        None
+    }
+
     /// The position of the next pair of the hash.
     #[inline(always)]
     pub(crate) fn next_position(&mut self) -> Option<usize>
