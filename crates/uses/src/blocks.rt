@@ -1,5 +1,5 @@
 //! A block cache: a block that someone still holds is pinned, and stays.
-ghost use Rattle.std.specs.Prelude.{◌≡◌, ⊥};
+ghost use Rattle.std.specs.Prelude.{◌≡◌};
 
 use quick_cache_unsync::{Cache, DefaultHashBuilder, Lifecycle, Refusal, UnitWeighter};
 use std::alloc::Global;
