@@ -36,10 +36,10 @@ fn shard(rt: HostRuntime) -> Result<(), Fail> {
     let mut cache: Cache<u64, u64> = Cache::new(rt.alloc(), 100)?;
     cache.insert(1, 10)?;
     cache.get(&1);
-    let mut marks = 0;
+    let mut marks = 0u64;
     for (key, value, mark) in cache.shard().iter_hot() {
         assert_eq!(rt; (*key, *value, mark), (1, 10, 1));
-        marks += 1;
+        marks = marks.saturating_add(1);
     }
     assert_eq!(rt; marks, 1);
     assert_eq!(rt;
