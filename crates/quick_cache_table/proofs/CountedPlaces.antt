@@ -5,7 +5,7 @@ use Rattle.std.proofs.lemmas.Bool.Decides.{eqb_tells}
 use Rattle.std.proofs.lemmas.Bool.{eqb-true, lt-ltb, eq-eqb}
 use Rattle.std.proofs.lemmas.List.{length-set}
 use Rattle.std.proofs.lemmas.List.Sums.{sum_by-cons, sum_by-set}
-use Rattle.quick_cache_table.specs.declared.table.groups.Place.{Place}
+use Rattle.quick_cache_table.specs.Places.{Place}
 use Rattle.quick_cache_table.specs.Table.{is_pair}
 use Rattle.quick_cache_table.specs.TableGroups.{hash_at, is_free, place_pair, pairs_of, holds_pair, place_at, empty_place, HasOneMore, tokens_at}
 

@@ -2,7 +2,7 @@
 use Rattle.std.proofs.Common.{◌≡◌, ◌≢◌, ℕ, ◌+◌, ◌-◌, ◌*◌, ◌/◌, ◌%◌, ◌<◌, ◌≤◌, false, List, length, get_or, set, refl, sym, ap, subst, ◌∙◌, inl, inr, arith}
 use Rattle.std.specs.Int.Bits.{bit_xor}
 use Rattle.std.proofs.lemmas.List.{length-set}
-use Rattle.quick_cache_table.specs.declared.table.groups.Place.{Place}
+use Rattle.quick_cache_table.specs.Places.{Place}
 use Rattle.quick_cache_table.specs.TableGroups.{hash_at, is_free, holds_pair, place_at, empty_place, home_of, distance, HasOneMore}
 use Rattle.quick_cache_table.proofs.Distances.{xor-back}
 use Rattle.quick_cache_table.proofs.CountedPlaces.{equal_or_not, bit, count_by-set, length-pairs_of, holds_pair-free, holds_pair-taken}

@@ -4,7 +4,7 @@ use Rattle.std.proofs.lemmas.Nat.{xor_block}
 use Rattle.std.proofs.Math.Nat.{pow-suc}
 use Rattle.std.proofs.lemmas.List.Sums.{sum_by_more}
 use Rattle.std.proofs.Math.Seq.{take-length}
-use Rattle.quick_cache_table.specs.declared.table.groups.Place.{Place}
+use Rattle.quick_cache_table.specs.Places.{Place}
 use Rattle.quick_cache_table.specs.TableGroups.{place_at, empty_place, positions_from, group_positions, positions_along}
 use Rattle.quick_cache_table.proofs.CountedPlaces.{bit, weigh}
 

@@ -10,7 +10,7 @@ use Rattle.std.proofs.Math.Pow.{pow-lt}
 use Rattle.std.specs.Simd.Lanes.{chunk, mask_l}
 use Rattle.std.proofs.lemmas.Simd.{mask_l-lt, bit_mask_l, length-chunk, get_or-chunk}
 use Rattle.std.proofs.lemmas.List.{get_or-map, length-map}
-use Rattle.quick_cache_table.specs.declared.table.groups.Place.{Place}
+use Rattle.quick_cache_table.specs.Places.{Place}
 use Rattle.quick_cache_table.specs.TableGroups.{tag_of, token_of, tokens_at, positions_from, group_positions, lane_positions}
 use Rattle.quick_cache_table.proofs.CountedPlaces.{bool_tells, bit}
 

@@ -1,15 +1,15 @@
 -- Pairs that move, and a list of places that grows: each pair keeps its tag and its reach.
-use Rattle.std.proofs.Common.{◌≡◌, ◌≢◌, ℕ, ◌+◌, ◌-◌, ◌*◌, ◌^◌, ◌<◌, ◌≤◌, Bool, true, cond, List, ◌++◌, length, replicate, take, get_or, set, refl, sym, ap, subst, ◌∙◌, inl, inr, arith}
+use Rattle.std.proofs.Common.{◌≡◌, ◌≢◌, ℕ, ◌+◌, ◌-◌, ◌*◌, ◌^◌, ◌<◌, ◌≤◌, List, ◌++◌, length, replicate, get_or, set, refl, sym, ap, subst, ◌∙◌, inl, inr, arith}
 use Rattle.std.specs.Int.{IsPowerOfTwo}
 use Rattle.std.specs.Int.Bits.{bit_and}
 use Rattle.std.specs.List.{swap}
 use Rattle.std.proofs.lemmas.Bool.Decides.{leb_tells}
-use Rattle.std.proofs.lemmas.List.{length-set, length-append, length-replicate, get_or_past, take_all, get_or-set_same, get_or-set_other}
+use Rattle.std.proofs.lemmas.List.{length-set, length-append, length-replicate, get_or_past, get_or-set_same, get_or-set_other}
 use Rattle.std.proofs.lemmas.List.Edits.{length-swap, swapped_from_swap}
 use Rattle.std.proofs.lemmas.List.Folds.{sum_by-replicate}
 use Rattle.std.proofs.lemmas.List.Sorted.{IsPermutation-swap, sum_by-IsPermutation}
 use Rattle.std.proofs.lemmas.List.Sums.{sum_by-append}
-use Rattle.quick_cache_table.specs.declared.table.groups.Place.{Place}
+use Rattle.quick_cache_table.specs.Places.{Place}
 use Rattle.quick_cache_table.specs.TableGroups.{hash_at, is_free, tag_of, holds_pair, place_at, empty_place, IsReached, IsHoused, IsHousedAt, IsBareBelow, HasSamePairs, ReachesGrow}
 use Rattle.quick_cache_table.proofs.PowersOfTwo.{IsPowerOfTwo-pos}
 use Rattle.quick_cache_table.proofs.CountedPlaces.{bit, equal_or_not, length-pairs_of}
@@ -165,18 +165,10 @@ HasSamePairs-free places n =
           );
     }
 
--- a list of places that was filled up, as a call that answered so leaves it, has the same pairs
-pub HasSamePairs-filled : (old reserved new : List Place) (filled : Bool) (count n : ℕ)
-    → reserved ≡ old → length old ≤ count → filled ≡ true
-    → new ≡ cond filled (take count reserved ++ replicate n empty_place) reserved
+-- a list of places that was filled up has the same pairs
+pub HasSamePairs-filled : (old new : List Place) (n : ℕ) → new ≡ old ++ replicate n empty_place
     → HasSamePairs old new
-HasSamePairs-filled old reserved new filled count n kept few done is =
-    let free = replicate n empty_place in
-    let whole : take count reserved ≡ old = ap (take count) kept ∙ take_all count old few in
-    let all =
-    is ∙ ap (λ b. cond b (take count reserved ++ free) reserved) done ∙ ap (λ xs. xs ++ free)
-    whole in
-    subst (HasSamePairs old) (sym all) (HasSamePairs-free old n)
+HasSamePairs-filled old new n is = subst (HasSamePairs old) (sym is) (HasSamePairs-free old n)
 
 -- numbers that are 0 at each position are 0 past them, too
 pub zero_past : (xs : List ℕ) (n : ℕ) → length xs ≡ n → ((k : ℕ) → k < n → get_or xs k 0 ≡ 0)

@@ -6,6 +6,7 @@ pub mod GroupLanes
 pub mod HousedPairs
 pub mod NearestFreePlace
 pub mod PairOrder
+pub mod PairedLists
 pub mod PowersOfTwo
 pub mod SearchAlongTokens
 pub mod ShownPairs

@@ -7,7 +7,7 @@ use Rattle.std.proofs.lemmas.Bool.{eqb-true, eqb-false, eq-eqb}
 use Rattle.std.proofs.lemmas.Bool.Decides.{leb_tells}
 use Rattle.std.proofs.lemmas.List.Sums.{get_or-le-sum_by, sum_by-cons}
 use Rattle.std.proofs.lemmas.Simd.{none_from_empty_mask}
-use Rattle.quick_cache_table.specs.declared.table.groups.Place.{Place}
+use Rattle.quick_cache_table.specs.Places.{Place}
 use Rattle.quick_cache_table.specs.TableGroups.{is_free, empty_place, IsHoused}
 use Rattle.quick_cache_table.proofs.Distances.{xor-back, xor-within}
 use Rattle.quick_cache_table.proofs.GroupLanes.{lanes-few, lit-tag, trailing_zeros-IsLowestBit, trailing_zeros-lt}

@@ -3,7 +3,7 @@ use Rattle.std.proofs.Common.{◌≡◌, ℕ, ◌+◌, ◌-◌, ◌<◌, ◌≤�
 use Rattle.std.specs.List.{filter_map, list_any}
 use Rattle.std.proofs.lemmas.Bool.{lt-ltb}
 use Rattle.std.proofs.lemmas.Bool.Decides.{leb_tells}
-use Rattle.quick_cache_table.specs.declared.table.groups.Place.{Place}
+use Rattle.quick_cache_table.specs.Places.{Place}
 use Rattle.quick_cache_table.specs.Table.{Table, in_order, is_pair, has_pair, pair_count, HasPair, AddsPair, RemovesPair, SameOtherPairs, IsTokensOf}
 use Rattle.quick_cache_table.specs.TableGroups.{hash_at, is_free, place_pair, pairs_of, place_at, holds_pair, empty_place, capacity_of, IsWhole, IsSound, HasOneMore, HasSamePairs, AreTokensOf}
 use Rattle.quick_cache_table.proofs.PairOrder.{list_any-in_order, length-in_order, in_order-same}

@@ -10,7 +10,7 @@ use Rattle.std.specs.Simd.Lanes.{chunk, mask_l}
 use Rattle.std.proofs.lemmas.List.{get_or_past}
 use Rattle.std.proofs.lemmas.List.Elements.{filter_map-append}
 use Rattle.std.proofs.lemmas.List.Sums.{sum_by-cons}
-use Rattle.quick_cache_table.specs.declared.table.groups.Place.{Place}
+use Rattle.quick_cache_table.specs.Places.{Place}
 use Rattle.quick_cache_table.specs.declared.table.walk.Walk.{Walk}
 use Rattle.quick_cache_table.specs.TableGroups.{hash_at, is_free, holds_pair, place_at, empty_place, tag_of, home_of, IsHousedAt, IsWhole, token_of, tokens_at, group_positions, lane_positions, positions_along, reach_of, tokens_left, IsWalk, AreTokensOf}
 use Rattle.quick_cache_table.proofs.CountedPlaces.{bool_tells, equal_or_not, bit, weigh, count_by-tokens_at, holds_pair-hash, and_right}
@@ -159,12 +159,12 @@ tokens_at-skip places hash p rest other =
 
 -- a walk that has a lane to look at: the lowest lane's position, and the walk behind it
 pub record LooksAtLane (walk next : Walk) (position : ℕ) : Type 0 where
-  pub inside : position < length walk.places.now
+  pub inside : position < length walk.places
   pub still : IsWalk next
-  pub taken : 0 < (place_at walk.places.now position).token
-  pub take : hash_at (place_at walk.places.now position) ≡ walk.hash
-      → tokens_left walk ≡ (place_at walk.places.now position).token ∷ tokens_left next
-  pub skip : hash_at (place_at walk.places.now position) ≢ walk.hash
+  pub taken : 0 < (place_at walk.places position).token
+  pub take : hash_at (place_at walk.places position) ≡ walk.hash
+      → tokens_left walk ≡ (place_at walk.places position).token ∷ tokens_left next
+  pub skip : hash_at (place_at walk.places position) ≢ walk.hash
       → tokens_left walk ≡ tokens_left next
   pub fewer : next.lanes < walk.lanes
 
@@ -189,12 +189,12 @@ looks_at_lane walk is some =
     let few : walk.lanes < 2 ^ 16 = is.few in
     let group : ℕ = bit_xor walk.home walk.step in
     let behind : List ℕ = positions_along walk.home (walk.step + 1) (reach_of walk - walk.step) in
-    let first : tokens_left walk ≡ tokens_at walk.places.now walk.hash
+    let first : tokens_left walk ≡ tokens_at walk.places walk.hash
     (lane_position walk ∷ (lane_positions group lanes ++ behind)) =
-    ap (λ ps. tokens_at walk.places.now walk.hash (ps ++ behind))
+    ap (λ ps. tokens_at walk.places walk.hash (ps ++ behind))
     (lane_positions-first group walk.lanes some few) in
     let lowest = trailing_zeros-IsLowestBit walk.lanes some (omega arith) in
-    let inside : lane_position walk < length walk.places.now =
+    let inside : lane_position walk < length walk.places =
     omega (arith, is.here some, trailing_zeros-lt walk.lanes some few) in
     let taken =
     is.taken (lane_position walk) inside
@@ -208,16 +208,17 @@ looks_at_lane walk is some =
         lit =
             λ lane set. is.lit lane
             (bit_at-rest walk.lanes (trailing_zeros w64 walk.lanes) lane lowest set);
+        short = is.short;
         tagged = is.tagged;
         taken = is.taken;
         tags = is.tags;
       };
       taken = taken;
       take =
-          λ same. first ∙ tokens_at-take walk.places.now walk.hash (lane_position walk)
+          λ same. first ∙ tokens_at-take walk.places walk.hash (lane_position walk)
           (lane_positions group lanes ++ behind) same taken;
       skip =
-          λ other. first ∙ tokens_at-skip walk.places.now walk.hash (lane_position walk)
+          λ other. first ∙ tokens_at-skip walk.places walk.hash (lane_position walk)
           (lane_positions group lanes ++ behind) (λ same. absurd (other same));
       fewer = omega arith;
     }
@@ -229,11 +230,11 @@ tokens_left-end walk none last =
     let group : ℕ = bit_xor walk.home walk.step in
     let behind : ℕ → List ℕ = λ n. positions_along walk.home (walk.step + 1) n in
     let ended : reach_of walk - walk.step ≡ 0 = omega arith in
-    ap (λ lanes. tokens_at walk.places.now walk.hash
+    ap (λ lanes. tokens_at walk.places walk.hash
     (lane_positions group lanes ++ behind (reach_of walk - walk.step))) none
-    ∙ ap (λ ps. tokens_at walk.places.now walk.hash (ps ++ behind (reach_of walk - walk.step)))
+    ∙ ap (λ ps. tokens_at walk.places walk.hash (ps ++ behind (reach_of walk - walk.step)))
     (lane_positions-none group)
-    ∙ ap (λ n. tokens_at walk.places.now walk.hash (behind n)) ended
+    ∙ ap (λ n. tokens_at walk.places walk.hash (behind n)) ended
 
 -- the walk that reads the next group, with these lanes to look at
 abbrev pub at_next_group : Walk → ℕ → Walk
@@ -256,7 +257,7 @@ reads_next_group-tag : (walk : Walk) → IsWalk walk → walk.lanes ≡ 0 → wa
     → ReadsNextGroup walk
     (mask_l (map (λ t. eqb t (tag_of walk.hash)) (chunk (16 * bit_xor walk.home (walk.step + 1)) 16 walk.tags.now)))
 reads_next_group-tag walk is none more =
-    let places = walk.places.now in
+    let places = walk.places in
     let group : ℕ = bit_xor walk.home walk.step in
     let next : ℕ = bit_xor walk.home (walk.step + 1) in
     let lanes : ℕ =
@@ -272,6 +273,7 @@ reads_next_group-tag walk is none more =
         later = λ step behind within. is.later step (omega arith) within;
         few = few;
         lit = lit-tag walk.tags.now next (tag_of walk.hash) inside;
+        short = is.short;
         tagged = is.tagged;
         taken = is.taken;
         tags = is.tags;
@@ -308,16 +310,16 @@ first_walk walk home lanes = record walk { home = home; step = 0; lanes = lanes 
 -- it has all tokens of its hash to meet
 pub record BeginsWalk (walk : Walk) (home lanes : ℕ) : Type 0 where
   pub still : IsWalk (first_walk walk home lanes)
-  pub all : AreTokensOf walk.places.now walk.hash (tokens_left (first_walk walk home lanes))
+  pub all : AreTokensOf walk.places walk.hash (tokens_left (first_walk walk home lanes))
 
 -- the lanes are those of the tag of the hash
 begins_walk-tag : (walk : Walk) (mask : ℕ)
-    → IsWhole walk.tags.now walk.places.now walk.reaches.now mask → 0 < length walk.reaches.now
+    → IsWhole walk.tags.now walk.places walk.reaches.now mask → 0 < length walk.reaches.now
     → BeginsWalk walk (home_of mask walk.hash)
     (mask_l (map (λ t. eqb t (tag_of walk.hash)) (chunk (16 * home_of mask walk.hash) 16 walk.tags.now)))
 begins_walk-tag walk mask whole some =
     let tags : List ℕ = walk.tags.now in
-    let places = walk.places.now in
+    let places = walk.places in
     let sized = whole.pairs.sized in
     let home : ℕ = home_of mask walk.hash in
     let reach : ℕ = get_or walk.reaches.now home 0 in
@@ -361,6 +363,7 @@ begins_walk-tag walk mask whole some =
         lit =
             λ lane set. ap (λ group. get_or tags (16 * group + lane) 0) here ∙ lit-tag tags home
             (tag_of walk.hash) inside lane set;
+        short = omega (arith, size, sized.few);
         tagged = sized.tagged;
         taken = λ position within tag. (whole.pairs.housed position within tag).taken;
         tags = tagged;
@@ -373,7 +376,7 @@ begins_walk-tag walk mask whole some =
 
 -- and so are those that the code finds
 pub begins_walk : (walk : Walk) (mask home tag lanes : ℕ)
-    → IsWhole walk.tags.now walk.places.now walk.reaches.now mask → 0 < length walk.reaches.now
+    → IsWhole walk.tags.now walk.places walk.reaches.now mask → 0 < length walk.reaches.now
     → home ≡ home_of mask walk.hash → tag ≡ tag_of walk.hash
     → lanes ≡ mask_l (map (λ t. eqb t tag) (chunk (16 * home) 16 walk.tags.now))
     → BeginsWalk walk home lanes

@@ -3,12 +3,12 @@
 use Rattle.std.specs.Prelude.{◌≡◌, ℕ, ◌+◌, ◌-◌, ◌*◌, ◌/◌, ◌^◌, ◌<◌, ◌≤◌, Bool, ◌&&◌, not, ◌==◌, max, min, if◌then◌else◌, List, [], ◌∷◌, zero, suc, length, count_by, filter, filter_map, ◌++◌, Option, Some, None, bit_and, bit_xor, slice_index, slice_index_or}
 use Rattle.std.specs.Int.{IsPowerOfTwo, bit_at}
 use Rattle.quick_cache_table.specs.Table.{is_pair}
-use Rattle.quick_cache_table.specs.declared.table.groups.Place.{Place}
+use Rattle.quick_cache_table.specs.Places.{Place}
 use Rattle.quick_cache_table.specs.declared.table.walk.Walk.{Walk}
 
 -- the hash at a place
 abbrev pub hash_at : Place → ℕ
-hash_at place = place.high * 2 ^ 32 + place.low
+hash_at place = place.hash
 
 -- the place has no pair
 abbrev pub is_free : Place → Bool
@@ -29,7 +29,7 @@ holds_pair hash token place =
 
 -- a place without a pair
 abbrev pub empty_place : Place
-empty_place = record { low = 0; high = 0; token = 0 }
+empty_place = record { hash = 0; token = 0 }
 
 -- the place at a position
 abbrev pub place_at : List Place → ℕ → Place
@@ -166,20 +166,21 @@ positions_left walk =
 
 -- the tokens that a walk has not met
 abbrev pub tokens_left : Walk → List ℕ
-tokens_left walk = tokens_at walk.places.now walk.hash (positions_left walk)
+tokens_left walk = tokens_at walk.places walk.hash (positions_left walk)
 
 -- a walk looks at places that there are and have pairs, and passes none of its hash by
 pub record IsWalk (walk : Walk) : Type 0 where
-  pub here : 0 < walk.lanes → 16 * bit_xor walk.home walk.step + 16 ≤ length walk.places.now
+  pub here : 0 < walk.lanes → 16 * bit_xor walk.home walk.step + 16 ≤ length walk.places
   pub later : (step : ℕ) → walk.step < step → step ≤ reach_of walk
-      → 16 * bit_xor walk.home step + 16 ≤ length walk.places.now
+      → 16 * bit_xor walk.home step + 16 ≤ length walk.places
   pub few : walk.lanes < 2 ^ 16
+  pub short : length walk.places ≤ 2 ^ 33
   pub lit : (lane : ℕ) → bit_at walk.lanes lane ≡ 1
       → slice_index walk.tags.now (16 * bit_xor walk.home walk.step + lane) ≡ tag_of walk.hash
-  pub tagged : length walk.tags.now ≡ length walk.places.now
-  pub taken : (position : ℕ) → position < length walk.places.now
-      → 0 < slice_index walk.tags.now position → 0 < (place_at walk.places.now position).token
-  pub tags : (position token : ℕ) → token_of walk.places.now walk.hash position ≡ Some token
+  pub tagged : length walk.tags.now ≡ length walk.places
+  pub taken : (position : ℕ) → position < length walk.places
+      → 0 < slice_index walk.tags.now position → 0 < (place_at walk.places position).token
+  pub tags : (position token : ℕ) → token_of walk.places walk.hash position ≡ Some token
       → slice_index walk.tags.now position ≡ tag_of walk.hash
 
 -- these are the tokens of the pairs of that hash

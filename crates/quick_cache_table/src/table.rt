@@ -5,10 +5,12 @@ ghost use Rattle.std.specs.Int.NonZero.{non_zero_u32_get};
 ghost use Rattle.quick_cache_table.specs.Table.{HasPair, pair_count, AddsPair, RemovesPair, IsTokensOf, SearchesHash, CallsKeep, FindsByAnswer, ComputesTest, FindsPassing, wanted_room};
 
 pub(crate) mod groups;
+pub(crate) mod places;
 pub(crate) mod tokens;
 pub(crate) mod walk;
 
-use groups::{MOST_PAIRS, Place, capacity, groups_for};
+use groups::{MOST_PAIRS, capacity, groups_for};
+use places::Places;
 use quick_cache_model::{Refusal, Token};
 use std::alloc::{Allocator, Global};
 use std::marker::Model;
@@ -25,7 +27,7 @@ use walk::{Walk, position_of};
 pub struct Table<A: Allocator = Global> {
     // The tag of each place, or 0 where it is free.
     tags: Vec<u8, A>,
-    places: Vec<Place, A>,
+    places: Places<A>,
     // For each group, how far from it the pairs are whose home it is.
     reaches: Vec<u32, A>,
     // One less than how many groups there are.
@@ -47,7 +49,7 @@ impl<A: Allocator> Model for Table<A> {
     ghost view = { λ t. record {
       pairs = in_order (pairs_of t.places.items);
       room = capacity_of (length t.reaches.items) - length (pairs_of t.places.items);
-      allocated = vec_capacity t.tags + 12 * vec_capacity t.places + 4 * vec_capacity t.reaches;
+      allocated = vec_capacity t.tags + t.places.allocated + 4 * vec_capacity t.reaches;
     } };
 
     ghost invariant = { λ t. IsSound t.tags.items t.places.items t.reaches.items t.mask t.len };
@@ -71,12 +73,15 @@ impl<A: Allocator> Table<A> {
         let Ok(for_tags) = alloc.clone() else {
             return Err(Refusal::Memory);
         };
+        let Ok(for_hashes) = alloc.clone() else {
+            return Err(Refusal::Memory);
+        };
         let Ok(for_reaches) = alloc.clone() else {
             return Err(Refusal::Memory);
         };
         Ok(Table {
             tags: Vec::new(for_tags),
-            places: Vec::new(alloc),
+            places: Places::new(for_hashes, alloc),
             reaches: Vec::new(for_reaches),
             mask: 0,
             len: 0,
@@ -96,7 +101,7 @@ impl<A: Allocator> Table<A> {
         ensures { result ≡ min self.now.allocated (2 ^ 64 - 1) }
     {
         let tags = self.tags.capacity();
-        let places = self.places.capacity().saturating_mul(size_of::<Place>());
+        let places = self.places.allocation_size();
         let reaches = self.reaches.capacity().saturating_mul(size_of::<u32>());
         tags.saturating_add(places).saturating_add(reaches)
     }
@@ -150,7 +155,7 @@ impl<A: Allocator> Table<A> {
     {
         groups::take_place(
             self.tags.as_mut_slice(),
-            self.places.as_mut_slice(),
+            &mut self.places,
             self.reaches.as_mut_slice(),
             self.mask,
             hash,
@@ -173,7 +178,7 @@ impl<A: Allocator> Table<A> {
     {
         let walk = Walk::new(
             self.tags.as_slice(),
-            self.places.as_slice(),
+            self.places.seen(),
             self.reaches.as_slice(),
             self.mask,
             hash,
@@ -183,7 +188,7 @@ impl<A: Allocator> Table<A> {
         };
         groups::leave_place(
             self.tags.as_mut_slice(),
-            self.places.as_mut_slice(),
+            &mut self.places,
             self.reaches.as_mut_slice(),
             self.mask,
             position,
@@ -198,7 +203,7 @@ impl<A: Allocator> Table<A> {
     {
         let walk = Walk::new(
             self.tags.as_slice(),
-            self.places.as_slice(),
+            self.places.seen(),
             self.reaches.as_slice(),
             self.mask,
             hash,
@@ -238,7 +243,7 @@ impl<A: Allocator> Table<A> {
         }
         groups::free_all(
             self.tags.as_mut_slice(),
-            self.places.as_mut_slice(),
+            &mut self.places,
             self.reaches.as_mut_slice(),
             self.mask,
         );

@@ -9,6 +9,7 @@ ghost use Rattle.std.specs.Simd.Lanes.{chunk, mask_l};
 ghost use Rattle.std.specs.Int.{IsPowerOfTwo};
 ghost use Rattle.quick_cache_table.specs.TableGroups.{hash_at, is_free, place_at, tag_of as tag_number, home_of as home_number, distance, IsReached, IsGrouped, IsHoused, IsBareBelow, IsWhole, capacity_of, HasOneMore, HasSamePairs, HasPairOf, ReachesGrow, empty_place};
 
+use super::places::{Places, Seen};
 use quick_cache_model::Refusal;
 use std::alloc::Allocator;
 use std::simd::prelude::*;
@@ -20,40 +21,6 @@ pub(crate) const PAIRS_A_GROUP: usize = 14;
 
 // As many pairs as there are tokens.
 pub(crate) const MOST_PAIRS: usize = 4_294_967_294;
-
-/// A place for one pair, its hash in halves, so that it takes 12 bytes and not 16.
-#[derive(Clone, Copy)]
-pub(crate) struct Place {
-    pub(crate) low: u32,
-    pub(crate) high: u32,
-    // 0 where the place is free.
-    pub(crate) token: u32,
-}
-
-impl Place {
-    pub(crate) const FREE: Place = Place {
-        low: 0,
-        high: 0,
-        token: 0,
-    };
-
-    fn new(hash: u64, token: u32) -> Place
-        ensures hash { hash_at result ≡ hash }
-        ensures token { result.token ≡ token }
-    {
-        Place {
-            low: (hash & 0xFFFF_FFFF) as u32,
-            high: (hash >> 32) as u32,
-            token,
-        }
-    }
-
-    pub(crate) fn hash(&self) -> u64
-        ensures { result ≡ hash_at self.now }
-    {
-        (u64::from(self.high) << 32) + u64::from(self.low)
-    }
-}
 
 // How many pairs so many groups are made for.
 pub(crate) fn capacity(groups: usize) -> usize
@@ -143,40 +110,48 @@ fn tag_place(tags: &mut [u8], reaches: &mut [u32], mask: usize, hash: u64, posit
 }
 
 // Puts the pair at a place where a search finds it.
-pub(crate) fn take_place(
+pub(crate) fn take_place<A: Allocator>(
     tags: &mut [u8],
-    places: &mut [Place],
+    places: &mut Places<A>,
     reaches: &mut [u32],
     mask: usize,
     hash: u64,
     token: u32,
 )
-    requires whole { IsWhole tags.old places.old reaches.old mask }
+    requires whole { IsWhole tags.old places.old.items reaches.old mask }
     requires token { 0 < token }
-    requires room { 0 < count_by is_free places.old }
-    ensures whole { IsWhole tags.new places.new reaches.new mask }
-    ensures gains { HasOneMore places.old places.new hash token }
+    requires room { 0 < count_by is_free places.old.items }
+    ensures whole { IsWhole tags.new places.new.items reaches.new mask }
+    ensures gains { HasOneMore places.old.items places.new.items hash token }
     ensures groups { length reaches.new ≡ length reaches.old }
+    ensures allocated { places.new.allocated ≡ places.old.allocated }
 {
     let position = untagged(tags, mask, home_of(hash, mask));
     tag_place(tags, reaches, mask, hash, position);
-    places[position] = Place::new(hash, token);
+    places.put(position, hash, token);
 }
 
 // Houses the pair at that position, where it has no tag, and each that makes room for the one
 // before.
-fn house(tags: &mut [u8], places: &mut [Place], reaches: &mut [u32], mask: usize, position: usize)
-    requires housed { IsHoused tags.old places.old reaches.old mask }
-    requires bare { IsBareBelow tags.old places.old position }
-    requires within { position < length places.old }
-    ensures housed { IsHoused tags.new places.new reaches.new mask }
-    ensures bare { IsBareBelow tags.new places.new (position + 1) }
-    ensures pairs { HasSamePairs places.old places.new }
-    ensures places { length places.new ≡ length places.old }
+fn house<A: Allocator>(
+    tags: &mut [u8],
+    places: &mut Places<A>,
+    reaches: &mut [u32],
+    mask: usize,
+    position: usize,
+)
+    requires housed { IsHoused tags.old places.old.items reaches.old mask }
+    requires bare { IsBareBelow tags.old places.old.items position }
+    requires within { position < length places.old.items }
+    ensures housed { IsHoused tags.new places.new.items reaches.new mask }
+    ensures bare { IsBareBelow tags.new places.new.items (position + 1) }
+    ensures pairs { HasSamePairs places.old.items places.new.items }
+    ensures places { length places.new.items ≡ length places.old.items }
     ensures groups { length reaches.new ≡ length reaches.old }
+    ensures allocated { places.new.allocated ≡ places.old.allocated }
 {
-    while tags[position] == 0 && places[position].token != 0 {
-        let hash = places[position].hash();
+    while tags[position] == 0 && places.seen().token(position) != 0 {
+        let hash = places.seen().hash(position);
         let other = untagged(tags, mask, home_of(hash, mask));
         places.swap(position, other);
         tag_place(tags, reaches, mask, hash, other);
@@ -184,12 +159,18 @@ fn house(tags: &mut [u8], places: &mut [Place], reaches: &mut [u32], mask: usize
 }
 
 // Houses every pair that has no tag.
-fn house_all(tags: &mut [u8], places: &mut [Place], reaches: &mut [u32], mask: usize)
-    requires housed { IsHoused tags.old places.old reaches.old mask }
-    ensures whole { IsWhole tags.new places.new reaches.new mask }
-    ensures pairs { HasSamePairs places.old places.new }
-    ensures places { length places.new ≡ length places.old }
+fn house_all<A: Allocator>(
+    tags: &mut [u8],
+    places: &mut Places<A>,
+    reaches: &mut [u32],
+    mask: usize,
+)
+    requires housed { IsHoused tags.old places.old.items reaches.old mask }
+    ensures whole { IsWhole tags.new places.new.items reaches.new mask }
+    ensures pairs { HasSamePairs places.old.items places.new.items }
+    ensures places { length places.new.items ≡ length places.old.items }
     ensures groups { length reaches.new ≡ length reaches.old }
+    ensures allocated { places.new.allocated ≡ places.old.allocated }
 {
     for position in 0..places.len() {
         house(tags, places, reaches, mask, position);
@@ -199,19 +180,19 @@ fn house_all(tags: &mut [u8], places: &mut [Place], reaches: &mut [u32], mask: u
 // Makes so many groups, where there is memory, and houses all pairs anew.
 pub(crate) fn grow<A: Allocator>(
     tags: &mut Vec<u8, A>,
-    places: &mut Vec<Place, A>,
+    places: &mut Places<A>,
     reaches: &mut Vec<u32, A>,
     count: usize,
 ) -> Result<(), Refusal>
     requires power { IsPowerOfTwo count }
     requires few { count ≤ 2 ^ 29 }
-    requires longer { vec_len places.old ≤ 16 * count }
+    requires longer { length places.old.items ≤ 16 * count }
     ensures whole { OnOk result
         (IsWhole tags.new.items places.new.items reaches.new.items (count - 1)) }
     ensures groups { OnOk result (vec_len reaches.new ≡ count) }
     ensures pairs { OnOk result (HasSamePairs places.old.items places.new.items) }
     ensures tags_grow { vec_capacity tags.old ≤ vec_capacity tags.new }
-    ensures places_grow { vec_capacity places.old ≤ vec_capacity places.new }
+    ensures places_grow { places.old.allocated ≤ places.new.allocated }
     ensures reaches_grow { vec_capacity reaches.old ≤ vec_capacity reaches.new }
     ensures tags_stay { OnErr result (tags.new.items ≡ tags.old.items) }
     ensures places_stay { OnErr result (places.new.items ≡ places.old.items) }
@@ -222,21 +203,21 @@ pub(crate) fn grow<A: Allocator>(
     if tags
         .reserve_exact(wanted.saturating_sub(tags.len()))
         .is_err()
-        || places.reserve_exact(wanted - places.len()).is_err()
         || reaches
             .reserve_exact(count.saturating_sub(reaches.len()))
             .is_err()
     {
         return Err(Refusal::Memory);
     }
+    // The places come last: they grow or stay as they are, and the others then need no memory.
+    places.fill_up(wanted)?;
     tags.clear();
     let _ = tags.resize(wanted, 0);
     reaches.clear();
     let _ = reaches.resize(count, 0);
-    let _ = places.resize(wanted, Place::FREE);
     house_all(
         tags.as_mut_slice(),
-        places.as_mut_slice(),
+        places,
         reaches.as_mut_slice(),
         count - 1,
     );
@@ -244,28 +225,35 @@ pub(crate) fn grow<A: Allocator>(
 }
 
 // Frees every place.
-pub(crate) fn free_all(tags: &mut [u8], places: &mut [Place], reaches: &mut [u32], mask: usize)
-    requires sized { IsGrouped tags.old places.old reaches.old mask }
-    ensures whole { IsWhole tags.new places.new reaches.new mask }
-    ensures free { places.new ≡ replicate (length places.old) empty_place }
+pub(crate) fn free_all<A: Allocator>(
+    tags: &mut [u8],
+    places: &mut Places<A>,
+    reaches: &mut [u32],
+    mask: usize,
+)
+    requires sized { IsGrouped tags.old places.old.items reaches.old mask }
+    ensures whole { IsWhole tags.new places.new.items reaches.new mask }
+    ensures free { places.new.items ≡ replicate (length places.old.items) empty_place }
     ensures groups { length reaches.new ≡ length reaches.old }
+    ensures allocated { places.new.allocated ≡ places.old.allocated }
 {
     tags.fill(0);
-    places.fill(Place::FREE);
+    places.free_all();
     reaches.fill(0);
 }
 
 // Whether a pair of that home is in the group.
-fn is_home_of(places: &[Place], mask: usize, home: usize, group: usize) -> bool
-    requires { 16 * group + 16 ≤ length places.now }
+fn is_home_of(places: &Seen<'_>, mask: usize, home: usize, group: usize) -> bool
+    requires within { 16 * group + 16 ≤ length places.now }
+    requires few { length places.now ≤ 2 ^ 33 }
     ensures found { IsTrue result → HasPairOf places.now mask home group }
     ensures none { IsFalse result → (lane : ℕ) → lane < 16
         → let place = place_at places.now (16 * group + lane) in
         0 < place.token → home_number mask (hash_at place) ≢ home }
 {
     for lane in 0..LANES {
-        let place = places[LANES * group + lane];
-        if place.token != 0 && home_of(place.hash(), mask) == home {
+        let position = LANES * group + lane;
+        if places.token(position) != 0 && home_of(places.hash(position), mask) == home {
             return true;
         }
     }
@@ -273,7 +261,7 @@ fn is_home_of(places: &[Place], mask: usize, home: usize, group: usize) -> bool
 }
 
 // Lets a home reach no farther than to the last group that has a pair of it.
-fn shorten(places: &[Place], reaches: &mut [u32], mask: usize, home: usize)
+fn shorten(places: &Seen<'_>, reaches: &mut [u32], mask: usize, home: usize)
     requires groups { length reaches.old ≡ mask + 1 }
     requires sized { length places.now ≡ 16 * (mask + 1) }
     requires power { IsPowerOfTwo (mask + 1) }
@@ -299,26 +287,27 @@ fn shorten(places: &[Place], reaches: &mut [u32], mask: usize, home: usize)
 }
 
 // Frees a place.
-pub(crate) fn leave_place(
+pub(crate) fn leave_place<A: Allocator>(
     tags: &mut [u8],
-    places: &mut [Place],
+    places: &mut Places<A>,
     reaches: &mut [u32],
     mask: usize,
     position: usize,
 )
-    requires whole { IsWhole tags.old places.old reaches.old mask }
-    requires within { position < length places.old }
-    requires taken { is_free (place_at places.old position) ≡ false }
-    ensures whole { IsWhole tags.new places.new reaches.new mask }
-    ensures loses { let left = place_at places.old position in
-        HasOneMore places.new places.old (hash_at left) left.token }
+    requires whole { IsWhole tags.old places.old.items reaches.old mask }
+    requires within { position < length places.old.items }
+    requires taken { is_free (place_at places.old.items position) ≡ false }
+    ensures whole { IsWhole tags.new places.new.items reaches.new mask }
+    ensures loses { let left = place_at places.old.items position in
+        HasOneMore places.new.items places.old.items (hash_at left) left.token }
     ensures groups { length reaches.new ≡ length reaches.old }
+    ensures allocated { places.new.allocated ≡ places.old.allocated }
 {
-    let home = home_of(places[position].hash(), mask);
+    let home = home_of(places.seen().hash(position), mask);
     tags[position] = 0;
-    places[position] = Place::FREE;
+    places.put(position, 0, 0);
     let step = home ^ position / LANES;
     if step != 0 && step == reaches[home] as usize {
-        shorten(places, reaches, mask, home);
+        shorten(&places.seen(), reaches, mask, home);
     }
 }

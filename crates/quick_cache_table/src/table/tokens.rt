@@ -35,7 +35,7 @@ impl<'a> Iterator for Tokens<'a> {
 
     fn next(&mut self) -> Option<Token> {
         let position = self.walk.next_position()?;
-        Some(unsafe { Token::new_unchecked(self.walk.places[position].token) })
+        Some(unsafe { Token::new_unchecked(self.walk.places.token(position)) })
     }
 }
 

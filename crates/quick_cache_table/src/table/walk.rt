@@ -2,13 +2,14 @@
 ghost use Rattle.std.specs.Prelude.{◌≡◌, ◌<◌, ◌∷◌, [], length, count_by, IfSome, IfNone, IsTrue};
 ghost use Rattle.quick_cache_table.specs.TableGroups.{hash_at, holds_pair, place_at, reach_of, IsWhole, IsWalk, tokens_left, AreTokensOf};
 
-use super::groups::{LANES, Place, home_of, lanes_of, tag_of};
+use super::groups::{LANES, home_of, lanes_of, tag_of};
+use super::places::Seen;
 
 /// What is left of the groups in which pairs of a hash can be.
-#[derive(Clone, Copy)]
+#[derive(Drop)]
 pub(crate) struct Walk<'a> {
     pub(crate) tags: &'a [u8],
-    pub(crate) places: &'a [Place],
+    pub(crate) places: Seen<'a>,
     pub(crate) reaches: &'a [u32],
     pub(crate) hash: u64,
     pub(crate) home: usize,
@@ -21,16 +22,16 @@ pub(crate) struct Walk<'a> {
 impl<'a> Walk<'a> {
     pub(crate) fn new(
         tags: &'a [u8],
-        places: &'a [Place],
+        places: Seen<'a>,
         reaches: &'a [u32],
         mask: usize,
         hash: u64,
     ) -> Walk<'a>
-        requires { IsWhole tags.now places.now reaches.now mask }
+        requires { IsWhole tags.now places reaches.now mask }
         ensures walk { IsWalk result }
-        ensures places { result.places.now ≡ places.now }
+        ensures places { result.places ≡ places.entry }
         ensures hash { result.hash ≡ hash }
-        ensures all { AreTokensOf places.now hash (tokens_left result) }
+        ensures all { AreTokensOf places.entry hash (tokens_left result) }
     {
         let mut walk = Walk {
             tags,
@@ -71,16 +72,16 @@ impl<'a> Walk<'a> {
         ensures stays { self.new ≡ record self.old { lanes = self.new.lanes } }
         ensures read { IfNone result (self.new.lanes ≡ 0) }
         ensures passed { IfNone result (tokens_left self.new ≡ tokens_left self.old) }
-        ensures within { IfSome result (λ position. position < length self.old.places.now) }
+        ensures within { IfSome result (λ position. position < length self.old.places) }
         ensures some { IfSome result (λ position.
-            let place = place_at self.old.places.now position in
+            let place = place_at self.old.places position in
             (0 < place.token) × (hash_at place ≡ self.old.hash)
             × (tokens_left self.old ≡ place.token ∷ tokens_left self.new)) }
     {
         while self.lanes != 0 {
             let lane = self.lanes.trailing_zeros() as usize;
             let position = LANES * (self.home ^ self.step) + lane;
-            if self.places[position].hash() == self.hash {
+            if self.places.hash(position) == self.hash {
                 self.lanes ^= 1 << lane;
                 return Some(position);
             }
@@ -95,13 +96,13 @@ impl<'a> Walk<'a> {
         requires walk { IsWalk self.old }
         requires read { self.old.lanes ≡ 0 }
         ensures walk { IsWalk self.new }
-        ensures places { self.new.places.now ≡ self.old.places.now }
+        ensures places { self.new.places ≡ self.old.places }
         ensures hash { self.new.hash ≡ self.old.hash }
         ensures none { IfNone result (tokens_left self.old ≡ []) }
         ensures ended { IfNone result (tokens_left self.new ≡ []) }
-        ensures within { IfSome result (λ position. position < length self.old.places.now) }
+        ensures within { IfSome result (λ position. position < length self.old.places) }
         ensures some { IfSome result (λ position.
-            let place = place_at self.old.places.now position in
+            let place = place_at self.old.places position in
             (0 < place.token) × (hash_at place ≡ self.old.hash)
             × (tokens_left self.old ≡ place.token ∷ tokens_left self.new)) }
     {
@@ -120,13 +121,13 @@ impl<'a> Walk<'a> {
     pub(crate) fn next_position(&mut self) -> Option<usize>
         requires { IsWalk self.old }
         ensures walk { IsWalk self.new }
-        ensures places { self.new.places.now ≡ self.old.places.now }
+        ensures places { self.new.places ≡ self.old.places }
         ensures hash { self.new.hash ≡ self.old.hash }
         ensures none { IfNone result (tokens_left self.old ≡ []) }
         ensures ended { IfNone result (tokens_left self.new ≡ []) }
-        ensures within { IfSome result (λ position. position < length self.old.places.now) }
+        ensures within { IfSome result (λ position. position < length self.old.places) }
         ensures some { IfSome result (λ position.
-            let place = place_at self.old.places.now position in
+            let place = place_at self.old.places position in
             (0 < place.token) × (hash_at place ≡ self.old.hash)
             × (tokens_left self.old ≡ place.token ∷ tokens_left self.new)) }
     {
@@ -140,15 +141,15 @@ impl<'a> Walk<'a> {
 // The position of that pair.
 pub(crate) fn position_of(mut walk: Walk<'_>, token: u32) -> Option<usize>
     requires walk { IsWalk walk }
-    requires all { AreTokensOf walk.places.now walk.hash (tokens_left walk) }
-    ensures within { IfSome result (λ position. position < length walk.entry.places.now) }
+    requires all { AreTokensOf walk.places walk.hash (tokens_left walk) }
+    ensures within { IfSome result (λ position. position < length walk.entry.places) }
     ensures found { IfSome result (λ position.
-        IsTrue (holds_pair walk.entry.hash token (place_at walk.entry.places.now position))) }
+        IsTrue (holds_pair walk.entry.hash token (place_at walk.entry.places position))) }
     ensures none { IfNone result
-        (count_by (holds_pair walk.entry.hash token) walk.entry.places.now ≡ 0) }
+        (count_by (holds_pair walk.entry.hash token) walk.entry.places ≡ 0) }
 {
     while let Some(position) = walk.next_position() {
-        if walk.places[position].token == token {
+        if walk.places.token(position) == token {
             return Some(position);
         }
     }

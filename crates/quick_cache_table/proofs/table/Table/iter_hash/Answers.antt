@@ -1,5 +1,5 @@
 use Rattle.std.proofs.Common.{◌≡◌, ap, sym, subst, List}
-use Rattle.quick_cache_table.specs.declared.table.groups.Place.{Place}
+use Rattle.quick_cache_table.specs.Places.{Place}
 use Rattle.quick_cache_table.specs.Table.{in_order}
 use Rattle.quick_cache_table.specs.TableGroups.{pairs_of, tokens_left, AreTokensOf}
 use Rattle.quick_cache_table.proofs.ShownPairs.{IsTokensOf-walk}
@@ -14,4 +14,4 @@ returns g c =
     let P : List Place → Type 0 =
     λ ps. AreTokensOf ps c.args.hash (tokens_left c.new-walk.result) in
     IsTokensOf-walk c.args.self.now places c.args.hash (tokens_left c.new-walk.result) shows
-    c.self.invariant.once (subst P c.as_slice-2.ensures.value c.new-walk.ensures.all)
+    c.self.invariant.once (subst P c.seen.ensures c.new-walk.ensures.all)

@@ -1,7 +1,7 @@
 use Rattle.std.proofs.Common.{◌≡◌, ap, sym, subst, ◌∙◌, List, ℕ, arith, count_by, refl, nat_lt, ◌-◌}
 use Rattle.std.proofs.lemmas.List.{with_items_is}
 use Rattle.std.specs.Int.NonZero.{non_zero_u32_get}
-use Rattle.quick_cache_table.specs.declared.table.groups.Place.{Place}
+use Rattle.quick_cache_table.specs.Places.{Place}
 use Rattle.quick_cache_table.specs.Table.{in_order}
 use Rattle.quick_cache_table.specs.TableGroups.{pairs_of, holds_pair, tokens_left, AreTokensOf}
 use Rattle.quick_cache_table.proofs.ShownPairs.{IsSound-lose, RemovesPair-from_more, has_pair-count, HasOneMore-found}
@@ -13,7 +13,7 @@ position_of-requires-clause-all g c =
     let P : List Place → Type 0 =
     λ ps. AreTokensOf ps c.args.hash (tokens_left c.new-walk.result) in
     let Q : ℕ → Type 0 =
-    λ h. AreTokensOf c.new-walk.result.places.now h (tokens_left c.new-walk.result) in
+    λ h. AreTokensOf c.new-walk.result.places h (tokens_left c.new-walk.result) in
     subst Q (sym c.new-walk.ensures.hash)
     (subst P (sym c.new-walk.ensures.places) c.new-walk.ensures.all)
 
@@ -25,7 +25,7 @@ returns-in_default-clause-found g c =
     let shows : c.args.self.now.pairs ≡ in_order (pairs_of places) =
     sym (ap (λ t. t.pairs) c.self.view_is) in
     let read : count_by (holds_pair c.new-walk.result.hash c.get.result)
-    c.new-walk.result.places.now ≡ 0 =
+    c.new-walk.result.places ≡ 0 =
     c.in_default.ensures.none in
     let P : List Place → Type 0 =
     λ ps. count_by (holds_pair c.new-walk.result.hash c.get.result) ps ≡ 0 in
@@ -33,7 +33,7 @@ returns-in_default-clause-found g c =
     let Q : ℕ → Type 0 = λ t. count_by (holds_pair c.args.hash t) places ≡ 0 in
     let none =
     subst Q c.get.ensures.value (subst H c.new-walk.ensures.hash
-    (subst P (c.new-walk.ensures.places ∙ c.as_slice-2.ensures.value) read)) in (
+    (subst P (c.new-walk.ensures.places ∙ c.seen.ensures) read)) in (
       λ wrong. absurd (cc),
       λ has. sym
           (has_pair-count c.args.self.now places c.args.hash token shows ∙ ap (λ n. nat_lt 0 n) none) ∙
@@ -45,21 +45,19 @@ invariant_of-self g c =
     let inside = c.self.inside in
     let token : ℕ = non_zero_u32_get c.args.token in
     let one =
-    HasOneMore-found c.self.inside.places.items c.new-walk.result.places.now
-    c.as_mut_slice-2.result.now c.leave_place.new.places c.in-Some.position
+    HasOneMore-found c.self.inside.places.items c.new-walk.result.places
+    c.self.inside.places.items c.leave_place.new.places.items c.in-Some.position
     c.new-walk.result.hash c.args.hash c.get.result token
-    (c.new-walk.ensures.places ∙ c.as_slice-2.ensures.value) c.as_mut_slice-2.ensures.value
+    (c.new-walk.ensures.places ∙ c.seen.ensures) refl
     c.new-walk.ensures.hash c.get.ensures.value c.in-Some.ensures.found
     c.leave_place.ensures.loses in
     rw (
       with_items_is inside.tags c.leave_place.new.tags (omega arith),
-      with_items_is inside.places
-          c.leave_place.new.places (omega arith),
       with_items_is inside.reaches c.leave_place.new.reaches
           (omega arith),
     )
     (IsSound-lose inside.tags.items c.leave_place.new.tags inside.places.items
-    c.leave_place.new.places inside.reaches.items c.leave_place.new.reaches inside.mask inside.len
+    c.leave_place.new.places.items inside.reaches.items c.leave_place.new.reaches inside.mask inside.len
     (inside.len - 1) c.args.hash token c.self.invariant (omega arith) c.leave_place.ensures.whole
     one refl)
 
@@ -70,15 +68,15 @@ returns-clause-found g c =
     let shows : c.args.self.now.pairs ≡ in_order (pairs_of places) =
     sym (ap (λ t. t.pairs) c.self.view_is) in
     let one =
-    HasOneMore-found places c.new-walk.result.places.now c.as_mut_slice-2.result.now
-    c.leave_place.new.places c.in-Some.position c.new-walk.result.hash c.args.hash c.get.result
-    token (c.new-walk.ensures.places ∙ c.as_slice-2.ensures.value)
-    c.as_mut_slice-2.ensures.value c.new-walk.ensures.hash c.get.ensures.value
+    HasOneMore-found places c.new-walk.result.places c.self.inside.places.items
+    c.leave_place.new.places.items c.in-Some.position c.new-walk.result.hash c.args.hash c.get.result
+    token (c.new-walk.ensures.places ∙ c.seen.ensures)
+    refl c.new-walk.ensures.hash c.get.ensures.value
     c.in-Some.ensures.found c.leave_place.ensures.loses in
     let removed =
     RemovesPair-from_more c.args.self.now
-    (record c.args.self.now { pairs = in_order (pairs_of c.leave_place.new.places) }) places
-    c.leave_place.new.places c.args.hash token shows refl
+    (record c.args.self.now { pairs = in_order (pairs_of c.leave_place.new.places.items) }) places
+    c.leave_place.new.places.items c.args.hash token shows refl
     (c.self.invariant.once c.args.hash token) one in
     (λ _. removed.had, λ _. refl)
 
@@ -89,12 +87,11 @@ returns-clause-removes g c =
     let shows : c.args.self.now.pairs ≡ in_order (pairs_of places) =
     sym (ap (λ t. t.pairs) c.self.view_is) in
     let one =
-    HasOneMore-found places c.new-walk.result.places.now c.as_mut_slice-2.result.now
-    c.leave_place.new.places c.in-Some.position c.new-walk.result.hash c.args.hash c.get.result
-    token (c.new-walk.ensures.places ∙ c.as_slice-2.ensures.value)
-    c.as_mut_slice-2.ensures.value c.new-walk.ensures.hash c.get.ensures.value
+    HasOneMore-found places c.new-walk.result.places c.self.inside.places.items
+    c.leave_place.new.places.items c.in-Some.position c.new-walk.result.hash c.args.hash c.get.result
+    token (c.new-walk.ensures.places ∙ c.seen.ensures)
+    refl c.new-walk.ensures.hash c.get.ensures.value
     c.in-Some.ensures.found c.leave_place.ensures.loses in
-    RemovesPair-from_more c.args.self.now _ places c.leave_place.new.places c.args.hash token shows
-    (ap (λ ps. in_order (pairs_of ps))
-    (with_items_is c.self.inside.places c.leave_place.new.places (omega arith)))
+    RemovesPair-from_more c.args.self.now _ places c.leave_place.new.places.items c.args.hash token shows
+    refl
     (c.self.invariant.once c.args.hash token) one

@@ -5,8 +5,8 @@ use Rattle.quick_cache_table.proofs.FreedPlaces.{AreWithin-less}
 use Rattle.quick_cache_table.proofs.table.groups.shorten.Goals as goal
 
 -- the group at that distance is one of the table's
-pub is_home_of-requires : goal.is_home_of-requires
-is_home_of-requires c =
+pub is_home_of-requires-clause-within : goal.is_home_of-requires-clause-within
+is_home_of-requires-clause-within c =
     let within : bit_xor c.args.home c.loop-step.step ≤ c.args.mask =
     xor-within c.args.mask c.args.home c.loop-step.step c.requires.power c.requires.home
     c.loop-step.invariant.near in

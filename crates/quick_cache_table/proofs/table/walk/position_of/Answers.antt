@@ -1,5 +1,5 @@
 use Rattle.std.proofs.Common.{◌≡◌, ℕ, List, true, refl, sym, ap, subst, ◌∙◌}
-use Rattle.quick_cache_table.specs.declared.table.groups.Place.{Place}
+use Rattle.quick_cache_table.specs.Places.{Place}
 use Rattle.quick_cache_table.specs.TableGroups.{holds_pair, place_at, tokens_left}
 use Rattle.quick_cache_table.proofs.WalkedTokens.{count_by-passed, holds_pair-own}
 use Rattle.quick_cache_table.proofs.table.walk.position_of.Goals as goal
@@ -21,19 +21,21 @@ loop-position-preserved c =
       hash = c.in-Some.ensures.hash ∙ c.loop-position.invariant.hash;
       left =
           count_by-passed (tokens_left c.loop-position.walk) (tokens_left next)
-          (met c.loop-position.walk.places.now) c.args.token some.2
-          (λ same. c.if-walk-position.false (ap met c.in-Some.ensures.places ∙ same))
+          (met c.loop-position.walk.places) c.args.token some.2
+          (λ same. c.if-token.false
+          (c.token.ensures ∙ ap met c.in-Some.ensures.places ∙ same))
           ∙ c.loop-position.invariant.left;
     }
 
-pub returns-then-walk-position-clause-found : goal.returns-then-walk-position-clause-found
-returns-then-walk-position-clause-found c =
+pub returns-then-token-clause-found : goal.returns-then-token-clause-found
+returns-then-token-clause-found c =
     let met : List Place → Place = λ places. place_at places c.in-Some.position in
     let some = c.in-Some.ensures.some in
     let token =
-    ap (λ places. (met places).token) (sym c.in-Some.ensures.places) ∙ c.if-walk-position.true
+    ap (λ places. (met places).token) (sym c.in-Some.ensures.places) ∙ sym c.token.ensures
+    ∙ c.if-token.true
     in
     let P : List Place → Type 0 =
     λ places. holds_pair c.args.walk.hash c.args.token (met places) ≡ true in
     subst P c.loop-position.invariant.places (holds_pair-own c.args.walk.hash c.args.token
-    (met c.loop-position.walk.places.now) some.0 (some.1 ∙ c.loop-position.invariant.hash) token)
+    (met c.loop-position.walk.places) some.0 (some.1 ∙ c.loop-position.invariant.hash) token)

@@ -6,9 +6,9 @@ use Rattle.quick_cache_table.proofs.table.walk.position_of.Given as goal
 abbrev pub invariant-loop-position : goal.invariant-loop-position
 invariant-loop-position l = record {
   still : IsWalk l.walk;
-  places : l.walk.places.now ≡ l.fn.walk.places.now;
+  places : l.walk.places ≡ l.fn.walk.places;
   hash : l.walk.hash ≡ l.fn.walk.hash;
-  left : count_by (λ t. t == l.token) (tokens_left l.walk) ≡ count_by (holds_pair l.fn.walk.hash l.token) l.fn.walk.places.now;
+  left : count_by (λ t. t == l.token) (tokens_left l.walk) ≡ count_by (holds_pair l.fn.walk.hash l.token) l.fn.walk.places;
 }
 
 abbrev pub decreases-loop-position : goal.decreases-loop-position

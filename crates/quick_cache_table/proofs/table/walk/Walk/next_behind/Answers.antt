@@ -1,5 +1,5 @@
 use Rattle.std.proofs.Common.{◌≡◌, ℕ, ◌+◌, ◌<◌, List, ◌∷◌, arith, subst, sym, ap, ◌∙◌}
-use Rattle.quick_cache_table.specs.declared.table.groups.Place.{Place}
+use Rattle.quick_cache_table.specs.Places.{Place}
 use Rattle.quick_cache_table.specs.declared.table.walk.Walk.{Walk}
 use Rattle.quick_cache_table.specs.TableGroups.{hash_at, place_at, tokens_left}
 use Rattle.quick_cache_table.proofs.WalkedTokens.{group-inside, reads_next_group, tokens_left-end}
@@ -26,7 +26,7 @@ returns-in-Some-clause-some c =
     let P : List Place → Type 0 = λ places.
     (0 < (place places).token) × (hash_at (place places) ≡ c.args.self.now.hash) ×
     (tokens_left c.args.self.now ≡ (place places).token ∷ tokens_left c.next_in_group.new.self) in
-    subst P (ap (λ (walk : Walk). walk.places.now) c.loop-self.invariant.stays) (
+    subst P (ap (λ (walk : Walk). walk.places) c.loop-self.invariant.stays) (
       met.0,
       met.1 ∙ ap (λ (walk : Walk). walk.hash) c.loop-self.invariant.stays,
       sym
