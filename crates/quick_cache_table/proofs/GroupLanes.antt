@@ -286,21 +286,20 @@ pub some_none : (o : Option ℕ) → ((token : ℕ) → o ≡ Some token → ⊥
 some_none None off = refl
 some_none (Some token) off = absurd (off token refl)
 
--- the lanes of the tag of a hash have all of its tokens
-pub tokens_at-lanes : (tags : List ℕ) (places : List Place) (hash group : ℕ)
+-- the lanes of the tag of a hash have all that only places of that tag give
+pub given-lanes : (give : ℕ → Option ℕ) (tags : List ℕ) (hash group : ℕ)
     → 16 * group + 16 ≤ length tags
-    → ((position token : ℕ) → token_of places hash position ≡ Some token → get_or tags position 0 ≡
-    tag_of hash)
-    → tokens_at places hash
+    → ((position token : ℕ) → give position ≡ Some token → get_or tags position 0 ≡ tag_of hash)
+    → filter_map give
     (lane_positions group (mask_l (map (λ t. eqb t (tag_of hash)) (chunk (16 * group) 16 tags)))) ≡
-    tokens_at places hash (group_positions group)
-tokens_at-lanes tags places hash group inside tagged =
-    filter_map-passing (token_of places hash) (λ position. eqb (bit_at
+    filter_map give (group_positions group)
+given-lanes give tags hash group inside tagged =
+    filter_map-passing give (λ position. eqb (bit_at
     (mask_l (map (λ t. eqb t (tag_of hash)) (chunk (16 * group) 16 tags))) (position - 16 * group))
     1) (16 * group) 16
     (λ i less fails.
     let at : 16 * group + i - 16 * group ≡ i = omega arith in
-    some_none (token_of places hash (16 * group + i)) (λ token has.
+    some_none (give (16 * group + i)) (λ token has.
     let same : eqb (get_or tags (16 * group + i) 0) (tag_of hash) ≡ true =
     eq-eqb (get_or tags (16 * group + i) 0) (tag_of hash) (tagged (16 * group + i) token has) in
     let set : bit_at (mask_l (map (λ t. eqb t (tag_of hash)) (chunk (16 * group) 16 tags)))
@@ -309,3 +308,14 @@ tokens_at-lanes tags places hash group inside tagged =
     lane_of-tag tags group (tag_of hash) i inside less ∙ ap bit same in
     let passes : true ≡ false = ap (λ d. eqb d 1) (sym set) ∙ fails in
     absurd (cc)))
+
+-- and so all of its tokens
+pub tokens_at-lanes : (tags : List ℕ) (places : List Place) (hash group : ℕ)
+    → 16 * group + 16 ≤ length tags
+    → ((position token : ℕ) → token_of places hash position ≡ Some token → get_or tags position 0 ≡
+    tag_of hash)
+    → tokens_at places hash
+    (lane_positions group (mask_l (map (λ t. eqb t (tag_of hash)) (chunk (16 * group) 16 tags)))) ≡
+    tokens_at places hash (group_positions group)
+tokens_at-lanes tags places hash group inside tagged =
+    given-lanes (token_of places hash) tags hash group inside tagged

@@ -1,3 +1,4 @@
+pub mod Candidates
 pub mod CountedPlaces
 pub mod Distances
 pub mod FreedPlaces

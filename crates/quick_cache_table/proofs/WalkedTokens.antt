@@ -1,8 +1,8 @@
 -- What a walk over the groups of a hash meets: each pair of that hash, once.
-use Rattle.std.proofs.Common.{◌≡◌, ◌≢◌, ℕ, suc, ◌+◌, ◌-◌, ◌*◌, ◌/◌, ◌^◌, ◌<◌, ◌≤◌, true, false, cond, not, ◌&&◌, eqb, List, [], ◌∷◌, ◌++◌, length, map, get_or, Some, None, sym, ap, subst, ◌∙◌, inl, inr, arith, count_by, bit_and, bit_xor}
+use Rattle.std.proofs.Common.{◌≡◌, ◌≢◌, ℕ, suc, ◌+◌, ◌-◌, ◌*◌, ◌/◌, ◌^◌, ◌<◌, ◌≤◌, true, false, cond, not, ◌&&◌, eqb, List, [], ◌∷◌, ◌++◌, length, map, get_or, Option, Some, None, sym, ap, subst, ◌∙◌, inl, inr, arith, count_by, bit_and, bit_xor}
 use Rattle.std.specs.Int.Bits.{xor_zero_r}
 use Rattle.std.specs.Int.{trailing_zeros, w64}
-use Rattle.std.specs.List.{cons_option}
+use Rattle.std.specs.List.{cons_option, filter_map}
 use Rattle.std.proofs.lemmas.Bool.Decides.{eqb_tells, leb_tells}
 use Rattle.std.proofs.lemmas.Bool.{eqb-true, eq-eqb, ne_eqb}
 use Rattle.std.proofs.lemmas.Nat.{xor_lt, and_le_r}
@@ -12,9 +12,9 @@ use Rattle.std.proofs.lemmas.List.Elements.{filter_map-append}
 use Rattle.std.proofs.lemmas.List.Sums.{sum_by-cons}
 use Rattle.quick_cache_table.specs.Places.{Place}
 use Rattle.quick_cache_table.specs.declared.table.walk.Walk.{Walk}
-use Rattle.quick_cache_table.specs.TableGroups.{hash_at, is_free, holds_pair, place_at, empty_place, tag_of, home_of, IsHousedAt, IsWhole, token_of, tokens_at, group_positions, lane_positions, positions_along, reach_of, tokens_left, IsWalk, AreTokensOf}
+use Rattle.quick_cache_table.specs.TableGroups.{hash_at, is_free, holds_pair, place_at, empty_place, tag_of, home_of, IsHousedAt, IsWhole, token_of, tokens_at, group_positions, lane_positions, positions_along, reach_of, positions_left, tokens_left, tagged_token, candidates_left, IsWalk, AreTokensOf}
 use Rattle.quick_cache_table.proofs.CountedPlaces.{bool_tells, equal_or_not, bit, weigh, count_by-tokens_at, holds_pair-hash, and_right}
-use Rattle.quick_cache_table.proofs.GroupLanes.{lane_positions-first, lane_positions-none, lanes-few, lit-tag, tokens_at-lanes, trailing_zeros-lt, trailing_zeros-IsLowestBit, bit_at-rest, some_none}
+use Rattle.quick_cache_table.proofs.GroupLanes.{lane_positions-first, lane_positions-none, lanes-few, lit-tag, given-lanes, tokens_at-lanes, trailing_zeros-lt, trailing_zeros-IsLowestBit, bit_at-rest, some_none}
 use Rattle.quick_cache_table.proofs.Distances.{xor-back}
 use Rattle.quick_cache_table.proofs.GroupCounts.{total, total-more, total-xor, total-groups, total-along, weigh-none, count_by-total}
 
@@ -166,6 +166,8 @@ pub record LooksAtLane (walk next : Walk) (position : ℕ) : Type 0 where
       → tokens_left walk ≡ (place_at walk.places position).token ∷ tokens_left next
   pub skip : hash_at (place_at walk.places position) ≢ walk.hash
       → tokens_left walk ≡ tokens_left next
+  pub candidate : candidates_left walk
+      ≡ (place_at walk.places position).token ∷ candidates_left next
   pub fewer : next.lanes < walk.lanes
 
 -- the walk behind the lowest lane
@@ -176,9 +178,38 @@ behind_lane walk = record walk { lanes = bit_and walk.lanes (walk.lanes - 1) }
 abbrev pub lane_position : Walk → ℕ
 lane_position walk = 16 * bit_xor walk.home walk.step + trailing_zeros w64 walk.lanes
 
+-- a position that has the tag of the hash
+tagged_token-take : (tags : List ℕ) (places : List Place) (hash p : ℕ) (rest : List ℕ)
+    → get_or tags p 0 ≡ tag_of hash → filter_map (tagged_token tags places hash) (p ∷ rest)
+    ≡ (place_at places p).token ∷ filter_map (tagged_token tags places hash) rest
+tagged_token-take tags places hash p rest tagged =
+    ap (λ b. cons_option (cond b (Some (place_at places p).token) None)
+    (filter_map (tagged_token tags places hash) rest)) (eq-eqb (get_or tags p 0) (tag_of hash) tagged)
+
+-- the number that is there, or 0
+abbrev number_in : Option ℕ → ℕ
+number_in None = 0
+number_in (Some number) = number
+
+-- what has a token there has the tag
+pub tagged_token-some : (tags : List ℕ) (places : List Place) (hash position token : ℕ)
+    → tagged_token tags places hash position ≡ Some token
+    → (get_or tags position 0 ≡ tag_of hash) × ((place_at places position).token ≡ token)
+tagged_token-some tags places hash position token has =
+    let some : Option ℕ = Some (place_at places position).token in
+    elim (bool_tells (eqb (get_or tags position 0) (tag_of hash))) [
+      | inl holds ↦ (
+        eqb-true (get_or tags position 0) (tag_of hash) holds,
+        ap number_in (sym (ap (λ b. cond b some None) holds) ∙ has),
+      )
+      | inr fails ↦
+          let none : None ≡ Some token = sym (ap (λ b. cond b some None) fails) ∙ has in
+          absurd (cc)
+    ]
+
 -- a lane is looked at, and the walk goes on behind it
 -- a tag is not 0
-tag_of-some : (hash : ℕ) → 0 < tag_of hash
+pub tag_of-some : (hash : ℕ) → 0 < tag_of hash
 tag_of-some hash = omega arith
 
 pub looks_at_lane : (walk : Walk) → IsWalk walk → 0 < walk.lanes
@@ -220,21 +251,37 @@ looks_at_lane walk is some =
       skip =
           λ other. first ∙ tokens_at-skip walk.places walk.hash (lane_position walk)
           (lane_positions group lanes ++ behind) (λ same. absurd (other same));
+      candidate =
+          ap (λ ps. filter_map (tagged_token walk.tags.now walk.places walk.hash) (ps ++ behind))
+          (lane_positions-first group walk.lanes some few)
+          ∙ tagged_token-take walk.tags.now walk.places walk.hash (lane_position walk)
+          (lane_positions group lanes ++ behind)
+          (is.lit (trailing_zeros w64 walk.lanes) lowest.set);
       fewer = omega arith;
     }
 
 -- a walk without a lane to look at that has read its last group
-pub tokens_left-end : (walk : Walk) → walk.lanes ≡ 0 → reach_of walk ≤ walk.step
-    → tokens_left walk ≡ []
-tokens_left-end walk none last =
+given_left-end : (give : ℕ → Option ℕ) (walk : Walk) → walk.lanes ≡ 0 → reach_of walk ≤ walk.step
+    → filter_map give (positions_left walk) ≡ []
+given_left-end give walk none last =
     let group : ℕ = bit_xor walk.home walk.step in
     let behind : ℕ → List ℕ = λ n. positions_along walk.home (walk.step + 1) n in
     let ended : reach_of walk - walk.step ≡ 0 = omega arith in
-    ap (λ lanes. tokens_at walk.places walk.hash
-    (lane_positions group lanes ++ behind (reach_of walk - walk.step))) none
-    ∙ ap (λ ps. tokens_at walk.places walk.hash (ps ++ behind (reach_of walk - walk.step)))
+    ap (λ lanes. filter_map give (lane_positions group lanes ++ behind (reach_of walk - walk.step)))
+    none
+    ∙ ap (λ ps. filter_map give (ps ++ behind (reach_of walk - walk.step)))
     (lane_positions-none group)
-    ∙ ap (λ n. tokens_at walk.places walk.hash (behind n)) ended
+    ∙ ap (λ n. filter_map give (behind n)) ended
+
+pub tokens_left-end : (walk : Walk) → walk.lanes ≡ 0 → reach_of walk ≤ walk.step
+    → tokens_left walk ≡ []
+tokens_left-end walk none last =
+    given_left-end (token_of walk.places walk.hash) walk none last
+
+pub candidates_left-end : (walk : Walk) → walk.lanes ≡ 0 → reach_of walk ≤ walk.step
+    → candidates_left walk ≡ []
+candidates_left-end walk none last =
+    given_left-end (tagged_token walk.tags.now walk.places walk.hash) walk none last
 
 -- the walk that reads the next group, with these lanes to look at
 abbrev pub at_next_group : Walk → ℕ → Walk
@@ -250,7 +297,34 @@ group-inside walk is more =
 pub record ReadsNextGroup (walk : Walk) (lanes : ℕ) : Type 0 where
   pub still : IsWalk (at_next_group walk lanes)
   pub left : tokens_left walk ≡ tokens_left (at_next_group walk lanes)
+  pub candidates : candidates_left walk ≡ candidates_left (at_next_group walk lanes)
   pub few : lanes < 65536
+
+-- what only places of the tag give, where the lanes are those of the tag
+given_left-next : (give : ℕ → Option ℕ) (walk : Walk) → IsWalk walk → walk.step < reach_of walk
+    → walk.lanes ≡ 0 → ((position token : ℕ) → give position ≡ Some token
+    → get_or walk.tags.now position 0 ≡ tag_of walk.hash)
+    → filter_map give (positions_left walk) ≡ filter_map give (positions_left (at_next_group walk
+    (mask_l (map (λ t. eqb t (tag_of walk.hash)) (chunk (16 * bit_xor walk.home (walk.step + 1)) 16 walk.tags.now)))))
+given_left-next give walk is more none tagged =
+    let group : ℕ = bit_xor walk.home walk.step in
+    let next : ℕ = bit_xor walk.home (walk.step + 1) in
+    let lanes : ℕ =
+    mask_l (map (λ t. eqb t (tag_of walk.hash)) (chunk (16 * next) 16 walk.tags.now)) in
+    let inside = group-inside walk is more in
+    let left : ℕ = reach_of walk - (walk.step + 1) in
+    let count : reach_of walk - walk.step ≡ suc left = omega arith in
+    let rest : List ℕ = positions_along walk.home (walk.step + 1 + 1) left in
+    ap (λ ones. filter_map give (lane_positions group ones ++ positions_along
+    walk.home (walk.step + 1) (reach_of walk - walk.step))) none
+    ∙ ap (λ ps. filter_map give
+    (ps ++ positions_along walk.home (walk.step + 1) (reach_of walk - walk.step)))
+    (lane_positions-none group)
+    ∙ ap (λ n. filter_map give (positions_along walk.home (walk.step + 1) n)) count
+    ∙ filter_map-append give (group_positions next) rest
+    ∙ ap (λ ts. ts ++ filter_map give rest)
+    (sym (given-lanes give walk.tags.now walk.hash next inside tagged))
+    ∙ sym (filter_map-append give (lane_positions next lanes) rest)
 
 -- the lanes are those of the tag of the hash
 reads_next_group-tag : (walk : Walk) → IsWalk walk → walk.lanes ≡ 0 → walk.step < reach_of walk
@@ -278,17 +352,10 @@ reads_next_group-tag walk is none more =
         taken = is.taken;
         tags = is.tags;
       };
-      left =
-          ap (λ ones. tokens_at places walk.hash (lane_positions group ones ++ positions_along
-          walk.home (walk.step + 1) (reach_of walk - walk.step))) none
-          ∙ ap (λ ps. tokens_at places walk.hash
-          (ps ++ positions_along walk.home (walk.step + 1) (reach_of walk - walk.step)))
-          (lane_positions-none group)
-          ∙ ap (λ n. tokens_at places walk.hash (positions_along walk.home (walk.step + 1) n)) count
-          ∙ filter_map-append (token_of places walk.hash) (group_positions next) rest
-          ∙ ap (λ ts. ts ++ tokens_at places walk.hash rest)
-          (sym (tokens_at-lanes walk.tags.now places walk.hash next inside is.tags))
-          ∙ sym (filter_map-append (token_of places walk.hash) (lane_positions next lanes) rest);
+      left = given_left-next (token_of walk.places walk.hash) walk is more none is.tags;
+      candidates = given_left-next (tagged_token walk.tags.now walk.places walk.hash) walk is more
+          none (λ position token has.
+          (tagged_token-some walk.tags.now walk.places walk.hash position token has).0);
       few = omega (arith, few);
     }
 

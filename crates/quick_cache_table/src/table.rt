@@ -2,13 +2,15 @@
 ghost use Rattle.std.specs.Prelude.{◌≡◌, ℕ, Bool, ◌+◌, ◌-◌, ◌^◌, ◌<◌, ◌≤◌, ◌↔◌, [], min, IsTrue, IsOk, IfOk, IfErr, OnOk, OnErr, IfSome};
 ghost use Rattle.std.specs.Bool.{OnTrue, OnFalse};
 ghost use Rattle.std.specs.Int.NonZero.{non_zero_u32_get};
-ghost use Rattle.quick_cache_table.specs.Table.{HasPair, pair_count, AddsPair, RemovesPair, IsTokensOf, SearchesHash, CallsKeep, FindsByAnswer, ComputesTest, FindsPassing, wanted_room};
+ghost use Rattle.quick_cache_table.specs.Table.{HasPair, pair_count, AddsPair, RemovesPair, IsTokensOf, CoversTokensOf, SearchesHash, CallsKeep, FindsByAnswer, ComputesTest, FindsPassing, wanted_room};
 
+pub(crate) mod candidates;
 pub(crate) mod groups;
 pub(crate) mod places;
 pub(crate) mod tokens;
 pub(crate) mod walk;
 
+pub use candidates::Candidates;
 use groups::{MOST_PAIRS, capacity, groups_for};
 use places::Places;
 use quick_cache_model::{Refusal, Token};
@@ -209,6 +211,25 @@ impl<A: Allocator> Table<A> {
             hash,
         );
         Tokens { walk }
+    }
+
+    /// Tokens of the table, among them each of that hash, in no order that counts.
+    ///
+    /// These are the tokens of all places on the hash's way that have its tag, so that of 255 others
+    /// about one is among them. It reads no hash. A caller who knows a token's owner when he sees it,
+    /// as one who compares keys, needs none.
+    #[inline(always)]
+    pub fn candidates(&self, hash: u64) -> Candidates<'_>
+        ensures { CoversTokensOf self.now hash result }
+    {
+        let walk = Walk::new(
+            self.tags.as_slice(),
+            self.places.seen(),
+            self.reaches.as_slice(),
+            self.mask,
+            hash,
+        );
+        Candidates { walk }
     }
 
     /// A token of that hash for which `is_it` answers true. The tokens are shown to it in no order

@@ -1,6 +1,6 @@
 //! A walk over the places of one hash.
 ghost use Rattle.std.specs.Prelude.{◌≡◌, ◌<◌, ◌∷◌, [], length, count_by, IfSome, IfNone, IsTrue};
-ghost use Rattle.quick_cache_table.specs.TableGroups.{hash_at, holds_pair, place_at, reach_of, IsWhole, IsWalk, tokens_left, AreTokensOf};
+ghost use Rattle.quick_cache_table.specs.TableGroups.{hash_at, holds_pair, place_at, reach_of, IsWhole, IsWalk, tokens_left, candidates_left, AreTokensOf};
 
 use super::groups::{LANES, home_of, lanes_of, tag_of};
 use super::places::Seen;
@@ -114,6 +114,32 @@ impl<'a> Walk<'a> {
             }
         }
         None
+    }
+
+    /// The position of the next place that has the tag of the hash.
+    #[inline(always)]
+    pub(crate) fn next_tagged(&mut self) -> Option<usize>
+        requires { IsWalk self.old }
+        ensures walk { IsWalk self.new }
+        ensures places { self.new.places ≡ self.old.places }
+        ensures none { IfNone result (candidates_left self.old ≡ []) }
+        ensures ended { IfNone result (candidates_left self.new ≡ []) }
+        ensures within { IfSome result (λ position. position < length self.old.places) }
+        ensures some { IfSome result (λ position.
+            let place = place_at self.old.places position in
+            (0 < place.token)
+            × (candidates_left self.old ≡ place.token ∷ candidates_left self.new)) }
+    {
+        while self.lanes == 0 {
+            if self.step >= self.reach() {
+                return None;
+            }
+            self.step += 1;
+            self.lanes = lanes_of(self.tags, self.home ^ self.step, tag_of(self.hash));
+        }
+        let lane = self.lanes.trailing_zeros() as usize;
+        self.lanes &= self.lanes - 1;
+        Some(LANES * (self.home ^ self.step) + lane)
     }
 
     /// The position of the next pair of the hash.
