@@ -7,7 +7,7 @@ use Rattle.quick_cache_slab.specs.LinkedSlab.{LinkedSlab, times, item_at, IsOccu
 use Rattle.std.proofs.lemmas.List.Sums.{sum_by-cons}
 use Rattle.quick_cache_table.proofs.CountedPlaces.{bit}
 use Rattle.quick_cache_slab.proofs.TokenCounts.{times-here, times-other}
-use Rattle.quick_cache_table.specs.Table.{Table, has_pair, HasPair, IsTokensOf}
+use Rattle.quick_cache_table.specs.Table.{Table, has_pair, HasPair, HasToken, IsTokensOf, CoversTokensOf}
 use Rattle.quick_cache_lists.specs.declared.entry.Entry.{Entry}
 use Rattle.quick_cache_lists.specs.declared.entry.Entry.TheVariants.{Item as item_variant, Loading as loading_variant, Ghost as ghost_variant}
 use Rattle.quick_cache_lists.specs.declared.entry.Slot.{Slot}
@@ -373,30 +373,27 @@ module _ {K V P T : Type 0} where
         (λ t. HasPair table hash (non_zero_u32_get t)
         × (is_ghost_at (item_at slab (non_zero_u32_get t)) ≡ true))) seen walked.noted
 
-    -- the same of a walk that seeks an item alone
-    pub PassesNoItem-start : (tokens : List ℕ) → IsTokensOf table hash tokens
+    -- the same of a walk along candidates that seeks an item alone
+    pub PassesNoItem-start : (tokens : List ℕ) → CoversTokensOf table hash tokens
         → PassesNoItem slab table hash stands_for tokens
-    PassesNoItem-start tokens are = record {
-      left_has = λ t some. elim (counted_pair tokens t are) [
-        | inl has ↦ has.0
-        | inr misses ↦ absurd (omega (arith, misses.1))
-      ];
-      passed = λ t has none. elim (counted_pair tokens t are) [
-        | inl there ↦ absurd (omega (arith, there.1))
-        | inr misses ↦ absurd (true≢false (sym has ∙ misses.0))
-      ];
+    PassesNoItem-start tokens covers = record {
+      left_has = λ t some. covers.only t (omega (arith, some, times-count t tokens));
+      passed = λ t has none.
+          absurd (omega (arith, none, times-count t tokens, covers.all t has));
     }
 
     pub PassesNoItem-past : (tokens rest : List ℕ) (token : Token)
         → tokens ≡ non_zero_u32_get token ∷ rest
-        → is_item_under_at stands_for (item_at slab (non_zero_u32_get token)) ≡ false
+        → (HasPair table hash (non_zero_u32_get token)
+        → is_item_under_at stands_for (item_at slab (non_zero_u32_get token)) ≡ false)
         → PassesNoItem slab table hash stands_for tokens
         → PassesNoItem slab table hash stands_for rest
     PassesNoItem-past tokens rest token first differs walked = record {
       left_has = λ t some. walked.left_has t (rw first (omega arith));
       passed = λ t has none. elim (cases_eq (non_zero_u32_get token) t) [
         | inl same ↦ subst
-            (λ (u : ℕ). is_item_under_at stands_for (item_at slab u) ≡ false) same differs
+            (λ (u : ℕ). HasPair table hash u → is_item_under_at stands_for (item_at slab u) ≡ false)
+            same differs has
         | inr other ↦ walked.passed t has (rw first
             (omega (arith, times-other t (non_zero_u32_get token) rest other)))
       ];
@@ -405,7 +402,7 @@ module _ {K V P T : Type 0} where
     pub PassesNoItem-has : (tokens rest : List ℕ) (token : Token)
         → tokens ≡ non_zero_u32_get token ∷ rest
         → PassesNoItem slab table hash stands_for tokens
-        → HasPair table hash (non_zero_u32_get token)
+        → HasToken table (non_zero_u32_get token)
     PassesNoItem-has tokens rest token first walked =
         walked.left_has (non_zero_u32_get token)
         (rw first (omega (arith, times-here (non_zero_u32_get token) rest)))
@@ -425,3 +422,16 @@ module _ {K V P T : Type 0} where
       → (hash t : ℕ) → HasPair table hash t → IsOccupied slab t
   occupied_by_pair slab table keyed hash t has =
       hashed_some hash (item_at slab t) (sym (keyed.pairs hash t) ∙ has)
+
+  -- an entry is under its hash in the table, and under no other
+  pub HasPair-keyed : (slab : LinkedSlab (Slot K V P T)) (table : Table) → IsKeyed slab table
+      → (hash t : ℕ) (slot : Slot K V P T) → item_at slab t ≡ Some slot → slot.hash ≡ hash
+      → HasPair table hash t
+  HasPair-keyed slab table keyed hash t slot at same =
+      keyed.pairs hash t ∙ ap (has_hash hash) at ∙ eq-eqb slot.hash hash same
+
+  pub hash-keyed : (slab : LinkedSlab (Slot K V P T)) (table : Table) → IsKeyed slab table
+      → (hash t : ℕ) (slot : Slot K V P T) → item_at slab t ≡ Some slot → HasPair table hash t
+      → slot.hash ≡ hash
+  hash-keyed slab table keyed hash t slot at has =
+      eqb-true slot.hash hash (ap (has_hash hash) (sym at) ∙ sym (keyed.pairs hash t) ∙ has)

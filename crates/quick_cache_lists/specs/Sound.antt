@@ -3,7 +3,7 @@ use Rattle.std.specs.Prelude.{◌≡◌, ◌≢◌, ℕ, zero, suc, ◌+◌, ◌
 use Rattle.std.specs.Int.NonZero.{non_zero_u32_get}
 use Rattle.std.specs.declared.num.NonZeroU32.{NonZeroU32 as Token}
 use Rattle.quick_cache_slab.specs.LinkedSlab.{LinkedSlab, item_at, ring_from, times, next_token, spare, IsAlone}
-use Rattle.quick_cache_table.specs.Table.{Table, has_pair, HasPair, pair_count, AddsPair}
+use Rattle.quick_cache_table.specs.Table.{HasToken, Table, has_pair, HasPair, pair_count, AddsPair}
 use Rattle.quick_cache_lists.specs.declared.entry.Slot.{Slot}
 use Rattle.quick_cache_lists.specs.declared.ring.Ring.{Ring}
 use Rattle.quick_cache_lists.specs.declared.rings.Rings.{Rings}
@@ -114,9 +114,10 @@ module _ {K V P T : Type 0} where
     pub noted : IfSome shade (λ t. HasPair table hash (non_zero_u32_get t)
         × (is_ghost_at (item_at slab (non_zero_u32_get t)) ≡ true))
 
-  -- a walk along the tokens of a hash, with these left, that passed no item whose key passes
+  -- a walk along candidates for a hash, with these left, that passed no item of that hash whose key
+  -- passes
   pub record PassesNoItem (slab : LinkedSlab (Slot K V P T)) (table : Table) (hash : ℕ)
       (stands_for : K → Bool) (left : List ℕ) : Type 0 where
-    pub left_has : (t : ℕ) → 0 < times t left → HasPair table hash t
+    pub left_has : (t : ℕ) → 0 < times t left → HasToken table t
     pub passed : (t : ℕ) → HasPair table hash t → times t left ≡ 0
         → is_item_under_at stands_for (item_at slab t) ≡ false

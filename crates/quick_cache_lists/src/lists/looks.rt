@@ -49,16 +49,10 @@ impl<K, V, P, T, A: Allocator> Lists<K, V, P, T, A> {
             (HasNoItem (Q.equivalent query.now) hash self.now)
             (λ token. FindsItem (Q.equivalent query.now) hash self.now (number token)) }
     {
-        let mut tokens = self.table.iter_hash(hash);
-        // Nearly always the first is the one that is sought.
-        let first = tokens.next()?;
-        let (slot, _) = unsafe { self.slab.get_unchecked(first) };
-        if slot.is_item_under(query) {
-            return Some(first);
-        }
-        for token in tokens {
+        // The key comes first: where it is the query's, the hash nearly always agrees.
+        for token in self.table.candidates(hash) {
             let (slot, _) = unsafe { self.slab.get_unchecked(token) };
-            if slot.is_item_under(query) {
+            if slot.is_item_under(query) && slot.hash == hash {
                 return Some(token);
             }
         }
