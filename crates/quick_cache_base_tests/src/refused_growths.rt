@@ -32,21 +32,21 @@ fn a_table_that_cannot_grow_keeps_its_pairs(rt: HostRuntime) -> Result<(), Fail>
     let Ok(mut table) = Table::new(&ration) else {
         panic!(rt; "an empty table takes no memory");
     };
-    // A growth asks for the tags, for the places and for the reaches, and keeps what it got.
-    for blocks in 0..2 {
+    // A growth asks for the tags, the reaches, the hashes and the tokens, and keeps what it got.
+    for blocks in 0..3 {
         ration.allow(blocks);
         assert!(rt; table.reserve(1) == Err(Refusal::Memory));
         assert_eq!(rt; table.len(), 0);
         assert!(rt; table.find(5, |_| true).is_none());
     }
-    ration.allow(2);
+    ration.allow(1);
     assert!(rt; table.reserve(1).is_ok());
     Ok(())
 }
 
 #[test]
 fn a_table_with_room_asks_for_no_memory(rt: HostRuntime) -> Result<(), Fail> {
-    let ration = Rationed::new(rt.alloc(), 3);
+    let ration = Rationed::new(rt.alloc(), 4);
     let Ok(mut table) = Table::new(&ration) else {
         panic!(rt; "an empty table takes no memory");
     };

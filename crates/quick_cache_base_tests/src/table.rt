@@ -79,6 +79,26 @@ fn keeps_a_thousand_pairs_of_one_hash(rt: HostRuntime) -> Result<(), Fail> {
 }
 
 #[test]
+fn candidates_have_each_token_of_the_hash(rt: HostRuntime) -> Result<(), Fail> {
+    let mut table = Table::new(rt.alloc())?;
+    let mut none = table.candidates(7);
+    assert!(rt; none.next().is_none());
+    for number in 1..=1000 {
+        put(&mut table, u64::from(number % 10), token(&rt, number))?;
+    }
+    for hash in 0..10 {
+        let mut found = 0usize;
+        for token in table.candidates(hash) {
+            if u64::from(token.get() % 10) == hash {
+                found = found.saturating_add(1);
+            }
+        }
+        assert_eq!(rt; found, 100, "tokens of hash {hash}");
+    }
+    Ok(())
+}
+
+#[test]
 fn gives_room_back(rt: HostRuntime) -> Result<(), Fail> {
     let mut table = Table::new(rt.alloc())?;
     for number in 1..=64 {
