@@ -66,6 +66,26 @@ entry-is_loading {K = K} {V = V} {P = P} {T = T} lists apart token hash entry is
     } ≡ waiting
     same s = cc s
 
+-- and what is seen at it as a key that is being loaded
+pub awaited-is_loading : {K V P : Type 0} (lists : Lists K V P) → AreApart lists
+    → (token hash : ℕ) (awaited : Awaited K P) → StandsIn lists.loading (record {
+      token = token;
+      hash = hash;
+      key = awaited.key;
+      queue = awaited.queue;
+      placeholder = awaited.placeholder;
+    }) → (waiting : HeldLoading K P) → StandsIn lists.loading waiting → waiting.token ≡ token
+    → record {
+      token = token;
+      hash = hash;
+      key = awaited.key;
+      queue = awaited.queue;
+      placeholder = awaited.placeholder;
+    } ≡ waiting
+awaited-is_loading {P = P} lists apart token hash awaited is waiting stands named =
+    entry-is_loading {T = P} lists apart token hash (loading_variant awaited) is waiting stands
+    named awaited refl
+
 -- two tickets are equal where the test says so
 same-ticket : (first second : ℕ) → (first == second) ≡ true → second ≡ first
 same-ticket first second is = sym (eqb-true first second is)
