@@ -1,6 +1,5 @@
-use Rattle.std.proofs.Common.{◌≡◌, ◌+◌, sym, ap, subst, ◌∙◌, arith}
+use Rattle.std.proofs.Common.{◌≡◌, sym, ap, subst, ◌∙◌, arith}
 use Rattle.std.specs.Int.NonZero.{non_zero_u32_get as number}
-use Rattle.quick_cache_model.specs.CacheState.{CacheState, LoadingEntry}
 use Rattle.quick_cache_model.specs.Placeholders.{MeetsPlaceholder}
 use Rattle.quick_cache_model.specs.Touches.{counted_up}
 use Rattle.quick_cache_model.proofs.OrderLaws.{UpToOrder-exact}
