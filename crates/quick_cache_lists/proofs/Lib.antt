@@ -11,6 +11,7 @@ pub mod ValueLemmas
 pub mod ItemLemmas
 pub mod ChangeLemmas
 pub mod ApartLemmas
+mod AwaitedLemmas
 pub mod CountLemmas
 pub mod PutLemmas
 pub mod LeaveLemmas

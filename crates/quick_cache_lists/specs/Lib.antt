@@ -7,3 +7,4 @@ pub mod Walks
 pub mod Copies
 pub mod Lent
 pub mod Placeholders
+pub mod Stored

@@ -7,6 +7,7 @@ use Rattle.std.specs.Int.NonZero.{non_zero_u32_get}
 use Rattle.std.specs.declared.num.NonZeroU32.{NonZeroU32 as Token}
 use Rattle.quick_cache_model.specs.declared.queue.Queue.{Queue}
 use Rattle.quick_cache_model.specs.declared.queue.Queue.TheVariants.{Hot, Cold}
+use Rattle.quick_cache_lists.specs.declared.entry.Awaited.{Awaited}
 use Rattle.quick_cache_lists.specs.declared.entry.Entry.{Entry}
 use Rattle.quick_cache_lists.specs.declared.entry.Entry.TheVariants.{Item as item_variant, Loading as loading_variant, Ghost as ghost_variant}
 use Rattle.quick_cache_lists.specs.declared.found.Found.{Found}
@@ -352,6 +353,18 @@ module _ {K V P : Type 0} where
   -- how many items there are
   abbrev pub item_count : Lists K V P → ℕ
   item_count lists = length lists.hot + length lists.cold + length lists.still
+
+  -- the key that is being loaded under that token is this one
+  abbrev pub IsAwaitedOf : Lists K V P → (token : ℕ) → Awaited K P → Type 0
+  IsAwaitedOf lists token awaited =
+      (hash : ℕ)
+      × StandsIn lists.loading (record {
+        token = token;
+        hash = hash;
+        key = awaited.key;
+        queue = awaited.queue;
+        placeholder = awaited.placeholder;
+      })
 
   -- the item of that token is this one
   abbrev pub IsItemOf : Lists K V P → (token : ℕ) → Item K V → Type 0

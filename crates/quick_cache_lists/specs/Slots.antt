@@ -3,6 +3,7 @@ use Rattle.std.specs.Prelude.{List, [], ◌∷◌, ℕ, Bool, true, false, Optio
 use Rattle.quick_cache_model.specs.CacheState.{Item}
 use Rattle.quick_cache_model.specs.declared.queue.Queue.{Queue}
 use Rattle.quick_cache_model.specs.declared.queue.Queue.TheVariants.{Hot, Cold}
+use Rattle.quick_cache_lists.specs.declared.entry.Awaited.{Awaited}
 use Rattle.quick_cache_lists.specs.declared.entry.Entry.{Entry}
 use Rattle.quick_cache_lists.specs.declared.entry.Entry.TheVariants.{Item as item_variant, Loading as loading_variant, Ghost as ghost_variant}
 use Rattle.quick_cache_lists.specs.declared.entry.Slot.{Slot}
@@ -21,6 +22,10 @@ loading_in AmongCold = 0
 loading_in AmongStill = 0
 loading_in AmongLoading = 1
 loading_in AmongGhosts = 0
+
+-- the list of an item of that weight and queue
+abbrev pub stand_by : (weight : ℕ) → Queue → Stand
+stand_by weight queue = if weight == 0 then AmongStill else ring_stand queue
 
 module _ {K V : Type 0} where
   abbrev pub stand_of_item : Item K V → Stand
@@ -121,6 +126,12 @@ module _ {K V P T : Type 0} where
   abbrev pub has_hash : ℕ → Option (Slot K V P T) → Bool
   has_hash hash None = false
   has_hash hash (Some slot) = eqb slot.hash hash
+
+  -- the key that is being loaded of an entry, if it is one
+  abbrev pub entry_awaited : Entry K V P T → Option (Awaited K P)
+  entry_awaited (item_variant item) = None
+  entry_awaited (loading_variant awaited) = Some awaited
+  entry_awaited ghost_variant = None
 
   -- what the lists show of a slot
   abbrev pub item_in : ℕ → ℕ → Entry K V P T → Option (HeldItem K V)

@@ -8,14 +8,17 @@
 mod entry;
 mod found;
 mod lists;
+mod refs;
 mod resident;
 mod ring;
 mod rings;
 mod store;
+mod stored;
 mod walk;
 
 pub use entry::{Awaited, Entry, Slot};
 pub use found::Found;
 pub use lists::{Copying, Lists, Meaning};
+pub use refs::{AwaitedRef, ItemRef};
 pub use resident::Resident;
 pub use walk::{GhostIter, ItemIter, RingIter};

@@ -12,8 +12,8 @@ mod tokens;
 mod values;
 mod walks;
 
-use crate::entry::Slot;
 use crate::rings::Rings;
+use crate::stored::Stored;
 pub use copies::Copying;
 pub use placeholders::Meaning;
 use quick_cache_model::Refusal;
@@ -29,7 +29,7 @@ const MOST_ENTRIES: usize = 4294967294;
 /// their own, and items of weight 0 and placeholders in none. Each is found by its hash.
 #[derive(Drop)]
 pub struct Lists<K, V, P, T, A: Allocator = Global> {
-    slab: LinkedSlab<Slot<K, V, P, T>, A>,
+    slab: LinkedSlab<Stored<K, V, P, T>, A>,
     table: Table<A>,
     rings: Rings,
     // How many placeholders there are.

@@ -1,28 +1,19 @@
-//! An item, as a slot has it.
-ghost use Rattle.std.specs.Prelude.{◌≡◌, IfOk, OnErr};
-ghost use Rattle.std.specs.Borrow.{sem};
-ghost use Rattle.quick_cache_lists.specs.Copies.{IsItemCopy};
+//! An item, as it comes in and goes out.
+ghost use Rattle.std.specs.Prelude.{◌≡◌};
 ghost use Rattle.quick_cache_lists.specs.Slots.{stand_of_item};
-ghost use Rattle.quick_cache_lists.specs.Lists.{with_counts, with_weight, requeued};
 
 use crate::entry::Stand;
-use quick_cache_model::{Queue, Refusal, Touches};
+use crate::stored::{Body, stand_by};
+use quick_cache_model::Queue;
 use std::marker::Model;
-use std::mem::swap;
 
 /// An item: its pair, the weight that it counts for, how often it was used lately and read, and its
 /// ring.
 #[derive(Drop)]
 pub struct Resident<K, V, T> {
-    mark: u8,
-    queue: Queue,
-    // What readers counted since the cache last took it in.
-    touch: T,
-    // A look-up touches what stands from here on up to the value, so it stands together.
-    reads: u64,
-    key: K,
-    value: V,
-    weight: u64,
+    pub(crate) mark: u8,
+    pub(crate) queue: Queue,
+    pub(crate) body: Body<K, V, T>,
 }
 
 impl<K, V, T> Model for Resident<K, V, T> {
@@ -30,19 +21,12 @@ impl<K, V, T> Model for Resident<K, V, T> {
 
     ghost Value = { Item K V };
 
-    ghost view = { λ r. record {
-      key = r.key;
-      value = r.value;
-      weight = r.weight;
-      mark = r.mark;
-      reads = r.reads;
-      queue = r.queue;
-    } };
+    ghost use Rattle.quick_cache_lists.specs.Stored.{item_of_body};
+
+    ghost view = { λ r. item_of_body r.mark r.queue r.body };
 }
 
 impl<K, V, T> Resident<K, V, T> {
-    ghost use Rattle.quick_cache_lists.specs.Lent.{lends_value};
-
     /// An item that was never read.
     pub fn new(key: K, value: V, weight: u64, mark: u8, queue: Queue, touch: T) -> Self
         ensures { result ≡ record {
@@ -54,22 +38,22 @@ impl<K, V, T> Resident<K, V, T> {
           queue = queue;
         } }
     {
-        Resident {
+        let body = Body {
+            touch,
+            reads: 0,
             key,
             value,
             weight,
-            mark,
-            reads: 0,
-            queue,
-            touch,
-        }
+        };
+        Resident { mark, queue, body }
     }
 
     /// The same item with another count of reads.
     pub fn with_reads(self, reads: u64) -> Self
         ensures { result ≡ record self { reads = reads } }
     {
-        Resident { reads, ..self }
+        let body = Body { reads, ..self.body };
+        Resident { body, ..self }
     }
 
     pub fn queue(&self) -> Queue
@@ -81,7 +65,7 @@ impl<K, V, T> Resident<K, V, T> {
     pub fn weight(&self) -> u64
         ensures { result ≡ self.now.weight }
     {
-        self.weight
+        self.body.weight
     }
 
     pub fn mark(&self) -> u8
@@ -93,21 +77,13 @@ impl<K, V, T> Resident<K, V, T> {
     pub fn key(&self) -> &K
         ensures { result.now ≡ self.now.key }
     {
-        &self.key
+        &self.body.key
     }
 
     pub fn value(&self) -> &V
         ensures { result.now ≡ self.now.value }
     {
-        &self.value
-    }
-
-    /// The value, to write. The item keeps its weight.
-    pub(crate) fn value_mut(&mut self) -> &mut V
-        ensures* writes_back { sem 𝓛 (lends_value K.row V.row T.row self.entry result) }
-        ensures value { result.now ≡ self.old.value }
-    {
-        &mut self.value
+        &self.body.value
     }
 
     /// The key and the value.
@@ -115,99 +91,20 @@ impl<K, V, T> Resident<K, V, T> {
         ensures key { result.0.now ≡ self.now.key }
         ensures value { result.1.now ≡ self.now.value }
     {
-        (&self.key, &self.value)
+        (&self.body.key, &self.body.value)
     }
 
     /// The list of an item: that of its queue, or neither if it weighs nothing.
     pub(crate) fn stand(&self) -> Stand
         ensures { result ≡ stand_of_item self.now }
     {
-        if self.weight == 0 {
-            return Stand::AmongStill;
-        }
-        match self.queue {
-            Queue::Hot => Stand::AmongHot,
-            Queue::Cold => Stand::AmongCold,
-        }
-    }
-
-    /// What readers counted at it since the cache last took it in.
-    pub fn touch(&self) -> &T {
-        &self.touch
+        stand_by(self.body.weight, self.queue)
     }
 
     pub fn reads(&self) -> u64
         ensures { result ≡ self.now.reads }
     {
-        self.reads
-    }
-
-    /// Takes another mark and another count of reads.
-    pub(crate) fn set_counts(&mut self, mark: u8, reads: u64)
-        ensures { self.new ≡ with_counts mark reads self.old }
-    {
-        self.mark = mark;
-        self.reads = reads;
-    }
-
-    /// Takes another queue, mark and weight.
-    pub(crate) fn requeue(&mut self, queue: Queue, mark: u8, weight: u64)
-        ensures { self.new ≡ requeued queue mark weight self.old }
-    {
-        self.queue = queue;
-        self.mark = mark;
-        self.weight = weight;
-    }
-
-    /// Takes another weight.
-    pub(crate) fn set_weight(&mut self, weight: u64)
-        ensures { self.new ≡ with_weight weight self.old }
-    {
-        self.weight = weight;
-    }
-
-    /// Takes the count of touches, which begins anew.
-    pub(crate) fn take_touch(&mut self) -> u64
-    where
-        T: Touches,
-        ensures counted { T.may_count result }
-        ensures same { self.new ≡ self.old }
-    {
-        self.touch.take()
-    }
-
-    /// Exchanges its counter of touches for that of another item.
-    pub(crate) fn swap_touch(&mut self, other: &mut Self)
-        ensures same { self.new ≡ self.old }
-        ensures other { other.new ≡ other.old }
-    {
-        swap(&mut self.touch, &mut other.touch);
-    }
-
-    /// A copy, with no touches. A refusal is for want of memory.
-    pub(crate) fn try_copy(&self) -> Result<Self, Refusal>
-    where
-        K: Clone + Drop,
-        V: Clone + Drop,
-        T: Touches,
-        ensures copies { IfOk result (IsItemCopy K.is_clone V.is_clone self.now) }
-        ensures refused { OnErr result (result ≡ Err Refusal.Memory) }
-    {
-        let Ok(key) = self.key.clone() else {
-            return Err(Refusal::Memory);
-        };
-        let Ok(value) = self.value.clone() else {
-            return Err(Refusal::Memory);
-        };
-        Ok(Resident {
-            key,
-            value,
-            weight: self.weight,
-            mark: self.mark,
-            reads: self.reads,
-            queue: self.queue,
-            touch: T::default(),
-        })
+        self.body.reads
     }
 
     /// The pair, taken apart.
@@ -216,15 +113,13 @@ impl<K, V, T> Resident<K, V, T> {
         T: Drop,
         ensures { result ≡ (self.key, self.value) }
     {
-        let Resident {
+        let Body {
+            touch: _touch,
+            reads: _,
             key,
             value,
             weight: _,
-            mark: _,
-            reads: _,
-            queue: _,
-            touch: _touch,
-        } = self;
+        } = self.body;
         (key, value)
     }
 }

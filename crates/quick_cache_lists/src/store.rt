@@ -8,6 +8,7 @@ ghost use Rattle.quick_cache_lists.specs.Slots.{weight_in};
 ghost use Rattle.quick_cache_lists.specs.Sound.{AddsPairs, IsKeyed, room_of};
 
 use crate::entry::Slot;
+use crate::stored::Stored;
 use quick_cache_model::Token;
 use quick_cache_slab::LinkedSlab;
 use quick_cache_slab::linked_slab::IterFrom;
@@ -17,7 +18,7 @@ use std::alloc::Allocator;
 /// Puts an entry into a slot and its hash into the table.
 #[inline(always)]
 pub(crate) fn place<K, V, P, T, A: Allocator>(
-    slab: &mut LinkedSlab<Slot<K, V, P, T>, A>,
+    slab: &mut LinkedSlab<Stored<K, V, P, T>, A>,
     table: &mut Table<A>,
     slot: Slot<K, V, P, T>,
 ) -> Token
@@ -32,7 +33,7 @@ pub(crate) fn place<K, V, P, T, A: Allocator>(
 {
     slab.validate();
     let hash = slot.hash;
-    let token = match slab.insert(slot) {
+    let token = match slab.insert(Stored::new(slot)) {
         Ok(token) => token,
         Err(_) => unreachable!(),
     };
@@ -43,7 +44,7 @@ pub(crate) fn place<K, V, P, T, A: Allocator>(
 /// Takes an entry out of its slot and its hash out of the table, and answers the token behind it.
 #[inline(always)]
 pub(crate) fn displace<K, V, P, T, A: Allocator>(
-    slab: &mut LinkedSlab<Slot<K, V, P, T>, A>,
+    slab: &mut LinkedSlab<Stored<K, V, P, T>, A>,
     table: &mut Table<A>,
     token: Token,
 ) -> (Slot<K, V, P, T>, Option<Token>)
@@ -57,7 +58,8 @@ pub(crate) fn displace<K, V, P, T, A: Allocator>(
     ensures room { room_of slab.new table.new ≡ room_of slab.old table.old + 1 }
 {
     match slab.remove(token) {
-        Some((slot, next)) => {
+        Some((stored, next)) => {
+            let slot = stored.into_slot();
             let _ = table.remove(slot.hash, token);
             (slot, next)
         }
@@ -68,7 +70,7 @@ pub(crate) fn displace<K, V, P, T, A: Allocator>(
 /// Puts the hash of each of these entries into a table that has none of their tokens.
 pub(crate) fn key_all<K, V, P, T, A: Allocator>(
     table: &mut Table<A>,
-    entries: IterFrom<'_, Slot<K, V, P, T>>,
+    entries: IterFrom<'_, Stored<K, V, P, T>>,
 )
     requires room { length entries ≤ table.old.room }
     requires once { (token : ℕ) → times token (map (λ entry. entry.0) entries) ≤ 1 }

@@ -3,8 +3,8 @@
 ghost use Rattle.std.specs.Prelude.{◌≡◌, length};
 ghost use Rattle.std.specs.Iterator.{YieldsFirst, YieldsFirstBy, item_count};
 
-use crate::entry::{Entry, Slot};
-use crate::resident::Resident;
+use crate::refs::ItemRef;
+use crate::stored::Stored;
 use quick_cache_model::Token;
 use quick_cache_slab::LinkedSlab;
 use quick_cache_slab::linked_slab::Iter;
@@ -68,7 +68,7 @@ impl<'a, S, A: Allocator> Iterator for Walk<'a, S, A> {
 /// The items of a ring; the next to be visited comes first.
 #[derive(Drop)]
 pub struct RingIter<'a, K, V, P, T, A: Allocator = Global> {
-    pub(crate) walk: Walk<'a, Slot<K, V, P, T>, A>,
+    pub(crate) walk: Walk<'a, Stored<K, V, P, T>, A>,
 }
 
 impl<'a, K, V, P, T, A: Allocator> Model for RingIter<'a, K, V, P, T, A> {
@@ -87,18 +87,17 @@ impl<'a, K, V, P, T, A: Allocator> Model for RingIter<'a, K, V, P, T, A> {
 }
 
 impl<'a, K, V, P, T, A: Allocator> Iterator for RingIter<'a, K, V, P, T, A> {
-    type Item = &'a Resident<K, V, T>;
+    type Item = ItemRef<'a, K, V, T>;
 
-    ghost next_gives = { YieldsFirstBy (λ item. item.now) (λ rest. rest) };
+    ghost next_gives = { YieldsFirst (λ rest. rest) };
 
     ghost remaining = { item_count (λ rest. rest) };
 
-    fn next(&mut self) -> Option<&'a Resident<K, V, T>> {
+    fn next(&mut self) -> Option<ItemRef<'a, K, V, T>> {
         let slot = self.walk.next()?;
-        match &slot.entry {
-            Entry::Item(resident) => Some(resident),
-            Entry::Loading(_) => unreachable!(),
-            Entry::Ghost => unreachable!(),
+        match slot.as_item() {
+            Some(item) => Some(item),
+            None => unreachable!(),
         }
     }
 
@@ -118,7 +117,7 @@ impl<'a, K, V, P, T, A: Allocator> FusedIterator for RingIter<'a, K, V, P, T, A>
 /// The hashes of the ghosts, the oldest first.
 #[derive(Drop)]
 pub struct GhostIter<'a, K, V, P, T, A: Allocator = Global> {
-    pub(crate) walk: Walk<'a, Slot<K, V, P, T>, A>,
+    pub(crate) walk: Walk<'a, Stored<K, V, P, T>, A>,
 }
 
 impl<'a, K, V, P, T, A: Allocator> Model for GhostIter<'a, K, V, P, T, A> {
@@ -160,7 +159,7 @@ impl<'a, K, V, P, T, A: Allocator> FusedIterator for GhostIter<'a, K, V, P, T, A
 /// item.
 #[derive(Drop)]
 pub struct ItemIter<'a, K, V, P, T> {
-    pub(crate) slots: Iter<'a, Slot<K, V, P, T>>,
+    pub(crate) slots: Iter<'a, Stored<K, V, P, T>>,
     // How many items are left.
     pub(crate) left: usize,
 }
@@ -179,17 +178,17 @@ impl<'a, K, V, P, T> Model for ItemIter<'a, K, V, P, T> {
 }
 
 impl<'a, K, V, P, T> Iterator for ItemIter<'a, K, V, P, T> {
-    type Item = &'a Resident<K, V, T>;
+    type Item = ItemRef<'a, K, V, T>;
 
-    ghost next_gives = { YieldsFirstBy (λ item. item.now) (λ rest. rest) };
+    ghost next_gives = { YieldsFirst (λ rest. rest) };
 
     ghost remaining = { item_count (λ rest. rest) };
 
-    fn next(&mut self) -> Option<&'a Resident<K, V, T>> {
+    fn next(&mut self) -> Option<ItemRef<'a, K, V, T>> {
         while let Some(slot) = self.slots.next() {
-            if let Entry::Item(resident) = &slot.entry {
+            if let Some(item) = slot.as_item() {
                 self.left -= 1;
-                return Some(resident);
+                return Some(item);
             }
         }
         None

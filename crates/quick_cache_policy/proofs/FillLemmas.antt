@@ -7,7 +7,7 @@ use Rattle.std.proofs.lemmas.List.{map-append}
 use Rattle.quick_cache_model.specs.CacheState.{CacheState, Item, LoadingEntry, SameButOrder, UpToOrder, keys_by}
 use Rattle.quick_cache_model.specs.CacheState.{entered as model_entered}
 use Rattle.quick_cache_model.specs.Eviction.{EvictsToCapacity}
-use Rattle.quick_cache_model.specs.Hooks.{Rules, HookCall, BeforeEvict, EvictCold}
+use Rattle.quick_cache_model.specs.Hooks.{Rules, HookCall, EvictCold}
 use Rattle.quick_cache_model.specs.Placeholders.{IsLoadingTicket, HasNoTicket, GivesUpPlaceholder, MakesRoomFor, FillsPlaceholder}
 use Rattle.quick_cache_model.specs.Touches.{first_mark}
 use Rattle.quick_cache_model.specs.Writes.{new_item, queue_for}
@@ -24,7 +24,7 @@ use Rattle.quick_cache_lists.specs.Views.{loading_entry, loading_entries}
 use Rattle.quick_cache_lists.proofs.StandingLemmas.{Standing, standing_of, known_standing, StandsIn-loading}
 use Rattle.quick_cache_policy.specs.declared.admission.Admission.TheVariants.{Admitted as code_admitted, TooHeavy as code_too_heavy}
 use Rattle.quick_cache_policy.specs.declared.contents.Contents.{Contents}
-use Rattle.quick_cache_policy.specs.Advances.{AreEvictions, Evicting}
+use Rattle.quick_cache_policy.specs.Advances.{Evicting}
 use Rattle.quick_cache_policy.specs.Contents.{AreHashed, IsSound, state_of}
 use Rattle.quick_cache_policy.specs.Filling.{AreFillCalls, Fills}
 use Rattle.quick_cache_policy.specs.Writing.{Checks}
@@ -65,6 +65,26 @@ entry-is_loading {K = K} {V = V} {P = P} {T = T} lists apart token hash entry is
       placeholder = awaited.placeholder;
     } ≡ waiting
     same s = cc s
+
+-- and what is seen at it as a key that is being loaded
+pub awaited-is_loading : {K V P : Type 0} (lists : Lists K V P) → AreApart lists
+    → (token hash : ℕ) (awaited : Awaited K P) → StandsIn lists.loading (record {
+      token = token;
+      hash = hash;
+      key = awaited.key;
+      queue = awaited.queue;
+      placeholder = awaited.placeholder;
+    }) → (waiting : HeldLoading K P) → StandsIn lists.loading waiting → waiting.token ≡ token
+    → record {
+      token = token;
+      hash = hash;
+      key = awaited.key;
+      queue = awaited.queue;
+      placeholder = awaited.placeholder;
+    } ≡ waiting
+awaited-is_loading {P = P} lists apart token hash awaited is waiting stands named =
+    entry-is_loading {T = P} lists apart token hash (loading_variant awaited) is waiting stands
+    named awaited refl
 
 -- two tickets are equal where the test says so
 same-ticket : (first second : ℕ) → (first == second) ≡ true → second ≡ first

@@ -1,20 +1,16 @@
 -- A placeholder that was made: the state that it leads to, and why none is made.
-use Rattle.std.proofs.Common.{◌≡◌, ◌≢◌, ℕ, ◌+◌, ◌-◌, ◌≤◌, ◌<◌, Bool, true, false, true≢false, List, [], ◌∷◌, ◌++◌, Result, Ok, Err, IsErr, IsErrAnd, refl, sym, ap, subst, ◌∙◌, arith}
-use Rattle.std.specs.List.{AllByRecursion}
+use Rattle.std.proofs.Common.{◌≡◌, ◌≢◌, ℕ, ◌+◌, ◌≤◌, ◌<◌, Bool, true, false, true≢false, [], ◌∷◌, ◌++◌, Result, Ok, Err, IsErr, IsErrAnd, refl, sym, ap, subst, ◌∙◌, arith}
 use Rattle.std.specs.Cmp.{IsEquivalence}
 use Rattle.std.proofs.lemmas.List.{map-append}
 use Rattle.quick_cache_model.specs.declared.refusal.Refusal.{Refusal}
 use Rattle.quick_cache_model.specs.declared.refusal.Refusal.TheVariants.{Memory, SlotsFull, TicketsSpent}
-use Rattle.quick_cache_model.specs.declared.queue.Queue.{Queue}
-use Rattle.quick_cache_model.specs.declared.queue.Queue.TheVariants.{Hot, Cold}
-use Rattle.quick_cache_model.specs.CacheState.{CacheState, LoadingEntry, SameButOrder, IsValid, keys_by}
+use Rattle.quick_cache_model.specs.CacheState.{CacheState, LoadingEntry, SameButOrder, keys_by}
 use Rattle.quick_cache_model.specs.Finding.{HasNoKey, HasNothing}
 use Rattle.quick_cache_model.specs.Lookups.{after_miss}
-use Rattle.quick_cache_model.specs.Placeholders.{with_placeholder, MakesPlaceholder}
-use Rattle.quick_cache_model.specs.Refusals.{IsProvided, MayRefuse, needs_of_placeholder, tickets_spent, slots_full, memory_refused, slots_taken, slot_count}
+use Rattle.quick_cache_model.specs.Placeholders.{with_placeholder}
+use Rattle.quick_cache_model.specs.Refusals.{IsProvided, needs_of_placeholder, tickets_spent, slots_full, memory_refused, slots_taken, slot_count}
 use Rattle.quick_cache_model.specs.Touches.{counted_up}
 use Rattle.quick_cache_model.proofs.EachElement.{all-push}
-use Rattle.quick_cache_model.proofs.EqualKeys.{keys_by-absent}
 use Rattle.quick_cache_model.proofs.Valid.Edits.{after_miss-valid, with_placeholder-valid}
 use Rattle.quick_cache_model.proofs.Valid.Orders.{SameButOrder-valid}
 use Rattle.quick_cache_lists.specs.declared.entry.Awaited.{Awaited}
@@ -22,8 +18,8 @@ use Rattle.quick_cache_lists.specs.declared.entry.Entry.TheVariants.{Loading as 
 use Rattle.quick_cache_lists.specs.Lists.{HeldLoading, Lists, PutsLast, slots_left}
 use Rattle.quick_cache_lists.specs.Views.{loading_entry, loading_entries}
 use Rattle.quick_cache_policy.specs.declared.contents.Contents.{Contents}
-use Rattle.quick_cache_policy.specs.Contents.{AreHashed, IsSound, state_of}
-use Rattle.quick_cache_policy.specs.Loading.{IsMade, MakesNone, Makes}
+use Rattle.quick_cache_policy.specs.Contents.{IsSound, state_of}
+use Rattle.quick_cache_policy.specs.Loading.{MakesNone, Makes}
 use Rattle.quick_cache_policy.proofs.AnswerLemmas.{entry_count-taken}
 use Rattle.quick_cache_policy.proofs.EnterLemmas.{state_with}
 use Rattle.quick_cache_policy.proofs.SoundLemmas.{state_of-reordered, AreHashed-reordered}

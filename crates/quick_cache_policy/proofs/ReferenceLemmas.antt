@@ -1,11 +1,11 @@
 -- Values that are written where they stand, and items that are weighed anew.
-use Rattle.std.proofs.Common.{◌≡◌, ℕ, ◌+◌, ◌<◌, ◌≤◌, Bool, true, false, cond, Option, Some, None, MatchOption, List, [], ◌∷◌, ◌++◌, map, refl, sym, ap, subst, ◌∙◌, arith}
+use Rattle.std.proofs.Common.{◌≡◌, ℕ, ◌<◌, ◌≤◌, Bool, true, false, cond, Option, Some, None, MatchOption, List, [], ◌∷◌, ◌++◌, map, refl, sym, ap, subst, ◌∙◌, arith}
 use Rattle.std.specs.Prelude.{IsSome}
 use Rattle.std.specs.Cmp.{IsEquivalence}
 use Rattle.std.specs.List.{AllByRecursion, count_by}
 use Rattle.std.proofs.lemmas.List.{map-append}
 use Rattle.std.proofs.lemmas.List.Sorted.{sum_by-IsPermutation}
-use Rattle.quick_cache_model.specs.CacheState.{CacheState, Item, LoadingEntry, Place, InHot, InCold, InStill, SameButOrder, UpToOrder, IsValid, keys_by, rewritten}
+use Rattle.quick_cache_model.specs.CacheState.{CacheState, Item, LoadingEntry, Place, InHot, InCold, InStill, SameButOrder, IsValid, keys_by, rewritten}
 use Rattle.quick_cache_model.specs.CacheState.{items_at as model_items_at, with_items as model_with_items}
 use Rattle.quick_cache_model.specs.Finding.{IsItemAt, HasNoItem}
 use Rattle.quick_cache_model.specs.Hooks.{Rules}
@@ -14,13 +14,13 @@ use Rattle.quick_cache_model.proofs.OrderLaws.{SameButOrder-keys}
 use Rattle.quick_cache_model.proofs.Valid.Edits.{instead-valid}
 use Rattle.quick_cache_model.proofs.Valid.Places.{keys_by-rewritten, rewritten-same, IsInPlace-marked}
 use Rattle.quick_cache_model.proofs.Valid.States.{IsValid-in_place}
-use Rattle.quick_cache_lists.specs.Lists.{HeldItem, Lists, AreApart, HasItem, FindsItem, IsItemOf, Rewrites, Reweighs, items_at, with_items, with_change, with_value, with_weight}
+use Rattle.quick_cache_lists.specs.Lists.{HeldItem, Lists, AreApart, HasItem, FindsItem, IsItemOf, Rewrites, Reweighs, with_items, with_change, with_value, with_weight}
 use Rattle.quick_cache_lists.specs.Views.{items_of}
 use Rattle.quick_cache_lists.proofs.StandingLemmas.{found-same}
 use Rattle.quick_cache_policy.specs.declared.contents.Contents.{Contents}
 use Rattle.quick_cache_policy.specs.Contents.{AreHashed, IsSound, state_of}
 use Rattle.quick_cache_policy.specs.References.{count_under, valued, with_value_under, ReweighsUnder}
-use Rattle.quick_cache_policy.proofs.EnterLemmas.{state_with, with_items-state, split-state, AreHashed-instead, held-under}
+use Rattle.quick_cache_policy.proofs.EnterLemmas.{state_with, with_items-state, AreHashed-instead, held-under}
 use Rattle.quick_cache_policy.proofs.FindLemmas.{IsItemAt-stands}
 use Rattle.quick_cache_policy.proofs.LookupLemmas.{change-at}
 use Rattle.quick_cache_policy.proofs.RewriteLemmas.{over_item-sound, over_item-state}

@@ -130,11 +130,7 @@ impl<K: Eq + Hash + Drop, V: Drop, P: SharedPlaceholder<K>, A: Allocator> Conten
         ensures same { self.new ≡ record self.old { hits = self.new.hits } }
     {
         self.lists.apart();
-        let shared = match &self.lists.entry(token).entry {
-            Entry::Loading(awaited) => awaited.placeholder.share(),
-            Entry::Item(_) => unreachable!(),
-            Entry::Ghost => unreachable!(),
-        };
+        let shared = self.lists.awaited(token).placeholder().share();
         self.hits = self.hits.saturating_add(1);
         shared
     }

@@ -141,11 +141,7 @@ impl<K: Eq + Hash + Drop, V: Drop, P: SharedPlaceholder<K>, A: Allocator> Conten
         } }
     {
         self.lists.apart();
-        let queue = match &self.lists.entry(token).entry {
-            Entry::Loading(awaited) => awaited.queue,
-            Entry::Item(_) => unreachable!(),
-            Entry::Ghost => unreachable!(),
-        };
+        let queue = self.lists.awaited(token).queue();
         let Weighed { value, weight } = weighed;
         let item = Resident::new(key, value, weight, 1, queue, P::Touch::default());
         let _ = self.lists.replace(token, false, Entry::Item(item));

@@ -6,18 +6,22 @@ ghost use Rattle.quick_cache_policy.specs.Finding.{AreUnder, IsThere};
 
 use crate::contents::Contents;
 use crate::placeholder::SharedPlaceholder;
-use quick_cache_lists::Resident;
+use quick_cache_lists::ItemRef;
 use quick_cache_model::Equivalent;
 use std::alloc::Allocator;
 use std::hash::Hash;
 
 impl<K: Eq + Hash, V, P: SharedPlaceholder<K>, A: Allocator> Contents<K, V, P, A> {
     /// The item under the query. Nothing changes.
-    pub fn peek<Q: Equivalent<K>>(&self, hash: u64, query: &Q) -> Option<&Resident<K, V, P::Touch>>
+    pub fn peek<Q: Equivalent<K>>(
+        &self,
+        hash: u64,
+        query: &Q,
+    ) -> Option<ItemRef<'_, K, V, P::Touch>>
         requires under { AreUnder (Q.equivalent query.now) hash self.now.lists }
         ensures { MatchOption result
             (HasNoItem (Q.equivalent query.now) (state_of P.ticket_of self.now))
-            (λ item. IsThere (Q.equivalent query.now) (state_of P.ticket_of self.now) item.now) }
+            (λ item. IsThere (Q.equivalent query.now) (state_of P.ticket_of self.now) item) }
     {
         self.lists.apart();
         let Some(token) = self.lists.find_item(hash, query) else {

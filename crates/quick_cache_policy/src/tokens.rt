@@ -8,17 +8,17 @@ ghost use Rattle.quick_cache_policy.specs.Tokens.{TakesItem, TakesToken};
 
 use crate::contents::Contents;
 use crate::placeholder::SharedPlaceholder;
-use quick_cache_lists::{Entry, Resident};
+use quick_cache_lists::{Entry, ItemRef};
 use quick_cache_model::Token;
 use std::alloc::Allocator;
 use std::hash::Hash;
 
 impl<K: Eq + Hash, V, P: SharedPlaceholder<K>, A: Allocator> Contents<K, V, P, A> {
     /// The item of a token, if one stands there. Nothing changes.
-    pub fn peek_token(&self, token: Token) -> Option<&Resident<K, V, P::Touch>>
+    pub fn peek_token(&self, token: Token) -> Option<ItemRef<'_, K, V, P::Touch>>
         ensures { MatchOption result
             (¬ HasItemToken self.now.lists (number token))
-            (λ item. IsItemOf self.now.lists (number token) item.now) }
+            (λ item. IsItemOf self.now.lists (number token) item) }
     {
         self.lists.item_at(token)
     }

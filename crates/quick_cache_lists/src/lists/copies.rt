@@ -4,7 +4,9 @@ ghost use Rattle.quick_cache_lists.specs.Copies.{AreCopies, IsAwaitedCopy, IsSlo
 
 use crate::entry::{Awaited, Entry, Slot};
 use crate::lists::Lists;
+use crate::refs::AwaitedRef;
 use crate::store::key_all;
+use crate::stored::Stored;
 use quick_cache_model::{Refusal, Touches};
 use quick_cache_slab::linked_slab::CopyItem;
 use quick_cache_table::Table;
@@ -32,9 +34,9 @@ struct Copier<'a, C> {
     by: &'a C,
 }
 
-impl<K: Clone + Drop, P> Awaited<K, P> {
+impl<'a, K: Clone + Drop, P> AwaitedRef<'a, K, P> {
     // A copy of a key that is being loaded. A refusal is for want of memory.
-    fn try_copy<C: Copying<K, P>>(&self, by: &C) -> Result<Self, Refusal>
+    fn try_copy<C: Copying<K, P>>(&self, by: &C) -> Result<Awaited<K, P>, Refusal>
         ensures copies { IfOk result (IsAwaitedCopy K.is_clone (C.shares by.now) self.now) }
         ensures refused { OnErr result (result ≡ Err Refusal.Memory) }
     {
@@ -44,38 +46,36 @@ impl<K: Clone + Drop, P> Awaited<K, P> {
         Ok(Awaited {
             key,
             queue: self.queue,
-            placeholder: by.share(&self.placeholder),
+            placeholder: by.share(self.placeholder),
         })
     }
 }
 
 impl<'a, K: Clone + Drop, V: Clone + Drop, P: Drop, T: Touches, C: Copying<K, P>> CopyItem<
-    Slot<K, V, P, T>,
+    Stored<K, V, P, T>,
 > for Copier<'a, C> {
     ghost is_copy = { λ copier. IsSlotCopy K.is_clone V.is_clone (C.hash_of copier.by.now)
         (C.shares copier.by.now) };
 
-    fn copy(&self, slot: &Slot<K, V, P, T>) -> Result<Slot<K, V, P, T>, Refusal> {
-        match &slot.entry {
-            Entry::Item(resident) => {
-                let copy = resident.try_copy()?;
-                Ok(Slot {
-                    hash: self.by.hash(copy.key()),
-                    entry: Entry::Item(copy),
-                })
-            }
-            Entry::Loading(awaited) => {
-                let copy = awaited.try_copy(self.by)?;
-                Ok(Slot {
-                    hash: self.by.hash(&copy.key),
-                    entry: Entry::Loading(copy),
-                })
-            }
-            Entry::Ghost => Ok(Slot {
-                hash: slot.hash,
-                entry: Entry::Ghost,
-            }),
+    fn copy(&self, stored: &Stored<K, V, P, T>) -> Result<Stored<K, V, P, T>, Refusal> {
+        if let Some(item) = stored.as_item() {
+            let copy = item.try_copy()?;
+            return Ok(Stored::new(Slot {
+                hash: self.by.hash(copy.key()),
+                entry: Entry::Item(copy),
+            }));
         }
+        if let Some(awaited) = stored.as_awaited() {
+            let copy = awaited.try_copy(self.by)?;
+            return Ok(Stored::new(Slot {
+                hash: self.by.hash(&copy.key),
+                entry: Entry::Loading(copy),
+            }));
+        }
+        Ok(Stored::new(Slot {
+            hash: stored.hash,
+            entry: Entry::Ghost,
+        }))
     }
 }
 

@@ -2,12 +2,11 @@
 ghost use Rattle.std.specs.Prelude.{◌≡◌, MatchOption};
 ghost use Rattle.std.specs.Int.NonZero.{non_zero_u32_get as number};
 ghost use Rattle.quick_cache_model.specs.CacheState.{ring_place};
-ghost use Rattle.quick_cache_lists.specs.Lists.{Finds, FindsItem, HasNoItem, HasEntry, IsEntry, HasItemToken, IsItemOf, HasRingToken, next_in_ring, IsFirstAbove, number_or_zero, IsFirstOf, items_at};
+ghost use Rattle.quick_cache_lists.specs.Lists.{Finds, FindsItem, HasNoItem, HasItemToken, IsItemOf, HasLoadingToken, IsAwaitedOf, HasRingToken, next_in_ring, IsFirstAbove, number_or_zero, IsFirstOf, items_at};
 
-use crate::entry::Slot;
 use crate::found::Found;
 use crate::lists::Lists;
-use crate::resident::Resident;
+use crate::refs::{AwaitedRef, ItemRef};
 use quick_cache_model::{Equivalent, Queue, Token};
 use std::alloc::Allocator;
 use std::hash::Hash;
@@ -79,9 +78,9 @@ impl<K, V, P, T, A: Allocator> Lists<K, V, P, T, A> {
     }
 
     /// The item of a token.
-    pub fn item(&self, token: Token) -> &Resident<K, V, T>
+    pub fn item(&self, token: Token) -> ItemRef<'_, K, V, T>
         requires { HasItemToken self.now (number token) }
-        ensures { IsItemOf self.now (number token) result.now }
+        ensures { IsItemOf self.now (number token) result }
     {
         let (slot, _) = unsafe { self.slab.get_unchecked(token) };
         slot.item()
@@ -97,13 +96,16 @@ impl<K, V, P, T, A: Allocator> Lists<K, V, P, T, A> {
         next
     }
 
-    /// The entry of a token, and its hash.
-    pub fn entry(&self, token: Token) -> &Slot<K, V, P, T>
-        requires { HasEntry self.now (number token) }
-        ensures { IsEntry self.now (number token) result.now.hash result.now.entry }
+    /// The key that is being loaded under a token.
+    pub fn awaited(&self, token: Token) -> AwaitedRef<'_, K, P>
+        requires { HasLoadingToken self.now (number token) }
+        ensures { IsAwaitedOf self.now (number token) result }
     {
         let (found, _) = unsafe { self.slab.get_unchecked(token) };
-        found
+        match found.as_awaited() {
+            Some(awaited) => awaited,
+            None => unreachable!(),
+        }
     }
 
     /// The token of the item with the least token above this one, or the least of all.

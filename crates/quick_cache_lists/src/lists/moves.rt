@@ -44,10 +44,10 @@ impl<K, V, P, T, A: Allocator> Lists<K, V, P, T, A> {
         self.slab.validate();
         let next = self.slab.unlink(token);
         let (slot, _) = unsafe { self.slab.get_mut_unchecked(token) };
-        let from = slot.entry.stand();
-        let weighed = slot.entry.weight();
+        let from = slot.stand();
+        let weighed = slot.weight();
         slot.requeue(queue, mark, weight);
-        let to = slot.entry.stand();
+        let to = slot.stand();
         self.rings.leave(token, next, from, restarts, weighed);
         self.rings.enter(&mut self.slab, token, to, weight);
     }

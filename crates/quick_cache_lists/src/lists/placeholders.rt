@@ -4,8 +4,8 @@ ghost use Rattle.std.specs.Bool.{OnTrue};
 ghost use Rattle.std.specs.Int.NonZero.{non_zero_u32_get as number};
 ghost use Rattle.quick_cache_lists.specs.Placeholders.{HasNoPlaceholder, FindsPlaceholder, is_meant};
 
-use crate::entry::{Entry, Slot};
 use crate::lists::Lists;
+use crate::stored::{Stored, StoredEntry};
 use quick_cache_model::Token;
 use std::alloc::Allocator;
 
@@ -18,15 +18,15 @@ pub trait Meaning<K, P> {
         ensures { result ≡ means self.now placeholder.now };
 }
 
-impl<K, V, P, T> Slot<K, V, P, T> {
+impl<K, V, P, T> Stored<K, V, P, T> {
     /// Whether it has a placeholder that is meant.
     fn is_meant<M: Meaning<K, P>>(&self, by: &M) -> bool
         ensures { result ≡ is_meant (M.means by.now) self.now }
     {
         match &self.entry {
-            Entry::Item(_) => false,
-            Entry::Loading(awaited) => by.means(&awaited.placeholder),
-            Entry::Ghost => false,
+            StoredEntry::Item(_, _, _) => false,
+            StoredEntry::Loading(_, _, placeholder) => by.means(placeholder),
+            StoredEntry::Ghost => false,
         }
     }
 }

@@ -3,25 +3,20 @@ ghost use Rattle.std.specs.Prelude.{MatchOption};
 ghost use Rattle.std.specs.Int.NonZero.{non_zero_u32_get as number};
 ghost use Rattle.quick_cache_lists.specs.Lists.{HasItemToken, IsItemOf};
 
-use crate::entry::Entry;
 use crate::lists::Lists;
-use crate::resident::Resident;
+use crate::refs::ItemRef;
 use quick_cache_model::Token;
 use std::alloc::Allocator;
 
 impl<K, V, P, T, A: Allocator> Lists<K, V, P, T, A> {
     /// The item of a token, if one stands there: a placeholder or a ghost is none.
-    pub fn item_at(&self, token: Token) -> Option<&Resident<K, V, T>>
+    pub fn item_at(&self, token: Token) -> Option<ItemRef<'_, K, V, T>>
         ensures { MatchOption result
             (¬ HasItemToken self.now (number token))
-            (λ item. IsItemOf self.now (number token) item.now) }
+            (λ item. IsItemOf self.now (number token) item) }
     {
         let (slot, _) = self.slab.get(token)?;
-        match &slot.entry {
-            Entry::Item(resident) => Some(resident),
-            Entry::Loading(_) => None,
-            Entry::Ghost => None,
-        }
+        slot.as_item()
     }
 
     /// No item has the number 0 for its token.

@@ -19,6 +19,6 @@ impl<K, V, P, T, A: Allocator> Lists<K, V, P, T, A> {
         ensures value { IsValueAt self.old (number token) result.now }
     {
         let (slot, _) = unsafe { self.slab.get_mut_unchecked(token) };
-        slot.entry.value_mut()
+        slot.value_mut()
     }
 }

@@ -7,7 +7,7 @@ pub returns-clause-placed : goal.returns-clause-placed
 returns-clause-placed g c =
     let at = c.in-Ok.ensures.token in
     rw at (IsPlaced-from c.args.slab.now c.insert.new.self c.args.slot c.validate.ensures
-    c.in-Ok.ensures.placed (rw at at c.in-Ok.ensures.alone))
+    (rw c.new.ensures at c.in-Ok.ensures.placed) (rw at at c.in-Ok.ensures.alone))
 
 pub returns-clause-keyed : goal.returns-clause-keyed
 returns-clause-keyed g c =

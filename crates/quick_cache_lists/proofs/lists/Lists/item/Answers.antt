@@ -29,5 +29,5 @@ returns g c =
       rw (← c.self.view_is)
           (HasItem-from i.slab i.table i.rings.hot i.rings.cold i.rings.ghosts
           c.self.invariant.standing (number c.args.token) c.get_unchecked.result.0.now.hash
-          c.item.result.now at),
+          c.item.result at),
     )

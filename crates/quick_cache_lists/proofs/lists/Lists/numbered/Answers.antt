@@ -1,4 +1,3 @@
-use Rattle.std.proofs.Common.{◌≡◌, Option, Some, None, sym, ◌∙◌}
 use Rattle.quick_cache_lists.proofs.ItemLemmas.{item_by_token}
 use Rattle.quick_cache_lists.proofs.lists.Lists.numbered.Goals as goal
 

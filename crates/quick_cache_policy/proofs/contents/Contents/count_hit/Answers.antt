@@ -1,16 +1,12 @@
-use Rattle.std.proofs.Common.{◌≡◌, ℕ, ◌+◌, None, refl, sym, ap, subst, ◌∙◌, arith}
+use Rattle.std.proofs.Common.{◌≡◌, ◌+◌, refl, sym, ap, subst, ◌∙◌, arith}
 use Rattle.std.specs.Int.NonZero.{non_zero_u32_get as number}
-use Rattle.quick_cache_model.specs.CacheState.{IsValid, default_mark_cut}
-use Rattle.quick_cache_model.specs.Lookups.{LooksUp}
+use Rattle.quick_cache_model.specs.CacheState.{default_mark_cut}
 use Rattle.quick_cache_model.specs.Removal.{pair_of}
 use Rattle.quick_cache_model.specs.Touches.{counted_up, raised_by}
-use Rattle.quick_cache_model.proofs.OrderLaws.{UpToOrder-exact}
-use Rattle.quick_cache_model.proofs.Valid.Edits.{after_miss-valid}
 use Rattle.quick_cache_lists.specs.Lists.{HeldItem}
 use Rattle.quick_cache_lists.proofs.StandingLemmas.{found-same}
-use Rattle.quick_cache_policy.specs.Contents.{IsSound, state_of}
+use Rattle.quick_cache_policy.specs.Contents.{IsSound}
 use Rattle.quick_cache_policy.specs.Finding.{IsLookedUp}
-use Rattle.quick_cache_policy.proofs.FindLemmas.{none-found, HasNoItem-state}
 use Rattle.quick_cache_policy.proofs.LookupLemmas.{counted, looks_up-hit, counted-item, counted-sound}
 use Rattle.quick_cache_policy.proofs.contents.Contents.count_hit.Goals as goal
 
@@ -22,7 +18,7 @@ returns-clause-looks_up g c =
     let stands_for = g.Q.Equivalent.equivalent c.args._query.now in
     let t = number c.args.token in
     let apart = c.apart.ensures.apart in
-    let item = c.item-item.result.now in
+    let item = c.item-item.result in
     let hash = c.item-item.ensures.0 in
     let has = c.item-item.ensures.1 in
     let passes = ap (λ (h : HeldItem _ _). stands_for h.item.key)
@@ -62,7 +58,7 @@ returns-clause-sound g c = λ hashed sound.
     let stands_for = g.Q.Equivalent.equivalent c.args._query.now in
     let t = number c.args.token in
     let apart = c.apart.ensures.apart in
-    let item = c.item-item.result.now in
+    let item = c.item-item.result in
     let hash = c.item-item.ensures.0 in
     let has = c.item-item.ensures.1 in
     let passes = ap (λ (h : HeldItem _ _). stands_for h.item.key)

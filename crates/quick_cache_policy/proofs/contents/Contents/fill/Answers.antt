@@ -1,14 +1,14 @@
-use Rattle.std.proofs.Common.{◌≡◌, ◌==◌, ◌≢◌, true, ℕ, ◌+◌, List, [], ◌∷◌, ◌++◌, length, if◌then◌else◌, refl, sym, ap, subst, ◌∙◌, inl, inr, arith}
+use Rattle.std.proofs.Common.{◌≡◌, ◌==◌, true, ℕ, ◌+◌, [], ◌∷◌, ◌++◌, length, if◌then◌else◌, refl, sym, ap, subst, ◌∙◌, inl, inr, arith}
 use Rattle.std.specs.Int.NonZero.{non_zero_u32_get as number}
 use Rattle.quick_cache_model.specs.declared.queue.Queue.TheVariants.{Hot, Cold}
 use Rattle.quick_cache_model.specs.CacheState.{CacheState, keys_by, entered}
-use Rattle.quick_cache_model.specs.Hooks.{HookCall, EvictCold, Calls}
+use Rattle.quick_cache_model.specs.Hooks.{EvictCold, Calls}
 use Rattle.quick_cache_model.specs.Placeholders.{MakesRoomFor}
 use Rattle.quick_cache_model.specs.Writes.{new_item, queue_for}
 use Rattle.quick_cache_lists.specs.declared.entry.Awaited.{Awaited}
-use Rattle.quick_cache_lists.specs.Lists.{HeldLoading, Lists, StandsIn, IsEntry, without_entry}
+use Rattle.quick_cache_lists.specs.Lists.{HeldLoading, Lists, StandsIn, IsEntry}
 use Rattle.quick_cache_lists.specs.Views.{loading_entry, loading_entries}
-use Rattle.quick_cache_lists.proofs.StandingLemmas.{loading-hash, loading-not_item, loading-not_ghost}
+use Rattle.quick_cache_lists.proofs.StandingLemmas.{loading-not_item, loading-not_ghost}
 use Rattle.quick_cache_policy.specs.declared.admission.Admission.TheVariants.{Admitted as code_admitted, TooHeavy as code_too_heavy}
 use Rattle.quick_cache_policy.specs.Advances.{Evicting}
 use Rattle.quick_cache_policy.specs.Filling.{Fills}
@@ -19,7 +19,7 @@ use Rattle.quick_cache_policy.specs.Work.{WorksWithin}
 use Rattle.quick_cache_policy.proofs.AnswerLemmas.{WorksWithin-none}
 use Rattle.quick_cache_policy.proofs.EnterLemmas.{state_with}
 use Rattle.quick_cache_policy.proofs.FillLemmas.{entry-is_loading, waiting-under, left, left-state, left-there, left-sound, left-nowhere, left-count, Fills-admitted, Fills-too_heavy}
-use Rattle.quick_cache_policy.proofs.LoopLemmas.{Calls-then, Calls-map}
+use Rattle.quick_cache_policy.proofs.LoopLemmas.{Calls-then}
 use Rattle.quick_cache_policy.proofs.contents.Contents.fill.Goals as goal
 
 pub take-slot-requires : goal.take-slot-requires

@@ -1,37 +1,22 @@
 use Rattle.std.proofs.Common.{[], ap, subst, ◌∙◌, inl, inr}
 use Rattle.std.specs.Int.NonZero.{non_zero_u32_get as number}
 use Rattle.quick_cache_model.specs.CacheState.{Item}
-use Rattle.quick_cache_lists.specs.Lists.{Finds}
+use Rattle.quick_cache_lists.specs.Lists.{HeldLoading, Finds}
 use Rattle.quick_cache_lists.specs.declared.found.Found.TheVariants.{Loading as found_loading}
-use Rattle.quick_cache_lists.proofs.StandingLemmas.{loading-queue, loading-not_item, loading-not_ghost}
 use Rattle.quick_cache_policy.specs.Policies.{rules_by}
 use Rattle.quick_cache_policy.specs.Writing.{AreAdmittedCalls, IsReplacement}
+use Rattle.quick_cache_policy.proofs.FillLemmas.{awaited-is_loading}
 use Rattle.quick_cache_policy.proofs.OverwriteLemmas.{over_loading-writes, over_loading-sound, over_loading-count}
 use Rattle.quick_cache_policy.proofs.BoundLemmas.{PaysFor-within}
 use Rattle.quick_cache_policy.proofs.contents.Contents.insert_over_loading.Goals as goal
 
-pub entry-requires : goal.entry-requires
-entry-requires g c =
-    inr (inl (c.requires.found.waiting, c.requires.found.stands, c.requires.found.named))
+pub awaited-requires : goal.awaited-requires
+awaited-requires g c =
+    (c.requires.found.waiting, c.requires.found.stands, c.requires.found.named)
 
 pub replace-requires : goal.replace-requires
 replace-requires g c =
     inr (inl (c.requires.found.waiting, c.requires.found.stands, c.requires.found.named))
-
--- what has the token of a placeholder is that
-pub unreachable-requires : goal.unreachable-requires
-unreachable-requires g c =
-    let found = c.requires.found in
-    loading-not_item c.args.self.now.lists c.apart.ensures.apart (number c.args.token)
-    c.entry.result.now.hash c.entry.result.now.entry c.entry.ensures found.waiting found.stands
-    found.named _ c.in-Item.is
-
-pub unreachable-requires-in-Ghost : goal.unreachable-requires-in-Ghost
-unreachable-requires-in-Ghost g c =
-    let found = c.requires.found in
-    loading-not_ghost c.args.self.now.lists c.apart.ensures.apart (number c.args.token)
-    c.entry.result.now.hash c.entry.result.now.entry c.entry.ensures found.waiting found.stands
-    found.named c.in-Ghost.is
 
 -- the lists are sound once the item stands in the placeholder's place
 pub evict_to_capacity-requires : goal.evict_to_capacity-requires
@@ -56,9 +41,9 @@ returns-clause-writes g c =
     let lists = c.args.self.now.lists in
     let found = subst (λ h. Finds (g.K.PartialEq.eq key) h lists (found_loading c.args.token))
     c.requires.hash_is c.requires.found in
-    let queue = loading-queue lists c.apart.ensures.apart (number c.args.token)
-    c.entry.result.now.hash c.entry.result.now.entry c.entry.ensures found.waiting found.stands
-    found.named c.in-Loading.awaited c.in-Loading.is in
+    let queue = c.queue-queue.ensures ∙ ap (λ (w : HeldLoading _ _). w.queue)
+    (awaited-is_loading lists c.apart.ensures.apart (number c.args.token) c.awaited.ensures.0
+    c.awaited.result c.awaited.ensures.1 found.waiting found.stands found.named) in
     let evicts = c.evict_to_capacity.ensures.evicts in
     record {
       calls = evicts.calls;

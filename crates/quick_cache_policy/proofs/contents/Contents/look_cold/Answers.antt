@@ -24,7 +24,7 @@ item-item-requires g c =
 pub returns-then-mark-gt0-clause-looks : goal.returns-then-mark-gt0-clause-looks
 returns-then-mark-gt0-clause-looks g c =
     let is = first-touched_item c.apart.ensures.apart c.in-Some.ensures c.take_touches.ensures
-    c.apart-2.ensures.apart c.item-item.result.now c.item-item.ensures in
+    c.apart-2.ensures.apart c.item-item.result c.item-item.ensures in
     first-looked c.apart.ensures.apart c.in-Some.ensures c.take_touches.ensures
     (g.M.Policy.steady c.args.terms.now) (g.M.Policy.pinned c.args.terms.now) Marked
     (omega (arith, c.if-mark-gt0.true, c.mark.ensures, ap (λ (i : Item _ _). i.mark) is))
@@ -42,7 +42,7 @@ returns-then-mark-gt0-clause-same g c =
 pub returns-then-not-is_pinned-clause-looks : goal.returns-then-not-is_pinned-clause-looks
 returns-then-not-is_pinned-clause-looks g c =
     let is = first-touched_item c.apart.ensures.apart c.in-Some.ensures c.take_touches.ensures
-    c.apart-2.ensures.apart c.item-item.result.now c.item-item.ensures in
+    c.apart-2.ensures.apart c.item-item.result c.item-item.ensures in
     first-looked c.apart.ensures.apart c.in-Some.ensures c.take_touches.ensures
     (g.M.Policy.steady c.args.terms.now) (g.M.Policy.pinned c.args.terms.now) Victim (
       omega (arith, c.if-mark-gt0.false, c.mark.ensures, ap (λ (i : Item _ _). i.mark) is),
@@ -64,7 +64,7 @@ returns-then-not-is_pinned-clause-same g c =
 pub returns-clause-looks : goal.returns-clause-looks
 returns-clause-looks g c =
     let is = first-touched_item c.apart.ensures.apart c.in-Some.ensures c.take_touches.ensures
-    c.apart-2.ensures.apart c.item-item.result.now c.item-item.ensures in
+    c.apart-2.ensures.apart c.item-item.result c.item-item.ensures in
     first-looked c.apart.ensures.apart c.in-Some.ensures c.take_touches.ensures
     (g.M.Policy.steady c.args.terms.now) (g.M.Policy.pinned c.args.terms.now) AllPassed
     (record {

@@ -1,17 +1,12 @@
-use Rattle.std.proofs.Common.{◌≡◌, ℕ, ◌+◌, None, refl, sym, ap, subst, ◌∙◌, arith}
-use Rattle.std.specs.Int.NonZero.{non_zero_u32_get as number}
-use Rattle.quick_cache_model.specs.CacheState.{IsValid, default_mark_cut}
+use Rattle.std.proofs.Common.{◌≡◌, ℕ, None, refl, sym, ap, subst, arith}
+use Rattle.quick_cache_model.specs.CacheState.{IsValid}
 use Rattle.quick_cache_model.specs.Lookups.{LooksUp}
 use Rattle.quick_cache_model.specs.Removal.{pair_of}
-use Rattle.quick_cache_model.specs.Touches.{counted_up, raised_by}
+use Rattle.quick_cache_model.specs.Touches.{counted_up}
 use Rattle.quick_cache_model.proofs.OrderLaws.{UpToOrder-exact}
 use Rattle.quick_cache_model.proofs.Valid.Edits.{after_miss-valid}
-use Rattle.quick_cache_lists.specs.Lists.{HeldItem}
-use Rattle.quick_cache_lists.proofs.StandingLemmas.{found-same}
-use Rattle.quick_cache_policy.specs.Contents.{IsSound, state_of}
-use Rattle.quick_cache_policy.specs.Finding.{IsLookedUp}
+use Rattle.quick_cache_policy.specs.Contents.{state_of}
 use Rattle.quick_cache_policy.proofs.FindLemmas.{none-found, HasNoItem-state}
-use Rattle.quick_cache_policy.proofs.LookupLemmas.{counted, looks_up-hit, counted-item, counted-sound}
 use Rattle.quick_cache_policy.proofs.contents.Contents.look_up.Goals as goal
 
 -- nothing was found, and a miss is counted

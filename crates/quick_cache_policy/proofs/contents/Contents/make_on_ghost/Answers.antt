@@ -1,10 +1,8 @@
-use Rattle.std.proofs.Common.{◌≡◌, ◌≢◌, ℕ, ◌+◌, ◌-◌, ◌<◌, Ok, Err, Result, List, ◌++◌, refl, sym, ap, subst, ◌∙◌, inl, inr, arith}
+use Rattle.std.proofs.Common.{◌≡◌, ℕ, ◌+◌, List, ◌++◌, refl, sym, ap, subst, ◌∙◌, arith}
 use Rattle.std.specs.Int.NonZero.{non_zero_u32_get as number}
 use Rattle.quick_cache_model.specs.CacheState.{CacheState, SameButOrder, IsValid}
 use Rattle.quick_cache_model.specs.Placeholders.{MakesPlaceholder, with_placeholder}
 use Rattle.quick_cache_model.specs.Lookups.{after_miss}
-use Rattle.quick_cache_model.specs.declared.queue.Queue.TheVariants.{Hot, Cold}
-use Rattle.quick_cache_model.specs.declared.refusal.Refusal.TheVariants.{Memory, SlotsFull}
 use Rattle.quick_cache_model.proofs.EqualKeys.{keys_by-absent}
 use Rattle.quick_cache_model.specs.Touches.{counted_up}
 use Rattle.quick_cache_lists.specs.declared.entry.Entry.TheVariants.{Loading as loading_variant}
@@ -17,7 +15,7 @@ use Rattle.quick_cache_lists.specs.Views.{hashes_of}
 use Rattle.quick_cache_lists.proofs.StandingLemmas.{ghost-hash}
 use Rattle.quick_cache_policy.specs.declared.contents.Contents.{Contents}
 use Rattle.quick_cache_policy.specs.Contents.{IsSound, state_of}
-use Rattle.quick_cache_policy.specs.Loading.{Makes, IsMade, MakesNone}
+use Rattle.quick_cache_policy.specs.Loading.{IsMade, MakesNone}
 use Rattle.quick_cache_policy.proofs.FindLemmas.{HasNoKey-state, Finds-nothing, IsGhostAt-stands}
 use Rattle.quick_cache_policy.proofs.LookupLemmas.{without_ghost}
 use Rattle.quick_cache_policy.proofs.MakeLemmas.{none-tickets, none-memory, provided-on_ghost, Makes-refused, made-state, made-sound, stands-exactly}

@@ -1,17 +1,15 @@
-use Rattle.std.proofs.Common.{◌≡◌, ◌≢◌, ℕ, ◌+◌, ◌-◌, ◌<◌, Ok, Err, Result, refl, sym, ap, subst, ◌∙◌, inl, inr, arith}
+use Rattle.std.proofs.Common.{◌≡◌, ◌+◌, ◌<◌, Ok, Err, Result, sym, ap, subst, ◌∙◌, inl, inr, arith}
 use Rattle.std.specs.Int.NonZero.{non_zero_u32_get as number}
-use Rattle.quick_cache_model.specs.CacheState.{CacheState, UpToOrder, keys_by}
 use Rattle.quick_cache_model.specs.Placeholders.{MakesPlaceholder, with_placeholder}
 use Rattle.quick_cache_model.specs.Lookups.{after_miss}
-use Rattle.quick_cache_model.specs.declared.queue.Queue.TheVariants.{Hot, Cold}
 use Rattle.quick_cache_model.specs.declared.refusal.Refusal.TheVariants.{Memory, SlotsFull}
 use Rattle.quick_cache_model.proofs.EqualKeys.{keys_by-absent}
 use Rattle.quick_cache_model.specs.Touches.{counted_up}
 use Rattle.quick_cache_lists.specs.declared.entry.Entry.TheVariants.{Loading as loading_variant}
-use Rattle.quick_cache_lists.specs.Lists.{Lists, PutsLast, slots_left}
+use Rattle.quick_cache_lists.specs.Lists.{Lists, PutsLast}
 use Rattle.quick_cache_policy.specs.declared.contents.Contents.{Contents}
 use Rattle.quick_cache_policy.specs.Contents.{IsSound, state_of}
-use Rattle.quick_cache_policy.specs.Loading.{Makes, IsMade, MakesNone}
+use Rattle.quick_cache_policy.specs.Loading.{IsMade, MakesNone}
 use Rattle.quick_cache_policy.proofs.EnterLemmas.{state_with}
 use Rattle.quick_cache_policy.proofs.FindLemmas.{HasNothing-state}
 use Rattle.quick_cache_policy.proofs.MakeLemmas.{none-tickets, none-slots, none-memory, provided-on_nothing, Makes-refused, full-slots, free-slot, made-state, made-sound, stands-exactly}

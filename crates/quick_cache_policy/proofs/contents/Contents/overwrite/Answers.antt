@@ -23,7 +23,7 @@ item-item-requires g c =
 
 pub rewrite-requires : goal.rewrite-requires
 rewrite-requires g c = (
-  c.item-item.result.now,
+  c.item-item.result,
   c.item-item.ensures,
   sym (ap (λ (i : Item _ _). i.queue) c.new-item.ensures ∙ c.queue-queue.ensures),
 )
@@ -36,7 +36,7 @@ evict_to_capacity-requires g c =
     let lists = c.args.self.now.lists in
     let token = number c.args.token in
     let strategy = strategy_of c.args.strategy in
-    let item = c.item-item.result.now in
+    let item = c.item-item.result in
     let touched = c.min-touched.result in
     let was = c.rewrite.result in
     let found = subst (λ h. Finds (g.K.PartialEq.eq key) h lists (found_item c.args.token))
@@ -69,7 +69,7 @@ returns-clause-writes g c =
     let lists = c.args.self.now.lists in
     let token = number c.args.token in
     let strategy = strategy_of c.args.strategy in
-    let item = c.item-item.result.now in
+    let item = c.item-item.result in
     let n = c.take_touch-touches.result in
     let was = c.rewrite.result in
     let found = subst (λ h. Finds (g.K.PartialEq.eq key) h lists (found_item c.args.token))

@@ -17,7 +17,7 @@ pub returns : goal.returns
 returns g c =
     let stands_for = g.Q.Equivalent.equivalent c.args.query.now in
     let t = number c.in-Some.token in
-    let item = c.item.result.now in
+    let item = c.item.result in
     let has = c.item.ensures.1 in
     let passes = ap (λ (h : HeldItem g.row.K.Denot g.row.V.Denot). stands_for h.item.key)
     (found-same c.args.self.now.lists c.apart.ensures.apart t

@@ -5,7 +5,7 @@ use Rattle.quick_cache_policy.proofs.contents.Contents.reads.Goals as goal
 pub returns : goal.returns
 returns g c =
     record {
-      item = c.in_ok-item.item.now;
+      item = c.in_ok-item.item;
       there = c.in_ok-item.ensures;
       within = search rules;
       shows = (

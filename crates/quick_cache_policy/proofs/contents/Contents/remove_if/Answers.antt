@@ -25,7 +25,7 @@ returns-then-not-wanted-clause-removes g c =
     let contents = c.args.self.now in
     let stands_for = g.Q.Equivalent.equivalent c.args.query.now in
     let t = number c.in-Some.token in
-    let item = c.item.result.now in
+    let item = c.item.result in
     let held : HeldItem g.row.K.Denot g.row.V.Denot =
     record { token = t; hash = c.item.ensures.0; item = item } in
     let has = c.item.ensures.1 in
@@ -55,7 +55,7 @@ returns-clause-removes g c =
     c.in-Some.ensures.stands takes.stood.1 refl refl) ∙ c.in-Some.ensures.passes in
     let shown = ap (λ (h : HeldItem g.row.K.Denot g.row.V.Denot). h.item.value)
     (found-same contents.lists c.apart.ensures.apart t went
-    (record { token = t; hash = c.item.ensures.0; item = c.item.result.now })
+    (record { token = t; hash = c.item.ensures.0; item = c.item.result })
     takes.stood.1 c.item.ensures.1 refl refl) in
     UpToOrder-exact _ _ (RemovesAsked-takes g.P.SharedPlaceholder.ticket_of stands_for
     (FnOnceReturnsAt g.F.FnOnce c.args.wanted) contents c.take_item.new.self

@@ -1,4 +1,4 @@
-use Rattle.std.proofs.Common.{sym, ap, subst, inl, inr}
+use Rattle.std.proofs.Common.{sym, subst, inl, inr}
 use Rattle.std.specs.Int.NonZero.{non_zero_u32_get as number}
 use Rattle.quick_cache_model.specs.Placeholders.{GivesUpPlaceholder}
 use Rattle.quick_cache_model.proofs.OrderLaws.{UpToOrder-exact}

@@ -5,7 +5,7 @@ use Rattle.quick_cache_policy.proofs.contents.Contents.remove_token.Goals as goa
 
 pub take_item-requires : goal.take_item-requires
 take_item-requires g c =
-    stands-there c.args.self.now.lists (number c.args.token) (λ item. item.now) c.item_at.result
+    stands-there c.args.self.now.lists (number c.args.token) (λ item. item) c.item_at.result
     c.item_at.ensures (sym c.is_some.ensures ∙ c.if-is_some.true)
 
 pub returns-then-is_some-clause-takes : goal.returns-then-is_some-clause-takes

@@ -22,7 +22,7 @@ loop-token-smaller-then-not-keep g c =
 pub loop-token-preserved-then-not-keep : goal.loop-token-preserved-then-not-keep
 loop-token-preserved-then-not-keep g c =
     let found = c.first_above.ensures.found c.in-Some.token c.in-Some.is in
-    let refused : Answers g.F.Fn c.args.keep c.item.result.now.key c.item.result.now.value _ =
+    let refused : Answers g.F.Fn c.args.keep c.item.result.key c.item.result.value _ =
     record {
       shown_key = c.pair.result.0;
       shown_value = c.pair.result.1;
@@ -31,7 +31,7 @@ loop-token-preserved-then-not-keep g c =
     } in (
       IsSifting-go (Answers g.F.Fn c.args.keep) c.args.self.now c.loop-token.self
           c.apart.ensures.apart (number_or_zero c.loop-token.at) c.in-Some.token
-          c.item.result.now c.loop-token.invariant.0 c.item.ensures found.0
+          c.item.result c.loop-token.invariant.0 c.item.ensures found.0
           (λ other. c.first_above.ensures.least c.in-Some.token other c.in-Some.is) refused
           c.take_item.new.self c.take_item.ensures.takes.rest,
       λ hashed sound.
@@ -46,7 +46,7 @@ loop-token-smaller g c =
 pub loop-token-preserved : goal.loop-token-preserved
 loop-token-preserved g c =
     let found = c.first_above.ensures.found c.in-Some.token c.in-Some.is in
-    let said : Answers g.F.Fn c.args.keep c.item.result.now.key c.item.result.now.value _ =
+    let said : Answers g.F.Fn c.args.keep c.item.result.key c.item.result.value _ =
     record {
       shown_key = c.pair.result.0;
       shown_value = c.pair.result.1;
@@ -55,7 +55,7 @@ loop-token-preserved g c =
     } in (
       IsSifting-stay (Answers g.F.Fn c.args.keep) c.args.self.now c.loop-token.self
           c.apart.ensures.apart (number_or_zero c.loop-token.at) c.in-Some.token
-          c.item.result.now c.loop-token.invariant.0 c.item.ensures found.0
+          c.item.result c.loop-token.invariant.0 c.item.ensures found.0
           (λ other. c.first_above.ensures.least c.in-Some.token other c.in-Some.is) said,
       c.loop-token.invariant.1,
     )

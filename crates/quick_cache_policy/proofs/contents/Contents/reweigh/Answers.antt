@@ -12,7 +12,7 @@ returns-clause-reweighs g c =
     let stands_for = g.Q.Equivalent.equivalent c.args.query.now in
     let t = number c.token_under-token.result in
     let same = found-value g.P.SharedPlaceholder.ticket_of c.args.self.now c.apart.ensures.apart t
-    stands_for c.args.hash found c.item-item.result.now c.item-item.ensures in
+    stands_for c.args.hash found c.item-item.result c.item-item.ensures in
     let weight : c.weigh-weight.result ≡ rules.weight found.item.key found.item.value =
     c.weigh-weight.ensures
     ∙ (λ i. rules.weight (c.key.ensures i) (c.value.ensures i))
@@ -28,7 +28,7 @@ returns-clause-there g c =
     let stands_for = g.Q.Equivalent.equivalent c.args.query.now in
     let t = number c.token_under-token.result in
     let same = found-value g.P.SharedPlaceholder.ticket_of c.args.self.now c.apart.ensures.apart t
-    stands_for c.args.hash found c.item-item.result.now c.item-item.ensures in
+    stands_for c.args.hash found c.item-item.result c.item-item.ensures in
     let weight : c.weigh-weight.result ≡ rules.weight found.item.key found.item.value =
     c.weigh-weight.ensures
     ∙ (λ i. rules.weight (c.key.ensures i) (c.value.ensures i))
@@ -44,7 +44,7 @@ returns-clause-sound g c =
     let stands_for = g.Q.Equivalent.equivalent c.args.query.now in
     let t = number c.token_under-token.result in
     let same = found-value g.P.SharedPlaceholder.ticket_of c.args.self.now c.apart.ensures.apart t
-    stands_for c.args.hash found c.item-item.result.now c.item-item.ensures in
+    stands_for c.args.hash found c.item-item.result c.item-item.ensures in
     let weight : c.weigh-weight.result ≡ rules.weight found.item.key found.item.value =
     c.weigh-weight.ensures
     ∙ (λ i. rules.weight (c.key.ensures i) (c.value.ensures i))

@@ -37,7 +37,7 @@ item-item-requires g c =
 
 pub returns : goal.returns
 returns g c =
-    let item = c.item-item.result.now in
+    let item = c.item-item.result in
     let n = c.take_touch-count.result in
     let mark : c.min-mark.result ≡ raised_by 2 n item.mark =
     omega (

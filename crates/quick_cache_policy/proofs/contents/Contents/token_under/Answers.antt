@@ -1,4 +1,4 @@
-use Rattle.std.proofs.Common.{◌<◌, Some, None, subst, arith, ◌≡◌}
+use Rattle.std.proofs.Common.{arith}
 use Rattle.quick_cache_policy.specs.Contents.{state_of}
 use Rattle.quick_cache_policy.proofs.FindLemmas.{HasNoItem-state}
 use Rattle.quick_cache_policy.proofs.ReferenceLemmas.{count_under-none, IsSome-from}

@@ -13,4 +13,4 @@ returns-clause-shown g c =
     HasValue (state_of g.P.SharedPlaceholder.ticket_of c.self.inside.contents) value)
     (sym c.value.ensures)
     (HasValue-token g.P.SharedPlaceholder.ticket_of c.self.inside.contents (number c.args.token)
-    c.in_ok-item.item.now c.in_ok-item.ensures))
+    c.in_ok-item.item c.in_ok-item.ensures))

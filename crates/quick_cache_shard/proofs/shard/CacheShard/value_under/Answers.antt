@@ -20,4 +20,4 @@ returns g c =
     rw (← c.self.view_is) (found-shown g.P.SharedPlaceholder.ticket_of c.self.inside.contents
     c.apart.ensures.apart (number c.token_under-token.result) stands_for c.args.hash
     c.token_under-token.ensures g.K.PartialEq.eq (g.met.Q.Equivalent.same_key c.args.query.now) _
-    c.self.invariant c.item.result.now c.item.ensures c.value.result.now c.value.ensures)
+    c.self.invariant c.item.result c.item.ensures c.value.result.now c.value.ensures)

@@ -1,0 +1,102 @@
+-- What stands at a token, seen as an item or as a key that is being loaded.
+use Rattle.std.proofs.Common.{◌≡◌, ℕ, Option, Some, None, MatchOption, length, refl, sym, ap, subst, ◌∙◌}
+use Rattle.quick_cache_model.specs.CacheState.{Item}
+use Rattle.quick_cache_slab.specs.LinkedSlab.{LinkedSlab, item_at}
+use Rattle.quick_cache_table.specs.Table.{Table}
+use Rattle.quick_cache_lists.specs.declared.entry.Awaited.{Awaited}
+use Rattle.quick_cache_lists.specs.declared.entry.Entry.{Entry}
+use Rattle.quick_cache_lists.specs.declared.entry.Entry.TheVariants.{Item as item_variant, Loading as loading_variant, Ghost as ghost_variant}
+use Rattle.quick_cache_lists.specs.declared.entry.Slot.{Slot}
+use Rattle.quick_cache_lists.specs.declared.ring.Ring.{Ring}
+use Rattle.quick_cache_lists.specs.Lists.{HeldLoading, HasItemToken, IsItemOf, HasLoadingToken, IsAwaitedOf}
+use Rattle.quick_cache_lists.specs.Slots.{entry_awaited, loading_of}
+use Rattle.quick_cache_lists.specs.Sound.{upto, lists_of, IsStanding}
+use Rattle.quick_cache_lists.specs.Walks.{entry_item}
+use Rattle.quick_cache_lists.proofs.GatherLemmas.{gather-from}
+use Rattle.quick_cache_lists.proofs.ItemLemmas.{item_by_token, item_is}
+use Rattle.quick_cache_lists.proofs.StandLemmas.{HasItem-from, StandsIn-loading}
+use Rattle.quick_cache_lists.proofs.TakeLemmas.{named_loading}
+
+module _ {K V P T : Type 0} where
+  -- an entry that is seen as a key that is being loaded is one
+  pub entry_awaited-some : (entry : Entry K V P T) (awaited : Awaited K P)
+      → entry_awaited entry ≡ Some awaited → entry ≡ loading_variant awaited
+  entry_awaited-some (item_variant item) awaited is = absurd (cc)
+  entry_awaited-some (loading_variant one) awaited is =
+      let same : one ≡ awaited = cc in ap (λ a. loading_variant a) same
+  entry_awaited-some ghost_variant awaited is = absurd (cc)
+
+  -- and one that is a key that is being loaded is seen as that
+  pub entry_awaited-none : (entry : Entry K V P T) (awaited : Awaited K P)
+      → entry ≡ loading_variant awaited → entry_awaited entry ≡ None → ⊥
+  entry_awaited-none (item_variant item) awaited is none = absurd (cc)
+  entry_awaited-none (loading_variant one) awaited is none = absurd (cc)
+  entry_awaited-none ghost_variant awaited is none = absurd (cc)
+
+  -- a slot that shows a placeholder has one
+  awaited_in_slot : (t : ℕ) (o : Option (Slot K V P T)) (waiting : HeldLoading K P)
+      → loading_of t o ≡ Some waiting → (slot : Slot K V P T) → o ≡ Some slot
+      → (awaited : Awaited K P) × (slot.entry ≡ loading_variant awaited)
+  awaited_in_slot t None waiting is slot at = absurd (cc)
+  awaited_in_slot t (Some one) waiting is slot at =
+      let same : one ≡ slot = cc in
+      subst (λ (s : Slot K V P T). (awaited : Awaited K P) × (s.entry ≡ loading_variant awaited))
+      same (by_entry one.hash one.entry is)
+    where
+      by_entry : (hash : ℕ) (entry : Entry K V P T)
+          → loading_of t (Some (record { hash = hash; entry = entry })) ≡ Some waiting
+          → (awaited : Awaited K P) × (entry ≡ loading_variant awaited)
+      by_entry hash (item_variant item) e = absurd (cc)
+      by_entry hash (loading_variant awaited) e = (awaited, refl)
+      by_entry hash ghost_variant e = absurd (cc)
+
+module _ {K V P T : Type 0} (slab : LinkedSlab (Slot K V P T)) (table : Table)
+    (hot cold ghosts : Ring) where
+  -- what has the token of a placeholder is one
+  pub awaited_by_token : (t : ℕ) → HasLoadingToken (lists_of slab table hot cold ghosts) t
+      → (slot : Slot K V P T) → item_at slab t ≡ Some slot
+      → (awaited : Awaited K P) × (slot.entry ≡ loading_variant awaited)
+  awaited_by_token t has slot at =
+      let there = gather-from (λ u. loading_of u (item_at slab u)) (upto (length slab.slots))
+      has.0 has.1 in
+      let named : there.0 ≡ t =
+      sym (named_loading there.0 (item_at slab there.0) has.0 there.2) ∙ has.2 in
+      awaited_in_slot there.0 (item_at slab there.0) has.0 there.2 slot
+      (ap (λ n. item_at slab n) named ∙ at)
+
+  module _ (standing : IsStanding slab hot cold ghosts) where
+    pub IsAwaitedOf-from : (t : ℕ) (slot : Slot K V P T) (awaited : Awaited K P)
+        → item_at slab t ≡ Some slot → slot.entry ≡ loading_variant awaited
+        → IsAwaitedOf (lists_of slab table hot cold ghosts) t awaited
+    IsAwaitedOf-from t slot awaited at is =
+        let here : item_at slab t
+        ≡ Some (record { hash = slot.hash; entry = loading_variant awaited }) =
+        at ∙ ap (λ (e : Entry K V P T). Some (record slot { entry = e })) is in
+        (slot.hash, StandsIn-loading slab table hot cold ghosts standing t _ _ here refl)
+
+    -- what a slot shows as its item is the item of its token, and where it shows none there is none
+    pub IsItemOf-shown : (t : ℕ) (slot : Slot K V P T) → item_at slab t ≡ Some slot
+        → (result : Option (Item K V)) → result ≡ entry_item slot.entry
+        → MatchOption result (¬ HasItemToken (lists_of slab table hot cold ghosts) t)
+        (λ item. IsItemOf (lists_of slab table hot cold ghosts) t item)
+    IsItemOf-shown t slot at result is =
+        subst (λ (r : Option (Item K V)).
+        MatchOption r (¬ HasItemToken (lists_of slab table hot cold ghosts) t)
+        (λ item. IsItemOf (lists_of slab table hot cold ghosts) t item)) (sym is)
+        (by_entry slot.hash slot.entry at)
+      where
+        by_entry : (hash : ℕ) (entry : Entry K V P T)
+            → item_at slab t ≡ Some (record { hash = hash; entry = entry })
+            → MatchOption (entry_item entry)
+            (¬ HasItemToken (lists_of slab table hot cold ghosts) t)
+            (λ item. IsItemOf (lists_of slab table hot cold ghosts) t item)
+        by_entry hash (item_variant item) here =
+            (hash, HasItem-from slab table hot cold ghosts standing t hash item here)
+        by_entry hash (loading_variant awaited) here = λ has.
+            let there = item_by_token slab table hot cold ghosts t has in
+            let entry = item_is (item_at slab t) _ there.0 there.1 there.2 here in
+            absurd (cc entry)
+        by_entry hash ghost_variant here = λ has.
+            let there = item_by_token slab table hot cold ghosts t has in
+            let entry = item_is (item_at slab t) _ there.0 there.1 there.2 here in
+            absurd (cc entry)
