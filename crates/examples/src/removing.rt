@@ -42,3 +42,17 @@ fn clear(rt: HostRuntime) -> Result<(), Fail> {
     assert!(rt; cache.is_empty());
     Ok(())
 }
+
+#[test]
+fn drain(rt: HostRuntime) -> Result<(), Fail> {
+    let mut cache: Cache<u64, u64> = Cache::new(rt.alloc(), 5)?;
+    for key in 1..4u64 {
+        cache.insert(key, key * 10)?;
+    }
+    let mut sum = 0u64;
+    for (_, value) in cache.drain() {
+        sum = sum.saturating_add(value);
+    }
+    assert_eq!(rt; (sum, cache.is_empty()), (60, true));
+    Ok(())
+}

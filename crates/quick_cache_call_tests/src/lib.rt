@@ -2,6 +2,8 @@
 #![tactic(auto)]
 
 #[cfg(test)]
+mod draining;
+#[cfg(test)]
 mod references;
 #[cfg(test)]
 mod removal;

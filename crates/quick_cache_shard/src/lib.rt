@@ -2,6 +2,7 @@
 #![tactic(auto)]
 
 mod capacity;
+mod drain;
 mod loading;
 mod readers;
 mod reference;
@@ -11,6 +12,7 @@ mod stats;
 mod tokens;
 mod walk;
 
+pub use drain::Drain;
 pub use quick_cache_model::Token;
 pub use quick_cache_policy::{InsertStrategy, SharedPlaceholder, Touches};
 pub use shard::CacheShard;

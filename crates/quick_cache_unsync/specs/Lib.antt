@@ -5,6 +5,7 @@ pub mod Inserts
 pub mod Replaces
 pub mod SetsCapacity
 pub mod Lent
+pub mod CacheDrain
 pub mod References
 pub mod CacheStep
 pub mod CacheRun
@@ -13,6 +14,8 @@ pub use Rattle.quick_cache_shard.specs.Copies
 pub use Rattle.quick_cache_shard.specs.Writing
 pub use Rattle.quick_cache_shard.specs.Work
 pub use Rattle.quick_cache_shard.specs.Predicates
+pub use Rattle.quick_cache_shard.specs.Tokens
+pub use Rattle.quick_cache_shard.specs.ShardDrain
 pub use Rattle.quick_cache_model.specs.Hashing
 pub use Rattle.quick_cache_model.specs.CacheState
 pub use Rattle.quick_cache_model.specs.Hooks

@@ -4,6 +4,7 @@
 mod cache;
 mod calls;
 mod capacity;
+mod drain;
 mod iter;
 mod lifecycle;
 mod options;
@@ -16,6 +17,7 @@ mod writes_through;
 
 pub use cache::Cache;
 pub use calls::{Call, Reply, run};
+pub use drain::Drain;
 pub use iter::Iter;
 pub use lifecycle::DefaultLifecycle;
 pub use quick_cache_base::options::{Options, OptionsBuilder};
