@@ -2,3 +2,4 @@ pub mod StepLemmas
 pub mod RunLemmas
 pub mod ShownLemmas
 pub mod ReferenceLemmas
+pub mod LoadLemmas

@@ -6,6 +6,7 @@ pub mod Replaces
 pub mod SetsCapacity
 pub mod Lent
 pub mod References
+pub mod Loads
 pub mod CacheStep
 pub mod CacheRun
 pub use Rattle.quick_cache_shard.specs.Shard

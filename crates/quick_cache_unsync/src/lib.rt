@@ -4,8 +4,11 @@
 mod cache;
 mod calls;
 mod capacity;
+mod filling;
+mod guard;
 mod iter;
 mod lifecycle;
+mod loader;
 mod options;
 mod placeholder;
 mod reference;
@@ -16,6 +19,7 @@ mod writes_through;
 
 pub use cache::Cache;
 pub use calls::{Call, Reply, run};
+pub use guard::Guard;
 pub use iter::Iter;
 pub use lifecycle::DefaultLifecycle;
 pub use quick_cache_base::options::{Options, OptionsBuilder};

@@ -33,7 +33,7 @@ impl Touches for NoTouches {
 pub struct Placeholder {
     hash: u64,
     idx: Token,
-    ticket: u64,
+    pub(crate) ticket: u64,
 }
 
 impl<K: Eq + Hash> SharedPlaceholder<K> for Placeholder {
