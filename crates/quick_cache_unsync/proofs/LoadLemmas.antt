@@ -1,20 +1,23 @@
 -- A placeholder that was taken is there, and loads by the words of calls.
-use Rattle.std.proofs.Common.{◌≡◌, ◌≢◌, ℕ, Bool, true, false, List, [], ◌∷◌, ◌++◌, Result, Ok, Err, Some, None, refl, sym, ap, subst, ◌∙◌}
+use Rattle.std.proofs.Common.{◌≡◌, ◌≢◌, ◌<◌, ℕ, cond, arith, Bool, true, false, List, [], ◌∷◌, ◌++◌, Result, Ok, Err, Some, None, refl, sym, ap, subst, ◌∙◌}
 use Rattle.std.specs.List.{AllByRecursion}
-use Rattle.std.proofs.lemmas.List.Sorted.{IsPermutation-sym}
-use Rattle.quick_cache_model.specs.CacheState.{CacheState, LoadingEntry, UpToOrder}
+use Rattle.std.proofs.lemmas.List.Sorted.{IsPermutation-sym, sum_by-IsPermutation}
+use Rattle.quick_cache_model.specs.CacheState.{CacheState, Item, Place, LoadingEntry, UpToOrder, InHot, InCold, InStill}
 use Rattle.quick_cache_model.specs.Hooks.{Rules, Hooks, Calls}
+use Rattle.quick_cache_model.specs.Lookups.{LooksUp, looked_up}
+use Rattle.quick_cache_model.proofs.KeyCounts.{one_if, keys, keys-split}
+use Rattle.quick_cache_shard.specs.References.{count_under}
 use Rattle.quick_cache_model.specs.Placeholders.{MakesPlaceholder, MeetsPlaceholder, HasNoTicket, GivesUpPlaceholder}
 use Rattle.quick_cache_model.proofs.EachElement.{all-middle, all-permutation}
-use Rattle.quick_cache_model.proofs.OrderLaws.{UpToOrder-map}
+use Rattle.quick_cache_model.proofs.OrderLaws.{UpToOrder-map, SameButOrder-keys}
 use Rattle.quick_cache_calls.specs.Loads.{TakesPlaceholder, LoadsNothing}
 use Rattle.quick_cache_shard.specs.Filling.{AnswersFill, Fills}
 use Rattle.quick_cache_shard.specs.Loading.{IsMadeOrMet}
 use Rattle.quick_cache_calls.specs.References.{TellsItem}
 use Rattle.std.specs.Bool.{OnTrue, OnFalse}
-use Rattle.quick_cache_model.specs.Finding.{HasNoItem}
+use Rattle.quick_cache_model.specs.Finding.{HasNoItem, IsItemAt}
 use Rattle.quick_cache_shard.specs.Shard.{HasItem}
-use Rattle.quick_cache_unsync.specs.Loads.{IsAwaited, Takes, EndsLoad, AnswersLoad}
+use Rattle.quick_cache_unsync.specs.Loads.{IsAwaited, Takes, EndsLoad, AnswersLoad, OnResident}
 
 module _ {K V : Type 0} (stands_for : K → Bool) (gives : K → Type 0) (hash : ℕ)
     (old : CacheState K V) where
@@ -134,3 +137,74 @@ ends-load-by steady hooks rules now before same is_default stands_for gives hash
     old mid new ticket answer takes
     (subst (λ s. EndsLoad (steady s) (hooks s) (rules s) is_default stands_for ticket given mid
     answer new) same ends)
+
+module _ {K V : Type 0} (stands_for : K → Bool) where
+  -- an item that there is is counted
+  counted-item : (state : CacheState K V) (place : Place) (before : List (Item K V))
+      (item : Item K V) (after : List (Item K V))
+      → IsItemAt stands_for state place before item after → 0 < count_under stands_for state
+  counted-item state InHot before item after at = omega (
+    arith,
+    ap (keys stands_for) at.split,
+    keys-split stands_for before item after,
+    ap one_if at.passes,
+  )
+  counted-item state InCold before item after at = omega (
+    arith,
+    ap (keys stands_for) at.split,
+    keys-split stands_for before item after,
+    ap one_if at.passes,
+  )
+  counted-item state InStill before item after at = omega (
+    arith,
+    ap (keys stands_for) at.split,
+    keys-split stands_for before item after,
+    ap one_if at.passes,
+  )
+
+  counted-told : (state : CacheState K V) → TellsItem stands_for state true
+      → 0 < count_under stands_for state
+  counted-told state (TellsItem.is_there place before item after at) =
+      counted-item state place before item after at
+
+  -- one that was looked up is still there
+  counted-hit : (old : CacheState K V) (value : V) (state : CacheState K V)
+      → LooksUp stands_for old (λ item. item.value) (Some value) state
+      → 0 < count_under stands_for state
+  counted-hit old _ _ (LooksUp.hit InHot before item after at) = omega (
+    arith,
+    keys-split stands_for before (looked_up old.mark_cut item) after,
+    ap one_if at.passes,
+  )
+  counted-hit old _ _ (LooksUp.hit InCold before item after at) = omega (
+    arith,
+    keys-split stands_for before (looked_up old.mark_cut item) after,
+    ap one_if at.passes,
+  )
+  counted-hit old _ _ (LooksUp.hit InStill before item after at) = omega (
+    arith,
+    keys-split stands_for before (looked_up old.mark_cut item) after,
+    ap one_if at.passes,
+  )
+
+  pub counted-found : (old : CacheState K V) (value : V) (new : CacheState K V)
+      → UpToOrder (LooksUp stands_for old (λ item. item.value) (Some value)) new
+      → 0 < count_under stands_for new
+  counted-found old value new up = omega (
+    arith,
+    counted-hit old value up.ordered up.holds,
+    SameButOrder-keys stands_for up.ordered new up.same,
+    sum_by-IsPermutation (λ (entry : LoadingEntry K). cond (stands_for entry.key) 1 0)
+        up.ordered.loading new.loading up.same.loading,
+  )
+
+  module _ {S E : Type 0} (steady : Type 0) (hooks : Hooks K V S) (rules : Rules K V)
+      (is_default : S → Type 0) (ticket : ℕ) (given : Result V E → Type 0)
+      (old new : CacheState K V) where
+    -- a key that is told to be resident is
+    pub counted-end : (answer : Result Bool E)
+        → EndsLoad steady hooks rules is_default stands_for ticket given old answer new
+        → OnResident {E = E} (Ok answer) (0 < count_under stands_for new)
+    counted-end (Ok true) ends = counted-told new ends.resident
+    counted-end (Ok false) ends = tt
+    counted-end (Err error) ends = tt

@@ -26,3 +26,4 @@ pub use Rattle.quick_cache_model.specs.Removal
 pub use Rattle.quick_cache_model.specs.Sizes
 pub use Rattle.quick_cache_model.specs.Refusals
 pub mod LentValues
+pub mod LentReads

@@ -1,5 +1,5 @@
 -- Loading a key's value by a loader or a guard, and what comes of it.
-use Rattle.std.specs.Prelude.{ℕ, Bool, true, false, Option, Some, None, Result, Ok, Err}
+use Rattle.std.specs.Prelude.{ℕ, ⊤, Bool, true, false, Option, Some, None, Result, Ok, Err}
 use Rattle.quick_cache_model.specs.declared.refusal.Refusal.{Refusal}
 use Rattle.quick_cache_model.specs.CacheState.{CacheState, UpToOrder}
 use Rattle.quick_cache_model.specs.Hooks.{Rules, Hooks, Calls}
@@ -7,6 +7,8 @@ use Rattle.quick_cache_model.specs.Lookups.{LooksUp}
 use Rattle.quick_cache_model.specs.Placeholders.{HasNoTicket, GivesUpPlaceholder}
 use Rattle.quick_cache_calls.specs.Loads.{LoadsNothing}
 use Rattle.quick_cache_calls.specs.References.{TellsItem}
+use Rattle.quick_cache_unsync.specs.declared.not_loaded.NotLoaded.{NotLoaded}
+use Rattle.quick_cache_unsync.specs.declared.not_loaded.NotLoaded.TheVariants.{NotKept, Failed, Refused}
 use Rattle.quick_cache_shard.specs.Filling.{Fills, AnswersFill}
 use Rattle.quick_cache_shard.specs.Loading.{IsMadeOrMet, MakesNone}
 
@@ -95,3 +97,16 @@ module _ {K V S E : Type 0} (steady : Type 0) (hooks : Hooks K V S) (rules : Rul
         → AnswersLoad (Ok (Err error)) new
     refused : (refusal : Refusal) (new : CacheState K V)
         → MakesNone stands_for gives hash old refusal new → AnswersLoad (Err refusal) new
+
+-- where a load tells that its key is resident
+abbrev pub OnResident : {E : Type 0} → Result (Result Bool E) Refusal → Type 0 → Type 0
+OnResident (Ok (Ok true)) P = P
+OnResident (Ok (Ok false)) P = ⊤
+OnResident (Ok (Err error)) P = ⊤
+OnResident (Err refusal) P = ⊤
+
+-- what a load answers that gives no reference, for this reason
+abbrev pub answer_of : {E : Type 0} → NotLoaded E → Result (Result Bool E) Refusal
+answer_of NotKept = Ok (Ok false)
+answer_of (Failed error) = Ok (Err error)
+answer_of (Refused refusal) = Err refusal

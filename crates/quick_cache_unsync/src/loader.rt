@@ -1,8 +1,9 @@
 //! Values that a loader makes where there is none.
-ghost use Rattle.std.specs.Prelude.{◌≡◌, ◌+◌, ◌≤◌, true};
+ghost use Rattle.std.specs.Prelude.{◌≡◌, ◌<◌, ◌+◌, ◌≤◌, true};
 ghost use Rattle.quick_cache_model.specs.Hashing.{hash_of};
+ghost use Rattle.quick_cache_shard.specs.References.{count_under};
 ghost use Rattle.quick_cache_shard.specs.Shard.{rules_of, hooks_of, IsSoundShard};
-ghost use Rattle.quick_cache_unsync.specs.Loads.{IsAwaited, EndsLoad, LooksUpOrTakes, AnswersLoad};
+ghost use Rattle.quick_cache_unsync.specs.Loads.{IsAwaited, EndsLoad, LooksUpOrTakes, AnswersLoad, OnResident};
 ghost use Rattle.quick_cache_calls.specs.References.{TellsItem};
 ghost use Rattle.quick_cache_unsync.specs.Touches.{no_touches};
 
@@ -100,6 +101,40 @@ impl<
         }
     }
 
+    /// What `load` does, with the query's hash.
+    pub(crate) fn load_by<Q: ToKey<K>, E, F: FnOnce() -> Result<V, E>>(
+        &mut self,
+        hash: u64,
+        query: &Q,
+        loader: F,
+    ) -> Result<Result<bool, E>, Refusal>
+        requires hash_is { hash ≡ hash_of B.BuildHasher B.Hasher.Hasher self.old.builder
+            (Q.hash_input query.now) }
+        requires stands { (key : K) → Q.to_key_gives query.now key
+            → Q.equivalent query.now key ≡ true }
+        requires loader { F.pre loader }
+        ensures loads { AnswersLoad (L.steady self.old.lifecycle) (hooks_of L.Lifecycle self.old)
+            (rules_of no_touches K.Hash.hash_input We.Weighter B.BuildHasher B.Hasher.Hasher
+            L.Lifecycle self.old)
+            L.RequestState.is_default (Q.equivalent query.now) (Q.to_key_gives query.now)
+            hash (F.post loader) self.old.state result self.new.state }
+        ensures there { OnResident result
+            (0 < count_under (Q.equivalent query.now) self.new.state) }
+        ensures room { self.old.room ≤ self.new.room + 1 }
+        ensures same { self.new ≡ record self.old {
+          state = self.new.state;
+          room = self.new.room;
+          work = self.new.work;
+        } }
+        ensures sound { IsSoundShard K.eq self.new }
+    {
+        match self.begin_load(hash, query) {
+            Ok(None) => Ok(Ok(true)),
+            Ok(Some(placeholder)) => Ok(self.end_load(hash, query, &placeholder, loader)),
+            Err(refusal) => Err(refusal),
+        }
+    }
+
     /// Looks the query's key up as `get` does. Where no item stands under it, calls the loader and
     /// puts its value in, with a request state of the call's own. The answer tells whether the key
     /// is resident when the call returns.
@@ -134,10 +169,6 @@ impl<
         ensures sound { IsSoundShard K.eq self.new }
     {
         let hash = self.hash_of(query);
-        match self.begin_load(hash, query) {
-            Ok(None) => Ok(Ok(true)),
-            Ok(Some(placeholder)) => Ok(self.end_load(hash, query, &placeholder, loader)),
-            Err(refusal) => Err(refusal),
-        }
+        self.load_by(hash, query, loader)
     }
 }
