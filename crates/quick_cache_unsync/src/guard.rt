@@ -25,7 +25,10 @@ pub struct Guard<
     A: Allocator = Global,
 > {
     pub(crate) cache: &'a mut Cache<K, V, We, B, L, A>,
-    pub(crate) placeholder: Placeholder,
+    // The placeholder by its parts: a token is in no type that stands beside a reference in an answer.
+    pub(crate) hash: u64,
+    pub(crate) slot: u32,
+    pub(crate) ticket: u64,
 }
 
 impl<
@@ -38,7 +41,7 @@ impl<
 > Drop for Guard<'_, K, V, We, B, L, A> {
     fn drop(self)
         ensures gives_up { UpToOrder
-            (GivesUpPlaceholder self.entry.placeholder.ticket self.entry.cache.now.state)
+            (GivesUpPlaceholder self.entry.ticket self.entry.cache.now.state)
             self.exit.0.now.state }
         ensures room { self.entry.cache.now.room ≤ self.exit.0.now.room }
         ensures same { self.exit.0.now ≡ record self.entry.cache.now {
@@ -47,7 +50,13 @@ impl<
         } }
         ensures sound { IsSoundShard K.eq self.exit.0.now }
     {
-        let Guard { cache, placeholder } = self;
+        let Guard {
+            cache,
+            hash,
+            slot,
+            ticket,
+        } = self;
+        let placeholder = Placeholder::of_parts(hash, slot, ticket);
         cache.give_up(&placeholder);
     }
 }
@@ -70,7 +79,7 @@ impl<
             (hooks_of L.Lifecycle self.entry.cache.now)
             (rules_of no_touches K.Hash.hash_input We.Weighter B.BuildHasher B.Hasher.Hasher
             L.Lifecycle self.entry.cache.now)
-            self.entry.placeholder.ticket self.entry.cache.now.state value first
+            self.entry.ticket self.entry.cache.now.state value first
             self.exit.0.now.state last) }
         // It takes no room.
         ensures room { self.entry.cache.now.room ≤ self.exit.0.now.room }
@@ -86,7 +95,13 @@ impl<
         ensures sound { IsSoundShard K.eq self.exit.0.now }
     {
         let mut state = L::RequestState::default();
-        let Guard { cache, placeholder } = self;
+        let Guard {
+            cache,
+            hash,
+            slot,
+            ticket,
+        } = self;
+        let placeholder = Placeholder::of_parts(hash, slot, ticket);
         cache.fill_if_there(&mut state, &placeholder, value);
     }
 
@@ -98,7 +113,7 @@ impl<
             (hooks_of L.Lifecycle self.entry.cache.now)
             (rules_of no_touches K.Hash.hash_input We.Weighter B.BuildHasher B.Hasher.Hasher
             L.Lifecycle self.entry.cache.now)
-            self.entry.placeholder.ticket self.entry.cache.now.state value state.old
+            self.entry.ticket self.entry.cache.now.state value state.old
             self.exit.0.now.state state.new }
         // It takes no room.
         ensures room { self.entry.cache.now.room ≤ self.exit.0.now.room }
@@ -113,7 +128,13 @@ impl<
         } }
         ensures sound { IsSoundShard K.eq self.exit.0.now }
     {
-        let Guard { cache, placeholder } = self;
+        let Guard {
+            cache,
+            hash,
+            slot,
+            ticket,
+        } = self;
+        let placeholder = Placeholder::of_parts(hash, slot, ticket);
         cache.fill_if_there(state, &placeholder, value);
     }
 }

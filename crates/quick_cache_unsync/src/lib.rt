@@ -6,6 +6,7 @@ mod calls;
 mod capacity;
 mod filling;
 mod guard;
+mod guarding;
 mod iter;
 mod lending;
 mod lifecycle;
