@@ -1,5 +1,5 @@
 -- A placeholder that was taken is there, and loads by the words of calls.
-use Rattle.std.proofs.Common.{◌≡◌, ◌≢◌, ◌<◌, ℕ, cond, arith, Bool, true, false, List, [], ◌∷◌, ◌++◌, Result, Ok, Err, Some, None, refl, sym, ap, subst, ◌∙◌}
+use Rattle.std.proofs.Common.{◌≡◌, ◌≢◌, ◌<◌, ℕ, cond, arith, Bool, true, false, List, Result, Ok, Err, Some, refl, sym, ap, subst}
 use Rattle.std.specs.List.{AllByRecursion}
 use Rattle.std.proofs.lemmas.List.Sorted.{IsPermutation-sym, sum_by-IsPermutation}
 use Rattle.quick_cache_model.specs.CacheState.{CacheState, Item, Place, LoadingEntry, UpToOrder, InHot, InCold, InStill}

@@ -1,5 +1,4 @@
 -- What a reference that only reads, and a reference or a guard, hold.
-use Rattle.std.specs.Prelude.{◌≡◌, ℕ, Bool, true, Result, Ok, Err}
 use Rattle.std.specs.Borrow.{GName}
 use Rattle.std.specs.declared.cmp.PartialEq as partial_eq
 use Rattle.std.specs.declared.default.Default as default

@@ -1,6 +1,5 @@
-use Rattle.std.proofs.Common.{Ok, Some, None}
 use Rattle.quick_cache_shard.specs.Shard.{Shard, rules_of, hooks_of}
-use Rattle.quick_cache_unsync.specs.Loads.{Takes, AnswersLoad}
+use Rattle.quick_cache_unsync.specs.Loads.{AnswersLoad}
 use Rattle.quick_cache_unsync.specs.Touches.{no_touches}
 use Rattle.quick_cache_unsync.proofs.LoadLemmas.{Takes-awaited, ends-load-by, counted-found, counted-end}
 use Rattle.quick_cache_unsync.proofs.cache.Cache.load_by.Goals as goal
