@@ -3,3 +3,4 @@ pub mod RunLemmas
 pub mod ShownLemmas
 pub mod ReferenceLemmas
 mod DrainLemmas
+pub mod LoadLemmas

@@ -1,7 +1,7 @@
 -- What a cache ends as, once a reference into it has ended. This module alone names the row of its
 -- type parameters.
-use Rattle.std.specs.Prelude.{ℕ, Bool, List, ⊤}
-use Rattle.std.specs.Borrow.{Fml, RattleType, MutBor, Lends, follows_so}
+use Rattle.std.specs.Prelude.{ℕ, Bool, List, Result, ⊤}
+use Rattle.std.specs.Borrow.{Fml, RattleType, MutBor, GName, Lends, follows_so, RestsIfErr}
 use Rattle.std.specs.declared.alloc.Allocator.{Ghosts}
 use Rattle.std.specs.declared.hash.Hasher as hasher
 use Rattle.std.specs.declared.hash.BuildHasher as builder
@@ -27,3 +27,8 @@ module _ (K V We B L A H : RattleType) (equal : K.Denot → K.Denot → Bool)
       → (K.Denot → Bool) → MutBor V.Denot → Fml
   lends_under cache stands_for r = Lends row_of V cache r
       (λ value. record cache.now { state = with_value_under stands_for value cache.now.state })
+
+  -- it ends as what holds it leaves it, or, where an error is the answer, so that P holds of it
+  abbrev pub rests_if_err : {R E : Type 0} → MutBor (Shard K.Denot V.Denot We.Denot B.Denot L.Denot)
+      → (R → GName) → Result R E → (Shard K.Denot V.Denot We.Denot B.Denot L.Denot → Type 0) → Fml
+  rests_if_err cache name r P = RestsIfErr row_of cache name r P

@@ -1,7 +1,7 @@
 -- What a cache, and a reference to a value of it, end as. This module alone names the rows of their
 -- type parameters where references are concerned.
 use Rattle.std.specs.Prelude.{ℕ, Bool, List, [], Option}
-use Rattle.std.specs.Borrow.{Fml, RattleType, MutBor, GName, Lends, follows, RestsIfNone}
+use Rattle.std.specs.Borrow.{Fml, RattleType, MutBor, GName, follows, RestsIfNone}
 use Rattle.std.specs.declared.alloc.Allocator.{Ghosts}
 use Rattle.std.specs.declared.cmp.PartialEq as partial_eq
 use Rattle.std.specs.declared.default.Default as default

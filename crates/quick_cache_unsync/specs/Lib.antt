@@ -7,6 +7,7 @@ pub mod SetsCapacity
 pub mod Lent
 pub mod CacheDrain
 pub mod References
+pub mod Loads
 pub mod CacheStep
 pub mod CacheRun
 pub use Rattle.quick_cache_shard.specs.Shard
@@ -28,3 +29,5 @@ pub use Rattle.quick_cache_model.specs.Removal
 pub use Rattle.quick_cache_model.specs.Sizes
 pub use Rattle.quick_cache_model.specs.Refusals
 pub mod LentValues
+pub mod LentReads
+pub mod LentGuards

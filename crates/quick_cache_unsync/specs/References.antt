@@ -1,6 +1,6 @@
 -- References to a value of a cache, to write.
 use Rattle.std.specs.Prelude.{◌≡◌, ℕ, ◌+◌, ◌<◌, Bool, true, false, List, [], ◌∷◌, Option, map, count_by, if◌then◌else◌}
-use Rattle.std.proofs.Common.{refl, ap, subst, sym, cond, ◌∙◌}
+use Rattle.std.proofs.Common.{refl, subst, sym, cond, ◌∙◌}
 use Rattle.std.proofs.lemmas.List.Sums.{sum_by-cons}
 use Rattle.quick_cache_model.specs.CacheState.{CacheState, Item, UpToOrder}
 use Rattle.quick_cache_model.specs.Hooks.{Rules}

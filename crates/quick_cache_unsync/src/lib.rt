@@ -5,10 +5,17 @@ mod cache;
 mod calls;
 mod capacity;
 mod drain;
+mod filling;
+mod guard;
+mod guarding;
 mod iter;
+mod lending;
 mod lifecycle;
+mod loader;
+mod not_loaded;
 mod options;
 mod placeholder;
+mod reading;
 mod reference;
 mod removal;
 mod replace;
@@ -18,13 +25,16 @@ mod writes_through;
 pub use cache::Cache;
 pub use calls::{Call, Reply, run};
 pub use drain::Drain;
+pub use guard::Guard;
 pub use iter::Iter;
 pub use lifecycle::DefaultLifecycle;
+pub use not_loaded::NotLoaded;
 pub use quick_cache_base::options::{Options, OptionsBuilder};
 pub use quick_cache_model::{
     DefaultHashBuilder, Equivalent, ItemStats, Lifecycle, MemoryUsed, Refusal, ToKey, UnitWeighter,
     Weighter, hash_of,
 };
 pub use quick_cache_shard::CacheShard;
+pub use reading::Ref;
 pub use reference::RefMut;
 pub use writes_through::{poke, set};

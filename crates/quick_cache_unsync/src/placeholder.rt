@@ -33,7 +33,23 @@ impl Touches for NoTouches {
 pub struct Placeholder {
     hash: u64,
     idx: Token,
-    ticket: u64,
+    pub(crate) ticket: u64,
+}
+
+impl Placeholder {
+    /// The number of the slot where it stands.
+    pub(crate) fn slot(&self) -> u32 {
+        self.idx.get()
+    }
+
+    /// The placeholder of the ticket. Only the ticket tells placeholders apart; a slot that is wrong
+    /// costs time.
+    pub(crate) fn of_parts(hash: u64, slot: u32, ticket: u64) -> Placeholder
+        ensures { result.ticket ≡ ticket }
+    {
+        let idx = Token::new(slot).unwrap_or(Token::MIN);
+        Placeholder { hash, idx, ticket }
+    }
 }
 
 impl<K: Eq + Hash> SharedPlaceholder<K> for Placeholder {

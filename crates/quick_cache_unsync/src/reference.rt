@@ -26,9 +26,9 @@ pub struct RefMut<
     L: Lifecycle<K, V>,
     A: Allocator = Global,
 > {
-    cache: &'a mut Cache<K, V, We, B, L, A>,
-    query: &'a Q,
-    hash: u64,
+    pub(crate) cache: &'a mut Cache<K, V, We, B, L, A>,
+    pub(crate) query: &'a Q,
+    pub(crate) hash: u64,
     ghost there: { 0 < count_under (Q.equivalent query.now) cache.now.state },
     ghost hash_is: { hash
         ≡ hash_of B.BuildHasher B.Hasher.Hasher cache.now.builder (Q.hash_input query.now) },
@@ -107,7 +107,7 @@ impl<K: Eq + Hash, V, We, B: BuildHasher, L, A: Allocator> Cache<K, V, We, B, L,
     ghost use Rattle.quick_cache_unsync.specs.Lent.{lends_under};
 
     // The value of the item under the query, which is known to be there.
-    fn value_under<Q: Equivalent<K>>(&self, hash: u64, query: &Q) -> &V
+    pub(crate) fn value_under<Q: Equivalent<K>>(&self, hash: u64, query: &Q) -> &V
         requires hash_is { hash ≡ hash_of B.BuildHasher B.Hasher.Hasher self.now.builder
             (Q.hash_input query.now) }
         requires there { 0 < count_under (Q.equivalent query.now) self.now.state }

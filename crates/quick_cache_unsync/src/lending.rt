@@ -1,0 +1,150 @@
+//! References to values that a loader makes where there is none.
+ghost use Rattle.std.specs.Prelude.{◌≡◌, ◌≤◌, ◌+◌, IfOk, IfErr, Ok, true};
+ghost use Rattle.std.specs.Borrow.{sem};
+ghost use Rattle.quick_cache_model.specs.Hashing.{hash_of};
+ghost use Rattle.quick_cache_shard.specs.Shard.{rules_of, hooks_of, IsSoundShard};
+ghost use Rattle.quick_cache_unsync.specs.Loads.{AnswersLoad, answer_of};
+ghost use Rattle.quick_cache_unsync.specs.Touches.{no_touches};
+
+use crate::cache::Cache;
+use crate::not_loaded::NotLoaded;
+use crate::reading::Ref;
+use crate::reference::RefMut;
+use quick_cache_model::{Lifecycle, ToKey, Weighter};
+use std::alloc::Allocator;
+use std::hash::{BuildHasher, Hash};
+
+impl<
+    K: Eq + Hash + Drop,
+    V: Drop,
+    We: Weighter<K, V>,
+    B: BuildHasher,
+    L: Lifecycle<K, V>,
+    A: Allocator,
+> Cache<K, V, We, B, L, A> {
+    ghost use Rattle.quick_cache_unsync.specs.Lent.{rests_if_err};
+    ghost use Rattle.quick_cache_unsync.specs.LentReads.{reader, read_from, asked_of};
+    ghost use Rattle.quick_cache_unsync.specs.LentValues.{lender, lent, query_of};
+
+    /// A reference to the value under the query's key, to read: the item is looked up as by
+    /// `get`. Where no item stands
+    /// under it, calls the loader and puts its value in, with a request state of the call's own.
+    ///
+    /// # Errors
+    ///
+    /// `NotKept` where the loaded value did not stay, `Failed` with the loader's error, which leaves
+    /// no placeholder, and `Refused`, which comes before the loader is called, and only where no key
+    /// is found: by `TicketsSpent`, `SlotsFull` or `Memory`. Nothing has changed then.
+    pub fn get_or_insert_with<'a, Q: ToKey<K>, E, F: FnOnce() -> Result<V, E>>(
+        &'a mut self,
+        query: &'a Q,
+        loader: F,
+    ) -> Result<Ref<'a, Q, K, V, We, B, L, A>, NotLoaded<E>>
+        requires stands { (key : K) → Q.to_key_gives query.now key
+            → Q.equivalent query.now key ≡ true }
+        requires loader { F.pre loader }
+        // Where pinning is steady, a value fills the placeholder by a step of its definition.
+        ensures* rests { sem 𝓛 (rests_if_err K.row V.row We.row B.row L.row A.row B.Hasher.row
+            K.eq K.Hash.hash_input B.BuildHasher B.Hasher.Hasher A.Allocator self.entry
+            (λ r. reader r) result
+            (λ new. IfErr result (λ error. AnswersLoad (L.steady self.old.lifecycle)
+            (hooks_of L.Lifecycle self.old)
+            (rules_of no_touches K.Hash.hash_input We.Weighter B.BuildHasher B.Hasher.Hasher
+            L.Lifecycle self.old)
+            L.RequestState.is_default (Q.equivalent query.now) (Q.to_key_gives query.now)
+            (hash_of B.BuildHasher B.Hasher.Hasher self.old.builder (Q.hash_input query.now))
+            (F.post loader) self.old.state (answer_of error) new.state)
+            × (self.old.room ≤ new.room + 1)
+            × (new ≡ record self.old { state = new.state; room = new.room; work = new.work }))) }
+        ensures loads { IfOk result (λ r. AnswersLoad (L.steady self.old.lifecycle)
+            (hooks_of L.Lifecycle self.old)
+            (rules_of no_touches K.Hash.hash_input We.Weighter B.BuildHasher B.Hasher.Hasher
+            L.Lifecycle self.old)
+            L.RequestState.is_default (Q.equivalent query.now) (Q.to_key_gives query.now)
+            (hash_of B.BuildHasher B.Hasher.Hasher self.old.builder (Q.hash_input query.now))
+            (F.post loader) self.old.state (Ok (Ok true)) (read_from r).state) }
+        ensures lends { IfOk result (λ r. reader r ≡ self.entry.ghost_name) }
+        ensures query { IfOk result (λ r. asked_of r ≡ query.now) }
+        ensures room { IfOk result (λ r. self.old.room ≤ (read_from r).room + 1) }
+        ensures same { IfOk result (λ r. read_from r ≡ record self.old {
+          state = (read_from r).state;
+          room = (read_from r).room;
+          work = (read_from r).work;
+        }) }
+        ensures sound { IfOk result (λ r. IsSoundShard K.eq (read_from r)) }
+    {
+        let hash = self.hash_of(query);
+        match self.load_by(hash, query, loader) {
+            Ok(Ok(true)) => Ok(Ref {
+                cache: self,
+                query,
+                hash,
+            }),
+            Ok(Ok(false)) => Err(NotLoaded::NotKept),
+            Ok(Err(error)) => Err(NotLoaded::Failed(error)),
+            Err(refusal) => Err(NotLoaded::Refused(refusal)),
+        }
+    }
+
+    /// A reference to the value under the query's key, to write: the item is looked up as by
+    /// `get_mut`. Where no item stands
+    /// under it, calls the loader and puts its value in, with a request state of the call's own.
+    /// Once the reference is dropped, the item has the weight of the value that was left, as with
+    /// `get_mut`.
+    ///
+    /// # Errors
+    ///
+    /// `NotKept` where the loaded value did not stay, `Failed` with the loader's error, which leaves
+    /// no placeholder, and `Refused`, which comes before the loader is called, and only where no key
+    /// is found: by `TicketsSpent`, `SlotsFull` or `Memory`. Nothing has changed then.
+    pub fn get_mut_or_insert_with<'a, Q: ToKey<K>, E, F: FnOnce() -> Result<V, E>>(
+        &'a mut self,
+        query: &'a Q,
+        loader: F,
+    ) -> Result<RefMut<'a, Q, K, V, We, B, L, A>, NotLoaded<E>>
+        requires stands { (key : K) → Q.to_key_gives query.now key
+            → Q.equivalent query.now key ≡ true }
+        requires loader { F.pre loader }
+        // Where pinning is steady, a value fills the placeholder by a step of its definition.
+        ensures* rests { sem 𝓛 (rests_if_err K.row V.row We.row B.row L.row A.row B.Hasher.row
+            K.eq K.Hash.hash_input B.BuildHasher B.Hasher.Hasher A.Allocator self.entry
+            (λ r. lender r) result
+            (λ new. IfErr result (λ error. AnswersLoad (L.steady self.old.lifecycle)
+            (hooks_of L.Lifecycle self.old)
+            (rules_of no_touches K.Hash.hash_input We.Weighter B.BuildHasher B.Hasher.Hasher
+            L.Lifecycle self.old)
+            L.RequestState.is_default (Q.equivalent query.now) (Q.to_key_gives query.now)
+            (hash_of B.BuildHasher B.Hasher.Hasher self.old.builder (Q.hash_input query.now))
+            (F.post loader) self.old.state (answer_of error) new.state)
+            × (self.old.room ≤ new.room + 1)
+            × (new ≡ record self.old { state = new.state; room = new.room; work = new.work }))) }
+        ensures loads { IfOk result (λ r. AnswersLoad (L.steady self.old.lifecycle)
+            (hooks_of L.Lifecycle self.old)
+            (rules_of no_touches K.Hash.hash_input We.Weighter B.BuildHasher B.Hasher.Hasher
+            L.Lifecycle self.old)
+            L.RequestState.is_default (Q.equivalent query.now) (Q.to_key_gives query.now)
+            (hash_of B.BuildHasher B.Hasher.Hasher self.old.builder (Q.hash_input query.now))
+            (F.post loader) self.old.state (Ok (Ok true)) (lent r).state) }
+        ensures lends { IfOk result (λ r. lender r ≡ self.entry.ghost_name) }
+        ensures query { IfOk result (λ r. query_of r ≡ query.now) }
+        ensures room { IfOk result (λ r. self.old.room ≤ (lent r).room + 1) }
+        ensures same { IfOk result (λ r. lent r ≡ record self.old {
+          state = (lent r).state;
+          room = (lent r).room;
+          work = (lent r).work;
+        }) }
+        ensures sound { IfOk result (λ r. IsSoundShard K.eq (lent r)) }
+    {
+        let hash = self.hash_of(query);
+        match self.load_by(hash, query, loader) {
+            Ok(Ok(true)) => Ok(RefMut {
+                cache: self,
+                query,
+                hash,
+            }),
+            Ok(Ok(false)) => Err(NotLoaded::NotKept),
+            Ok(Err(error)) => Err(NotLoaded::Failed(error)),
+            Err(refusal) => Err(NotLoaded::Refused(refusal)),
+        }
+    }
+}

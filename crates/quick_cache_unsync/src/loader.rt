@@ -1,0 +1,174 @@
+//! Values that a loader makes where there is none.
+ghost use Rattle.std.specs.Prelude.{◌≡◌, ◌<◌, ◌+◌, ◌≤◌, true};
+ghost use Rattle.quick_cache_model.specs.Hashing.{hash_of};
+ghost use Rattle.quick_cache_shard.specs.References.{count_under};
+ghost use Rattle.quick_cache_shard.specs.Shard.{rules_of, hooks_of, IsSoundShard};
+ghost use Rattle.quick_cache_unsync.specs.Loads.{IsAwaited, EndsLoad, LooksUpOrTakes, AnswersLoad, OnResident};
+ghost use Rattle.quick_cache_calls.specs.References.{TellsItem};
+ghost use Rattle.quick_cache_unsync.specs.Touches.{no_touches};
+
+use crate::cache::Cache;
+use crate::placeholder::Placeholder;
+use quick_cache_model::{Equivalent, Lifecycle, Refusal, ToKey, Weighter};
+use std::alloc::Allocator;
+use std::hash::{BuildHasher, Hash};
+
+impl<K: Eq + Hash, V, We, B: BuildHasher, L, A: Allocator> Cache<K, V, We, B, L, A> {
+    /// The hash of a query.
+    pub(crate) fn hash_of<Q: Equivalent<K>>(&self, query: &Q) -> u64
+        ensures { result ≡ hash_of B.BuildHasher B.Hasher.Hasher self.now.builder
+            (Q.hash_input query.now) }
+    {
+        self.shard.hash(query)
+    }
+
+    /// Whether an item stands under the query.
+    fn is_resident<Q: Equivalent<K>>(&self, hash: u64, query: &Q) -> bool
+        requires hash_is { hash ≡ hash_of B.BuildHasher B.Hasher.Hasher self.now.builder
+            (Q.hash_input query.now) }
+        ensures { TellsItem (Q.equivalent query.now) self.now.state result }
+    {
+        self.shard.contains(hash, query)
+    }
+}
+
+impl<
+    K: Eq + Hash + Drop,
+    V: Drop,
+    We: Weighter<K, V>,
+    B: BuildHasher,
+    L: Lifecycle<K, V>,
+    A: Allocator,
+> Cache<K, V, We, B, L, A> {
+    /// Looks the query's key up, or takes a placeholder for it where there is no item.
+    pub(crate) fn begin_load<Q: ToKey<K>>(
+        &mut self,
+        hash: u64,
+        query: &Q,
+    ) -> Result<Option<Placeholder>, Refusal>
+        requires hash_is { hash ≡ hash_of B.BuildHasher B.Hasher.Hasher self.old.builder
+            (Q.hash_input query.now) }
+        requires stands { (key : K) → Q.to_key_gives query.now key
+            → Q.equivalent query.now key ≡ true }
+        ensures takes { LooksUpOrTakes (Q.equivalent query.now) (Q.to_key_gives query.now) hash
+            self.old.state (λ placeholder. placeholder.ticket) result self.new.state }
+        ensures room { self.old.room ≤ self.new.room + 1 }
+        ensures same { self.new ≡ record self.old { state = self.new.state; room = self.new.room } }
+        ensures sound { IsSoundShard K.eq self.new }
+    {
+        match self.shard.get_or_placeholder(hash, query) {
+            Ok(Ok(_)) => Ok(None),
+            Ok(Err((placeholder, _))) => Ok(Some(placeholder)),
+            Err(refusal) => Err(refusal),
+        }
+    }
+
+    /// Ends a load with what the loader gives, and tells whether the key is resident then.
+    fn end_load<Q: ToKey<K>, E, F: FnOnce() -> Result<V, E>>(
+        &mut self,
+        hash: u64,
+        query: &Q,
+        placeholder: &Placeholder,
+        loader: F,
+    ) -> Result<bool, E>
+        requires hash_is { hash ≡ hash_of B.BuildHasher B.Hasher.Hasher self.old.builder
+            (Q.hash_input query.now) }
+        requires awaited { IsAwaited placeholder.now.ticket self.old.state }
+        requires loader { F.pre loader }
+        ensures ends { EndsLoad (L.steady self.old.lifecycle) (hooks_of L.Lifecycle self.old)
+            (rules_of no_touches K.Hash.hash_input We.Weighter B.BuildHasher B.Hasher.Hasher
+            L.Lifecycle self.old)
+            L.RequestState.is_default (Q.equivalent query.now) placeholder.now.ticket (F.post loader)
+            self.old.state result self.new.state }
+        ensures room { self.old.room ≤ self.new.room }
+        ensures same { self.new ≡ record self.old {
+          state = self.new.state;
+          room = self.new.room;
+          work = self.new.work;
+        } }
+        ensures sound { IsSoundShard K.eq self.new }
+    {
+        match loader() {
+            Ok(value) => {
+                let mut state = L::RequestState::default();
+                self.fill(&mut state, placeholder, value);
+                Ok(self.is_resident(hash, query))
+            }
+            Err(error) => {
+                self.give_up(placeholder);
+                Err(error)
+            }
+        }
+    }
+
+    /// What `load` does, with the query's hash.
+    pub(crate) fn load_by<Q: ToKey<K>, E, F: FnOnce() -> Result<V, E>>(
+        &mut self,
+        hash: u64,
+        query: &Q,
+        loader: F,
+    ) -> Result<Result<bool, E>, Refusal>
+        requires hash_is { hash ≡ hash_of B.BuildHasher B.Hasher.Hasher self.old.builder
+            (Q.hash_input query.now) }
+        requires stands { (key : K) → Q.to_key_gives query.now key
+            → Q.equivalent query.now key ≡ true }
+        requires loader { F.pre loader }
+        ensures loads { AnswersLoad (L.steady self.old.lifecycle) (hooks_of L.Lifecycle self.old)
+            (rules_of no_touches K.Hash.hash_input We.Weighter B.BuildHasher B.Hasher.Hasher
+            L.Lifecycle self.old)
+            L.RequestState.is_default (Q.equivalent query.now) (Q.to_key_gives query.now)
+            hash (F.post loader) self.old.state result self.new.state }
+        ensures there { OnResident result
+            (0 < count_under (Q.equivalent query.now) self.new.state) }
+        ensures room { self.old.room ≤ self.new.room + 1 }
+        ensures same { self.new ≡ record self.old {
+          state = self.new.state;
+          room = self.new.room;
+          work = self.new.work;
+        } }
+        ensures sound { IsSoundShard K.eq self.new }
+    {
+        match self.begin_load(hash, query) {
+            Ok(None) => Ok(Ok(true)),
+            Ok(Some(placeholder)) => Ok(self.end_load(hash, query, &placeholder, loader)),
+            Err(refusal) => Err(refusal),
+        }
+    }
+
+    /// Looks the query's key up as `get` does. Where no item stands under it, calls the loader and
+    /// puts its value in, with a request state of the call's own. The answer tells whether the key
+    /// is resident when the call returns.
+    ///
+    /// # Errors
+    ///
+    /// The inner one is the loader's, and leaves no placeholder. The outer one is a refusal, which
+    /// comes before the loader is called, and only where no key is found: `TicketsSpent`,
+    /// `SlotsFull` or `Memory`. Nothing has changed then.
+    pub fn load<Q: ToKey<K>, E, F: FnOnce() -> Result<V, E>>(
+        &mut self,
+        query: &Q,
+        loader: F,
+    ) -> Result<Result<bool, E>, Refusal>
+        requires stands { (key : K) → Q.to_key_gives query.now key
+            → Q.equivalent query.now key ≡ true }
+        requires loader { F.pre loader }
+        // Where pinning is steady, a value fills the placeholder by a step of its definition.
+        ensures loads { AnswersLoad (L.steady self.old.lifecycle) (hooks_of L.Lifecycle self.old)
+            (rules_of no_touches K.Hash.hash_input We.Weighter B.BuildHasher B.Hasher.Hasher
+            L.Lifecycle self.old)
+            L.RequestState.is_default (Q.equivalent query.now) (Q.to_key_gives query.now)
+            (hash_of B.BuildHasher B.Hasher.Hasher self.old.builder (Q.hash_input query.now))
+            (F.post loader) self.old.state result self.new.state }
+        // It takes room for one entry at most.
+        ensures room { self.old.room ≤ self.new.room + 1 }
+        ensures same { self.new ≡ record self.old {
+          state = self.new.state;
+          room = self.new.room;
+          work = self.new.work;
+        } }
+        ensures sound { IsSoundShard K.eq self.new }
+    {
+        let hash = self.hash_of(query);
+        self.load_by(hash, query, loader)
+    }
+}
