@@ -1,5 +1,5 @@
-use Rattle.quick_cache_copy_tests.proofs.CopyLemmas.{pointwise_numbers}
-use Rattle.quick_cache_copy_tests.proofs.keys.copy_by_bytes.Goals as goal
+use Rattle.quick_cache_key_tests.proofs.KeyLemmas.{pointwise_numbers}
+use Rattle.quick_cache_key_tests.proofs.keys.copy_by_bytes.Goals as goal
 
 -- equal bytes are met one by one
 pub copy_any-requires : goal.copy_any-requires
