@@ -2,6 +2,7 @@ use Rattle.std.proofs.Common.{◌≡◌, false, ◌∙◌, sym, ap, subst}
 use Rattle.std.specs.Int.NonZero.{non_zero_u32_get as number}
 use Rattle.quick_cache_slab.specs.LinkedSlab.{item_at}
 use Rattle.quick_cache_table.specs.Table.{HasPair}
+use Rattle.quick_cache_lists.specs.declared.entry.Slot.{Slot}
 use Rattle.quick_cache_lists.specs.Slots.{is_item_under_at}
 use Rattle.quick_cache_lists.specs.Sound.{PassesNoItem}
 use Rattle.quick_cache_lists.proofs.FindLemmas.{occupied_by_pair, item_under-is, FindsItem-from, HasNoItem-from, PassesNoItem-start, PassesNoItem-past, PassesNoItem-has, PassesNoItem-none, HasPair-keyed, hash-keyed}
@@ -28,7 +29,8 @@ returns-then-slot-hash g c =
     let i = c.self.inside in
     let stands_for = g.Q.Equivalent.equivalent c.args.query.now in
     let has = HasPair-keyed i.slab i.table c.self.invariant.keyed c.args.hash
-    (number c.in-Some.token) _ c.get_unchecked.ensures.item c.if-slot-hash.true in
+    (number c.in-Some.token) _ c.get_unchecked.ensures.item
+    (sym (ap (λ (s : Slot _ _ _ _). s.hash) c.slot.view_is) ∙ c.if-slot-hash.true) in
     let is = item_under-is stands_for _
     (ap (is_item_under_at stands_for) c.get_unchecked.ensures.item
     ∙ sym c.is_item_under.ensures ∙ c.if-is_item_under.true) in
@@ -46,8 +48,9 @@ loop-token-preserved g c =
     → is_item_under_at stands_for (item_at i.slab token) ≡ false =
     λ has. elim c.else-is_item_under.branch [
       | else-is_item_under-via-then-is_item_under+else-slot-hash w ↦
-          absurd (w.if-slot-hash.false (hash-keyed i.slab i.table c.self.invariant.keyed
-          c.args.hash token _ c.get_unchecked.ensures.item has))
+          absurd (w.if-slot-hash.false (ap (λ (s : Slot _ _ _ _). s.hash) c.slot.view_is
+          ∙ hash-keyed i.slab i.table c.self.invariant.keyed c.args.hash token _
+          c.get_unchecked.ensures.item has))
       | else-is_item_under-via-else-is_item_under w ↦
           ap (is_item_under_at stands_for) c.get_unchecked.ensures.item
           ∙ sym c.is_item_under.ensures ∙ w.if-is_item_under.false
