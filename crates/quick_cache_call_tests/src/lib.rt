@@ -2,6 +2,8 @@
 #![tactic(auto)]
 
 #[cfg(test)]
+mod loads;
+#[cfg(test)]
 mod references;
 #[cfg(test)]
 mod removal;
