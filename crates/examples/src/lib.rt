@@ -2,6 +2,8 @@
 #![tactic(auto)]
 
 #[cfg(test)]
+mod loading;
+#[cfg(test)]
 mod looking;
 #[cfg(test)]
 mod making;

@@ -25,7 +25,7 @@ pub struct Guard<
     A: Allocator = Global,
 > {
     pub(crate) cache: &'a mut Cache<K, V, We, B, L, A>,
-    // The placeholder by its parts: a token is in no type that stands beside a reference in an answer.
+    // The placeholder by its parts: no answer holds a token beside a reference.
     pub(crate) hash: u64,
     pub(crate) slot: u32,
     pub(crate) ticket: u64,

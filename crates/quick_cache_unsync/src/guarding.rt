@@ -30,7 +30,7 @@ impl<
     ///
     /// # Errors
     ///
-    /// Only where no key is found: `TicketsSpent`, `SlotsFull` or `Memory`. Nothing has changed then.
+    /// Only where no key is found: `TicketsSpent`, `SlotsFull` or `Memory`. Nothing has changed.
     pub fn get_ref_or_guard<'a, Q: ToKey<K>>(
         &'a mut self,
         query: &'a Q,
@@ -77,12 +77,12 @@ impl<
     }
 
     /// A reference to the value under the query's key, to write: the item is looked up as by
-    /// `get_mut`. Or, where no item stands under it, the right to fill a placeholder of the key: one
-    /// that is made, which counts a miss, or the one that a leaked guard left, which counts a hit.
+    /// `get_mut`. Or, where no item stands under it, the right to fill a placeholder of the key:
+    /// one that is made, which counts a miss, or the one that a leaked guard left, which counts a hit.
     ///
     /// # Errors
     ///
-    /// Only where no key is found: `TicketsSpent`, `SlotsFull` or `Memory`. Nothing has changed then.
+    /// Only where no key is found: `TicketsSpent`, `SlotsFull` or `Memory`. Nothing has changed.
     pub fn get_mut_or_guard<'a, Q: ToKey<K>>(
         &'a mut self,
         query: &'a Q,

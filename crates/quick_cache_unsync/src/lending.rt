@@ -32,9 +32,9 @@ impl<
     ///
     /// # Errors
     ///
-    /// `NotKept` where the loaded value did not stay, `Failed` with the loader's error, which leaves
-    /// no placeholder, and `Refused`, which comes before the loader is called, and only where no key
-    /// is found: by `TicketsSpent`, `SlotsFull` or `Memory`. Nothing has changed then.
+    /// `NotKept` where the loaded value did not stay, `Failed` with the loader's error, which
+    /// leaves no placeholder, and `Refused`, which comes before the loader is called, and only
+    /// where no key is found: by `TicketsSpent`, `SlotsFull` or `Memory`. Nothing has changed then.
     pub fn get_or_insert_with<'a, Q: ToKey<K>, E, F: FnOnce() -> Result<V, E>>(
         &'a mut self,
         query: &'a Q,
@@ -94,9 +94,9 @@ impl<
     ///
     /// # Errors
     ///
-    /// `NotKept` where the loaded value did not stay, `Failed` with the loader's error, which leaves
-    /// no placeholder, and `Refused`, which comes before the loader is called, and only where no key
-    /// is found: by `TicketsSpent`, `SlotsFull` or `Memory`. Nothing has changed then.
+    /// `NotKept` where the loaded value did not stay, `Failed` with the loader's error, which
+    /// leaves no placeholder, and `Refused`, which comes before the loader is called, and only
+    /// where no key is found: by `TicketsSpent`, `SlotsFull` or `Memory`. Nothing has changed then.
     pub fn get_mut_or_insert_with<'a, Q: ToKey<K>, E, F: FnOnce() -> Result<V, E>>(
         &'a mut self,
         query: &'a Q,

@@ -42,8 +42,8 @@ impl Placeholder {
         self.idx.get()
     }
 
-    /// The placeholder of the ticket. Only the ticket tells placeholders apart; a slot that is wrong
-    /// costs time.
+    /// The placeholder of the ticket. Only the ticket tells placeholders apart; a slot that is
+    /// wrong costs time.
     pub(crate) fn of_parts(hash: u64, slot: u32, ticket: u64) -> Placeholder
         ensures { result.ticket ≡ ticket }
     {
