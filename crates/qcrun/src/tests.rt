@@ -1,5 +1,6 @@
 //! What is printed for whole scripts, and the status at the end.
 use crate::serve::serve;
+use rationed::Rationed;
 use std::alloc::Global;
 use std::io::{self, ErrorKind, Read, Write};
 use std::ops::RangeInclusive;
@@ -330,4 +331,46 @@ fn a_failed_write_ends_it(rt: HostRuntime) {
     );
     assert_eq!(rt; status, ExitCode::from(1));
     assert_eq!(rt; writer.writes, 2);
+}
+
+/// Gives a line at each read, and allows so many blocks from then on.
+#[derive(Drop)]
+struct RationedLines<'a> {
+    ration: &'a Rationed<Global>,
+    lines: &'a [(u64, &'static str)],
+}
+
+impl Read for RationedLines<'_> {
+    fn read(&mut self, buf: &mut [u8]) -> io::Result<usize> {
+        let Some(((blocks, line), lines)) = self.lines.split_first() else {
+            return Ok(0);
+        };
+        self.ration.allow(*blocks);
+        self.lines = lines;
+        let mut line = line.as_bytes();
+        line.read(buf)
+    }
+}
+
+#[test]
+fn what_lacks_memory_is_told(rt: HostRuntime) {
+    let ration = Rationed::new(rt.alloc(), 1);
+    let lines = [
+        (100, "cache 55 55\n"),
+        (0, "insert 1 1\n"),
+        (100, "insert 1 1\n"),
+        (0, "insert 1 2\n"),
+        (0, "get 1\n"),
+    ];
+    let reader = RationedLines {
+        ration: &ration,
+        lines: &lines,
+    };
+    let mut written = Vec::new(rt.alloc());
+    let status = serve(&ration, reader, &mut written);
+    assert_eq!(rt; status, ExitCode::from(0));
+    assert_eq!(rt;
+        written.as_slice(),
+        b"ok\nrefused memory\nok\nevents lost\nok\nsome 2\n".as_slice()
+    );
 }
