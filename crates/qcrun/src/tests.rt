@@ -338,15 +338,16 @@ fn a_failed_write_ends_it(rt: HostRuntime) {
 struct RationedLines<'a> {
     ration: &'a Rationed<Global>,
     lines: &'a [(u64, &'static str)],
+    next: usize,
 }
 
 impl Read for RationedLines<'_> {
     fn read(&mut self, buf: &mut [u8]) -> io::Result<usize> {
-        let Some(((blocks, line), lines)) = self.lines.split_first() else {
+        let Some((blocks, line)) = self.lines.get(self.next) else {
             return Ok(0);
         };
         self.ration.allow(*blocks);
-        self.lines = lines;
+        self.next = self.next.saturating_add(1);
         let mut line = line.as_bytes();
         line.read(buf)
     }
@@ -365,6 +366,7 @@ fn what_lacks_memory_is_told(rt: HostRuntime) {
     let reader = RationedLines {
         ration: &ration,
         lines: &lines,
+        next: 0,
     };
     let mut written = Vec::new(rt.alloc());
     let status = serve(&ration, reader, &mut written);
