@@ -1,14 +1,17 @@
 -- A line is split in one way, and it is the line of one command at most.
-use Rattle.std.proofs.Common.{◌≡◌, ◌≢◌, ◌<◌, ℕ, zero, suc, Bool, true, false, cond, eqb, List, [], ◌∷◌, length, get_or, Result, Ok, Err, refl, sym, ap, ◌∙◌, subst, arith}
+use Rattle.std.proofs.Common.{◌≡◌, ◌≢◌, ◌<◌, ◌≤◌, ℕ, zero, suc, Bool, true, false, cond, eqb, List, [], ◌∷◌, ◌++◌, length, get_or, Result, Ok, Err, refl, sym, ap, ◌∙◌, subst, arith}
 use Rattle.std.proofs.Math.Seq.{get_or-append_seam}
-use Rattle.std.proofs.lemmas.List.{length-append}
+use Rattle.std.proofs.lemmas.List.{append-nil, length-append}
 use Rattle.std.proofs.lemmas.Bool.{false≢true}
 use Rattle.std.specs.Char.{digit_value}
 use Rattle.std.specs.Prelude.{codes, IsErr}
 use Rattle.std.specs.Str.Parse.{AllDigits}
-use Rattle.qcrun.specs.Commands.{spaced, IsNumber, AreNumbers, IsLineOf, IsOkExactly}
+use Rattle.qcrun.specs.Commands.{IsNumber, AreNumbers, HasNumbers, IsLineOf, IsOkExactly}
+use Rattle.qcrun.specs.Commands.{name_of, numbers_of}
 use Rattle.qcrun.specs.declared.command.Command.{Command}
-use Rattle.qcrun.specs.declared.command.Command.TheVariants.{Cache, Insert, Get, Remove, Show}
+use Rattle.qcrun.specs.declared.command.Command.TheVariants.{Cache, Insert, Replace, Soft, Get}
+use Rattle.qcrun.specs.declared.command.Command.TheVariants.{Peek, Remove, RemoveIf, Set, Poke}
+use Rattle.qcrun.specs.declared.command.Command.TheVariants.{Stats, Clear, Capacity, Hits, Show}
 
 -- an answer of Ok, where P holds of its value alone, and one of Err, where P holds of none
 pub IsOkExactly-ok : {X E : Type 0} (P : X → Type 0) (value : X) → P value
@@ -31,6 +34,10 @@ IsOkExactly-err P (Err error) is none =
 pub same_ok : {X E : Type 0} (answer : Result X E) {one other : X} → answer ≡ Ok one
     → answer ≡ Ok other → one ≡ other
 same_ok answer is_one is_other = cc
+
+-- two words with one space between
+abbrev pub spaced : List ℕ → List ℕ → List ℕ
+spaced first second = first ++ 32 ∷ second
 
 -- no space stands in the word
 abbrev pub LacksSpace : List ℕ → Type 0
@@ -74,33 +81,6 @@ AllDigits-lacks_space (c ∷ word) digits =
     (omega (arith, subst (λ d. digit_value d < 10) space digits.0)))
     (AllDigits-lacks_space word digits.1)
 
--- words without a space are no two numbers
-pub AreNumbers-none : (words : List ℕ) → LacksSpace words → (numbers : ℕ × ℕ)
-    → AreNumbers words numbers → ⊥
-AreNumbers-none words lacks numbers are =
-    spaced-has_space are.0 are.1 (subst LacksSpace are.4 lacks)
-
--- of two words that are split at their first space, each is the number that stands there
-pub AreNumbers-parts : (words first second : List ℕ) → words ≡ spaced first second
-    → LacksSpace first
-    → (numbers : ℕ × ℕ) → AreNumbers words numbers → IsNumber first numbers.0
-    × IsNumber second numbers.1
-AreNumbers-parts words first second split lacks numbers are =
-    let same = spaced-same are.0 are.1 first second (AllDigits-lacks_space are.0 are.2.0.0.1) lacks
-    (sym are.4 ∙ split) in (
-      subst (λ word. IsNumber word numbers.0) same.0 are.2,
-      subst
-          (λ word. IsNumber word numbers.1) same.1 are.3,
-    )
-
--- what the line of a command says of its first word and of what stands behind it
-abbrev pub IsCall : List ℕ → List ℕ → Command → Type 0
-IsCall name words (Cache items weight) = (name ≡ codes "cache") × AreNumbers words (items, weight)
-IsCall name words (Insert key value) = (name ≡ codes "insert") × AreNumbers words (key, value)
-IsCall name words (Get key) = (name ≡ codes "get") × IsNumber words key
-IsCall name words (Remove key) = (name ≡ codes "remove") × IsNumber words key
-IsCall name words Show = ⊥
-
 -- whether no space stands in the word
 abbrev lacks_space : List ℕ → Bool
 lacks_space [] = true
@@ -119,48 +99,173 @@ LacksSpace-tested [] tested = LacksSpace-nil
 LacksSpace-tested (c ∷ word) tested =
     LacksSpace-tested_at c word (eqb c 32) refl tested (LacksSpace-tested word)
 
--- the line of a command, split at its first space
-pub IsLineOf-split : (line name words : List ℕ) → line ≡ spaced name words → LacksSpace name
-    → (command : Command) → IsLineOf line command → IsCall name words command
-IsLineOf-split line name words split lacks (Cache items weight) is =
-    let same = spaced-same name words (codes "cache") is.0 lacks
-    (LacksSpace-tested (codes "cache") refl) (sym split ∙ is.1) in
-    (same.0, subst (λ w. AreNumbers w (items, weight)) (sym same.1) is.2)
-IsLineOf-split line name words split lacks (Insert key value) is =
-    let same = spaced-same name words (codes "insert") is.0 lacks
-    (LacksSpace-tested (codes "insert") refl) (sym split ∙ is.1) in
-    (same.0, subst (λ w. AreNumbers w (key, value)) (sym same.1) is.2)
-IsLineOf-split line name words split lacks (Get key) is =
-    let same = spaced-same name words (codes "get") is.0 lacks
-    (LacksSpace-tested (codes "get") refl) (sym split ∙ is.1) in
-    (same.0, subst (λ w. IsNumber w key) (sym same.1) is.2)
-IsLineOf-split line name words split lacks (Remove key) is =
-    let same = spaced-same name words (codes "remove") is.0 lacks
-    (LacksSpace-tested (codes "remove") refl) (sym split ∙ is.1) in
-    (same.0, subst (λ w. IsNumber w key) (sym same.1) is.2)
-IsLineOf-split line name words split lacks Show is =
-    absurd (spaced-has_space name words
-    (subst LacksSpace (sym is ∙ split) (LacksSpace-tested (codes "show") refl)))
+-- no command's name has a space
+name_of-lacks_space : (command : Command) → LacksSpace (name_of command)
+name_of-lacks_space (Cache items weight) = LacksSpace-tested (codes "cache") refl
+name_of-lacks_space (Insert key value) = LacksSpace-tested (codes "insert") refl
+name_of-lacks_space (Replace key value) = LacksSpace-tested (codes "replace") refl
+name_of-lacks_space (Soft key value) = LacksSpace-tested (codes "soft") refl
+name_of-lacks_space (Get key) = LacksSpace-tested (codes "get") refl
+name_of-lacks_space (Peek key) = LacksSpace-tested (codes "peek") refl
+name_of-lacks_space (Remove key) = LacksSpace-tested (codes "remove") refl
+name_of-lacks_space (RemoveIf key value) = LacksSpace-tested (codes "removeif") refl
+name_of-lacks_space (Set key value) = LacksSpace-tested (codes "set") refl
+name_of-lacks_space (Poke key value) = LacksSpace-tested (codes "poke") refl
+name_of-lacks_space (Stats key) = LacksSpace-tested (codes "stats") refl
+name_of-lacks_space Clear = LacksSpace-tested (codes "clear") refl
+name_of-lacks_space (Capacity weight) = LacksSpace-tested (codes "capacity") refl
+name_of-lacks_space Hits = LacksSpace-tested (codes "hits") refl
+name_of-lacks_space Show = LacksSpace-tested (codes "show") refl
 
--- behind the first word `cache` stand a new cache's two numbers
-pub IsCall-cache : (name words : List ℕ) → name ≡ codes "cache" → (command : Command)
-    → IsCall name words command
-    → (numbers : ℕ × ℕ) × AreNumbers words numbers × (command ≡ Cache numbers.0 numbers.1)
-IsCall-cache name words named (Cache items weight) is = ((items, weight), is.1, refl)
-IsCall-cache name words named (Insert key value) is =
-    absurd (omega (arith, ap length (sym named ∙ is.0)))
-IsCall-cache name words named (Get key) is = absurd (omega (arith, ap length (sym named ∙ is.0)))
-IsCall-cache name words named (Remove key) is = absurd (omega (arith, ap length (sym named ∙ is.0)))
-IsCall-cache name words named Show is = absurd is
+-- it has two numbers at most
+numbers_of-few : (command : Command) → length (numbers_of command) ≤ 2
+numbers_of-few (Cache items weight) = omega arith
+numbers_of-few (Insert key value) = omega arith
+numbers_of-few (Replace key value) = omega arith
+numbers_of-few (Soft key value) = omega arith
+numbers_of-few (Get key) = omega arith
+numbers_of-few (Peek key) = omega arith
+numbers_of-few (Remove key) = omega arith
+numbers_of-few (RemoveIf key value) = omega arith
+numbers_of-few (Set key value) = omega arith
+numbers_of-few (Poke key value) = omega arith
+numbers_of-few (Stats key) = omega arith
+numbers_of-few Clear = omega arith
+numbers_of-few (Capacity weight) = omega arith
+numbers_of-few Hits = omega arith
+numbers_of-few Show = omega arith
 
--- behind the first word `insert` stand a key and a value
-pub IsCall-insert : (name words : List ℕ) → name ≡ codes "insert" → (command : Command)
-    → IsCall name words command
-    → (pair : ℕ × ℕ) × AreNumbers words pair × (command ≡ Insert pair.0 pair.1)
-IsCall-insert name words named (Cache items weight) is =
-    absurd (omega (arith, ap length (sym named ∙ is.0)))
-IsCall-insert name words named (Insert key value) is = ((key, value), is.1, refl)
-IsCall-insert name words named (Get key) is = absurd (omega (arith, ap length (sym named ∙ is.0)))
-IsCall-insert name words named (Remove key) is =
-    absurd (omega (arith, ap (λ word. get_or word 0 0) (sym named ∙ is.0)))
-IsCall-insert name words named Show is = absurd is
+-- another way to say of which values an answer is Ok
+pub IsOkExactly-as : {X E : Type 0} (answer : Result X E) (P Q : X → Type 0)
+    → ((value : X) → P value → Q value) → ((value : X) → Q value → P value)
+    → IsOkExactly answer P → IsOkExactly answer Q
+IsOkExactly-as answer P Q there back exact =
+    λ value. (λ holds. (exact value).0 (back value holds), λ is. there value ((exact value).1 is))
+
+-- a line without a space is the name of a command that has no number
+pub IsLineOf-alone : (line : List ℕ) → LacksSpace line → (command : Command)
+    → IsLineOf line command → HasNumbers line [] command
+IsLineOf-alone line lacks command is = go (numbers_of command) is.2
+  where
+    go : (numbers : List ℕ) → AreNumbers is.0 numbers
+        → (line ≡ name_of command) × ([] ≡ numbers)
+    go [] none = (
+      is.1 ∙ ap (λ (words : List ℕ). name_of command ++ words) none
+          ∙ append-nil (name_of command),
+      refl,
+    )
+    go (number ∷ numbers) are =
+        absurd (spaced-has_space (name_of command) (are.0 ++ are.1)
+        (subst LacksSpace (is.1 ∙ ap (λ (words : List ℕ). name_of command ++ words) are.4) lacks))
+
+-- and so is each such name
+pub HasNumbers-alone : (line : List ℕ) (command : Command) → HasNumbers line [] command
+    → IsLineOf line command
+HasNumbers-alone line command has = (
+  [],
+  has.0 ∙ sym (append-nil (name_of command)),
+  subst (λ (numbers : List ℕ). AreNumbers [] numbers) has.1 refl,
+)
+
+module _ (line name words : List ℕ) (split : line ≡ spaced name words) (lacks : LacksSpace name)
+  where
+    -- a line that is split at its first space is a name and numbers behind it
+    pub IsLineOf-split : (command : Command) → IsLineOf line command
+        → (name ≡ name_of command) × AreNumbers (32 ∷ words) (numbers_of command)
+    IsLineOf-split command is = go (numbers_of command) is.2
+      where
+        go : (numbers : List ℕ) → AreNumbers is.0 numbers
+            → (name ≡ name_of command) × AreNumbers (32 ∷ words) numbers
+        go [] none =
+            absurd (spaced-has_space name words (subst LacksSpace
+            (sym (is.1 ∙ ap (λ (more : List ℕ). name_of command ++ more) none
+            ∙ append-nil (name_of command)) ∙ split) (name_of-lacks_space command)))
+        go (number ∷ numbers) are =
+            let same = spaced-same name words (name_of command) (are.0 ++ are.1) lacks
+            (name_of-lacks_space command)
+            (sym split ∙ is.1 ∙ ap (λ (more : List ℕ). name_of command ++ more) are.4) in
+            (same.0, (are.0, are.1, are.2, are.3, ap (λ (more : List ℕ). 32 ∷ more) same.1))
+
+    -- and the other way round
+    pub IsLineOf-joined : (command : Command) → name ≡ name_of command
+        → AreNumbers (32 ∷ words) (numbers_of command) → IsLineOf line command
+    IsLineOf-joined command named are =
+        (32 ∷ words, split ∙ ap (λ (n : List ℕ). spaced n words) named, are)
+
+-- a number has no space
+pub IsNumber-lacks_space : (word : List ℕ) (number : ℕ) → IsNumber word number → LacksSpace word
+IsNumber-lacks_space word number is = AllDigits-lacks_space word is.0.0.1
+
+-- one word is one number
+pub AreNumbers-one : (words : List ℕ) → LacksSpace words → (numbers : List ℕ)
+    → AreNumbers (32 ∷ words) numbers
+    → (number : ℕ) × IsNumber words number × (numbers ≡ number ∷ [])
+AreNumbers-one words lacks [] are = absurd (omega (arith, ap length are))
+AreNumbers-one words lacks (number ∷ []) are =
+    let same : words ≡ are.0 = (let tail : words ≡ are.0 ++ are.1 = cc in
+    tail ∙ ap (λ (rest : List ℕ). are.0 ++ rest) are.3 ∙ append-nil are.0) in
+    (number, subst (λ (word : List ℕ). IsNumber word number) (sym same) are.2, refl)
+AreNumbers-one words lacks (number ∷ other ∷ numbers) are =
+    let tail : words ≡ are.0 ++ are.1 = cc in
+    absurd (spaced-has_space are.0 (are.3.0 ++ are.3.1)
+    (subst LacksSpace (tail ∙ ap (λ (rest : List ℕ). are.0 ++ rest) are.3.4) lacks))
+
+-- the number of one word
+pub AreNumbers-of_one : (words : List ℕ) (number : ℕ) → IsNumber words number
+    → AreNumbers (32 ∷ words) (number ∷ [])
+AreNumbers-of_one words number is =
+    (words, [], is, refl, ap (λ (w : List ℕ). 32 ∷ w) (sym (append-nil words)))
+
+module _ (words first second : List ℕ) (split : words ≡ spaced first second)
+    (lacks : LacksSpace first) where
+  -- behind a first word there is a second number
+  pub AreNumbers-two : (numbers : List ℕ) → AreNumbers (32 ∷ words) numbers
+      → (number : ℕ) × (rest : List ℕ) × IsNumber first number × AreNumbers (32 ∷ second) rest
+      × (numbers ≡ number ∷ rest)
+  AreNumbers-two [] are = absurd (omega (arith, ap length are))
+  AreNumbers-two (number ∷ []) are =
+      let tail : words ≡ are.0 ++ are.1 = cc in
+      absurd (spaced-has_space first second (subst LacksSpace
+      (sym (tail ∙ ap (λ (rest : List ℕ). are.0 ++ rest) are.3 ∙ append-nil are.0) ∙ split)
+      (IsNumber-lacks_space are.0 number are.2)))
+  AreNumbers-two (number ∷ other ∷ numbers) are =
+      let tail : words ≡ are.0 ++ are.1 = cc in
+      let same = spaced-same are.0 (are.3.0 ++ are.3.1) first second
+      (IsNumber-lacks_space are.0 number are.2) lacks
+      (sym (tail ∙ ap (λ (rest : List ℕ). are.0 ++ rest) are.3.4) ∙ split) in (
+        number,
+        other ∷ numbers,
+        subst (λ (word : List ℕ). IsNumber word number) same.0 are.2,
+        (
+          are.3.0,
+          are.3.1,
+          are.3.2,
+          are.3.3,
+          ap (λ (more : List ℕ). 32 ∷ more) (sym same.1),
+        ),
+        refl,
+      )
+
+  -- and two numbers stand there
+  pub AreNumbers-of_two : (one other : ℕ) → IsNumber first one → IsNumber second other
+      → AreNumbers (32 ∷ words) (one ∷ other ∷ [])
+  AreNumbers-of_two one other is also = (
+    first,
+    32 ∷ second,
+    is,
+    AreNumbers-of_one second other also,
+    ap (λ (more : List ℕ). 32 ∷ more) split,
+  )
+
+-- behind two words of a command's line stands nothing more
+pub AreNumbers-last : (words : List ℕ) (command : Command) (number : ℕ) (numbers : List ℕ)
+    → numbers_of command ≡ number ∷ numbers → AreNumbers (32 ∷ words) numbers
+    → (other : ℕ) × IsNumber words other × (numbers ≡ other ∷ [])
+AreNumbers-last words command number [] of are = absurd (omega (arith, ap length are))
+AreNumbers-last words command number (other ∷ []) of are =
+    let tail : words ≡ are.0 ++ are.1 = cc in
+    let same : words ≡ are.0 =
+    tail ∙ ap (λ (rest : List ℕ). are.0 ++ rest) are.3 ∙ append-nil are.0 in
+    (other, subst (λ (word : List ℕ). IsNumber word other) (sym same) are.2, refl)
+AreNumbers-last words command number (other ∷ more ∷ numbers) of are =
+    absurd (omega (arith, ap length of, numbers_of-few command))

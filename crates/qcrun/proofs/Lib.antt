@@ -3,6 +3,6 @@ pub mod EventLemmas
 pub mod LineLemmas
 pub mod PrintLemmas
 pub mod RunLemmas
-pub mod ServedLemmas
 pub mod SessionLemmas
 pub mod StillLemmas
+pub mod ServedLemmas

@@ -1,43 +1,52 @@
 -- What a session owes for a command, from what its parts did.
-use Rattle.std.proofs.Common.{◌≡◌, ℕ, List, Option, Some, None, Vec, refl}
-use Rattle.std.specs.Prelude.{nat_eq}
+use Rattle.std.proofs.Common.{◌≡◌, ℕ, List, Option, Some, Vec, refl}
+use Rattle.std.specs.Prelude.{IsSome}
+use Rattle.std.specs.declared.alloc.Global.{Global}
 use Rattle.quick_cache_model.specs.Hooks.{Rules, HookCall}
 use Rattle.quick_cache_shard.specs.Shard.{Shard}
-use Rattle.quick_cache_unsync.specs.declared.calls.Call.{Call}
-use Rattle.quick_cache_unsync.specs.declared.calls.Call.TheVariants as call
-use Rattle.quick_cache_unsync.specs.declared.calls.Reply.{Reply}
+use Rattle.quick_cache_calls.specs.declared.reply.Reply.{Reply}
 use Rattle.qcrun.specs.declared.command.Command.{Command}
-use Rattle.qcrun.specs.declared.command.Command.TheVariants.{Cache, Insert, Get, Remove, Show}
+use Rattle.qcrun.specs.declared.command.Command.TheVariants.{Cache, Insert, Replace, Soft, Get}
+use Rattle.qcrun.specs.declared.command.Command.TheVariants.{Peek, Remove, RemoveIf, Set, Poke}
+use Rattle.qcrun.specs.declared.command.Command.TheVariants.{Stats, Clear, Capacity, Hits, Show}
 use Rattle.qcrun.specs.declared.reply.Answer.{Answer}
-use Rattle.qcrun.specs.declared.session.Outcome.TheVariants.{Answered, NoCache}
+use Rattle.qcrun.specs.declared.session.Outcome.TheVariants.{Answered}
 use Rattle.qcrun.specs.declared.events.Event.{Event}
 use Rattle.qcrun.specs.Answers.{answer_of}
 use Rattle.qcrun.specs.Events.{LeavesByKind, TellsOf}
-use Rattle.qcrun.specs.Served.{Serves}
-use Rattle.qcrun.specs.Sessions.{command_of, ServesCommand}
+use Rattle.qcrun.specs.Served.{ServesAsked, call_of}
+use Rattle.qcrun.specs.Sessions.{ServesCommand}
+
+-- a command that asks for no new cache, and not to show the one that stands, asks for a call
+pub asks_call : (command : Command) → ((items weight : ℕ) → command ≡ Cache items weight → ⊥)
+    → (command ≡ Show → ⊥) → IsSome (call_of command)
+asks_call (Cache items weight) no_cache no_show = absurd (no_cache items weight refl)
+asks_call (Insert key value) no_cache no_show = refl
+asks_call (Replace key value) no_cache no_show = refl
+asks_call (Soft key value) no_cache no_show = refl
+asks_call (Get key) no_cache no_show = refl
+asks_call (Peek key) no_cache no_show = refl
+asks_call (Remove key) no_cache no_show = refl
+asks_call (RemoveIf key value) no_cache no_show = refl
+asks_call (Set key value) no_cache no_show = refl
+asks_call (Poke key value) no_cache no_show = refl
+asks_call (Stats key) no_cache no_show = refl
+asks_call Clear no_cache no_show = refl
+asks_call (Capacity weight) no_cache no_show = refl
+asks_call Hits no_cache no_show = refl
+asks_call Show no_cache no_show = absurd (no_show refl)
 
 module _ {We B L A : Type 0} (rules : Shard ℕ ℕ We B L → Rules ℕ ℕ) where
-  -- where no cache stands, only a new one can be asked for
-  pub ServesCommand-no_cache : (command : Command)
-      → ((items weight : ℕ) → command ≡ Cache items weight → ⊥)
-      → ServesCommand {A = A} rules None command NoCache None
-  ServesCommand-no_cache (Cache items weight) other = absurd (other items weight refl)
-  ServesCommand-no_cache (Insert key value) other =
-      ServesCommand.lacks_cache_for_call (call.Insert key value)
-  ServesCommand-no_cache (Get key) other = ServesCommand.lacks_cache_for_call (call.Get key)
-  ServesCommand-no_cache (Remove key) other = ServesCommand.lacks_cache_for_call (call.Remove key)
-  ServesCommand-no_cache Show other = ServesCommand.lacks_cache_to_show
-
   -- the call of a command was made, and the cache goes by what it went by
   pub ServesCommand-call : (old : Option (Shard ℕ ℕ We B L)) (command : Command) (answer : Answer)
-      (cache new : Shard ℕ ℕ We B L) (made : Call ℕ ℕ) (reply : Reply ℕ ℕ)
+      (cache new : Shard ℕ ℕ We B L) (reply : Reply ℕ ℕ Global)
       (hook_calls : List (HookCall ℕ ℕ)) (events : Option (Vec Event A))
-      → old ≡ Some cache → command ≡ command_of made → answer ≡ answer_of reply
+      → old ≡ Some cache → answer ≡ answer_of reply
       → new ≡ record cache { state = new.state; room = new.room; work = new.work }
-      → Serves (rules cache) nat_eq cache.state made reply hook_calls new.state
+      → ServesAsked (rules cache) cache.state command reply hook_calls new.state
       → LeavesByKind hook_calls × TellsOf hook_calls events
       → ServesCommand rules old command (Answered events answer) (Some new)
-  ServesCommand-call old command answer cache new made reply hook_calls events stood asked told same
-      serves tells =
-      rw stood (rw asked (rw told (ServesCommand.makes_call cache new made reply hook_calls events
-      same serves tells.0 tells.1)))
+  ServesCommand-call old command answer cache new reply hook_calls events stood told same serves
+      tells =
+      rw stood (rw told (ServesCommand.makes_call cache new command reply hook_calls events same
+      serves tells.0 tells.1))

@@ -1,8 +1,11 @@
 -- The lines that are commands.
-use Rattle.std.specs.Prelude.{◌≡◌, ◌↔◌, Result, Ok, ℕ, ◌^◌, ◌<◌, ◌≤◌, List, ◌∷◌, ◌++◌, length, codes}
+use Rattle.std.specs.Prelude.{◌≡◌, ◌↔◌, Result, Ok, ℕ, ◌^◌, ◌<◌, ◌≤◌, List, [], ◌∷◌, ◌++◌}
+use Rattle.std.specs.Prelude.{length, codes}
 use Rattle.std.specs.Str.Parse.{IsNumeral, digits_value}
 use Rattle.qcrun.specs.declared.command.Command.{Command}
-use Rattle.qcrun.specs.declared.command.Command.TheVariants.{Cache, Insert, Get, Remove, Show}
+use Rattle.qcrun.specs.declared.command.Command.TheVariants.{Cache, Insert, Replace, Soft, Get}
+use Rattle.qcrun.specs.declared.command.Command.TheVariants.{Peek, Remove, RemoveIf, Set, Poke}
+use Rattle.qcrun.specs.declared.command.Command.TheVariants.{Stats, Clear, Capacity, Hits, Show}
 
 -- one to twenty decimal digits, of at most the greatest u64
 abbrev pub IsNumeralInRange : List ℕ → Type 0
@@ -17,23 +20,53 @@ IsOkExactly {X} answer P = (value : X) → P value ↔ (answer ≡ Ok value)
 abbrev pub IsNumber : List ℕ → ℕ → Type 0
 IsNumber word number = IsNumeralInRange word × (digits_value 10 word ≡ number)
 
--- two words with one space between
-abbrev pub spaced : List ℕ → List ℕ → List ℕ
-spaced first second = first ++ 32 ∷ second
+-- words write these numbers, each behind a space
+abbrev pub AreNumbers : List ℕ → List ℕ → Type 0
+AreNumbers words [] = words ≡ []
+AreNumbers words (number ∷ numbers) = (word : List ℕ) × (rest : List ℕ) × IsNumber word number
+    × AreNumbers rest numbers × (words ≡ 32 ∷ word ++ rest)
 
--- two words, with one space between, write these numbers
-abbrev pub AreNumbers : List ℕ → ℕ × ℕ → Type 0
-AreNumbers words numbers = (first : List ℕ) × (second : List ℕ) × IsNumber first numbers.0
-    × IsNumber second numbers.1
-    × (words ≡ spaced first second)
+-- the name of a command
+abbrev pub name_of : Command → List ℕ
+name_of (Cache items weight) = codes "cache"
+name_of (Insert key value) = codes "insert"
+name_of (Replace key value) = codes "replace"
+name_of (Soft key value) = codes "soft"
+name_of (Get key) = codes "get"
+name_of (Peek key) = codes "peek"
+name_of (Remove key) = codes "remove"
+name_of (RemoveIf key value) = codes "removeif"
+name_of (Set key value) = codes "set"
+name_of (Poke key value) = codes "poke"
+name_of (Stats key) = codes "stats"
+name_of Clear = codes "clear"
+name_of (Capacity weight) = codes "capacity"
+name_of Hits = codes "hits"
+name_of Show = codes "show"
+
+-- the numbers behind its name
+abbrev pub numbers_of : Command → List ℕ
+numbers_of (Cache items weight) = items ∷ weight ∷ []
+numbers_of (Insert key value) = key ∷ value ∷ []
+numbers_of (Replace key value) = key ∷ value ∷ []
+numbers_of (Soft key value) = key ∷ value ∷ []
+numbers_of (Get key) = key ∷ []
+numbers_of (Peek key) = key ∷ []
+numbers_of (Remove key) = key ∷ []
+numbers_of (RemoveIf key value) = key ∷ value ∷ []
+numbers_of (Set key value) = key ∷ value ∷ []
+numbers_of (Poke key value) = key ∷ value ∷ []
+numbers_of (Stats key) = key ∷ []
+numbers_of Clear = []
+numbers_of (Capacity weight) = weight ∷ []
+numbers_of Hits = []
+numbers_of Show = []
+
+-- the command has this name, and these numbers
+abbrev pub HasNumbers : (name numbers : List ℕ) → Command → Type 0
+HasNumbers name numbers command = (name ≡ name_of command) × (numbers ≡ numbers_of command)
 
 -- the line of a command: its name, and its numbers behind it
 abbrev pub IsLineOf : List ℕ → Command → Type 0
-IsLineOf line (Cache items weight) = (words : List ℕ) × (line ≡ spaced (codes "cache") words)
-    × AreNumbers words (items, weight)
-IsLineOf line (Insert key value) =
-    (words : List ℕ) × (line ≡ spaced (codes "insert") words) × AreNumbers words (key, value)
-IsLineOf line (Get key) = (word : List ℕ) × (line ≡ spaced (codes "get") word) × IsNumber word key
-IsLineOf line (Remove key) = (word : List ℕ) × (line ≡ spaced (codes "remove") word)
-    × IsNumber word key
-IsLineOf line Show = line ≡ codes "show"
+IsLineOf line command = (words : List ℕ) × (line ≡ name_of command ++ words)
+    × AreNumbers words (numbers_of command)

@@ -1,34 +1,63 @@
--- What a command does to the cache.
-use Rattle.std.specs.Prelude.{Bool, List, [], ◌∷◌, Option}
-use Rattle.quick_cache_model.specs.declared.refusal.Refusal.TheVariants.{Memory}
-use Rattle.quick_cache_model.specs.CacheState.{CacheState}
+-- The calls that commands ask for, and what making them is.
+use Rattle.std.specs.Prelude.{◌≡◌, ℕ, ◌-◌, ◌^◌, ◌==◌, Bool, true, false, List, Option, Some, None, min}
+use Rattle.std.specs.Prelude.{nat_eq, ⊤}
+use Rattle.std.specs.declared.alloc.Global.{Global}
+use Rattle.quick_cache_model.specs.CacheState.{CacheState, item_count, total_weight}
 use Rattle.quick_cache_model.specs.Hooks.{Rules, HookCall}
-use Rattle.quick_cache_unsync.specs.declared.calls.Call.{Call}
-use Rattle.quick_cache_unsync.specs.declared.calls.Call.TheVariants.{Insert, Get, Remove}
-use Rattle.quick_cache_unsync.specs.declared.calls.Reply.{Reply}
-use Rattle.quick_cache_unsync.specs.declared.calls.Reply.TheVariants.{Value, Pair, Refused}
-use Rattle.quick_cache_unsync.specs.CacheStep.{CacheStep, IsItself}
+use Rattle.quick_cache_calls.specs.CacheStep.{CacheStep}
+use Rattle.quick_cache_calls.specs.Shown.{IsItself}
+use Rattle.quick_cache_calls.specs.declared.call.Call.{Call}
+use Rattle.quick_cache_calls.specs.declared.call.Call.TheVariants as call
+use Rattle.quick_cache_calls.specs.declared.reply.Reply.{Reply}
+use Rattle.quick_cache_calls.specs.declared.reply.Reply.TheVariants as reply
+use Rattle.qcrun.specs.declared.command.Command.{Command}
+use Rattle.qcrun.specs.declared.command.Command.TheVariants.{Cache, Insert, Replace, Soft, Get}
+use Rattle.qcrun.specs.declared.command.Command.TheVariants.{Peek, Remove, RemoveIf, Set, Poke}
+use Rattle.qcrun.specs.declared.command.Command.TheVariants.{Stats, Clear, Capacity, Hits, Show}
 
--- A look-up and a removal are made, and the reply is what was found. An insert is made, or refused
--- with its pair, or there was no memory to hand it over: then nothing changes. The hook calls are
--- those of the call.
-pub data Serves {K V : Type 0} (rules : Rules K V) (equal : K → K → Bool)
-    (old : CacheState K V)
-    : Call K V → Reply K V → List (HookCall K V) → CacheState K V → Type 0 where
-  inserts : (key : K) (value : V) (reply : Reply K V) (hook_calls : List (HookCall K V))
-      (new : CacheState K V)
-      → CacheStep rules equal IsItself old (Insert key value) reply hook_calls new
-      → Serves rules equal old (Insert key value) reply hook_calls new
-  lacks_memory : (key : K) (value : V)
-      → Serves rules equal old (Insert key value) (Refused Memory) [] old
-  gets : (key : K) (answer : Option V) (new : CacheState K V)
-      → CacheStep rules equal IsItself old (Get key) (Value answer) [] new
-      → Serves rules equal old (Get key) (Value answer) [] new
-  removes : (key : K) (answer : Option (K × V)) (new : CacheState K V)
-      → CacheStep rules equal IsItself old (Remove key) (Pair answer) [] new
-      → Serves rules equal old (Remove key) (Pair answer) [] new
+-- a predicate is the value that passes it
+abbrev pub is_wanted : (wanted key value : ℕ) → Bool
+is_wanted wanted key value = value == wanted
 
--- the first reply of a list, where there is one
-abbrev pub first_reply : {K V : Type 0} → List (Reply K V) → Reply K V
-first_reply [] = Refused Memory
-first_reply (reply ∷ _) = reply
+-- the call that a command asks for, unless it asks for a new cache or to show the one that stands
+abbrev pub call_of : Command → Option (Call ℕ ℕ ℕ)
+call_of (Cache items weight) = None
+call_of (Insert key value) = Some (call.Insert key value)
+call_of (Replace key value) = Some (call.Replace key value false)
+call_of (Soft key value) = Some (call.Replace key value true)
+call_of (Get key) = Some (call.Get key)
+call_of (Peek key) = Some (call.Peek key)
+call_of (Remove key) = Some (call.Remove key)
+call_of (RemoveIf key value) = Some (call.RemoveIf key value)
+call_of (Set key value) = Some (call.GetMut key value)
+call_of (Poke key value) = Some (call.PeekMut key value)
+call_of (Stats key) = Some (call.Stats key)
+call_of Clear = Some call.Clear
+call_of (Capacity weight) = Some (call.SetCapacity weight)
+call_of Hits = Some call.Counts
+call_of Show = None
+
+-- the reply that tells the numbers of a cache
+abbrev pub numbers_of : CacheState ℕ ℕ → Reply ℕ ℕ Global
+numbers_of state =
+    reply.Counts (item_count state) (min (total_weight state) (2 ^ 64 - 1)) state.capacity
+    state.hits state.misses
+
+-- The call was made, or its pair was refused: nothing else is ever refused.
+abbrev pub IsMade : Reply ℕ ℕ Global → Type 0
+IsMade (reply.Refused refusal) = ⊥
+IsMade _ = ⊤
+
+module _ (rules : Rules ℕ ℕ) (old : CacheState ℕ ℕ) where
+  -- The call is made, or its pair is refused, and its reply shows keys and values as they are.
+  abbrev pub Serves : Call ℕ ℕ ℕ → Reply ℕ ℕ Global → List (HookCall ℕ ℕ) → CacheState ℕ ℕ
+      → Type 0
+  Serves made answer hook_calls new =
+      CacheStep rules nat_eq IsItself IsItself is_wanted old made answer hook_calls new
+      × IsMade answer
+
+  -- so is the call that a command asks for
+  abbrev pub ServesAsked : Command → Reply ℕ ℕ Global → List (HookCall ℕ ℕ) → CacheState ℕ ℕ
+      → Type 0
+  ServesAsked command answer hook_calls new =
+      (made : Call ℕ ℕ ℕ) × (call_of command ≡ Some made) × Serves made answer hook_calls new

@@ -1,16 +1,15 @@
 -- What a command does to the cache that stands, and what became of it.
-use Rattle.std.specs.Prelude.{◌≡◌, ℕ, List, [], Option, Some, None, Vec, nat_eq}
+use Rattle.std.specs.Prelude.{◌≡◌, ℕ, List, [], Option, Some, None, Vec}
+use Rattle.std.specs.declared.alloc.Global.{Global}
 use Rattle.quick_cache_model.specs.declared.refusal.Refusal.TheVariants.{Memory}
 use Rattle.quick_cache_model.specs.CacheState.{CacheState, empty_state}
 use Rattle.quick_cache_model.specs.Hooks.{Rules, HookCall}
 use Rattle.quick_cache_model.specs.Sizes.{hot_target_of, ghost_limit_of}
 use Rattle.quick_cache_model.specs.Sizes.{default_hot_share, default_ghost_share}
 use Rattle.quick_cache_shard.specs.Shard.{Shard}
-use Rattle.quick_cache_unsync.specs.declared.calls.Call.{Call}
-use Rattle.quick_cache_unsync.specs.declared.calls.Call.TheVariants as call
-use Rattle.quick_cache_unsync.specs.declared.calls.Reply.{Reply}
+use Rattle.quick_cache_calls.specs.declared.reply.Reply.{Reply}
 use Rattle.qcrun.specs.declared.command.Command.{Command}
-use Rattle.qcrun.specs.declared.command.Command.TheVariants.{Cache, Insert, Get, Remove, Show}
+use Rattle.qcrun.specs.declared.command.Command.TheVariants.{Cache, Show}
 use Rattle.qcrun.specs.declared.reply.Answer.{Answer}
 use Rattle.qcrun.specs.declared.reply.Answer.TheVariants.{Done, Refused}
 use Rattle.qcrun.specs.declared.session.Outcome.{Outcome}
@@ -18,14 +17,8 @@ use Rattle.qcrun.specs.declared.session.Outcome.TheVariants.{Answered, Shows, No
 use Rattle.qcrun.specs.declared.events.Event.{Event}
 use Rattle.qcrun.specs.Answers.{answer_of}
 use Rattle.qcrun.specs.Events.{LeavesByKind, TellsOf}
-use Rattle.qcrun.specs.Served.{Serves}
+use Rattle.qcrun.specs.Served.{ServesAsked}
 use Rattle.qcrun.specs.Still.{AreStill}
-
--- the command that asks for a call
-abbrev pub command_of : Call ℕ ℕ → Command
-command_of (call.Insert key value) = Insert key value
-command_of (call.Get key) = Get key
-command_of (call.Remove key) = Remove key
 
 -- an empty cache for so many items and so much weight, with the default shares
 abbrev pub new_state : (items weight : ℕ) → CacheState ℕ ℕ
@@ -59,15 +52,14 @@ module _ {We B L A : Type 0} where
         (events : Option (Vec Event A))
         → MakesCache items weight old answer new → TellsOf [] events
         → ServesCommand rules old (Cache items weight) (Answered events answer) new
-    makes_call : (cache new : Shard ℕ ℕ We B L) (call : Call ℕ ℕ) (reply : Reply ℕ ℕ)
-        (hook_calls : List (HookCall ℕ ℕ)) (events : Option (Vec Event A))
+    makes_call : (cache new : Shard ℕ ℕ We B L) (command : Command)
+        (reply : Reply ℕ ℕ Global) (hook_calls : List (HookCall ℕ ℕ)) (events : Option (Vec Event A))
         → new ≡ record cache { state = new.state; room = new.room; work = new.work }
-        → Serves (rules cache) nat_eq cache.state call reply hook_calls new.state
+        → ServesAsked (rules cache) cache.state command reply hook_calls new.state
         → LeavesByKind hook_calls → TellsOf hook_calls events
-        → ServesCommand rules (Some cache) (command_of call) (Answered events (answer_of reply))
-        (Some new)
+        → ServesCommand rules (Some cache) command (Answered events (answer_of reply)) (Some new)
     shows_cache : (cache : Shard ℕ ℕ We B L) (outcome : Outcome A) → ShowsCache cache.state outcome
         → ServesCommand rules (Some cache) Show outcome (Some cache)
-    lacks_cache_for_call : (call : Call ℕ ℕ)
-        → ServesCommand rules None (command_of call) NoCache None
-    lacks_cache_to_show : ServesCommand rules None Show NoCache None
+    lacks_cache : (command : Command)
+        → ((items weight : ℕ) → command ≡ Cache items weight → ⊥)
+        → ServesCommand rules None command NoCache None

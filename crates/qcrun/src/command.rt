@@ -1,8 +1,8 @@
 //! Commands, and the lines that they are read from.
-ghost use Rattle.std.specs.Prelude.{Some, codes};
+ghost use Rattle.std.specs.Prelude.{[], ◌∷◌, Some, codes};
 ghost use Rattle.std.specs.Result.{OkIff};
 ghost use Rattle.std.specs.Str.Parse.{digits_value};
-ghost use Rattle.qcrun.specs.Commands.{AreNumbers, IsNumeralInRange, IsOkExactly};
+ghost use Rattle.qcrun.specs.Commands.{HasNumbers, IsNumeralInRange, IsOkExactly};
 
 use std::fmt::{self, Display, Formatter, Write};
 use std::str::FromStr;
@@ -14,10 +14,30 @@ pub enum Command {
     Cache(usize, u64),
     /// `insert KEY VALUE`
     Insert(u64, u64),
+    /// `replace KEY VALUE`
+    Replace(u64, u64),
+    /// `soft KEY VALUE`: a soft replace.
+    Soft(u64, u64),
     /// `get KEY`
     Get(u64),
+    /// `peek KEY`
+    Peek(u64),
     /// `remove KEY`
     Remove(u64),
+    /// `removeif KEY VALUE`: removes the item under the key where it has this value.
+    RemoveIf(u64, u64),
+    /// `set KEY VALUE`: writes the value through a reference that counts as a look-up.
+    Set(u64, u64),
+    /// `poke KEY VALUE`: writes the value through a reference that does not.
+    Poke(u64, u64),
+    /// `stats KEY`: how often the item was read.
+    Stats(u64),
+    /// `clear`
+    Clear,
+    /// `capacity WEIGHT`
+    Capacity(u64),
+    /// `hits`: how many look-ups found an item, and how many found none.
+    Hits,
     /// `show`: what the cache holds, the rings from the head, the ghosts from the oldest and what
     /// weighs nothing by key.
     Show,
@@ -53,14 +73,46 @@ fn number(word: &str) -> Result<u64, NotACommand>
     }
 }
 
-/// The numbers of two words with a space between.
-fn numbers(words: &str) -> Result<(u64, u64), NotACommand>
-    ensures { IsOkExactly result (AreNumbers words.now) }
+/// The command of this name that has no number.
+fn alone(name: &str) -> Result<Command, NotACommand>
+    ensures { IsOkExactly result (HasNumbers name.now []) }
 {
-    let Some((first, second)) = words.split_once(' ') else {
-        return Err(NotACommand);
-    };
-    Ok((number(first)?, number(second)?))
+    match name {
+        "clear" => Ok(Command::Clear),
+        "hits" => Ok(Command::Hits),
+        "show" => Ok(Command::Show),
+        _ => Err(NotACommand),
+    }
+}
+
+/// The command of this name that has this number.
+fn with_number(name: &str, number: u64) -> Result<Command, NotACommand>
+    ensures { IsOkExactly result (HasNumbers name.now (number ∷ [])) }
+{
+    match name {
+        "get" => Ok(Command::Get(number)),
+        "peek" => Ok(Command::Peek(number)),
+        "remove" => Ok(Command::Remove(number)),
+        "stats" => Ok(Command::Stats(number)),
+        "capacity" => Ok(Command::Capacity(number)),
+        _ => Err(NotACommand),
+    }
+}
+
+/// The command of this name that has these numbers.
+fn with_numbers(name: &str, first: u64, second: u64) -> Result<Command, NotACommand>
+    ensures { IsOkExactly result (HasNumbers name.now (first ∷ second ∷ [])) }
+{
+    match name {
+        "cache" => Ok(Command::Cache(first as usize, second)),
+        "insert" => Ok(Command::Insert(first, second)),
+        "replace" => Ok(Command::Replace(first, second)),
+        "soft" => Ok(Command::Soft(first, second)),
+        "removeif" => Ok(Command::RemoveIf(first, second)),
+        "set" => Ok(Command::Set(first, second)),
+        "poke" => Ok(Command::Poke(first, second)),
+        _ => Err(NotACommand),
+    }
 }
 
 impl FromStr for Command {
@@ -72,24 +124,11 @@ impl FromStr for Command {
 
     fn from_str(line: &str) -> Result<Command, NotACommand> {
         let Some((name, words)) = line.split_once(' ') else {
-            return if line == "show" {
-                Ok(Command::Show)
-            } else {
-                Err(NotACommand)
-            };
+            return alone(line);
         };
-        match name {
-            "cache" => {
-                let (items, weight) = numbers(words)?;
-                Ok(Command::Cache(items as usize, weight))
-            }
-            "insert" => {
-                let (key, value) = numbers(words)?;
-                Ok(Command::Insert(key, value))
-            }
-            "get" => Ok(Command::Get(number(words)?)),
-            "remove" => Ok(Command::Remove(number(words)?)),
-            _ => Err(NotACommand),
-        }
+        let Some((first, second)) = words.split_once(' ') else {
+            return with_number(name, number(words)?);
+        };
+        with_numbers(name, number(first)?, number(second)?)
     }
 }

@@ -1,6 +1,7 @@
 //! Reads commands for a cache, one a line, and prints their replies.
 #![tactic(auto)]
 
+mod calls;
 mod command;
 mod events;
 mod hash;

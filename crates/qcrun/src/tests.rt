@@ -1,5 +1,6 @@
 //! What is printed for whole scripts, and the status at the end.
 use crate::serve::serve;
+use rationed::Rationed;
 use std::alloc::Global;
 use std::io::{self, ErrorKind, Read, Write};
 use std::ops::RangeInclusive;
@@ -72,10 +73,104 @@ fn scripts_print_their_replies(rt: HostRuntime) {
     }
 }
 
+/// Serves scripts that end well, and checks what is written.
+fn check_all(rt: &impl Abort, alloc: Global, scripts: &[(&str, &str)]) {
+    for (script, wanted) in scripts {
+        check(rt, alloc, script.as_bytes(), wanted, 0);
+    }
+}
+
+#[test]
+fn a_replace_is_hard_or_soft(rt: HostRuntime) {
+    let scripts: [(&str, &str); 3] = [
+        (
+            "cache 5 5\nreplace 1 1\nsoft 1 1\ninsert 1 1\nreplace 1 2\nsoft 1 3\nget 1\nshow\n",
+            "ok\nnot admitted 1 1\nnot admitted 1 1\nok\nhot 1 1\nok\nhot 1 2\nok\nsome 3\n\
+             hot 1:3:2\ncold\nghosts\nstill\ncount 1 3 4 2\n",
+        ),
+        (
+            "cache 100 100\ninsert 1 10\nreplace 1 98\nget 1\n",
+            "ok\nok\nbefore 1 98\nhot 1 10\nnot admitted 1 98\nnone\n",
+        ),
+        (
+            "cache 100 100\ninsert 1 50\ninsert 2 47\nsoft 1 60\nget 1\n",
+            "ok\nok\nok\nhot 1 50\nbefore 1 60\nhot 1 60\nok\nnone\n",
+        ),
+    ];
+    check_all(&rt, rt.alloc(), &scripts);
+}
+
+#[test]
+fn a_capacity_moves_the_target_and_the_limit(rt: HostRuntime) {
+    let scripts: [(&str, &str); 2] = [
+        (
+            "cache 100 100\ncapacity 50\nshow\ncapacity 200\nshow\ncapacity 0\nshow\n\
+             capacity 100\nshow\n",
+            "ok\nok\nhot\ncold\nghosts\nstill\ncount 0 0 48 25\n\
+             ok\nhot\ncold\nghosts\nstill\ncount 0 0 192 100\n\
+             ok\nhot\ncold\nghosts\nstill\ncount 0 0 0 0\n\
+             ok\nhot\ncold\nghosts\nstill\ncount 0 0 97 0\n",
+        ),
+        (
+            "cache 5 5\ninsert 1 1\ninsert 2 1\nget 2\ninsert 3 101\ncapacity 2\nshow\n",
+            "ok\nok\nok\nsome 1\nok\nbefore 1 1\nhot 1 1\nok\n\
+             hot 2:1:1 3:101:0\ncold\nghosts\nstill\ncount 2 2 1 0\n",
+        ),
+    ];
+    check_all(&rt, rt.alloc(), &scripts);
+}
+
+#[test]
+fn values_are_written_through_references(rt: HostRuntime) {
+    let scripts: [(&str, &str); 2] = [
+        (
+            "cache 100 100\ninsert 1 30\ninsert 2 30\ninsert 3 30\npoke 2 0\ninsert 4 30\n\
+             insert 5 30\nshow\n",
+            "ok\nok\nok\nok\nok\nok\nbefore 3 30\nhot 3 30\nok\n\
+             hot 1:30:0 4:30:0\ncold 5:30:0\nghosts\nstill 2:0\ncount 4 90 97 50\n",
+        ),
+        (
+            "cache 9 9\nset 1 1\npoke 1 1\ninsert 1 1\nset 1 2\npoke 1 13\npeek 1\npeek 2\n\
+             stats 1\nhits\nshow\n",
+            "ok\nnone\nnone\nok\nok\nok\nsome 13\nnone\nreads 1\nhits 1 misses 1\n\
+             hot 1:13:1\ncold\nghosts\nstill\ncount 1 13 8 4\n",
+        ),
+    ];
+    check_all(&rt, rt.alloc(), &scripts);
+}
+
+#[test]
+fn look_ups_are_counted(rt: HostRuntime) {
+    let scripts: [(&str, &str); 1] = [(
+        "cache 4 4\nhits\nstats 1\ninsert 1 1\nget 1\nget 1\nget 1\npeek 1\nget 9\nstats 1\nhits\n",
+        "ok\nhits 0 misses 0\nnone\nok\nsome 1\nsome 1\nsome 1\nsome 1\nnone\nreads 3\n\
+         hits 3 misses 1\n",
+    )];
+    check_all(&rt, rt.alloc(), &scripts);
+}
+
+#[test]
+fn items_are_removed_by_value_and_all_at_once(rt: HostRuntime) {
+    let scripts: [(&str, &str); 2] = [
+        (
+            "cache 4 4\ninsert 1 1\nremoveif 1 2\nremoveif 1 1\nremoveif 1 1\nhits\nshow\n",
+            "ok\nok\nnone\nsome 1 1\nnone\nhits 0 misses 0\n\
+             hot\ncold\nghosts\nstill\ncount 0 0 3 2\n",
+        ),
+        (
+            "cache 4 4\ninsert 1 1\ninsert 2 1\ninsert 3 1\ninsert 4 1\ninsert 5 1\ninsert 6 200\n\
+             get 1\nclear\nclear\nhits\nshow\nget 1\n",
+            "ok\nok\nok\nok\nok\nbefore 4 1\ncold 4 1\nok\nok\nsome 1\nok\nok\n\
+             hits 1 misses 0\nhot\ncold\nghosts\nstill\ncount 0 0 3 2\nnone\n",
+        ),
+    ];
+    check_all(&rt, rt.alloc(), &scripts);
+}
+
 #[test]
 fn a_bad_line_ends_the_script(rt: HostRuntime) {
     check(&rt, rt.alloc(), b"get 1\n", "bad line 1\n", 2);
-    let lines: [&str; 12] = [
+    let lines: [&str; 18] = [
         "get 1\r",
         "\r",
         "get  1",
@@ -88,6 +183,12 @@ fn a_bad_line_ends_the_script(rt: HostRuntime) {
         "get 18446744073709551616",
         "show all",
         "cache 1 1 1 1",
+        "replace 1",
+        "removeif 1",
+        "stats",
+        "clear 1",
+        "hits 1",
+        "capacity 1 1",
     ];
     for line in lines {
         let mut script = Vec::new(rt.alloc());
@@ -230,4 +331,48 @@ fn a_failed_write_ends_it(rt: HostRuntime) {
     );
     assert_eq!(rt; status, ExitCode::from(1));
     assert_eq!(rt; writer.writes, 2);
+}
+
+/// Gives a line at each read, and allows so many blocks from then on.
+#[derive(Drop)]
+struct RationedLines<'a> {
+    ration: &'a Rationed<Global>,
+    lines: &'a [(u64, &'static str)],
+    next: usize,
+}
+
+impl Read for RationedLines<'_> {
+    fn read(&mut self, buf: &mut [u8]) -> io::Result<usize> {
+        let Some((blocks, line)) = self.lines.get(self.next) else {
+            return Ok(0);
+        };
+        self.ration.allow(*blocks);
+        self.next = self.next.saturating_add(1);
+        let mut line = line.as_bytes();
+        line.read(buf)
+    }
+}
+
+#[test]
+fn what_lacks_memory_is_told(rt: HostRuntime) {
+    let ration = Rationed::new(rt.alloc(), 1);
+    let lines = [
+        (100, "cache 55 55\n"),
+        (0, "insert 1 1\n"),
+        (100, "insert 1 1\n"),
+        (0, "insert 1 2\n"),
+        (0, "get 1\n"),
+    ];
+    let reader = RationedLines {
+        ration: &ration,
+        lines: &lines,
+        next: 0,
+    };
+    let mut written = Vec::new(rt.alloc());
+    let status = serve(&ration, reader, &mut written);
+    assert_eq!(rt; status, ExitCode::from(0));
+    assert_eq!(rt;
+        written.as_slice(),
+        b"ok\nrefused memory\nok\nevents lost\nok\nsome 2\n".as_slice()
+    );
 }

@@ -1,8 +1,14 @@
-use Rattle.std.proofs.Common.{refl}
-use Rattle.qcrun.specs.Commands.{IsLineOf}
+use Rattle.std.proofs.Common.{List, ℕ, refl, subst}
+use Rattle.qcrun.specs.Commands.{IsLineOf, IsOkExactly}
 use Rattle.qcrun.proofs.CommandLemmas.{IsOkExactly-err}
 use Rattle.qcrun.proofs.LineLemmas.{IsUtf8-line}
 use Rattle.qcrun.proofs.serve.command_of.Goals as goal
+
+-- the text is the line
+pub returns-in-Ok : goal.returns-in-Ok
+returns-in-Ok c =
+    subst (λ (text : List ℕ). IsOkExactly c.parse.result (IsLineOf text)) c.in-Ok.ensures.cases.0
+    c.parse.ensures.value
 
 -- what is no text is no command's line
 pub returns-in-Err : goal.returns-in-Err

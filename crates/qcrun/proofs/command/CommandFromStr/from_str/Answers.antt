@@ -1,72 +1,98 @@
-use Rattle.std.proofs.Common.{◌≡◌, Some, Ok, ℕ, sym, ap, ◌∙◌, arith}
+use Rattle.std.proofs.Common.{ℕ, List, [], ◌∷◌, None, Some, sym, ap, subst, ◌∙◌, arith}
 use Rattle.std.proofs.lemmas.Str.Pattern.{split_parts}
-use Rattle.qcrun.specs.Commands.{spaced, IsLineOf}
-use Rattle.qcrun.specs.declared.command.Command.TheVariants.{Cache, Insert}
-use Rattle.qcrun.proofs.CommandLemmas.{IsOkExactly-ok, IsOkExactly-err, IsLineOf-split, IsCall-cache, IsCall-insert, same_ok}
+use Rattle.qcrun.specs.Commands.{AreNumbers, HasNumbers, IsLineOf, numbers_of}
+use Rattle.qcrun.proofs.CommandLemmas.{IsOkExactly-as, IsOkExactly-err, IsLineOf-split}
+use Rattle.qcrun.proofs.CommandLemmas.{IsLineOf-joined, AreNumbers-one, AreNumbers-of_one}
+use Rattle.qcrun.proofs.CommandLemmas.{AreNumbers-two, AreNumbers-of_two, AreNumbers-last}
 use Rattle.qcrun.proofs.command.CommandFromStr.from_str.Goals as goal
 
--- what stands behind `cache` is no two numbers
-pub returns-in_err-items-in-cache : goal.returns-in_err-items-in-cache
-returns-in_err-items-in-cache c =
+-- the one word behind the name is no number
+pub returns-in_err-number : goal.returns-in_err-number
+returns-in_err-number c =
     let parts = split_parts 32 c.args.line.now
     (Some (c.in-Some.name, c.in-Some.words)) c.in-Some.ensures.cases (omega arith) in
+    let lacks = split_parts 32 c.in-Some.words.now None c.in_default-split_once.ensures.cases
+    (omega arith) in
     IsOkExactly-err (IsLineOf c.args.line.now) c.from_residual.result c.from_residual.ensures.0
     (λ command is.
-    let call = IsCall-cache _ _ c.in-cache.is command
-    (IsLineOf-split _ _ _ parts.0 parts.1 command is) in
-    let answer : c.numbers.result ≡ Ok call.0 = (c.numbers.ensures call.0).0 call.1 in
-    let refused = c.in_err-items-in-cache.was in
-    absurd cc)
+    let split = IsLineOf-split _ _ _ parts.0 parts.1 command is in
+    let one = AreNumbers-one _ lacks (numbers_of command) split.1 in
+    c.in_err-number.ensures one.1.0)
 
--- what stands behind `cache` is two numbers, in one way
-pub returns-in_ok-items-in-cache : goal.returns-in_ok-items-in-cache
-returns-in_ok-items-in-cache c =
+-- it is a number, and the line is that of the command of this name with this number
+pub returns-in_default-split_once : goal.returns-in_default-split_once
+returns-in_default-split_once c =
     let parts = split_parts 32 c.args.line.now
     (Some (c.in-Some.name, c.in-Some.words)) c.in-Some.ensures.cases (omega arith) in
-    let numbers : ℕ × ℕ = (c.in_ok-items-in-cache.items, c.in_ok-items-in-cache.weight) in
-    let answer : c.numbers.result ≡ Ok numbers = c.in_ok-items-in-cache.was in
-    IsOkExactly-ok (IsLineOf c.args.line.now) (Cache numbers.0 numbers.1) (
-      c.in-Some.words.now,
-      parts.0 ∙ ap (λ name. spaced name c.in-Some.words.now) c.in-cache.is,
-      (c.numbers.ensures numbers).1 answer,
-    )
+    let lacks = split_parts 32 c.in-Some.words.now None c.in_default-split_once.ensures.cases
+    (omega arith) in
+    let number = c.in_ok-number.ensures in
+    let n = c.in_ok-number.field-0 in
+    IsOkExactly-as c.with_number.result (HasNumbers c.in-Some.name.now (n ∷ []))
+    (IsLineOf c.args.line.now)
+    (λ command has. IsLineOf-joined _ _ _ parts.0 parts.1 command has.0
+    (subst (λ (ns : List ℕ). AreNumbers (32 ∷ c.in-Some.words.now) ns) has.1
+    (AreNumbers-of_one c.in-Some.words.now n (number.0, sym number.1))))
     (λ command is.
-    let call = IsCall-cache _ _ c.in-cache.is command
-    (IsLineOf-split _ _ _ parts.0 parts.1 command is) in
-    let known : numbers ≡ call.0 =
-    same_ok c.numbers.result answer ((c.numbers.ensures call.0).0 call.1) in
-    call.2 ∙ ap (λ (pair : ℕ × ℕ). Cache pair.0 pair.1) (sym known))
+    let split = IsLineOf-split _ _ _ parts.0 parts.1 command is in
+    let one = AreNumbers-one _ lacks (numbers_of command) split.1 in
+    (split.0, ap (λ (m : ℕ). m ∷ []) (number.1 ∙ one.1.1) ∙ sym one.2))
+    c.with_number.ensures
 
--- what stands behind `insert` is no two numbers
-pub returns-in_err-key-in-insert : goal.returns-in_err-key-in-insert
-returns-in_err-key-in-insert c =
+-- the first of two words is no number
+pub returns-in_err-number-2 : goal.returns-in_err-number-2
+returns-in_err-number-2 c =
     let parts = split_parts 32 c.args.line.now
     (Some (c.in-Some.name, c.in-Some.words)) c.in-Some.ensures.cases (omega arith) in
-    IsOkExactly-err (IsLineOf c.args.line.now) c.from_residual-in_err-key-in-insert.result
-    c.from_residual-in_err-key-in-insert.ensures.0
+    let words = split_parts 32 c.in-Some.words.now
+    (Some (c.in-Some-split_once.first, c.in-Some-split_once.second))
+    c.in-Some-split_once.ensures.cases (omega arith) in
+    IsOkExactly-err (IsLineOf c.args.line.now) c.from_residual-in_err-number-2.result
+    c.from_residual-in_err-number-2.ensures.0
     (λ command is.
-    let call = IsCall-insert _ _ c.in-insert.is command
-    (IsLineOf-split _ _ _ parts.0 parts.1 command is) in
-    let answer : c.numbers-in-insert.result ≡ Ok call.0 =
-    (c.numbers-in-insert.ensures call.0).0 call.1 in
-    let refused = c.in_err-key-in-insert.was in
-    absurd cc)
+    let split = IsLineOf-split _ _ _ parts.0 parts.1 command is in
+    let two = AreNumbers-two _ _ _ words.0 words.1 (numbers_of command) split.1 in
+    c.in_err-number-2.ensures two.2.0)
 
--- what stands behind `insert` is a key and a value, in one way
-pub returns-in_ok-key-in-insert : goal.returns-in_ok-key-in-insert
-returns-in_ok-key-in-insert c =
+-- the second is none
+pub returns-in_err-number-3 : goal.returns-in_err-number-3
+returns-in_err-number-3 c =
     let parts = split_parts 32 c.args.line.now
     (Some (c.in-Some.name, c.in-Some.words)) c.in-Some.ensures.cases (omega arith) in
-    let pair : ℕ × ℕ = (c.in_ok-key-in-insert.key, c.in_ok-key-in-insert.value) in
-    let answer : c.numbers-in-insert.result ≡ Ok pair = c.in_ok-key-in-insert.was in
-    IsOkExactly-ok (IsLineOf c.args.line.now) (Insert pair.0 pair.1) (
-      c.in-Some.words.now,
-      parts.0 ∙ ap (λ name. spaced name c.in-Some.words.now) c.in-insert.is,
-      (c.numbers-in-insert.ensures pair).1 answer,
-    )
+    let words = split_parts 32 c.in-Some.words.now
+    (Some (c.in-Some-split_once.first, c.in-Some-split_once.second))
+    c.in-Some-split_once.ensures.cases (omega arith) in
+    IsOkExactly-err (IsLineOf c.args.line.now) c.from_residual-in_err-number-3.result
+    c.from_residual-in_err-number-3.ensures.0
     (λ command is.
-    let call = IsCall-insert _ _ c.in-insert.is command
-    (IsLineOf-split _ _ _ parts.0 parts.1 command is) in
-    let known : pair ≡ call.0 = same_ok c.numbers-in-insert.result answer
-    ((c.numbers-in-insert.ensures call.0).0 call.1) in
-    call.2 ∙ ap (λ (p : ℕ × ℕ). Insert p.0 p.1) (sym known))
+    let split = IsLineOf-split _ _ _ parts.0 parts.1 command is in
+    let two = AreNumbers-two _ _ _ words.0 words.1 (numbers_of command) split.1 in
+    let last = AreNumbers-last _ command two.0 two.1 two.4 two.3 in
+    c.in_err-number-3.ensures last.1.0)
+
+-- both are numbers
+pub returns : goal.returns
+returns c =
+    let parts = split_parts 32 c.args.line.now
+    (Some (c.in-Some.name, c.in-Some.words)) c.in-Some.ensures.cases (omega arith) in
+    let words = split_parts 32 c.in-Some.words.now
+    (Some (c.in-Some-split_once.first, c.in-Some-split_once.second))
+    c.in-Some-split_once.ensures.cases (omega arith) in
+    let first = c.in_ok-number-2.ensures in
+    let second = c.in_ok-number-3.ensures in
+    let n = c.in_ok-number-2.field-0 in
+    let m = c.in_ok-number-3.field-0 in
+    IsOkExactly-as c.with_numbers.result (HasNumbers c.in-Some.name.now (n ∷ m ∷ []))
+    (IsLineOf c.args.line.now)
+    (λ command has. IsLineOf-joined _ _ _ parts.0 parts.1 command has.0
+    (subst (λ (ns : List ℕ). AreNumbers (32 ∷ c.in-Some.words.now) ns) has.1
+    (AreNumbers-of_two _ _ _ words.0 words.1 n m (first.0, sym first.1) (second.0, sym second.1))))
+    (λ command is.
+    let split = IsLineOf-split _ _ _ parts.0 parts.1 command is in
+    let two = AreNumbers-two _ _ _ words.0 words.1 (numbers_of command) split.1 in
+    let last = AreNumbers-last _ command two.0 two.1 two.4 two.3 in (
+      split.0,
+      (λ i. (first.1 ∙ two.2.1) i ∷ (second.1 ∙ last.1.1) i ∷ [])
+          ∙ ap (λ (ns : List ℕ). two.0 ∷ ns) (sym last.2) ∙ sym two.4,
+    ))
+    c.with_numbers.ensures
