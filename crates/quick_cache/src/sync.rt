@@ -4,6 +4,7 @@ mod cache;
 mod lifecycle;
 mod locked;
 mod placeholder;
+mod shards;
 mod touches;
 
 pub use cache::Cache;
