@@ -4,6 +4,7 @@ pub mod Fitting
 pub mod Locked
 pub mod Answers
 pub mod Shards
+pub mod Sums
 pub use Rattle.quick_cache_calls.specs.Shown
 pub use Rattle.quick_cache_unsync.specs.Alone
 pub use Rattle.quick_cache_unsync.specs.Replaces

@@ -9,6 +9,11 @@ ghost use Rattle.quick_cache.specs.Answers.{Gets};
 ghost use Rattle.quick_cache.specs.Locked.{IsKept};
 ghost use Rattle.quick_cache.specs.Touches.{any_touches};
 
+mod reads;
+mod removal;
+mod sizes;
+mod writes;
+
 use crate::sync::placeholder::Placeholder;
 use quick_cache_base::options::Options;
 use quick_cache_base::sizes::ShardSizes;

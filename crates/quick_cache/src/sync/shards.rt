@@ -20,7 +20,8 @@ impl<K: Eq + Hash + Drop, V: Drop, We, B: BuildHasher, L: Lifecycle<K, V>, A: Al
 > {
     /// How many shards there are, a power of two. It takes no lock.
     pub fn num_shards(&self) -> usize
-        ensures { result ≡ self.now.shards }
+        ensures value { result ≡ self.now.shards }
+        ensures some { 0 < result }
     {
         self.shards.len()
     }
