@@ -15,7 +15,7 @@ use Rattle.quick_cache_model.proofs.KeyCounts.{one_if, keys, keys-cons, loading_
 use Rattle.quick_cache_model.proofs.KeyCounts.{loading_keys-cons}
 use Rattle.quick_cache_model.proofs.LookupLaws.{Sees-LooksUp}
 use Rattle.quick_cache_shard.specs.Shard.{Shard}
-use Rattle.quick_cache_unsync.specs.CacheStep.{IsShown}
+use Rattle.quick_cache_calls.specs.Shown.{IsShown}
 use Rattle.quick_cache.specs.Answers.{Gets}
 use Rattle.quick_cache.specs.Fitting.{AllFit, ClonesFit, FitsQuery}
 use Rattle.quick_cache.specs.Locked.{StaysFit}

@@ -1,3 +1,6 @@
 pub mod FitLemmas
 pub mod FitWrites
+pub mod FitRemovals
 pub mod GetLemmas
+pub mod PeekLemmas
+pub mod SumLemmas

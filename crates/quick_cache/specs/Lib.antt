@@ -3,6 +3,12 @@ pub mod FirstPairs
 pub mod Fitting
 pub mod Locked
 pub mod Answers
+pub mod Shards
+pub mod Sums
+pub use Rattle.quick_cache_calls.specs.Shown
+pub use Rattle.quick_cache_unsync.specs.Alone
+pub use Rattle.quick_cache_unsync.specs.Replaces
+pub use Rattle.quick_cache_unsync.specs.SetsCapacity
 pub use Rattle.quick_cache_unsync.specs.Answered
 pub use Rattle.quick_cache_unsync.specs.Inserts
 pub use Rattle.quick_cache_unsync.specs.CacheStep
@@ -11,6 +17,8 @@ pub use Rattle.quick_cache_shard.specs.Shard
 pub use Rattle.quick_cache_shard.specs.Copies
 pub use Rattle.quick_cache_shard.specs.Lifecycles
 pub use Rattle.quick_cache_shard.specs.Work
+pub use Rattle.quick_cache_shard.specs.Predicates
+pub use Rattle.quick_cache_shard.specs.Stats
 pub use Rattle.quick_cache_shard.specs.Writing
 pub use Rattle.quick_cache_base.specs.Options
 pub use Rattle.quick_cache_base.specs.Hashing

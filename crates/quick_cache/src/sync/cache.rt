@@ -1,6 +1,8 @@
-//! The cache that threads share: a shard behind a lock.
-ghost use Rattle.std.specs.Prelude.{◌≡◌, IfOk, IfErr, IsOk, IfSome, Some, codes};
+//! The cache that threads share: shards, each behind a lock of its own.
+ghost use Rattle.std.specs.Prelude.{◌≡◌, IfOk, IfErr, IfSome, Some, codes};
 ghost use Rattle.quick_cache_model.specs.declared.refusal.Refusal.TheVariants.{Memory};
+ghost use Rattle.quick_cache_model.specs.Sizes.{IsShardCount};
+ghost use Rattle.quick_cache_base.specs.Options.{default_shards};
 ghost use Rattle.quick_cache_shard.specs.Shard.{Shard, rules_of, hooks_of};
 ghost use Rattle.quick_cache.specs.Answers.{GetsSo, InsertsSo, InsertsAloneSo};
 ghost use Rattle.quick_cache.specs.Fitting.{ClonesFit, FitsQuery};
@@ -9,19 +11,23 @@ ghost use Rattle.quick_cache.specs.Touches.{any_touches};
 
 use crate::sync::lifecycle::DefaultLifecycle;
 use crate::sync::locked::LockedShard;
+use quick_cache_base::sizes::shard_sizes;
 use quick_cache_base::{
-    DefaultHashBuilder, Equivalent, Lifecycle, Refusal, UnitWeighter, Weighter,
+    DefaultHashBuilder, Equivalent, Lifecycle, Options, OptionsBuilder, Refusal, UnitWeighter,
+    Weighter,
 };
 use std::alloc::{Allocator, Global};
 use std::fmt::{Debug, Formatter, Write};
 use std::hash::{BuildHasher, Hash};
+use std::marker::Model;
 use std::sync::{RwLock, Wait};
 
 /// A cache of a bounded weight, which threads share by reference.
 ///
-/// Each call takes the lock, makes one step of the shard behind it, and lets the lock go. What the
-/// shard was at that moment nobody knows, so a contract says that the call answers as the step does
-/// from some shard whose state is valid and whose values fit their keys.
+/// It is divided into shards, and a key has one of them by its hash. Each call takes the lock of a
+/// shard, makes one step of the shard behind it, and lets the lock go. What the shard was at that
+/// moment nobody knows, so a contract says that the call answers as the step does from some shard
+/// whose state is valid and whose values fit their keys.
 #[derive(Drop)]
 pub struct Cache<
     K: Eq + Hash + Drop,
@@ -31,7 +37,20 @@ pub struct Cache<
     L: Lifecycle<K, V> = DefaultLifecycle<K, V>,
     A: Allocator = Global,
 > {
-    shard: RwLock<LockedShard<K, V, We, B, L, A>>,
+    pub(crate) shards: Vec<RwLock<LockedShard<K, V, We, B, L, A>>, A>,
+    pub(crate) builder: B,
+}
+
+impl<K: Eq + Hash + Drop, V: Drop, We, B: BuildHasher, L: Lifecycle<K, V>, A: Allocator> Model
+    for Cache<K, V, We, B, L, A> {
+    ghost use Rattle.std.specs.Prelude.{vec_len};
+    ghost use Rattle.quick_cache.specs.Shards.{Division, IsDivision};
+
+    ghost Value = { Division B };
+
+    ghost view = { λ cache. record { shards = vec_len cache.shards; builder = cache.builder } };
+
+    ghost invariant = { λ cache. IsDivision (vec_len cache.shards) };
 }
 
 impl<K: Eq + Hash + Drop, V: Drop, A: Allocator> Cache<
@@ -42,15 +61,16 @@ impl<K: Eq + Hash + Drop, V: Drop, A: Allocator> Cache<
     DefaultLifecycle<K, V>,
     A,
 > {
-    /// An empty cache for so many items, each of weight 1, with all defaults. It allocates nothing.
+    /// An empty cache for so many items, each of weight 1, with all defaults. It takes no lock, and
+    /// allocates the list of its shards alone.
     ///
     /// # Errors
     ///
-    /// `Memory` where the allocator could not be cloned.
+    /// `Memory` where the list was refused, or a clone of the allocator.
     pub fn new(alloc: A, items: usize) -> Result<Self, Refusal>
     where
         A: Clone,
-        ensures succeeds { A.is_infallible alloc → IsOk result }
+        ensures shards { IfOk result (λ cache. IsShardCount default_shards items cache.shards) }
         ensures refused { IfErr result (λ refusal. refusal ≡ Memory) }
     {
         Cache::with_weighter(alloc, items, items as u64, UnitWeighter)
@@ -66,16 +86,17 @@ impl<K: Eq + Hash + Drop, V: Drop, We, A: Allocator> Cache<
     A,
 > {
     /// An empty cache that is made for so many items and may hold so much weight by this weigher,
-    /// with the default builder and lifecycle. It allocates nothing.
+    /// with the default builder and lifecycle. It takes no lock, and allocates the list of its
+    /// shards alone.
     ///
     /// # Errors
     ///
-    /// `Memory` where the allocator could not be cloned.
+    /// `Memory` where the list was refused, or a clone of the allocator or the weigher.
     pub fn with_weighter(alloc: A, items: usize, weight: u64, weigher: We) -> Result<Self, Refusal>
     where
         A: Clone,
-        We: Drop,
-        ensures succeeds { A.is_infallible alloc → IsOk result }
+        We: Clone + Drop,
+        ensures shards { IfOk result (λ cache. IsShardCount default_shards items cache.shards) }
         ensures refused { IfErr result (λ refusal. refusal ≡ Memory) }
     {
         Cache::with(
@@ -98,11 +119,12 @@ impl<K: Eq + Hash + Drop, V: Drop, We, B: BuildHasher, L: Lifecycle<K, V>, A: Al
     A,
 > {
     /// An empty cache that is made for so many items and may hold so much weight, with the default
-    /// shares. It allocates nothing.
+    /// shares and number of shards. It takes no lock, and allocates the list of its shards alone.
     ///
     /// # Errors
     ///
-    /// `Memory` where the allocator could not be cloned.
+    /// `Memory` where the list was refused, or a clone of the allocator, the weigher, the builder
+    /// or the lifecycle.
     pub fn with(
         alloc: A,
         items: usize,
@@ -113,20 +135,76 @@ impl<K: Eq + Hash + Drop, V: Drop, We, B: BuildHasher, L: Lifecycle<K, V>, A: Al
     ) -> Result<Self, Refusal>
     where
         A: Clone,
-        We: Drop,
-        B: Drop,
-        L: Drop,
-        ensures succeeds { A.is_infallible alloc → IsOk result }
+        We: Clone + Drop,
+        B: Clone + Drop,
+        L: Clone + Drop,
+        ensures shards { IfOk result (λ cache. IsShardCount default_shards items cache.shards) }
+        ensures builder { IfOk result (λ cache. cache.builder ≡ builder) }
         ensures refused { IfErr result (λ refusal. refusal ≡ Memory) }
     {
-        let shard = LockedShard::new(alloc, items, weight, weigher, builder, lifecycle)?;
-        Ok(Cache {
-            shard: RwLock::new(shard),
-        })
+        let mut options = OptionsBuilder::new();
+        options
+            .estimated_items_capacity(items)
+            .weight_capacity(weight);
+        let Ok(options) = options.build() else {
+            unreachable!();
+        };
+        Cache::with_options(alloc, options, weigher, builder, lifecycle)
+    }
+
+    /// An empty cache of the sizes, the shares and the number of shards that the options tell. It
+    /// takes no lock, and allocates the list of its shards alone. There are as many as the next
+    /// power of two, or fewer, so that each is made for 32 items at least. Each has its part of the
+    /// items and of the weight, rounded up, and clones of the weigher, the builder and the
+    /// lifecycle.
+    ///
+    /// # Errors
+    ///
+    /// `Memory` where the list was refused, or a clone of the allocator, the weigher, the builder
+    /// or the lifecycle.
+    pub fn with_options(
+        alloc: A,
+        options: Options,
+        weigher: We,
+        builder: B,
+        lifecycle: L,
+    ) -> Result<Self, Refusal>
+    where
+        A: Clone,
+        We: Clone + Drop,
+        B: Clone + Drop,
+        L: Clone + Drop,
+        ensures shards { IfOk result (λ cache. IsShardCount options.shards
+            options.estimated_items_capacity cache.shards) }
+        ensures builder { IfOk result (λ cache. cache.builder ≡ builder) }
+        ensures refused { IfErr result (λ refusal. refusal ≡ Memory) }
+    {
+        let sizes = shard_sizes(&options);
+        let own: Result<_, _> = alloc.clone();
+        let Ok(own) = own else {
+            return Err(Refusal::Memory);
+        };
+        let Ok(mut shards) = Vec::with_capacity(own, sizes.shards) else {
+            return Err(Refusal::Memory);
+        };
+        for _ in 0..sizes.shards {
+            let alloc: Result<_, _> = alloc.clone();
+            let weigher: Result<_, _> = weigher.clone();
+            let builder: Result<_, _> = builder.clone();
+            let lifecycle: Result<_, _> = lifecycle.clone();
+            let (Ok(alloc), Ok(weigher), Ok(builder), Ok(lifecycle)) = (
+                alloc, weigher, builder, lifecycle,
+            ) else {
+                return Err(Refusal::Memory);
+            };
+            let shard = LockedShard::new(alloc, &options, sizes, weigher, builder, lifecycle)?;
+            shards.push_reserved(RwLock::new(shard));
+        }
+        Ok(Cache { shards, builder })
     }
 
     /// Looks the query's key up and gives a clone of its value, made under the lock: the item is
-    /// marked and read, and a hit or a miss is counted.
+    /// marked and read, and a hit or a miss is counted. It takes the write lock of the key's shard.
     ///
     /// # Errors
     ///
@@ -140,7 +218,7 @@ impl<K: Eq + Hash + Drop, V: Drop, We, B: BuildHasher, L: Lifecycle<K, V>, A: Al
         ensures fits { AlwaysSteady L.steady → ClonesFit L.fits V.is_clone → IfOk result
             (λ found. IfSome found (λ v. FitsQuery L.fits (Q.equivalent query.now) v)) }
     {
-        self.shard.write(rt).get(query)
+        self.shard_of(query).write(rt).get(query)
     }
 
     /// Inserts a pair, and hands what leaves to the lifecycle, with a request state of its own,
@@ -164,8 +242,8 @@ impl<K: Eq + Hash + Drop, V: Drop, We, B: BuildHasher, L: Lifecycle<K, V>, A: Al
     }
 
     /// Inserts a pair, and hands what leaves to the lifecycle, with this request state. A pair that
-    /// is heavier than the hot target is turned away and told to the cold hook, and the answer is
-    /// `Ok`.
+    /// is heavier than the hot target of its shard is turned away and told to the cold hook, and the
+    /// answer is `Ok`. It takes the write lock of the key's shard.
     ///
     /// # Errors
     ///
@@ -187,7 +265,7 @@ impl<K: Eq + Hash + Drop, V: Drop, We, B: BuildHasher, L: Lifecycle<K, V>, A: Al
             L.Lifecycle shard)
             K.eq shard.state state.old key value result state.new) }
     {
-        self.shard.write(rt).insert(key, value, state)
+        self.shard_of(&key).write(rt).insert(key, value, state)
     }
 }
 

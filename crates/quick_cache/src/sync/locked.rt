@@ -2,15 +2,21 @@
 ghost use Rattle.std.specs.Prelude.{◌≡◌, IfOk, IfErr, IsOk};
 ghost use Rattle.quick_cache_model.specs.declared.refusal.Refusal.TheVariants.{Memory};
 ghost use Rattle.quick_cache_model.specs.CacheState.{empty_state};
-ghost use Rattle.quick_cache_model.specs.Sizes.{hot_target_of, ghost_limit_of, default_hot_share, default_ghost_share};
+ghost use Rattle.quick_cache_model.specs.Sizes.{hot_target_of, ghost_limit_of};
 ghost use Rattle.quick_cache_shard.specs.Shard.{no_work, rules_of, hooks_of};
 ghost use Rattle.quick_cache_unsync.specs.Inserts.{Inserts};
 ghost use Rattle.quick_cache.specs.Answers.{Gets};
 ghost use Rattle.quick_cache.specs.Locked.{IsKept};
 ghost use Rattle.quick_cache.specs.Touches.{any_touches};
 
+mod reads;
+mod removal;
+mod sizes;
+mod writes;
+
 use crate::sync::placeholder::Placeholder;
-use quick_cache_base::options::{DEFAULT_GHOST_ALLOCATION, DEFAULT_HOT_ALLOCATION};
+use quick_cache_base::options::Options;
+use quick_cache_base::sizes::ShardSizes;
 use quick_cache_base::{Equivalent, Lifecycle, Refusal, Weighter};
 use quick_cache_shard::{CacheShard, InsertStrategy};
 use std::alloc::{Allocator, Global};
@@ -50,11 +56,11 @@ impl<
     L: Lifecycle<K, V>,
     A: Allocator,
 > LockedShard<K, V, We, B, L, A> {
-    /// An empty shard for so many items and so much weight, with the default shares.
+    /// An empty shard of these sizes, with the shares that the options tell.
     pub fn new(
         alloc: A,
-        items: usize,
-        weight: u64,
+        options: &Options,
+        sizes: ShardSizes,
         weigher: We,
         builder: B,
         lifecycle: L,
@@ -65,8 +71,8 @@ impl<
         B: Drop,
         L: Drop,
         ensures makes { IfOk result (λ locked. locked ≡ record {
-          state = empty_state weight (hot_target_of weight default_hot_share)
-              (ghost_limit_of items default_ghost_share);
+          state = empty_state sizes.weight (hot_target_of sizes.weight options.now.hot_allocation)
+              (ghost_limit_of sizes.items options.now.ghost_allocation);
           weigher = weigher;
           builder = builder;
           lifecycle = lifecycle;
@@ -78,10 +84,10 @@ impl<
     {
         let shard = CacheShard::new(
             alloc,
-            DEFAULT_HOT_ALLOCATION,
-            DEFAULT_GHOST_ALLOCATION,
-            items,
-            weight,
+            options.hot_allocation(),
+            options.ghost_allocation(),
+            sizes.items,
+            sizes.weight,
             weigher,
             builder,
             lifecycle,

@@ -1,0 +1,15 @@
+use Rattle.std.proofs.Common.{subst, arith}
+use Rattle.quick_cache_model.specs.Sizes.{IsShardCount}
+use Rattle.quick_cache.proofs.sync.cache.Cache.with_options.Goals as goal
+
+-- as many were made as the sizes tell
+pub returns-clause-shards : goal.returns-clause-shards
+returns-clause-shards g c =
+    subst (λ n. IsShardCount c.args.options.shards c.args.options.estimated_items_capacity n)
+    (omega (
+      arith,
+      c.loop.invariant.len,
+      c.loop.auto.counter-end,
+      c.loop-test.false,
+    ))
+    c.shard_sizes-sizes.ensures.shards
