@@ -100,3 +100,22 @@ fn replace_with_lifecycle(rt: HostRuntime) -> Result<(), Fail> {
     assert_eq!(rt; (cache.peek(&1).copied(), left), (Some(11), 1));
     Ok(())
 }
+
+#[test]
+fn set_capacity_with_lifecycle(rt: HostRuntime) -> Result<(), Fail> {
+    let mut cache = Cache::with(
+        rt.alloc(),
+        5,
+        5,
+        UnitWeighter,
+        DefaultHashBuilder::new(),
+        Leaving,
+    )?;
+    for key in 0..5u64 {
+        cache.insert(key, key)?;
+    }
+    let mut left = 0;
+    cache.set_capacity_with_lifecycle(2, &mut left);
+    assert_eq!(rt; (cache.len(), left), (2, 3));
+    Ok(())
+}
