@@ -2,7 +2,7 @@
 #![tactic(auto)]
 
 use quick_cache_model::Refusal;
-use quick_cache_unsync::Cache;
+use quick_cache_unsync::{Cache, NotLoaded};
 use std::alloc::Global;
 
 /// The answer in a mode that is not built.
@@ -25,16 +25,29 @@ fn hits_by_get_and_insert(alloc: Global, items: usize, keys: &[u64]) -> Result<u
     Ok(hits)
 }
 
+// Looks each key up, loads it as its own value where nothing was found, and counts the hits.
+fn hits_by_loads(alloc: Global, items: usize, keys: &[u64]) -> Result<u64, Refusal> {
+    let mut cache: Cache<u64, u64> = Cache::new(alloc, items)?;
+    for key in keys {
+        let loaded = cache.get_or_insert_with(key, || Ok::<u64, Refusal>(*key));
+        if let Err(NotLoaded::Refused(refusal)) = loaded {
+            return Err(refusal);
+        }
+    }
+    Ok(cache.hits())
+}
+
 /// Goes over the keys with a new cache of so many items, each of weight 1, and answers the hits.
 ///
-/// Mode 0 is a `get` of each key, and an `insert` where that gave nothing. No other mode is built.
-/// Mode 1 would be one `get_or_insert_with`, a call that the cache does not have yet. Mode 2 would
-/// be mode 0 by `run`, over lists of calls for 64 keys; but a list is made before its first reply
-/// is known, so it cannot hold the insert of just those keys that its `get`s will miss.
+/// Mode 0 is a `get` of each key, and an `insert` where that gave nothing. Mode 1 is one
+/// `get_or_insert_with` of each key. No other mode is built: mode 2 would be mode 0 by `run`, over
+/// lists of calls for 64 keys; but a list is made before its first reply is known, so it cannot
+/// hold the insert of just those keys that its `get`s will miss.
 #[unsafe(no_mangle)]
 pub extern "C" fn qcbench_trace(alloc: Global, mode: u32, items: u64, keys: &[u64]) -> u64 {
     match mode {
         0 => hits_by_get_and_insert(alloc, items as usize, keys).unwrap_or(REFUSED),
+        1 => hits_by_loads(alloc, items as usize, keys).unwrap_or(REFUSED),
         _ => NOT_BUILT,
     }
 }
