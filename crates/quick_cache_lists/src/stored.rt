@@ -82,6 +82,7 @@ impl<K, V, P, T> StoredEntry<K, V, P, T> {
     ghost use Rattle.quick_cache_lists.specs.Lent.{lends_entry_value, IsValueOf};
 
     /// As a slot stores that entry.
+    #[inline(always)]
     fn new(entry: Entry<K, V, P, T>) -> Self
         ensures { entry_of result ≡ entry }
     {
@@ -97,6 +98,7 @@ impl<K, V, P, T> StoredEntry<K, V, P, T> {
     }
 
     /// The entry that is stored.
+    #[inline(always)]
     fn into_entry(self) -> Entry<K, V, P, T>
         ensures { result ≡ entry_of self }
     {
@@ -130,7 +132,7 @@ impl<K, V, P, T> Stored<K, V, P, T> {
     ghost use Rattle.quick_cache_lists.specs.Lent.{lends_stored_value, IsValueOf};
 
     /// As a slot stores that entry under its hash.
-    #[inline]
+    #[inline(always)]
     pub(crate) fn new(slot: Slot<K, V, P, T>) -> Self
         ensures { result ≡ slot }
     {
@@ -141,7 +143,7 @@ impl<K, V, P, T> Stored<K, V, P, T> {
     }
 
     /// The entry and its hash.
-    #[inline]
+    #[inline(always)]
     pub(crate) fn into_slot(self) -> Slot<K, V, P, T>
         ensures { result ≡ self }
     {

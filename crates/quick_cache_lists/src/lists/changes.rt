@@ -14,6 +14,7 @@ use std::alloc::Allocator;
 impl<K, V, P, T, A: Allocator> Lists<K, V, P, T, A> {
     /// Puts an entry last in its ring, or beside the rings where it is a placeholder or an item
     /// that weighs nothing. It takes one of the room, and no memory.
+    #[inline(always)]
     pub fn put(&mut self, hash: u64, entry: Entry<K, V, P, T>) -> Token
         requires { 0 < self.old.room }
         ensures token { number result ≡ self.old.next }
