@@ -6,6 +6,8 @@ mod any_case;
 #[cfg(test)]
 mod laws;
 #[cfg(test)]
+mod placeholders;
+#[cfg(test)]
 mod rows;
 #[cfg(test)]
 mod touches;

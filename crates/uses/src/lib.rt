@@ -4,6 +4,7 @@
 pub mod blocks;
 pub mod borrowed;
 pub mod listener;
+pub mod memo;
 pub mod promises;
 pub mod runs;
 pub mod sessions;
