@@ -3,7 +3,12 @@
 #![tactic(auto)]
 
 #[cfg(test)]
+mod calls;
+#[cfg(test)]
 mod refused;
+#[cfg(test)]
+mod shards;
 #[cfg(test)]
 mod shared;
 pub mod twice;
+pub mod upper;

@@ -58,7 +58,7 @@ type RationedCache<'a> = Cache<
 
 #[test]
 fn a_pair_for_which_there_is_no_memory_comes_back(rt: HostRuntime) -> Result<(), Fail> {
-    let ration = Rationed::new(rt.alloc(), 0);
+    let ration = Rationed::new(rt.alloc(), 1);
     let cache: RationedCache<'_> = Cache::new(&ration, 5)?;
     assert_eq!(rt; cache.insert(&rt, 1, 10), Err((1, 10, Refusal::Memory)));
     assert_eq!(rt; cache.get(&rt, &1), Ok(None));
@@ -69,5 +69,16 @@ fn a_pair_for_which_there_is_no_memory_comes_back(rt: HostRuntime) -> Result<(),
     assert_eq!(rt; cache.get(&rt, &1), Ok(Some(10)));
     assert_eq!(rt; cache.insert(&rt, 1, 11), Ok(()));
     assert_eq!(rt; cache.get(&rt, &1), Ok(Some(11)));
+    Ok(())
+}
+
+#[test]
+fn a_list_of_shards_for_which_there_is_no_memory_is_refused(rt: HostRuntime) -> Result<(), Fail> {
+    let ration = Rationed::new(rt.alloc(), 0);
+    let made: Result<RationedCache<'_>, Refusal> = Cache::new(&ration, 5);
+    let Err(refusal) = made else {
+        panic!(rt; "the list takes memory");
+    };
+    assert_eq!(rt; refusal, Refusal::Memory);
     Ok(())
 }

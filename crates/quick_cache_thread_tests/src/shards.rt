@@ -1,0 +1,88 @@
+//! The shards of a cache: how many there are, how much each may hold, and which one a key has.
+use crate::upper::Upper;
+use quick_cache::sync::{Cache, DefaultLifecycle};
+use quick_cache::{DefaultHashBuilder, Options, OptionsBuilder, UnitWeighter};
+use std::alloc::Global;
+use std::test::Fail;
+
+/// The options of so many items and so much weight, and of so many shards where that is told.
+fn options(shards: Option<usize>, items: usize, weight: u64) -> Option<Options> {
+    let mut options = OptionsBuilder::new();
+    options
+        .estimated_items_capacity(items)
+        .weight_capacity(weight);
+    if let Some(shards) = shards {
+        options.shards(shards);
+    }
+    options.build().ok()
+}
+
+#[test]
+fn the_options_tell_how_a_cache_is_divided(rt: HostRuntime) -> Result<(), Fail> {
+    let rows: [(Option<usize>, usize, u64, usize, u64, u64); 6] = [
+        (Some(0), 1000, 10, 1, 10, 10),
+        (Some(3), 1000, 10, 4, 3, 12),
+        (Some(16), 512, 1, 16, 1, 16),
+        (Some(16), 496, 8, 8, 1, 8),
+        (None, 0, 0, 1, 0, 0),
+        (None, 100, 100, 2, 50, 100),
+    ];
+    for (asked, items, weight, shards, shard_capacity, capacity) in rows {
+        let Some(options) = options(asked, items, weight) else {
+            panic!(rt; "the options are in range");
+        };
+        let cache: Cache<u64, u64> = Cache::with_options(
+            rt.alloc(),
+            options,
+            UnitWeighter,
+            DefaultHashBuilder::new(),
+            DefaultLifecycle::new(),
+        )?;
+        assert_eq!(rt; cache.num_shards(), shards);
+        assert_eq!(rt; cache.shard_capacity(&rt), shard_capacity);
+        assert_eq!(rt; cache.capacity(&rt), capacity);
+    }
+    Ok(())
+}
+
+#[test]
+fn too_many_shards_are_refused(rt: HostRuntime) -> Result<(), Fail> {
+    let mut options = OptionsBuilder::new();
+    options
+        .estimated_items_capacity(100)
+        .weight_capacity(100)
+        .shards(9223372036854775809);
+    let Err(error) = options.build() else {
+        panic!(rt; "there are too many");
+    };
+    let text = format!(in rt.alloc(); "{error}")?;
+    assert_eq!(rt; text.as_str(), "shards is out of range");
+    Ok(())
+}
+
+/// A cache whose shards a test can foresee.
+type UpperCache = Cache<u64, u64, UnitWeighter, Upper, DefaultLifecycle<u64, u64>, Global>;
+
+#[test]
+fn the_upper_half_of_a_hash_tells_the_shard(rt: HostRuntime) -> Result<(), Fail> {
+    let Some(options) = options(Some(4), 1000, 1000) else {
+        panic!(rt; "the options are in range");
+    };
+    let cache: UpperCache = Cache::with_options(
+        rt.alloc(),
+        options,
+        UnitWeighter,
+        Upper,
+        DefaultLifecycle::new(),
+    )?;
+    assert_eq!(rt; cache.num_shards(), 4);
+    assert_eq!(rt; cache.shard_index(&5), 1);
+    assert_eq!(rt; cache.shard_index(&7), 3);
+    for key in 0..8 {
+        assert_eq!(rt; cache.insert(&rt, key, key + 1), Ok(()));
+    }
+    for key in 0..8 {
+        assert_eq!(rt; cache.get(&rt, &key), Ok(Some(key + 1)));
+    }
+    Ok(())
+}
