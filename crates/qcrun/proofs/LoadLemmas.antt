@@ -16,8 +16,6 @@ use Rattle.quick_cache_model.specs.Refusals.{MayRefuse, needs_of_placeholder}
 use Rattle.quick_cache_model.specs.declared.refusal.Refusal.{Refusal}
 use Rattle.quick_cache_calls.specs.CacheStep.{CacheStep}
 use Rattle.quick_cache_calls.specs.Kinds.{IsLoad}
-use Rattle.quick_cache_calls.specs.References.{TellsItem}
-use Rattle.quick_cache_calls.specs.Shown.{IsItself}
 use Rattle.quick_cache_calls.specs.declared.call.Call.TheVariants.{Load, Guarded}
 use Rattle.quick_cache_calls.specs.declared.reply.Reply.{Reply}
 use Rattle.quick_cache_calls.specs.declared.reply.Reply.TheVariants.{Filled, Dropped, Found}
@@ -27,7 +25,7 @@ use Rattle.quick_cache_shard.specs.Shard.{HasItem}
 use Rattle.quick_cache_unsync.specs.Loads.{Takes, FillsIfThere}
 use Rattle.quick_cache_unsync.proofs.LoadLemmas.{Takes-awaited, Takes-takes, Takes-nothing}
 use Rattle.quick_cache_unsync.proofs.LoadLemmas.{Fills-awaited, tells-item}
-use Rattle.qcrun.specs.Served.{is_wanted, Serves}
+use Rattle.qcrun.specs.Served.{Serves}
 
 -- what holds wherever an element may stand holds of each
 all-splits : {X : Type 0} (P : X → Type 0) (xs : List X)
