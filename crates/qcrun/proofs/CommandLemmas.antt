@@ -11,7 +11,8 @@ use Rattle.qcrun.specs.Commands.{name_of, numbers_of}
 use Rattle.qcrun.specs.declared.command.Command.{Command}
 use Rattle.qcrun.specs.declared.command.Command.TheVariants.{Cache, Insert, Replace, Soft, Get}
 use Rattle.qcrun.specs.declared.command.Command.TheVariants.{Peek, Remove, RemoveIf, Set, Poke}
-use Rattle.qcrun.specs.declared.command.Command.TheVariants.{Stats, Clear, Capacity, Hits, Show}
+use Rattle.qcrun.specs.declared.command.Command.TheVariants.{Load, Fail, Guard, Drop, Stats}
+use Rattle.qcrun.specs.declared.command.Command.TheVariants.{Clear, Capacity, Hits, Show}
 
 -- an answer of Ok, where P holds of its value alone, and one of Err, where P holds of none
 pub IsOkExactly-ok : {X E : Type 0} (P : X → Type 0) (value : X) → P value
@@ -111,6 +112,10 @@ name_of-lacks_space (Remove key) = LacksSpace-tested (codes "remove") refl
 name_of-lacks_space (RemoveIf key value) = LacksSpace-tested (codes "removeif") refl
 name_of-lacks_space (Set key value) = LacksSpace-tested (codes "set") refl
 name_of-lacks_space (Poke key value) = LacksSpace-tested (codes "poke") refl
+name_of-lacks_space (Load key value) = LacksSpace-tested (codes "load") refl
+name_of-lacks_space (Fail key) = LacksSpace-tested (codes "fail") refl
+name_of-lacks_space (Guard key value) = LacksSpace-tested (codes "guard") refl
+name_of-lacks_space (Drop key) = LacksSpace-tested (codes "drop") refl
 name_of-lacks_space (Stats key) = LacksSpace-tested (codes "stats") refl
 name_of-lacks_space Clear = LacksSpace-tested (codes "clear") refl
 name_of-lacks_space (Capacity weight) = LacksSpace-tested (codes "capacity") refl
@@ -129,6 +134,10 @@ numbers_of-few (Remove key) = omega arith
 numbers_of-few (RemoveIf key value) = omega arith
 numbers_of-few (Set key value) = omega arith
 numbers_of-few (Poke key value) = omega arith
+numbers_of-few (Load key value) = omega arith
+numbers_of-few (Fail key) = omega arith
+numbers_of-few (Guard key value) = omega arith
+numbers_of-few (Drop key) = omega arith
 numbers_of-few (Stats key) = omega arith
 numbers_of-few Clear = omega arith
 numbers_of-few (Capacity weight) = omega arith

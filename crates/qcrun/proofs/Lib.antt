@@ -6,3 +6,4 @@ pub mod RunLemmas
 pub mod SessionLemmas
 pub mod StillLemmas
 pub mod ServedLemmas
+pub mod LoadLemmas

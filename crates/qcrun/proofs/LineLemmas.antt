@@ -9,7 +9,8 @@ use Rattle.qcrun.specs.Commands.{IsNumber, AreNumbers, IsLineOf, name_of, number
 use Rattle.qcrun.specs.declared.command.Command.{Command}
 use Rattle.qcrun.specs.declared.command.Command.TheVariants.{Cache, Insert, Replace, Soft, Get}
 use Rattle.qcrun.specs.declared.command.Command.TheVariants.{Peek, Remove, RemoveIf, Set, Poke}
-use Rattle.qcrun.specs.declared.command.Command.TheVariants.{Stats, Clear, Capacity, Hits, Show}
+use Rattle.qcrun.specs.declared.command.Command.TheVariants.{Load, Fail, Guard, Drop, Stats}
+use Rattle.qcrun.specs.declared.command.Command.TheVariants.{Clear, Capacity, Hits, Show}
 
 -- whether each byte is below 128
 abbrev are_low : List ℕ → Bool
@@ -40,6 +41,10 @@ IsAscii-name (Remove key) = IsAscii-tested (codes "remove") refl
 IsAscii-name (RemoveIf key value) = IsAscii-tested (codes "removeif") refl
 IsAscii-name (Set key value) = IsAscii-tested (codes "set") refl
 IsAscii-name (Poke key value) = IsAscii-tested (codes "poke") refl
+IsAscii-name (Load key value) = IsAscii-tested (codes "load") refl
+IsAscii-name (Fail key) = IsAscii-tested (codes "fail") refl
+IsAscii-name (Guard key value) = IsAscii-tested (codes "guard") refl
+IsAscii-name (Drop key) = IsAscii-tested (codes "drop") refl
 IsAscii-name (Stats key) = IsAscii-tested (codes "stats") refl
 IsAscii-name Clear = IsAscii-tested (codes "clear") refl
 IsAscii-name (Capacity weight) = IsAscii-tested (codes "capacity") refl

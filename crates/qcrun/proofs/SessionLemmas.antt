@@ -8,7 +8,8 @@ use Rattle.quick_cache_calls.specs.declared.reply.Reply.{Reply}
 use Rattle.qcrun.specs.declared.command.Command.{Command}
 use Rattle.qcrun.specs.declared.command.Command.TheVariants.{Cache, Insert, Replace, Soft, Get}
 use Rattle.qcrun.specs.declared.command.Command.TheVariants.{Peek, Remove, RemoveIf, Set, Poke}
-use Rattle.qcrun.specs.declared.command.Command.TheVariants.{Stats, Clear, Capacity, Hits, Show}
+use Rattle.qcrun.specs.declared.command.Command.TheVariants.{Load, Fail, Guard, Drop, Stats}
+use Rattle.qcrun.specs.declared.command.Command.TheVariants.{Clear, Capacity, Hits, Show}
 use Rattle.qcrun.specs.declared.reply.Answer.{Answer}
 use Rattle.qcrun.specs.declared.session.Outcome.TheVariants.{Answered}
 use Rattle.qcrun.specs.declared.events.Event.{Event}
@@ -30,6 +31,10 @@ asks_call (Remove key) no_cache no_show = refl
 asks_call (RemoveIf key value) no_cache no_show = refl
 asks_call (Set key value) no_cache no_show = refl
 asks_call (Poke key value) no_cache no_show = refl
+asks_call (Load key value) no_cache no_show = refl
+asks_call (Fail key) no_cache no_show = refl
+asks_call (Guard key value) no_cache no_show = refl
+asks_call (Drop key) no_cache no_show = refl
 asks_call (Stats key) no_cache no_show = refl
 asks_call Clear no_cache no_show = refl
 asks_call (Capacity weight) no_cache no_show = refl

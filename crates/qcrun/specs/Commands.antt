@@ -5,7 +5,8 @@ use Rattle.std.specs.Str.Parse.{IsNumeral, digits_value}
 use Rattle.qcrun.specs.declared.command.Command.{Command}
 use Rattle.qcrun.specs.declared.command.Command.TheVariants.{Cache, Insert, Replace, Soft, Get}
 use Rattle.qcrun.specs.declared.command.Command.TheVariants.{Peek, Remove, RemoveIf, Set, Poke}
-use Rattle.qcrun.specs.declared.command.Command.TheVariants.{Stats, Clear, Capacity, Hits, Show}
+use Rattle.qcrun.specs.declared.command.Command.TheVariants.{Load, Fail, Guard, Drop, Stats}
+use Rattle.qcrun.specs.declared.command.Command.TheVariants.{Clear, Capacity, Hits, Show}
 
 -- one to twenty decimal digits, of at most the greatest u64
 abbrev pub IsNumeralInRange : List ℕ → Type 0
@@ -38,6 +39,10 @@ name_of (Remove key) = codes "remove"
 name_of (RemoveIf key value) = codes "removeif"
 name_of (Set key value) = codes "set"
 name_of (Poke key value) = codes "poke"
+name_of (Load key value) = codes "load"
+name_of (Fail key) = codes "fail"
+name_of (Guard key value) = codes "guard"
+name_of (Drop key) = codes "drop"
 name_of (Stats key) = codes "stats"
 name_of Clear = codes "clear"
 name_of (Capacity weight) = codes "capacity"
@@ -56,6 +61,10 @@ numbers_of (Remove key) = key ∷ []
 numbers_of (RemoveIf key value) = key ∷ value ∷ []
 numbers_of (Set key value) = key ∷ value ∷ []
 numbers_of (Poke key value) = key ∷ value ∷ []
+numbers_of (Load key value) = key ∷ value ∷ []
+numbers_of (Fail key) = key ∷ []
+numbers_of (Guard key value) = key ∷ value ∷ []
+numbers_of (Drop key) = key ∷ []
 numbers_of (Stats key) = key ∷ []
 numbers_of Clear = []
 numbers_of (Capacity weight) = weight ∷ []

@@ -4,6 +4,7 @@ use Rattle.std.specs.Prelude.{nat_eq, ⊤}
 use Rattle.std.specs.declared.alloc.Global.{Global}
 use Rattle.quick_cache_model.specs.CacheState.{CacheState, item_count, total_weight}
 use Rattle.quick_cache_model.specs.Hooks.{Rules, HookCall}
+use Rattle.quick_cache_model.specs.Refusals.{MayRefuse, needs_of_placeholder}
 use Rattle.quick_cache_calls.specs.CacheStep.{CacheStep}
 use Rattle.quick_cache_calls.specs.Shown.{IsItself}
 use Rattle.quick_cache_calls.specs.declared.call.Call.{Call}
@@ -13,7 +14,8 @@ use Rattle.quick_cache_calls.specs.declared.reply.Reply.TheVariants as reply
 use Rattle.qcrun.specs.declared.command.Command.{Command}
 use Rattle.qcrun.specs.declared.command.Command.TheVariants.{Cache, Insert, Replace, Soft, Get}
 use Rattle.qcrun.specs.declared.command.Command.TheVariants.{Peek, Remove, RemoveIf, Set, Poke}
-use Rattle.qcrun.specs.declared.command.Command.TheVariants.{Stats, Clear, Capacity, Hits, Show}
+use Rattle.qcrun.specs.declared.command.Command.TheVariants.{Load, Fail, Guard, Drop, Stats}
+use Rattle.qcrun.specs.declared.command.Command.TheVariants.{Clear, Capacity, Hits, Show}
 
 -- a predicate is the value that passes it
 abbrev pub is_wanted : (wanted key value : ℕ) → Bool
@@ -31,6 +33,10 @@ call_of (Remove key) = Some (call.Remove key)
 call_of (RemoveIf key value) = Some (call.RemoveIf key value)
 call_of (Set key value) = Some (call.GetMut key value)
 call_of (Poke key value) = Some (call.PeekMut key value)
+call_of (Load key value) = Some (call.Load key (Some value))
+call_of (Fail key) = Some (call.Load key None)
+call_of (Guard key value) = Some (call.Guarded key (Some value))
+call_of (Drop key) = Some (call.Guarded key None)
 call_of (Stats key) = Some (call.Stats key)
 call_of Clear = Some call.Clear
 call_of (Capacity weight) = Some (call.SetCapacity weight)
@@ -43,18 +49,23 @@ numbers_of state =
     reply.Counts (item_count state) (min (total_weight state) (2 ^ 64 - 1)) state.capacity
     state.hits state.misses
 
--- The call was made, or its pair was refused: nothing else is ever refused.
-abbrev pub IsMade : Reply ℕ ℕ Global → Type 0
-IsMade (reply.Refused refusal) = ⊥
-IsMade _ = ⊤
-
 module _ (rules : Rules ℕ ℕ) (old : CacheState ℕ ℕ) where
-  -- The call is made, or its pair is refused, and its reply shows keys and values as they are.
+  -- The call was made, or a placeholder for what it loads was refused: but for the pair of an
+  -- insert, nothing else is ever refused.
+  abbrev pub IsMade : Call ℕ ℕ ℕ → Reply ℕ ℕ Global → Type 0
+  IsMade (call.Load key given) (reply.Refused refusal) =
+      MayRefuse (needs_of_placeholder (nat_eq key) (rules.hash key) old) old refusal
+  IsMade (call.Guarded key given) (reply.Refused refusal) =
+      MayRefuse (needs_of_placeholder (nat_eq key) (rules.hash key) old) old refusal
+  IsMade made (reply.Refused refusal) = ⊥
+  IsMade made _ = ⊤
+
+  -- The call is made, or refused, and its reply shows keys and values as they are.
   abbrev pub Serves : Call ℕ ℕ ℕ → Reply ℕ ℕ Global → List (HookCall ℕ ℕ) → CacheState ℕ ℕ
       → Type 0
   Serves made answer hook_calls new =
       CacheStep rules nat_eq IsItself IsItself is_wanted old made answer hook_calls new
-      × IsMade answer
+      × IsMade made answer
 
   -- so is the call that a command asks for
   abbrev pub ServesAsked : Command → Reply ℕ ℕ Global → List (HookCall ℕ ℕ) → CacheState ℕ ℕ

@@ -87,6 +87,67 @@ fn remove_value<A: Allocator>(
     cache.remove_if(&key, |value| *value == wanted)
 }
 
+/// Looks a key up, or takes a guard for it, which is filled with what is given, or dropped where
+/// nothing is.
+fn guarded<A: Allocator>(
+    cache: &mut NumberCache<A>,
+    key: u64,
+    given: Option<u64>,
+    events: &mut Events<A>,
+) -> Reply<u64, u64>
+    ensures serves { Calls (hooks_of ⟦<ByKind<A> as Lifecycle<u64, u64>>⟧ cache.old)
+        (λ calls. Serves
+        (rules_of no_touches ⟦<u64 as Hash>⟧.hash_input
+        ⟦<LastDigits as Weighter<u64, u64>>⟧ ⟦<RemainderBuilder as BuildHasher>⟧
+        ⟦<RemainderHasher as Hasher>⟧ ⟦<ByKind<A> as Lifecycle<u64, u64>>⟧ cache.old)
+        cache.old.state (Call.Guarded key given) result calls cache.new.state)
+        events.old events.new }
+    ensures same { cache.new ≡ record cache.old {
+      state = cache.new.state;
+      room = cache.new.room;
+      work = cache.new.work;
+    } }
+{
+    match cache.get_ref_or_guard(&key) {
+        Ok(Ok(found)) => Reply::Found(*found),
+        Ok(Err(guard)) => match given {
+            Some(value) => {
+                guard.insert_with_lifecycle(value, events);
+                Reply::Filled
+            }
+            None => Reply::Dropped,
+        },
+        Err(refusal) => Reply::Refused(refusal),
+    }
+}
+
+/// Looks a key up, or loads what is given for it; where nothing is given, the load fails.
+fn load<A: Allocator>(
+    cache: &mut NumberCache<A>,
+    key: u64,
+    given: Option<u64>,
+    events: &mut Events<A>,
+) -> Reply<u64, u64>
+    ensures serves { Calls (hooks_of ⟦<ByKind<A> as Lifecycle<u64, u64>>⟧ cache.old)
+        (λ calls. Serves
+        (rules_of no_touches ⟦<u64 as Hash>⟧.hash_input
+        ⟦<LastDigits as Weighter<u64, u64>>⟧ ⟦<RemainderBuilder as BuildHasher>⟧
+        ⟦<RemainderHasher as Hasher>⟧ ⟦<ByKind<A> as Lifecycle<u64, u64>>⟧ cache.old)
+        cache.old.state (Call.Load key given) result calls cache.new.state)
+        events.old events.new }
+    ensures same { cache.new ≡ record cache.old {
+      state = cache.new.state;
+      room = cache.new.room;
+      work = cache.new.work;
+    } }
+{
+    match guarded(cache, key, given, events) {
+        Reply::Filled => Reply::Loaded(cache.contains_key(&key)),
+        Reply::Dropped => Reply::LoadFailed,
+        reply => reply,
+    }
+}
+
 /// How often the item under a key was read.
 fn reads<A: Allocator>(cache: &NumberCache<A>, key: u64) -> Option<u64>
     ensures sees { Sees (nat_eq key) cache.now.state (λ item. item.reads) result }
@@ -138,6 +199,10 @@ pub fn make_call<A: Allocator>(
         Command::RemoveIf(key, value) => Reply::Pair(remove_value(cache, key, value)),
         Command::Set(key, value) => Reply::Flag(set(cache, &key, value)),
         Command::Poke(key, value) => Reply::Flag(poke(cache, &key, value)),
+        Command::Load(key, value) => load(cache, key, Some(value), events),
+        Command::Fail(key) => load(cache, key, None, events),
+        Command::Guard(key, value) => guarded(cache, key, Some(value), events),
+        Command::Drop(key) => guarded(cache, key, None, events),
         Command::Stats(key) => Reply::Stats(reads(cache, key)),
         Command::Clear => {
             cache.clear();

@@ -30,6 +30,14 @@ pub enum Command {
     Set(u64, u64),
     /// `poke KEY VALUE`: writes the value through a reference that does not.
     Poke(u64, u64),
+    /// `load KEY VALUE`: looks the key up, or loads this value for it.
+    Load(u64, u64),
+    /// `fail KEY`: looks the key up, or begins to load it and fails.
+    Fail(u64),
+    /// `guard KEY VALUE`: looks the key up, or takes a guard for it and fills it with this value.
+    Guard(u64, u64),
+    /// `drop KEY`: looks the key up, or takes a guard for it and drops the guard.
+    Drop(u64),
     /// `stats KEY`: how often the item was read.
     Stats(u64),
     /// `clear`
@@ -93,6 +101,8 @@ fn with_number(name: &str, number: u64) -> Result<Command, NotACommand>
         "get" => Ok(Command::Get(number)),
         "peek" => Ok(Command::Peek(number)),
         "remove" => Ok(Command::Remove(number)),
+        "fail" => Ok(Command::Fail(number)),
+        "drop" => Ok(Command::Drop(number)),
         "stats" => Ok(Command::Stats(number)),
         "capacity" => Ok(Command::Capacity(number)),
         _ => Err(NotACommand),
@@ -111,6 +121,8 @@ fn with_numbers(name: &str, first: u64, second: u64) -> Result<Command, NotAComm
         "removeif" => Ok(Command::RemoveIf(first, second)),
         "set" => Ok(Command::Set(first, second)),
         "poke" => Ok(Command::Poke(first, second)),
+        "load" => Ok(Command::Load(first, second)),
+        "guard" => Ok(Command::Guard(first, second)),
         _ => Err(NotACommand),
     }
 }

@@ -168,6 +168,18 @@ fn items_are_removed_by_value_and_all_at_once(rt: HostRuntime) {
 }
 
 #[test]
+fn values_are_loaded(rt: HostRuntime) {
+    let scripts: [(&str, &str); 1] = [(
+        "cache 5 5\nfail 4\nload 4 4\nload 4 9\nguard 4 1\ndrop 9\nload 9 5\nguard 8 2\n\
+         load 8 1\nhits\nstats 4\nstats 8\nshow\n",
+        "ok\nerror\nloaded\nsome 4\nsome 4\ndropped\nbefore 9 5\ncold 9 5\nnot kept\n\
+         before 8 2\ncold 8 2\nfilled\nloaded\nhits 2 misses 6\nreads 2\nreads 0\n\
+         hot 4:4:2 8:1:0\ncold\nghosts\nstill\ncount 2 5 4 2\n",
+    )];
+    check_all(&rt, rt.alloc(), &scripts);
+}
+
+#[test]
 fn a_bad_line_ends_the_script(rt: HostRuntime) {
     check(&rt, rt.alloc(), b"get 1\n", "bad line 1\n", 2);
     let lines: [&str; 18] = [
