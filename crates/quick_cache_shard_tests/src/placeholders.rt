@@ -2,7 +2,7 @@
 ghost use Rattle.std.specs.Cmp.Rules.{comparing, hashing};
 ghost use Rattle.std.proofs.Common.{rules};
 
-use crate::rows::{Tested, empty, put};
+use crate::rows::{Tested, empty, put, seen};
 use quick_cache_test_parts::counting::Told;
 use quick_cache_test_parts::placeholder::Placeholder;
 use std::test::Fail;
@@ -51,8 +51,7 @@ fn a_placeholder_is_filled_once(rt: HostRuntime) -> Result<(), Fail> {
         shard.replace_placeholder(&mut told, &placeholder, false, 11),
         Err(11)
     );
-    let hash = shard.hash(&1);
-    assert_eq!(rt; shard.peek(hash, &1).copied(), Some(10));
+    assert_eq!(rt; seen(&shard, 1), (Some(10), true));
     assert_eq!(rt; told, Told::default());
     Ok(())
 }

@@ -165,7 +165,7 @@ pub(crate) fn replaced<T: Touches>(
 }
 
 /// What `peek` and `contains` tell.
-fn seen(shard: &Tested<u64, u64>, key: u64) -> (Option<u64>, bool) {
+pub(crate) fn seen(shard: &Tested<u64, u64>, key: u64) -> (Option<u64>, bool) {
     let hash = shard.hash(&key);
     (shard.peek(hash, &key).copied(), shard.contains(hash, &key))
 }
