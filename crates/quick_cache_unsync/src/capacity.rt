@@ -56,7 +56,7 @@ impl<
 
     /// Sets the weight that the cache may hold, and evicts what is too much, with this request
     /// state.
-    pub(crate) fn set_capacity_with_lifecycle(&mut self, capacity: u64, state: &mut L::RequestState)
+    pub fn set_capacity_with_lifecycle(&mut self, capacity: u64, state: &mut L::RequestState)
         ensures sets { SetsCapacityTo (L.steady self.old.lifecycle) (hooks_of L.Lifecycle self.old)
             (rules_of no_touches K.Hash.hash_input We.Weighter B.BuildHasher B.Hasher.Hasher
             L.Lifecycle self.old) capacity self.old.state state.old self.new.state state.new }

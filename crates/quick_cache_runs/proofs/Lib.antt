@@ -1,0 +1,3 @@
+pub mod CallSteps
+pub mod WalkLemmas
+pub mod ReferenceLemmas
