@@ -1,5 +1,5 @@
 -- Steps of single calls.
-use Rattle.std.proofs.Common.{◌≡◌, ◌≤◌, ℕ, Bool, true, false, List, [], Option, Some, None, refl, sym, subst}
+use Rattle.std.proofs.Common.{◌≡◌, ◌≤◌, ℕ, Bool, true, false, [], Option, Some, None, refl, sym, subst}
 use Rattle.std.specs.Prelude.{IsSome, min, ◌^◌, ◌-◌}
 use Rattle.std.specs.Bool.{OnTrue, OnFalse}
 use Rattle.quick_cache_model.specs.declared.refusal.Refusal.{Refusal}
@@ -8,10 +8,10 @@ use Rattle.quick_cache_model.specs.CacheState.{CacheState, Item, UpToOrder, keys
 use Rattle.quick_cache_model.specs.CacheState.{item_count, total_weight}
 use Rattle.quick_cache_model.specs.Removal.{cleared}
 use Rattle.quick_cache_model.specs.Finding.{HasNoItem}
-use Rattle.quick_cache_model.specs.Hooks.{Rules, Hooks, HookCall, RunsHooks}
+use Rattle.quick_cache_model.specs.Hooks.{Rules, Hooks}
 use Rattle.quick_cache_model.specs.Lookups.{Sees, LooksUp}
 use Rattle.quick_cache_model.proofs.LookupLaws.{Sees-LooksUp}
-use Rattle.quick_cache_model.specs.Refusals.{MayRefuse, IsProvided, needs_of_clone}
+use Rattle.quick_cache_model.specs.Refusals.{MayRefuse, needs_of_clone}
 use Rattle.quick_cache_shard.specs.Shard.{Wrote, RefusesWrite, HasItem}
 use Rattle.quick_cache_model.specs.Writes.{Insert as insertion}
 use denote.Ref.{Bor}

@@ -3,7 +3,7 @@ use Rattle.std.proofs.Common.{◌≡◌, ◌≤◌, Bool, true, false, if◌then
 use Rattle.std.specs.List.{AllByRecursion}
 use Rattle.quick_cache_calls.specs.References.{WritesItem}
 use Rattle.quick_cache_model.specs.CacheState.{CacheState, Item, Place, InHot, InCold, InStill, UpToOrder, items_at, with_items, keys_by, rewritten}
-use Rattle.quick_cache_model.specs.Finding.{IsItemAt, HasNoItem}
+use Rattle.quick_cache_model.specs.Finding.{HasNoItem}
 use Rattle.quick_cache_model.specs.Hooks.{Rules}
 use Rattle.quick_cache_model.specs.Lookups.{LooksUp}
 use Rattle.quick_cache_model.specs.Removal.{weighed, reweighed}

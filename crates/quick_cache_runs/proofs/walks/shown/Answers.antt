@@ -1,4 +1,4 @@
-use Rattle.std.proofs.Common.{[], refl, subst, sym, ◌∙◌, ap, length, arith}
+use Rattle.std.proofs.Common.{◌∙◌, ap, length, arith}
 use Rattle.quick_cache_runs.proofs.WalkLemmas.{HasShown-none, HasShown-more, HasShown-all}
 use Rattle.quick_cache_runs.proofs.walks.shown.Goals as goal
 

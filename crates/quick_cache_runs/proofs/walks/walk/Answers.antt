@@ -1,4 +1,3 @@
-use Rattle.std.proofs.Common.{[], ap, sym, subst}
 use Rattle.quick_cache_calls.specs.declared.call.Call.TheVariants.{Iter}
 use Rattle.quick_cache_calls.specs.CacheStep.{CacheStep}
 use Rattle.quick_cache_calls.specs.Kinds.{MakesRoom}

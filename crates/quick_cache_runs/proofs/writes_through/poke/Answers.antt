@@ -1,6 +1,4 @@
 use Rattle.std.proofs.Common.{rules, ap, subst}
-use Rattle.quick_cache_model.specs.CacheState.{CacheState}
-use Rattle.quick_cache_model.specs.Hooks.{Rules}
 use Rattle.quick_cache_shard.specs.References.{with_value_under, ReweighsUnder}
 use Rattle.quick_cache_shard.specs.Shard.{Shard, rules_of}
 use Rattle.quick_cache_unsync.specs.Touches.{no_touches}
