@@ -1,3 +1,4 @@
 pub mod CallSteps
 pub mod WalkLemmas
 pub mod ReferenceLemmas
+pub mod RunLemmas

@@ -1,11 +1,15 @@
-//! The calls of the cache for one thread, each with its reply and as a step of its definition.
+//! Lists of calls of the cache for one thread, made one after another.
 #![tactic(auto)]
 
+mod calls;
+mod loads;
 mod looks;
 mod removals;
+mod runs;
 mod sizes;
 mod walks;
 mod writes;
 mod writes_through;
 
 pub use quick_cache_calls::{Call, Reply};
+pub use runs::run;

@@ -70,3 +70,33 @@ pub(crate) fn walk<
         Err(refusal) => Reply::Refused(refusal),
     }
 }
+
+/// Takes all pairs out, in no order, and drops all else. Room for them is made first.
+pub(crate) fn drain<
+    F,
+    M: Allocator + Clone,
+    K: Eq + Hash + Clone + Drop,
+    V: Clone + Drop,
+    We: Weighter<K, V>,
+    B: BuildHasher,
+    L: Lifecycle<K, V>,
+    A: Allocator,
+>(alloc: &M, cache: &mut Cache<K, V, We, B, L, A>) -> Reply<K, V, M>
+    ensures step { (answers : F → K → V → Bool) → CacheStep
+        (rules_of no_touches K.Hash.hash_input We.Weighter B.BuildHasher B.Hasher.Hasher
+        L.Lifecycle cache.old)
+        K.eq K.is_clone V.is_clone answers cache.old.state (Call.Drain) result [] cache.new.state }
+    ensures same { cache.new ≡ record cache.old { state = cache.new.state; room = cache.new.room } }
+{
+    let Ok(alloc) = alloc.clone() else {
+        return Reply::Refused(Refusal::Memory);
+    };
+    let mut pairs = Vec::new(alloc);
+    let Ok(()) = pairs.reserve(cache.len()) else {
+        return Reply::Refused(Refusal::Memory);
+    };
+    for pair in cache.drain() {
+        pairs.push_reserved(pair);
+    }
+    Reply::Pairs(pairs)
+}

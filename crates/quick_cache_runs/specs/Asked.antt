@@ -1,0 +1,15 @@
+-- The predicates of calls.
+use Rattle.std.specs.Prelude.{Option, Some, None, IfSome}
+use Rattle.quick_cache_calls.specs.declared.call.Call.{Call}
+use Rattle.quick_cache_calls.specs.declared.call.Call.TheVariants.{RemoveIf, Retain}
+
+module _ {K V F : Type 0} where
+  -- the predicate that a call asks, if it asks one
+  abbrev pub predicate_of : Call K V F → Option F
+  predicate_of (RemoveIf key wanted) = Some wanted
+  predicate_of (Retain keep) = Some keep
+  predicate_of _ = None
+
+  -- P holds of it
+  abbrev pub IfAsks : (F → Type 0) → Call K V F → Type 0
+  IfAsks P call = IfSome (predicate_of call) P
