@@ -15,9 +15,8 @@ pub pairs-counted : {K V : Type 0} (state : CacheState K V)
     → length (map pair_of (residents state)) ≡ item_count state
 pairs-counted state = omega (
   arith,
-  length-map (residents state) pair_of,
-  length-append state.hot (state.cold ++ state.still),
-  length-append state.cold state.still,
+  length-map (residents state) pair_of ∙ length-append (state.hot ++ state.cold) state.still,
+  length-append state.hot state.cold,
 )
 
 module _ {K V We B L A H : Type 0} (first : Drain K V We B L A H) (old : Shard K V We B L)
@@ -37,5 +36,5 @@ module _ {K V We B L A H : Type 0} (first : Drain K V We B L A H) (old : Shard K
       ((λ i. taken ++ ends.0.0 i) ∙ append-nil taken) along.gives in (
         subst (λ (x : Shard K V We B L). IsPermutation (pairs_in x) taken) begins all,
         ap (λ (x : Shard K V We B L). x.state) empty ∙ ends.1.cache.cleared
-        ∙ along.keeps.cache.cleared ∙ ap (λ (x : Shard K V We B L). cleared x.state) begins,
+            ∙ along.keeps.cache.cleared ∙ ap (λ (x : Shard K V We B L). cleared x.state) begins,
       )
