@@ -1,9 +1,9 @@
 -- Steps of calls that load: by a guard, and the others by the step of the guard.
-use Rattle.std.proofs.Common.{◌≡◌, ◌≤◌, ◌<◌, ℕ, arith, Bool, true, false, List, [], Option, Some, None, refl, sym, subst}
+use Rattle.std.proofs.Common.{◌≡◌, ◌≤◌, ℕ, arith, Bool, true, false, List, [], Option, Some, None, refl, sym, subst}
 use Rattle.std.specs.Prelude.{IsSome}
 use Rattle.quick_cache_model.specs.declared.refusal.Refusal.{Refusal}
 use Rattle.quick_cache_model.specs.declared.refusal.Refusal.TheVariants.{Memory}
-use Rattle.quick_cache_model.specs.CacheState.{CacheState, Item, UpToOrder, keys_by}
+use Rattle.quick_cache_model.specs.CacheState.{CacheState, UpToOrder, keys_by}
 use Rattle.quick_cache_model.specs.Finding.{HasNoItem}
 use Rattle.quick_cache_model.specs.Hooks.{Rules, Hooks, HookCall}
 use Rattle.quick_cache_model.specs.Lookups.{Sees, LooksUp}
@@ -11,7 +11,7 @@ use Rattle.quick_cache_model.specs.Placeholders.{GivesUpPlaceholder}
 use Rattle.quick_cache_model.proofs.KeyCounts.{keys-none}
 use Rattle.quick_cache_model.proofs.LookupLaws.{Sees-LooksUp}
 use Rattle.quick_cache_shard.specs.Loading.{MakesNone}
-use Rattle.quick_cache_shard.specs.References.{count_under, NotesLookUp}
+use Rattle.quick_cache_shard.specs.References.{NotesLookUp}
 use Rattle.quick_cache_calls.specs.declared.call.Call.{Call}
 use Rattle.quick_cache_calls.specs.declared.call.Call.TheVariants.{Load, LoadMut, Guarded, GuardedMut}
 use Rattle.quick_cache_calls.specs.declared.reply.Reply.{Reply}
@@ -19,7 +19,6 @@ use Rattle.quick_cache_calls.specs.declared.reply.Reply.TheVariants.{Found, Fill
 use Rattle.quick_cache_calls.specs.declared.reply.Reply.TheVariants.{Loaded, LoadFailed, Refused}
 use Rattle.quick_cache_calls.specs.CacheStep.{CacheStep}
 use Rattle.quick_cache_calls.specs.Kinds.{IsLoad}
-use Rattle.quick_cache_calls.specs.Loads.{WritesIfGiven}
 use Rattle.quick_cache_calls.specs.References.{TellsItem, WritesItem}
 use Rattle.quick_cache_unsync.specs.Loads.{Takes, FillsIfThere}
 use Rattle.quick_cache_unsync.proofs.LoadLemmas.{Takes-takes, Takes-awaited, Takes-nothing}
