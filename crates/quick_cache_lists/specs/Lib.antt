@@ -7,4 +7,5 @@ pub mod Walks
 pub mod Copies
 pub mod Lent
 pub mod Placeholders
+pub mod Fills
 pub mod Stored

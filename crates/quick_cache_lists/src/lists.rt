@@ -5,6 +5,7 @@ ghost use Rattle.quick_cache_lists.specs.Lists.{no_lists, entry_count, slots_lef
 mod changes;
 mod copies;
 mod counts;
+mod fills;
 mod looks;
 mod moves;
 mod placeholders;

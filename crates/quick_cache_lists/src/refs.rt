@@ -132,6 +132,12 @@ impl<'a, K, P> AwaitedRef<'a, K, P> {
         self.queue
     }
 
+    pub fn key(&self) -> &'a K
+        ensures { result.now ≡ self.now.key }
+    {
+        self.key
+    }
+
     pub fn placeholder(&self) -> &'a P
         ensures { result.now ≡ self.now.placeholder }
     {

@@ -6,6 +6,7 @@ use Rattle.std.proofs.lemmas.Bool.{eqb-true, eqb-false, eq-eqb}
 use Rattle.std.proofs.lemmas.List.{map-append}
 use Rattle.quick_cache_model.specs.CacheState.{CacheState, Item, LoadingEntry, SameButOrder, UpToOrder, keys_by}
 use Rattle.quick_cache_model.specs.CacheState.{entered as model_entered}
+use Rattle.quick_cache_model.specs.declared.queue.Queue.{Queue}
 use Rattle.quick_cache_model.specs.Eviction.{EvictsToCapacity}
 use Rattle.quick_cache_model.specs.Hooks.{Rules, HookCall, EvictCold}
 use Rattle.quick_cache_model.specs.Placeholders.{IsLoadingTicket, HasNoTicket, GivesUpPlaceholder, MakesRoomFor, FillsPlaceholder}
@@ -17,8 +18,9 @@ use Rattle.quick_cache_model.proofs.Valid.Edits.{entered-valid, keys_by-unloaded
 use Rattle.quick_cache_model.proofs.Valid.Orders.{SameButOrder-valid}
 use Rattle.quick_cache_lists.specs.declared.entry.Awaited.{Awaited}
 use Rattle.quick_cache_lists.specs.declared.entry.Entry.{Entry}
-use Rattle.quick_cache_lists.specs.declared.entry.Entry.TheVariants.{Item as item_variant, Loading as loading_variant}
-use Rattle.quick_cache_lists.specs.Lists.{HeldItem, HeldLoading, Lists, AreApart, StandsIn, IsEntry, PutsLast, entered, without_entry}
+use Rattle.quick_cache_lists.specs.declared.entry.Entry.TheVariants.{Loading as loading_variant}
+use Rattle.quick_cache_lists.specs.Lists.{HeldItem, HeldLoading, Lists, AreApart, StandsIn, IsEntry, PutsItem, entered, without_entry}
+use Rattle.quick_cache_lists.specs.Fills.{FillsToken, filled}
 use Rattle.quick_cache_lists.specs.Placeholders.{HasNoPlaceholder}
 use Rattle.quick_cache_lists.specs.Views.{loading_entry, loading_entries}
 use Rattle.quick_cache_lists.proofs.StandingLemmas.{Standing, standing_of, known_standing, StandsIn-loading}
@@ -185,20 +187,20 @@ module _ {K V P A X : Type 0} (ticket_of : P → ℕ) (contents : Contents K V P
 
 -- ---- a pair that is put in
 
-module _ {K V P A X T : Type 0} (ticket_of : P → ℕ) (contents : Contents K V P A X)
+module _ {K V P A X : Type 0} (ticket_of : P → ℕ) (contents : Contents K V P A X)
     (token hash : ℕ) (item : Item K V) (new : Lists K V P)
-    (puts : PutsLast {T = T} contents.lists token hash (item_variant item) new) where
+    (puts : PutsItem contents.lists token hash item new) where
   held : HeldItem K V
   held = record { token = token; hash = hash; item = item }
 
-  pub put-same : SameButOrder (model_entered item (state_of ticket_of contents))
+  put-same : SameButOrder (model_entered item (state_of ticket_of contents))
       (state_with ticket_of contents new)
   unfolding held
   put-same = subst (λ (s : CacheState K V). SameButOrder s (state_with ticket_of contents new))
       (entered-state ticket_of contents held contents.lists)
       (state_of-reordered ticket_of contents _ new puts.put)
 
-  pub put-sound : (equal : K → K → Bool) → IsEquivalence equal → (hashed : K → ℕ)
+  put-sound : (equal : K → K → Bool) → IsEquivalence equal → (hashed : K → ℕ)
       → keys_by (equal item.key) (state_of ticket_of contents) ≡ 0 → item.mark ≤ 2
       → hash ≡ hashed item.key → IsSound ticket_of equal hashed contents
       → IsSound ticket_of equal hashed (record contents { lists = new })
@@ -213,7 +215,7 @@ module _ {K V P A X T : Type 0} (ticket_of : P → ℕ) (contents : Contents K V
   }
 
   -- the rings have one item more at most
-  pub put-count : length new.hot + length new.cold
+  put-count : length new.hot + length new.cold
       ≤ length contents.lists.hot + length contents.lists.cold + 1
   unfolding held
   put-count = omega (
@@ -223,7 +225,7 @@ module _ {K V P A X T : Type 0} (ticket_of : P → ℕ) (contents : Contents K V
   )
 
   -- room is made where it weighs something
-  pub put-evicts : (rules : Rules K V) (weight : ℕ) → 0 < weight → (pair : Item K V) → item ≡ pair
+  put-evicts : (rules : Rules K V) (weight : ℕ) → 0 < weight → (pair : Item K V) → item ≡ pair
       → (last : CacheState K V) (calls : List (HookCall K V))
       → UpToOrder (EvictsToCapacity rules 0 (state_with ticket_of contents new) calls) last
       → UpToOrder (MakesRoomFor 0 (state_of ticket_of contents) rules weight
@@ -236,7 +238,7 @@ module _ {K V P A X T : Type 0} (ticket_of : P → ℕ) (contents : Contents K V
       (state_with ticket_of contents new)) is put-same) evicts)
 
   -- and none where it does not
-  pub put-stays : (rules : Rules K V) (weight : ℕ) → weight ≡ 0 → (pair : Item K V) → item ≡ pair
+  put-stays : (rules : Rules K V) (weight : ℕ) → weight ≡ 0 → (pair : Item K V) → item ≡ pair
       → UpToOrder (MakesRoomFor 0 (state_of ticket_of contents) rules weight
       (model_entered pair (state_of ticket_of contents)) []) (state_with ticket_of contents new)
   put-stays rules weight none pair is = record {
@@ -245,6 +247,67 @@ module _ {K V P A X T : Type 0} (ticket_of : P → ℕ) (contents : Contents K V
     same = subst (λ (i : Item K V). SameButOrder (model_entered i (state_of ticket_of contents))
         (state_with ticket_of contents new)) is put-same;
   }
+
+-- ---- a pair that is put in where the placeholder stands
+
+module _ {K V P A X : Type 0} (ticket_of : P → ℕ) (contents : Contents K V P A X)
+    (apart : AreApart contents.lists) (token : ℕ) (waiting : HeldLoading K P)
+    (stands : StandsIn contents.lists.loading waiting) (named : waiting.token ≡ token)
+    (queue : Queue) (mark weight : ℕ) (value : V) (new : Lists K V P)
+    (fills : FillsToken contents.lists token (filled queue mark weight value) new) where
+  -- the cache without the placeholder
+  abbrev pub without : Contents K V P A X
+  without = record contents { lists = without_entry false token contents.lists }
+
+  filled-puts : PutsItem (without_entry false token contents.lists) token waiting.hash
+      (filled queue mark weight value waiting.key) new
+  filled-puts =
+      subst (λ (w : HeldLoading K P). PutsItem (without_entry false token contents.lists) token
+      w.hash (filled queue mark weight value w.key) new)
+      (awaited-is_loading contents.lists apart token fills.hash fills.awaited fills.taken waiting
+      stands named)
+      fills.last
+
+  -- what is sound stays so
+  pub filled-sound : (equal : K → K → Bool) → IsEquivalence equal → (hashed : K → ℕ) → mark ≤ 2
+      → IsSound ticket_of equal hashed contents
+      → IsSound ticket_of equal hashed (record contents { lists = new })
+  filled-sound equal laws hashed marked sound =
+      put-sound ticket_of without token waiting.hash (filled queue mark weight value waiting.key)
+      new filled-puts equal laws hashed
+      (left-nowhere ticket_of contents apart token waiting stands named equal laws hashed sound)
+      marked (waiting-under hashed contents.lists waiting stands sound.hashed)
+      (left-sound ticket_of contents apart token waiting stands named equal hashed sound)
+
+  -- the rings have one item more at most
+  pub filled-count : length new.hot + length new.cold
+      ≤ length contents.lists.hot + length contents.lists.cold + 1
+  filled-count = omega (
+    arith,
+    put-count ticket_of without token waiting.hash
+        (filled queue mark weight value waiting.key) new filled-puts,
+    left-count ticket_of contents apart token waiting stands named,
+  )
+
+  -- room is made where it weighs something
+  pub filled-evicts : (rules : Rules K V) → 0 < weight → (pair : Item K V)
+      → filled queue mark weight value waiting.key ≡ pair
+      → (last : CacheState K V) (calls : List (HookCall K V))
+      → UpToOrder (EvictsToCapacity rules 0 (state_with ticket_of contents new) calls) last
+      → UpToOrder (MakesRoomFor 0 (state_of ticket_of without) rules weight
+      (model_entered pair (state_of ticket_of without)) calls) last
+  filled-evicts rules heavy pair is last calls evicts =
+      put-evicts ticket_of without token waiting.hash (filled queue mark weight value waiting.key)
+      new filled-puts rules weight heavy pair is last calls evicts
+
+  -- and none where it does not
+  pub filled-stays : (rules : Rules K V) → weight ≡ 0 → (pair : Item K V)
+      → filled queue mark weight value waiting.key ≡ pair
+      → UpToOrder (MakesRoomFor 0 (state_of ticket_of without) rules weight
+      (model_entered pair (state_of ticket_of without)) []) (state_with ticket_of contents new)
+  filled-stays rules none pair is =
+      put-stays ticket_of without token waiting.hash (filled queue mark weight value waiting.key)
+      new filled-puts rules weight none pair is
 
 -- ---- the fill
 

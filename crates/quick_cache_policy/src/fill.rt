@@ -16,7 +16,7 @@ use crate::admission::{Admission, Weighed};
 use crate::contents::Contents;
 use crate::placeholder::SharedPlaceholder;
 use crate::policy::Policy;
-use quick_cache_lists::{Awaited, Entry, Meaning, Resident};
+use quick_cache_lists::{Entry, Meaning};
 use quick_cache_model::{Queue, Token};
 use std::alloc::Allocator;
 use std::hash::Hash;
@@ -43,65 +43,9 @@ fn mark_if(waited: bool) -> u8
 }
 
 impl<K: Eq + Hash + Drop, V: Drop, P: SharedPlaceholder<K>, A: Allocator> Contents<K, V, P, A> {
-    /// Puts a pair that was admitted in, under a key that is nowhere, and makes room behind it
-    /// where it weighs something. It is hot if it fits the hot target, and else of the given queue.
-    fn enter<M: Policy<K, V>>(
-        &mut self,
-        terms: &M,
-        state: &mut M::RequestState,
-        hash: u64,
-        key: K,
-        otherwise: Queue,
-        weighed: Weighed<V>,
-        marked: bool,
-    )
-        requires sound { IsSound P.ticket_of K.eq (M.hashed terms.now) self.old }
-        requires hash_is { hash ≡ M.hashed terms.now key }
-        requires weight_is { weighed.weight ≡ M.weight_of terms.now key weighed.value }
-        requires nowhere { keys_by (K.eq key) (state_of P.ticket_of self.old) ≡ 0 }
-        requires room { 0 < self.old.lists.room }
-        ensures enters { Calls (M.hooks terms.now)
-            (Evicting (M.steady terms.now)
-            (MakesRoomFor 0 (state_of P.ticket_of self.old)
-            (rules_by M.Policy P.Touch.may_count terms.now) weighed.weight
-            (entered (new_item (rules_by M.Policy P.Touch.may_count terms.now) key weighed.value
-            (queue_for (rules_by M.Policy P.Touch.may_count terms.now)
-            (state_of P.ticket_of self.old) key weighed.value otherwise)
-            (if marked then 1 else 0))
-            (state_of P.ticket_of self.old)))
-            (state_of P.ticket_of self.new))
-            state.old state.new }
-        ensures sound { IsSound P.ticket_of K.eq (M.hashed terms.now) self.new }
-        ensures room { self.old.lists.room ≤ self.new.lists.room + 1 }
-        ensures work { WorksWithin
-            (ring_count Queue.Hot self.old + ring_count Queue.Cold self.old + 1)
-            (work_of self.old) (work_of self.new) }
-        ensures same { self.new ≡ record self.old {
-          lists = self.new.lists;
-          advances = self.new.advances;
-          visits = self.new.visits;
-        } }
-    {
-        // Read for the proof: the counts are within their types.
-        let _advances = self.advances;
-        let _visits = self.visits;
-        let Weighed { value, weight } = weighed;
-        let hot_weight = self.lists.weight(Queue::Hot) + u128::from(weight);
-        let queue = if hot_weight <= u128::from(self.hot_target) {
-            Queue::Hot
-        } else {
-            otherwise
-        };
-        let mark = mark_if(marked);
-        let item = Resident::new(key, value, weight, mark, queue, P::Touch::default());
-        let _ = self.lists.put(hash, Entry::Item(item));
-        if weight > 0 {
-            self.evict_to_capacity(0, terms, state);
-        }
-    }
-
-    /// Fills the placeholder of a token: it goes in any case, and its pair is put in or turned
-    /// away.
+    /// Fills the placeholder of a token: its pair is put in where the placeholder stands, and room
+    /// is made behind it where it weighs something, or the placeholder goes and the pair is turned
+    /// away. It is hot if it fits the hot target, and else of the placeholder's queue.
     fn fill<M: Policy<K, V>>(
         &mut self,
         token: Token,
@@ -135,23 +79,33 @@ impl<K: Eq + Hash + Drop, V: Drop, P: SharedPlaceholder<K>, A: Allocator> Conten
         let _advances = self.advances;
         let _visits = self.visits;
         self.lists.apart();
-        let slot = self.lists.take(token, false);
-        let hash = slot.hash;
-        let awaited = match slot.entry {
-            Entry::Loading(awaited) => awaited,
-            Entry::Item(_) => unreachable!(),
-            Entry::Ghost => unreachable!(),
-        };
-        let Awaited {
-            key,
-            queue,
-            placeholder: _,
-        } = awaited;
-        match self.admit(terms, state, &key, value) {
+        let awaited = self.lists.awaited(token);
+        let otherwise = awaited.queue();
+        match self.admit(terms, state, awaited.key(), value) {
             Admission::Admitted(weighed) => {
-                self.enter(terms, state, hash, key, queue, weighed, marked);
+                let Weighed { value, weight } = weighed;
+                let hot_weight = self.lists.weight(Queue::Hot) + u128::from(weight);
+                let queue = if hot_weight <= u128::from(self.hot_target) {
+                    Queue::Hot
+                } else {
+                    otherwise
+                };
+                let mark = mark_if(marked);
+                let touch = P::Touch::default();
+                self.lists.fill(token, queue, mark, weight, value, touch);
+                if weight > 0 {
+                    self.evict_to_capacity(0, terms, state);
+                }
             }
-            Admission::TooHeavy(value) => terms.on_evict_cold(state, key, value),
+            Admission::TooHeavy(value) => {
+                let slot = self.lists.take(token, false);
+                let gone = match slot.entry {
+                    Entry::Loading(gone) => gone,
+                    Entry::Item(_) => unreachable!(),
+                    Entry::Ghost => unreachable!(),
+                };
+                terms.on_evict_cold(state, gone.key, value);
+            }
         }
     }
 
