@@ -1,4 +1,4 @@
--- Look-ups and inserts keep every value fitting its key.
+-- Inserts keep every value fitting its key.
 use Rattle.std.proofs.Common.{◌≡◌, ℕ, Bool, List, ◌∷◌, ◌++◌, Option, Some, None, Result, Ok, Err}
 use Rattle.std.proofs.Common.{sym, subst}
 use Rattle.std.specs.List.{AllByRecursion}
@@ -9,11 +9,10 @@ use Rattle.quick_cache_model.specs.CacheState.{CacheState, Item, Place, rewritte
 use Rattle.quick_cache_model.specs.Hooks.{Rules, HookCall, Hooks}
 use Rattle.quick_cache_model.specs.Touches.{first_mark}
 use Rattle.quick_cache_model.specs.Finding.{IsItemAt}
-use Rattle.quick_cache_model.specs.Lookups.{looked_up, after_hit, LooksUp}
 use Rattle.quick_cache_model.specs.Admission.{Admitted, ChecksAdmission}
 use Rattle.quick_cache_model.specs.Writes.{Strategy, mark_after, new_item, queue_for}
 use Rattle.quick_cache_model.specs.Writes.{WritesAdmitted, TakesOutItem, RejectsTooHeavy, Writes}
-use Rattle.quick_cache_model.proofs.EachElement.{all-instead, all-without, all-middle}
+use Rattle.quick_cache_model.proofs.EachElement.{all-without, all-middle}
 use Rattle.quick_cache_shard.specs.Shard.{Shard, hooks_of, Wrote, GivesBack, AnswersWrite}
 use Rattle.quick_cache.specs.Fitting.{FitsIn, AllFit}
 use Rattle.quick_cache.specs.Locked.{StaysFit}
@@ -30,20 +29,6 @@ module _ {K V : Type 0} (fits : K → V → Type 0) where
       all-middle (FitsIn fits) before item after
       (subst (λ (xs : List (Item K V)). AllByRecursion (FitsIn fits) xs) there.split
       (AllFit-at fits place state fit))
-
-  -- a look-up
-  pub LooksUp-fits : {X : Type 0} (stands_for : K → Bool) (of : Item K V → X)
-      (old new : CacheState K V) (shown : Option X)
-      → LooksUp stands_for old of shown new → AllFit fits old → AllFit fits new
-  LooksUp-fits stands_for of old _ _ (LooksUp.hit place before item after there) fit =
-      AllFit-with fits place (before ++ looked_up old.mark_cut item ∷ after) (after_hit old)
-      (all-instead (FitsIn fits) before item (looked_up old.mark_cut item) after
-      (IsItemAt-fits stands_for old place before item after there fit)
-      (subst (λ (xs : List (Item K V)). AllByRecursion (FitsIn fits) xs) there.split
-      (AllFit-at fits place old fit)))
-      (record { hot = fit.hot; cold = fit.cold; still = fit.still })
-  LooksUp-fits stands_for of old _ _ (LooksUp.miss none) fit =
-      record { hot = fit.hot; cold = fit.cold; still = fit.still }
 
   -- a check leaves a value that fits
   pub ChecksAdmission-fits : (rules : Rules K V) (target : ℕ) (key : K) (value left : V)

@@ -5,7 +5,7 @@ use Rattle.quick_cache_model.specs.declared.refusal.Refusal.TheVariants.{Memory}
 use Rattle.quick_cache_model.specs.CacheState.{CacheState, Item, Place, UpToOrder}
 use Rattle.quick_cache_model.specs.Finding.{IsItemAt}
 use Rattle.quick_cache_model.specs.Hooks.{Rules, Hooks}
-use Rattle.quick_cache_model.specs.Lookups.{LooksUp, Sees}
+use Rattle.quick_cache_model.specs.Lookups.{Sees}
 use Rattle.quick_cache_model.specs.Removal.{Removes}
 use Rattle.quick_cache_calls.specs.Shown.{IsShown}
 use Rattle.quick_cache_shard.specs.Predicates.{RemovesAsked}
@@ -15,24 +15,9 @@ use Rattle.quick_cache_unsync.specs.Replaces.{Replaces}
 
 module _ {K V : Type 0} (stands_for : K → Bool) (is_clone : V → V → Type 0)
     (old : CacheState K V) where
-  -- The answer shows a clone of what was found. A look-up is refused only where there is an item,
-  -- of whose value the clone failed, and then it changes nothing.
-  pub data Gets : Result (Option V) Refusal → CacheState K V → Type 0 where
-    gets : (found shown : Option V) (new : CacheState K V)
-        → UpToOrder (LooksUp stands_for old (λ item. item.value) found) new
-        → IsShown is_clone found shown
-        → Gets (Ok shown) new
-    refuses : (place : Place) (before : List (Item K V)) (item : Item K V)
-        (after : List (Item K V))
-        → IsItemAt stands_for old place before item after → Gets (Err Memory) old
-
-  -- some state comes of it
-  pub record GetsSo (answer : Result (Option V) Refusal) : Type 0 where
-    pub new : CacheState K V
-    pub step : Gets answer new
-
-  -- The answer shows a clone of what is there, and nothing changes. It is refused only where there
-  -- is an item, of whose value the clone failed.
+  -- The answer shows a clone of what is there. It is refused only where there is an item, of whose
+  -- value the clone failed. A look answers so, and a look-up beside other readers, and both leave
+  -- lists and marks as they were.
   pub data Peeks : Result (Option V) Refusal → Type 0 where
     peeks : (found shown : Option V) → Sees stands_for old (λ item. item.value) found
         → IsShown is_clone found shown → Peeks (Ok shown)

@@ -206,12 +206,18 @@ module _ {K V : Type 0} (clones_key : K → K → Type 0) (clones_value : V → 
             same = λ i. record new { ghosts = hashes_of (are.ghosts i) };
           }
 
-      -- and the copied contents are sound as the contents are
+      -- and the copied contents are sound as the contents are, whatever readers counted
       module _ (equal : K → K → Bool) (laws : IsEquivalence equal)
-          (equals : ClonesAreEqual equal clones_key) (hash : K → ℕ) where
+          (equals : ClonesAreEqual equal clones_key) (shared_hits shared_misses : T)
+          (hash : K → ℕ) where
         pub IsSound-copied : IsSound ticket_of equal hash contents
-            → IsSound ticket_of equal hash_of
-            (record contents { lists = copy; advances = 0; visits = 0 })
+            → IsSound ticket_of equal hash_of (record contents {
+              lists = copy;
+              shared_hits = shared_hits;
+              shared_misses = shared_misses;
+              advances = 0;
+              visits = 0;
+            })
         IsSound-copied sound = record {
           valid = IsCopyOf-valid equal equals laws (state_of ticket_of contents)
               (state_of ticket_of (record contents { lists = copy })) state_of-copied sound.valid;

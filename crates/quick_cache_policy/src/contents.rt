@@ -21,6 +21,9 @@ pub struct Contents<K: Eq + Hash, V, P: SharedPlaceholder<K>, A: Allocator = Glo
     pub ghost_limit: usize,
     pub hits: u64,
     pub misses: u64,
+    /// What readers counted of hits and misses, each through a shared reference.
+    pub shared_hits: P::Touch,
+    pub shared_misses: P::Touch,
     /// The ticket of the next placeholder.
     pub next_ticket: u64,
     /// How many hot advances were made, and how many visits in them. Only contracts read these.
@@ -56,6 +59,8 @@ impl<K: Eq + Hash, V, P: SharedPlaceholder<K>, A: Allocator> Contents<K, V, P, A
             ghost_limit,
             hits: 0,
             misses: 0,
+            shared_hits: P::Touch::default(),
+            shared_misses: P::Touch::default(),
             next_ticket: 1,
             advances: 0,
             visits: 0,

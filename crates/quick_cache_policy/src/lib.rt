@@ -22,6 +22,7 @@ mod placeholder;
 mod policy;
 mod reference;
 mod removal;
+mod shared;
 mod stats;
 mod strategy;
 mod tokens;

@@ -8,6 +8,7 @@ mod readers;
 mod reference;
 mod removal;
 mod shard;
+mod shared;
 mod stats;
 mod tokens;
 mod walk;

@@ -49,3 +49,20 @@ fn touched_items_outlive_an_eviction(rt: HostRuntime) -> Result<(), Fail> {
     assert_eq!(rt; (told.hot, told.cold), (1, 0));
     Ok(())
 }
+
+#[test]
+fn a_shared_look_up_finds_an_item_and_leaves_its_mark(rt: HostRuntime) -> Result<(), Fail> {
+    let mut shard: Tested<u64, u64> = empty(rt.alloc(), 4)?;
+    let mut told = Told::default();
+    assert!(rt; put(&mut shard, &mut told, 1, 10));
+    let hash = shard.hash(&1u64);
+    assert_eq!(rt; shard.get_shared(hash, &1).copied(), Some(10));
+    assert_eq!(rt; shard.get_clone(hash, &1), Ok(Some(10)));
+    let hash = shard.hash(&2u64);
+    assert_eq!(rt; shard.get_shared(hash, &2).copied(), None);
+    assert_eq!(rt; shard.get_clone(hash, &2), Ok(None));
+    assert!(rt; shows(shard.iter_hot(), &[(1, 0)]));
+    // Touches of one thread count nothing.
+    assert_eq!(rt; (shard.hits(), shard.misses()), (0, 0));
+    Ok(())
+}

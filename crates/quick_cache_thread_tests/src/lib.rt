@@ -5,6 +5,8 @@
 #[cfg(test)]
 mod calls;
 #[cfg(test)]
+mod readers;
+#[cfg(test)]
 mod refused;
 #[cfg(test)]
 mod shards;

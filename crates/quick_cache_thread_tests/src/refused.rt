@@ -36,6 +36,10 @@ fn a_refused_clone_is_a_refusal_for_memory(rt: HostRuntime) -> Result<(), Fail> 
         panic!(rt; "the clone is refused");
     };
     assert_eq!(rt; refusal, Refusal::Memory);
+    // It was no use of the item.
+    assert_eq!(rt; (cache.hits(&rt), cache.misses(&rt)), (0, 0));
+    let reads = cache.item_stats(&rt, &1).map(|stats| stats.access_count);
+    assert_eq!(rt; reads, Some(0));
     let Ok(Some(found)) = cache.get(&rt, &2) else {
         panic!(rt; "there is a value, which can be cloned");
     };

@@ -1,20 +1,18 @@
 //! The cache that threads share: shards, each behind a lock of its own.
-ghost use Rattle.std.specs.Prelude.{◌≡◌, IfOk, IfErr, IfSome, Some, codes};
+ghost use Rattle.std.specs.Prelude.{◌≡◌, IfOk, IfErr, Some, codes};
 ghost use Rattle.quick_cache_model.specs.declared.refusal.Refusal.TheVariants.{Memory};
 ghost use Rattle.quick_cache_model.specs.Sizes.{IsShardCount};
 ghost use Rattle.quick_cache_base.specs.Options.{default_shards};
-ghost use Rattle.quick_cache_shard.specs.Shard.{Shard, rules_of, hooks_of};
-ghost use Rattle.quick_cache.specs.Answers.{GetsSo, InsertsSo, InsertsAloneSo};
-ghost use Rattle.quick_cache.specs.Fitting.{ClonesFit, FitsQuery};
-ghost use Rattle.quick_cache.specs.Locked.{FromSome, AlwaysSteady};
+ghost use Rattle.quick_cache_shard.specs.Shard.{rules_of, hooks_of};
+ghost use Rattle.quick_cache.specs.Answers.{InsertsSo, InsertsAloneSo};
+ghost use Rattle.quick_cache.specs.Locked.{FromSome};
 ghost use Rattle.quick_cache.specs.Touches.{any_touches};
 
 use crate::sync::lifecycle::DefaultLifecycle;
 use crate::sync::locked::LockedShard;
 use quick_cache_base::sizes::shard_sizes;
 use quick_cache_base::{
-    DefaultHashBuilder, Equivalent, Lifecycle, Options, OptionsBuilder, Refusal, UnitWeighter,
-    Weighter,
+    DefaultHashBuilder, Lifecycle, Options, OptionsBuilder, Refusal, UnitWeighter, Weighter,
 };
 use std::alloc::{Allocator, Global};
 use std::fmt::{Debug, Formatter, Write};
@@ -201,24 +199,6 @@ impl<K: Eq + Hash + Drop, V: Drop, We, B: BuildHasher, L: Lifecycle<K, V>, A: Al
             shards.push_reserved(RwLock::new(shard));
         }
         Ok(Cache { shards, builder })
-    }
-
-    /// Looks the query's key up and gives a clone of its value, made under the lock: the item is
-    /// marked and read, and a hit or a miss is counted. It takes the write lock of the key's shard.
-    ///
-    /// # Errors
-    ///
-    /// `Memory` where the clone failed. Nothing was counted then.
-    pub fn get<Q: Equivalent<K>, R: Wait>(&self, rt: &R, query: &Q) -> Result<Option<V>, Refusal>
-    where
-        V: Clone,
-        ensures answers { FromSome L.Lifecycle K.eq (λ (shard : Shard K V We B L).
-            GetsSo (Q.equivalent query.now) V.is_clone shard.state result) }
-        // Whatever other threads do, the value fits a key that the query stands for.
-        ensures fits { AlwaysSteady L.steady → ClonesFit L.fits V.is_clone → IfOk result
-            (λ found. IfSome found (λ v. FitsQuery L.fits (Q.equivalent query.now) v)) }
-    {
-        self.shard_of(query).write(rt).get(query)
     }
 
     /// Inserts a pair, and hands what leaves to the lifecycle, with a request state of its own,

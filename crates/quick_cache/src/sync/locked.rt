@@ -5,7 +5,6 @@ ghost use Rattle.quick_cache_model.specs.CacheState.{empty_state};
 ghost use Rattle.quick_cache_model.specs.Sizes.{hot_target_of, ghost_limit_of};
 ghost use Rattle.quick_cache_shard.specs.Shard.{no_work, rules_of, hooks_of};
 ghost use Rattle.quick_cache_unsync.specs.Inserts.{Inserts};
-ghost use Rattle.quick_cache.specs.Answers.{Gets};
 ghost use Rattle.quick_cache.specs.Locked.{IsKept};
 ghost use Rattle.quick_cache.specs.Touches.{any_touches};
 
@@ -17,7 +16,7 @@ mod writes;
 use crate::sync::placeholder::Placeholder;
 use quick_cache_base::options::Options;
 use quick_cache_base::sizes::ShardSizes;
-use quick_cache_base::{Equivalent, Lifecycle, Refusal, Weighter};
+use quick_cache_base::{Lifecycle, Refusal, Weighter};
 use quick_cache_shard::{CacheShard, InsertStrategy};
 use std::alloc::{Allocator, Global};
 use std::hash::{BuildHasher, Hash};
@@ -100,33 +99,6 @@ impl<
         ensures { IsKept L.Lifecycle K.eq self.now }
     {
         self.shard.len();
-    }
-
-    /// Looks the query's key up, and clones what it finds. The clone is made first, so that a
-    /// refused one changes nothing.
-    pub fn get<Q: Equivalent<K>>(&mut self, query: &Q) -> Result<Option<V>, Refusal>
-    where
-        V: Clone,
-        ensures step { Gets (Q.equivalent query.now) V.is_clone self.old.state result
-            self.new.state }
-        ensures same { self.new ≡ record self.old { state = self.new.state } }
-        ensures kept { IsKept L.Lifecycle K.eq self.old }
-    {
-        self.is_kept();
-        let hash = self.shard.hash(query);
-        match self.shard.peek(hash, query) {
-            None => {
-                let _ = self.shard.get(hash, query);
-                Ok(None)
-            }
-            Some(value) => match value.clone() {
-                Ok(copy) => {
-                    let _ = self.shard.get(hash, query);
-                    Ok(Some(copy))
-                }
-                Err(_) => Err(Refusal::Memory),
-            },
-        }
     }
 
     /// Inserts a pair whose value fits its key, and hands what leaves to the lifecycle, with this

@@ -1,4 +1,4 @@
-//! Reads of a cache that change nothing.
+//! Reads of a cache, each under a read lock.
 ghost use Rattle.std.specs.Prelude.{IfOk, IfSome, MatchOption};
 ghost use Rattle.std.specs.Bool.{OnTrue, OnFalse};
 ghost use Rattle.quick_cache_model.specs.Finding.{HasNoItem};
@@ -23,6 +23,26 @@ impl<K: Eq + Hash + Drop, V: Drop, We, B: BuildHasher, L: Lifecycle<K, V>, A: Al
     L,
     A,
 > {
+    /// Looks the query's key up and gives a clone of its value, made under the lock. A hit or a miss
+    /// is counted, and at the item a touch, which becomes a mark and a read at its first visit in an
+    /// advance, or when it is written over. It takes the read lock of the key's shard, so look-ups
+    /// run side by side.
+    ///
+    /// # Errors
+    ///
+    /// `Memory` where the clone failed. Nothing was counted then.
+    pub fn get<Q: Equivalent<K>, R: Wait>(&self, rt: &R, query: &Q) -> Result<Option<V>, Refusal>
+    where
+        V: Clone,
+        ensures answers { FromSome L.Lifecycle K.eq (λ (shard : Shard K V We B L).
+            Peeks (Q.equivalent query.now) V.is_clone shard.state result) }
+        // Whatever other threads do, the value fits a key that the query stands for.
+        ensures fits { AlwaysSteady L.steady → ClonesFit L.fits V.is_clone → IfOk result
+            (λ found. IfSome found (λ v. FitsQuery L.fits (Q.equivalent query.now) v)) }
+    {
+        self.shard_of(query).read(rt).get(query)
+    }
+
     /// Looks at the query's key and gives a clone of its value, made under the lock. It is no use
     /// of the item, and nothing changes. It takes the read lock of the key's shard.
     ///

@@ -1,4 +1,4 @@
-//! Reads of a shard behind its lock, which change nothing.
+//! Reads of a shard behind its lock, which change neither its lists nor its marks.
 ghost use Rattle.std.specs.Prelude.{MatchOption};
 ghost use Rattle.std.specs.Bool.{OnTrue, OnFalse};
 ghost use Rattle.quick_cache_model.specs.Finding.{HasNoItem};
@@ -23,6 +23,19 @@ impl<
     L: Lifecycle<K, V>,
     A: Allocator,
 > LockedShard<K, V, We, B, L, A> {
+    /// Looks the query's key up beside other readers, and clones what it finds. The clone is made
+    /// first, so that a refused one counts nothing.
+    pub fn get<Q: Equivalent<K>>(&self, query: &Q) -> Result<Option<V>, Refusal>
+    where
+        V: Clone,
+        ensures gets { Peeks (Q.equivalent query.now) V.is_clone self.now.state result }
+        ensures kept { IsKept L.Lifecycle K.eq self.now }
+    {
+        self.is_kept();
+        let hash = self.shard.hash(query);
+        self.shard.get_clone(hash, query)
+    }
+
     /// Clones the value under the query's key. It is no use of the item.
     pub fn peek<Q: Equivalent<K>>(&self, query: &Q) -> Result<Option<V>, Refusal>
     where

@@ -1,6 +1,8 @@
-use Rattle.std.proofs.Common.{[], refl}
+use Rattle.std.proofs.Common.{rules, [], refl, arith}
 use Rattle.quick_cache_policy.proofs.FillLemmas.{HasNoTicket-state}
 use Rattle.quick_cache_policy.proofs.FindLemmas.{none-found}
+use Rattle.quick_cache_policy.specs.Contents.{work_of}
+use Rattle.quick_cache_policy.proofs.WorkLemmas.{DoesMore-none}
 use Rattle.quick_cache_policy.proofs.contents.Contents.replace_placeholder.Goals as goal
 
 -- it is gone
@@ -18,3 +20,13 @@ returns-in_default-clause-fills g c =
       };
       runs = refl;
     }
+
+-- and no work was done
+pub returns-in_default-clause-work : goal.returns-in_default-clause-work
+returns-in_default-clause-work g c = record {
+  advances = 0;
+  visits = 0;
+  does = DoesMore-none (work_of c.args.self.now) (search rules) (search rules);
+  few_advances = omega arith;
+  few_visits = omega arith;
+}

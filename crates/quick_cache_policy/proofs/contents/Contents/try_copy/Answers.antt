@@ -17,4 +17,4 @@ returns-clause-sound g c =
     (λ key. hash_of g.B.BuildHasher g.B.Hasher.Hasher c.args.builder.now (g.K.Hash.hash_input key))
     g.P.SharedPlaceholder.idx_of g.P.SharedPlaceholder.ticket_of
     c.args.self.now c.in_ok-try_clone.field-0 c.in_ok-try_clone.ensures.copies g.K.PartialEq.eq
-    g.met.K.Eq.laws c.requires.keys
+    g.met.K.Eq.laws c.requires.keys c.default.result c.default-2.result

@@ -1,0 +1,69 @@
+//! Look-ups beside other readers, which add to counts alone.
+ghost use Rattle.std.specs.Prelude.{◌≡◌, IfOk, IfErr, option_copied};
+ghost use Rattle.quick_cache_model.specs.declared.refusal.Refusal.TheVariants.{Memory};
+ghost use Rattle.quick_cache_model.specs.Hashing.{hash_of};
+ghost use Rattle.quick_cache_model.specs.Lookups.{Sees};
+ghost use Rattle.quick_cache_shard.specs.Shard.{IsSoundShard, HasItem};
+ghost use Rattle.quick_cache_shard.specs.Shared.{ShowsClone};
+
+use crate::shard::CacheShard;
+use quick_cache_model::{Equivalent, Refusal};
+use quick_cache_policy::SharedPlaceholder;
+use std::alloc::Allocator;
+use std::hash::{BuildHasher, Hash};
+
+impl<K: Eq + Hash, V, We, B: BuildHasher, L, P: SharedPlaceholder<K>, A: Allocator> CacheShard<
+    K,
+    V,
+    We,
+    B,
+    L,
+    P,
+    A,
+> {
+    /// The value under the query, which is handed in with its hash, as readers beside each other
+    /// look it up. A find counts a hit and a touch of the item; else a miss is counted. Nothing else
+    /// changes: the touch becomes a mark and a read at the item's first visit in an advance, or when
+    /// it is written over.
+    pub fn get_shared<Q: Equivalent<K>>(&self, hash: u64, query: &Q) -> Option<&V>
+        requires hash_is { hash ≡ hash_of B.BuildHasher B.Hasher.Hasher self.now.builder
+            (Q.hash_input query.now) }
+        ensures sees { Sees (Q.equivalent query.now) self.now.state (λ item. item.value)
+            (option_copied result) }
+        ensures sound { IsSoundShard K.eq self.now }
+    {
+        self.contents.lists.apart();
+        let item = self.contents.get_shared(hash, query)?;
+        Some(item.value())
+    }
+
+    /// A clone of the value that `get_shared` finds. It is made before anything is counted.
+    ///
+    /// # Errors
+    ///
+    /// `Memory` where the clone failed. Nothing was counted then.
+    pub fn get_clone<Q: Equivalent<K>>(&self, hash: u64, query: &Q) -> Result<Option<V>, Refusal>
+    where
+        V: Clone,
+        requires hash_is { hash ≡ hash_of B.BuildHasher B.Hasher.Hasher self.now.builder
+            (Q.hash_input query.now) }
+        ensures shows { IfOk result
+            (ShowsClone (Q.equivalent query.now) V.is_clone self.now.state) }
+        ensures refused { IfErr result (λ refusal. refusal ≡ Memory) }
+        ensures there { IfErr result (λ _. HasItem (Q.equivalent query.now) self.now.state) }
+        ensures sound { IsSoundShard K.eq self.now }
+    {
+        self.contents.lists.apart();
+        let Some(item) = self.contents.peek(hash, query) else {
+            self.contents.count_shared_miss();
+            return Ok(None);
+        };
+        match item.value().clone() {
+            Ok(copy) => {
+                self.contents.count_shared_hit(&item);
+                Ok(Some(copy))
+            }
+            Err(_) => Err(Refusal::Memory),
+        }
+    }
+}
