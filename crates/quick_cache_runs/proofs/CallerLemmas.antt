@@ -18,6 +18,12 @@ use Rattle.quick_cache_calls.specs.CacheRun.{IsRun, RunsCalls}
 use Rattle.quick_cache_calls.proofs.ShownLemmas.{CacheRun-wider}
 use Rattle.quick_cache_runs.specs.Asked.{IfAsks, IfLoads, predicate_of}
 
+-- what holds of each predicate holds of one that is asked
+asked_meets : {F : Type 0} (P : F → Type 0) → ((asked : F) → P asked) → (asked : Option F)
+    → IfSome asked P
+asked_meets P is None = tt
+asked_meets P is (Some asked) = is asked
+
 module _ {K V F : Type 0} where
   -- what holds anyhow holds of a call that loads
   load_meets : {P : Type 0} → P → (call : Call K V F) → IfLoads P call
@@ -49,11 +55,7 @@ module _ {K V F : Type 0} where
   loads_meet {P} is (call ∷ calls) =
       All-cons (IfLoads P) call calls (load_meets is call) (loads_meet is calls)
 
-  asked_meets : (P : F → Type 0) → ((asked : F) → P asked) → (asked : Option F) → IfSome asked P
-  asked_meets P is None = tt
-  asked_meets P is (Some asked) = is asked
-
-  -- what holds of each predicate holds of those that are asked
+  -- and of all that are asked
   pub predicates_meet : (P : F → Type 0) → ((asked : F) → P asked) → (calls : List (Call K V F))
       → All (IfAsks P) calls
   predicates_meet P is [] = All-nil (IfAsks P)
