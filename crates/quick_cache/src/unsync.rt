@@ -1,3 +1,4 @@
 //! The cache for one thread.
 
-pub use quick_cache_unsync::{Cache, Call, DefaultLifecycle, Reply, run};
+pub use quick_cache_runs::{Call, Reply, run};
+pub use quick_cache_unsync::{Cache, DefaultLifecycle};

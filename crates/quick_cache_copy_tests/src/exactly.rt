@@ -1,54 +1,73 @@
 //! Where a clone is the very value, as that of a number, the very value is shown.
-ghost use Rattle.std.specs.Prelude.{◌≡◌, IfOk, nat_eq};
+ghost use Rattle.std.specs.Prelude.{◌≡◌, ℕ, Bool, All, IfOk, nat_eq};
+ghost use Rattle.quick_cache_calls.specs.CacheRun.{RunsCalls};
+ghost use Rattle.quick_cache_calls.specs.Shown.{IsItself};
 ghost use Rattle.quick_cache_loading.specs.LoadingRun.{LoadingRun};
+ghost use Rattle.quick_cache_runs.specs.Asked.{IfAsks, IfLoads};
+ghost use Rattle.quick_cache_shard.specs.Copies.{ClonesAreEqual};
+ghost use Rattle.quick_cache_shard.specs.Predicates.{IsAnsweredAs};
 ghost use Rattle.quick_cache_shard.specs.Shard.{rules_of, hooks_of, ClonesExactly};
-ghost use Rattle.quick_cache_unsync.specs.CacheRun.{RunsCalls};
-ghost use Rattle.quick_cache_unsync.specs.CacheStep.{IsItself};
 ghost use Rattle.quick_cache_unsync.specs.Touches.{no_touches};
 
 use quick_cache_base::protocol::{Answer, Core, Event, run as run_loading};
 use quick_cache_base::{Lifecycle, Refusal, Weighter};
-use quick_cache_unsync::{Cache, Call, Reply, run};
+use quick_cache_runs::{Call, Reply, run};
+use quick_cache_unsync::Cache;
 use std::alloc::{Allocator, Global};
 use std::hash::{BuildHasher, Hash};
 use std::test::Fail;
 
-/// A run over any such values shows the values that it finds, where pinning is steady.
+/// A predicate that a call may ask.
+type Predicate = fn(&u64, &u64) -> bool;
+
+/// A run over any such keys and values shows those that it finds, where pinning is steady.
 fn run_exactly<
-    K: Eq + Hash + Drop,
+    F: Fn(&K, &V) -> bool + Drop,
+    K: Eq + Hash + Clone + Drop,
     V: Clone + Drop,
-    We: Weighter<K, V> + Drop,
-    B: BuildHasher + Drop,
-    L: Lifecycle<K, V> + Drop,
+    We: Weighter<K, V>,
+    B: BuildHasher,
+    L: Lifecycle<K, V>,
     A: Allocator,
-    M: Allocator,
+    M: Allocator + Clone,
 >(
     alloc: M,
     cache: &mut Cache<K, V, We, B, L, A>,
-    calls: Vec<Call<K, V>, M>,
+    calls: Vec<Call<K, V, F>, M>,
     state: &mut L::RequestState,
-) -> Result<Vec<Reply<K, V>, M>, (Vec<Reply<K, V>, M>, Vec<Call<K, V>, M>)>
+) -> Result<Vec<Reply<K, V, M>, M>, (Vec<Reply<K, V, M>, M>, Vec<Call<K, V, F>, M>)>
+    requires keys { All (IfLoads (ClonesAreEqual K.eq K.is_clone)) calls.items }
+    requires callable { All (IfAsks (λ asked. F.IsAlwaysCallable asked)) calls.items }
+    requires key_clones { ClonesExactly K.is_clone }
     requires clones { ClonesExactly V.is_clone }
-    ensures runs { L.steady cache.old.lifecycle → RunsCalls
+    ensures runs { L.steady cache.old.lifecycle → (answers : F → K → V → Bool)
+        → All (IfAsks (λ asked. IsAnsweredAs F.Fn asked (answers asked))) calls.items → RunsCalls
         (rules_of no_touches K.Hash.hash_input We.Weighter B.BuildHasher
         B.Hasher.Hasher L.Lifecycle cache.old)
-        K.eq IsItself (hooks_of L.Lifecycle cache.old)
+        K.eq IsItself IsItself answers (hooks_of L.Lifecycle cache.old)
         cache.old.state state.old calls.items result cache.new.state state.new }
 {
     run(alloc, cache, calls, state)
 }
 
 /// Numbers need no condition: the search sees that a clone of one is the number.
-fn run_numbers<We: Weighter<u64, u64> + Drop, B: BuildHasher + Drop, L: Lifecycle<u64, u64> + Drop>(
+fn run_numbers<
+    F: Fn(&u64, &u64) -> bool + Drop,
+    We: Weighter<u64, u64>,
+    B: BuildHasher,
+    L: Lifecycle<u64, u64>,
+>(
     alloc: Global,
     cache: &mut Cache<u64, u64, We, B, L>,
-    calls: Vec<Call<u64, u64>>,
+    calls: Vec<Call<u64, u64, F>>,
     state: &mut L::RequestState,
-) -> Result<Vec<Reply<u64, u64>>, (Vec<Reply<u64, u64>>, Vec<Call<u64, u64>>)>
-    ensures runs { L.steady cache.old.lifecycle → RunsCalls
+) -> Result<Vec<Reply<u64, u64>>, (Vec<Reply<u64, u64>>, Vec<Call<u64, u64, F>>)>
+    requires callable { All (IfAsks (λ asked. F.IsAlwaysCallable asked)) calls.items }
+    ensures runs { L.steady cache.old.lifecycle → (answers : F → ℕ → ℕ → Bool)
+        → All (IfAsks (λ asked. IsAnsweredAs F.Fn asked (answers asked))) calls.items → RunsCalls
         (rules_of no_touches ⟦<u64 as Hash>⟧.hash_input We.Weighter B.BuildHasher
         B.Hasher.Hasher L.Lifecycle cache.old)
-        nat_eq IsItself (hooks_of L.Lifecycle cache.old)
+        nat_eq IsItself IsItself answers (hooks_of L.Lifecycle cache.old)
         cache.old.state state.old calls.items result cache.new.state state.new }
 {
     run(alloc, cache, calls, state)
@@ -80,7 +99,8 @@ fn load_exactly<V: Clone>(
 fn a_run_shows_the_numbers_that_it_finds(rt: HostRuntime) -> Result<(), Fail> {
     let alloc = rt.alloc();
     let mut cache: Cache<u64, u64> = Cache::new(alloc, 5)?;
-    let calls = vec![in alloc; Call::Insert(1, 10), Call::Get(1)]?;
+    let calls: Vec<Call<u64, u64, Predicate>> =
+        vec![in alloc; Call::Insert(1, 10), Call::Get(1)]?;
     let Ok(replies) = run_exactly(alloc, &mut cache, calls, &mut ()) else {
         panic!(rt; "there is memory");
     };
@@ -88,7 +108,7 @@ fn a_run_shows_the_numbers_that_it_finds(rt: HostRuntime) -> Result<(), Fail> {
         replies.as_slice(),
         [Reply::Done, Reply::Value(Some(10))].as_slice()
     );
-    let calls = vec![in alloc; Call::Remove(1), Call::Get(1)]?;
+    let calls: Vec<Call<u64, u64, Predicate>> = vec![in alloc; Call::Remove(1), Call::Get(1)]?;
     let Ok(replies) = run_numbers(alloc, &mut cache, calls, &mut ()) else {
         panic!(rt; "there is memory");
     };

@@ -1,35 +1,44 @@
 //! Texts: a clone has the bytes of what it copies, and what a call shows is such a clone.
-ghost use Rattle.std.specs.Prelude.{◌≡◌, IfOk, IfSome, string_bytes, string_eq};
+ghost use Rattle.std.specs.Prelude.{◌≡◌, Bool, All, IfOk, IfSome, string_bytes, string_eq};
+ghost use Rattle.quick_cache_calls.specs.CacheRun.{RunsCalls};
 ghost use Rattle.quick_cache_loading.specs.LoadingRun.{LoadingRun};
 ghost use Rattle.quick_cache_loading.specs.LoadingStep.{LoadingStep};
+ghost use Rattle.quick_cache_runs.specs.Asked.{IfAsks};
 ghost use Rattle.quick_cache_shard.specs.Copies.{IsCopyOf};
+ghost use Rattle.quick_cache_shard.specs.Predicates.{IsAnsweredAs};
 ghost use Rattle.quick_cache_shard.specs.Shard.{rules_of, hooks_of};
 ghost use Rattle.quick_cache_copy_tests.specs.Shown.{HasSameBytes, IsShownUnder};
-ghost use Rattle.quick_cache_unsync.specs.CacheRun.{RunsCalls};
 ghost use Rattle.quick_cache_unsync.specs.Touches.{no_touches};
 
 use quick_cache_base::protocol::{Answer, Core, Event, run as run_loading, step};
 use quick_cache_base::{Lifecycle, Refusal, Weighter};
-use quick_cache_unsync::{Cache, Call, Reply, run};
+use quick_cache_runs::{Call, Reply, run};
+use quick_cache_unsync::Cache;
 use std::alloc::{AllocError, Global};
 use std::hash::{BuildHasher, Hash};
 use std::test::Fail;
 
+/// A predicate that a call may ask.
+type Predicate = fn(&String, &String) -> bool;
+
 /// Each text that a run shows has the bytes of the text that was found, where pinning is steady.
 fn run_texts<
-    We: Weighter<String, String> + Drop,
-    B: BuildHasher + Drop,
-    L: Lifecycle<String, String> + Drop,
+    F: Fn(&String, &String) -> bool + Drop,
+    We: Weighter<String, String>,
+    B: BuildHasher,
+    L: Lifecycle<String, String>,
 >(
     alloc: Global,
     cache: &mut Cache<String, String, We, B, L>,
-    calls: Vec<Call<String, String>>,
+    calls: Vec<Call<String, String, F>>,
     state: &mut L::RequestState,
-) -> Result<Vec<Reply<String, String>>, (Vec<Reply<String, String>>, Vec<Call<String, String>>)>
-    ensures runs { L.steady cache.old.lifecycle → RunsCalls
+) -> Result<Vec<Reply<String, String>>, (Vec<Reply<String, String>>, Vec<Call<String, String, F>>)>
+    requires callable { All (IfAsks (λ asked. F.IsAlwaysCallable asked)) calls.items }
+    ensures runs { L.steady cache.old.lifecycle → (answers : F → _ → _ → Bool)
+        → All (IfAsks (λ asked. IsAnsweredAs F.Fn asked (answers asked))) calls.items → RunsCalls
         (rules_of no_touches ⟦<String as Hash>⟧.hash_input We.Weighter B.BuildHasher
         B.Hasher.Hasher L.Lifecycle cache.old)
-        string_eq HasSameBytes (hooks_of L.Lifecycle cache.old)
+        string_eq HasSameBytes HasSameBytes answers (hooks_of L.Lifecycle cache.old)
         cache.old.state state.old calls.items result cache.new.state state.new }
 {
     run(alloc, cache, calls, state)
@@ -40,7 +49,7 @@ fn run_texts<
 fn get_text(alloc: Global, cache: &mut Cache<String, String>, key: String) -> Option<String>
     ensures { IfSome result (IsShownUnder (string_eq key) HasSameBytes cache.old.state) }
 {
-    let mut calls = Vec::new(alloc);
+    let mut calls: Vec<Call<String, String, Predicate>> = Vec::new(alloc);
     let Ok(()) = calls.push(Call::Get(key)) else {
         return None;
     };
@@ -95,7 +104,7 @@ fn a_cache_with_a_square(alloc: Global) -> Result<Cache<String, String>, Fail> {
 fn a_run_shows_the_texts_that_it_finds(rt: HostRuntime) -> Result<(), Fail> {
     let alloc = rt.alloc();
     let mut cache: Cache<String, String> = Cache::new(alloc, 5)?;
-    let calls = vec![in alloc;
+    let calls: Vec<Call<String, String, Predicate>> = vec![in alloc;
         Call::Insert(text(alloc, "square")?, text(alloc, "blue")?),
         Call::Get(text(alloc, "square")?),
         Call::Get(text(alloc, "circle")?),

@@ -1,9 +1,10 @@
 //! The cache for one thread: first examples, lists of calls, and refused growths.
 mod large;
 mod memory;
+mod runs;
 
 use quick_cache_base::{DefaultHashBuilder, Refusal, UnitWeighter};
-use quick_cache_unsync::{Cache, Call, DefaultLifecycle, Reply, run};
+use quick_cache_unsync::{Cache, DefaultLifecycle};
 use rationed::Rationed;
 use std::alloc::Global;
 use std::test::Fail;
@@ -39,49 +40,8 @@ fn the_counts_and_the_clone_tell_what_is_there(rt: HostRuntime) -> Result<(), Fa
     Ok(())
 }
 
-#[test]
-fn a_list_of_calls_is_made_in_order(rt: HostRuntime) -> Result<(), Fail> {
-    let mut cache: Cache<u64, u64> = Cache::new(rt.alloc(), 1)?;
-    let calls = vec![in rt.alloc();
-        Call::Insert(1, 10),
-        Call::Get(1),
-        Call::Insert(2, 20),
-        Call::Get(2),
-        Call::Get(1),
-        Call::Remove(2),
-    ]?;
-    let Ok(replies) = run(rt.alloc(), &mut cache, calls, &mut ()) else {
-        panic!(rt; "there is memory");
-    };
-    let wanted = [
-        Reply::Done,
-        Reply::Value(Some(10)),
-        Reply::Done,
-        Reply::Value(Some(20)),
-        Reply::Value(None),
-        Reply::Pair(Some((2, 20))),
-    ];
-    assert_eq!(rt; replies.as_slice(), wanted.as_slice());
-    Ok(())
-}
-
-#[test]
-fn calls_come_back_where_replies_have_no_room(rt: HostRuntime) -> Result<(), Fail> {
-    let ration = Rationed::new(rt.alloc(), 1);
-    let mut cache: Cache<u64, u64> = Cache::new(rt.alloc(), 5)?;
-    let calls = vec![in &ration; Call::Insert(1, 10), Call::Get(1)]?;
-    ration.allow(0);
-    let Err((replies, calls)) = run(&ration, &mut cache, calls, &mut ()) else {
-        panic!(rt; "there is no room");
-    };
-    assert_eq!(rt; replies.len(), 0);
-    assert_eq!(rt;
-        calls.as_slice(),
-        [Call::Insert(1, 10), Call::Get(1)].as_slice()
-    );
-    assert!(rt; cache.is_empty());
-    Ok(())
-}
+/// A predicate that a call of a list may ask.
+type Predicate = fn(&u64, &u64) -> bool;
 
 /// A cache whose growths can be refused.
 type RationedCache<'a> = Cache<

@@ -1,4 +1,3 @@
-pub mod Answered
 pub mod Touches
 pub mod Alone
 pub mod Inserts
@@ -8,8 +7,6 @@ pub mod Lent
 pub mod CacheDrain
 pub mod References
 pub mod Loads
-pub mod CacheStep
-pub mod CacheRun
 pub use Rattle.quick_cache_shard.specs.Shard
 pub use Rattle.quick_cache_shard.specs.Copies
 pub use Rattle.quick_cache_shard.specs.Writing

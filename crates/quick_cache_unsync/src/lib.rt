@@ -1,8 +1,7 @@
-//! The cache for one thread, and whole lists of its calls.
+//! The cache for one thread.
 #![tactic(auto)]
 
 mod cache;
-mod calls;
 mod capacity;
 mod drain;
 mod filling;
@@ -23,7 +22,6 @@ mod stats;
 mod writes_through;
 
 pub use cache::Cache;
-pub use calls::{Call, Reply, run};
 pub use drain::Drain;
 pub use guard::Guard;
 pub use iter::Iter;

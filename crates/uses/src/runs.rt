@@ -1,11 +1,18 @@
 //! A list of calls, made in turn.
-use quick_cache_unsync::{Cache, Call, Reply, run};
+use quick_cache_runs::{Call, Reply, run};
+use quick_cache_unsync::Cache;
 use std::alloc::{AllocError, Global};
 
-/// Three calls of a cache for five items, and their replies.
+/// Five calls of a cache for five items, and their replies.
 pub fn replies(alloc: Global) -> Result<Vec<Reply<u64, u64>>, AllocError> {
     let mut cache = Cache::new(alloc, 5).map_err(|_| AllocError)?;
-    let calls = vec![in alloc; Call::Insert(1, 10), Call::Get(1), Call::Remove(2)]?;
+    let calls = vec![in alloc;
+        Call::Insert(1, 10),
+        Call::Get(1),
+        Call::Load(2, Some(20)),
+        Call::Retain(|_: &u64, value: &u64| *value > 10),
+        Call::Remove(1),
+    ]?;
     run(alloc, &mut cache, calls, &mut ()).map_err(|_| AllocError)
 }
 
@@ -17,7 +24,13 @@ mod tests {
     #[test]
     fn each_call_has_its_reply(rt: HostRuntime) -> Result<(), Fail> {
         let replies = replies(rt.alloc())?;
-        let wanted = [Reply::Done, Reply::Value(Some(10)), Reply::Pair(None)];
+        let wanted = [
+            Reply::Done,
+            Reply::Value(Some(10)),
+            Reply::Loaded(true),
+            Reply::Done,
+            Reply::Pair(None),
+        ];
         assert_eq!(rt; replies.as_slice(), wanted.as_slice());
         Ok(())
     }

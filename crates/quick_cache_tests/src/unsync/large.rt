@@ -1,5 +1,7 @@
 //! Ten thousand entries, and lists of ten thousand calls: nothing is refused past some size.
-use quick_cache_unsync::{Cache, Call, Reply, run};
+use super::Predicate;
+use quick_cache_runs::{Call, Reply, run};
+use quick_cache_unsync::Cache;
 use std::alloc::Global;
 use std::process::Abort;
 use std::test::Fail;
@@ -47,7 +49,7 @@ fn a_clone_has_ten_thousand_entries(rt: HostRuntime) -> Result<(), Fail> {
 /// removal.
 fn run_by_threes(rt: &impl Abort, alloc: Global, count: u64) -> Result<(), Fail> {
     let mut cache: Cache<u64, u64> = Cache::new(alloc, 3)?;
-    let mut calls = Vec::new(alloc);
+    let mut calls: Vec<Call<u64, u64, Predicate>> = Vec::new(alloc);
     for number in 0..count {
         let key = number / 3;
         calls.push(match number % 3 {

@@ -1,0 +1,95 @@
+-- For callers: what a list of calls asks for is met where it always is, and what a run may show is
+-- what the relations say, and more by wider ones.
+use Rattle.std.proofs.Common.{Bool, List, [], ◌∷◌, Some, None, Result, Ok, Err, Vec}
+use Rattle.std.specs.List.{All}
+use Rattle.std.specs.Prelude.{IfSome, Option}
+use Rattle.std.proofs.lemmas.List.Elements.{All-nil, All-cons}
+use Rattle.quick_cache_model.specs.CacheState.{CacheState}
+use Rattle.quick_cache_model.specs.Hooks.{Rules, Hooks}
+use Rattle.quick_cache_calls.specs.declared.call.Call.{Call}
+use Rattle.quick_cache_calls.specs.declared.call.Call.TheVariants.{Insert, Replace, Get, Peek}
+use Rattle.quick_cache_calls.specs.declared.call.Call.TheVariants.{GetMut, PeekMut, Contains}
+use Rattle.quick_cache_calls.specs.declared.call.Call.TheVariants.{Stats, Remove, RemoveIf, Load}
+use Rattle.quick_cache_calls.specs.declared.call.Call.TheVariants.{LoadMut, Guarded, GuardedMut}
+use Rattle.quick_cache_calls.specs.declared.call.Call.TheVariants.{Iter, Drain, Counts, Retain}
+use Rattle.quick_cache_calls.specs.declared.call.Call.TheVariants.{SetCapacity, Reserve, Clear}
+use Rattle.quick_cache_calls.specs.declared.reply.Reply.{Reply}
+use Rattle.quick_cache_calls.specs.CacheRun.{IsRun, RunsCalls}
+use Rattle.quick_cache_calls.proofs.ShownLemmas.{CacheRun-wider}
+use Rattle.quick_cache_runs.specs.Asked.{IfAsks, IfLoads, predicate_of}
+
+-- what holds of each predicate holds of one that is asked
+asked_meets : {F : Type 0} (P : F → Type 0) → ((asked : F) → P asked) → (asked : Option F)
+    → IfSome asked P
+asked_meets P is None = tt
+asked_meets P is (Some asked) = is asked
+
+module _ {K V F : Type 0} where
+  -- what holds anyhow holds of a call that loads
+  load_meets : {P : Type 0} → P → (call : Call K V F) → IfLoads P call
+  load_meets is (Insert key value) = tt
+  load_meets is (Replace key value soft) = tt
+  load_meets is (Get key) = tt
+  load_meets is (Peek key) = tt
+  load_meets is (GetMut key value) = tt
+  load_meets is (PeekMut key value) = tt
+  load_meets is (Contains key) = tt
+  load_meets is (Stats key) = tt
+  load_meets is (Remove key) = tt
+  load_meets is (RemoveIf key wanted) = tt
+  load_meets is (Load key given) = is
+  load_meets is (LoadMut key given left) = is
+  load_meets is (Guarded key given) = is
+  load_meets is (GuardedMut key given left) = is
+  load_meets is Iter = tt
+  load_meets is Drain = tt
+  load_meets is Counts = tt
+  load_meets is (Retain keep) = tt
+  load_meets is (SetCapacity capacity) = tt
+  load_meets is (Reserve additional) = tt
+  load_meets is Clear = tt
+
+  -- and so of all
+  pub loads_meet : {P : Type 0} → P → (calls : List (Call K V F)) → All (IfLoads P) calls
+  loads_meet {P} is [] = All-nil (IfLoads P)
+  loads_meet {P} is (call ∷ calls) =
+      All-cons (IfLoads P) call calls (load_meets is call) (loads_meet is calls)
+
+  -- and of all that are asked
+  pub predicates_meet : (P : F → Type 0) → ((asked : F) → P asked) → (calls : List (Call K V F))
+      → All (IfAsks P) calls
+  predicates_meet P is [] = All-nil (IfAsks P)
+  predicates_meet P is (call ∷ calls) =
+      All-cons (IfAsks P) call calls (asked_meets P is (predicate_of call))
+      (predicates_meet P is calls)
+
+module _ {K V F R S : Type 0} (shows_key other_key : K → K → Type 0) (shows other : V → V → Type 0)
+    (wider_key : (k l : K) → shows_key k l → other_key k l)
+    (wider : (v w : V) → shows v w → other v w) (rules : Rules K V) (equal : K → K → Bool)
+    (answers : F → K → V → Bool) (hooks : Hooks K V S) (old : CacheState K V) (first : S) where
+  IsRun-wider : {calls : List (Call K V F)} {replies : List (Reply K V R)} {new : CacheState K V}
+      {last : S}
+      → IsRun rules equal shows_key shows answers hooks old first calls replies new last
+      → IsRun rules equal other_key other answers hooks old first calls replies new last
+  IsRun-wider run = record {
+    hook_calls = run.hook_calls;
+    steps = CacheRun-wider shows_key other_key shows other wider_key wider rules equal answers
+        run.steps;
+    runs = run.runs;
+  }
+
+  pub RunsCalls-wider : {A : Type 0} (calls : List (Call K V F))
+      (answer : Result (Vec (Reply K V R) A) (Vec (Reply K V R) A × Vec (Call K V F) A))
+      (new : CacheState K V) (last : S)
+      → RunsCalls rules equal shows_key shows answers hooks old first calls answer new last
+      → RunsCalls rules equal other_key other answers hooks old first calls answer new last
+  RunsCalls-wider calls (Ok replies) new last run = IsRun-wider run
+  RunsCalls-wider calls (Err back) new last stops = record {
+    made = stops.made;
+    unmade = stops.unmade;
+    behind = stops.behind;
+    parts = stops.parts;
+    comes_back = stops.comes_back;
+    runs = IsRun-wider stops.runs;
+    is_full = stops.is_full;
+  }

@@ -1,0 +1,39 @@
+-- Lists of calls that are made one after another.
+use Rattle.std.proofs.Common.{◌≡◌, List, [], ◌∷◌, ◌++◌, length, arith, ◌∙◌, subst}
+use Rattle.std.specs.List.{All}
+use Rattle.std.proofs.lemmas.List.Elements.{All-head, All-tail}
+use Rattle.quick_cache_calls.specs.declared.call.Call.{Call}
+use Rattle.quick_cache_calls.specs.declared.reply.Reply.{Reply}
+use Rattle.quick_cache_calls.specs.Answered.{IsAnswered, AreAnswered}
+
+module _ {K V F M : Type 0} where
+  -- one reply more answers its call
+  pub AreAnswered-push : (calls : List (Call K V F)) (replies : List (Reply K V M))
+      (call : Call K V F) (reply : Reply K V M) → length calls ≡ length replies
+      → AreAnswered calls replies → IsAnswered call reply
+      → AreAnswered (calls ++ call ∷ []) (replies ++ reply ∷ [])
+  AreAnswered-push [] [] call reply same are is = (is, tt)
+  AreAnswered-push [] (y ∷ ys) call reply same are is = absurd (omega (arith, same))
+  AreAnswered-push (x ∷ xs) [] call reply same are is = absurd (omega (arith, same))
+  AreAnswered-push (x ∷ xs) (y ∷ ys) call reply same are is =
+      (are.0, AreAnswered-push xs ys call reply (omega (arith, same)) are.1 is)
+
+  -- no reply answers as yet
+  pub AreAnswered-none : (calls : List (Call K V F)) (replies : List (Reply K V M)) → replies ≡ []
+      → AreAnswered calls replies
+  AreAnswered-none [] replies none = tt
+  AreAnswered-none (x ∷ xs) [] none = tt
+  AreAnswered-none (x ∷ xs) (y ∷ ys) none = absurd cc
+
+module _ {X : Type 0} (P : X → Type 0) where
+  -- what holds of all holds of those behind
+  All-behind : (xs ys : List X) → All P (xs ++ ys) → All P ys
+  All-behind [] ys holds = holds
+  All-behind (x ∷ xs) ys holds = All-behind xs ys (All-tail P x (xs ++ ys) holds)
+
+  -- and of the next one
+  pub All-next : (all taken left less : List X) (x : X) → all ≡ taken ++ left → left ≡ x ∷ less
+      → All P all → P x
+  All-next all taken left less x split first holds =
+      All-head P x less (All-behind taken (x ∷ less)
+      (subst (All P) (split ∙ (λ i. taken ++ first i)) holds))

@@ -1,0 +1,24 @@
+-- What the calls of a list ask of those that make them.
+use Rattle.std.specs.Prelude.{Option, Some, None, IfSome}
+use Rattle.quick_cache_calls.specs.declared.call.Call.{Call}
+use Rattle.quick_cache_calls.specs.declared.call.Call.TheVariants.{RemoveIf, Retain, Load}
+use Rattle.quick_cache_calls.specs.declared.call.Call.TheVariants.{LoadMut, Guarded, GuardedMut}
+
+module _ {K V F : Type 0} where
+  -- the predicate that a call asks, if it asks one
+  abbrev pub predicate_of : Call K V F → Option F
+  predicate_of (RemoveIf key wanted) = Some wanted
+  predicate_of (Retain keep) = Some keep
+  predicate_of _ = None
+
+  -- P holds of it
+  abbrev pub IfAsks : (F → Type 0) → Call K V F → Type 0
+  IfAsks P call = IfSome (predicate_of call) P
+
+  -- P holds where the call loads what it does not find
+  abbrev pub IfLoads : Type 0 → Call K V F → Type 0
+  IfLoads P (Load key given) = P
+  IfLoads P (LoadMut key given left) = P
+  IfLoads P (Guarded key given) = P
+  IfLoads P (GuardedMut key given left) = P
+  IfLoads P _ = Unit {0}

@@ -1,0 +1,182 @@
+//! Calls that load what they do not find, each with its reply.
+ghost use Rattle.std.specs.Prelude.{◌≡◌, Bool};
+ghost use Rattle.quick_cache_runs.specs.Made.{IsMade};
+ghost use Rattle.quick_cache_shard.specs.Copies.{ClonesAreEqual};
+ghost use Rattle.quick_cache_shard.specs.Shard.{rules_of, hooks_of};
+ghost use Rattle.quick_cache_unsync.specs.Touches.{no_touches};
+
+use quick_cache_calls::{Call, Reply};
+use quick_cache_model::{Lifecycle, Refusal, Weighter};
+use quick_cache_unsync::{Cache, poke};
+use std::alloc::Allocator;
+use std::hash::{BuildHasher, Hash};
+
+/// Looks a key up, or takes a guard for it, which is filled with this value or dropped. The clone
+/// that the reply shows is made first.
+pub(crate) fn guarded<
+    F,
+    M: Allocator,
+    K: Eq + Hash + Clone + Drop,
+    V: Clone + Drop,
+    We: Weighter<K, V>,
+    B: BuildHasher,
+    L: Lifecycle<K, V>,
+    A: Allocator,
+>(
+    cache: &mut Cache<K, V, We, B, L, A>,
+    key: &K,
+    given: Option<V>,
+    state: &mut L::RequestState,
+) -> Reply<K, V, M>
+    requires keys { ClonesAreEqual K.eq K.is_clone }
+    // Where pinning is steady, the call is a step of its definition.
+    ensures step { L.steady cache.old.lifecycle → (answers : F → K → V → Bool) → IsMade
+        (rules_of no_touches K.Hash.hash_input We.Weighter B.BuildHasher B.Hasher.Hasher
+        L.Lifecycle cache.old)
+        K.eq K.is_clone V.is_clone answers (hooks_of L.Lifecycle cache.old) cache.old.state
+        state.old (Call.Guarded key.now given) result cache.new.state state.new }
+    ensures same { cache.new ≡ record cache.old {
+      state = cache.new.state;
+      room = cache.new.room;
+      work = cache.new.work;
+    } }
+{
+    match cache.peek(key) {
+        Some(value) => match value.clone() {
+            Ok(copy) => {
+                let _ = cache.get(key);
+                Reply::Found(copy)
+            }
+            Err(_) => Reply::Refused(Refusal::Memory),
+        },
+        None => match cache.get_ref_or_guard(key) {
+            // No item stands under the key, so no reference comes.
+            Ok(Ok(_)) => unreachable!(),
+            Ok(Err(guard)) => match given {
+                Some(value) => {
+                    guard.insert_with_lifecycle(value, state);
+                    Reply::Filled
+                }
+                None => Reply::Dropped,
+            },
+            Err(refusal) => Reply::Refused(refusal),
+        },
+    }
+}
+
+/// The same, and writes a value through the reference where one is given.
+pub(crate) fn guarded_mut<
+    F,
+    M: Allocator,
+    K: Eq + Hash + Clone + Drop,
+    V: Clone + Drop,
+    We: Weighter<K, V>,
+    B: BuildHasher,
+    L: Lifecycle<K, V>,
+    A: Allocator,
+>(
+    cache: &mut Cache<K, V, We, B, L, A>,
+    key: &K,
+    given: Option<V>,
+    left: V,
+    state: &mut L::RequestState,
+) -> Reply<K, V, M>
+    requires keys { ClonesAreEqual K.eq K.is_clone }
+    // Where pinning is steady, the call is a step of its definition.
+    ensures step { L.steady cache.old.lifecycle → (answers : F → K → V → Bool) → IsMade
+        (rules_of no_touches K.Hash.hash_input We.Weighter B.BuildHasher B.Hasher.Hasher
+        L.Lifecycle cache.old)
+        K.eq K.is_clone V.is_clone answers (hooks_of L.Lifecycle cache.old) cache.old.state
+        state.old (Call.GuardedMut key.now given left) result cache.new.state state.new }
+    ensures same { cache.new ≡ record cache.old {
+      state = cache.new.state;
+      room = cache.new.room;
+      work = cache.new.work;
+    } }
+{
+    match guarded::<F, _, _, _, _, _, _, _>(cache, key, given, state) {
+        Reply::Found(copy) => {
+            let _ = poke(cache, key, left);
+            Reply::Found(copy)
+        }
+        reply => reply,
+    }
+}
+
+/// Looks a key up, or loads this value for it, or fails to. The reply tells whether a value that was
+/// loaded is resident.
+pub(crate) fn load<
+    F,
+    M: Allocator,
+    K: Eq + Hash + Clone + Drop,
+    V: Clone + Drop,
+    We: Weighter<K, V>,
+    B: BuildHasher,
+    L: Lifecycle<K, V>,
+    A: Allocator,
+>(
+    cache: &mut Cache<K, V, We, B, L, A>,
+    key: &K,
+    given: Option<V>,
+    state: &mut L::RequestState,
+) -> Reply<K, V, M>
+    requires keys { ClonesAreEqual K.eq K.is_clone }
+    // Where pinning is steady, the call is a step of its definition.
+    ensures step { L.steady cache.old.lifecycle → (answers : F → K → V → Bool) → IsMade
+        (rules_of no_touches K.Hash.hash_input We.Weighter B.BuildHasher B.Hasher.Hasher
+        L.Lifecycle cache.old)
+        K.eq K.is_clone V.is_clone answers (hooks_of L.Lifecycle cache.old) cache.old.state
+        state.old (Call.Load key.now given) result cache.new.state state.new }
+    ensures same { cache.new ≡ record cache.old {
+      state = cache.new.state;
+      room = cache.new.room;
+      work = cache.new.work;
+    } }
+{
+    match guarded::<F, _, _, _, _, _, _, _>(cache, key, given, state) {
+        Reply::Filled => Reply::Loaded(cache.contains_key(key)),
+        Reply::Dropped => Reply::LoadFailed,
+        reply => reply,
+    }
+}
+
+/// The same, and writes a value through the reference where one is given.
+pub(crate) fn load_mut<
+    F,
+    M: Allocator,
+    K: Eq + Hash + Clone + Drop,
+    V: Clone + Drop,
+    We: Weighter<K, V>,
+    B: BuildHasher,
+    L: Lifecycle<K, V>,
+    A: Allocator,
+>(
+    cache: &mut Cache<K, V, We, B, L, A>,
+    key: &K,
+    given: Option<V>,
+    left: V,
+    state: &mut L::RequestState,
+) -> Reply<K, V, M>
+    requires keys { ClonesAreEqual K.eq K.is_clone }
+    // Where pinning is steady, the call is a step of its definition.
+    ensures step { L.steady cache.old.lifecycle → (answers : F → K → V → Bool) → IsMade
+        (rules_of no_touches K.Hash.hash_input We.Weighter B.BuildHasher B.Hasher.Hasher
+        L.Lifecycle cache.old)
+        K.eq K.is_clone V.is_clone answers (hooks_of L.Lifecycle cache.old) cache.old.state
+        state.old (Call.LoadMut key.now given left) result cache.new.state state.new }
+    ensures same { cache.new ≡ record cache.old {
+      state = cache.new.state;
+      room = cache.new.room;
+      work = cache.new.work;
+    } }
+{
+    match guarded::<F, _, _, _, _, _, _, _>(cache, key, given, state) {
+        Reply::Filled => Reply::Loaded(poke(cache, key, left)),
+        Reply::Dropped => Reply::LoadFailed,
+        Reply::Found(copy) => {
+            let _ = poke(cache, key, left);
+            Reply::Found(copy)
+        }
+        reply => reply,
+    }
+}

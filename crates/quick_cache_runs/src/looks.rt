@@ -1,0 +1,117 @@
+//! Calls that look at one item, each with its reply.
+ghost use Rattle.std.specs.Prelude.{◌≡◌, [], Bool};
+ghost use Rattle.quick_cache_calls.specs.Answered.{AlwaysClones, IsAnswered};
+ghost use Rattle.quick_cache_calls.specs.CacheStep.{CacheStep};
+ghost use Rattle.quick_cache_shard.specs.Shard.{rules_of};
+ghost use Rattle.quick_cache_unsync.specs.Touches.{no_touches};
+
+use quick_cache_calls::{Call, Reply};
+use quick_cache_model::{Lifecycle, Refusal, Weighter};
+use quick_cache_unsync::Cache;
+use std::alloc::Allocator;
+use std::hash::{BuildHasher, Hash};
+
+/// Looks a key up. The clone that the reply shows is made first.
+pub(crate) fn get<
+    F,
+    M: Allocator,
+    K: Eq + Hash + Clone + Drop,
+    V: Clone + Drop,
+    We: Weighter<K, V>,
+    B: BuildHasher,
+    L: Lifecycle<K, V>,
+    A: Allocator,
+>(cache: &mut Cache<K, V, We, B, L, A>, key: K) -> Reply<K, V, M>
+    ensures step { (answers : F → K → V → Bool) → CacheStep
+        (rules_of no_touches K.Hash.hash_input We.Weighter B.BuildHasher B.Hasher.Hasher
+        L.Lifecycle cache.old)
+        K.eq K.is_clone V.is_clone answers cache.old.state (Call.Get key) result [] cache.new.state }
+    ensures same { cache.new ≡ record cache.old { state = cache.new.state } }
+    // A look-up is refused only where a clone fails.
+    ensures answered { AlwaysClones V.is_infallible → IsAnswered {F = F} (Call.Get key) result }
+{
+    match cache.peek(&key) {
+        None => {
+            let _ = cache.get(&key);
+            Reply::Value(None)
+        }
+        Some(value) => match value.clone() {
+            Ok(copy) => {
+                let _ = cache.get(&key);
+                Reply::Value(Some(copy))
+            }
+            Err(_) => Reply::Refused(Refusal::Memory),
+        },
+    }
+}
+
+/// Looks at a key, and shows a clone of the value.
+pub(crate) fn peek<
+    F,
+    M: Allocator,
+    K: Eq + Hash + Clone + Drop,
+    V: Clone + Drop,
+    We: Weighter<K, V>,
+    B: BuildHasher,
+    L: Lifecycle<K, V>,
+    A: Allocator,
+>(cache: &Cache<K, V, We, B, L, A>, key: K) -> Reply<K, V, M>
+    ensures step { (answers : F → K → V → Bool) → CacheStep
+        (rules_of no_touches K.Hash.hash_input We.Weighter B.BuildHasher B.Hasher.Hasher
+        L.Lifecycle cache.now)
+        K.eq K.is_clone V.is_clone answers cache.now.state (Call.Peek key) result []
+        cache.now.state }
+    // It is refused only where a clone fails.
+    ensures answered { AlwaysClones V.is_infallible → IsAnswered {F = F} (Call.Peek key) result }
+{
+    match cache.peek(&key) {
+        None => Reply::Value(None),
+        Some(value) => match value.clone() {
+            Ok(copy) => Reply::Value(Some(copy)),
+            Err(_) => Reply::Refused(Refusal::Memory),
+        },
+    }
+}
+
+/// Tells whether an item stands under a key.
+pub(crate) fn contains<
+    F,
+    M: Allocator,
+    K: Eq + Hash + Clone + Drop,
+    V: Clone + Drop,
+    We: Weighter<K, V>,
+    B: BuildHasher,
+    L: Lifecycle<K, V>,
+    A: Allocator,
+>(cache: &Cache<K, V, We, B, L, A>, key: K) -> Reply<K, V, M>
+    ensures step { (answers : F → K → V → Bool) → CacheStep
+        (rules_of no_touches K.Hash.hash_input We.Weighter B.BuildHasher B.Hasher.Hasher
+        L.Lifecycle cache.now)
+        K.eq K.is_clone V.is_clone answers cache.now.state (Call.Contains key) result []
+        cache.now.state }
+{
+    Reply::Flag(cache.contains_key(&key))
+}
+
+/// Tells how often the item under a key was read.
+pub(crate) fn stats<
+    F,
+    M: Allocator,
+    K: Eq + Hash + Clone + Drop,
+    V: Clone + Drop,
+    We: Weighter<K, V>,
+    B: BuildHasher,
+    L: Lifecycle<K, V>,
+    A: Allocator,
+>(cache: &Cache<K, V, We, B, L, A>, key: K) -> Reply<K, V, M>
+    ensures step { (answers : F → K → V → Bool) → CacheStep
+        (rules_of no_touches K.Hash.hash_input We.Weighter B.BuildHasher B.Hasher.Hasher
+        L.Lifecycle cache.now)
+        K.eq K.is_clone V.is_clone answers cache.now.state (Call.Stats key) result []
+        cache.now.state }
+{
+    match cache.item_stats(&key) {
+        Some(stats) => Reply::Stats(Some(stats.access_count)),
+        None => Reply::Stats(None),
+    }
+}

@@ -1,0 +1,166 @@
+//! Lists of calls, made one after another.
+ghost use Rattle.std.specs.Prelude.{◌≡◌, ◌≤◌, ◌<◌, ◌+◌, ◌++◌, [], ◌∷◌, Bool};
+ghost use Rattle.std.specs.Prelude.{All, length, vec_len, vec_capacity};
+ghost use Rattle.quick_cache_model.specs.CacheState.{IsValid};
+ghost use Rattle.quick_cache_calls.specs.Answered.{AlwaysClones, IsAnswered, AreAnswered};
+ghost use Rattle.quick_cache_calls.specs.Answered.{replies_of};
+ghost use Rattle.quick_cache_calls.specs.CacheRun.{IsRun, RunsCalls};
+ghost use Rattle.quick_cache_lives.specs.Conservation.{ConservesCalls};
+ghost use Rattle.quick_cache_runs.specs.Asked.{IfAsks, IfLoads};
+ghost use Rattle.quick_cache_runs.specs.Made.{IsMade};
+ghost use Rattle.quick_cache_shard.specs.Copies.{ClonesAreEqual};
+ghost use Rattle.quick_cache_shard.specs.Predicates.{IsAnsweredAs};
+ghost use Rattle.quick_cache_shard.specs.Shard.{rules_of, hooks_of};
+ghost use Rattle.quick_cache_unsync.specs.Touches.{no_touches};
+
+use crate::calls::act;
+use quick_cache_calls::{Call, Reply};
+use quick_cache_model::{Lifecycle, Weighter};
+use quick_cache_unsync::Cache;
+use std::alloc::Allocator;
+use std::hash::{BuildHasher, Hash};
+
+// The state of a cache is valid. The call does nothing.
+fn valid<K: Eq + Hash, V, We, B: BuildHasher, L, A: Allocator>(cache: &Cache<K, V, We, B, L, A>)
+    ensures { IsValid K.eq cache.now.state }
+{
+    let _ = cache.shard().len();
+}
+
+/// Makes one call, and puts its reply at the end of the list, which has room for it.
+fn make<
+    F: Fn(&K, &V) -> bool + Drop,
+    K: Eq + Hash + Clone + Drop,
+    V: Clone + Drop,
+    We: Weighter<K, V>,
+    B: BuildHasher,
+    L: Lifecycle<K, V>,
+    A: Allocator,
+    M: Allocator + Clone,
+>(
+    replies: &mut Vec<Reply<K, V, M>, M>,
+    cache: &mut Cache<K, V, We, B, L, A>,
+    call: Call<K, V, F>,
+    state: &mut L::RequestState,
+)
+    requires keys { IfLoads (ClonesAreEqual K.eq K.is_clone) call }
+    requires callable { IfAsks (λ asked. F.IsAlwaysCallable asked) call }
+    requires room { vec_len replies.old < vec_capacity replies.old }
+    ensures made { (reply : Reply K V M) × (replies.new.items ≡ replies.old.items ++ reply ∷ [])
+        × (L.steady cache.old.lifecycle → (answers : F → K → V → Bool)
+        → IfAsks (λ asked. IsAnsweredAs F.Fn asked (answers asked)) call → IsMade
+        (rules_of no_touches K.Hash.hash_input We.Weighter B.BuildHasher B.Hasher.Hasher
+        L.Lifecycle cache.old)
+        K.eq K.is_clone V.is_clone answers (hooks_of L.Lifecycle cache.old) cache.old.state
+        state.old call reply cache.new.state state.new)
+        × (AlwaysClones V.is_infallible → IsAnswered call reply) }
+    ensures same { cache.new ≡ record cache.old {
+      state = cache.new.state;
+      room = cache.new.room;
+      work = cache.new.work;
+    } }
+    ensures len { vec_len replies.new ≡ vec_len replies.old + 1 }
+    ensures capacity { vec_capacity replies.new ≡ vec_capacity replies.old }
+{
+    let reply = act(replies.allocator(), cache, call, state);
+    replies.push_reserved(reply);
+}
+
+/// Makes the calls in their order, and puts their replies into this list, which is empty and has
+/// room for them.
+fn make_all<
+    F: Fn(&K, &V) -> bool + Drop,
+    K: Eq + Hash + Clone + Drop,
+    V: Clone + Drop,
+    We: Weighter<K, V>,
+    B: BuildHasher,
+    L: Lifecycle<K, V>,
+    A: Allocator,
+    M: Allocator + Clone,
+>(
+    mut replies: Vec<Reply<K, V, M>, M>,
+    cache: &mut Cache<K, V, We, B, L, A>,
+    calls: Vec<Call<K, V, F>, M>,
+    state: &mut L::RequestState,
+) -> Vec<Reply<K, V, M>, M>
+    requires keys { All (IfLoads (ClonesAreEqual K.eq K.is_clone)) calls.items }
+    requires callable { All (IfAsks (λ asked. F.IsAlwaysCallable asked)) calls.items }
+    requires none { replies.items ≡ [] }
+    requires room { length calls.items ≤ vec_capacity replies }
+    ensures runs { L.steady cache.old.lifecycle → (answers : F → K → V → Bool)
+        → All (IfAsks (λ asked. IsAnsweredAs F.Fn asked (answers asked))) calls.items → IsRun
+        (rules_of no_touches K.Hash.hash_input We.Weighter B.BuildHasher B.Hasher.Hasher
+        L.Lifecycle cache.old)
+        K.eq K.is_clone V.is_clone answers (hooks_of L.Lifecycle cache.old)
+        cache.old.state state.old calls.items result.items cache.new.state state.new }
+    ensures same { cache.new ≡ record cache.old {
+      state = cache.new.state;
+      room = cache.new.room;
+      work = cache.new.work;
+    } }
+    ensures answered { AlwaysClones V.is_infallible → AreAnswered calls.items result.items }
+{
+    for call in calls {
+        make(&mut replies, cache, call, state);
+    }
+    replies
+}
+
+/// Makes the calls in their order, and gives their replies. The hooks are handed the one request
+/// state.
+///
+/// Room for the replies is made before the first call, and the clones that a reply shows before its
+/// call. The list of a walk or a drain has a clone of the allocator.
+///
+/// # Errors
+///
+/// The replies so far and the calls that were not made, where there is no room for the replies.
+pub fn run<
+    F: Fn(&K, &V) -> bool + Drop,
+    K: Eq + Hash + Clone + Drop,
+    V: Clone + Drop,
+    We: Weighter<K, V>,
+    B: BuildHasher,
+    L: Lifecycle<K, V>,
+    A: Allocator,
+    M: Allocator + Clone,
+>(
+    alloc: M,
+    cache: &mut Cache<K, V, We, B, L, A>,
+    calls: Vec<Call<K, V, F>, M>,
+    state: &mut L::RequestState,
+) -> Result<Vec<Reply<K, V, M>, M>, (Vec<Reply<K, V, M>, M>, Vec<Call<K, V, F>, M>)>
+    requires keys { All (IfLoads (ClonesAreEqual K.eq K.is_clone)) calls.items }
+    requires callable { All (IfAsks (λ asked. F.IsAlwaysCallable asked)) calls.items }
+
+    // Where pinning is steady, and each predicate answers as a pure test does, the calls are a run
+    // of the definition.
+    ensures runs { L.steady cache.old.lifecycle → (answers : F → K → V → Bool)
+        → All (IfAsks (λ asked. IsAnsweredAs F.Fn asked (answers asked))) calls.items → RunsCalls
+        (rules_of no_touches K.Hash.hash_input We.Weighter B.BuildHasher B.Hasher.Hasher
+        L.Lifecycle cache.old)
+        K.eq K.is_clone V.is_clone answers (hooks_of L.Lifecycle cache.old)
+        cache.old.state state.old calls.items result cache.new.state state.new }
+    // So no pair is lost, made, or told of twice.
+    ensures conserves { L.steady cache.old.lifecycle → (answers : F → K → V → Bool)
+        → All (IfAsks (λ asked. IsAnsweredAs F.Fn asked (answers asked))) calls.items
+        → ConservesCalls
+        (rules_of no_touches K.Hash.hash_input We.Weighter B.BuildHasher B.Hasher.Hasher
+        L.Lifecycle cache.old)
+        K.eq K.is_clone V.is_clone answers (hooks_of L.Lifecycle cache.old)
+        cache.old.state state.old calls.items result cache.new.state state.new }
+    ensures same { cache.new ≡ record cache.old {
+      state = cache.new.state;
+      room = cache.new.room;
+      work = cache.new.work;
+    } }
+    // A look is refused only where a clone fails.
+    ensures answered { AlwaysClones V.is_infallible → AreAnswered calls.items (replies_of result) }
+{
+    valid(cache);
+    let mut replies = Vec::new(alloc);
+    let Ok(()) = replies.reserve(calls.len()) else {
+        return Err((replies, calls));
+    };
+    Ok(make_all(replies, cache, calls, state))
+}

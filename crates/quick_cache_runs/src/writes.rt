@@ -1,0 +1,125 @@
+//! Calls that write, each with its reply.
+ghost use Rattle.std.specs.Prelude.{◌≡◌, [], Bool};
+ghost use Rattle.quick_cache_calls.specs.CacheStep.{CacheStep};
+ghost use Rattle.quick_cache_shard.specs.Shard.{rules_of, hooks_of};
+ghost use Rattle.quick_cache_runs.specs.Made.{IsMade};
+ghost use Rattle.quick_cache_unsync.specs.Touches.{no_touches};
+
+use quick_cache_calls::{Call, Reply};
+use quick_cache_model::{Lifecycle, Weighter};
+use quick_cache_unsync::{Cache, poke as write_to_peeked, set as write_to_found};
+use std::alloc::Allocator;
+use std::hash::{BuildHasher, Hash};
+
+/// Inserts a pair.
+pub(crate) fn insert<
+    F,
+    M: Allocator,
+    K: Eq + Hash + Clone + Drop,
+    V: Clone + Drop,
+    We: Weighter<K, V>,
+    B: BuildHasher,
+    L: Lifecycle<K, V>,
+    A: Allocator,
+>(
+    cache: &mut Cache<K, V, We, B, L, A>,
+    key: K,
+    value: V,
+    state: &mut L::RequestState,
+) -> Reply<K, V, M>
+    // Where pinning is steady, the call is a step of its definition.
+    ensures step { L.steady cache.old.lifecycle → (answers : F → K → V → Bool)
+        → IsMade
+        (rules_of no_touches K.Hash.hash_input We.Weighter B.BuildHasher B.Hasher.Hasher
+        L.Lifecycle cache.old)
+        K.eq K.is_clone V.is_clone answers (hooks_of L.Lifecycle cache.old) cache.old.state
+        state.old (Call.Insert key value) result cache.new.state state.new }
+    ensures same { cache.new ≡ record cache.old {
+      state = cache.new.state;
+      room = cache.new.room;
+      work = cache.new.work;
+    } }
+{
+    match cache.insert_with_lifecycle(key, value, state) {
+        Ok(()) => Reply::Done,
+        Err((key, value, refusal)) => Reply::RefusedPair(key, value, refusal),
+    }
+}
+
+/// Replaces the item under a key by a pair.
+pub(crate) fn replace<
+    F,
+    M: Allocator,
+    K: Eq + Hash + Clone + Drop,
+    V: Clone + Drop,
+    We: Weighter<K, V>,
+    B: BuildHasher,
+    L: Lifecycle<K, V>,
+    A: Allocator,
+>(
+    cache: &mut Cache<K, V, We, B, L, A>,
+    key: K,
+    value: V,
+    soft: bool,
+    state: &mut L::RequestState,
+) -> Reply<K, V, M>
+    // Where pinning is steady, the call is a step of its definition.
+    ensures step { L.steady cache.old.lifecycle → (answers : F → K → V → Bool)
+        → IsMade
+        (rules_of no_touches K.Hash.hash_input We.Weighter B.BuildHasher B.Hasher.Hasher
+        L.Lifecycle cache.old)
+        K.eq K.is_clone V.is_clone answers (hooks_of L.Lifecycle cache.old) cache.old.state
+        state.old (Call.Replace key value soft) result cache.new.state state.new }
+    ensures same { cache.new ≡ record cache.old {
+      state = cache.new.state;
+      room = cache.new.room;
+      work = cache.new.work;
+    } }
+{
+    match cache.replace_with_lifecycle(key, value, soft, state) {
+        Ok(()) => Reply::Done,
+        Err((key, value)) => Reply::NotAdmitted(key, value),
+    }
+}
+
+/// Writes a value through `get_mut`.
+pub(crate) fn set<
+    F,
+    M: Allocator,
+    K: Eq + Hash + Clone + Drop,
+    V: Clone + Drop,
+    We: Weighter<K, V>,
+    B: BuildHasher,
+    L: Lifecycle<K, V>,
+    A: Allocator,
+>(cache: &mut Cache<K, V, We, B, L, A>, key: K, value: V) -> Reply<K, V, M>
+    ensures step { (answers : F → K → V → Bool) → CacheStep
+        (rules_of no_touches K.Hash.hash_input We.Weighter B.BuildHasher B.Hasher.Hasher
+        L.Lifecycle cache.old)
+        K.eq K.is_clone V.is_clone answers cache.old.state (Call.GetMut key value) result []
+        cache.new.state }
+    ensures same { cache.new ≡ record cache.old { state = cache.new.state } }
+{
+    Reply::Flag(write_to_found(cache, &key, value))
+}
+
+/// Writes a value through `peek_mut`.
+pub(crate) fn poke<
+    F,
+    M: Allocator,
+    K: Eq + Hash + Clone + Drop,
+    V: Clone + Drop,
+    We: Weighter<K, V>,
+    B: BuildHasher,
+    L: Lifecycle<K, V>,
+    A: Allocator,
+>(cache: &mut Cache<K, V, We, B, L, A>, key: K, value: V) -> Reply<K, V, M>
+    ensures step { (answers : F → K → V → Bool) → CacheStep
+        (rules_of no_touches K.Hash.hash_input We.Weighter B.BuildHasher B.Hasher.Hasher
+        L.Lifecycle cache.old)
+        K.eq K.is_clone V.is_clone answers cache.old.state (Call.PeekMut key value) result []
+        cache.new.state }
+    ensures same { cache.new ≡ record cache.old { state = cache.new.state } }
+{
+    Reply::Flag(write_to_peeked(cache, &key, value))
+}
