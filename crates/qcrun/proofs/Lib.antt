@@ -1,6 +1,4 @@
-pub mod CommandLemmas
 pub mod EventLemmas
-pub mod LineLemmas
 pub mod PrintLemmas
 pub mod RunLemmas
 pub mod SessionLemmas

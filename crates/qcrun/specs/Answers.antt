@@ -9,7 +9,7 @@ use Rattle.quick_cache_calls.specs.declared.reply.Reply.TheVariants as reply
 use Rattle.qcrun.specs.declared.reply.Answer.{Answer}
 use Rattle.qcrun.specs.declared.reply.Answer.TheVariants.{Done, Value, Pair, NotAdmitted}
 use Rattle.qcrun.specs.declared.reply.Answer.TheVariants.{Nothing, Reads, LookUps, Loaded, NotKept}
-use Rattle.qcrun.specs.declared.reply.Answer.TheVariants.{Failed, Filled, Dropped, Refused}
+use Rattle.qcrun.specs.declared.reply.Answer.TheVariants.{Failed, Filled, Dropped, Refused, Fault}
 
 -- The answer that stands for a reply. Of a pair that comes back for a refusal the reason is told.
 abbrev pub answer_of : Reply ℕ ℕ Global → Answer
@@ -58,3 +58,4 @@ text_of Failed = codes "error"
 text_of Filled = codes "filled"
 text_of Dropped = codes "dropped"
 text_of (Refused refusal) = codes "refused " ++ word_of refusal
+text_of (Fault text) = codes "options: " ++ text

@@ -1,8 +1,6 @@
 pub mod Answers
-pub mod Commands
 pub mod Events
 pub mod Kinds
-pub mod Lines
 pub mod Printed
 pub mod Remainder
 pub mod Runs

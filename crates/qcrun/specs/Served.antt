@@ -11,11 +11,12 @@ use Rattle.quick_cache_calls.specs.declared.call.Call.{Call}
 use Rattle.quick_cache_calls.specs.declared.call.Call.TheVariants as call
 use Rattle.quick_cache_calls.specs.declared.reply.Reply.{Reply}
 use Rattle.quick_cache_calls.specs.declared.reply.Reply.TheVariants as reply
-use Rattle.qcrun.specs.declared.command.Command.{Command}
-use Rattle.qcrun.specs.declared.command.Command.TheVariants.{Cache, Insert, Replace, Soft, Get}
-use Rattle.qcrun.specs.declared.command.Command.TheVariants.{Peek, Remove, RemoveIf, Set, Poke}
-use Rattle.qcrun.specs.declared.command.Command.TheVariants.{Load, Fail, Guard, Drop, Stats}
-use Rattle.qcrun.specs.declared.command.Command.TheVariants.{Clear, Capacity, Hits, Show}
+use Rattle.qcrun_commands.specs.declared.command.Command.{Command}
+use Rattle.qcrun_commands.specs.declared.command.Command.TheVariants.{Cache, CacheWithShares}
+use Rattle.qcrun_commands.specs.declared.command.Command.TheVariants.{Insert, Replace, Soft, Get}
+use Rattle.qcrun_commands.specs.declared.command.Command.TheVariants.{Peek, Remove, RemoveIf, Set, Poke}
+use Rattle.qcrun_commands.specs.declared.command.Command.TheVariants.{Load, Fail, Guard, Drop, Stats}
+use Rattle.qcrun_commands.specs.declared.command.Command.TheVariants.{Clear, Capacity, Hits, Show}
 
 -- a predicate is the value that passes it
 abbrev pub is_wanted : (wanted key value : ℕ) → Bool
@@ -24,6 +25,7 @@ is_wanted wanted key value = value == wanted
 -- the call that a command asks for, unless it asks for a new cache or to show the one that stands
 abbrev pub call_of : Command → Option (Call ℕ ℕ ℕ)
 call_of (Cache items weight) = None
+call_of (CacheWithShares items weight hot ghosts) = None
 call_of (Insert key value) = Some (call.Insert key value)
 call_of (Replace key value) = Some (call.Replace key value false)
 call_of (Soft key value) = Some (call.Replace key value true)

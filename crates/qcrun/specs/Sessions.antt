@@ -5,13 +5,13 @@ use Rattle.quick_cache_model.specs.declared.refusal.Refusal.TheVariants.{Memory}
 use Rattle.quick_cache_model.specs.CacheState.{CacheState, empty_state}
 use Rattle.quick_cache_model.specs.Hooks.{Rules, HookCall}
 use Rattle.quick_cache_model.specs.Sizes.{hot_target_of, ghost_limit_of}
-use Rattle.quick_cache_model.specs.Sizes.{default_hot_share, default_ghost_share}
+use Rattle.quick_cache_base.specs.Options.{Choices, Settings, no_choices, settings_of, first_error}
 use Rattle.quick_cache_shard.specs.Shard.{Shard}
 use Rattle.quick_cache_calls.specs.declared.reply.Reply.{Reply}
-use Rattle.qcrun.specs.declared.command.Command.{Command}
-use Rattle.qcrun.specs.declared.command.Command.TheVariants.{Cache, Show}
+use Rattle.qcrun_commands.specs.declared.command.Command.{Command}
+use Rattle.qcrun_commands.specs.declared.command.Command.TheVariants.{Cache, CacheWithShares, Show}
 use Rattle.qcrun.specs.declared.reply.Answer.{Answer}
-use Rattle.qcrun.specs.declared.reply.Answer.TheVariants.{Done, Refused}
+use Rattle.qcrun.specs.declared.reply.Answer.TheVariants.{Done, Refused, Fault}
 use Rattle.qcrun.specs.declared.session.Outcome.{Outcome}
 use Rattle.qcrun.specs.declared.session.Outcome.TheVariants.{Answered, Shows, NoCache}
 use Rattle.qcrun.specs.declared.events.Event.{Event}
@@ -20,20 +20,38 @@ use Rattle.qcrun.specs.Events.{LeavesByKind, TellsOf}
 use Rattle.qcrun.specs.Served.{ServesAsked}
 use Rattle.qcrun.specs.Still.{AreStill}
 
--- an empty cache for so many items and so much weight, with the default shares
-abbrev pub new_state : (items weight : ℕ) → CacheState ℕ ℕ
-new_state items weight =
-    empty_state weight (hot_target_of weight default_hot_share)
-    (ghost_limit_of items default_ghost_share)
+-- the numbers that the cache of a command is to be made with, if it asks for a new one; shares that
+-- it does not tell are not set
+abbrev pub choices_of : Command → Option Choices
+choices_of (Cache items weight) = Some (record no_choices {
+  estimated_items_capacity = Some items;
+  weight_capacity = Some weight;
+})
+choices_of (CacheWithShares items weight hot ghosts) = Some (record no_choices {
+  estimated_items_capacity = Some items;
+  weight_capacity = Some weight;
+  hot_allocation = Some hot;
+  ghost_allocation = Some ghosts;
+})
+choices_of _ = None
+
+-- an empty cache of these sizes and shares
+abbrev pub new_state : Settings → CacheState ℕ ℕ
+new_state settings =
+    empty_state settings.weight_capacity
+    (hot_target_of settings.weight_capacity settings.hot_allocation)
+    (ghost_limit_of settings.estimated_items_capacity settings.ghost_allocation)
 
 module _ {We B L : Type 0} where
   -- An empty cache stands in the place of the old one, or there was no memory and the old one
-  -- stands.
-  pub data MakesCache (items weight : ℕ) (old : Option (Shard ℕ ℕ We B L))
+  -- stands. Where a number is out of range the first fault is told, and no cache stands.
+  pub data MakesCache (choices : Choices) (old : Option (Shard ℕ ℕ We B L))
       : Answer → Option (Shard ℕ ℕ We B L) → Type 0 where
-    makes : (cache : Shard ℕ ℕ We B L) → cache.state ≡ new_state items weight
-        → MakesCache items weight old Done (Some cache)
-    lacks_memory : MakesCache items weight old (Refused Memory) old
+    makes : (cache : Shard ℕ ℕ We B L) → first_error choices ≡ None
+        → cache.state ≡ new_state (settings_of choices) → MakesCache choices old Done (Some cache)
+    lacks_memory : first_error choices ≡ None → MakesCache choices old (Refused Memory) old
+    has_fault : (text : List ℕ) → first_error choices ≡ Some text
+        → MakesCache choices old (Fault text) None
 
 module _ {A : Type 0} where
   -- What becomes of `show`: the items of weight 0 are put in order, or there was no memory for
@@ -48,10 +66,10 @@ module _ {We B L A : Type 0} where
   -- those of the hook calls, each of which leaves a value what its kind has left.
   pub data ServesCommand (rules : Shard ℕ ℕ We B L → Rules ℕ ℕ)
       : Option (Shard ℕ ℕ We B L) → Command → Outcome A → Option (Shard ℕ ℕ We B L) → Type 0 where
-    makes_cache : (items weight : ℕ) (old new : Option (Shard ℕ ℕ We B L)) (answer : Answer)
-        (events : Option (Vec Event A))
-        → MakesCache items weight old answer new → TellsOf [] events
-        → ServesCommand rules old (Cache items weight) (Answered events answer) new
+    makes_cache : (choices : Choices) (old new : Option (Shard ℕ ℕ We B L)) (command : Command)
+        (answer : Answer) (events : Option (Vec Event A)) → choices_of command ≡ Some choices
+        → MakesCache choices old answer new → TellsOf [] events
+        → ServesCommand rules old command (Answered events answer) new
     makes_call : (cache new : Shard ℕ ℕ We B L) (command : Command)
         (reply : Reply ℕ ℕ Global) (hook_calls : List (HookCall ℕ ℕ)) (events : Option (Vec Event A))
         → new ≡ record cache { state = new.state; room = new.room; work = new.work }
@@ -60,6 +78,5 @@ module _ {We B L A : Type 0} where
         → ServesCommand rules (Some cache) command (Answered events (answer_of reply)) (Some new)
     shows_cache : (cache : Shard ℕ ℕ We B L) (outcome : Outcome A) → ShowsCache cache.state outcome
         → ServesCommand rules (Some cache) Show outcome (Some cache)
-    lacks_cache : (command : Command)
-        → ((items weight : ℕ) → command ≡ Cache items weight → ⊥)
+    lacks_cache : (command : Command) → choices_of command ≡ None
         → ServesCommand rules None command NoCache None

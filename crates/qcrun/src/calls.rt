@@ -7,11 +7,11 @@ ghost use Rattle.quick_cache_shard.specs.Shard.{rules_of, hooks_of, UpToOrder};
 ghost use Rattle.quick_cache_unsync.specs.Touches.{no_touches};
 ghost use Rattle.qcrun.specs.Served.{Serves, ServesAsked, call_of, is_wanted, numbers_of};
 
-use crate::command::Command;
 use crate::events::Events;
 use crate::hash::{RemainderBuilder, RemainderHasher};
 use crate::kinds::{ByKind, LastDigits};
 use crate::session::NumberCache;
+use qcrun_commands::Command;
 use quick_cache_calls::{Call, Reply};
 use quick_cache_model::{Lifecycle, Weighter};
 use quick_cache_unsync::{poke, set};
@@ -213,6 +213,6 @@ pub fn make_call<A: Allocator>(
             Reply::Done
         }
         Command::Hits => count(cache),
-        Command::Cache(..) | Command::Show => unreachable!(),
+        Command::Cache(..) | Command::CacheWithShares(..) | Command::Show => unreachable!(),
     }
 }

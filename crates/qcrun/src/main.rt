@@ -2,11 +2,12 @@
 #![tactic(auto)]
 
 mod calls;
-mod command;
 mod events;
 mod hash;
 mod kinds;
-mod lines;
+#[cfg(test)]
+mod option_tests;
+mod options;
 mod print;
 mod reply;
 mod serve;

@@ -2,12 +2,13 @@
 ghost use Rattle.std.specs.Prelude.{◌≡◌, Some};
 ghost use Rattle.qcrun.specs.Answers.{answer_of, text_of};
 
+use quick_cache_base::options::Error;
 use quick_cache_calls::Reply;
 use quick_cache_model::Refusal;
 use std::fmt::{self, Display, Formatter, Write};
 
 /// The printed answer to a command.
-#[derive(Debug, Clone, Copy, PartialEq, Eq)]
+#[derive(Debug, Drop)]
 pub enum Answer {
     /// `ok`
     Done,
@@ -35,6 +36,8 @@ pub enum Answer {
     Dropped,
     /// `refused` and why.
     Refused(Refusal),
+    /// `options: ` and what is wrong with them.
+    Fault(Error),
 }
 
 impl From<Reply<u64, u64>> for Answer {
@@ -88,6 +91,7 @@ impl Display for Answer {
             Answer::Refused(Refusal::SlotsFull) => f.write_str("refused slots"),
             Answer::Refused(Refusal::TicketsSpent) => f.write_str("refused tickets"),
             Answer::Refused(Refusal::Finished) => f.write_str("refused finished"),
+            Answer::Fault(error) => write!(f, "options: {error}"),
         }
     }
 }

@@ -4,21 +4,18 @@ ghost use Rattle.std.specs.Prelude.{◌≡◌, ℕ, Bool, List, None, IfOk, OnOk
 ghost use Rattle.std.specs.Process.{exit_status};
 ghost use Rattle.quick_cache_shard.specs.Shard.{rules_of};
 ghost use Rattle.quick_cache_unsync.specs.Touches.{no_touches};
-ghost use Rattle.qcrun.specs.Commands.{IsLineOf, IsOkExactly};
 ghost use Rattle.qcrun.specs.Runs.{PrintsLine, ServesKnown, ServesLine, bad_line, status_of};
 
-use crate::command::{Command, NotACommand};
 use crate::hash::{RemainderBuilder, RemainderHasher};
 use crate::kinds::{ByKind, LastDigits};
-use crate::lines::{Line, read_line};
 use crate::print::print;
 use crate::session::{Outcome, Session};
+use qcrun_commands::{Line, command_of, read_line};
 use quick_cache_model::{Lifecycle, Weighter};
 use std::alloc::Allocator;
 use std::hash::{BuildHasher, Hash, Hasher};
 use std::io::{self, BufReader, ErrorKind, Read, Write};
 use std::process::ExitCode;
-use std::str::from_utf8;
 
 /// How serving came to its end.
 #[derive(Debug, Clone, Copy, PartialEq, Eq)]
@@ -122,14 +119,4 @@ fn tell_bad_line<W: Write>(number: u64, writer: &mut W) -> io::Result<Ending>
 {
     writeln!(writer, "bad line {number}")?;
     Ok(Ending::BadLine)
-}
-
-/// The command of a line, which is text.
-fn command_of(line: &[u8]) -> Result<Command, NotACommand>
-    ensures { IsOkExactly result (IsLineOf line.now) }
-{
-    match from_utf8(line) {
-        Ok(text) => text.parse(),
-        Err(_) => Err(NotACommand),
-    }
 }

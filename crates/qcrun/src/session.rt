@@ -5,12 +5,14 @@ ghost use Rattle.quick_cache_unsync.specs.Touches.{no_touches};
 ghost use Rattle.qcrun.specs.Sessions.{MakesCache, ServesCommand, ShowsCache};
 
 use crate::calls::make_call;
-use crate::command::Command;
 use crate::events::Events;
 use crate::hash::{RemainderBuilder, RemainderHasher};
 use crate::kinds::{ByKind, LastDigits};
+use crate::options::options_of;
 use crate::reply::Answer;
 use crate::still::still;
+use qcrun_commands::Command;
+use quick_cache_base::options::OptionsBuilder;
 use quick_cache_model::{Lifecycle, Refusal, Weighter};
 use quick_cache_unsync::Cache;
 use std::alloc::Allocator;
@@ -64,8 +66,8 @@ impl<A: Allocator + Copy> Session<A> {
             self.old.cache command result self.new.cache }
     {
         let mut events = Some(Vec::new(self.alloc));
-        if let Command::Cache(items, weight) = command {
-            return Outcome::Answered(events, self.make_cache(items, weight));
+        if let Some(options) = options_of(command) {
+            return Outcome::Answered(events, self.make_cache(&options));
         }
         let Some(cache) = &mut self.cache else {
             return Outcome::NoCache;
@@ -84,15 +86,21 @@ impl<A: Allocator + Copy> Session<A> {
         self.cache.as_ref()
     }
 
-    /// Puts an empty cache in the place of the one that stood, which stays where there is no
-    /// memory.
-    fn make_cache(&mut self, items: usize, weight: u64) -> Answer
-        ensures makes { MakesCache items weight self.old.cache result self.new.cache }
+    /// Puts an empty cache of these options in the place of the one that stood, which stays where
+    /// there is no memory. Where the options have a fault, none stands.
+    fn make_cache(&mut self, options: &OptionsBuilder) -> Answer
+        ensures makes { MakesCache options.now self.old.cache result self.new.cache }
     {
-        let made = Cache::with(
+        let options = match options.build() {
+            Ok(options) => options,
+            Err(error) => {
+                self.cache = None;
+                return Answer::Fault(error);
+            }
+        };
+        let made = Cache::with_options(
             self.alloc,
-            items,
-            weight,
+            options,
             LastDigits,
             RemainderBuilder,
             ByKind::new(),

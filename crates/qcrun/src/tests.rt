@@ -8,7 +8,7 @@ use std::process::{Abort, ExitCode};
 use std::test::Fail;
 
 /// Serves a script, and checks what is written and the status.
-fn check(rt: &impl Abort, alloc: Global, script: &[u8], wanted: &str, status: u8) {
+pub fn check(rt: &impl Abort, alloc: Global, script: &[u8], wanted: &str, status: u8) {
     let mut written = Vec::new(alloc);
     let ended = serve(alloc, script, &mut written);
     assert_eq!(rt; ended, ExitCode::from(status));
@@ -74,7 +74,7 @@ fn scripts_print_their_replies(rt: HostRuntime) {
 }
 
 /// Serves scripts that end well, and checks what is written.
-fn check_all(rt: &impl Abort, alloc: Global, scripts: &[(&str, &str)]) {
+pub fn check_all(rt: &impl Abort, alloc: Global, scripts: &[(&str, &str)]) {
     for (script, wanted) in scripts {
         check(rt, alloc, script.as_bytes(), wanted, 0);
     }
@@ -182,7 +182,7 @@ fn values_are_loaded(rt: HostRuntime) {
 #[test]
 fn a_bad_line_ends_the_script(rt: HostRuntime) {
     check(&rt, rt.alloc(), b"get 1\n", "bad line 1\n", 2);
-    let lines: [&str; 18] = [
+    let lines: [&str; 20] = [
         "get 1\r",
         "\r",
         "get  1",
@@ -194,7 +194,9 @@ fn a_bad_line_ends_the_script(rt: HostRuntime) {
         "get 000000000000000000001",
         "get 18446744073709551616",
         "show all",
-        "cache 1 1 1 1",
+        "cache 1 1 1",
+        "cache 1 1 1 1 1",
+        "insert 1 1 1 1",
         "replace 1",
         "removeif 1",
         "stats",

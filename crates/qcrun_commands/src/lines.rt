@@ -1,6 +1,6 @@
 //! Lines of bytes, of a bounded length.
 ghost use Rattle.std.specs.Prelude.{IfOk};
-ghost use Rattle.qcrun.specs.Lines.{GivesByte, ReadsLine};
+ghost use Rattle.qcrun_commands.specs.Lines.{GivesByte, ReadsLine};
 
 use std::alloc::Allocator;
 use std::io::{self, ErrorKind, Read};

@@ -1,8 +1,8 @@
 use Rattle.std.proofs.Common.{List, ℕ, refl, subst}
-use Rattle.qcrun.specs.Commands.{IsLineOf, IsOkExactly}
-use Rattle.qcrun.proofs.CommandLemmas.{IsOkExactly-err}
-use Rattle.qcrun.proofs.LineLemmas.{IsUtf8-line}
-use Rattle.qcrun.proofs.serve.command_of.Goals as goal
+use Rattle.qcrun_commands.specs.Commands.{IsLineOf, IsOkExactly}
+use Rattle.qcrun_commands.proofs.CommandLemmas.{IsOkExactly-err}
+use Rattle.qcrun_commands.proofs.LineLemmas.{IsUtf8-line}
+use Rattle.qcrun_commands.proofs.command.command_of.Goals as goal
 
 -- the text is the line
 pub returns-in-Ok : goal.returns-in-Ok

@@ -1,6 +1,6 @@
 use Rattle.std.proofs.Common.{◌-◌, vec_len}
-use Rattle.qcrun.specs.Lines.{HasRead}
-use Rattle.qcrun.proofs.lines.read_line.Given as goal
+use Rattle.qcrun_commands.specs.Lines.{HasRead}
+use Rattle.qcrun_commands.proofs.lines.read_line.Given as goal
 
 -- what was read of the line stands in the buffer
 abbrev pub invariant-loop-reader : goal.invariant-loop-reader

@@ -1,18 +1,20 @@
 -- A line is split in one way, and it is the line of one command at most.
-use Rattle.std.proofs.Common.{◌≡◌, ◌≢◌, ◌<◌, ◌≤◌, ℕ, zero, suc, Bool, true, false, cond, eqb, List, [], ◌∷◌, ◌++◌, length, get_or, Result, Ok, Err, refl, sym, ap, ◌∙◌, subst, arith}
+use Rattle.std.proofs.Common.{◌≡◌, ◌≢◌, ◌<◌, ◌≤◌, ◌⊎◌, inl, inr, ⊎_elim, ℕ, zero, suc, Bool, true, false, cond, eqb, List, [], ◌∷◌, ◌++◌, length, get_or, Result, Ok, Err, refl, sym, ap, ◌∙◌, subst, arith}
 use Rattle.std.proofs.Math.Seq.{get_or-append_seam}
 use Rattle.std.proofs.lemmas.List.{append-nil, length-append}
 use Rattle.std.proofs.lemmas.Bool.{false≢true}
 use Rattle.std.specs.Char.{digit_value}
 use Rattle.std.specs.Prelude.{codes, IsErr}
 use Rattle.std.specs.Str.Parse.{AllDigits}
-use Rattle.qcrun.specs.Commands.{IsNumber, AreNumbers, HasNumbers, IsLineOf, IsOkExactly}
-use Rattle.qcrun.specs.Commands.{name_of, numbers_of}
-use Rattle.qcrun.specs.declared.command.Command.{Command}
-use Rattle.qcrun.specs.declared.command.Command.TheVariants.{Cache, Insert, Replace, Soft, Get}
-use Rattle.qcrun.specs.declared.command.Command.TheVariants.{Peek, Remove, RemoveIf, Set, Poke}
-use Rattle.qcrun.specs.declared.command.Command.TheVariants.{Load, Fail, Guard, Drop, Stats}
-use Rattle.qcrun.specs.declared.command.Command.TheVariants.{Clear, Capacity, Hits, Show}
+use Rattle.qcrun_commands.specs.Commands.{IsNumber, AreNumbers, HasMore, HasNumbers, IsLineOf}
+use Rattle.qcrun_commands.specs.Commands.{HasSharesInRange, IsOkExactly}
+use Rattle.qcrun_commands.specs.Commands.{name_of, numbers_of}
+use Rattle.qcrun_commands.specs.declared.command.Command.{Command}
+use Rattle.qcrun_commands.specs.declared.command.Command.TheVariants.{Cache, CacheWithShares}
+use Rattle.qcrun_commands.specs.declared.command.Command.TheVariants.{Insert, Replace, Soft, Get}
+use Rattle.qcrun_commands.specs.declared.command.Command.TheVariants.{Peek, Remove, RemoveIf, Set, Poke}
+use Rattle.qcrun_commands.specs.declared.command.Command.TheVariants.{Load, Fail, Guard, Drop, Stats}
+use Rattle.qcrun_commands.specs.declared.command.Command.TheVariants.{Clear, Capacity, Hits, Show}
 
 -- an answer of Ok, where P holds of its value alone, and one of Err, where P holds of none
 pub IsOkExactly-ok : {X E : Type 0} (P : X → Type 0) (value : X) → P value
@@ -103,6 +105,8 @@ LacksSpace-tested (c ∷ word) tested =
 -- no command's name has a space
 name_of-lacks_space : (command : Command) → LacksSpace (name_of command)
 name_of-lacks_space (Cache items weight) = LacksSpace-tested (codes "cache") refl
+name_of-lacks_space (CacheWithShares items weight hot ghost) =
+    LacksSpace-tested (codes "cache") refl
 name_of-lacks_space (Insert key value) = LacksSpace-tested (codes "insert") refl
 name_of-lacks_space (Replace key value) = LacksSpace-tested (codes "replace") refl
 name_of-lacks_space (Soft key value) = LacksSpace-tested (codes "soft") refl
@@ -122,27 +126,29 @@ name_of-lacks_space (Capacity weight) = LacksSpace-tested (codes "capacity") ref
 name_of-lacks_space Hits = LacksSpace-tested (codes "hits") refl
 name_of-lacks_space Show = LacksSpace-tested (codes "show") refl
 
--- it has two numbers at most
-numbers_of-few : (command : Command) → length (numbers_of command) ≤ 2
-numbers_of-few (Cache items weight) = omega arith
-numbers_of-few (Insert key value) = omega arith
-numbers_of-few (Replace key value) = omega arith
-numbers_of-few (Soft key value) = omega arith
-numbers_of-few (Get key) = omega arith
-numbers_of-few (Peek key) = omega arith
-numbers_of-few (Remove key) = omega arith
-numbers_of-few (RemoveIf key value) = omega arith
-numbers_of-few (Set key value) = omega arith
-numbers_of-few (Poke key value) = omega arith
-numbers_of-few (Load key value) = omega arith
-numbers_of-few (Fail key) = omega arith
-numbers_of-few (Guard key value) = omega arith
-numbers_of-few (Drop key) = omega arith
-numbers_of-few (Stats key) = omega arith
-numbers_of-few Clear = omega arith
-numbers_of-few (Capacity weight) = omega arith
-numbers_of-few Hits = omega arith
-numbers_of-few Show = omega arith
+-- it has two numbers at most, or four
+numbers_of-count : (command : Command)
+    → (length (numbers_of command) ≤ 2) ⊎ (length (numbers_of command) ≡ 4)
+numbers_of-count (Cache items weight) = inl (omega arith)
+numbers_of-count (CacheWithShares items weight hot ghost) = inr refl
+numbers_of-count (Insert key value) = inl (omega arith)
+numbers_of-count (Replace key value) = inl (omega arith)
+numbers_of-count (Soft key value) = inl (omega arith)
+numbers_of-count (Get key) = inl (omega arith)
+numbers_of-count (Peek key) = inl (omega arith)
+numbers_of-count (Remove key) = inl (omega arith)
+numbers_of-count (RemoveIf key value) = inl (omega arith)
+numbers_of-count (Set key value) = inl (omega arith)
+numbers_of-count (Poke key value) = inl (omega arith)
+numbers_of-count (Load key value) = inl (omega arith)
+numbers_of-count (Fail key) = inl (omega arith)
+numbers_of-count (Guard key value) = inl (omega arith)
+numbers_of-count (Drop key) = inl (omega arith)
+numbers_of-count (Stats key) = inl (omega arith)
+numbers_of-count Clear = inl (omega arith)
+numbers_of-count (Capacity weight) = inl (omega arith)
+numbers_of-count Hits = inl (omega arith)
+numbers_of-count Show = inl (omega arith)
 
 -- another way to say of which values an answer is Ok
 pub IsOkExactly-as : {X E : Type 0} (answer : Result X E) (P Q : X → Type 0)
@@ -157,11 +163,12 @@ pub IsLineOf-alone : (line : List ℕ) → LacksSpace line → (command : Comman
 IsLineOf-alone line lacks command is = go (numbers_of command) is.2
   where
     go : (numbers : List ℕ) → AreNumbers is.0 numbers
-        → (line ≡ name_of command) × ([] ≡ numbers)
+        → (line ≡ name_of command) × ([] ≡ numbers) × HasSharesInRange command
     go [] none = (
       is.1 ∙ ap (λ (words : List ℕ). name_of command ++ words) none
           ∙ append-nil (name_of command),
       refl,
+      is.3,
     )
     go (number ∷ numbers) are =
         absurd (spaced-has_space (name_of command) (are.0 ++ are.1)
@@ -174,6 +181,7 @@ HasNumbers-alone line command has = (
   [],
   has.0 ∙ sym (append-nil (name_of command)),
   subst (λ (numbers : List ℕ). AreNumbers [] numbers) has.1 refl,
+  has.2,
 )
 
 module _ (line name words : List ℕ) (split : line ≡ spaced name words) (lacks : LacksSpace name)
@@ -197,9 +205,10 @@ module _ (line name words : List ℕ) (split : line ≡ spaced name words) (lack
 
     -- and the other way round
     pub IsLineOf-joined : (command : Command) → name ≡ name_of command
-        → AreNumbers (32 ∷ words) (numbers_of command) → IsLineOf line command
-    IsLineOf-joined command named are =
-        (32 ∷ words, split ∙ ap (λ (n : List ℕ). spaced n words) named, are)
+        → AreNumbers (32 ∷ words) (numbers_of command) → HasSharesInRange command
+        → IsLineOf line command
+    IsLineOf-joined command named are range =
+        (32 ∷ words, split ∙ ap (λ (n : List ℕ). spaced n words) named, are, range)
 
 -- a number has no space
 pub IsNumber-lacks_space : (word : List ℕ) (number : ℕ) → IsNumber word number → LacksSpace word
@@ -255,26 +264,83 @@ module _ (words first second : List ℕ) (split : words ≡ spaced first second)
         refl,
       )
 
-  -- and two numbers stand there
-  pub AreNumbers-of_two : (one other : ℕ) → IsNumber first one → IsNumber second other
-      → AreNumbers (32 ∷ words) (one ∷ other ∷ [])
-  AreNumbers-of_two one other is also = (
-    first,
-    32 ∷ second,
-    is,
-    AreNumbers-of_one second other also,
-    ap (λ (more : List ℕ). 32 ∷ more) split,
-  )
+  -- and where numbers stand behind that word, so do they with its own
+  pub AreNumbers-more : (number : ℕ) (numbers : List ℕ) → IsNumber first number
+      → AreNumbers (32 ∷ second) numbers
+      → AreNumbers (32 ∷ words) (number ∷ numbers)
+  AreNumbers-more number numbers is are =
+      (first, 32 ∷ second, is, are, ap (λ (more : List ℕ). 32 ∷ more) split)
 
--- behind two words of a command's line stands nothing more
-pub AreNumbers-last : (words : List ℕ) (command : Command) (number : ℕ) (numbers : List ℕ)
-    → numbers_of command ≡ number ∷ numbers → AreNumbers (32 ∷ words) numbers
-    → (other : ℕ) × IsNumber words other × (numbers ≡ other ∷ [])
-AreNumbers-last words command number [] of are = absurd (omega (arith, ap length are))
-AreNumbers-last words command number (other ∷ []) of are =
+-- where one number may stand, the words are one
+pub AreNumbers-last : (words numbers : List ℕ) → length numbers ≤ 1
+    → AreNumbers (32 ∷ words) numbers
+    → (number : ℕ) × IsNumber words number × (numbers ≡ number ∷ [])
+AreNumbers-last words [] few are = absurd (omega (arith, ap length are))
+AreNumbers-last words (number ∷ []) few are =
     let tail : words ≡ are.0 ++ are.1 = cc in
     let same : words ≡ are.0 =
     tail ∙ ap (λ (rest : List ℕ). are.0 ++ rest) are.3 ∙ append-nil are.0 in
-    (other, subst (λ (word : List ℕ). IsNumber word other) (sym same) are.2, refl)
-AreNumbers-last words command number (other ∷ more ∷ numbers) of are =
-    absurd (omega (arith, ap length of, numbers_of-few command))
+    (number, subst (λ (word : List ℕ). IsNumber word number) (sym same) are.2, refl)
+AreNumbers-last words (number ∷ other ∷ numbers) few are = absurd (omega (arith, few))
+
+-- The words behind a first number are two or more.
+module _ (name : List ℕ) (first : ℕ) (words second shares : List ℕ)
+    (split : words ≡ spaced second shares) (lacks : LacksSpace second) where
+  -- the first of them is a second number
+  pub HasMore-second : (command : Command) → HasMore name first words command
+      → (number : ℕ) × IsNumber second number
+  HasMore-second command more =
+      let two = AreNumbers-two words second shares split lacks more.0 more.2 in
+      (two.0, two.2)
+
+  -- two words are not all of them
+  pub HasMore-not_two : LacksSpace shares → (command : Command) → HasMore name first words command
+      → ⊥
+  HasMore-not_two whole command more =
+      let two = AreNumbers-two words second shares split lacks more.0 more.2 in
+      let one = AreNumbers-one shares whole two.1 two.3 in
+      let count : length (numbers_of command) ≡ 3 =
+      ap length (sym more.1.1 ∙ ap (λ (ns : List ℕ). first ∷ ns) (two.4
+      ∙ ap (λ (ns : List ℕ). two.0 ∷ ns) one.2)) in
+      ⊎_elim (λ few. absurd (omega (arith, few, count)))
+      (λ four. absurd (omega (arith, four, count))) (numbers_of-count command)
+
+  -- and behind them stand two shares
+  module _ (hot ghost : List ℕ) (splits : shares ≡ spaced hot ghost) (lacks_too : LacksSpace hot)
+    where
+      pub HasMore-shares : (command : Command) → HasMore name first words command
+          → (a b c : ℕ) × IsNumber second a × IsNumber hot b × IsNumber ghost c
+          × HasNumbers name (first ∷ a ∷ b ∷ c ∷ []) command
+      HasMore-shares command more =
+          let two = AreNumbers-two words second shares split lacks more.0 more.2 in
+          let three = AreNumbers-two shares hot ghost splits lacks_too two.1 two.3 in
+          let of : numbers_of command ≡ first ∷ two.0 ∷ three.0 ∷ three.1 =
+          sym more.1.1 ∙ ap (λ (ns : List ℕ). first ∷ ns) (two.4
+          ∙ ap (λ (ns : List ℕ). two.0 ∷ ns) three.4) in
+          let few : length three.1 ≤ 1 =
+          ⊎_elim (λ few. omega (arith, few, ap length of)) (λ four. omega (arith, four, ap length of))
+          (numbers_of-count command) in
+          let last = AreNumbers-last ghost three.1 few three.3 in (
+            two.0,
+            three.0,
+            last.0,
+            two.2,
+            three.2,
+            last.1,
+            (
+              more.1.0,
+              sym (of ∙ ap (λ (ns : List ℕ). first ∷ two.0 ∷ three.0 ∷ ns) last.2),
+              more.1.2,
+            ),
+          )
+
+      pub HasMore-of_shares : (a b c : ℕ) → IsNumber second a → IsNumber hot b → IsNumber ghost c
+          → (command : Command) → HasNumbers name (first ∷ a ∷ b ∷ c ∷ []) command
+          → HasMore name first words command
+      HasMore-of_shares a b c is_a is_b is_c command has = (
+        a ∷ b ∷ c ∷ [],
+        has,
+        AreNumbers-more words second shares split lacks a (b ∷ c ∷ []) is_a
+            (AreNumbers-more shares hot ghost splits lacks_too b (c ∷ []) is_b
+            (AreNumbers-of_one ghost c is_c)),
+      )

@@ -1,12 +1,13 @@
 -- The lines that are commands.
-use Rattle.std.specs.Prelude.{◌≡◌, ◌↔◌, Result, Ok, ℕ, ◌^◌, ◌<◌, ◌≤◌, List, [], ◌∷◌, ◌++◌}
+use Rattle.std.specs.Prelude.{◌≡◌, ◌↔◌, ⊤, Result, Ok, ℕ, ◌^◌, ◌<◌, ◌≤◌, List, [], ◌∷◌, ◌++◌}
 use Rattle.std.specs.Prelude.{length, codes}
 use Rattle.std.specs.Str.Parse.{IsNumeral, digits_value}
-use Rattle.qcrun.specs.declared.command.Command.{Command}
-use Rattle.qcrun.specs.declared.command.Command.TheVariants.{Cache, Insert, Replace, Soft, Get}
-use Rattle.qcrun.specs.declared.command.Command.TheVariants.{Peek, Remove, RemoveIf, Set, Poke}
-use Rattle.qcrun.specs.declared.command.Command.TheVariants.{Load, Fail, Guard, Drop, Stats}
-use Rattle.qcrun.specs.declared.command.Command.TheVariants.{Clear, Capacity, Hits, Show}
+use Rattle.qcrun_commands.specs.declared.command.Command.{Command}
+use Rattle.qcrun_commands.specs.declared.command.Command.TheVariants.{Cache, CacheWithShares}
+use Rattle.qcrun_commands.specs.declared.command.Command.TheVariants.{Insert, Replace, Soft, Get}
+use Rattle.qcrun_commands.specs.declared.command.Command.TheVariants.{Peek, Remove, RemoveIf, Set, Poke}
+use Rattle.qcrun_commands.specs.declared.command.Command.TheVariants.{Load, Fail, Guard, Drop, Stats}
+use Rattle.qcrun_commands.specs.declared.command.Command.TheVariants.{Clear, Capacity, Hits, Show}
 
 -- one to twenty decimal digits, of at most the greatest u64
 abbrev pub IsNumeralInRange : List ℕ → Type 0
@@ -30,6 +31,7 @@ AreNumbers words (number ∷ numbers) = (word : List ℕ) × (rest : List ℕ) �
 -- the name of a command
 abbrev pub name_of : Command → List ℕ
 name_of (Cache items weight) = codes "cache"
+name_of (CacheWithShares items weight hot ghost) = codes "cache"
 name_of (Insert key value) = codes "insert"
 name_of (Replace key value) = codes "replace"
 name_of (Soft key value) = codes "soft"
@@ -52,6 +54,7 @@ name_of Show = codes "show"
 -- the numbers behind its name
 abbrev pub numbers_of : Command → List ℕ
 numbers_of (Cache items weight) = items ∷ weight ∷ []
+numbers_of (CacheWithShares items weight hot ghost) = items ∷ weight ∷ hot ∷ ghost ∷ []
 numbers_of (Insert key value) = key ∷ value ∷ []
 numbers_of (Replace key value) = key ∷ value ∷ []
 numbers_of (Soft key value) = key ∷ value ∷ []
@@ -71,11 +74,23 @@ numbers_of (Capacity weight) = weight ∷ []
 numbers_of Hits = []
 numbers_of Show = []
 
+-- a share is of at most the greatest u32
+abbrev pub HasSharesInRange : Command → Type 0
+HasSharesInRange (CacheWithShares items weight hot ghost) = (hot < 2 ^ 32) × (ghost < 2 ^ 32)
+HasSharesInRange _ = ⊤
+
 -- the command has this name, and these numbers
 abbrev pub HasNumbers : (name numbers : List ℕ) → Command → Type 0
 HasNumbers name numbers command = (name ≡ name_of command) × (numbers ≡ numbers_of command)
+    × HasSharesInRange command
+
+-- the command has this name and this first number, and words write the others, the first of them
+-- without a space before it
+abbrev pub HasMore : (name : List ℕ) → (first : ℕ) → (words : List ℕ) → Command → Type 0
+HasMore name first words command = (numbers : List ℕ) × HasNumbers name (first ∷ numbers) command
+    × AreNumbers (32 ∷ words) numbers
 
 -- the line of a command: its name, and its numbers behind it
 abbrev pub IsLineOf : List ℕ → Command → Type 0
 IsLineOf line command = (words : List ℕ) × (line ≡ name_of command ++ words)
-    × AreNumbers words (numbers_of command)
+    × AreNumbers words (numbers_of command) × HasSharesInRange command

@@ -1,5 +1,5 @@
 use Rattle.std.specs.Io.KnownBytes.{Keeps}
-use Rattle.qcrun.proofs.lines.next_byte.Given as goal
+use Rattle.qcrun_commands.proofs.lines.next_byte.Given as goal
 
 -- no byte was read yet
 abbrev pub invariant-loop : goal.invariant-loop

@@ -1,7 +1,7 @@
 -- The lines of a text, and what reading one leaves.
 use Rattle.std.specs.Prelude.{◌≡◌, ◌<◌, ⊤, ℕ, List, [], ◌∷◌, ◌++◌, length, Option, Some, None, All}
-use Rattle.qcrun.specs.declared.lines.Line.{Line}
-use Rattle.qcrun.specs.declared.lines.Line.TheVariants.{Whole, TooLong, End}
+use Rattle.qcrun_commands.specs.declared.lines.Line.{Line}
+use Rattle.qcrun_commands.specs.declared.lines.Line.TheVariants.{Whole, TooLong, End}
 
 -- not a line feed
 abbrev pub IsInLine : ℕ → Type 0

@@ -2,16 +2,19 @@
 ghost use Rattle.std.specs.Prelude.{[], ◌∷◌, Some, codes};
 ghost use Rattle.std.specs.Result.{OkIff};
 ghost use Rattle.std.specs.Str.Parse.{digits_value};
-ghost use Rattle.qcrun.specs.Commands.{HasNumbers, IsNumeralInRange, IsOkExactly};
+ghost use Rattle.qcrun_commands.specs.Commands.{HasMore, HasNumbers, IsLineOf, IsNumeralInRange, IsOkExactly};
 
 use std::fmt::{self, Display, Formatter, Write};
-use std::str::FromStr;
+use std::str::{FromStr, from_utf8};
 
 /// What a line asks for.
 #[derive(Debug, Clone, Copy, PartialEq, Eq)]
 pub enum Command {
     /// `cache ITEMS WEIGHT`: a new cache, in the place of the one that stood.
     Cache(usize, u64),
+    /// `cache ITEMS WEIGHT HOT GHOST`: the same, with these shares of hot items and of ghosts, in
+    /// parts per million.
+    CacheWithShares(usize, u64, u32, u32),
     /// `insert KEY VALUE`
     Insert(u64, u64),
     /// `replace KEY VALUE`
@@ -67,6 +70,9 @@ impl std::error::Error for NotACommand {}
 
 /// The most digits that a number has.
 const MOST_DIGITS: usize = 20;
+
+/// The greatest share that is read.
+const MOST_SHARE: u64 = 4294967295;
 
 /// The number that a word writes: one to twenty digits, of at most the greatest `u64`.
 fn number(word: &str) -> Result<u64, NotACommand>
@@ -127,10 +133,39 @@ fn with_numbers(name: &str, first: u64, second: u64) -> Result<Command, NotAComm
     }
 }
 
+/// The command of this name that has these numbers, the last two of them shares.
+fn with_shares(
+    name: &str,
+    items: u64,
+    weight: u64,
+    hot: u64,
+    ghosts: u64,
+) -> Result<Command, NotACommand>
+    ensures { IsOkExactly result (HasNumbers name.now (items ∷ weight ∷ hot ∷ ghosts ∷ [])) }
+{
+    if name != "cache" || hot > MOST_SHARE || ghosts > MOST_SHARE {
+        return Err(NotACommand);
+    }
+    Ok(Command::CacheWithShares(items as usize, weight, hot as u32, ghosts as u32))
+}
+
+/// The command of this name that has this number, and behind it those that these words write.
+fn with_more(name: &str, first: u64, words: &str) -> Result<Command, NotACommand>
+    ensures { IsOkExactly result (HasMore name.now first words.now) }
+{
+    let Some((second, shares)) = words.split_once(' ') else {
+        return with_numbers(name, first, number(words)?);
+    };
+    let Some((hot, ghosts)) = shares.split_once(' ') else {
+        return Err(NotACommand);
+    };
+    with_shares(name, first, number(second)?, number(hot)?, number(ghosts)?)
+}
+
 impl FromStr for Command {
     type Err = NotACommand;
 
-    ghost use Rattle.qcrun.specs.Commands.{IsLineOf, IsOkExactly};
+    ghost use Rattle.qcrun_commands.specs.Commands.{IsLineOf, IsOkExactly};
 
     ghost from_str_gives = { λ line answer. IsOkExactly answer (IsLineOf line) };
 
@@ -138,9 +173,23 @@ impl FromStr for Command {
         let Some((name, words)) = line.split_once(' ') else {
             return alone(line);
         };
-        let Some((first, second)) = words.split_once(' ') else {
+        let Some((first, more)) = words.split_once(' ') else {
             return with_number(name, number(words)?);
         };
-        with_numbers(name, number(first)?, number(second)?)
+        with_more(name, number(first)?, more)
+    }
+}
+
+/// The command of a line, which is text.
+///
+/// # Errors
+///
+/// The line is that of no command.
+pub fn command_of(line: &[u8]) -> Result<Command, NotACommand>
+    ensures { IsOkExactly result (IsLineOf line.now) }
+{
+    match from_utf8(line) {
+        Ok(text) => text.parse(),
+        Err(_) => Err(NotACommand),
     }
 }

@@ -1,0 +1,30 @@
+//! The options that a command asks for a new cache with.
+ghost use Rattle.std.specs.Prelude.{◌≡◌};
+ghost use Rattle.qcrun.specs.Sessions.{choices_of};
+
+use qcrun_commands::Command;
+use quick_cache_base::options::OptionsBuilder;
+
+/// The options of the cache that a command asks for, if it asks for one.
+pub fn options_of(command: Command) -> Option<OptionsBuilder>
+    ensures { result ≡ choices_of command }
+{
+    let mut options = OptionsBuilder::new();
+    match command {
+        Command::Cache(items, weight) => {
+            options
+                .estimated_items_capacity(items)
+                .weight_capacity(weight);
+            Some(options)
+        }
+        Command::CacheWithShares(items, weight, hot, ghosts) => {
+            options
+                .estimated_items_capacity(items)
+                .weight_capacity(weight)
+                .hot_allocation(hot)
+                .ghost_allocation(ghosts);
+            Some(options)
+        }
+        _ => None,
+    }
+}
