@@ -4,3 +4,4 @@ pub mod FitRemovals
 pub mod GetLemmas
 pub mod PeekLemmas
 pub mod SumLemmas
+pub mod TryLemmas
