@@ -12,7 +12,7 @@ use Rattle.quick_cache_lists.specs.declared.entry.Entry.{Entry}
 use Rattle.quick_cache_lists.specs.declared.entry.Entry.TheVariants.{Item as item_variant, Loading as loading_variant, Ghost as ghost_variant}
 use Rattle.quick_cache_lists.specs.declared.entry.Slot.{Slot}
 use Rattle.quick_cache_lists.specs.declared.ring.Ring.{Ring}
-use Rattle.quick_cache_lists.specs.Lists.{HeldItem, HeldLoading, HeldGhost, StandsIn, HasNoItem, HasNoKey, HasNothing, FindsItem, FindsLoading}
+use Rattle.quick_cache_lists.specs.Lists.{HeldItem, HeldLoading, HeldGhost, StandsIn, HasNoItem, HasNoKey, HasNothing, FindsItem, FindsItemOfAnyHash, FindsLoading}
 use Rattle.quick_cache_lists.specs.Slots.{has_hash, item_of, if_still, still_of, loading_of, ghost_of, is_under_at, is_item_under_at, is_ghost_at, is_item_at}
 use Rattle.quick_cache_lists.specs.Sound.{gather, upto, tokens_of, lists_of, IsKeyed, IsStanding, IsWalked, PassesNoItem}
 use Rattle.quick_cache_lists.proofs.GatherLemmas.{gather-all}
@@ -83,7 +83,7 @@ module _ {K V P T : Type 0} where
       by_entry hash ghost_variant e = absurd (cc)
 
   -- what has an item under the query is an item, and is under it
-  pub item_under-is : (stands_for : K → Bool) (o : Option (Slot K V P T))
+  item_under-is : (stands_for : K → Bool) (o : Option (Slot K V P T))
       → is_item_under_at stands_for o ≡ true
       → (is_under_at stands_for o ≡ true) × (is_item_at o ≡ true)
   item_under-is stands_for None is = absurd (true≢false (sym is))
@@ -292,6 +292,18 @@ module _ {K V P T : Type 0} where
             (record { token = t; hash = hash })
         by_slot None at same is = absurd (true≢false (sym is))
         by_slot (Some slot) at same is = by_entry slot.hash slot.entry at same is
+
+  -- an item under the query, whose token the table has, is found under its hash there
+  pub FindsItemOfAnyHash-from : (slab : LinkedSlab (Slot K V P T)) (table : Table)
+      (hot cold ghosts : Ring) → IsStanding slab hot cold ghosts → IsKeyed slab table
+      → (stands_for : K → Bool) (t : ℕ) → HasToken table t
+      → is_item_under_at stands_for (item_at slab t) ≡ true
+      → FindsItemOfAnyHash stands_for (lists_of slab table hot cold ghosts) t
+  FindsItemOfAnyHash-from slab table hot cold ghosts sound keyed stands_for t (hash, has) passes =
+      let is = item_under-is stands_for (item_at slab t) passes in (
+        hash,
+        FindsItem-from slab table hot cold ghosts sound keyed stands_for hash t has is.0 is.1,
+      )
 
   module _ (slab : LinkedSlab (Slot K V P T)) (table : Table) (hash : ℕ)
       (stands_for : K → Bool) where

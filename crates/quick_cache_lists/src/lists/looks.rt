@@ -2,14 +2,35 @@
 ghost use Rattle.std.specs.Prelude.{◌≡◌, MatchOption};
 ghost use Rattle.std.specs.Int.NonZero.{non_zero_u32_get as number};
 ghost use Rattle.quick_cache_model.specs.CacheState.{ring_place};
+ghost use Rattle.quick_cache_slab.specs.LinkedSlab.{IsOccupied, item_at};
+ghost use Rattle.quick_cache_lists.specs.Slots.{is_item_under_at};
 ghost use Rattle.quick_cache_lists.specs.Lists.{Finds, FindsItemOfAnyHash, HasNoItem, HasItemToken, IsItemOf, HasLoadingToken, IsAwaitedOf, HasRingToken, next_in_ring, IsFirstAbove, number_or_zero, IsFirstOf, items_at};
 
 use crate::found::Found;
 use crate::lists::Lists;
 use crate::refs::{AwaitedRef, ItemRef};
+use crate::stored::Stored;
 use quick_cache_model::{Equivalent, Queue, Token};
+use quick_cache_slab::LinkedSlab;
 use std::alloc::Allocator;
 use std::hash::Hash;
+
+/// Whether an item for whose key the query stands is in the slot of a token.
+#[inline(always)]
+fn is_item_under<K, V, P, T, A: Allocator, Q: Equivalent<K>>(
+    slab: &LinkedSlab<Stored<K, V, P, T>, A>,
+    token: Token,
+    query: &Q,
+) -> bool
+where
+    K: Eq + Hash,
+    requires { IsOccupied slab.now (number token) }
+    ensures { result ≡ is_item_under_at (Q.equivalent query.now)
+        (item_at slab.now (number token)) }
+{
+    let (slot, _) = unsafe { slab.get_unchecked(token) };
+    slot.is_item_under(query)
+}
 
 impl<K, V, P, T, A: Allocator> Lists<K, V, P, T, A> {
     /// The item or the placeholder of that hash whose key the query stands for; else some ghost of
@@ -42,7 +63,7 @@ impl<K, V, P, T, A: Allocator> Lists<K, V, P, T, A> {
     /// An item whose key the query stands for, or nothing where none has that hash. It looks among
     /// the entries that may be of the hash, and compares keys alone: the caller knows which hash
     /// such a key has.
-    #[inline]
+    #[inline(always)]
     pub fn find_item<Q: Equivalent<K>>(&self, hash: u64, query: &Q) -> Option<Token>
     where
         K: Eq + Hash,
@@ -50,9 +71,16 @@ impl<K, V, P, T, A: Allocator> Lists<K, V, P, T, A> {
             (HasNoItem (Q.equivalent query.now) hash self.now)
             (λ token. FindsItemOfAnyHash (Q.equivalent query.now) self.now (number token)) }
     {
-        for token in self.table.candidates(hash) {
-            let (slot, _) = unsafe { self.slab.get_unchecked(token) };
-            if slot.is_item_under(query) {
+        let mut tokens = self.table.candidates(hash);
+        // The first is nearly always the one, and apart from the rest it takes fewer instructions.
+        let Some(first) = tokens.next() else {
+            return None;
+        };
+        if is_item_under(&self.slab, first, query) {
+            return Some(first);
+        }
+        for token in tokens {
+            if is_item_under(&self.slab, token, query) {
                 return Some(token);
             }
         }

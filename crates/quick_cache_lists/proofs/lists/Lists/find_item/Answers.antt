@@ -1,50 +1,78 @@
 use Rattle.std.proofs.Common.{◌∙◌, sym, ap, subst}
 use Rattle.std.specs.Int.NonZero.{non_zero_u32_get as number}
-use Rattle.quick_cache_lists.specs.Slots.{is_item_under_at}
 use Rattle.quick_cache_lists.specs.Sound.{PassesNoItem}
-use Rattle.quick_cache_lists.proofs.FindLemmas.{occupied_by_pair, item_under-is, FindsItem-from, HasNoItem-from, PassesNoItem-start, PassesNoItem-past, PassesNoItem-has, PassesNoItem-none}
+use Rattle.quick_cache_lists.proofs.FindLemmas.{occupied_by_pair, FindsItemOfAnyHash-from, HasNoItem-from, PassesNoItem-start, PassesNoItem-past, PassesNoItem-has, PassesNoItem-none}
 use Rattle.quick_cache_lists.proofs.lists.Lists.find_item.Goals as goal
 
+-- there was no candidate
+pub returns-in_default : goal.returns-in_default
+returns-in_default g c =
+    let i = c.self.inside in
+    let stands_for = g.Q.Equivalent.equivalent c.args.query.now in
+    rw (← c.self.view_is) (HasNoItem-from i.slab i.table i.rings.hot i.rings.cold i.rings.ghosts
+    c.self.invariant.standing c.self.invariant.keyed _ c.args.hash
+    (PassesNoItem-none i.slab i.table c.args.hash _ _ c.in_default.ensures.steps.0
+    (PassesNoItem-start i.slab i.table c.args.hash stands_for _ c.candidates-tokens.ensures)))
+
+pub is_item_under-requires : goal.is_item_under-requires
+is_item_under-requires g c =
+    let i = c.self.inside in
+    let stands_for = g.Q.Equivalent.equivalent c.args.query.now in
+    let has = PassesNoItem-has i.slab i.table c.args.hash stands_for _ _ c.in-Some.first
+    c.in-Some.ensures.steps
+    (PassesNoItem-start i.slab i.table c.args.hash stands_for _ c.candidates-tokens.ensures) in
+    occupied_by_pair i.slab i.table c.self.invariant.keyed has.0 (number c.in-Some.first) has.1
+
+-- the first candidate is the item
+pub returns-then-is_item_under : goal.returns-then-is_item_under
+returns-then-is_item_under g c =
+    let i = c.self.inside in
+    let stands_for = g.Q.Equivalent.equivalent c.args.query.now in
+    let has = PassesNoItem-has i.slab i.table c.args.hash stands_for _ _ c.in-Some.first
+    c.in-Some.ensures.steps
+    (PassesNoItem-start i.slab i.table c.args.hash stands_for _ c.candidates-tokens.ensures) in
+    rw (← c.self.view_is) (FindsItemOfAnyHash-from i.slab i.table i.rings.hot i.rings.cold
+    i.rings.ghosts c.self.invariant.standing c.self.invariant.keyed stands_for
+    (number c.in-Some.first) has (sym c.is_item_under.ensures ∙ c.if-is_item_under.true))
+
+-- the first candidate was passed
 pub loop-token-init : goal.loop-token-init
 loop-token-init g c =
     let i = c.self.inside in
     let stands_for = g.Q.Equivalent.equivalent c.args.query.now in
     subst (PassesNoItem i.slab i.table c.args.hash stands_for)
     (sym c.into_iter-token-iterator.ensures.into_iter_gives)
-    (PassesNoItem-start i.slab i.table c.args.hash stands_for _ c.candidates-token-items.ensures)
+    (PassesNoItem-past i.slab i.table c.args.hash stands_for _ _ c.in-Some.first
+    c.in-Some.ensures.steps (λ _. sym c.is_item_under.ensures ∙ c.if-is_item_under.false)
+    (PassesNoItem-start i.slab i.table c.args.hash stands_for _ c.candidates-tokens.ensures))
 
-pub get_unchecked-requires : goal.get_unchecked-requires
-get_unchecked-requires g c =
+pub is_item_under-requires-in-loop-token : goal.is_item_under-requires-in-loop-token
+is_item_under-requires-in-loop-token g c =
     let i = c.self.inside in
-    let has = PassesNoItem-has i.slab i.table c.args.hash _ _ _ c.in-Some.token
-    c.in-Some.ensures.steps c.loop-token.invariant in
-    occupied_by_pair i.slab i.table c.self.invariant.keyed has.0 (number c.in-Some.token) has.1
+    let has = PassesNoItem-has i.slab i.table c.args.hash _ _ _ c.in-Some-token.token
+    c.in-Some-token.ensures.steps c.loop-token.invariant in
+    occupied_by_pair i.slab i.table c.self.invariant.keyed has.0 (number c.in-Some-token.token)
+    has.1
 
--- an entry of the table is an item under its own hash
-pub returns-then-is_item_under : goal.returns-then-is_item_under
-returns-then-is_item_under g c =
+-- a later candidate is the item
+pub returns-then-is_item_under-2 : goal.returns-then-is_item_under-2
+returns-then-is_item_under-2 g c =
     let i = c.self.inside in
     let stands_for = g.Q.Equivalent.equivalent c.args.query.now in
-    let has = PassesNoItem-has i.slab i.table c.args.hash _ _ _ c.in-Some.token
-    c.in-Some.ensures.steps c.loop-token.invariant in
-    let is = item_under-is stands_for _
-    (ap (is_item_under_at stands_for) c.get_unchecked.ensures.item
-    ∙ sym c.is_item_under.ensures ∙ c.if-is_item_under.true) in
-    rw (← c.self.view_is) (
-      has.0,
-      FindsItem-from i.slab i.table i.rings.hot i.rings.cold i.rings.ghosts
-          c.self.invariant.standing c.self.invariant.keyed _ has.0
-          (number c.in-Some.token) has.1 is.0 is.1,
-    )
+    let has = PassesNoItem-has i.slab i.table c.args.hash _ _ _ c.in-Some-token.token
+    c.in-Some-token.ensures.steps c.loop-token.invariant in
+    rw (← c.self.view_is) (FindsItemOfAnyHash-from i.slab i.table i.rings.hot i.rings.cold
+    i.rings.ghosts c.self.invariant.standing c.self.invariant.keyed stands_for
+    (number c.in-Some-token.token) has
+    (sym c.is_item_under-in-loop-token.ensures ∙ c.if-is_item_under-2.true))
 
--- another key
+-- another candidate was passed
 pub loop-token-preserved : goal.loop-token-preserved
 loop-token-preserved g c =
     let i = c.self.inside in
-    let stands_for = g.Q.Equivalent.equivalent c.args.query.now in
-    PassesNoItem-past i.slab i.table c.args.hash _ _ _ c.in-Some.token c.in-Some.ensures.steps
-    (λ _. ap (is_item_under_at stands_for) c.get_unchecked.ensures.item
-    ∙ sym c.is_item_under.ensures ∙ c.if-is_item_under.false)
+    PassesNoItem-past i.slab i.table c.args.hash _ _ _ c.in-Some-token.token
+    c.in-Some-token.ensures.steps
+    (λ _. sym c.is_item_under-in-loop-token.ensures ∙ c.if-is_item_under-2.false)
     c.loop-token.invariant
 
 pub returns : goal.returns
