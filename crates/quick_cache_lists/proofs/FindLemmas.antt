@@ -422,16 +422,3 @@ module _ {K V P T : Type 0} where
       → (hash t : ℕ) → HasPair table hash t → IsOccupied slab t
   occupied_by_pair slab table keyed hash t has =
       hashed_some hash (item_at slab t) (sym (keyed.pairs hash t) ∙ has)
-
-  -- an entry is under its hash in the table, and under no other
-  pub HasPair-keyed : (slab : LinkedSlab (Slot K V P T)) (table : Table) → IsKeyed slab table
-      → (hash t : ℕ) (slot : Slot K V P T) → item_at slab t ≡ Some slot → slot.hash ≡ hash
-      → HasPair table hash t
-  HasPair-keyed slab table keyed hash t slot at same =
-      keyed.pairs hash t ∙ ap (has_hash hash) at ∙ eq-eqb slot.hash hash same
-
-  pub hash-keyed : (slab : LinkedSlab (Slot K V P T)) (table : Table) → IsKeyed slab table
-      → (hash t : ℕ) (slot : Slot K V P T) → item_at slab t ≡ Some slot → HasPair table hash t
-      → slot.hash ≡ hash
-  hash-keyed slab table keyed hash t slot at has =
-      eqb-true slot.hash hash (ap (has_hash hash) (sym at) ∙ sym (keyed.pairs hash t) ∙ has)

@@ -179,7 +179,11 @@ module _ {K V P : Type 0} where
     pub stands : HasItem lists (record { token = token; hash = hash; item = item })
     pub passes : stands_for item.key ≡ true
 
-  -- the same of a placeholder
+  -- the item of that token has a key that passes, under whatever hash it stands
+  abbrev pub FindsItemOfAnyHash : (stands_for : K → Bool) → Lists K V P → (token : ℕ) → Type 0
+  FindsItemOfAnyHash stands_for lists token = (hash : ℕ) × FindsItem stands_for hash lists token
+
+  -- the placeholder of that token has the hash, and a key that passes
   pub record FindsLoading (stands_for : K → Bool) (hash : ℕ) (lists : Lists K V P) (token : ℕ)
       : Type 0 where
     pub waiting : HeldLoading K P

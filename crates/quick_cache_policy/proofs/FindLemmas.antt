@@ -3,11 +3,13 @@
 use Rattle.std.proofs.Common.{◌≡◌, ◌≢◌, ℕ, ◌≤◌, Bool, true, false, true≢false, List, [], ◌∷◌, ◌++◌, map, Option, Some, None, MatchOption, refl, sym, ap, subst, ◌∙◌, arith}
 use Rattle.std.specs.List.{AllByRecursion}
 use Rattle.std.proofs.lemmas.List.{map-append}
+use Rattle.std.specs.Int.NonZero.{non_zero_u32_get}
+use Rattle.std.specs.declared.num.NonZeroU32.{NonZeroU32 as Token}
 use Rattle.quick_cache_model.specs.CacheState.{CacheState, LoadingEntry, Place, InHot, InCold, InStill, keys_by}
 use Rattle.quick_cache_model.specs.Finding.{IsItemAt, IsLoadingAt, IsGhostAt, HasNoItem, HasNoKey as HasNoKeyOf, HasNothing as HasNothingOf}
 use Rattle.quick_cache_model.proofs.EachElement.{all-middle}
 use Rattle.quick_cache_model.proofs.KeyCounts.{one_if, none-from_keys, loading_keys-split}
-use Rattle.quick_cache_lists.specs.Lists.{Lists, HeldItem, HeldLoading, HeldGhost, StandsIn, HasItem, HasNoKey, HasNothing, FindsItem, Finds, items_at}
+use Rattle.quick_cache_lists.specs.Lists.{Lists, HeldItem, HeldLoading, HeldGhost, StandsIn, HasItem, HasNoKey, HasNothing, FindsItem, FindsItemOfAnyHash, Finds, items_at}
 use Rattle.quick_cache_lists.specs.Lists.{HasNoItem as HasNoItemUnder}
 use Rattle.quick_cache_lists.specs.Views.{items_of, hashes_of, loading_entry, loading_entries}
 use Rattle.quick_cache_lists.specs.declared.found.Found.{Found}
@@ -58,6 +60,41 @@ module _ {K V P : Type 0} (stands_for : K → Bool) (hash : ℕ) (lists : Lists 
             (λ waiting. stands_for waiting.key ≡ true → waiting.hash ≡ hash)
             (λ waiting is passes. is ∙ same waiting.key passes) lists.loading are.loading;
       }
+
+  -- an item whose key the query stands for has the query's hash
+  FindsItem-under : AreUnder stands_for hash lists → (token : ℕ)
+      → FindsItemOfAnyHash stands_for lists token → FindsItem stands_for hash lists token
+  FindsItem-under under token (found, finds) =
+      let at = finds.stands in
+      subst (λ h. FindsItem stands_for h lists token)
+      (go at.place at.stands.before at.stands.after at.stands.split) finds
+    where
+      has_hash : HeldItem K V → Type 0
+      has_hash held = stands_for held.item.key ≡ true → held.hash ≡ hash
+
+      held : HeldItem K V
+      held = record { token = token; hash = found; item = finds.item }
+
+      go : (place : Place) (before after : List (HeldItem K V))
+          → items_at place lists ≡ before ++ held ∷ after → found ≡ hash
+      go InHot before after split =
+          all-middle has_hash before held after
+          (subst (AllByRecursion has_hash) split under.hot) finds.passes
+      go InCold before after split =
+          all-middle has_hash before held after
+          (subst (AllByRecursion has_hash) split under.cold) finds.passes
+      go InStill before after split =
+          all-middle has_hash before held after
+          (subst (AllByRecursion has_hash) split under.still) finds.passes
+
+  -- what the lists found by keys alone is what they would have found by the hash too
+  pub found-under : AreUnder stands_for hash lists → (found : Option Token)
+      → MatchOption found (HasNoItemUnder stands_for hash lists)
+      (λ token. FindsItemOfAnyHash stands_for lists (non_zero_u32_get token))
+      → MatchOption found (HasNoItemUnder stands_for hash lists)
+      (λ token. FindsItem stands_for hash lists (non_zero_u32_get token))
+  found-under under None none = none
+  found-under under (Some token) finds = FindsItem-under under _ finds
 
 module _ {K V P A T : Type 0} (ticket_of : P → ℕ) (stands_for : K → Bool) (hash : ℕ)
     (contents : Contents K V P A T) where

@@ -1,7 +1,7 @@
 //! Look-ups and removals.
 ghost use Rattle.std.specs.Prelude.{◌≡◌, ℕ, ◌≤◌, MatchOption};
 ghost use Rattle.std.specs.Int.NonZero.{non_zero_u32_get as number};
-ghost use Rattle.quick_cache_lists.specs.Lists.{FindsItem};
+ghost use Rattle.quick_cache_lists.specs.Lists.{FindsItem, HasNoItem};
 ghost use Rattle.quick_cache_model.specs.Removal.{Removes};
 ghost use Rattle.quick_cache_model.specs.CacheState.{UpToOrder};
 ghost use Rattle.quick_cache_policy.specs.Contents.{IsSound, state_of};
@@ -32,12 +32,26 @@ impl<K: Eq + Hash, V, P: SharedPlaceholder<K>, A: Allocator> Contents<K, V, P, A
           misses = self.new.misses;
         } }
     {
-        let Some(token) = self.lists.find_item(hash, query) else {
+        let Some(token) = self.find_item(hash, query) else {
             self.misses = self.misses.saturating_add(1);
             return None;
         };
         self.count_hit(token, hash, query);
         Some(token)
+    }
+
+    /// The item under the query.
+    ///
+    /// The lists compare keys alone. It has the hash, as each item has for whose key the query
+    /// stands.
+    #[inline(always)]
+    pub(crate) fn find_item<Q: Equivalent<K>>(&self, hash: u64, query: &Q) -> Option<Token>
+        requires under { AreUnder (Q.equivalent query.now) hash self.now.lists }
+        ensures { MatchOption result
+            (HasNoItem (Q.equivalent query.now) hash self.now.lists)
+            (λ token. FindsItem (Q.equivalent query.now) hash self.now.lists (number token)) }
+    {
+        self.lists.find_item(hash, query)
     }
 
     /// Counts a hit at an item that the query found: it is marked and read.

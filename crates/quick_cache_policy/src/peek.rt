@@ -24,7 +24,7 @@ impl<K: Eq + Hash, V, P: SharedPlaceholder<K>, A: Allocator> Contents<K, V, P, A
             (λ item. IsThere (Q.equivalent query.now) (state_of P.ticket_of self.now) item) }
     {
         self.lists.apart();
-        let Some(token) = self.lists.find_item(hash, query) else {
+        let Some(token) = self.find_item(hash, query) else {
             return None;
         };
         Some(self.lists.item(token))

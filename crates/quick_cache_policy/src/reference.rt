@@ -25,7 +25,7 @@ impl<K: Eq + Hash, V, P: SharedPlaceholder<K>, A: Allocator> Contents<K, V, P, A
         requires there { 0 < count_under (Q.equivalent query.now) (state_of P.ticket_of self.now) }
         ensures { FindsItem (Q.equivalent query.now) hash self.now.lists (number result) }
     {
-        self.lists.find_item(hash, query).unwrap()
+        self.find_item(hash, query).unwrap()
     }
 
     /// The value of the item of a token, to write. The item keeps its place and its weight.

@@ -34,7 +34,7 @@ impl<K: Eq + Hash, V, P: SharedPlaceholder<K>, A: Allocator> Contents<K, V, P, A
         ensures same { self.new ≡ record self.old { lists = self.new.lists } }
     {
         self.lists.apart();
-        let Some(token) = self.lists.find_item(hash, query) else {
+        let Some(token) = self.find_item(hash, query) else {
             return None;
         };
         if !wanted(self.lists.item(token).value()) {

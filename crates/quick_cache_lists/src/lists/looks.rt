@@ -2,7 +2,7 @@
 ghost use Rattle.std.specs.Prelude.{◌≡◌, MatchOption};
 ghost use Rattle.std.specs.Int.NonZero.{non_zero_u32_get as number};
 ghost use Rattle.quick_cache_model.specs.CacheState.{ring_place};
-ghost use Rattle.quick_cache_lists.specs.Lists.{Finds, FindsItem, HasNoItem, HasItemToken, IsItemOf, HasLoadingToken, IsAwaitedOf, HasRingToken, next_in_ring, IsFirstAbove, number_or_zero, IsFirstOf, items_at};
+ghost use Rattle.quick_cache_lists.specs.Lists.{Finds, FindsItemOfAnyHash, HasNoItem, HasItemToken, IsItemOf, HasLoadingToken, IsAwaitedOf, HasRingToken, next_in_ring, IsFirstAbove, number_or_zero, IsFirstOf, items_at};
 
 use crate::found::Found;
 use crate::lists::Lists;
@@ -39,19 +39,20 @@ impl<K, V, P, T, A: Allocator> Lists<K, V, P, T, A> {
         }
     }
 
-    /// The item of that hash whose key the query stands for.
+    /// An item whose key the query stands for, or nothing where none has that hash. It looks among
+    /// the entries that may be of the hash, and compares keys alone: the caller knows which hash
+    /// such a key has.
     #[inline]
     pub fn find_item<Q: Equivalent<K>>(&self, hash: u64, query: &Q) -> Option<Token>
     where
         K: Eq + Hash,
         ensures { MatchOption result
             (HasNoItem (Q.equivalent query.now) hash self.now)
-            (λ token. FindsItem (Q.equivalent query.now) hash self.now (number token)) }
+            (λ token. FindsItemOfAnyHash (Q.equivalent query.now) self.now (number token)) }
     {
-        // The key comes first: where it is the query's, the hash nearly always agrees.
         for token in self.table.candidates(hash) {
             let (slot, _) = unsafe { self.slab.get_unchecked(token) };
-            if slot.is_item_under(query) && slot.hash == hash {
+            if slot.is_item_under(query) {
                 return Some(token);
             }
         }
