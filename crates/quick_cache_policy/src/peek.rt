@@ -7,7 +7,7 @@ ghost use Rattle.quick_cache_policy.specs.Finding.{AreUnder, IsThere};
 use crate::contents::Contents;
 use crate::placeholder::SharedPlaceholder;
 use quick_cache_lists::ItemRef;
-use quick_cache_model::Equivalent;
+use quick_cache_model::{Equivalent, Token};
 use std::alloc::Allocator;
 use std::hash::Hash;
 
@@ -28,5 +28,27 @@ impl<K: Eq + Hash, V, P: SharedPlaceholder<K>, A: Allocator> Contents<K, V, P, A
             return None;
         };
         Some(self.lists.item(token))
+    }
+
+    /// The item under the query, of which it is thought that it stands at that token: where it does,
+    /// nothing is searched. Nothing changes.
+    #[inline]
+    pub fn peek_from<Q: Equivalent<K>>(
+        &self,
+        token: Token,
+        hash: u64,
+        query: &Q,
+    ) -> Option<ItemRef<'_, K, V, P::Touch>>
+        requires under { AreUnder (Q.equivalent query.now) hash self.now.lists }
+        ensures { MatchOption result
+            (HasNoItem (Q.equivalent query.now) (state_of P.ticket_of self.now))
+            (λ item. IsThere (Q.equivalent query.now) (state_of P.ticket_of self.now) item) }
+    {
+        if let Some(item) = self.lists.item_at(token) {
+            if query.equivalent(item.key()) {
+                return Some(item);
+            }
+        }
+        self.peek(hash, query)
     }
 }

@@ -298,6 +298,20 @@ impl<K: Eq + Hash, V, We, B: BuildHasher, L, P: SharedPlaceholder<K>, A: Allocat
         self.contents.peek(hash, query).is_some()
     }
 
+    /// As `contains`, of an item of which it is thought that it stands at that token: where it does,
+    /// nothing is searched.
+    #[inline]
+    pub fn contains_from<Q: Equivalent<K>>(&self, token: Token, hash: u64, query: &Q) -> bool
+        requires hash_is { hash ≡ hash_of B.BuildHasher B.Hasher.Hasher self.now.builder
+            (Q.hash_input query.now) }
+        ensures there { OnTrue result (HasItem (Q.equivalent query.now) self.now.state) }
+        ensures absent { OnFalse result (HasNoItem (Q.equivalent query.now) self.now.state) }
+        ensures sound { IsSoundShard K.eq self.now }
+    {
+        self.contents.lists.apart();
+        self.contents.peek_from(token, hash, query).is_some()
+    }
+
     /// Takes the item under the query out and gives its pair, or takes out a ghost of its hash. No
     /// hook is called, and no memory is asked for.
     pub fn remove<Q: Equivalent<K>>(&mut self, hash: u64, query: &Q) -> Option<(K, V)>

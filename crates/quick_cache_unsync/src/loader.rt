@@ -10,6 +10,7 @@ ghost use Rattle.quick_cache_unsync.specs.Touches.{no_touches};
 use crate::cache::Cache;
 use crate::placeholder::Placeholder;
 use quick_cache_model::{Equivalent, Lifecycle, Refusal, ToKey, Weighter};
+use quick_cache_shard::Token;
 use std::alloc::Allocator;
 use std::hash::{BuildHasher, Hash};
 
@@ -22,13 +23,13 @@ impl<K: Eq + Hash, V, We, B: BuildHasher, L, A: Allocator> Cache<K, V, We, B, L,
         self.shard.hash(query)
     }
 
-    /// Whether an item stands under the query.
-    fn is_resident<Q: Equivalent<K>>(&self, hash: u64, query: &Q) -> bool
+    /// Whether an item stands under the query, at that token if there is one.
+    fn is_resident<Q: Equivalent<K>>(&self, token: Token, hash: u64, query: &Q) -> bool
         requires hash_is { hash ≡ hash_of B.BuildHasher B.Hasher.Hasher self.now.builder
             (Q.hash_input query.now) }
         ensures { TellsItem (Q.equivalent query.now) self.now.state result }
     {
-        self.shard.contains(hash, query)
+        self.shard.contains_from(token, hash, query)
     }
 }
 
@@ -92,7 +93,7 @@ impl<
             Ok(value) => {
                 let mut state = L::RequestState::default();
                 self.fill(&mut state, placeholder, value);
-                Ok(self.is_resident(hash, query))
+                Ok(self.is_resident(placeholder.token(), hash, query))
             }
             Err(error) => {
                 self.give_up(placeholder);

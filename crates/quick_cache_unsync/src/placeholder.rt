@@ -42,6 +42,11 @@ impl Placeholder {
         self.idx.get()
     }
 
+    /// The token of that slot.
+    pub(crate) fn token(&self) -> Token {
+        self.idx
+    }
+
     /// The placeholder of the ticket. Only the ticket tells placeholders apart; a slot that is
     /// wrong costs time.
     pub(crate) fn of_parts(hash: u64, slot: u32, ticket: u64) -> Placeholder
