@@ -3,3 +3,4 @@ pub mod FitWrites
 pub mod FitRemovals
 pub mod PeekLemmas
 pub mod SumLemmas
+pub mod TryLemmas

@@ -5,6 +5,7 @@ pub mod Locked
 pub mod Answers
 pub mod Shards
 pub mod Sums
+pub mod Tries
 pub use Rattle.quick_cache_calls.specs.Shown
 pub use Rattle.quick_cache_unsync.specs.Alone
 pub use Rattle.quick_cache_unsync.specs.Replaces

@@ -2,6 +2,7 @@
 
 mod cache;
 mod count;
+mod error;
 mod lifecycle;
 mod locked;
 mod placeholder;
@@ -9,7 +10,9 @@ mod reads;
 mod shards;
 mod sizes;
 mod touches;
+mod tries;
 mod writes;
 
 pub use cache::Cache;
+pub use error::{LockContention, TryError};
 pub use lifecycle::DefaultLifecycle;

@@ -1,7 +1,7 @@
 //! Refusals: a clone that fails, and a growth for which there is no memory.
 ghost use Rattle.std.specs.Prelude.{◌≡◌};
 
-use quick_cache::sync::{Cache, DefaultLifecycle};
+use quick_cache::sync::{Cache, DefaultLifecycle, TryError};
 use quick_cache::{DefaultHashBuilder, Refusal, UnitWeighter};
 use rationed::Rationed;
 use std::alloc::{AllocError, Global};
@@ -36,7 +36,12 @@ fn a_refused_clone_is_a_refusal_for_memory(rt: HostRuntime) -> Result<(), Fail> 
         panic!(rt; "the clone is refused");
     };
     assert_eq!(rt; refusal, Refusal::Memory);
-    // It was no use of the item.
+    let (Err(got), Err(peeked)) = (cache.try_get(&1), cache.try_peek(&1)) else {
+        panic!(rt; "the clone is refused");
+    };
+    assert_eq!(rt; got, TryError::Refused(Refusal::Memory));
+    assert_eq!(rt; peeked, TryError::Refused(Refusal::Memory));
+    // They were no use of the item.
     assert_eq!(rt; (cache.hits(&rt), cache.misses(&rt)), (0, 0));
     let reads = cache.item_stats(&rt, &1).map(|stats| stats.access_count);
     assert_eq!(rt; reads, Some(0));
@@ -65,6 +70,10 @@ fn a_pair_for_which_there_is_no_memory_comes_back(rt: HostRuntime) -> Result<(),
     let ration = Rationed::new(rt.alloc(), 1);
     let cache: RationedCache<'_> = Cache::new(&ration, 5)?;
     assert_eq!(rt; cache.insert(&rt, 1, 10), Err((1, 10, Refusal::Memory)));
+    assert_eq!(rt;
+        cache.try_insert(1, 10),
+        Err((1, 10, TryError::Refused(Refusal::Memory)))
+    );
     assert_eq!(rt; cache.get(&rt, &1), Ok(None));
     ration.allow(8);
     assert_eq!(rt; cache.insert(&rt, 1, 10), Ok(()));
