@@ -2,8 +2,9 @@
 //! one thread.
 //!
 //! What they catch: a `try_` form that always answers contention, and a call that locks and does
-//! nothing, fail in `idle` and in `mixed`; one that acts or answers where it has no lock, and one
-//! lock for all shards, fail in `contended`.
+//! nothing, fail in `idle` and in `mixed`. One that acts where another call has the lock, and one
+//! lock for all shards, fail in `contended`. A form that reads, and tries the lock to write, fails
+//! in `reading`.
 #![tactic(auto)]
 
 #[cfg(test)]
@@ -12,4 +13,6 @@ mod contended;
 mod idle;
 #[cfg(test)]
 mod mixed;
+#[cfg(test)]
+mod reading;
 pub mod recording;

@@ -71,7 +71,7 @@ impl<K: Eq + Hash + Drop, V: Drop, We, B: BuildHasher, L: Lifecycle<K, V>, A: Al
         };
         match shard.peek(query) {
             Ok(found) => Ok(found),
-            Err(refusal) => Err(TryError::Refused(refusal)),
+            Err(refused) => Err(TryError::Refused(refused)),
         }
     }
 
