@@ -91,6 +91,7 @@ impl<K, V, P, T, A: Allocator> Lists<K, V, P, T, A> {
     }
 
     /// Makes room for one more entry where there is none.
+    #[inline(always)]
     pub fn make_room(&mut self) -> Result<(), Refusal>
         ensures lists { self.new ≡ record self.old { room = self.new.room } }
         ensures room { OnOk result (0 < self.new.room) }

@@ -43,6 +43,7 @@ impl<K: Eq + Hash + Drop, V: Drop, P: SharedPlaceholder<K>, A: Allocator> Conten
     /// Lets the first item of a ring go. `before_evict` may change its value, which is then
     /// weighed: of weight 0 it stays, beside the rings; else it leaves, and a cold one leaves a
     /// ghost.
+    #[inline(always)]
     pub(crate) fn evict_first<M: Policy<K, V>>(
         &mut self,
         queue: Queue,

@@ -178,6 +178,8 @@ fn house_all<A: Allocator>(
 }
 
 // Makes so many groups, where there is memory, and houses all pairs anew.
+#[cold]
+#[inline(never)]
 pub(crate) fn grow<A: Allocator>(
     tags: &mut Vec<u8, A>,
     places: &mut Places<A>,
