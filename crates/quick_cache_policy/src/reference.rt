@@ -18,13 +18,26 @@ use std::hash::Hash;
 impl<K: Eq + Hash, V, P: SharedPlaceholder<K>, A: Allocator> Contents<K, V, P, A> {
     ghost use Rattle.quick_cache_policy.specs.Lent.{lends_value_at};
 
-    /// The token of the item under the query.
+    /// The token of the item under the query. Where that is the one at which the item is thought to
+    /// stand, nothing is searched.
     #[inline]
-    pub fn token_under<Q: Equivalent<K>>(&self, hash: u64, query: &Q) -> Token
+    pub fn token_under<Q: Equivalent<K>>(
+        &self,
+        thought: Option<Token>,
+        hash: u64,
+        query: &Q,
+    ) -> Token
         requires under { AreUnder (Q.equivalent query.now) hash self.now.lists }
         requires there { 0 < count_under (Q.equivalent query.now) (state_of P.ticket_of self.now) }
         ensures { FindsItem (Q.equivalent query.now) hash self.now.lists (number result) }
     {
+        if let Some(token) = thought {
+            if let Some(item) = self.lists.item_at(token) {
+                if query.equivalent(item.key()) {
+                    return token;
+                }
+            }
+        }
         self.find_item(hash, query).unwrap()
     }
 
@@ -39,10 +52,16 @@ impl<K: Eq + Hash, V, P: SharedPlaceholder<K>, A: Allocator> Contents<K, V, P, A
         self.lists.value_mut(token)
     }
 
-    /// Weighs the item under the query anew. One that lost its weight leaves its ring, which begins
+    /// Weighs the item under the query anew, which is found as by `token_under`. One that lost its weight leaves its ring, which begins
     /// behind it; one that gained weight is put last in the ring of its queue; and any other keeps
     /// its place. Nothing leaves the cache, whatever the weight.
-    pub fn reweigh<M: Policy<K, V>, Q: Equivalent<K>>(&mut self, hash: u64, query: &Q, terms: &M)
+    pub fn reweigh<M: Policy<K, V>, Q: Equivalent<K>>(
+        &mut self,
+        thought: Option<Token>,
+        hash: u64,
+        query: &Q,
+        terms: &M,
+    )
         requires under { AreUnder (Q.equivalent query.now) hash self.old.lists }
         requires there { 0 < count_under (Q.equivalent query.now) (state_of P.ticket_of self.old) }
         requires sound { IsSound P.ticket_of K.eq (M.hashed terms.now) self.old }
@@ -55,7 +74,7 @@ impl<K: Eq + Hash, V, P: SharedPlaceholder<K>, A: Allocator> Contents<K, V, P, A
         ensures same { self.new ≡ record self.old { lists = self.new.lists } }
     {
         self.lists.apart();
-        let token = self.token_under(hash, query);
+        let token = self.token_under(thought, hash, query);
         let item = self.lists.item(token);
         let weight = terms.weigh(item.key(), item.value());
         self.lists.reweigh(token, weight);

@@ -8,7 +8,7 @@ ghost use Rattle.quick_cache_policy.specs.References.{count_under, IsValueUnder,
 ghost use Rattle.quick_cache_shard.specs.Shard.{rules_of, IsSoundShard};
 
 use crate::shard::CacheShard;
-use quick_cache_model::{Equivalent, Lifecycle, Weighter};
+use quick_cache_model::{Equivalent, Lifecycle, Token, Weighter};
 use quick_cache_policy::SharedPlaceholder;
 use std::alloc::Allocator;
 use std::hash::{BuildHasher, Hash};
@@ -52,23 +52,29 @@ impl<K: Eq + Hash, V, We, B: BuildHasher, L, P: SharedPlaceholder<K>, A: Allocat
         self.contains(hash, query)
     }
 
-    /// The value of the item under the query, which is known to be there. Nothing changes.
+    /// The value of the item under the query, which is known to be there. Where it stands at the
+    /// token at which it is thought to, nothing is searched. Nothing changes.
     #[inline]
-    pub fn value_under<Q: Equivalent<K>>(&self, hash: u64, query: &Q) -> &V
+    pub fn value_under<Q: Equivalent<K>>(&self, thought: Option<Token>, hash: u64, query: &Q) -> &V
         requires hash_is { hash ≡ hash_of B.BuildHasher B.Hasher.Hasher self.now.builder
             (Q.hash_input query.now) }
         requires there { 0 < count_under (Q.equivalent query.now) self.now.state }
         ensures { IsValueUnder (Q.equivalent query.now) self.now.state result.now }
     {
         self.contents.lists.apart();
-        let token = self.contents.token_under(hash, query);
+        let token = self.contents.token_under(thought, hash, query);
         self.contents.lists.item(token).value()
     }
 
-    /// The value of the item under the query, which is known to be there, to write. The item keeps
-    /// its place and its weight.
+    /// The value of the item under the query, which is known to be there, to write. It is found as
+    /// by `value_under`, and keeps its place and its weight.
     #[inline]
-    pub fn value_mut<Q: Equivalent<K>>(&mut self, hash: u64, query: &Q) -> &mut V
+    pub fn value_mut<Q: Equivalent<K>>(
+        &mut self,
+        thought: Option<Token>,
+        hash: u64,
+        query: &Q,
+    ) -> &mut V
         requires hash_is { hash ≡ hash_of B.BuildHasher B.Hasher.Hasher self.old.builder
             (Q.hash_input query.now) }
         requires there { 0 < count_under (Q.equivalent query.now) self.old.state }
@@ -79,14 +85,15 @@ impl<K: Eq + Hash, V, We, B: BuildHasher, L, P: SharedPlaceholder<K>, A: Allocat
         ensures value { IsValueUnder (Q.equivalent query.now) self.old.state result.now }
     {
         self.contents.lists.apart();
-        let token = self.contents.token_under(hash, query);
+        let token = self.contents.token_under(thought, hash, query);
         self.contents.value_mut(token)
     }
 
-    /// Weighs the item under the query anew, which is known to be there. One that lost its weight
-    /// leaves its ring, which begins behind it; one that gained weight is put last in the ring of
-    /// its queue; and any other keeps its place. Nothing is evicted, whatever the weight.
-    pub fn reweigh<Q: Equivalent<K>>(&mut self, hash: u64, query: &Q)
+    /// Weighs the item under the query anew, which is known to be there, and is found as by
+    /// `value_under`. One that lost its weight leaves its ring, which begins behind it; one that
+    /// gained weight is put last in the ring of its queue; and any other keeps its place. Nothing is
+    /// evicted, whatever the weight.
+    pub fn reweigh<Q: Equivalent<K>>(&mut self, thought: Option<Token>, hash: u64, query: &Q)
     where
         K: Drop,
         V: Drop,
@@ -102,6 +109,6 @@ impl<K: Eq + Hash, V, We, B: BuildHasher, L, P: SharedPlaceholder<K>, A: Allocat
         ensures there { 0 < count_under (Q.equivalent query.now) self.new.state }
         ensures same { self.new ≡ record self.old { state = self.new.state } }
     {
-        self.contents.reweigh(hash, query, &self.terms);
+        self.contents.reweigh(thought, hash, query, &self.terms);
     }
 }

@@ -1,5 +1,6 @@
 -- Loading a key's value by a loader or a guard, and what comes of it.
-use Rattle.std.specs.Prelude.{ℕ, ⊤, Bool, true, false, Option, Some, None, Result, Ok, Err}
+use Rattle.std.specs.Prelude.{ℕ, ⊤, Bool, true, false, Some, Result, Ok, Err}
+use Rattle.std.specs.declared.num.NonZeroU32.{NonZeroU32 as Token}
 use Rattle.quick_cache_model.specs.declared.refusal.Refusal.{Refusal}
 use Rattle.quick_cache_model.specs.CacheState.{CacheState, UpToOrder}
 use Rattle.quick_cache_model.specs.Hooks.{Rules, Hooks, Calls}
@@ -63,10 +64,10 @@ module _ {K V : Type 0} (stands_for : K → Bool) (gives : K → Type 0) (hash :
   module _ {P : Type 0} (ticket_of : P → ℕ) where
     -- An item was found and looked up. Or a placeholder was taken. Or none was made, and nothing
     -- changed.
-    abbrev pub LooksUpOrTakes : Result (Option P) Refusal → CacheState K V → Type 0
-    LooksUpOrTakes (Ok None) new =
+    abbrev pub LooksUpOrTakes : Result (Result Token P) Refusal → CacheState K V → Type 0
+    LooksUpOrTakes (Ok (Ok token)) new =
         (value : V) × UpToOrder (LooksUp stands_for old (λ item. item.value) (Some value)) new
-    LooksUpOrTakes (Ok (Some placeholder)) new = Takes (ticket_of placeholder) new
+    LooksUpOrTakes (Ok (Err placeholder)) new = Takes (ticket_of placeholder) new
     LooksUpOrTakes (Err refusal) new = MakesNone stands_for gives hash old refusal new
 
 module _ {K V S E : Type 0} (steady : Type 0) (hooks : Hooks K V S) (rules : Rules K V)

@@ -61,12 +61,13 @@ impl<
     {
         let hash = self.hash_of(query);
         match self.begin_load(hash, query) {
-            Ok(None) => Ok(Ok(Ref {
+            Ok(Ok(token)) => Ok(Ok(Ref {
                 cache: self,
                 query,
                 hash,
+                slot: token.get(),
             })),
-            Ok(Some(placeholder)) => Ok(Err(Guard {
+            Ok(Err(placeholder)) => Ok(Err(Guard {
                 cache: self,
                 hash,
                 slot: placeholder.slot(),
@@ -113,12 +114,13 @@ impl<
     {
         let hash = self.hash_of(query);
         match self.begin_load(hash, query) {
-            Ok(None) => Ok(Ok(RefMut {
+            Ok(Ok(token)) => Ok(Ok(RefMut {
                 cache: self,
                 query,
                 hash,
+                slot: token.get(),
             })),
-            Ok(Some(placeholder)) => Ok(Err(Guard {
+            Ok(Err(placeholder)) => Ok(Err(Guard {
                 cache: self,
                 hash,
                 slot: placeholder.slot(),

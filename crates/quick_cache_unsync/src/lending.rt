@@ -74,11 +74,13 @@ impl<
         ensures sound { IfOk result (λ r. IsSoundShard K.eq (read_from r)) }
     {
         let hash = self.hash_of(query);
-        match self.load_by(hash, query, loader) {
+        let (slot, answer) = self.load_by(hash, query, loader);
+        match answer {
             Ok(Ok(true)) => Ok(Ref {
                 cache: self,
                 query,
                 hash,
+                slot,
             }),
             Ok(Ok(false)) => Err(NotLoaded::NotKept),
             Ok(Err(error)) => Err(NotLoaded::Failed(error)),
@@ -136,11 +138,13 @@ impl<
         ensures sound { IfOk result (λ r. IsSoundShard K.eq (lent r)) }
     {
         let hash = self.hash_of(query);
-        match self.load_by(hash, query, loader) {
+        let (slot, answer) = self.load_by(hash, query, loader);
+        match answer {
             Ok(Ok(true)) => Ok(RefMut {
                 cache: self,
                 query,
                 hash,
+                slot,
             }),
             Ok(Ok(false)) => Err(NotLoaded::NotKept),
             Ok(Err(error)) => Err(NotLoaded::Failed(error)),

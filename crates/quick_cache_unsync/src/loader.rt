@@ -41,12 +41,13 @@ impl<
     L: Lifecycle<K, V>,
     A: Allocator,
 > Cache<K, V, We, B, L, A> {
-    /// Looks the query's key up, or takes a placeholder for it where there is no item.
+    /// Looks the query's key up and gives the token of its item, or takes a placeholder for it where
+    /// there is none.
     pub(crate) fn begin_load<Q: ToKey<K>>(
         &mut self,
         hash: u64,
         query: &Q,
-    ) -> Result<Option<Placeholder>, Refusal>
+    ) -> Result<Result<Token, Placeholder>, Refusal>
         requires hash_is { hash ≡ hash_of B.BuildHasher B.Hasher.Hasher self.old.builder
             (Q.hash_input query.now) }
         requires stands { (key : K) → Q.to_key_gives query.now key
@@ -58,8 +59,8 @@ impl<
         ensures sound { IsSoundShard K.eq self.new }
     {
         match self.shard.get_or_placeholder(hash, query) {
-            Ok(Ok(_)) => Ok(None),
-            Ok(Err((placeholder, _))) => Ok(Some(placeholder)),
+            Ok(Ok(token)) => Ok(Ok(token)),
+            Ok(Err((placeholder, _))) => Ok(Err(placeholder)),
             Err(refusal) => Err(refusal),
         }
     }
@@ -102,13 +103,14 @@ impl<
         }
     }
 
-    /// What `load` does, with the query's hash.
+    /// What `load` does, with the query's hash. Beside its answer it gives the number of the slot
+    /// where the item is thought to stand, or 0.
     pub(crate) fn load_by<Q: ToKey<K>, E, F: FnOnce() -> Result<V, E>>(
         &mut self,
         hash: u64,
         query: &Q,
         loader: F,
-    ) -> Result<Result<bool, E>, Refusal>
+    ) -> (u32, Result<Result<bool, E>, Refusal>)
         requires hash_is { hash ≡ hash_of B.BuildHasher B.Hasher.Hasher self.old.builder
             (Q.hash_input query.now) }
         requires stands { (key : K) → Q.to_key_gives query.now key
@@ -118,8 +120,8 @@ impl<
             (rules_of no_touches K.Hash.hash_input We.Weighter B.BuildHasher B.Hasher.Hasher
             L.Lifecycle self.old)
             L.RequestState.is_default (Q.equivalent query.now) (Q.to_key_gives query.now)
-            hash (F.post loader) self.old.state result self.new.state }
-        ensures there { OnResident result
+            hash (F.post loader) self.old.state result.1 self.new.state }
+        ensures there { OnResident result.1
             (0 < count_under (Q.equivalent query.now) self.new.state) }
         ensures room { self.old.room ≤ self.new.room + 1 }
         ensures same { self.new ≡ record self.old {
@@ -130,9 +132,12 @@ impl<
         ensures sound { IsSoundShard K.eq self.new }
     {
         match self.begin_load(hash, query) {
-            Ok(None) => Ok(Ok(true)),
-            Ok(Some(placeholder)) => Ok(self.end_load(hash, query, &placeholder, loader)),
-            Err(refusal) => Err(refusal),
+            Ok(Ok(token)) => (token.get(), Ok(Ok(true))),
+            Ok(Err(placeholder)) => {
+                let ended = self.end_load(hash, query, &placeholder, loader);
+                (placeholder.slot(), Ok(ended))
+            }
+            Err(refusal) => (0, Err(refusal)),
         }
     }
 
@@ -170,6 +175,6 @@ impl<
         ensures sound { IsSoundShard K.eq self.new }
     {
         let hash = self.hash_of(query);
-        self.load_by(hash, query, loader)
+        self.load_by(hash, query, loader).1
     }
 }

@@ -5,6 +5,7 @@ ghost use Rattle.quick_cache_shard.specs.References.{count_under, IsValueUnder};
 
 use crate::cache::Cache;
 use quick_cache_model::{Equivalent, Lifecycle, Weighter};
+use quick_cache_shard::Token;
 use std::alloc::{Allocator, Global};
 use std::hash::{BuildHasher, Hash};
 use std::ops::Deref;
@@ -24,6 +25,8 @@ pub struct Ref<
     pub(crate) cache: &'a mut Cache<K, V, We, B, L, A>,
     pub(crate) query: &'a Q,
     pub(crate) hash: u64,
+    // The slot where the item is thought to stand, or 0: only what it costs to find it hangs on that.
+    pub(crate) slot: u32,
     ghost there: { 0 < count_under (Q.equivalent query.now) cache.now.state },
     ghost hash_is: { hash
         ≡ hash_of B.BuildHasher B.Hasher.Hasher cache.now.builder (Q.hash_input query.now) },
@@ -46,6 +49,7 @@ impl<
         ensures { IsValueUnder (Q.equivalent self.now.query.now) self.now.cache.now.state
             result.now }
     {
-        self.cache.value_under(self.hash, self.query)
+        self.cache
+            .value_under(Token::new(self.slot), self.hash, self.query)
     }
 }

@@ -10,6 +10,7 @@ ghost use Rattle.quick_cache_unsync.specs.Touches.{no_touches};
 
 use crate::cache::Cache;
 use quick_cache_model::{Equivalent, Lifecycle, Weighter};
+use quick_cache_shard::Token;
 use std::alloc::{Allocator, Global};
 use std::hash::{BuildHasher, Hash};
 use std::ops::{Deref, DerefMut};
@@ -29,6 +30,8 @@ pub struct RefMut<
     pub(crate) cache: &'a mut Cache<K, V, We, B, L, A>,
     pub(crate) query: &'a Q,
     pub(crate) hash: u64,
+    // The slot where the item is thought to stand, or 0: only what it costs to find it hangs on that.
+    pub(crate) slot: u32,
     ghost there: { 0 < count_under (Q.equivalent query.now) cache.now.state },
     ghost hash_is: { hash
         ≡ hash_of B.BuildHasher B.Hasher.Hasher cache.now.builder (Q.hash_input query.now) },
@@ -51,8 +54,13 @@ impl<
         ensures same { self.exit.0.now
             ≡ record self.entry.cache.now { state = self.exit.0.now.state } }
     {
-        let RefMut { cache, query, hash } = self;
-        cache.reweigh(hash, query);
+        let RefMut {
+            cache,
+            query,
+            hash,
+            slot,
+        } = self;
+        cache.reweigh(Token::new(slot), hash, query);
     }
 }
 
@@ -73,7 +81,8 @@ impl<
         ensures { IsValueUnder (Q.equivalent self.now.query.now) self.now.cache.now.state
             result.now }
     {
-        self.cache.value_under(self.hash, self.query)
+        self.cache
+            .value_under(Token::new(self.slot), self.hash, self.query)
     }
 }
 
@@ -98,8 +107,8 @@ impl<
         ensures value { IsValueUnder (Q.equivalent self.old.query.now) self.old.cache.now.state
             result.now }
     {
-        let (hash, query) = (self.hash, self.query);
-        self.cache.value_mut(hash, query)
+        let (thought, hash, query) = (Token::new(self.slot), self.hash, self.query);
+        self.cache.value_mut(thought, hash, query)
     }
 }
 
@@ -107,17 +116,27 @@ impl<K: Eq + Hash, V, We, B: BuildHasher, L, A: Allocator> Cache<K, V, We, B, L,
     ghost use Rattle.quick_cache_unsync.specs.Lent.{lends_under};
 
     // The value of the item under the query, which is known to be there.
-    pub(crate) fn value_under<Q: Equivalent<K>>(&self, hash: u64, query: &Q) -> &V
+    pub(crate) fn value_under<Q: Equivalent<K>>(
+        &self,
+        thought: Option<Token>,
+        hash: u64,
+        query: &Q,
+    ) -> &V
         requires hash_is { hash ≡ hash_of B.BuildHasher B.Hasher.Hasher self.now.builder
             (Q.hash_input query.now) }
         requires there { 0 < count_under (Q.equivalent query.now) self.now.state }
         ensures { IsValueUnder (Q.equivalent query.now) self.now.state result.now }
     {
-        self.shard.value_under(hash, query)
+        self.shard.value_under(thought, hash, query)
     }
 
     // The same, to write.
-    fn value_mut<Q: Equivalent<K>>(&mut self, hash: u64, query: &Q) -> &mut V
+    fn value_mut<Q: Equivalent<K>>(
+        &mut self,
+        thought: Option<Token>,
+        hash: u64,
+        query: &Q,
+    ) -> &mut V
         requires hash_is { hash ≡ hash_of B.BuildHasher B.Hasher.Hasher self.old.builder
             (Q.hash_input query.now) }
         requires there { 0 < count_under (Q.equivalent query.now) self.old.state }
@@ -126,11 +145,11 @@ impl<K: Eq + Hash, V, We, B: BuildHasher, L, A: Allocator> Cache<K, V, We, B, L,
             self.entry (Q.equivalent query.now) result) }
         ensures value { IsValueUnder (Q.equivalent query.now) self.old.state result.now }
     {
-        self.shard.value_mut(hash, query)
+        self.shard.value_mut(thought, hash, query)
     }
 
     // Weighs the item under the query anew, which is known to be there.
-    fn reweigh<Q: Equivalent<K>>(&mut self, hash: u64, query: &Q)
+    fn reweigh<Q: Equivalent<K>>(&mut self, thought: Option<Token>, hash: u64, query: &Q)
     where
         K: Drop,
         V: Drop,
@@ -146,7 +165,7 @@ impl<K: Eq + Hash, V, We, B: BuildHasher, L, A: Allocator> Cache<K, V, We, B, L,
         ensures there { 0 < count_under (Q.equivalent query.now) self.new.state }
         ensures same { self.new ≡ record self.old { state = self.new.state } }
     {
-        self.shard.reweigh(hash, query);
+        self.shard.reweigh(thought, hash, query);
     }
 }
 
@@ -193,6 +212,7 @@ impl<
             cache: self,
             query,
             hash,
+            slot: 0,
         })
     }
 
@@ -220,6 +240,7 @@ impl<
             cache: self,
             query,
             hash,
+            slot: 0,
         })
     }
 }

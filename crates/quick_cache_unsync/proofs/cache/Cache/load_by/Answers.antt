@@ -5,21 +5,21 @@ use Rattle.quick_cache_unsync.proofs.LoadLemmas.{Takes-awaited, ends-load-by, co
 use Rattle.quick_cache_unsync.proofs.cache.Cache.load_by.Goals as goal
 
 -- the placeholder that was taken is there
-pub end_load-requires-clause-awaited : goal.end_load-requires-clause-awaited
-end_load-requires-clause-awaited g c =
+pub end_load-ended-requires-clause-awaited : goal.end_load-ended-requires-clause-awaited
+end_load-ended-requires-clause-awaited g c =
     Takes-awaited (g.Q.Equivalent.equivalent c.args.query.now)
     (g.Q.ToKey.to_key_gives c.args.query.now) c.args.hash c.args.self.now.state
-    c.in-Ok-Some.placeholder.ticket c.begin_load.new.self.state
-    (rw c.in-Ok-Some.field-0-is at c.in-Ok-Some.ensures.takes)
+    c.in-Ok-Err.placeholder.ticket c.begin_load.new.self.state
+    (rw c.in-Ok-Err.field-0-is at c.in-Ok-Err.ensures.takes)
 
-pub returns-in-Ok-None-clause-loads : goal.returns-in-Ok-None-clause-loads
-returns-in-Ok-None-clause-loads g c =
-    let up = rw c.in-Ok-None.field-0-is at c.in-Ok-None.ensures.takes in
+pub returns-in-Ok-Ok-clause-loads : goal.returns-in-Ok-Ok-clause-loads
+returns-in-Ok-Ok-clause-loads g c =
+    let up = rw c.in-Ok-Ok.field-0-is at c.in-Ok-Ok.ensures.takes in
     AnswersLoad.found up.0 _ up.1
 
 -- the load goes by what the cache was made with, which a placeholder does not change
-pub returns-in-Ok-Some-clause-loads : goal.returns-in-Ok-Some-clause-loads
-returns-in-Ok-Some-clause-loads g c =
+pub returns-in-Ok-Err-clause-loads : goal.returns-in-Ok-Err-clause-loads
+returns-in-Ok-Err-clause-loads g c =
     let stands_for = g.Q.Equivalent.equivalent c.args.query.now in
     let gives = g.Q.ToKey.to_key_gives c.args.query.now in
     ends-load-by
@@ -28,29 +28,29 @@ returns-in-Ok-Some-clause-loads g c =
     (rules_of no_touches g.K.Hash.hash_input g.We.Weighter g.B.BuildHasher g.B.Hasher.Hasher
     g.L.Lifecycle) _ _ c.begin_load.ensures.same
     g.L.RequestState.Default.is_default stands_for gives _ _ c.args.self.now.state
-    c.begin_load.new.self.state c.end_load.new.self.state c.in-Ok-Some.placeholder.ticket
-    c.end_load.result
-    (rw c.in-Ok-Some.field-0-is at c.in-Ok-Some.ensures.takes)
-    c.end_load.ensures.ends
+    c.begin_load.new.self.state c.end_load-ended.new.self.state c.in-Ok-Err.placeholder.ticket
+    c.end_load-ended.result
+    (rw c.in-Ok-Err.field-0-is at c.in-Ok-Err.ensures.takes)
+    c.end_load-ended.ensures.ends
 
 pub returns-in-Err-clause-loads : goal.returns-in-Err-clause-loads
 returns-in-Err-clause-loads g c =
     AnswersLoad.refused c.in-Err.refusal _ c.in-Err.ensures.takes
 
 -- where the key is told to be resident, it is
-pub returns-in-Ok-None-clause-there : goal.returns-in-Ok-None-clause-there
-returns-in-Ok-None-clause-there g c =
-    let up = rw c.in-Ok-None.field-0-is at c.in-Ok-None.ensures.takes in
+pub returns-in-Ok-Ok-clause-there : goal.returns-in-Ok-Ok-clause-there
+returns-in-Ok-Ok-clause-there g c =
+    let up = rw c.in-Ok-Ok.field-0-is at c.in-Ok-Ok.ensures.takes in
     counted-found (g.Q.Equivalent.equivalent c.args.query.now) c.args.self.now.state up.0
     c.begin_load.new.self.state up.1
 
-pub returns-in-Ok-Some-clause-there : goal.returns-in-Ok-Some-clause-there
-returns-in-Ok-Some-clause-there g c =
+pub returns-in-Ok-Err-clause-there : goal.returns-in-Ok-Err-clause-there
+returns-in-Ok-Err-clause-there g c =
     let now = c.begin_load.new.self in
     counted-end (g.Q.Equivalent.equivalent c.args.query.now) (g.L.Lifecycle.steady now.lifecycle)
     (hooks_of g.L.Lifecycle now)
     (rules_of no_touches g.K.Hash.hash_input g.We.Weighter g.B.BuildHasher g.B.Hasher.Hasher
     g.L.Lifecycle now)
-    g.L.RequestState.Default.is_default c.in-Ok-Some.placeholder.ticket
-    (λ given. g.F.FnOnce.post c.args.loader tt given) now.state c.end_load.new.self.state
-    c.end_load.result c.end_load.ensures.ends
+    g.L.RequestState.Default.is_default c.in-Ok-Err.placeholder.ticket
+    (λ given. g.F.FnOnce.post c.args.loader tt given) now.state c.end_load-ended.new.self.state
+    c.end_load-ended.result c.end_load-ended.ensures.ends
