@@ -8,6 +8,8 @@ mod readers;
 mod reference;
 mod removal;
 mod shard;
+#[cfg(test)]
+mod spent;
 mod stats;
 mod tokens;
 mod walk;
