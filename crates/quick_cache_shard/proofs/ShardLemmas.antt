@@ -1,9 +1,9 @@
 -- What always holds of a shard.
-use Rattle.std.proofs.Common.{◌≡◌, ℕ, ◌≤◌, Bool, true, false, true≢false, Option, Some, None, MatchOption, Result, Ok, MatchResult, sym, subst, arith}
+use Rattle.std.proofs.Common.{◌≡◌, ℕ, ◌≤◌, Bool, true, true≢false, Option, Some, None, MatchOption, Result, Ok, MatchResult, sym, subst, arith}
 use Rattle.std.specs.Option.{is_some}
 use Rattle.quick_cache_lists.specs.Lists.{entry_count}
 use Rattle.quick_cache_policy.specs.Contents.{IsSound, state_of, work_of}
-use Rattle.quick_cache_shard.specs.Shard.{Shard, IsSoundShard}
+use Rattle.quick_cache_shard.specs.Shard.{IsSoundShard}
 use Rattle.quick_cache_policy.specs.declared.contents.Contents.{Contents}
 use Rattle.quick_cache_policy.proofs.AnswerLemmas.{entry_count-taken}
 

@@ -9,6 +9,8 @@ mod reference;
 mod removal;
 mod shard;
 mod shared;
+#[cfg(test)]
+mod spent;
 mod stats;
 mod tokens;
 mod walk;
