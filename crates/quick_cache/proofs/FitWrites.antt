@@ -1,5 +1,5 @@
 -- Inserts keep every value fitting its key.
-use Rattle.std.proofs.Common.{◌≡◌, ℕ, Bool, List, ◌∷◌, ◌++◌, Option, Some, None, Result, Ok, Err}
+use Rattle.std.proofs.Common.{◌≡◌, ℕ, Bool, List, ◌++◌, Option, Some, None, Result, Ok, Err}
 use Rattle.std.proofs.Common.{sym, subst}
 use Rattle.std.specs.List.{AllByRecursion}
 use Rattle.quick_cache_model.specs.declared.queue.Queue.TheVariants.{Hot, Cold}
