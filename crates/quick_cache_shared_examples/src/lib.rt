@@ -1,0 +1,14 @@
+//! A cache that threads share, in use, and an example of each of its calls. The guide shows them.
+#![tactic(auto)]
+
+pub mod divisors;
+#[cfg(test)]
+mod looking;
+#[cfg(test)]
+mod making;
+#[cfg(test)]
+mod removing;
+#[cfg(test)]
+mod telling;
+#[cfg(test)]
+mod writing;

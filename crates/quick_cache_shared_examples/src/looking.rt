@@ -1,0 +1,46 @@
+//! What stands in a cache is looked up, or looked at.
+use quick_cache::sync::Cache;
+use std::test::Fail;
+
+#[test]
+fn get(rt: HostRuntime) -> Result<(), Fail> {
+    let cache = Cache::new(rt.alloc(), 100)?;
+    assert!(rt; cache.insert(&rt, "square", 4).is_ok());
+    // It gives a clone of the value, or says that there was no memory for one.
+    assert_eq!(rt; cache.get(&rt, &"square"), Ok(Some(4)));
+    assert_eq!(rt; cache.get(&rt, &"circle"), Ok(None));
+    assert_eq!(rt; (cache.hits(&rt), cache.misses(&rt)), (1, 1));
+    Ok(())
+}
+
+#[test]
+fn peek(rt: HostRuntime) -> Result<(), Fail> {
+    let cache = Cache::new(rt.alloc(), 100)?;
+    assert!(rt; cache.insert(&rt, "square", 4).is_ok());
+    assert_eq!(rt; cache.peek(&rt, &"square"), Ok(Some(4)));
+    // A look is no use of the item, and no hit.
+    assert_eq!(rt; (cache.hits(&rt), cache.misses(&rt)), (0, 0));
+    Ok(())
+}
+
+#[test]
+fn contains_key(rt: HostRuntime) -> Result<(), Fail> {
+    let cache = Cache::new(rt.alloc(), 100)?;
+    assert!(rt; cache.insert(&rt, "square", 4).is_ok());
+    assert!(rt; cache.contains_key(&rt, &"square"));
+    assert!(rt; !cache.contains_key(&rt, &"circle"));
+    Ok(())
+}
+
+#[test]
+fn item_stats(rt: HostRuntime) -> Result<(), Fail> {
+    let cache: Cache<u64, u64> = Cache::new(rt.alloc(), 100)?;
+    assert_eq!(rt; cache.insert(&rt, 1, 10), Ok(()));
+    assert_eq!(rt; cache.get(&rt, &1), Ok(Some(10)));
+    assert_eq!(rt; cache.peek(&rt, &1), Ok(Some(10)));
+    assert_eq!(rt;
+        cache.item_stats(&rt, &1).map(|stats| stats.access_count),
+        Some(1)
+    );
+    Ok(())
+}

@@ -1,0 +1,89 @@
+//! Caches are made, and given room.
+use quick_cache::sync::{Cache, DefaultLifecycle};
+use quick_cache::{DefaultHashBuilder, OptionsBuilder, UnitWeighter, Weighter};
+use std::test::Fail;
+
+/// Weighs a list of numbers by how many there are.
+#[derive(Clone, Drop)]
+struct BySize;
+
+impl Weighter<u64, [u64; 4]> for BySize {
+    ghost weight_of = { λ _ _ _. 4 };
+
+    fn weight(&self, _key: &u64, _val: &[u64; 4]) -> u64 {
+        4
+    }
+}
+
+#[test]
+fn new(rt: HostRuntime) -> Result<(), Fail> {
+    let cache = Cache::new(rt.alloc(), 100)?;
+    assert!(rt; cache.insert(&rt, "square", 4).is_ok());
+    assert_eq!(rt; (cache.len(&rt), cache.capacity(&rt)), (1, 100));
+    Ok(())
+}
+
+#[test]
+fn with_weighter(rt: HostRuntime) -> Result<(), Fail> {
+    let cache = Cache::with_weighter(rt.alloc(), 100, 1000, BySize)?;
+    assert!(rt; cache.insert(&rt, 1, [1, 2, 3, 4]).is_ok());
+    assert_eq!(rt;
+        (cache.len(&rt), cache.weight(&rt), cache.capacity(&rt)),
+        (1, 4, 1000)
+    );
+    Ok(())
+}
+
+#[test]
+fn with(rt: HostRuntime) -> Result<(), Fail> {
+    let cache: Cache<u64, u64> = Cache::with(
+        rt.alloc(),
+        100,
+        50,
+        UnitWeighter,
+        DefaultHashBuilder::new(),
+        DefaultLifecycle::new(),
+    )?;
+    assert!(rt; cache.insert(&rt, 1, 10).is_ok());
+    assert_eq!(rt; (cache.weight(&rt), cache.capacity(&rt)), (1, 50));
+    Ok(())
+}
+
+#[test]
+fn with_options(rt: HostRuntime) -> Result<(), Fail> {
+    let options = OptionsBuilder::new()
+        .estimated_items_capacity(1000)
+        .weight_capacity(1000)
+        .shards(4)
+        .build()?;
+    let cache: Cache<u64, u64> = Cache::with_options(
+        rt.alloc(),
+        options,
+        UnitWeighter,
+        DefaultHashBuilder::new(),
+        DefaultLifecycle::new(),
+    )?;
+    assert!(rt; cache.insert(&rt, 1, 10).is_ok());
+    assert_eq!(rt; (cache.num_shards(), cache.shard_capacity(&rt)), (4, 250));
+    Ok(())
+}
+
+#[test]
+fn reserve(rt: HostRuntime) -> Result<(), Fail> {
+    let cache: Cache<u64, u64> = Cache::new(rt.alloc(), 100)?;
+    // Each of the two shards now has room for two entries, and for the ghosts of two inserts.
+    assert_eq!(rt; cache.reserve(&rt, 3), Ok(()));
+    assert_eq!(rt; cache.insert(&rt, 1, 10), Ok(()));
+    Ok(())
+}
+
+#[test]
+fn set_capacity(rt: HostRuntime) -> Result<(), Fail> {
+    let cache: Cache<u64, u64> = Cache::new(rt.alloc(), 5)?;
+    for key in 0..5u64 {
+        assert_eq!(rt; cache.insert(&rt, key, key), Ok(()));
+    }
+    cache.set_capacity(&rt, 2);
+    assert_eq!(rt; (cache.capacity(&rt), cache.len(&rt)), (2, 2));
+    Ok(())
+}

@@ -1,0 +1,44 @@
+//! Items are taken out.
+use quick_cache::sync::Cache;
+use std::test::Fail;
+
+#[test]
+fn remove(rt: HostRuntime) -> Result<(), Fail> {
+    let cache = Cache::new(rt.alloc(), 100)?;
+    assert!(rt; cache.insert(&rt, "square", 4).is_ok());
+    assert_eq!(rt; cache.remove(&rt, &"square"), Some(("square", 4)));
+    assert_eq!(rt; cache.remove(&rt, &"square"), None);
+    Ok(())
+}
+
+#[test]
+fn remove_if(rt: HostRuntime) -> Result<(), Fail> {
+    let cache = Cache::new(rt.alloc(), 100)?;
+    assert!(rt; cache.insert(&rt, "square", 4).is_ok());
+    assert_eq!(rt; cache.remove_if(&rt, &"square", |sides| *sides > 4), None);
+    assert_eq!(rt;
+        cache.remove_if(&rt, &"square", |sides| *sides == 4),
+        Some(("square", 4))
+    );
+    Ok(())
+}
+
+#[test]
+fn retain(rt: HostRuntime) -> Result<(), Fail> {
+    let cache: Cache<u64, u64> = Cache::new(rt.alloc(), 100)?;
+    for key in 1..4u64 {
+        assert_eq!(rt; cache.insert(&rt, key, key * 10), Ok(()));
+    }
+    cache.retain(&rt, |key, value| *key == 1 || *value == 30);
+    assert_eq!(rt; (cache.len(&rt), cache.contains_key(&rt, &2)), (2, false));
+    Ok(())
+}
+
+#[test]
+fn clear(rt: HostRuntime) -> Result<(), Fail> {
+    let cache = Cache::new(rt.alloc(), 100)?;
+    assert!(rt; cache.insert(&rt, "square", 4).is_ok());
+    cache.clear(&rt);
+    assert!(rt; cache.is_empty(&rt));
+    Ok(())
+}
