@@ -11,4 +11,6 @@ mod removing;
 #[cfg(test)]
 mod telling;
 #[cfg(test)]
+mod trying;
+#[cfg(test)]
 mod writing;
