@@ -5,6 +5,7 @@ set -e
 crate=$(cd "$1" && pwd)
 runs=${2:-9}
 operations=${OPERATIONS:-2000000}
+rounds=${ROUNDS:-3}
 here=$(cd "$(dirname "$0")" && pwd)
 program=$here/../../crates/threads_bench
 (cd "$program" && rt run)
@@ -29,15 +30,15 @@ rm -f times
 for _ in $(seq "$runs"); do
     for items in ${ITEMS:-16384 262144}; do
         for threads in 1 2 4; do
-            "$program/out/threads_bench" "$threads" "$operations" "$items" 3 | sed "s/^/$items $threads proved /" >> times
-            target/release/threads_driver "$threads" "$operations" "$items" 3 | sed "s/^/$items $threads rust /" >> times
+            "$program/out/threads_bench" "$threads" "$operations" "$items" "$rounds" | sed "s/^/$items $threads proved /" >> times
+            target/release/threads_driver "$threads" "$operations" "$items" "$rounds" | sed "s/^/$items $threads rust /" >> times
         done
     done
 done
 # The least time of each, in nanoseconds an operation.
 awk -v operations="$operations" '
     function least(kind, value) { if (!(kind in times) || value < times[kind]) times[kind] = value }
-    { least($1 " " $2 " get " $3, $4); least($1 " " $2 " insert " $3, $5); sizes[$1]; threads[$2] }
+    { least($1 " " $2 " get " $3, $4); least($1 " " $2 " insert " $3, $5); sizes[$1] }
     END {
         print "| Operation | Items | Threads | Proved | Rust | Ratio |"
         print "|---|---|---|---|---|---|"
