@@ -12,21 +12,22 @@ use Rattle.quick_cache_calls.specs.CacheRun.{CacheRun}
 use Rattle.quick_cache_calls.specs.Shown.{IsShown}
 use Rattle.quick_cache_copy_tests.specs.Shown.{IsShownUnder}
 
+looked : {K V : Type 0} (shows : V → V → Type 0) (stands_for : K → Bool) (old : CacheState K V)
+    {found : Option V} {new : CacheState K V}
+    → LooksUp stands_for old (λ item. item.value) found new
+    → (w : V) → IsShown shows found (Some w) → IsShownUnder stands_for shows old w
+looked shows stands_for old (LooksUp.hit place before item after at) w is =
+    record { place = place; before = before; item = item; after = after; at = at; is_shown = is }
+looked shows stands_for old (LooksUp.miss none) w is = absurd is
+
 module _ {K V F M : Type 0} (rules : Rules K V) (equal : K → K → Bool)
     (shows_key : K → K → Type 0) (shows : V → V → Type 0) (answers : F → K → V → Bool) where
-  looked : (stands_for : K → Bool) (old : CacheState K V) {found : Option V} {new : CacheState K V}
-      → LooksUp stands_for old (λ item. item.value) found new
-      → (w : V) → IsShown shows found (Some w) → IsShownUnder stands_for shows old w
-  looked stands_for old (LooksUp.hit place before item after at) w is =
-      record { place = place; before = before; item = item; after = after; at = at; is_shown = is }
-  looked stands_for old (LooksUp.miss none) w is = absurd is
-
   step-shown : (old : CacheState K V) (key : K) (w : V) (calls : List (HookCall K V))
       (new : CacheState K V)
       → CacheStep {M = M} rules equal shows_key shows answers old (Get key) (Value (Some w)) calls
       new → IsShownUnder (equal key) shows old w
   step-shown old key w _ _ (CacheStep.gets _ found _ new looks is) =
-      looked (equal key) old looks.holds w is
+      looked shows (equal key) old looks.holds w is
 
   pub run-shown : (old : CacheState K V) {calls : List (Call K V F)} {replies : List (Reply K V M)}
       {hook_calls : List (HookCall K V)} {new : CacheState K V}
