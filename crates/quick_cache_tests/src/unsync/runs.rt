@@ -153,8 +153,12 @@ fn calls_come_back_where_replies_have_no_room(rt: HostRuntime) -> Result<(), Fai
 fn a_list_of_a_reply_may_be_refused(rt: HostRuntime) -> Result<(), Fail> {
     let ration = Rationed::new(rt.alloc(), 1);
     let mut cache: Cache<u64, u64> = Cache::new(rt.alloc(), 5)?;
-    let calls: Vec<Call<u64, u64, Predicate>, &Rationed<Global>> =
-        vec![in &ration; Call::Insert(1, 10), Call::Iter, Call::Drain, Call::Get(1)]?;
+    let calls: Vec<Call<u64, u64, Predicate>, &Rationed<Global>> = vec![in &ration;
+        Call::Insert(1, 10),
+        Call::Iter,
+        Call::Drain,
+        Call::Get(1),
+    ]?;
     ration.allow(1);
     let Ok(replies) = run(&ration, &mut cache, calls, &mut ()) else {
         panic!(rt; "there is room for the replies");
