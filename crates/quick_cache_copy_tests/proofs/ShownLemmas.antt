@@ -1,5 +1,7 @@
 -- A run of one look-up shows what stands under its key.
-use Rattle.std.proofs.Common.{◌≡◌, Bool, List, [], ◌∷◌, Option, Some, None, IfSome, subst}
+use Rattle.std.proofs.Common.{◌≡◌, Bool, List, [], ◌∷◌, Option, Some, None, IfSome, sym, subst}
+use Rattle.std.specs.List.{All}
+use Rattle.std.proofs.lemmas.List.Elements.{All-nil, All-cons}
 use Rattle.quick_cache_model.specs.CacheState.{CacheState}
 use Rattle.quick_cache_model.specs.Hooks.{Rules, HookCall}
 use Rattle.quick_cache_model.specs.Lookups.{LooksUp}
@@ -10,7 +12,15 @@ use Rattle.quick_cache_calls.specs.declared.reply.Reply.TheVariants.{Value}
 use Rattle.quick_cache_calls.specs.CacheStep.{CacheStep}
 use Rattle.quick_cache_calls.specs.CacheRun.{CacheRun}
 use Rattle.quick_cache_calls.specs.Shown.{IsShown}
+use Rattle.quick_cache_runs.specs.Asked.{IfAsks}
 use Rattle.quick_cache_copy_tests.specs.Shown.{IsShownUnder}
+
+-- a list of one look-up asks no predicate, so anything holds of those that it asks
+pub one_look_asks : {K V F : Type 0} (P : F → Type 0) (calls : List (Call K V F)) (key : K)
+    → calls ≡ Get key ∷ [] → All (IfAsks P) calls
+one_look_asks P calls key one =
+    subst (All (IfAsks P)) (sym one)
+    (All-cons (IfAsks P) (Get key) [] tt (All-nil (IfAsks P)))
 
 looked : {K V : Type 0} (shows : V → V → Type 0) (stands_for : K → Bool) (old : CacheState K V)
     {found : Option V} {new : CacheState K V}

@@ -1,11 +1,8 @@
-use Rattle.std.proofs.Common.{◌≡◌, Some, ◌∷◌, [], ◌∙◌, ap, sym, subst, ◌++◌, true, string_eq, option_to_list}
-use Rattle.std.specs.List.{All}
-use Rattle.std.proofs.lemmas.List.Elements.{All-nil, All-cons}
+use Rattle.std.proofs.Common.{◌≡◌, Some, ◌∷◌, [], ◌∙◌, ap, sym, ◌++◌, true, string_eq, option_to_list}
 use Rattle.quick_cache_calls.specs.declared.call.Call.TheVariants.{Get}
 use Rattle.quick_cache_calls.specs.declared.reply.Reply.TheVariants.{Value}
 use Rattle.std.specs.Vec.Iter.{into_iter_items}
-use Rattle.quick_cache_runs.specs.Asked.{IfAsks}
-use Rattle.quick_cache_copy_tests.proofs.ShownLemmas.{run-shows}
+use Rattle.quick_cache_copy_tests.proofs.ShownLemmas.{run-shows, one_look_asks}
 use Rattle.quick_cache_copy_tests.proofs.texts.get_text.Goals as goal
 
 -- the one reply is to the look-up
@@ -17,8 +14,7 @@ returns-in-Some-Value c =
     ∙ ap Some c.in-Some-Value.field-0-is in
     run-shows _ string_eq _ _ _ c.args.cache.now.state
     (c.in-Ok-run.ensures.runs tt (λ asked key value. true)
-    (subst (λ calls. All (IfAsks _) calls) (sym one)
-    (All-cons (IfAsks _) (Get c.args.key) [] tt (All-nil (IfAsks _))))).steps c.args.key one
+    (one_look_asks _ _ c.args.key one)).steps c.args.key one
     c.in-Some-Value.text (into_iter_items c.next.new.self)
     (sym c.into_iter.ensures.rest ∙ (c.next.ensures.items
     ∙ ap (λ o. option_to_list o ++ into_iter_items c.next.new.self) told))
