@@ -2,15 +2,8 @@
 #![tactic(auto)]
 
 use quick_cache_model::Refusal;
-use quick_cache_runs::{Call, run};
 use quick_cache_unsync::{Cache, NotLoaded};
-use std::alloc::{AllocError, Global};
-
-/// How many keys a list of calls is for.
-const KEYS_A_LIST: usize = 64;
-
-/// A predicate that a call of a list might ask.
-type Predicate = fn(&u64, &u64) -> bool;
+use std::alloc::Global;
 
 /// The answer in a mode that is not built.
 const NOT_BUILT: u64 = u64::MAX;
@@ -44,37 +37,17 @@ fn hits_by_loads(alloc: Global, items: usize, keys: &[u64]) -> Result<u64, Refus
     Ok(cache.hits())
 }
 
-// The calls that load each of these keys as its own value, where it is not found.
-fn loads(alloc: Global, keys: &[u64]) -> Result<Vec<Call<u64, u64, Predicate>>, AllocError> {
-    let mut calls = Vec::with_capacity(alloc, keys.len())?;
-    for key in keys {
-        calls.push(Call::Load(*key, Some(*key)))?;
-    }
-    Ok(calls)
-}
-
-// Makes a list of loads for each 64 keys, and counts the hits.
-fn hits_by_lists(alloc: Global, items: usize, keys: &[u64]) -> Result<u64, Refusal> {
-    let mut cache: Cache<u64, u64> = Cache::new(alloc, items)?;
-    for some in keys.chunks(KEYS_A_LIST) {
-        let calls = loads(alloc, some).map_err(|_| Refusal::Memory)?;
-        run(alloc, &mut cache, calls, &mut ()).map_err(|_| Refusal::Memory)?;
-    }
-    Ok(cache.hits())
-}
-
 /// Goes over the keys with a new cache of so many items, each of weight 1, and answers the hits.
 ///
 /// Mode 0 is a `get` of each key, and an `insert` where that gave nothing. Mode 1 is one
-/// `get_or_insert_with` of each key. Mode 2 is `run` over lists of calls for 64 keys, a `Load` of
-/// each: a list is made before its first reply is known, so it cannot hold the insert of just those
-/// keys that its `get`s will miss. The hits are those of mode 0. No other mode is built.
+/// `get_or_insert_with` of each key. No other mode is built: mode 2 would be mode 0 by `run`, over
+/// lists of calls for 64 keys; but a list is made before its first reply is known, so it cannot
+/// hold the insert of just those keys that its `get`s will miss.
 #[unsafe(no_mangle)]
 pub extern "C" fn qcbench_trace(alloc: Global, mode: u32, items: u64, keys: &[u64]) -> u64 {
     match mode {
         0 => hits_by_get_and_insert(alloc, items as usize, keys).unwrap_or(REFUSED),
         1 => hits_by_loads(alloc, items as usize, keys).unwrap_or(REFUSED),
-        2 => hits_by_lists(alloc, items as usize, keys).unwrap_or(REFUSED),
         _ => NOT_BUILT,
     }
 }

@@ -10,10 +10,12 @@ pub use Rattle.quick_cache_calls.specs.Shown
 pub use Rattle.quick_cache_unsync.specs.Alone
 pub use Rattle.quick_cache_unsync.specs.Replaces
 pub use Rattle.quick_cache_unsync.specs.SetsCapacity
-pub use Rattle.quick_cache_unsync.specs.Answered
+pub use Rattle.quick_cache_runs.specs.Answered
 pub use Rattle.quick_cache_unsync.specs.Inserts
-pub use Rattle.quick_cache_unsync.specs.CacheStep
-pub use Rattle.quick_cache_unsync.specs.CacheRun
+pub use Rattle.quick_cache_runs.specs.CacheStep
+pub use Rattle.quick_cache_runs.specs.CacheRun
+pub use Rattle.quick_cache_runs.specs.Asked
+pub use Rattle.quick_cache_runs.specs.Conservation
 pub use Rattle.quick_cache_shard.specs.Shard
 pub use Rattle.quick_cache_shard.specs.Copies
 pub use Rattle.quick_cache_shard.specs.Lifecycles

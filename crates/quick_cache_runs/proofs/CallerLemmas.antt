@@ -3,7 +3,7 @@
 use Rattle.std.proofs.Common.{Bool, List, [], ◌∷◌, Some, None, Result, Ok, Err, Vec}
 use Rattle.std.specs.List.{All}
 use Rattle.std.specs.Prelude.{IfSome, Option}
-use Rattle.std.proofs.lemmas.List.Elements.{All-nil, All-cons}
+use Rattle.std.proofs.lemmas.List.Elements.{All-nil, All-cons, All-head, All-tail}
 use Rattle.quick_cache_model.specs.CacheState.{CacheState}
 use Rattle.quick_cache_model.specs.Hooks.{Rules, Hooks}
 use Rattle.quick_cache_calls.specs.declared.call.Call.{Call}
@@ -23,6 +23,11 @@ asked_meets : {F : Type 0} (P : F → Type 0) → ((asked : F) → P asked) → 
     → IfSome asked P
 asked_meets P is None = tt
 asked_meets P is (Some asked) = is asked
+
+asked_none : {F : Type 0} (P : F → Type 0) (asked : Option F) → IfSome asked (λ any. ⊥)
+    → IfSome asked P
+asked_none P None none = tt
+asked_none P (Some asked) none = absurd none
 
 module _ {K V F : Type 0} where
   -- what holds anyhow holds of a call that loads
@@ -62,6 +67,15 @@ module _ {K V F : Type 0} where
   predicates_meet P is (call ∷ calls) =
       All-cons (IfAsks P) call calls (asked_meets P is (predicate_of call))
       (predicates_meet P is calls)
+
+  -- where no predicate is asked, anything holds of those that are
+  pub none_asked : (P : F → Type 0) (calls : List (Call K V F)) → All (IfAsks (λ asked. ⊥)) calls
+      → All (IfAsks P) calls
+  none_asked P [] none = All-nil (IfAsks P)
+  none_asked P (call ∷ calls) none =
+      All-cons (IfAsks P) call calls
+      (asked_none P (predicate_of call) (All-head (IfAsks (λ asked. ⊥)) call calls none))
+      (none_asked P calls (All-tail (IfAsks (λ asked. ⊥)) call calls none))
 
 module _ {K V F R S : Type 0} (shows_key other_key : K → K → Type 0) (shows other : V → V → Type 0)
     (wider_key : (k l : K) → shows_key k l → other_key k l)

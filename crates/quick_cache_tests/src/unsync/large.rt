@@ -1,8 +1,11 @@
 //! Ten thousand entries, and lists of ten thousand calls: nothing is refused past some size.
+ghost use Rattle.std.specs.Prelude.{All, IfOk};
+ghost use Rattle.quick_cache_runs.specs.Asked.{IfAsks};
+
 use super::Predicate;
 use quick_cache_runs::{Call, Reply, run};
 use quick_cache_unsync::Cache;
-use std::alloc::Global;
+use std::alloc::{AllocError, Global};
 use std::process::Abort;
 use std::test::Fail;
 
@@ -45,11 +48,12 @@ fn a_clone_has_ten_thousand_entries(rt: HostRuntime) -> Result<(), Fail> {
     Ok(())
 }
 
-/// Makes so many calls by one `run`, by threes: an insert, a look-up of what it inserted, and its
-/// removal.
-fn run_by_threes(rt: &impl Abort, alloc: Global, count: u64) -> Result<(), Fail> {
-    let mut cache: Cache<u64, u64> = Cache::new(alloc, 3)?;
-    let mut calls: Vec<Call<u64, u64, Predicate>> = Vec::new(alloc);
+/// So many calls, by threes: an insert, a look-up of what it inserted, and its removal. None asks a
+/// predicate.
+fn threes(alloc: Global, count: u64) -> Result<Vec<Call<u64, u64, Predicate>>, AllocError>
+    ensures { IfOk result (λ calls. All (IfAsks (λ asked. ⊥)) calls.items) }
+{
+    let mut calls = Vec::new(alloc);
     for number in 0..count {
         let key = number / 3;
         calls.push(match number % 3 {
@@ -58,6 +62,13 @@ fn run_by_threes(rt: &impl Abort, alloc: Global, count: u64) -> Result<(), Fail>
             _ => Call::Remove(key),
         })?;
     }
+    Ok(calls)
+}
+
+/// Makes so many calls by one `run`.
+fn run_by_threes(rt: &impl Abort, alloc: Global, count: u64) -> Result<(), Fail> {
+    let mut cache: Cache<u64, u64> = Cache::new(alloc, 3)?;
+    let calls = threes(alloc, count)?;
     let Ok(replies) = run(alloc, &mut cache, calls, &mut ()) else {
         panic!(rt; "there is memory");
     };

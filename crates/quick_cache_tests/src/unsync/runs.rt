@@ -7,11 +7,6 @@ use rationed::Rationed;
 use std::alloc::Global;
 use std::test::Fail;
 
-/// Whether a value is less than 25.
-fn is_small(_key: &u64, value: &u64) -> bool {
-    *value < 25
-}
-
 #[test]
 fn a_list_of_calls_is_made_in_order(rt: HostRuntime) -> Result<(), Fail> {
     let mut cache: Cache<u64, u64> = Cache::new(rt.alloc(), 1)?;
@@ -41,9 +36,9 @@ fn a_list_of_calls_is_made_in_order(rt: HostRuntime) -> Result<(), Fail> {
 #[test]
 fn each_kind_of_call_has_its_reply(rt: HostRuntime) -> Result<(), Fail> {
     let alloc = rt.alloc();
-    let small: Predicate = is_small;
+    let small = |_: &u64, value: &u64| *value < 25;
     let mut cache: Cache<u64, u64> = Cache::new(alloc, 5)?;
-    let calls: Vec<Call<u64, u64, Predicate>> = vec![in alloc;
+    let calls = vec![in alloc;
         Call::Insert(1, 10),
         Call::Replace(1, 11, false),
         Call::Replace(2, 20, true),
@@ -134,15 +129,21 @@ fn each_kind_of_call_has_its_reply(rt: HostRuntime) -> Result<(), Fail> {
 fn calls_come_back_where_replies_have_no_room(rt: HostRuntime) -> Result<(), Fail> {
     let ration = Rationed::new(rt.alloc(), 1);
     let mut cache: Cache<u64, u64> = Cache::new(rt.alloc(), 5)?;
-    let calls: Vec<Call<u64, u64, Predicate>, &Rationed<Global>> =
-        vec![in &ration; Call::Insert(1, 10), Call::Get(1)]?;
+    let calls = vec![in &ration;
+        Call::Insert(1, 10),
+        Call::Get(1),
+        Call::Retain(|_: &u64, _: &u64| true),
+    ]?;
     ration.allow(0);
     let Err((replies, calls)) = run(&ration, &mut cache, calls, &mut ()) else {
         panic!(rt; "there is no room");
     };
     assert_eq!(rt; replies.len(), 0);
     assert!(rt;
-        matches!(calls.as_slice(), [Call::Insert(1, 10), Call::Get(1)])
+        matches!(
+            calls.as_slice(),
+            [Call::Insert(1, 10), Call::Get(1), Call::Retain(_)]
+        )
     );
     assert!(rt; cache.is_empty());
     Ok(())
@@ -152,8 +153,12 @@ fn calls_come_back_where_replies_have_no_room(rt: HostRuntime) -> Result<(), Fai
 fn a_list_of_a_reply_may_be_refused(rt: HostRuntime) -> Result<(), Fail> {
     let ration = Rationed::new(rt.alloc(), 1);
     let mut cache: Cache<u64, u64> = Cache::new(rt.alloc(), 5)?;
-    let calls: Vec<Call<u64, u64, Predicate>, &Rationed<Global>> =
-        vec![in &ration; Call::Insert(1, 10), Call::Iter, Call::Drain, Call::Get(1)]?;
+    let calls: Vec<Call<u64, u64, Predicate>, &Rationed<Global>> = vec![in &ration;
+        Call::Insert(1, 10),
+        Call::Iter,
+        Call::Drain,
+        Call::Get(1),
+    ]?;
     ration.allow(1);
     let Ok(replies) = run(&ration, &mut cache, calls, &mut ()) else {
         panic!(rt; "there is room for the replies");
