@@ -99,8 +99,7 @@ fn load_exactly<V: Clone>(
 fn a_run_shows_the_numbers_that_it_finds(rt: HostRuntime) -> Result<(), Fail> {
     let alloc = rt.alloc();
     let mut cache: Cache<u64, u64> = Cache::new(alloc, 5)?;
-    let calls: Vec<Call<u64, u64, Predicate>> =
-        vec![in alloc; Call::Insert(1, 10), Call::Get(1)]?;
+    let calls: Vec<Call<u64, u64, Predicate>> = vec![in alloc; Call::Insert(1, 10), Call::Get(1)]?;
     let Ok(replies) = run_exactly(alloc, &mut cache, calls, &mut ()) else {
         panic!(rt; "there is memory");
     };

@@ -77,7 +77,8 @@ fn what_readers_count_is_shown_and_taken_in(rt: HostRuntime) -> Result<(), Fail>
     let (first, second) = join(
         &rt,
         || (0..50).all(|_| matches!(shared.get(&rt, &10), Ok(Some(10)))),
-        || (0..50).all(|_| matches!(shared.get(&rt, &12), Ok(None))) && shared.get(&rt, &10).is_ok(),
+        || (0..50).all(|_| matches!(shared.get(&rt, &12), Ok(None)))
+            && shared.get(&rt, &10).is_ok(),
     );
     assert!(rt; first && second);
     let reads = cache.item_stats(&rt, &10).map(|stats| stats.access_count);
