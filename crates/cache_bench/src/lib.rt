@@ -1,9 +1,19 @@
 //! The cache for one thread, for a program that times it beside other caches.
 #![tactic(auto)]
 
+ghost use Rattle.std.specs.Prelude.{All, IfOk};
+ghost use Rattle.quick_cache_runs.specs.Asked.{IfAsks};
+
 use quick_cache_model::Refusal;
+use quick_cache_runs::{Call, run};
 use quick_cache_unsync::{Cache, NotLoaded};
-use std::alloc::Global;
+use std::alloc::{AllocError, Global};
+
+/// How many calls a list has in mode 2.
+const LIST: usize = 64;
+
+/// A call that asks a predicate would ask one of this type. None does.
+type Predicate = fn(&u64, &u64) -> bool;
 
 /// The answer in a mode that is not built.
 const NOT_BUILT: u64 = u64::MAX;
@@ -37,17 +47,43 @@ fn hits_by_loads(alloc: Global, items: usize, keys: &[u64]) -> Result<u64, Refus
     Ok(cache.hits())
 }
 
+// A call for each key, which loads it as its own value where nothing is found. None asks a predicate.
+fn loads(alloc: Global, keys: &[u64]) -> Result<Vec<Call<u64, u64, Predicate>>, AllocError>
+    ensures { IfOk result (λ calls. All (IfAsks (λ asked. ⊥)) calls.items) }
+{
+    let mut calls = Vec::with_capacity(alloc, keys.len())?;
+    for key in keys {
+        calls.push(Call::Load(*key, Some(*key)))?;
+    }
+    Ok(calls)
+}
+
+// Loads each key as its own value where nothing was found, by lists of calls, and counts the hits.
+fn hits_by_runs(alloc: Global, items: usize, keys: &[u64]) -> Result<u64, Refusal> {
+    let mut cache: Cache<u64, u64> = Cache::new(alloc, items)?;
+    for part in keys.chunks(LIST) {
+        let Ok(calls) = loads(alloc, part) else {
+            return Err(Refusal::Memory);
+        };
+        if run(alloc, &mut cache, calls, &mut ()).is_err() {
+            return Err(Refusal::Memory);
+        }
+    }
+    Ok(cache.hits())
+}
+
 /// Goes over the keys with a new cache of so many items, each of weight 1, and answers the hits.
 ///
 /// Mode 0 is a `get` of each key, and an `insert` where that gave nothing. Mode 1 is one
-/// `get_or_insert_with` of each key. No other mode is built: mode 2 would be mode 0 by `run`, over
-/// lists of calls for 64 keys; but a list is made before its first reply is known, so it cannot
-/// hold the insert of just those keys that its `get`s will miss.
+/// `get_or_insert_with` of each key. Mode 2 is the same by `run`, over lists of 64 calls: a list is
+/// made before its first reply is known, so it cannot hold the insert of just those keys that its
+/// look-ups miss, and each call is one that loads. No other mode is built.
 #[unsafe(no_mangle)]
 pub extern "C" fn qcbench_trace(alloc: Global, mode: u32, items: u64, keys: &[u64]) -> u64 {
     match mode {
         0 => hits_by_get_and_insert(alloc, items as usize, keys).unwrap_or(REFUSED),
         1 => hits_by_loads(alloc, items as usize, keys).unwrap_or(REFUSED),
+        2 => hits_by_runs(alloc, items as usize, keys).unwrap_or(REFUSED),
         _ => NOT_BUILT,
     }
 }
