@@ -35,7 +35,21 @@ where
 impl<K, V, P, T, A: Allocator> Lists<K, V, P, T, A> {
     /// The item or the placeholder of that hash whose key the query stands for; else some ghost of
     /// that hash; else nothing.
+    #[inline(always)]
     pub fn find<Q: Equivalent<K>>(&self, hash: u64, query: &Q) -> Found
+    where
+        K: Eq + Hash,
+        ensures { Finds (Q.equivalent query.now) hash self.now result }
+    {
+        // A fresh key mostly has no candidate, and then it needs no walk.
+        match self.table.candidates(hash).next() {
+            Some(_) => self.find_on_walk(hash, query),
+            None => Found::Nothing,
+        }
+    }
+
+    /// The same by a walk over the entries of the hash.
+    fn find_on_walk<Q: Equivalent<K>>(&self, hash: u64, query: &Q) -> Found
     where
         K: Eq + Hash,
         ensures { Finds (Q.equivalent query.now) hash self.now result }
