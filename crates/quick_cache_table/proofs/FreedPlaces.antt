@@ -3,7 +3,7 @@ use Rattle.std.proofs.Common.{◌≡◌, ◌≢◌, ℕ, ◌+◌, ◌-◌, ◌*�
 use Rattle.std.specs.Int.Bits.{bit_xor}
 use Rattle.std.proofs.lemmas.List.{length-set}
 use Rattle.quick_cache_table.specs.Places.{Place}
-use Rattle.quick_cache_table.specs.TableGroups.{hash_at, is_free, holds_pair, place_at, empty_place, home_of, distance, HasOneMore}
+use Rattle.quick_cache_table.specs.TableGroups.{hash_at, is_free, holds_pair, place_at, home_of, distance, HasOneMore}
 use Rattle.quick_cache_table.proofs.Distances.{xor-back}
 use Rattle.quick_cache_table.proofs.CountedPlaces.{equal_or_not, bit, count_by-set, length-pairs_of, holds_pair-free, holds_pair-taken}
 
@@ -33,21 +33,22 @@ AreWithin-less places reaches mask home step within some none position inside ta
       | inr other ↦ omega (arith, near, other, some)
     ]
 
--- a place that is taken gives its pair up
-pub HasOneMore-leave : (places : List Place) (position : ℕ) → position < length places
+-- a place that is taken gives its pair up, whatever hash it keeps
+pub HasOneMore-leave : (places : List Place) (position hash : ℕ) → position < length places
     → is_free (place_at places position) ≡ false → HasOneMore
-    (set places position empty_place) places (hash_at (place_at places position))
+    (set places position (record { hash = hash; token = 0 })) places (hash_at (place_at places position))
     (place_at places position).token
-HasOneMore-leave places position inside taken =
-    let many = length-set places position empty_place in
-    let free_count = count_by-set is_free places position empty_place inside in
+HasOneMore-leave places position hash inside taken =
+    let left : Place = record { hash = hash; token = 0 } in
+    let many = length-set places position left in
+    let free_count = count_by-set is_free places position left inside in
     record {
       places = sym many;
       pairs =
           λ h k. omega (
             arith,
-            count_by-set (holds_pair h k) places position empty_place inside,
-            holds_pair-free h k empty_place refl,
+            count_by-set (holds_pair h k) places position left inside,
+            holds_pair-free h k left refl,
             holds_pair-taken h k (place_at places position)
                 taken,
           );
@@ -58,7 +59,7 @@ HasOneMore-leave places position inside taken =
             ap bit taken,
             length-pairs_of places,
             length-pairs_of
-                (set places position empty_place),
+                (set places position left),
             many,
           );
     }

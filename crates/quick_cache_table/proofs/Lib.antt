@@ -6,6 +6,7 @@ pub mod GroupCounts
 pub mod GroupLanes
 pub mod HousedPairs
 pub mod NearestFreePlace
+pub mod OnlyTokens
 pub mod PairOrder
 pub mod PairedLists
 pub mod PowersOfTwo

@@ -36,6 +36,18 @@ set-places_of (h ∷ hashes) (t ∷ tokens) zero hash token = refl
 set-places_of (h ∷ hashes) (t ∷ tokens) (suc position) hash token =
     ap (λ ps. (record { hash = h; token = t }) ∷ ps) (set-places_of hashes tokens position hash token)
 
+-- a token written, under the hash that stands there
+pub set_token-places_of : (hashes tokens : List ℕ) (position token : ℕ)
+    → length hashes ≡ length tokens → places_of hashes (set tokens position token)
+    ≡ set (places_of hashes tokens) position
+    (record { hash = hash_at (place_at (places_of hashes tokens) position); token = token })
+set_token-places_of [] tokens position token same = refl
+set_token-places_of (h ∷ hashes) [] position token same = absurd (omega (arith, same))
+set_token-places_of (h ∷ hashes) (t ∷ tokens) zero token same = refl
+set_token-places_of (h ∷ hashes) (t ∷ tokens) (suc position) token same =
+    ap (λ ps. (record { hash = h; token = t }) ∷ ps)
+    (set_token-places_of hashes tokens position token (omega (arith, same)))
+
 -- both with more behind them
 pub places_of-append : (hashes tokens more_hashes more_tokens : List ℕ)
     → length hashes ≡ length tokens → places_of (hashes ++ more_hashes) (tokens ++ more_tokens)

@@ -17,7 +17,7 @@ use quick_cache_model::{Refusal, Token};
 use std::alloc::{Allocator, Global};
 use std::marker::Model;
 pub use tokens::Tokens;
-use walk::{Walk, position_of};
+use walk::{Walk, position_of, tagged_position_of};
 
 /// A set of pairs of a hash and a token.
 ///
@@ -193,10 +193,44 @@ impl<A: Allocator> Table<A> {
             &mut self.places,
             self.reaches.as_mut_slice(),
             self.mask,
+            hash,
             position,
         );
         self.len -= 1;
         true
+    }
+
+    /// Takes the pair of a token out of the table, which has no other of that token.
+    ///
+    /// It goes by the tag and the token alone, so that it touches none of the hashes. It shortens
+    /// the way of later look-ups as `remove` does.
+    pub fn remove_only(&mut self, hash: u64, token: Token)
+        requires has { HasPair self.old hash (non_zero_u32_get token) }
+        requires only { (other : ℕ) → HasPair self.old other (non_zero_u32_get token)
+            → other ≡ hash }
+        ensures removes { RemovesPair self.old self.new hash (non_zero_u32_get token) }
+        ensures room { self.new.room ≡ self.old.room + 1 }
+        ensures allocated { self.new.allocated ≡ self.old.allocated }
+    {
+        let walk = Walk::new(
+            self.tags.as_slice(),
+            self.places.seen(),
+            self.reaches.as_slice(),
+            self.mask,
+            hash,
+        );
+        let Some(position) = tagged_position_of(walk, token.get()) else {
+            unreachable!()
+        };
+        groups::leave_place(
+            self.tags.as_mut_slice(),
+            &mut self.places,
+            self.reaches.as_mut_slice(),
+            self.mask,
+            hash,
+            position,
+        );
+        self.len -= 1
     }
 
     /// The tokens of that hash, each once, in no order that counts.

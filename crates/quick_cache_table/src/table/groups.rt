@@ -288,26 +288,28 @@ fn shorten(places: &Seen<'_>, reaches: &mut [u32], mask: usize, home: usize)
     reaches[home] = step;
 }
 
-// Frees a place.
+// Frees a place, whose pair is of that hash. The list of hashes is neither read nor written.
 pub(crate) fn leave_place<A: Allocator>(
     tags: &mut [u8],
     places: &mut Places<A>,
     reaches: &mut [u32],
     mask: usize,
+    hash: u64,
     position: usize,
 )
     requires whole { IsWhole tags.old places.old.items reaches.old mask }
     requires within { position < length places.old.items }
     requires taken { is_free (place_at places.old.items position) ≡ false }
+    requires hash { hash_at (place_at places.old.items position) ≡ hash }
     ensures whole { IsWhole tags.new places.new.items reaches.new mask }
     ensures loses { let left = place_at places.old.items position in
         HasOneMore places.new.items places.old.items (hash_at left) left.token }
     ensures groups { length reaches.new ≡ length reaches.old }
     ensures allocated { places.new.allocated ≡ places.old.allocated }
 {
-    let home = home_of(places.seen().hash(position), mask);
+    let home = home_of(hash, mask);
     tags[position] = 0;
-    places.put(position, 0, 0);
+    places.free(position);
     let step = home ^ position / LANES;
     if step != 0 && step == reaches[home] as usize {
         shorten(&places.seen(), reaches, mask, home);

@@ -111,7 +111,7 @@ impl<A: Allocator> Places<A> {
         }
     }
 
-    // Puts the pair at that place, or frees it by the token 0.
+    // Puts the pair at that place.
     #[inline(always)]
     pub(crate) fn put(&mut self, position: usize, hash: u64, token: u32)
         requires { position < length self.old.items }
@@ -121,6 +121,20 @@ impl<A: Allocator> Places<A> {
     {
         self.hashes[position] = hash;
         self.tokens[position] = token;
+    }
+
+    // Frees that place. Its hash stays behind, since a look at it would cost more than it is worth.
+    #[inline(always)]
+    pub(crate) fn free(&mut self, position: usize)
+        requires { position < length self.old.items }
+        ensures { self.new ≡ record self.old {
+          items = slice_set self.old.items position (record {
+            hash = hash_at (place_at self.old.items position);
+            token = 0;
+          });
+        } }
+    {
+        self.tokens[position] = 0;
     }
 
     pub(crate) fn swap(&mut self, position: usize, other: usize)

@@ -1,5 +1,5 @@
 //! A walk over the places of one hash.
-ghost use Rattle.std.specs.Prelude.{◌≡◌, ◌<◌, ◌∷◌, [], length, count_by, IfSome, IfNone, IsTrue};
+ghost use Rattle.std.specs.Prelude.{◌≡◌, ◌<◌, ◌==◌, ◌∷◌, [], length, count_by, IfSome, IfNone, IsTrue};
 ghost use Rattle.quick_cache_table.specs.TableGroups.{hash_at, holds_pair, place_at, reach_of, IsWhole, IsWalk, tokens_left, candidates_left, AreTokensOf};
 
 use super::groups::{LANES, home_of, lanes_of, tag_of};
@@ -175,6 +175,24 @@ pub(crate) fn position_of(mut walk: Walk<'_>, token: u32) -> Option<usize>
         (count_by (holds_pair walk.entry.hash token) walk.entry.places ≡ 0) }
 {
     while let Some(position) = walk.next_position() {
+        if walk.places.token(position) == token {
+            return Some(position);
+        }
+    }
+    None
+}
+
+// The position of that token, where a place has it that has the tag of the hash.
+pub(crate) fn tagged_position_of(mut walk: Walk<'_>, token: u32) -> Option<usize>
+    requires { IsWalk walk }
+    ensures within { IfSome result (λ position. position < length walk.entry.places) }
+    ensures found { IfSome result (λ position.
+        let place = place_at walk.entry.places position in
+        (0 < place.token) × (place.token ≡ token)) }
+    ensures none { IfNone result
+        (count_by (λ t. t == token) (candidates_left walk.entry) ≡ 0) }
+{
+    while let Some(position) = walk.next_tagged() {
         if walk.places.token(position) == token {
             return Some(position);
         }

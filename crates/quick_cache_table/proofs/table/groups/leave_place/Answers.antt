@@ -8,13 +8,13 @@ returns-then-step-reaches-clause-loses g c =
     let places = c.args.places.now.items in
     let left = place_at places c.args.position in
     subst (λ ps. HasOneMore ps places (hash_at left) left.token)
-    (sym (ap (λ p. p.items) c.put.ensures))
-    (HasOneMore-leave places c.args.position c.requires.within c.requires.taken)
+    (sym (ap (λ p. p.items) c.free.ensures))
+    (HasOneMore-leave places c.args.position (hash_at left) c.requires.within c.requires.taken)
 
 pub returns-else-step-ne0-clause-loses : goal.returns-else-step-ne0-clause-loses
 returns-else-step-ne0-clause-loses g c =
     let places = c.args.places.now.items in
     let left = place_at places c.args.position in
     subst (λ ps. HasOneMore ps places (hash_at left) left.token)
-    (sym (ap (λ p. p.items) c.put.ensures))
-    (HasOneMore-leave places c.args.position c.requires.within c.requires.taken)
+    (sym (ap (λ p. p.items) c.free.ensures))
+    (HasOneMore-leave places c.args.position (hash_at left) c.requires.within c.requires.taken)
