@@ -60,7 +60,7 @@ pub(crate) fn displace<K, V, P, T, A: Allocator>(
     match slab.remove(token) {
         Some((stored, next)) => {
             let slot = stored.into_slot();
-            let _ = table.remove(slot.hash, token);
+            table.remove_only(slot.hash, token);
             (slot, next)
         }
         None => unreachable!(),
