@@ -37,6 +37,10 @@ changed_held token change held =
 abbrev pub with_counts : {K V : Type 0} → (mark reads : ℕ) → Item K V → Item K V
 with_counts mark reads item = record item { mark = mark; reads = reads }
 
+-- the item with another count of reads
+abbrev pub with_reads : {K V : Type 0} → (reads : ℕ) → Item K V → Item K V
+with_reads reads item = record item { reads = reads }
+
 -- the item with another weight
 abbrev pub with_weight : {K V : Type 0} → (weight : ℕ) → Item K V → Item K V
 with_weight weight item = record item { weight = weight }

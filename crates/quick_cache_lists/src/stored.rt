@@ -4,7 +4,7 @@ ghost use Rattle.std.specs.Prelude.{◌≡◌, true};
 ghost use Rattle.std.specs.Borrow.{sem};
 ghost use Rattle.quick_cache_lists.specs.Slots.{stand_by as list_by, stand_in, entry_is_item, is_under, is_item_under, is_ghost, is_item, weight_in, slot_changed, entry_awaited};
 ghost use Rattle.quick_cache_lists.specs.Stored.{entry_of};
-ghost use Rattle.quick_cache_lists.specs.Lists.{with_counts, with_weight, requeued};
+ghost use Rattle.quick_cache_lists.specs.Lists.{with_counts, with_reads, with_weight, requeued};
 ghost use Rattle.quick_cache_lists.specs.Walks.{entry_item};
 
 use crate::entry::{Awaited, Entry, Slot, Stand};
@@ -272,6 +272,19 @@ impl<K, V, P, T> Stored<K, V, P, T> {
                 *old_mark = mark;
                 body.reads = reads;
             }
+            StoredEntry::Loading(_, _, _) => unreachable!(),
+            StoredEntry::Ghost => unreachable!(),
+        }
+    }
+
+    /// Gives an item another count of reads, and writes nothing else.
+    #[inline]
+    pub(crate) fn set_reads(&mut self, reads: u64)
+        requires { is_item self.old ≡ true }
+        ensures { self.new ≡ slot_changed (with_reads reads) self.old }
+    {
+        match &mut self.entry {
+            StoredEntry::Item(_, _, body) => body.reads = reads,
             StoredEntry::Loading(_, _, _) => unreachable!(),
             StoredEntry::Ghost => unreachable!(),
         }

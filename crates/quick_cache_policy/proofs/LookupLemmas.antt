@@ -6,11 +6,11 @@ use Rattle.quick_cache_model.specs.CacheState.{CacheState, Item, LoadingEntry, P
 use Rattle.quick_cache_model.specs.CacheState.{with_items as model_with_items}
 use Rattle.quick_cache_model.specs.Lookups.{looked_up, after_hit, LooksUp}
 use Rattle.quick_cache_model.specs.Removal.{Removes}
-use Rattle.quick_cache_model.specs.Touches.{raised_by, counted_up}
+use Rattle.quick_cache_model.specs.Touches.{counted_up}
 use Rattle.quick_cache_model.proofs.EachElement.{all-without}
 use Rattle.quick_cache_model.proofs.OrderLaws.{UpToOrder-exact}
 use Rattle.quick_cache_model.proofs.Valid.Lookups.{LooksUp-valid, Removes-valid}
-use Rattle.quick_cache_lists.specs.Lists.{HeldItem, HeldLoading, HeldGhost, Lists, AreApart, StandsIn, HasItem, HasNoKey, IsItemOf, items_at, with_items, with_change, with_counts, without_entry}
+use Rattle.quick_cache_lists.specs.Lists.{HeldItem, HeldLoading, HeldGhost, Lists, AreApart, StandsIn, HasItem, HasNoKey, IsItemOf, items_at, with_items, with_change, without_entry}
 use Rattle.quick_cache_lists.specs.Views.{items_of, hashes_of, loading_entry, loading_entries}
 use Rattle.quick_cache_lists.proofs.CallerLemmas.{change-hot, change-cold, change-still, without-hot, without-cold, without-still, without-loading, without-ghost}
 use Rattle.quick_cache_policy.specs.declared.contents.Contents.{Contents}
@@ -55,34 +55,51 @@ items_at-with InStill items lists = refl
 
 -- ---- an item that was looked up
 
--- the contents once the item of a token was counted, and a hit
-abbrev pub counted : {K V P A T : Type 0} → Contents K V P A T → (token mark reads : ℕ)
-    → Contents K V P A T
-counted contents token mark reads = record contents {
-  lists = with_change token (with_counts mark reads) contents.lists;
+-- the contents once the item of a token was changed so, and a hit was counted
+abbrev pub counted : {K V P A T : Type 0} → Contents K V P A T → (token : ℕ)
+    → (change : Item K V → Item K V) → Contents K V P A T
+counted contents token change = record contents {
+  lists = with_change token change contents.lists;
   hits = counted_up 1 contents.hits;
 }
 
-module _ {K V P A T : Type 0} (ticket_of : P → ℕ) (contents : Contents K V P A T)
-    (apart : AreApart contents.lists) (token hash : ℕ) (item : Item K V) (mark reads : ℕ) where
-  module _ (mark_is : mark ≡ raised_by default_mark_cut 1 item.mark)
-      (reads_are : reads ≡ counted_up 1 item.reads)
-      (has : HasItem contents.lists (record { token = token; hash = hash; item = item })) where
-    counts : with_counts mark reads item ≡ looked_up default_mark_cut item
-    counts = λ i. record item { mark = mark_is i; reads = reads_are i }
+-- an item of that token was changed as a look-up changes it, and a hit was counted
+pub record IsCounted {K V P A T : Type 0} (contents : Contents K V P A T) (token : ℕ)
+    (item : Item K V) (new : Contents K V P A T) : Type 0 where
+  pub change : Item K V → Item K V
+  pub counts : change item ≡ looked_up default_mark_cut item
+  pub is : new ≡ counted contents token change
 
-    changed : with_change token (with_counts mark reads) contents.lists
+-- the lists were changed so, and then the hits
+pub counted-is : {K V P A T : Type 0} (contents now : Contents K V P A T) (token : ℕ)
+    (change : Item K V → Item K V) (lists : Lists K V P) (hits : ℕ)
+    → now ≡ record contents { lists = lists } → lists ≡ with_change token change contents.lists
+    → hits ≡ counted_up 1 now.hits
+    → record now { hits = hits } ≡ counted contents token change
+counted-is contents now token change lists hits now_is lists_are hits_are =
+    ap (λ (c : Contents _ _ _ _ _). record c { hits = hits }) now_is
+    ∙ (λ i. record contents {
+      lists = lists_are i;
+      hits = (hits_are ∙ ap (λ (c : Contents _ _ _ _ _). counted_up 1 c.hits) now_is) i;
+    })
+
+module _ {K V P A T : Type 0} (ticket_of : P → ℕ) (contents : Contents K V P A T)
+    (apart : AreApart contents.lists) (token hash : ℕ) (item : Item K V)
+    (change : Item K V → Item K V) where
+  module _ (counts : change item ≡ looked_up default_mark_cut item)
+      (has : HasItem contents.lists (record { token = token; hash = hash; item = item })) where
+    changed : with_change token change contents.lists
         ≡ with_items has.place (has.stands.before
         ++ record { token = token; hash = hash; item = looked_up default_mark_cut item }
         ∷ has.stands.after) contents.lists
     changed =
-        change-at contents.lists apart (with_counts mark reads) has.place has.stands.before
+        change-at contents.lists apart change has.place has.stands.before
         has.stands.after (record { token = token; hash = hash; item = item }) has.stands.split
         ∙ ap (λ (i : Item K V). with_items has.place (has.stands.before
         ++ record { token = token; hash = hash; item = i } ∷ has.stands.after) contents.lists) counts
 
     -- the item is the one that was looked up
-    pub counted-item : IsItemOf (counted contents token mark reads).lists token (looked_up default_mark_cut item)
+    pub counted-item : IsItemOf (counted contents token change).lists token (looked_up default_mark_cut item)
     counted-item = (
       hash,
       record {
@@ -96,7 +113,7 @@ module _ {K V P A T : Type 0} (ticket_of : P → ℕ) (contents : Contents K V P
     )
 
     -- the state is that of a hit
-    pub counted-state : state_of ticket_of (counted contents token mark reads)
+    pub counted-state : state_of ticket_of (counted contents token change)
         ≡ model_with_items has.place (items_of has.stands.before
         ++ looked_up default_mark_cut item ∷ items_of has.stands.after)
         (after_hit (state_of ticket_of contents))
@@ -115,7 +132,7 @@ module _ {K V P A T : Type 0} (ticket_of : P → ℕ) (contents : Contents K V P
     pub looks_up-hit : (stands_for : K → Bool) → stands_for item.key ≡ true → {X : Type 0}
         → (of : Item K V → X)
         → UpToOrder (LooksUp stands_for (state_of ticket_of contents) of (Some (of item)))
-        (state_of ticket_of (counted contents token mark reads))
+        (state_of ticket_of (counted contents token change))
     looks_up-hit stands_for passes of = UpToOrder-exact _ _
         (subst (λ (s : CacheState K V). LooksUp stands_for (state_of ticket_of contents) of
         (Some (of item)) s) (sym counted-state)
@@ -129,7 +146,7 @@ module _ {K V P A T : Type 0} (ticket_of : P → ℕ) (contents : Contents K V P
 
     -- each key stays under its hash
     pub counted-hashed : (hashed : K → ℕ) → AreHashed hashed contents.lists
-        → AreHashed hashed (counted contents token mark reads).lists
+        → AreHashed hashed (counted contents token change).lists
     counted-hashed hashed are =
         subst (λ (l : Lists K V P). AreHashed hashed l) (sym changed)
         (AreHashed-instead hashed has.place has.stands.before
@@ -148,7 +165,7 @@ module _ {K V P A T : Type 0} (ticket_of : P → ℕ) (contents : Contents K V P
     -- what was sound is
     pub counted-sound : (equal : K → K → Bool) (hashed : K → ℕ) (stands_for : K → Bool)
         → stands_for item.key ≡ true → IsSound ticket_of equal hashed contents
-        → IsSound ticket_of equal hashed (counted contents token mark reads)
+        → IsSound ticket_of equal hashed (counted contents token change)
     counted-sound equal hashed stands_for passes sound = record {
       valid = subst (λ (s : CacheState K V). IsValid equal s)
           (sym counted-state)

@@ -1,7 +1,7 @@
 //! What changes the lists: an entry comes, goes, moves or is written.
 ghost use Rattle.std.specs.Prelude.{◌≡◌, ◌+◌, ◌<◌};
 ghost use Rattle.std.specs.Int.NonZero.{non_zero_u32_get as number};
-ghost use Rattle.quick_cache_lists.specs.Lists.{PutsLast, HasEntry, IsEntry, without_entry, HasItemToken, ring_turned, with_change, with_counts, HasItemOfQueue, Rewrites, Reweighs};
+ghost use Rattle.quick_cache_lists.specs.Lists.{PutsLast, HasEntry, IsEntry, without_entry, HasItemToken, ring_turned, with_change, with_counts, with_reads, HasItemOfQueue, Rewrites, Reweighs};
 
 use crate::entry::{Entry, Slot};
 use crate::lists::Lists;
@@ -65,6 +65,15 @@ impl<K, V, P, T, A: Allocator> Lists<K, V, P, T, A> {
     {
         let (slot, _) = unsafe { self.slab.get_mut_unchecked(token) };
         slot.set_counts(mark, reads);
+    }
+
+    /// Gives the item of a token another count of reads, and writes nothing else of its slot.
+    pub fn set_reads(&mut self, token: Token, reads: u64)
+        requires { HasItemToken self.old (number token) }
+        ensures { self.new ≡ with_change (number token) (with_reads reads) self.old }
+    {
+        let (slot, _) = unsafe { self.slab.get_mut_unchecked(token) };
+        slot.set_reads(reads);
     }
 
     /// Puts another item of the same ring in the place of the item of a token, and gives the old

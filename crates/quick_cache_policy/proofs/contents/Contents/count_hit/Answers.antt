@@ -3,12 +3,13 @@ use Rattle.std.specs.Int.NonZero.{non_zero_u32_get as number}
 use Rattle.quick_cache_model.specs.CacheState.{default_mark_cut}
 use Rattle.quick_cache_model.specs.Removal.{pair_of}
 use Rattle.quick_cache_model.specs.Touches.{counted_up, raised_by}
-use Rattle.quick_cache_lists.specs.Lists.{HeldItem}
+use Rattle.quick_cache_lists.specs.Lists.{HeldItem, with_counts, with_reads}
 use Rattle.quick_cache_lists.proofs.StandingLemmas.{found-same}
 use Rattle.quick_cache_policy.specs.Contents.{IsSound}
 use Rattle.quick_cache_policy.specs.Finding.{IsLookedUp}
-use Rattle.quick_cache_policy.proofs.LookupLemmas.{counted, looks_up-hit, counted-item, counted-sound}
+use Rattle.quick_cache_policy.proofs.LookupLemmas.{IsCounted, counted-is, looks_up-hit, counted-item, counted-sound}
 use Rattle.quick_cache_policy.proofs.contents.Contents.count_hit.Goals as goal
+use Rattle.quick_cache_policy.proofs.contents.Contents.count_hit.Goals.{then-mark-eq-MARK_CUT, else-mark-eq-MARK_CUT}
 
 -- the item was found, and it and a hit are counted
 pub returns-clause-looks_up : goal.returns-clause-looks_up
@@ -26,28 +27,40 @@ returns-clause-looks_up g c =
     (record { token = t; hash = c.args.hash; item = c.requires.found.item })
     (record { token = t; hash = hash; item = item }) c.requires.found.stands has refl refl)
     ∙ c.requires.found.passes in
-    let mark = c.min-mark.result + 1 in
-    let mark_is : mark ≡ raised_by default_mark_cut 1 item.mark =
-    omega (arith, c.mark.ensures, c.min-mark.ensures) in
+    let now = c.if-mark-eq-MARK_CUT.self in
+    let hits = c.saturating_add-self.result in
     let reads = c.saturating_add-reads.result in
     let reads_are : reads ≡ counted_up 1 item.reads =
     omega (arith, c.reads.ensures, c.saturating_add-reads.ensures) in
-    let hits : c.saturating_add-self.result ≡ counted_up 1 contents.hits =
-    omega (arith, c.saturating_add-self.ensures) in
-    let now : record contents {
-      lists = c.set_counts.new.self;
-      hits = c.saturating_add-self.result;
-    } ≡ counted contents t mark reads = λ i. record contents {
-      lists = c.set_counts.ensures i;
-      hits = hits i;
-    } in
-    subst (λ s. IsLookedUp ticket_of stands_for contents c.args.token s) (sym now)
+    let hits_are : hits ≡ counted_up 1 now.hits = omega (arith, c.saturating_add-self.ensures) in
+    let done : IsCounted contents t item (record now { hits = hits }) =
+    elim c.if-mark-eq-MARK_CUT.branch [
+      | then-mark-eq-MARK_CUT w ↦
+        let mark_is : item.mark ≡ raised_by default_mark_cut 1 item.mark =
+        omega (arith, c.mark-mark.ensures, w.if-mark-eq-MARK_CUT.true) in
+        record {
+          change = with_reads reads;
+          counts = λ i. record item { mark = mark_is i; reads = reads_are i };
+          is = counted-is contents now t (with_reads reads) w.set_reads.new.self hits w.self-is
+              w.set_reads.ensures hits_are;
+        }
+      | else-mark-eq-MARK_CUT w ↦
+        let mark_is : w.min.result + 1 ≡ raised_by default_mark_cut 1 item.mark =
+        omega (arith, c.mark-mark.ensures, w.min.ensures) in
+        record {
+          change = with_counts (w.min.result + 1) reads;
+          counts = λ i. record item { mark = mark_is i; reads = reads_are i };
+          is = counted-is contents now t (with_counts (w.min.result + 1) reads)
+              w.set_counts.new.self hits w.self-is w.set_counts.ensures hits_are;
+        }
+    ] in
+    subst (λ s. IsLookedUp ticket_of stands_for contents c.args.token s) (sym done.is)
     (record {
       item = item;
-      now = counted-item ticket_of contents apart t hash item mark reads mark_is reads_are has;
-      value = looks_up-hit ticket_of contents apart t hash item mark reads mark_is reads_are has
+      now = counted-item ticket_of contents apart t hash item done.change done.counts has;
+      value = looks_up-hit ticket_of contents apart t hash item done.change done.counts has
           stands_for passes (λ i. i.value);
-      pair = looks_up-hit ticket_of contents apart t hash item mark reads mark_is reads_are has
+      pair = looks_up-hit ticket_of contents apart t hash item done.change done.counts has
           stands_for passes pair_of;
     })
 
@@ -66,21 +79,33 @@ returns-clause-sound g c = λ hashed sound.
     (record { token = t; hash = c.args.hash; item = c.requires.found.item })
     (record { token = t; hash = hash; item = item }) c.requires.found.stands has refl refl)
     ∙ c.requires.found.passes in
-    let mark = c.min-mark.result + 1 in
-    let mark_is : mark ≡ raised_by default_mark_cut 1 item.mark =
-    omega (arith, c.mark.ensures, c.min-mark.ensures) in
+    let now = c.if-mark-eq-MARK_CUT.self in
+    let hits = c.saturating_add-self.result in
     let reads = c.saturating_add-reads.result in
     let reads_are : reads ≡ counted_up 1 item.reads =
     omega (arith, c.reads.ensures, c.saturating_add-reads.ensures) in
-    let hits : c.saturating_add-self.result ≡ counted_up 1 contents.hits =
-    omega (arith, c.saturating_add-self.ensures) in
-    let now : record contents {
-      lists = c.set_counts.new.self;
-      hits = c.saturating_add-self.result;
-    } ≡ counted contents t mark reads = λ i. record contents {
-      lists = c.set_counts.ensures i;
-      hits = hits i;
-    } in
-    subst (λ s. IsSound ticket_of g.K.PartialEq.eq hashed s) (sym now)
-    (counted-sound ticket_of contents apart t hash item mark reads mark_is reads_are has
+    let hits_are : hits ≡ counted_up 1 now.hits = omega (arith, c.saturating_add-self.ensures) in
+    let done : IsCounted contents t item (record now { hits = hits }) =
+    elim c.if-mark-eq-MARK_CUT.branch [
+      | then-mark-eq-MARK_CUT w ↦
+        let mark_is : item.mark ≡ raised_by default_mark_cut 1 item.mark =
+        omega (arith, c.mark-mark.ensures, w.if-mark-eq-MARK_CUT.true) in
+        record {
+          change = with_reads reads;
+          counts = λ i. record item { mark = mark_is i; reads = reads_are i };
+          is = counted-is contents now t (with_reads reads) w.set_reads.new.self hits w.self-is
+              w.set_reads.ensures hits_are;
+        }
+      | else-mark-eq-MARK_CUT w ↦
+        let mark_is : w.min.result + 1 ≡ raised_by default_mark_cut 1 item.mark =
+        omega (arith, c.mark-mark.ensures, w.min.ensures) in
+        record {
+          change = with_counts (w.min.result + 1) reads;
+          counts = λ i. record item { mark = mark_is i; reads = reads_are i };
+          is = counted-is contents now t (with_counts (w.min.result + 1) reads)
+              w.set_counts.new.self hits w.self-is w.set_counts.ensures hits_are;
+        }
+    ] in
+    subst (λ s. IsSound ticket_of g.K.PartialEq.eq hashed s) (sym done.is)
+    (counted-sound ticket_of contents apart t hash item done.change done.counts has
     g.K.PartialEq.eq hashed stands_for passes sound)
