@@ -3,9 +3,6 @@ use Rattle.std.specs.Prelude.{◌≡◌, ℕ, false}
 use Rattle.quick_cache_model.specs.declared.queue.Queue.{Queue}
 use Rattle.quick_cache_model.specs.CacheState.{Item}
 use Rattle.quick_cache_lists.specs.declared.entry.Awaited.{Awaited}
-use Rattle.quick_cache_lists.specs.declared.entry.Entry.{Entry}
-use Rattle.quick_cache_lists.specs.declared.entry.Entry.TheVariants.{Item as item_variant, Loading as loading_variant, Ghost as ghost_variant}
-use Rattle.quick_cache_lists.specs.declared.entry.Slot.{Slot}
 use Rattle.quick_cache_lists.specs.Lists.{Lists, StandsIn, PutsItem, without_entry}
 
 -- an item of this key that was never read
@@ -35,16 +32,3 @@ pub record FillsToken {K V P : Type 0} (old : Lists K V P) (token : ℕ) (item :
   pub last : PutsItem (without_entry false token old) token hash (item awaited.key) new
   pub room : new.room ≡ old.room
   pub next : new.next ≡ old.next
-
--- ---- in the slots: no public clause cites what follows
-
-module _ {K V P T : Type 0} (item : K → Item K V) where
-  -- the entry once its key is that of an item, if it is a placeholder
-  abbrev pub entry_filled : Entry K V P T → Entry K V P T
-  entry_filled (item_variant other) = item_variant other
-  entry_filled (loading_variant awaited) = item_variant (item awaited.key)
-  entry_filled ghost_variant = ghost_variant
-
-  -- the slot of that entry
-  abbrev pub slot_filled : Slot K V P T → Slot K V P T
-  slot_filled slot = record slot { entry = entry_filled slot.entry }

@@ -113,6 +113,16 @@ module _ {K V P T : Type 0} where
   abbrev pub slot_changed : (Item K V → Item K V) → Slot K V P T → Slot K V P T
   slot_changed change slot = record slot { entry = entry_changed change slot.entry }
 
+  -- the same entry, or the item of its key if it is a key that is being loaded
+  abbrev pub entry_filled : (K → Item K V) → Entry K V P T → Entry K V P T
+  entry_filled item_by (item_variant item) = item_variant item
+  entry_filled item_by (loading_variant awaited) = item_variant (item_by awaited.key)
+  entry_filled item_by ghost_variant = ghost_variant
+
+  -- the same slot with its entry so
+  abbrev pub slot_filled : (K → Item K V) → Slot K V P T → Slot K V P T
+  slot_filled item_by slot = record slot { entry = entry_filled item_by slot.entry }
+
   abbrev pub is_item_at : Option (Slot K V P T) → Bool
   is_item_at None = false
   is_item_at (Some slot) = is_item slot

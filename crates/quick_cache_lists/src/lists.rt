@@ -104,6 +104,23 @@ impl<K, V, P, T, A: Allocator> Lists<K, V, P, T, A> {
         ensures refusals { IfErr result
             (λ refused. (refused ≡ Refusal.SlotsFull) ⊎ (refused ≡ Refusal.Memory)) }
     {
+        if self.slab.has_room() && self.table.has_room() {
+            return Ok(());
+        }
+        self.grow()
+    }
+
+    // Makes room for one more entry. It is a call of its own, since it is seldom made.
+    #[cold]
+    #[inline(never)]
+    fn grow(&mut self) -> Result<(), Refusal>
+        requires { self.old.room ≡ 0 }
+        ensures lists { self.new ≡ record self.old { room = self.new.room } }
+        ensures room { OnOk result (0 < self.new.room) }
+        ensures full { (result ≡ Err Refusal.SlotsFull) ↔ (slots_left self.old ≡ 0) }
+        ensures refusals { IfErr result
+            (λ refused. (refused ≡ Refusal.SlotsFull) ⊎ (refused ≡ Refusal.Memory)) }
+    {
         self.slab.validate();
         if self.table.len() >= MOST_ENTRIES {
             return Err(Refusal::SlotsFull);

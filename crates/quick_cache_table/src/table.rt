@@ -98,6 +98,15 @@ impl<A: Allocator> Table<A> {
         self.len
     }
 
+    /// Whether it takes one more pair as it is.
+    #[inline(always)]
+    pub fn has_room(&self) -> bool
+        ensures room { IsTrue result ↔ 0 < self.now.room }
+        ensures most { pair_count self.now + self.now.room ≤ 4294967294 }
+    {
+        capacity(self.reaches.len()) > self.len
+    }
+
     /// How many bytes the table holds, apart from its own.
     pub fn allocation_size(&self) -> usize
         ensures { result ≡ min self.now.allocated (2 ^ 64 - 1) }

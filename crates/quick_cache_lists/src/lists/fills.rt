@@ -1,8 +1,9 @@
 //! A key that is being loaded, which becomes that of an item where it stands.
 ghost use Rattle.std.specs.Prelude.{◌≡◌, true};
 ghost use Rattle.std.specs.Int.NonZero.{non_zero_u32_get as number};
-ghost use Rattle.quick_cache_lists.specs.Fills.{FillsToken, filled, slot_filled};
+ghost use Rattle.quick_cache_lists.specs.Fills.{FillsToken, filled};
 ghost use Rattle.quick_cache_lists.specs.Lists.{HasLoadingToken, is_placeholder};
+ghost use Rattle.quick_cache_lists.specs.Slots.{slot_filled};
 
 use crate::entry::Stand;
 use crate::lists::Lists;

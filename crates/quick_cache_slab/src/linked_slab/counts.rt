@@ -1,9 +1,9 @@
 //! What a `LinkedSlab` tells of itself.
-ghost use Rattle.std.specs.Prelude.{◌≡◌, ◌↔◌, ◌+◌, length, count_by, is_some};
+ghost use Rattle.std.specs.Prelude.{◌≡◌, ◌↔◌, ◌+◌, ◌<◌, length, count_by, is_some, IsTrue};
 ghost use Rattle.std.specs.Int.NonZero.{non_zero_u32_get as number};
-ghost use Rattle.quick_cache_slab.specs.LinkedSlab.{next_token, IsFull, IsParted};
+ghost use Rattle.quick_cache_slab.specs.LinkedSlab.{next_token, spare, IsFull, IsParted};
 
-use crate::linked_slab::{LinkedSlab, links};
+use crate::linked_slab::{LinkedSlab, MAX_SLOTS, links};
 use quick_cache_model::Token;
 use std::alloc::Allocator;
 use std::mem;
@@ -15,6 +15,16 @@ impl<T, A: Allocator> LinkedSlab<T, A> {
         ensures full { (number result ≡ 4294967295) ↔ IsFull self.now }
     {
         self.next_free
+    }
+
+    /// Whether the next `insert` needs no memory: a token is free, or there is room for a new one.
+    #[inline(always)]
+    pub fn has_room(&self) -> bool
+        ensures { IsTrue result ↔ 0 < spare self.now }
+    {
+        let len = self.nodes.len();
+        let token = self.next_free.get() as usize;
+        token <= len || len < self.nodes.capacity().min(MAX_SLOTS)
     }
 
     /// How many items there are. It looks at each slot.

@@ -4,9 +4,9 @@ use Rattle.quick_cache_slab.specs.LinkedSlab.{LinkedSlab, item_at}
 use Rattle.quick_cache_lists.specs.declared.entry.Entry.{Entry}
 use Rattle.quick_cache_lists.specs.declared.entry.Slot.{Slot}
 use Rattle.quick_cache_lists.specs.declared.entry.Entry.TheVariants.{Item as item_variant, Loading as loading_variant}
-use Rattle.quick_cache_lists.specs.Fills.{filled, entry_filled, slot_filled}
+use Rattle.quick_cache_lists.specs.Fills.{filled}
 use Rattle.quick_cache_lists.specs.Lists.{PutsLast, is_placeholder, without_entry}
-use Rattle.quick_cache_lists.specs.Slots.{AmongLoading, stand_in, weight_in, loading_in}
+use Rattle.quick_cache_lists.specs.Slots.{AmongLoading, stand_in, weight_in, loading_in, entry_filled}
 use Rattle.quick_cache_lists.specs.Sound.{IsSound, lists_of}
 use Rattle.quick_cache_lists.proofs.AwaitedLemmas.{awaited_by_token}
 use Rattle.quick_cache_lists.proofs.CountLemmas.{loading_in-slot, PutsItem-from}

@@ -1,4 +1,4 @@
-use Rattle.std.proofs.Common.{◌∙◌, sym, ap, subst}
+use Rattle.std.proofs.Common.{◌∙◌, sym, subst}
 use Rattle.std.specs.Int.NonZero.{non_zero_u32_get as number}
 use Rattle.quick_cache_lists.specs.Sound.{PassesNoItem}
 use Rattle.quick_cache_lists.proofs.FindLemmas.{occupied_by_pair, FindsItemOfAnyHash-from, HasNoItem-from, PassesNoItem-start, PassesNoItem-past, PassesNoItem-has, PassesNoItem-none}
