@@ -9,6 +9,13 @@ use Rattle.quick_cache_policy.specs.declared.contents.Contents.{Contents}
 use Rattle.quick_cache_policy.specs.Contents.{state_of}
 use Rattle.quick_cache_policy.specs.Finding.{IsLookedUp}
 
+-- A placeholder that was made has this hash. Nothing is said of one that was met, or of an item.
+abbrev pub IsMadeUnder : {P : Type 0} (hash_of : P → ℕ) (hash : ℕ)
+    → Result (Result Token (P × Bool)) Refusal → Type 0
+IsMadeUnder hash_of hash (Ok (Ok token)) = Unit {0}
+IsMadeUnder hash_of hash (Ok (Err begun)) = begun.1 ≡ true → hash_of begun.0 ≡ hash
+IsMadeUnder hash_of hash (Err refusal) = Unit {0}
+
 -- A query is known by the keys that it stands for, by those that it may give, and by its hash.
 module _ {K V : Type 0} (stands_for : K → Bool) (gives : K → Type 0) (hash : ℕ)
     (old : CacheState K V) where

@@ -7,7 +7,7 @@ ghost use Rattle.quick_cache_model.specs.Placeholders.{MeetsPlaceholder};
 ghost use Rattle.quick_cache_model.specs.declared.refusal.Refusal.TheVariants.{Memory};
 ghost use Rattle.quick_cache_policy.specs.Contents.{IsSound, state_of};
 ghost use Rattle.quick_cache_policy.specs.Finding.{AreUnder};
-ghost use Rattle.quick_cache_policy.specs.Loading.{Makes, LooksUpOrMakes};
+ghost use Rattle.quick_cache_policy.specs.Loading.{IsMadeUnder, Makes, LooksUpOrMakes};
 
 use crate::contents::Contents;
 use crate::placeholder::SharedPlaceholder;
@@ -30,6 +30,7 @@ impl<K: Eq + Hash + Drop, V: Drop, P: SharedPlaceholder<K>, A: Allocator> Conten
         ensures ticket { IfOk result
             (λ awaited. P.ticket_of awaited.placeholder ≡ self.now.next_ticket) }
         ensures idx { IfOk result (λ awaited. P.idx_of awaited.placeholder ≡ number token) }
+        ensures hash { IfOk result (λ awaited. P.hash_of awaited.placeholder ≡ hash) }
         ensures refused { IfErr result (λ refusal. refusal ≡ Memory) }
     {
         let key = query.to_key()?;
@@ -61,6 +62,7 @@ impl<K: Eq + Hash + Drop, V: Drop, P: SharedPlaceholder<K>, A: Allocator> Conten
         requires found { Finds (Q.equivalent query.now) hash self.old.lists Found.Nothing }
         ensures makes { Makes P.ticket_of (Q.equivalent query.now) (Q.to_key_gives query.now) hash
             self.old result self.new }
+        ensures hash { IfOk result (λ made. P.hash_of made ≡ hash) }
         ensures sound { (hashed : K → ℕ)
             → ((key : K) → Q.equivalent query.now key ≡ true → hashed key ≡ hash)
             → IsSound P.ticket_of K.eq hashed self.old
@@ -98,6 +100,7 @@ impl<K: Eq + Hash + Drop, V: Drop, P: SharedPlaceholder<K>, A: Allocator> Conten
         requires found { Finds (Q.equivalent query.now) hash self.old.lists (Found.Ghost token) }
         ensures makes { Makes P.ticket_of (Q.equivalent query.now) (Q.to_key_gives query.now) hash
             self.old result self.new }
+        ensures hash { IfOk result (λ made. P.hash_of made ≡ hash) }
         ensures sound { (hashed : K → ℕ)
             → ((key : K) → Q.equivalent query.now key ≡ true → hashed key ≡ hash)
             → IsSound P.ticket_of K.eq hashed self.old
@@ -152,6 +155,7 @@ impl<K: Eq + Hash + Drop, V: Drop, P: SharedPlaceholder<K>, A: Allocator> Conten
             → Q.equivalent query.now key ≡ true }
         ensures answers { LooksUpOrMakes P.ticket_of (Q.equivalent query.now)
             (Q.to_key_gives query.now) hash self.old result self.new }
+        ensures hash { IsMadeUnder P.hash_of hash result }
         ensures sound { (hashed : K → ℕ)
             → ((key : K) → Q.equivalent query.now key ≡ true → hashed key ≡ hash)
             → IsSound P.ticket_of K.eq hashed self.old
