@@ -1,4 +1,4 @@
-use Rattle.std.proofs.Common.{arith, ◌≡◌, true, Some, sym, ap, ◌∙◌}
+use Rattle.std.proofs.Common.{arith, Some}
 use Rattle.quick_cache_policy.specs.Contents.{state_of}
 use Rattle.quick_cache_policy.proofs.FindLemmas.{HasNoItem-state, found-under}
 use Rattle.quick_cache_policy.proofs.ReferenceLemmas.{count_under-none, IsSome-from}
