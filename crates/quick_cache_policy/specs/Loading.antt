@@ -9,6 +9,13 @@ use Rattle.quick_cache_policy.specs.declared.contents.Contents.{Contents}
 use Rattle.quick_cache_policy.specs.Contents.{state_of}
 use Rattle.quick_cache_policy.specs.Finding.{IsLookedUp}
 
+-- A placeholder that was made has this hash. Nothing is said of one that was met, or of an item.
+abbrev pub IsMadeUnder : {P : Type 0} (hash_of : P → ℕ) (hash : ℕ)
+    → Result (Result Token (P × Bool)) Refusal → Type 0
+IsMadeUnder hash_of hash (Ok (Ok token)) = Unit {0}
+IsMadeUnder hash_of hash (Ok (Err begun)) = begun.1 ≡ true → hash_of begun.0 ≡ hash
+IsMadeUnder hash_of hash (Err refusal) = Unit {0}
+
 -- A query is known by the keys that it stands for, by those that it may give, and by its hash.
 module _ {K V : Type 0} (stands_for : K → Bool) (gives : K → Type 0) (hash : ℕ)
     (old : CacheState K V) where
@@ -38,14 +45,6 @@ module _ {K V P A T : Type 0} (ticket_of : P → ℕ) (stands_for : K → Bool) 
       IsMade stands_for gives hash (state_of ticket_of old) (ticket_of placeholder)
       (state_of ticket_of new)
   Makes (Err refusal) new =
-      MakesNone stands_for gives hash (state_of ticket_of old) refusal (state_of ticket_of new)
-
-  -- what a call met or made of a query under which no item is found
-  abbrev pub MeetsOrMakes : Result (P × Bool) Refusal → Contents K V P A T → Type 0
-  MeetsOrMakes (Ok begun) new =
-      IsMadeOrMet stands_for gives hash (state_of ticket_of old) begun.1 (ticket_of begun.0)
-      (state_of ticket_of new)
-  MeetsOrMakes (Err refusal) new =
       MakesNone stands_for gives hash (state_of ticket_of old) refusal (state_of ticket_of new)
 
   -- the answer of a look-up that makes a placeholder where no key is found

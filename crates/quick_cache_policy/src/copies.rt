@@ -42,8 +42,8 @@ impl<
     A: Allocator + Clone,
 > Contents<K, V, P, A> {
     /// Contents of clones of the keys and values, with the same marks, order and counts, and with
-    /// the placeholders of these. Its keys are hashed by that builder. What readers counted, and was
-    /// not taken in yet, stays here.
+    /// the placeholders of these. Its keys are hashed by that builder. What readers counted, and
+    /// was not taken in yet, stays here.
     pub fn try_copy<B: BuildHasher>(&self, builder: &B) -> Result<Self, Refusal>
         requires keys { ClonesAreEqual K.eq K.is_clone }
         ensures copies { IfOk result (λ copy. IsCopyOf K.is_clone V.is_clone

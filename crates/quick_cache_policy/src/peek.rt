@@ -1,5 +1,7 @@
 //! A look that changes nothing.
-ghost use Rattle.std.specs.Prelude.{MatchOption};
+ghost use Rattle.std.specs.Prelude.{◌≡◌, true, MatchOption};
+ghost use Rattle.std.specs.Int.NonZero.{non_zero_u32_get as number};
+ghost use Rattle.quick_cache_lists.specs.Lists.{FindsItemOfAnyHash, IsItemOf};
 ghost use Rattle.quick_cache_model.specs.Finding.{HasNoItem};
 ghost use Rattle.quick_cache_policy.specs.Contents.{state_of};
 ghost use Rattle.quick_cache_policy.specs.Finding.{AreUnder, IsThere};
@@ -30,8 +32,8 @@ impl<K: Eq + Hash, V, P: SharedPlaceholder<K>, A: Allocator> Contents<K, V, P, A
         Some(self.lists.item(token))
     }
 
-    /// The item under the query, of which it is thought that it stands at that token: where it does,
-    /// nothing is searched. Nothing changes.
+    /// The item under the query, of which it is thought that it stands at that token: where it
+    /// does, nothing is searched. Nothing changes.
     #[inline]
     pub fn peek_from<Q: Equivalent<K>>(
         &self,
@@ -44,11 +46,31 @@ impl<K: Eq + Hash, V, P: SharedPlaceholder<K>, A: Allocator> Contents<K, V, P, A
             (HasNoItem (Q.equivalent query.now) (state_of P.ticket_of self.now))
             (λ item. IsThere (Q.equivalent query.now) (state_of P.ticket_of self.now) item) }
     {
-        if let Some(item) = self.lists.item_at(token) {
-            if query.equivalent(item.key()) {
-                return Some(item);
-            }
+        if let Some(item) = self.item_if_under(token, query) {
+            return Some(item);
         }
         self.peek(hash, query)
+    }
+
+    /// The item that stands at the token, if the query stands for its key. Nothing is searched.
+    #[inline]
+    pub(crate) fn item_if_under<Q: Equivalent<K>>(
+        &self,
+        token: Token,
+        query: &Q,
+    ) -> Option<ItemRef<'_, K, V, P::Touch>>
+        ensures { MatchOption result
+            (¬ FindsItemOfAnyHash (Q.equivalent query.now) self.now.lists (number token))
+            (λ item. IsItemOf self.now.lists (number token) item
+            × (Q.equivalent query.now item.key ≡ true)) }
+    {
+        self.lists.apart();
+        let Some(item) = self.lists.item_at(token) else {
+            return None;
+        };
+        if query.equivalent(item.key()) {
+            return Some(item);
+        }
+        None
     }
 }

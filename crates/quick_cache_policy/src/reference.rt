@@ -32,10 +32,8 @@ impl<K: Eq + Hash, V, P: SharedPlaceholder<K>, A: Allocator> Contents<K, V, P, A
         ensures { FindsItem (Q.equivalent query.now) hash self.now.lists (number result) }
     {
         if let Some(token) = thought {
-            if let Some(item) = self.lists.item_at(token) {
-                if query.equivalent(item.key()) {
-                    return token;
-                }
+            if let Some(_) = self.item_if_under(token, query) {
+                return token;
             }
         }
         self.find_item(hash, query).unwrap()
@@ -52,9 +50,10 @@ impl<K: Eq + Hash, V, P: SharedPlaceholder<K>, A: Allocator> Contents<K, V, P, A
         self.lists.value_mut(token)
     }
 
-    /// Weighs the item under the query anew, which is found as by `token_under`. One that lost its weight leaves its ring, which begins
-    /// behind it; one that gained weight is put last in the ring of its queue; and any other keeps
-    /// its place. Nothing leaves the cache, whatever the weight.
+    /// Weighs the item under the query anew, which is found as by `token_under`. One that lost its
+    /// weight leaves its ring, which begins behind it; one that gained weight is put last in the
+    /// ring of its queue; and any other keeps its place. Nothing leaves the cache, whatever the
+    /// weight.
     pub fn reweigh<M: Policy<K, V>, Q: Equivalent<K>>(
         &mut self,
         thought: Option<Token>,

@@ -4,7 +4,7 @@ use Rattle.std.specs.declared.num.NonZeroU32.{NonZeroU32 as Token}
 use Rattle.quick_cache_model.specs.declared.refusal.Refusal.{Refusal}
 use Rattle.quick_cache_model.specs.CacheState.{CacheState, UpToOrder}
 use Rattle.quick_cache_model.specs.Lookups.{LooksUp}
-pub use Rattle.quick_cache_policy.specs.Loading.{IsMade, IsMadeOrMet, MakesNone}
+pub use Rattle.quick_cache_policy.specs.Loading.{IsMade, IsMadeUnder, IsMadeOrMet, MakesNone}
 
 module _ {K V P : Type 0} (ticket_of : P → ℕ) (stands_for : K → Bool) (gives : K → Type 0)
     (hash : ℕ) (old : CacheState K V) where

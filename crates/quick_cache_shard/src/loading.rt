@@ -5,7 +5,7 @@ ghost use Rattle.quick_cache_model.specs.Hooks.{Calls};
 ghost use Rattle.quick_cache_model.specs.Placeholders.{GivesUpPlaceholder};
 ghost use Rattle.quick_cache_policy.specs.Filling.{AnswersFill};
 ghost use Rattle.quick_cache_policy.specs.Work.{WorksWithin};
-ghost use Rattle.quick_cache_shard.specs.Loading.{LooksUpOrMakes};
+ghost use Rattle.quick_cache_shard.specs.Loading.{IsMadeUnder, LooksUpOrMakes};
 ghost use Rattle.quick_cache_shard.specs.Shard.{rules_of, hooks_of, UpToOrder, IsSoundShard};
 
 use crate::shard::CacheShard;
@@ -44,6 +44,8 @@ impl<
             → Q.equivalent query.now key ≡ true }
         ensures answers { LooksUpOrMakes P.ticket_of (Q.equivalent query.now)
             (Q.to_key_gives query.now) hash self.old.state result self.new.state }
+        // A new placeholder has the hash of its key.
+        ensures hash { IsMadeUnder P.hash_of hash result }
         // It takes room for one entry at most.
         ensures room { self.old.room ≤ self.new.room + 1 }
         ensures same { self.new ≡ record self.old { state = self.new.state; room = self.new.room } }

@@ -91,8 +91,8 @@ impl<K: Eq + Hash, V, We, B: BuildHasher, L, P: SharedPlaceholder<K>, A: Allocat
 
     /// Weighs the item under the query anew, which is known to be there, and is found as by
     /// `value_under`. One that lost its weight leaves its ring, which begins behind it; one that
-    /// gained weight is put last in the ring of its queue; and any other keeps its place. Nothing is
-    /// evicted, whatever the weight.
+    /// gained weight is put last in the ring of its queue; and any other keeps its place. Nothing
+    /// is evicted, whatever the weight.
     pub fn reweigh<Q: Equivalent<K>>(&mut self, thought: Option<Token>, hash: u64, query: &Q)
     where
         K: Drop,

@@ -298,8 +298,8 @@ impl<K: Eq + Hash, V, We, B: BuildHasher, L, P: SharedPlaceholder<K>, A: Allocat
         self.contents.peek(hash, query).is_some()
     }
 
-    /// As `contains`, of an item of which it is thought that it stands at that token: where it does,
-    /// nothing is searched.
+    /// As `contains`, of an item of which it is thought that it stands at that token: where it
+    /// does, nothing is searched.
     #[inline]
     pub fn contains_from<Q: Equivalent<K>>(&self, token: Token, hash: u64, query: &Q) -> bool
         requires hash_is { hash ≡ hash_of B.BuildHasher B.Hasher.Hasher self.now.builder

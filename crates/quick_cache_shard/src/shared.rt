@@ -22,9 +22,9 @@ impl<K: Eq + Hash, V, We, B: BuildHasher, L, P: SharedPlaceholder<K>, A: Allocat
     A,
 > {
     /// The value under the query, which is handed in with its hash, as readers beside each other
-    /// look it up. A find counts a hit and a touch of the item; else a miss is counted. Nothing else
-    /// changes: the touch becomes a mark and a read at the item's first visit in an advance, or when
-    /// it is written over.
+    /// look it up. A find counts a hit and a touch of the item; else a miss is counted. Nothing
+    /// else changes: the touch becomes a mark and a read at the item's first visit in an advance,
+    /// or when it is written over.
     pub fn get_shared<Q: Equivalent<K>>(&self, hash: u64, query: &Q) -> Option<&V>
         requires hash_is { hash ≡ hash_of B.BuildHasher B.Hasher.Hasher self.now.builder
             (Q.hash_input query.now) }

@@ -1,17 +1,14 @@
-use Rattle.std.proofs.Common.{◌≡◌, true, sym, ap, ◌∙◌}
 use Rattle.std.specs.Int.NonZero.{non_zero_u32_get as number}
 use Rattle.quick_cache_lists.specs.Views.{items_of}
 use Rattle.quick_cache_policy.proofs.FindLemmas.{IsItemAt-stands}
 use Rattle.quick_cache_policy.proofs.contents.Contents.peek_from.Goals as goal
 
 -- the item of the token has a key that the query stands for
-pub returns-then-equivalent : goal.returns-then-equivalent
-returns-then-equivalent g c =
+pub returns-in-Some : goal.returns-in-Some
+returns-in-Some g c =
     let stands_for = g.Q.Equivalent.equivalent c.args.query.now in
-    let is = c.in-Some.ensures in
+    let is = c.in-Some.ensures.0 in
     let has = is.1 in
-    let passes : stands_for c.in-Some.item.key ≡ true =
-    sym (c.equivalent.ensures ∙ ap stands_for c.key.ensures) ∙ c.if-equivalent.true in
     record {
       place = has.place;
       before = items_of has.stands.before;
@@ -19,5 +16,5 @@ returns-then-equivalent g c =
       at = IsItemAt-stands g.P.SharedPlaceholder.ticket_of stands_for c.args.hash c.args.self.now
           has.place has.stands.before
           (record { token = number c.args.token; hash = is.0; item = c.in-Some.item })
-          has.stands.after has.stands.split passes;
+          has.stands.after has.stands.split c.in-Some.ensures.1;
     }

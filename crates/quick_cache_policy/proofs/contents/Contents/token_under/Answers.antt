@@ -1,19 +1,17 @@
-use Rattle.std.proofs.Common.{arith, ◌≡◌, true, Some, sym, ap, ◌∙◌}
+use Rattle.std.proofs.Common.{arith, Some}
 use Rattle.quick_cache_policy.specs.Contents.{state_of}
 use Rattle.quick_cache_policy.proofs.FindLemmas.{HasNoItem-state, found-under}
 use Rattle.quick_cache_policy.proofs.ReferenceLemmas.{count_under-none, IsSome-from}
 use Rattle.quick_cache_policy.proofs.contents.Contents.token_under.Goals as goal
 
 -- the item of the token has a key that the query stands for, and so its hash
-pub returns-then-equivalent : goal.returns-then-equivalent
-returns-then-equivalent g c =
+pub returns-in-Some-item_if_under : goal.returns-in-Some-item_if_under
+returns-in-Some-item_if_under g c =
     let stands_for = g.Q.Equivalent.equivalent c.args.query.now in
-    let is = c.in-Some-item_at.ensures in
-    let passes : stands_for c.in-Some-item_at.item.key ≡ true =
-    sym (c.equivalent.ensures ∙ ap stands_for c.key.ensures) ∙ c.if-equivalent.true in
+    let is = c.in-Some-item_if_under.ensures in
     found-under stands_for c.args.hash c.args.self.now.lists c.requires.under
     (Some c.in-Some.token)
-    (is.0, record { item = c.in-Some-item_at.item; stands = is.1; passes = passes })
+    (is.0.0, record { item = c.in-Some-item_if_under.field-0; stands = is.0.1; passes = is.1 })
 
 -- an item was counted, so one was found
 pub unwrap-requires : goal.unwrap-requires
