@@ -79,7 +79,8 @@ impl<
 
     /// A reference to the value under the query's key, to write: the item is looked up as by
     /// `get_mut`. Or, where no item stands under it, the right to fill a placeholder of the key:
-    /// one that is made, which counts a miss, or the one that a leaked guard left, which counts a hit.
+    /// one that is made, which counts a miss, or the one that a leaked guard left, which counts a
+    /// hit.
     ///
     /// # Errors
     ///

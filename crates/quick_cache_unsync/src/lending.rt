@@ -26,9 +26,9 @@ impl<
     ghost use Rattle.quick_cache_unsync.specs.LentReads.{reader, read_from, asked_of};
     ghost use Rattle.quick_cache_unsync.specs.LentValues.{lender, lent, query_of};
 
-    /// A reference to the value under the query's key, to read: the item is looked up as by
-    /// `get`. Where no item stands
-    /// under it, calls the loader and puts its value in, with a request state of the call's own.
+    /// A reference to the value under the query's key, to read: the item is looked up as by `get`.
+    /// Where no item stands under it, calls the loader and puts its value in, with a request state
+    /// of the call's own.
     ///
     /// # Errors
     ///
@@ -89,10 +89,9 @@ impl<
     }
 
     /// A reference to the value under the query's key, to write: the item is looked up as by
-    /// `get_mut`. Where no item stands
-    /// under it, calls the loader and puts its value in, with a request state of the call's own.
-    /// Once the reference is dropped, the item has the weight of the value that was left, as with
-    /// `get_mut`.
+    /// `get_mut`. Where no item stands under it, calls the loader and puts its value in, with a
+    /// request state of the call's own. Once the reference is dropped, the item has the weight of
+    /// the value that was left, as with `get_mut`.
     ///
     /// # Errors
     ///

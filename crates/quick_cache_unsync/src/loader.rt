@@ -41,8 +41,8 @@ impl<
     L: Lifecycle<K, V>,
     A: Allocator,
 > Cache<K, V, We, B, L, A> {
-    /// Looks the query's key up and gives the token of its item, or takes a placeholder for it where
-    /// there is none.
+    /// Looks the query's key up and gives the token of its item, or takes a placeholder for it
+    /// where there is none.
     pub(crate) fn begin_load<Q: ToKey<K>>(
         &mut self,
         hash: u64,

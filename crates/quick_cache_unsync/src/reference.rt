@@ -15,8 +15,9 @@ use std::alloc::{Allocator, Global};
 use std::hash::{BuildHasher, Hash};
 use std::ops::{Deref, DerefMut};
 
-/// A reference to the value under a query. When it is dropped, the item gets the weight of the value
-/// that it then has, and nothing is evicted. One that is leaked leaves the item its old weight.
+/// A reference to the value under a query. When it is dropped, the item gets the weight of the
+/// value that it then has, and nothing is evicted. One that is leaked leaves the item its old
+/// weight.
 pub struct RefMut<
     'a,
     Q: Equivalent<K>,
@@ -30,7 +31,8 @@ pub struct RefMut<
     pub(crate) cache: &'a mut Cache<K, V, We, B, L, A>,
     pub(crate) query: &'a Q,
     pub(crate) hash: u64,
-    // The slot where the item is thought to stand, or 0: only what it costs to find it hangs on that.
+    // The slot where the item is thought to stand, or 0: only what it costs to find it hangs on
+    // that.
     pub(crate) slot: u32,
     ghost there: { 0 < count_under (Q.equivalent query.now) cache.now.state },
     ghost hash_is: { hash
@@ -183,8 +185,8 @@ impl<
     /// and read, and a hit or a miss is counted. It takes no memory.
     ///
     /// Once the reference is dropped, the item has the weight of the value that was left. One that
-    /// lost its weight leaves its ring, one that gained weight is put last in the ring of its queue,
-    /// and nothing is evicted, so that the cache may then be heavier than its capacity.
+    /// lost its weight leaves its ring, one that gained weight is put last in the ring of its
+    /// queue, and nothing is evicted, so that the cache may then be heavier than its capacity.
     pub fn get_mut<'a, Q: Equivalent<K>>(
         &'a mut self,
         query: &'a Q,
@@ -216,8 +218,8 @@ impl<
         })
     }
 
-    /// A reference to the value under the query's key, to write, which is no use of the item: nothing
-    /// is counted or marked. It is weighed anew as with `get_mut`.
+    /// A reference to the value under the query's key, to write, which is no use of the item:
+    /// nothing is counted or marked. It is weighed anew as with `get_mut`.
     pub fn peek_mut<'a, Q: Equivalent<K>>(
         &'a mut self,
         query: &'a Q,
