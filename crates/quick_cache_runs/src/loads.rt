@@ -103,8 +103,11 @@ pub(crate) fn guarded_mut<
     }
 }
 
-/// Looks a key up, or loads this value for it, or fails to. The reply tells whether a value that was
-/// loaded is resident.
+/// Looks a key up, or loads this value for it, or fails to. The reply tells whether a value that
+/// was loaded is resident.
+// It goes by a guard, which takes the request state of the run. The cache's calls that take a
+// loader (`load`, `get_or_insert_with`, `get_mut_or_insert_with`) make one of their own for the
+// hooks and drop it, and a run leads one request state through all of its calls.
 pub(crate) fn load<
     F,
     M: Allocator,
