@@ -20,11 +20,12 @@ use Rattle.quick_cache_calls.specs.declared.reply.Reply.TheVariants.{Loaded, Loa
 use Rattle.quick_cache_calls.specs.CacheStep.{CacheStep}
 use Rattle.quick_cache_calls.specs.Kinds.{IsLoad}
 use Rattle.quick_cache_calls.specs.References.{TellsItem, WritesItem}
+use Rattle.quick_cache_calls.specs.Shown.{IsShown}
 use Rattle.quick_cache_unsync.specs.Loads.{Takes, FillsIfThere}
 use Rattle.quick_cache_unsync.proofs.LoadLemmas.{Takes-takes, Takes-awaited, Takes-nothing}
 use Rattle.quick_cache_unsync.proofs.LoadLemmas.{Fills-awaited, counted-found}
 use Rattle.quick_cache_runs.specs.Made.{IsMade}
-use Rattle.quick_cache_runs.proofs.CallSteps.{clone_refused}
+use Rattle.quick_cache_runs.proofs.CallSteps.{LooksUp-seen, clone_refused}
 
 none-is-some : {X : Type 0} (x : X) → None ≡ Some x → ⊥
 none-is-some x same = absurd cc
@@ -36,6 +37,13 @@ module _ {K V : Type 0} (stands_for : K → Bool) (old : CacheState K V) where
   sees-nothing single sees new notes =
       none-is-some notes.0
       (Sees-LooksUp stands_for old single (λ item. item.value) sees notes.1.holds)
+
+  -- nothing was shown, so nothing was seen
+  pub shows-nothing : (shows : V → V → Type 0) (found : Option V) → IsShown shows found None
+      → Sees stands_for old (λ item. item.value) found
+      → Sees stands_for old (λ item. item.value) None
+  shows-nothing shows None is_shown sees = sees
+  shows-nothing shows (Some value) is_shown sees = absurd is_shown
 
   -- what was looked up is there
   still-there : (value : V) (new : CacheState K V)
@@ -85,6 +93,19 @@ module _ {K V F M : Type 0} (rules : Rules K V) (equal : K → K → Bool)
         CacheStep.refuses_found (Guarded key given) key given None Memory place before item after
         (IsLoad.guarded given) there (clone_refused old)
     guard-refuses-clone (Sees.is_absent none) is_some = absurd cc
+
+    -- an item was seen and shown, and a value is written through the reference to it
+    pub guard-writes : (left shown : V) (found : Option V) → keys_by (equal key) old ≤ 1
+        → Sees (equal key) old (λ item. item.value) found → IsShown shows found (Some shown)
+        → (looked : V) (mid new : CacheState K V)
+        → UpToOrder (LooksUp (equal key) old (λ item. item.value) (Some looked)) mid
+        → UpToOrder (WritesItem rules (equal key) mid left true) new
+        → Step (GuardedMut key given left) (Found shown) [] new
+    guard-writes left shown None single sees is_shown looked mid new looks writes = absurd is_shown
+    guard-writes left shown (Some found) single sees is_shown looked mid new looks writes =
+        CacheStep.finds (GuardedMut key given left) key given (Some left) found shown mid new
+        (IsLoad.guarded_mut given left)
+        (LooksUp-seen (equal key) old (λ item. item.value) single sees looks) is_shown writes
 
     -- no placeholder was made
     pub guard-refuses : (gives : K → Type 0) (refusal : Refusal) (new : CacheState K V)
@@ -237,3 +258,16 @@ module _ {K V F M : Type 0} (rules : Rules K V) (equal : K → K → Bool)
       look there cause) unfound = elim look [ ]
   guarded_mut-other key given left _ _ _ (CacheStep.refuses_room _ refusal makes_room cause)
       unfound = elim makes_room [ ]
+
+  -- so a guard that was made is made by this call too
+  pub guarded_mut-made : {S : Type 0} (hooks : Hooks K V S) (key : K) (given : Option V) (left : V)
+      (reply : Reply K V M) (first : S) (new : CacheState K V) (last : S)
+      → ((shown : V) → reply ≡ Found shown → ⊥)
+      → IsMade rules equal shows_key shows answers hooks old first (Guarded key given) reply new last
+      → IsMade rules equal shows_key shows answers hooks old first (GuardedMut key given left) reply
+      new last
+  guarded_mut-made hooks key given left reply first new last unfound made = record {
+    calls = made.calls;
+    step = guarded_mut-other key given left reply made.calls new made.step unfound;
+    runs = made.runs;
+  }

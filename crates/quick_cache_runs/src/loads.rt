@@ -1,14 +1,16 @@
 //! Calls that load what they do not find, each with its reply.
-ghost use Rattle.std.specs.Prelude.{◌≡◌, Bool};
+ghost use Rattle.std.specs.Prelude.{◌≡◌, Bool, Option, Some, IfOk, OnErr};
+ghost use Rattle.quick_cache_calls.specs.Shown.{IsShown};
+ghost use Rattle.quick_cache_model.specs.Lookups.{Sees};
 ghost use Rattle.quick_cache_runs.specs.Made.{IsMade};
 ghost use Rattle.quick_cache_shard.specs.Copies.{ClonesAreEqual};
-ghost use Rattle.quick_cache_shard.specs.Shard.{rules_of, hooks_of};
+ghost use Rattle.quick_cache_shard.specs.Shard.{rules_of, hooks_of, IsSoundShard};
 ghost use Rattle.quick_cache_unsync.specs.Touches.{no_touches};
 
 use quick_cache_calls::{Call, Reply};
 use quick_cache_model::{Lifecycle, Refusal, Weighter};
 use quick_cache_unsync::{Cache, poke};
-use std::alloc::Allocator;
+use std::alloc::{AllocError, Allocator};
 use std::hash::{BuildHasher, Hash};
 
 /// Looks a key up, or takes a guard for it, which is filled with this value or dropped. The clone
@@ -64,7 +66,25 @@ pub(crate) fn guarded<
     }
 }
 
-/// The same, and writes a value through the reference where one is given.
+/// A clone of the value under a key, where an item stands there.
+fn copied<K: Eq + Hash + Drop, V: Clone + Drop, We, B: BuildHasher, L, A: Allocator>(
+    cache: &Cache<K, V, We, B, L, A>,
+    key: &K,
+) -> Result<Option<V>, AllocError>
+    ensures shows { IfOk result (λ shown. (found : Option V)
+        × Sees (K.eq key.now) cache.now.state (λ item. item.value) found
+        × IsShown V.is_clone found shown) }
+    ensures fails { OnErr result ((found : V)
+        × Sees (K.eq key.now) cache.now.state (λ item. item.value) (Some found)) }
+    ensures sound { IsSoundShard K.eq cache.now }
+{
+    match cache.peek(key) {
+        Some(value) => Ok(Some(value.clone()?)),
+        None => Ok(None),
+    }
+}
+
+/// The same, by a reference to write, which the value is written through where one is given.
 pub(crate) fn guarded_mut<
     F,
     M: Allocator,
@@ -94,17 +114,34 @@ pub(crate) fn guarded_mut<
       work = cache.new.work;
     } }
 {
-    match guarded::<F, _, _, _, _, _, _, _>(cache, key, given, state) {
-        Reply::Found(copy) => {
-            let _ = poke(cache, key, left);
-            Reply::Found(copy)
-        }
-        reply => reply,
+    let Ok(shown) = copied(cache, key) else {
+        return Reply::Refused(Refusal::Memory);
+    };
+    match cache.get_mut_or_guard(key) {
+        Ok(Ok(mut reference)) => match shown {
+            Some(copy) => {
+                *reference = left;
+                Reply::Found(copy)
+            }
+            // An item stands under the key, so it was seen.
+            None => unreachable!(),
+        },
+        Ok(Err(guard)) => match given {
+            Some(value) => {
+                guard.insert_with_lifecycle(value, state);
+                Reply::Filled
+            }
+            None => Reply::Dropped,
+        },
+        Err(refusal) => Reply::Refused(refusal),
     }
 }
 
-/// Looks a key up, or loads this value for it, or fails to. The reply tells whether a value that was
-/// loaded is resident.
+/// Looks a key up, or loads this value for it, or fails to. The reply tells whether a value that
+/// was loaded is resident.
+// It goes by a guard, which takes the request state of the run. The cache's calls that take a
+// loader (`load`, `get_or_insert_with`, `get_mut_or_insert_with`) make one of their own for the
+// hooks and drop it, and a run leads one request state through all of its calls.
 pub(crate) fn load<
     F,
     M: Allocator,

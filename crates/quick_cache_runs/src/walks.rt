@@ -73,8 +73,8 @@ pub(crate) fn walk<
     }
 }
 
-/// Takes all pairs out, in no order, into this list, which is empty and has room for them, and drops
-/// all else.
+/// Takes all pairs out, in no order, into this list, which is empty and has room for them, and
+/// drops all else.
 fn given_out<M: Allocator, K: Eq + Hash + Drop, V: Drop, We, B: BuildHasher, L, A: Allocator>(
     mut pairs: Vec<(K, V), M>,
     cache: &mut Cache<K, V, We, B, L, A>,

@@ -1,46 +1,150 @@
-use Rattle.std.proofs.Common.{subst}
-use Rattle.quick_cache_model.specs.CacheState.{UpToOrder}
-use Rattle.quick_cache_calls.specs.declared.call.Call.TheVariants.{GuardedMut}
-use Rattle.quick_cache_calls.specs.Kinds.{IsLoad}
-use Rattle.quick_cache_calls.specs.References.{WritesItem}
-use Rattle.quick_cache_shard.specs.Shard.{Shard, rules_of}
+use Rattle.std.proofs.Common.{rules, ◌≡◌, Some, None, refl, sym, subst}
+use Rattle.quick_cache_model.specs.Hooks.{Rules}
+use Rattle.quick_cache_calls.specs.declared.call.Call.TheVariants.{Guarded, GuardedMut}
+use Rattle.quick_cache_calls.specs.declared.reply.Reply.TheVariants.{Found, Filled, Dropped, Refused}
+use Rattle.quick_cache_model.specs.declared.refusal.Refusal.TheVariants.{Memory}
+use Rattle.quick_cache_shard.specs.References.{with_value_under, ReweighsUnder}
+use Rattle.quick_cache_shard.specs.Shard.{Shard, rules_of, hooks_of}
+use Rattle.quick_cache_unsync.specs.Loads.{FillsIfThere}
 use Rattle.quick_cache_unsync.specs.Touches.{no_touches}
-use Rattle.quick_cache_runs.proofs.LoadSteps.{found-written, guarded_mut-other}
+use Rattle.quick_cache_unsync.proofs.ReferenceLemmas.{written}
+use Rattle.quick_cache_runs.specs.Made.{IsMade}
+use Rattle.quick_cache_runs.proofs.CallSteps.{quietly}
+use Rattle.quick_cache_runs.proofs.LoadSteps.{sees-nothing, shows-nothing, guard-writes}
+use Rattle.quick_cache_runs.proofs.LoadSteps.{guard-refuses-clone, guard-refuses, guard-drops}
+use Rattle.quick_cache_runs.proofs.LoadSteps.{guard-fills, guarded_mut-made}
 use Rattle.quick_cache_runs.proofs.loads.guarded_mut.Goals as goal
 
--- the value of what was found is written over
-pub returns-in-Found-clause-step : goal.returns-in-Found-clause-step
-returns-in-Found-clause-step g c = λ steady answers.
+-- an item was seen, so there was something to clone
+pub returns-in_default-clause-step : goal.returns-in_default-clause-step
+returns-in_default-clause-step g c = λ steady answers.
+    let key = c.args.key.now in
+    let old = c.args.cache.now.state in
+    let equal = g.K.PartialEq.eq in
+    let fails = c.in_default.ensures.fails in
+    guarded_mut-made _ equal g.K.Clone.is_clone g.V.Clone.is_clone answers old
+    (hooks_of g.L.Lifecycle c.args.cache.now) key c.args.given c.args.left
+    (Refused Memory) _ _ _
+    (λ shown same. absurd cc)
+    (quietly _ equal g.K.Clone.is_clone g.V.Clone.is_clone answers old
+    (hooks_of g.L.Lifecycle c.args.cache.now) c.args.state.now (Guarded key c.args.given) _ _
+    (guard-refuses-clone _ equal g.K.Clone.is_clone g.V.Clone.is_clone answers old key c.args.given
+    fails.1 refl))
+
+-- the value that was seen is written over, in a cache that goes by the same rules
+pub returns-in-Some-clause-step : goal.returns-in-Some-clause-step
+returns-in-Some-clause-step g c = λ steady answers.
     let key = c.args.key.now in
     let old = c.args.cache.now in
-    let mid = c.guarded.new.cache in
-    let equal = g.K.PartialEq.eq in
     let X = Shard g.row.K.Denot g.row.V.Denot g.row.We.Denot g.row.B.Denot g.row.L.Denot in
     let by = λ (x : X). rules_of no_touches g.K.Hash.hash_input g.We.Weighter g.B.BuildHasher
     g.B.Hasher.Hasher g.L.Lifecycle x in
-    let made = rw c.in-Found.is at (c.guarded.ensures.step steady answers) in
-    record {
-      calls = made.calls;
-      step = found-written (by old) equal g.K.Clone.is_clone g.V.Clone.is_clone answers old.state
-          key c.args.left (GuardedMut key c.args.given c.args.left) c.args.given
-          (IsLoad.guarded_mut c.args.given c.args.left) c.in-Found.copy c.poke.result made.calls
-          mid.state _ made.step
-          (subst (λ (x : X). UpToOrder (WritesItem (by x) (equal key) mid.state c.args.left
-          c.poke.result) c.poke.new.cache.state) c.guarded.ensures.same c.poke.ensures.writes);
-      runs = made.runs;
-    }
+    let equal = g.K.PartialEq.eq in
+    let r = c.in-Ok-Ok.reference in
+    let told = rw c.in-Ok-Ok.field-0-is at c.in-Ok-Ok.ensures.answers in
+    let same = rw c.in-Ok-Ok.field-0-is at c.in-Ok-Ok.ensures.same in
+    let sound = rw c.in-Ok-Ok.field-0-is at c.in-Ok-Ok.ensures.sound in
+    let shows = rw c.in-Some.is at c.in-Ok.ensures.shows in
+    let final = c.cache-1.given.0 in
+    let new = c.drop-reference.new.self.0 in
+    let ends : final ≡ new = search rules in
+    let writes = written (by old) (equal key) c.args.left r.cache.now.state new.state
+    (sound.valid.one_entry_a_key key)
+    (subst (λ (x : g.row.K.Denot × Rules g.row.K.Denot g.row.V.Denot).
+    ReweighsUnder (equal x.0) x.1 (with_value_under (equal x.0) c.args.left r.cache.now.state)
+    new.state) (λ i. (told.0 i, by (same i))) c.drop-reference.ensures.reweighs) in
+    subst (λ (x : X). IsMade {M = g.row.M.Denot} (by old) equal g.K.Clone.is_clone
+    g.V.Clone.is_clone answers (hooks_of g.L.Lifecycle old) old.state c.args.state.now
+    (GuardedMut key c.args.given c.args.left) (Found c.in-Some.copy) x.state c.args.state.now)
+    (sym ends)
+    (quietly (by old) equal g.K.Clone.is_clone g.V.Clone.is_clone answers old.state
+    (hooks_of g.L.Lifecycle old) c.args.state.now (GuardedMut key c.args.given c.args.left)
+    (Found c.in-Some.copy) new.state
+    (guard-writes (by old) equal g.K.Clone.is_clone g.V.Clone.is_clone answers old.state key
+    c.args.given c.args.left c.in-Some.copy shows.0 (c.in-Ok.ensures.sound.valid.one_entry_a_key key)
+    shows.1 shows.2 told.1.0 r.cache.now.state new.state told.1.1 writes))
 
--- and else nothing is
-pub returns-in_default : goal.returns-in_default
-returns-in_default g c = record {
-  step = λ steady answers.
-      let made = c.guarded.ensures.step steady answers in
-      record {
-        calls = made.calls;
-        step = guarded_mut-other _ g.K.PartialEq.eq g.K.Clone.is_clone g.V.Clone.is_clone answers
-            c.args.cache.now.state c.args.key.now c.args.given c.args.left c.guarded.result
-            made.calls c.guarded.new.cache.state made.step c.in_default.not-Found;
-        runs = made.runs;
-      };
-  same = c.guarded.ensures.same;
-}
+-- nothing was shown, so nothing is found
+pub unreachable-requires : goal.unreachable-requires
+unreachable-requires g c =
+    let told = rw c.in-Ok-Ok.field-0-is at c.in-Ok-Ok.ensures.answers in
+    let shows = rw c.in-None.is at c.in-Ok.ensures.shows in
+    sees-nothing (g.K.PartialEq.eq c.args.key.now) c.args.cache.now.state
+    (c.in-Ok.ensures.sound.valid.one_entry_a_key c.args.key.now)
+    (shows-nothing (g.K.PartialEq.eq c.args.key.now) c.args.cache.now.state g.V.Clone.is_clone
+    shows.0 shows.2 shows.1) _ told.1
+
+-- the guard's placeholder was filled, in a cache that goes by the same rules
+pub returns-in-Some-given-clause-step : goal.returns-in-Some-given-clause-step
+returns-in-Some-given-clause-step g c = λ steady answers.
+    let key = c.args.key.now in
+    let old = c.args.cache.now in
+    let guard = c.in-Ok-Err.guard in
+    let X = Shard g.row.K.Denot g.row.V.Denot g.row.We.Denot g.row.B.Denot g.row.L.Denot in
+    let by = λ (x : X). rules_of no_touches g.K.Hash.hash_input g.We.Weighter g.B.BuildHasher
+    g.B.Hasher.Hasher g.L.Lifecycle x in
+    let equal = g.K.PartialEq.eq in
+    let takes = rw c.in-Ok-Err.field-0-is at c.in-Ok-Err.ensures.answers in
+    let final = c.cache-in-Some-given-1.given.0 in
+    let new = c.insert_with_lifecycle.new.self.0 in
+    let same : final ≡ new = search rules in
+    let fills = subst (λ (x : X). FillsIfThere (g.L.Lifecycle.steady x.lifecycle)
+    (hooks_of g.L.Lifecycle x) (by x) guard.ticket guard.cache.now.state c.in-Some-given.value
+    c.args.state.now new.state c.insert_with_lifecycle.new.state)
+    (rw c.in-Ok-Err.field-0-is at c.in-Ok-Err.ensures.same)
+    c.insert_with_lifecycle.ensures.fills in
+    rw c.in-Some-given.is
+    (subst (λ (x : X). IsMade {M = g.row.M.Denot} (by old) equal g.K.Clone.is_clone
+    g.V.Clone.is_clone answers (hooks_of g.L.Lifecycle old) old.state c.args.state.now
+    (GuardedMut key (Some c.in-Some-given.value) c.args.left) Filled x.state
+    c.insert_with_lifecycle.new.state) (sym same)
+    (guarded_mut-made (by old) equal g.K.Clone.is_clone g.V.Clone.is_clone answers old.state
+    (hooks_of g.L.Lifecycle old) key (Some c.in-Some-given.value) c.args.left Filled
+    c.args.state.now new.state c.insert_with_lifecycle.new.state (λ shown same. absurd cc)
+    (guard-fills (by old) equal g.K.Clone.is_clone g.V.Clone.is_clone answers old.state key
+    (g.K.Clone.is_clone key) guard.ticket guard.cache.now.state takes
+    (hooks_of g.L.Lifecycle old) (g.L.Lifecycle.steady old.lifecycle) steady c.in-Some-given.value
+    c.args.state.now new.state c.insert_with_lifecycle.new.state fills)))
+
+-- or given up
+pub returns-in-Ok-Err-clause-step : goal.returns-in-Ok-Err-clause-step
+returns-in-Ok-Err-clause-step g c = λ steady answers.
+    let key = c.args.key.now in
+    let old = c.args.cache.now in
+    let guard = c.in-Ok-Err.guard in
+    let X = Shard g.row.K.Denot g.row.V.Denot g.row.We.Denot g.row.B.Denot g.row.L.Denot in
+    let by = λ (x : X). rules_of no_touches g.K.Hash.hash_input g.We.Weighter g.B.BuildHasher
+    g.B.Hasher.Hasher g.L.Lifecycle x in
+    let equal = g.K.PartialEq.eq in
+    let takes = rw c.in-Ok-Err.field-0-is at c.in-Ok-Err.ensures.answers in
+    let final = c.cache-in-Ok-Err-1.given.0 in
+    let new = c.drop-guard.new.self.0 in
+    let same : final ≡ new = search rules in
+    rw c.in-None-given.is
+    (subst (λ (x : X). IsMade {M = g.row.M.Denot} (by old) equal g.K.Clone.is_clone
+    g.V.Clone.is_clone answers (hooks_of g.L.Lifecycle old) old.state c.args.state.now
+    (GuardedMut key None c.args.left) Dropped x.state c.args.state.now) (sym same)
+    (guarded_mut-made (by old) equal g.K.Clone.is_clone g.V.Clone.is_clone answers old.state
+    (hooks_of g.L.Lifecycle old) key None c.args.left Dropped c.args.state.now new.state
+    c.args.state.now (λ shown same. absurd cc)
+    (quietly (by old) equal g.K.Clone.is_clone g.V.Clone.is_clone answers old.state
+    (hooks_of g.L.Lifecycle old) c.args.state.now (Guarded key None) Dropped new.state
+    (guard-drops (by old) equal g.K.Clone.is_clone g.V.Clone.is_clone answers old.state key
+    (g.K.Clone.is_clone key) guard.ticket guard.cache.now.state takes
+    new.state c.drop-guard.ensures.gives_up))))
+
+-- no placeholder was made
+pub returns-clause-step : goal.returns-clause-step
+returns-clause-step g c = λ steady answers.
+    let rests = rw c.in-Err.is at c.get_mut_or_guard.follows.holds-at-none in
+    let equal = g.K.PartialEq.eq in
+    let key = c.args.key.now in
+    let old = c.args.cache.now.state in
+    guarded_mut-made _ equal g.K.Clone.is_clone g.V.Clone.is_clone answers old
+    (hooks_of g.L.Lifecycle c.args.cache.now) key c.args.given c.args.left
+    (Refused c.in-Err.refusal) _ _ _
+    (λ shown same. absurd cc)
+    (quietly _ equal g.K.Clone.is_clone g.V.Clone.is_clone answers old
+    (hooks_of g.L.Lifecycle c.args.cache.now) c.args.state.now (Guarded key c.args.given) _ _
+    (guard-refuses _ equal g.K.Clone.is_clone g.V.Clone.is_clone answers old key c.args.given
+    (g.K.Clone.is_clone key) c.in-Err.refusal _ rests.0))
