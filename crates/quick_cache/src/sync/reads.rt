@@ -40,7 +40,7 @@ impl<K: Eq + Hash + Drop, V: Drop, We, B: BuildHasher, L: Lifecycle<K, V>, A: Al
         ensures fits { AlwaysSteady L.steady → ClonesFit L.fits V.is_clone → IfOk result
             (λ found. IfSome found (λ v. FitsQuery L.fits (Q.equivalent query.now) v)) }
     {
-        self.shard_of(query).read(rt).get(query)
+        self.reading(rt, query).get(query)
     }
 
     /// Looks at the query's key and gives a clone of its value, made under the lock. It is no use
@@ -58,7 +58,7 @@ impl<K: Eq + Hash + Drop, V: Drop, We, B: BuildHasher, L: Lifecycle<K, V>, A: Al
         ensures fits { AlwaysSteady L.steady → ClonesFit L.fits V.is_clone → IfOk result
             (λ found. IfSome found (λ v. FitsQuery L.fits (Q.equivalent query.now) v)) }
     {
-        self.shard_of(query).read(rt).peek(query)
+        self.reading(rt, query).peek(query)
     }
 
     /// Whether an item stands under the query's key. It is no use of the item, and nothing changes.
@@ -68,7 +68,7 @@ impl<K: Eq + Hash + Drop, V: Drop, We, B: BuildHasher, L: Lifecycle<K, V>, A: Al
             OnTrue result (HasItem (Q.equivalent query.now) shard.state)
             × OnFalse result (HasNoItem (Q.equivalent query.now) shard.state)) }
     {
-        self.shard_of(query).read(rt).contains_key(query)
+        self.reading(rt, query).contains_key(query)
     }
 
     /// How often the item under the query's key was read, up to the greatest `u64`. It is no use of
@@ -79,6 +79,6 @@ impl<K: Eq + Hash + Drop, V: Drop, We, B: BuildHasher, L: Lifecycle<K, V>, A: Al
             (λ stats. ShowsReads any_touches (Q.equivalent query.now) shard.state
             stats.access_count)) }
     {
-        self.shard_of(query).read(rt).item_stats(query)
+        self.reading(rt, query).item_stats(query)
     }
 }

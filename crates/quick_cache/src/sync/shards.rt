@@ -8,7 +8,7 @@ use crate::sync::locked::LockedShard;
 use quick_cache_base::{Equivalent, Lifecycle, hash_of};
 use std::alloc::Allocator;
 use std::hash::{BuildHasher, Hash};
-use std::sync::RwLock;
+use std::sync::{RwLock, RwLockReadGuard, Wait};
 
 impl<K: Eq + Hash + Drop, V: Drop, We, B: BuildHasher, L: Lifecycle<K, V>, A: Allocator> Cache<
     K,
@@ -43,5 +43,20 @@ impl<K: Eq + Hash + Drop, V: Drop, We, B: BuildHasher, L: Lifecycle<K, V>, A: Al
         query: &Q,
     ) -> &RwLock<LockedShard<K, V, We, B, L, A>> {
         &self.shards[self.shard_index(query)]
+    }
+
+    /// The read lock of the query's shard. It is tried once before the call waits for it, since a
+    /// try that succeeds takes a third of the steps.
+    #[inline(always)]
+    pub(crate) fn reading<R: Wait, Q: Equivalent<K>>(
+        &self,
+        rt: &R,
+        query: &Q,
+    ) -> RwLockReadGuard<'_, LockedShard<K, V, We, B, L, A>> {
+        let lock = self.shard_of(query);
+        match lock.try_read() {
+            Some(guard) => guard,
+            None => lock.read(rt),
+        }
     }
 }
