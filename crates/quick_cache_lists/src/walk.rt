@@ -1,7 +1,8 @@
 //! Walks along a ring, from its head on, and over all items. A step along a ring is one look at a
 //! slot.
-ghost use Rattle.std.specs.Prelude.{◌≡◌, length};
-ghost use Rattle.std.specs.Iterator.{YieldsFirst, YieldsFirstBy, item_count};
+ghost use Rattle.std.specs.Prelude.{◌≡◌, length, IfSome, Some};
+ghost use Rattle.std.specs.Iterator.{YieldsFirst, YieldsFirstBy, item_count, at_most, UpTo};
+ghost use Rattle.std.specs.Iterator.SizeHint.{IsWithinCount};
 
 use crate::refs::ItemRef;
 use crate::stored::Stored;
@@ -60,7 +61,12 @@ impl<'a, S, A: Allocator> Iterator for Walk<'a, S, A> {
         Some(slot)
     }
 
-    fn size_hint(&self) -> (usize, Option<usize>) {
+    fn size_hint(&self) -> (usize, Option<usize>)
+        ensures lower { IsWithinCount result.0 (at_most (length self.now)) }
+        ensures upper { IfSome result.1 (UpTo (at_most (length self.now))) }
+        // It is exact.
+        ensures exact { result ≡ (length self.now, Some (length self.now)) }
+    {
         (self.left, Some(self.left))
     }
 }
@@ -101,8 +107,14 @@ impl<'a, K, V, P, T, A: Allocator> Iterator for RingIter<'a, K, V, P, T, A> {
         }
     }
 
-    fn size_hint(&self) -> (usize, Option<usize>) {
-        (self.walk.left(), Some(self.walk.left()))
+    fn size_hint(&self) -> (usize, Option<usize>)
+        ensures lower { IsWithinCount result.0 (at_most (length self.now)) }
+        ensures upper { IfSome result.1 (UpTo (at_most (length self.now))) }
+        // It is exact.
+        ensures exact { result ≡ (length self.now, Some (length self.now)) }
+    {
+        let count = self.walk.left();
+        (count, Some(count))
     }
 }
 
@@ -142,7 +154,12 @@ impl<'a, K, V, P, T, A: Allocator> Iterator for GhostIter<'a, K, V, P, T, A> {
         Some(slot.hash)
     }
 
-    fn size_hint(&self) -> (usize, Option<usize>) {
+    fn size_hint(&self) -> (usize, Option<usize>)
+        ensures lower { IsWithinCount result.0 (at_most (length self.now)) }
+        ensures upper { IfSome result.1 (UpTo (at_most (length self.now))) }
+        // It is exact.
+        ensures exact { result ≡ (length self.now, Some (length self.now)) }
+    {
         (self.walk.left(), Some(self.walk.left()))
     }
 }
@@ -194,7 +211,12 @@ impl<'a, K, V, P, T> Iterator for ItemIter<'a, K, V, P, T> {
         None
     }
 
-    fn size_hint(&self) -> (usize, Option<usize>) {
+    fn size_hint(&self) -> (usize, Option<usize>)
+        ensures lower { IsWithinCount result.0 (at_most (length self.now)) }
+        ensures upper { IfSome result.1 (UpTo (at_most (length self.now))) }
+        // It is exact.
+        ensures exact { result ≡ (length self.now, Some (length self.now)) }
+    {
         (self.left, Some(self.left))
     }
 }
