@@ -235,6 +235,30 @@ module _ {K V P : Type 0} (stands_for : K → Bool) (hash : ℕ) (lists : Lists 
     ghosts = finds.ghosts;
   }
 
+-- where no item of the hash has a key that passes, none is found
+pub FindsItem-none : {K V P : Type 0} (stands_for : K → Bool) (hash : ℕ) (lists : Lists K V P)
+    (token : ℕ) → HasNoItemUnder stands_for hash lists → FindsItem stands_for hash lists token → ⊥
+FindsItem-none {K} {V} {P} stands_for hash lists token none finds =
+    go finds.stands.place finds.stands.stands
+  where
+    clash : (items : List (HeldItem K V))
+        → AllByRecursion (λ held. held.hash ≡ hash → stands_for held.item.key ≡ false) items
+        → StandsIn items (record { token = token; hash = hash; item = finds.item }) → ⊥
+    clash items all stands = true≢false (sym finds.passes
+        ∙ all-middle
+        (λ (held : HeldItem K V). held.hash ≡ hash → stands_for held.item.key ≡ false)
+        stands.before (record { token = token; hash = hash; item = finds.item }) stands.after
+        (subst (λ (l : List (HeldItem K V)).
+        AllByRecursion (λ held. held.hash ≡ hash → stands_for held.item.key ≡ false) l)
+        stands.split all) refl)
+
+    go : (place : Place)
+        → StandsIn (items_at place lists) (record { token = token; hash = hash; item = finds.item })
+        → ⊥
+    go InHot stands = clash lists.hot none.hot stands
+    go InCold stands = clash lists.cold none.cold stands
+    go InStill stands = clash lists.still none.still stands
+
 -- where a key is being loaded, no item has it: a valid state has one entry for it
 pub HasNoItem-loading : {K V : Type 0} (stands_for : K → Bool) (state : CacheState K V)
     (before : List (LoadingEntry K)) (entry : LoadingEntry K) (after : List (LoadingEntry K))

@@ -17,7 +17,7 @@ use std::hash::Hash;
 
 impl<K: Eq + Hash, V, P: SharedPlaceholder<K>, A: Allocator> Contents<K, V, P, A> {
     /// Takes note of a look-up: the item is marked and read, and a hit is counted, or a miss.
-    #[inline]
+    #[inline(always)]
     pub fn look_up<Q: Equivalent<K>>(&mut self, hash: u64, query: &Q) -> Option<Token>
         requires under { AreUnder (Q.equivalent query.now) hash self.old.lists }
         ensures looks_up { MatchOption result
