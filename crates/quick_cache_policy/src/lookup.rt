@@ -75,7 +75,8 @@ impl<K: Eq + Hash, V, P: SharedPlaceholder<K>, A: Allocator> Contents<K, V, P, A
         if mark == MARK_CUT {
             self.lists.set_reads(token, reads);
         } else {
-            self.lists.set_counts(token, mark.min(MARK_CUT - 1) + 1, reads);
+            self.lists
+                .set_counts(token, mark.min(MARK_CUT - 1) + 1, reads);
         }
         self.hits = self.hits.saturating_add(1);
     }

@@ -36,23 +36,23 @@ returns-clause-looks_up g c =
     let done : IsCounted contents t item (record now { hits = hits }) =
     elim c.if-mark-eq-MARK_CUT.branch [
       | then-mark-eq-MARK_CUT w ↦
-        let mark_is : item.mark ≡ raised_by default_mark_cut 1 item.mark =
-        omega (arith, c.mark-mark.ensures, w.if-mark-eq-MARK_CUT.true) in
-        record {
-          change = with_reads reads;
-          counts = λ i. record item { mark = mark_is i; reads = reads_are i };
-          is = counted-is contents now t (with_reads reads) w.set_reads.new.self hits w.self-is
-              w.set_reads.ensures hits_are;
-        }
+          let mark_is : item.mark ≡ raised_by default_mark_cut 1 item.mark =
+          omega (arith, c.mark-mark.ensures, w.if-mark-eq-MARK_CUT.true) in
+          record {
+            change = with_reads reads;
+            counts = λ i. record item { mark = mark_is i; reads = reads_are i };
+            is = counted-is contents now t (with_reads reads) w.set_reads.new.self hits w.self-is
+                w.set_reads.ensures hits_are;
+          }
       | else-mark-eq-MARK_CUT w ↦
-        let mark_is : w.min.result + 1 ≡ raised_by default_mark_cut 1 item.mark =
-        omega (arith, c.mark-mark.ensures, w.min.ensures) in
-        record {
-          change = with_counts (w.min.result + 1) reads;
-          counts = λ i. record item { mark = mark_is i; reads = reads_are i };
-          is = counted-is contents now t (with_counts (w.min.result + 1) reads)
-              w.set_counts.new.self hits w.self-is w.set_counts.ensures hits_are;
-        }
+          let mark_is : w.min.result + 1 ≡ raised_by default_mark_cut 1 item.mark =
+          omega (arith, c.mark-mark.ensures, w.min.ensures) in
+          record {
+            change = with_counts (w.min.result + 1) reads;
+            counts = λ i. record item { mark = mark_is i; reads = reads_are i };
+            is = counted-is contents now t (with_counts (w.min.result + 1) reads)
+                w.set_counts.new.self hits w.self-is w.set_counts.ensures hits_are;
+          }
     ] in
     subst (λ s. IsLookedUp ticket_of stands_for contents c.args.token s) (sym done.is)
     (record {
@@ -88,23 +88,23 @@ returns-clause-sound g c = λ hashed sound.
     let done : IsCounted contents t item (record now { hits = hits }) =
     elim c.if-mark-eq-MARK_CUT.branch [
       | then-mark-eq-MARK_CUT w ↦
-        let mark_is : item.mark ≡ raised_by default_mark_cut 1 item.mark =
-        omega (arith, c.mark-mark.ensures, w.if-mark-eq-MARK_CUT.true) in
-        record {
-          change = with_reads reads;
-          counts = λ i. record item { mark = mark_is i; reads = reads_are i };
-          is = counted-is contents now t (with_reads reads) w.set_reads.new.self hits w.self-is
-              w.set_reads.ensures hits_are;
-        }
+          let mark_is : item.mark ≡ raised_by default_mark_cut 1 item.mark =
+          omega (arith, c.mark-mark.ensures, w.if-mark-eq-MARK_CUT.true) in
+          record {
+            change = with_reads reads;
+            counts = λ i. record item { mark = mark_is i; reads = reads_are i };
+            is = counted-is contents now t (with_reads reads) w.set_reads.new.self hits w.self-is
+                w.set_reads.ensures hits_are;
+          }
       | else-mark-eq-MARK_CUT w ↦
-        let mark_is : w.min.result + 1 ≡ raised_by default_mark_cut 1 item.mark =
-        omega (arith, c.mark-mark.ensures, w.min.ensures) in
-        record {
-          change = with_counts (w.min.result + 1) reads;
-          counts = λ i. record item { mark = mark_is i; reads = reads_are i };
-          is = counted-is contents now t (with_counts (w.min.result + 1) reads)
-              w.set_counts.new.self hits w.self-is w.set_counts.ensures hits_are;
-        }
+          let mark_is : w.min.result + 1 ≡ raised_by default_mark_cut 1 item.mark =
+          omega (arith, c.mark-mark.ensures, w.min.ensures) in
+          record {
+            change = with_counts (w.min.result + 1) reads;
+            counts = λ i. record item { mark = mark_is i; reads = reads_are i };
+            is = counted-is contents now t (with_counts (w.min.result + 1) reads)
+                w.set_counts.new.self hits w.self-is w.set_counts.ensures hits_are;
+          }
     ] in
     subst (λ s. IsSound ticket_of g.K.PartialEq.eq hashed s) (sym done.is)
     (counted-sound ticket_of contents apart t hash item done.change done.counts has
