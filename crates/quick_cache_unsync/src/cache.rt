@@ -220,7 +220,7 @@ impl<K: Eq + Hash, V, We, B: BuildHasher, L, A: Allocator> Cache<K, V, We, B, L,
 
     /// Looks the query's key up: the item is marked and read, and a hit or a miss is counted. It
     /// takes no memory.
-    #[inline]
+    #[inline(always)]
     pub fn get<Q: Equivalent<K>>(&mut self, query: &Q) -> Option<&V>
         ensures* looks_up { sem 𝓛 (ends_so K.row V.row We.row B.row L.row A.row B.Hasher.row
             K.eq K.Hash.hash_input B.BuildHasher B.Hasher.Hasher A.Allocator self.entry
