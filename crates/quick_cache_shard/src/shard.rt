@@ -238,7 +238,7 @@ impl<K: Eq + Hash, V, We, B: BuildHasher, L, P: SharedPlaceholder<K>, A: Allocat
 
     /// The value under the query, which is handed in with its hash. A find counts a hit, marks the
     /// item and counts a read of it; else a miss is counted.
-    #[inline]
+    #[inline(always)]
     pub fn get<Q: Equivalent<K>>(&mut self, hash: u64, query: &Q) -> Option<&V>
         requires hash_is { hash ≡ hash_of B.BuildHasher B.Hasher.Hasher self.old.builder
             (Q.hash_input query.now) }
