@@ -1,5 +1,7 @@
 //! Takes all items out of a shard, one after another.
-ghost use Rattle.std.specs.Prelude.{◌≡◌, ◌≤◌, MatchOption};
+ghost use Rattle.std.specs.Prelude.{◌≡◌, ◌≤◌, length, MatchOption, IfSome, Some};
+ghost use Rattle.std.specs.Iterator.{at_most, UpTo};
+ghost use Rattle.std.specs.Iterator.SizeHint.{IsWithinCount};
 ghost use Rattle.quick_cache_policy.specs.Tokens.{TakesItem};
 ghost use Rattle.quick_cache_shard.specs.Shard.{IsSoundShard};
 ghost use Rattle.quick_cache_shard.specs.ShardDrain.{drained, drain_lender, DrainsInAll};
@@ -72,7 +74,13 @@ impl<
         Some(pair)
     }
 
-    fn size_hint(&self) -> (usize, Option<usize>) {
+    fn size_hint(&self) -> (usize, Option<usize>)
+        ensures lower { IsWithinCount result.0 (at_most (length (drain_rest self.now))) }
+        ensures upper { IfSome result.1 (UpTo (at_most (length (drain_rest self.now)))) }
+        // It is exact.
+        ensures exact { result
+            ≡ (length (drain_rest self.now), Some (length (drain_rest self.now))) }
+    {
         let left = self.shard.len();
         (left, Some(left))
     }

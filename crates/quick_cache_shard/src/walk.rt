@@ -1,6 +1,8 @@
 //! Walks over what a shard holds: over a ring in the order in which it would be visited, and over
 //! all items in none.
-ghost use Rattle.std.specs.Iterator.{YieldsFirst, YieldsFirstBy, item_count};
+ghost use Rattle.std.specs.Prelude.{◌≡◌, length, IfSome, Some};
+ghost use Rattle.std.specs.Iterator.{YieldsFirst, YieldsFirstBy, item_count, at_most, UpTo};
+ghost use Rattle.std.specs.Iterator.SizeHint.{IsWithinCount};
 
 use quick_cache_lists::{GhostIter as Ghosts, ItemIter as Items, RingIter as Ring};
 use quick_cache_policy::SharedPlaceholder;
@@ -39,7 +41,12 @@ impl<'a, K: Eq + Hash, V, P: SharedPlaceholder<K>, A: Allocator> Iterator
         Some((item.key(), item.value(), item.mark()))
     }
 
-    fn size_hint(&self) -> (usize, Option<usize>) {
+    fn size_hint(&self) -> (usize, Option<usize>)
+        ensures lower { IsWithinCount result.0 (at_most (length self.now)) }
+        ensures upper { IfSome result.1 (UpTo (at_most (length self.now))) }
+        // It is exact.
+        ensures exact { result ≡ (length self.now, Some (length self.now)) }
+    {
         (self.items.len(), Some(self.items.len()))
     }
 }
@@ -81,7 +88,12 @@ impl<'a, K: Eq + Hash, V, P: SharedPlaceholder<K>, A: Allocator> Iterator
         self.hashes.next()
     }
 
-    fn size_hint(&self) -> (usize, Option<usize>) {
+    fn size_hint(&self) -> (usize, Option<usize>)
+        ensures lower { IsWithinCount result.0 (at_most (length self.now)) }
+        ensures upper { IfSome result.1 (UpTo (at_most (length self.now))) }
+        // It is exact.
+        ensures exact { result ≡ (length self.now, Some (length self.now)) }
+    {
         (self.hashes.len(), Some(self.hashes.len()))
     }
 }
@@ -123,7 +135,12 @@ impl<'a, K: Eq + Hash, V, P: SharedPlaceholder<K>> Iterator for Iter<'a, K, V, P
         Some(item.pair())
     }
 
-    fn size_hint(&self) -> (usize, Option<usize>) {
+    fn size_hint(&self) -> (usize, Option<usize>)
+        ensures lower { IsWithinCount result.0 (at_most (length self.now)) }
+        ensures upper { IfSome result.1 (UpTo (at_most (length self.now))) }
+        // It is exact.
+        ensures exact { result ≡ (length self.now, Some (length self.now)) }
+    {
         (self.items.len(), Some(self.items.len()))
     }
 }

@@ -1,5 +1,7 @@
 //! Takes all items out of the cache, one after another.
-ghost use Rattle.std.specs.Prelude.{◌≡◌, ◌≤◌, MatchOption, Some, codes};
+ghost use Rattle.std.specs.Prelude.{◌≡◌, ◌≤◌, length, MatchOption, IfSome, Some, codes};
+ghost use Rattle.std.specs.Iterator.{at_most, UpTo};
+ghost use Rattle.std.specs.Iterator.SizeHint.{IsWithinCount};
 ghost use Rattle.quick_cache_shard.specs.Tokens.{TakesItem};
 ghost use Rattle.quick_cache_shard.specs.Shard.{IsSoundShard};
 ghost use Rattle.quick_cache_unsync.specs.CacheDrain.{drained, drain_lender, DrainsInAll};
@@ -48,7 +50,13 @@ impl<'a, K: Eq + Hash + Drop, V: Drop, We, B: BuildHasher, L, A: Allocator> Iter
         Some(pair)
     }
 
-    fn size_hint(&self) -> (usize, Option<usize>) {
+    fn size_hint(&self) -> (usize, Option<usize>)
+        ensures lower { IsWithinCount result.0 (at_most (length (drain_rest self.now))) }
+        ensures upper { IfSome result.1 (UpTo (at_most (length (drain_rest self.now)))) }
+        // It is exact.
+        ensures exact { result
+            ≡ (length (drain_rest self.now), Some (length (drain_rest self.now))) }
+    {
         let left = self.cache.len();
         (left, Some(left))
     }

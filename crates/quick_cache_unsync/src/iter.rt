@@ -1,6 +1,7 @@
 //! A walk over all items.
-ghost use Rattle.std.specs.Prelude.{Some, codes};
-ghost use Rattle.std.specs.Iterator.{YieldsFirstBy, item_count};
+ghost use Rattle.std.specs.Prelude.{◌≡◌, length, IfSome, Some, codes};
+ghost use Rattle.std.specs.Iterator.{YieldsFirstBy, item_count, at_most, UpTo};
+ghost use Rattle.std.specs.Iterator.SizeHint.{IsWithinCount};
 ghost use Rattle.quick_cache_shard.specs.Shard.{AreResidents};
 
 use crate::cache::Cache;
@@ -37,7 +38,12 @@ impl<'a, K: Eq + Hash, V> Iterator for Iter<'a, K, V> {
         self.items.next()
     }
 
-    fn size_hint(&self) -> (usize, Option<usize>) {
+    fn size_hint(&self) -> (usize, Option<usize>)
+        ensures lower { IsWithinCount result.0 (at_most (length self.now)) }
+        ensures upper { IfSome result.1 (UpTo (at_most (length self.now))) }
+        // It is exact.
+        ensures exact { result ≡ (length self.now, Some (length self.now)) }
+    {
         self.items.size_hint()
     }
 }
