@@ -1,4 +1,4 @@
--- What stands at a token, seen as an item or as a key that is being loaded.
+-- What stands at a token, seen as an item, as a key that is being loaded or as a ghost.
 use Rattle.std.proofs.Common.{◌≡◌, ℕ, Option, Some, None, MatchOption, length, refl, sym, ap, subst, ◌∙◌}
 use Rattle.quick_cache_model.specs.CacheState.{Item}
 use Rattle.quick_cache_slab.specs.LinkedSlab.{LinkedSlab, item_at}
@@ -8,14 +8,14 @@ use Rattle.quick_cache_lists.specs.declared.entry.Entry.{Entry}
 use Rattle.quick_cache_lists.specs.declared.entry.Entry.TheVariants.{Item as item_variant, Loading as loading_variant, Ghost as ghost_variant}
 use Rattle.quick_cache_lists.specs.declared.entry.Slot.{Slot}
 use Rattle.quick_cache_lists.specs.declared.ring.Ring.{Ring}
-use Rattle.quick_cache_lists.specs.Lists.{HeldLoading, HasItemToken, IsItemOf, HasLoadingToken, IsAwaitedOf}
-use Rattle.quick_cache_lists.specs.Slots.{entry_awaited, loading_of}
-use Rattle.quick_cache_lists.specs.Sound.{upto, lists_of, IsStanding}
+use Rattle.quick_cache_lists.specs.Lists.{HeldLoading, HeldGhost, HasGhostToken, HasItemToken, IsItemOf, HasLoadingToken, IsAwaitedOf}
+use Rattle.quick_cache_lists.specs.Slots.{entry_awaited, loading_of, ghost_of}
+use Rattle.quick_cache_lists.specs.Sound.{upto, tokens_of, lists_of, IsStanding}
 use Rattle.quick_cache_lists.specs.Walks.{entry_item}
 use Rattle.quick_cache_lists.proofs.GatherLemmas.{gather-from}
 use Rattle.quick_cache_lists.proofs.ItemLemmas.{item_by_token, item_is}
 use Rattle.quick_cache_lists.proofs.StandLemmas.{HasItem-from, StandsIn-loading}
-use Rattle.quick_cache_lists.proofs.TakeLemmas.{named_loading}
+use Rattle.quick_cache_lists.proofs.TakeLemmas.{named_loading, named_ghost}
 
 module _ {K V P T : Type 0} where
   -- an entry that is seen as a key that is being loaded is one
@@ -50,6 +50,22 @@ module _ {K V P T : Type 0} where
       by_entry hash (loading_variant awaited) e = (awaited, refl)
       by_entry hash ghost_variant e = absurd (cc)
 
+  -- and one that shows a ghost has one
+  ghost_in_slot : (t : ℕ) (o : Option (Slot K V P T)) (shade : HeldGhost)
+      → ghost_of t o ≡ Some shade → (slot : Slot K V P T) → o ≡ Some slot
+      → slot.entry ≡ ghost_variant
+  ghost_in_slot t None shade is slot at = absurd (cc)
+  ghost_in_slot t (Some one) shade is slot at =
+      let same : one ≡ slot = cc in
+      subst (λ (s : Slot K V P T). s.entry ≡ ghost_variant) same (by_entry one.hash one.entry is)
+    where
+      by_entry : (hash : ℕ) (entry : Entry K V P T)
+          → ghost_of t (Some (record { hash = hash; entry = entry })) ≡ Some shade
+          → entry ≡ ghost_variant
+      by_entry hash (item_variant item) e = absurd (cc)
+      by_entry hash (loading_variant awaited) e = absurd (cc)
+      by_entry hash ghost_variant e = refl
+
 module _ {K V P T : Type 0} (slab : LinkedSlab (Slot K V P T)) (table : Table)
     (hot cold ghosts : Ring) where
   -- what has the token of a placeholder is one
@@ -62,6 +78,17 @@ module _ {K V P T : Type 0} (slab : LinkedSlab (Slot K V P T)) (table : Table)
       let named : there.0 ≡ t =
       sym (named_loading there.0 (item_at slab there.0) has.0 there.2) ∙ has.2 in
       awaited_in_slot there.0 (item_at slab there.0) has.0 there.2 slot
+      (ap (λ n. item_at slab n) named ∙ at)
+
+  -- what has the token of a ghost is one
+  pub ghost_by_token : (t : ℕ) → HasGhostToken (lists_of slab table hot cold ghosts) t
+      → (slot : Slot K V P T) → item_at slab t ≡ Some slot → slot.entry ≡ ghost_variant
+  ghost_by_token t has slot at =
+      let there = gather-from (λ u. ghost_of u (item_at slab u)) (tokens_of slab ghosts.head)
+      has.0 has.1 in
+      let named : there.0 ≡ t =
+      sym (named_ghost there.0 (item_at slab there.0) has.0 there.2) ∙ has.2 in
+      ghost_in_slot there.0 (item_at slab there.0) has.0 there.2 slot
       (ap (λ n. item_at slab n) named ∙ at)
 
   module _ (standing : IsStanding slab hot cold ghosts) where

@@ -1,5 +1,5 @@
 -- What a look-up finds.
-use Rattle.std.proofs.Common.{◌≡◌, ◌≢◌, ◌⊎◌, ℕ, ◌+◌, ◌==◌, if◌then◌else◌, Bool, true, false, eqb, List, [], ◌∷◌, count_by, length, IfSome, Option, Some, None, IsSome, refl, sym, ap, subst, ◌∙◌, inl, inr, arith, true≢false}
+use Rattle.std.proofs.Common.{◌≡◌, ◌≢◌, ◌⊎◌, ℕ, ◌+◌, ◌<◌, ◌==◌, if◌then◌else◌, Bool, true, false, eqb, List, [], ◌∷◌, count_by, length, IfSome, Option, Some, None, IsSome, refl, sym, ap, subst, ◌∙◌, inl, inr, arith, true≢false}
 use Rattle.std.specs.Int.NonZero.{non_zero_u32_get}
 use Rattle.std.specs.declared.num.NonZeroU32.{NonZeroU32 as Token}
 use Rattle.std.proofs.lemmas.Bool.{cases_eq, cases_Bool, eqb-true, eq-eqb}
@@ -11,12 +11,22 @@ use Rattle.quick_cache_table.specs.Table.{Table, has_pair, HasPair, HasToken, Is
 use Rattle.quick_cache_lists.specs.declared.entry.Entry.{Entry}
 use Rattle.quick_cache_lists.specs.declared.entry.Entry.TheVariants.{Item as item_variant, Loading as loading_variant, Ghost as ghost_variant}
 use Rattle.quick_cache_lists.specs.declared.entry.Slot.{Slot}
+use Rattle.quick_cache_lists.specs.declared.found.Found.{Found}
+use Rattle.quick_cache_lists.specs.declared.found.Found.TheVariants.{Item as found_item, Loading as found_loading, Ghost as found_ghost, Nothing as found_nothing}
 use Rattle.quick_cache_lists.specs.declared.ring.Ring.{Ring}
-use Rattle.quick_cache_lists.specs.Lists.{HeldItem, HeldLoading, HeldGhost, StandsIn, HasNoItem, HasNoKey, HasNothing, FindsItem, FindsItemOfAnyHash, FindsLoading}
+use Rattle.quick_cache_lists.specs.Lists.{Lists, HeldItem, HeldLoading, HeldGhost, StandsIn, Finds, FindsByKey, HasNoItem, HasNoKey, HasNothing, FindsItem, FindsItemOfAnyHash, FindsLoading}
 use Rattle.quick_cache_lists.specs.Slots.{has_hash, item_of, if_still, still_of, loading_of, ghost_of, is_under_at, is_item_under_at, is_ghost_at, is_item_at}
 use Rattle.quick_cache_lists.specs.Sound.{gather, upto, tokens_of, lists_of, IsKeyed, IsStanding, IsWalked, PassesNoItem}
 use Rattle.quick_cache_lists.proofs.GatherLemmas.{gather-all}
 use Rattle.quick_cache_lists.proofs.StandLemmas.{HasItem-from, StandsIn-loading, StandsIn-ghosts}
+
+-- without a candidate the table has no pair of the hash
+pub none_of_hash : (table : Table) (hash : ℕ) (tokens : List ℕ) → CoversTokensOf table hash tokens
+    → tokens ≡ [] → (t : ℕ) → HasPair table hash t → ⊥
+none_of_hash table hash tokens covers none t has =
+    let some : 0 < count_by (λ k. k == t) [] =
+    subst (λ (ts : List ℕ). 0 < count_by (λ k. k == t) ts) none (covers.all t has) in
+    omega (arith, some)
 
 -- how often a token stands in a list, as std counts it
 times-count : (t : ℕ) (xs : List ℕ) → times t xs ≡ count_by (λ k. eqb k t) xs
@@ -434,3 +444,11 @@ module _ {K V P T : Type 0} where
       → (hash t : ℕ) → HasPair table hash t → IsOccupied slab t
   occupied_by_pair slab table keyed hash t has =
       hashed_some hash (item_at slab t) (sym (keyed.pairs hash t) ∙ has)
+
+-- what is found by key and hash is found by key
+pub FindsByKey-from : {K V P : Type 0} (stands_for : K → Bool) (hash : ℕ) (lists : Lists K V P)
+    (found : Found) → Finds stands_for hash lists found → FindsByKey stands_for hash lists found
+FindsByKey-from stands_for hash lists (found_item token) finds = (hash, finds)
+FindsByKey-from stands_for hash lists (found_loading token) finds = (hash, finds)
+FindsByKey-from stands_for hash lists (found_ghost token) finds = finds
+FindsByKey-from stands_for hash lists found_nothing finds = finds

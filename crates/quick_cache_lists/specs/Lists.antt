@@ -207,6 +207,18 @@ module _ {K V P : Type 0} where
       × StandsIn lists.ghosts (record { token = non_zero_u32_get token; hash = hash })
   Finds stands_for hash lists found_nothing = HasNothing stands_for hash lists
 
+  -- What a query finds that compares keys alone: an item or a placeholder with such a key, under
+  -- whatever hash it stands.
+  abbrev pub FindsByKey : (stands_for : K → Bool) (hash : ℕ) → Lists K V P → Found → Type 0
+  FindsByKey stands_for hash lists (found_item token) =
+      FindsItemOfAnyHash stands_for lists (non_zero_u32_get token)
+  FindsByKey stands_for hash lists (found_loading token) =
+      (of_key : ℕ) × FindsLoading stands_for of_key lists (non_zero_u32_get token)
+  FindsByKey stands_for hash lists (found_ghost token) =
+      HasNoKey stands_for hash lists
+      × StandsIn lists.ghosts (record { token = non_zero_u32_get token; hash = hash })
+  FindsByKey stands_for hash lists found_nothing = HasNothing stands_for hash lists
+
   -- an entry has the token
   abbrev pub HasEntry : Lists K V P → ℕ → Type 0
   HasEntry lists token =
@@ -352,6 +364,11 @@ module _ {K V P : Type 0} where
         → (token < non_zero_u32_get first) × HasItemToken lists (non_zero_u32_get first)
     pub least : (first : Token) (other : ℕ) → result ≡ Some first → token < other
         → other < non_zero_u32_get first → ¬ HasItemToken lists other
+
+  -- a ghost has the token
+  abbrev pub HasGhostToken : Lists K V P → ℕ → Type 0
+  HasGhostToken lists token =
+      (shade : HeldGhost) × StandsIn lists.ghosts shade × (shade.token ≡ token)
 
   -- a placeholder has the token
   abbrev pub HasLoadingToken : Lists K V P → ℕ → Type 0

@@ -9,7 +9,7 @@ use Rattle.quick_cache_model.specs.CacheState.{CacheState, LoadingEntry, Place, 
 use Rattle.quick_cache_model.specs.Finding.{IsItemAt, IsLoadingAt, IsGhostAt, HasNoItem, HasNoKey as HasNoKeyOf, HasNothing as HasNothingOf}
 use Rattle.quick_cache_model.proofs.EachElement.{all-middle}
 use Rattle.quick_cache_model.proofs.KeyCounts.{one_if, none-from_keys, loading_keys-split}
-use Rattle.quick_cache_lists.specs.Lists.{Lists, HeldItem, HeldLoading, HeldGhost, StandsIn, HasItem, HasNoKey, HasNothing, FindsItem, FindsItemOfAnyHash, Finds, items_at}
+use Rattle.quick_cache_lists.specs.Lists.{Lists, HeldItem, HeldLoading, HeldGhost, StandsIn, HasItem, HasNoKey, HasNothing, FindsItem, FindsItemOfAnyHash, FindsLoading, Finds, FindsByKey, items_at}
 use Rattle.quick_cache_lists.specs.Lists.{HasNoItem as HasNoItemUnder}
 use Rattle.quick_cache_lists.specs.Views.{items_of, hashes_of, loading_entry, loading_entries}
 use Rattle.quick_cache_lists.specs.declared.found.Found.{Found}
@@ -87,7 +87,7 @@ module _ {K V P : Type 0} (stands_for : K → Bool) (hash : ℕ) (lists : Lists 
           all-middle has_hash before held after
           (subst (AllByRecursion has_hash) split under.still) finds.passes
 
-  -- what the lists found by keys alone is what they would have found by the hash too
+  -- an item that the lists found by keys alone is what they would have found by the hash too
   pub found-under : AreUnder stands_for hash lists → (found : Option Token)
       → MatchOption found (HasNoItemUnder stands_for hash lists)
       (λ token. FindsItemOfAnyHash stands_for lists (non_zero_u32_get token))
@@ -95,6 +95,25 @@ module _ {K V P : Type 0} (stands_for : K → Bool) (hash : ℕ) (lists : Lists 
       (λ token. FindsItem stands_for hash lists (non_zero_u32_get token))
   found-under under None none = none
   found-under under (Some token) finds = FindsItem-under under _ finds
+
+  -- a placeholder for whose key the query stands has the query's hash
+  FindsLoading-under : AreUnder stands_for hash lists → (token of_key : ℕ)
+      → FindsLoading stands_for of_key lists token → FindsLoading stands_for hash lists token
+  FindsLoading-under under token of_key finds =
+      let has_hash : HeldLoading K P → Type 0 =
+      λ waiting. stands_for waiting.key ≡ true → waiting.hash ≡ hash in
+      let stands = finds.stands in
+      let same = all-middle has_hash stands.before finds.waiting stands.after
+      (subst (AllByRecursion has_hash) stands.split under.loading) finds.passes in
+      subst (λ h. FindsLoading stands_for h lists token) (sym finds.hashed ∙ same) finds
+
+  -- what the lists found by keys alone is what they would have found by the hash too
+  pub Finds-under : AreUnder stands_for hash lists → (found : Found)
+      → FindsByKey stands_for hash lists found → Finds stands_for hash lists found
+  Finds-under under (found_item token) finds = FindsItem-under under _ finds
+  Finds-under under (found_loading token) finds = FindsLoading-under under _ finds.0 finds.1
+  Finds-under under (found_ghost token) finds = finds
+  Finds-under under found_nothing finds = finds
 
 module _ {K V P A T : Type 0} (ticket_of : P → ℕ) (stands_for : K → Bool) (hash : ℕ)
     (contents : Contents K V P A T) where
@@ -234,30 +253,6 @@ module _ {K V P : Type 0} (stands_for : K → Bool) (hash : ℕ) (lists : Lists 
     keys = HasNoKey-room finds.keys;
     ghosts = finds.ghosts;
   }
-
--- where no item of the hash has a key that passes, none is found
-pub FindsItem-none : {K V P : Type 0} (stands_for : K → Bool) (hash : ℕ) (lists : Lists K V P)
-    (token : ℕ) → HasNoItemUnder stands_for hash lists → FindsItem stands_for hash lists token → ⊥
-FindsItem-none {K} {V} {P} stands_for hash lists token none finds =
-    go finds.stands.place finds.stands.stands
-  where
-    clash : (items : List (HeldItem K V))
-        → AllByRecursion (λ held. held.hash ≡ hash → stands_for held.item.key ≡ false) items
-        → StandsIn items (record { token = token; hash = hash; item = finds.item }) → ⊥
-    clash items all stands = true≢false (sym finds.passes
-        ∙ all-middle
-        (λ (held : HeldItem K V). held.hash ≡ hash → stands_for held.item.key ≡ false)
-        stands.before (record { token = token; hash = hash; item = finds.item }) stands.after
-        (subst (λ (l : List (HeldItem K V)).
-        AllByRecursion (λ held. held.hash ≡ hash → stands_for held.item.key ≡ false) l)
-        stands.split all) refl)
-
-    go : (place : Place)
-        → StandsIn (items_at place lists) (record { token = token; hash = hash; item = finds.item })
-        → ⊥
-    go InHot stands = clash lists.hot none.hot stands
-    go InCold stands = clash lists.cold none.cold stands
-    go InStill stands = clash lists.still none.still stands
 
 -- where a key is being loaded, no item has it: a valid state has one entry for it
 pub HasNoItem-loading : {K V : Type 0} (stands_for : K → Bool) (state : CacheState K V)

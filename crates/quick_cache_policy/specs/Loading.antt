@@ -47,14 +47,6 @@ module _ {K V P A T : Type 0} (ticket_of : P → ℕ) (stands_for : K → Bool) 
   Makes (Err refusal) new =
       MakesNone stands_for gives hash (state_of ticket_of old) refusal (state_of ticket_of new)
 
-  -- what a call met or made of a query under which no item is found
-  abbrev pub MeetsOrMakes : Result (P × Bool) Refusal → Contents K V P A T → Type 0
-  MeetsOrMakes (Ok begun) new =
-      IsMadeOrMet stands_for gives hash (state_of ticket_of old) begun.1 (ticket_of begun.0)
-      (state_of ticket_of new)
-  MeetsOrMakes (Err refusal) new =
-      MakesNone stands_for gives hash (state_of ticket_of old) refusal (state_of ticket_of new)
-
   -- the answer of a look-up that makes a placeholder where no key is found
   abbrev pub LooksUpOrMakes : Result (Result Token (P × Bool)) Refusal → Contents K V P A T
       → Type 0

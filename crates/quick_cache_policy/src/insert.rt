@@ -88,6 +88,7 @@ impl<K: Eq + Hash + Drop, V: Drop, P: SharedPlaceholder<K>, A: Allocator> Conten
     }
 
     /// Writes a pair that was admitted, or gives it back where a replace finds no item.
+    #[inline(always)]
     fn write_admitted<M: Policy<K, V>>(
         &mut self,
         found: Found,
@@ -159,6 +160,7 @@ impl<K: Eq + Hash + Drop, V: Drop, P: SharedPlaceholder<K>, A: Allocator> Conten
     }
 
     /// Checks whether the pair may come in, and writes it or turns it away.
+    #[inline(always)]
     fn write<M: Policy<K, V>>(
         &mut self,
         found: Found,

@@ -1,13 +1,13 @@
 //! Placeholders that are made for keys, and met.
 ghost use Rattle.std.specs.Prelude.{◌≡◌, ℕ, ◌+◌, ◌≤◌, min, true, IfOk, IfErr};
 ghost use Rattle.std.specs.Int.NonZero.{non_zero_u32_get as number};
-ghost use Rattle.quick_cache_lists.specs.Lists.{Finds, HasNoItem};
+ghost use Rattle.quick_cache_lists.specs.Lists.{Finds};
 ghost use Rattle.quick_cache_model.specs.CacheState.{UpToOrder};
 ghost use Rattle.quick_cache_model.specs.Placeholders.{MeetsPlaceholder};
 ghost use Rattle.quick_cache_model.specs.declared.refusal.Refusal.TheVariants.{Memory};
 ghost use Rattle.quick_cache_policy.specs.Contents.{IsSound, state_of};
 ghost use Rattle.quick_cache_policy.specs.Finding.{AreUnder};
-ghost use Rattle.quick_cache_policy.specs.Loading.{IsMadeUnder, Makes, MeetsOrMakes, LooksUpOrMakes};
+ghost use Rattle.quick_cache_policy.specs.Loading.{IsMadeUnder, Makes, LooksUpOrMakes};
 
 use crate::contents::Contents;
 use crate::placeholder::SharedPlaceholder;
@@ -55,6 +55,7 @@ impl<K: Eq + Hash + Drop, V: Drop, P: SharedPlaceholder<K>, A: Allocator> Conten
     }
 
     /// Makes a cold placeholder where nothing is found. Room and the key come first.
+    #[inline(always)]
     fn make_on_nothing<Q: ToKey<K>>(&mut self, hash: u64, query: &Q) -> Result<P, Refusal>
         requires under { AreUnder (Q.equivalent query.now) hash self.old.lists }
         requires stands { (key : K) → Q.to_key_gives query.now key
@@ -138,44 +139,13 @@ impl<K: Eq + Hash + Drop, V: Drop, P: SharedPlaceholder<K>, A: Allocator> Conten
         shared
     }
 
-    /// The placeholder of the query's key, under which there is no item: the one that stands there
-    /// is met, which counts a hit, or else one is made, which counts a miss. The flag says that it
-    /// is new.
-    fn meet_or_make<Q: ToKey<K>>(&mut self, hash: u64, query: &Q) -> Result<(P, bool), Refusal>
-        requires under { AreUnder (Q.equivalent query.now) hash self.old.lists }
-        requires none { HasNoItem (Q.equivalent query.now) hash self.old.lists }
-        requires stands { (key : K) → Q.to_key_gives query.now key
-            → Q.equivalent query.now key ≡ true }
-        ensures answers { MeetsOrMakes P.ticket_of (Q.equivalent query.now)
-            (Q.to_key_gives query.now) hash self.old result self.new }
-        ensures hash { IfOk result (λ begun. begun.1 ≡ true → P.hash_of begun.0 ≡ hash) }
-        ensures sound { (hashed : K → ℕ)
-            → ((key : K) → Q.equivalent query.now key ≡ true → hashed key ≡ hash)
-            → IsSound P.ticket_of K.eq hashed self.old
-            → IsSound P.ticket_of K.eq hashed self.new }
-        ensures room { self.old.lists.room ≤ self.new.lists.room + 1 }
-        ensures same { self.new ≡ record self.old {
-          lists = self.new.lists;
-          hits = self.new.hits;
-          misses = self.new.misses;
-          next_ticket = self.new.next_ticket;
-        } }
-    {
-        match self.lists.find(hash, query) {
-            Found::Item(_) => unreachable!(),
-            Found::Loading(token) => Ok((self.meet_placeholder(token, hash, query), false)),
-            Found::Ghost(token) => Ok((self.make_on_ghost(token, hash, query)?, true)),
-            Found::Nothing => Ok((self.make_on_nothing(hash, query)?, true)),
-        }
-    }
-
     /// Looks the query's key up as `look_up` does, and gives the token of its item. A placeholder
     /// that stands there is met, which counts a hit. Else one is made, which takes the next ticket
     /// and counts a miss: a hot one in the place of a ghost of the hash, or a cold one.
     ///
     /// The flag says that the placeholder is new. Only a new one takes memory: tickets are looked
     /// at first, then slots, and memory is asked for last, all before anything changes.
-    #[inline]
+    #[inline(always)]
     pub fn get_or_placeholder<Q: ToKey<K>>(
         &mut self,
         hash: u64,
@@ -199,14 +169,14 @@ impl<K: Eq + Hash + Drop, V: Drop, P: SharedPlaceholder<K>, A: Allocator> Conten
           next_ticket = self.new.next_ticket;
         } }
     {
-        // An item is looked for by keys alone, as `look_up` does.
-        if let Some(token) = self.find_item(hash, query) {
-            self.count_hit(token, hash, query);
-            return Ok(Ok(token));
-        }
-        match self.meet_or_make(hash, query) {
-            Ok(begun) => Ok(Err(begun)),
-            Err(refusal) => Err(refusal),
+        match self.find_by_key(hash, query) {
+            Found::Item(token) => {
+                self.count_hit(token, hash, query);
+                Ok(Ok(token))
+            }
+            Found::Loading(token) => Ok(Err((self.meet_placeholder(token, hash, query), false))),
+            Found::Ghost(token) => Ok(Err((self.make_on_ghost(token, hash, query)?, true))),
+            Found::Nothing => Ok(Err((self.make_on_nothing(hash, query)?, true))),
         }
     }
 }

@@ -1,7 +1,7 @@
 //! Look-ups and removals.
 ghost use Rattle.std.specs.Prelude.{◌≡◌, ℕ, ◌≤◌, MatchOption};
 ghost use Rattle.std.specs.Int.NonZero.{non_zero_u32_get as number};
-ghost use Rattle.quick_cache_lists.specs.Lists.{FindsItem, HasNoItem};
+ghost use Rattle.quick_cache_lists.specs.Lists.{Finds, FindsItem, HasNoItem};
 ghost use Rattle.quick_cache_model.specs.Removal.{Removes};
 ghost use Rattle.quick_cache_model.specs.CacheState.{UpToOrder};
 ghost use Rattle.quick_cache_policy.specs.Contents.{IsSound, state_of};
@@ -52,6 +52,15 @@ impl<K: Eq + Hash, V, P: SharedPlaceholder<K>, A: Allocator> Contents<K, V, P, A
             (λ token. FindsItem (Q.equivalent query.now) hash self.now.lists (number token)) }
     {
         self.lists.find_item(hash, query)
+    }
+
+    /// What stands under the query. As `find_item` it compares keys alone.
+    #[inline(always)]
+    pub(crate) fn find_by_key<Q: Equivalent<K>>(&self, hash: u64, query: &Q) -> Found
+        requires under { AreUnder (Q.equivalent query.now) hash self.now.lists }
+        ensures { Finds (Q.equivalent query.now) hash self.now.lists result }
+    {
+        self.lists.find_by_key(hash, query)
     }
 
     /// Counts a hit at an item that the query found: it is marked and read.

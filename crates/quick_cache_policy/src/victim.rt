@@ -136,6 +136,7 @@ impl<K: Eq + Hash + Drop, V: Drop, P: SharedPlaceholder<K>, A: Allocator> Conten
     }
 
     /// Forgets the oldest ghost where there are more than the limit.
+    #[inline(always)]
     fn forget_oldest(&mut self)
         requires one { length self.old.lists.ghosts ≤ self.old.ghost_limit + 1 }
         ensures ghosts { hashes_of self.new.lists.ghosts
@@ -157,6 +158,7 @@ impl<K: Eq + Hash + Drop, V: Drop, P: SharedPlaceholder<K>, A: Allocator> Conten
     }
 
     /// Forgets the oldest ghost.
+    #[inline(always)]
     pub(crate) fn forget_ghost(&mut self)
         requires some { 0 < length self.old.lists.ghosts }
         ensures ghosts { hashes_of self.new.lists.ghosts
@@ -174,7 +176,7 @@ impl<K: Eq + Hash + Drop, V: Drop, P: SharedPlaceholder<K>, A: Allocator> Conten
             unreachable!();
         };
         self.lists.apart();
-        let _ = self.lists.take(oldest, false);
+        self.lists.take_ghost(oldest);
     }
 
     /// Makes the first cold item the last hot one: it pays a mark.

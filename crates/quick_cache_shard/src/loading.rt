@@ -33,6 +33,7 @@ impl<
     ///
     /// Only where one would be made: `TicketsSpent`, `SlotsFull` where there is no ghost either, or
     /// `Memory`, of which the key, the placeholder and a slot may ask. Nothing has changed then.
+    #[inline(always)]
     pub fn get_or_placeholder<Q: ToKey<K>>(
         &mut self,
         hash: u64,

@@ -35,6 +35,7 @@ impl<
     /// `NotKept` where the loaded value did not stay, `Failed` with the loader's error, which
     /// leaves no placeholder, and `Refused`, which comes before the loader is called, and only
     /// where no key is found: by `TicketsSpent`, `SlotsFull` or `Memory`. Nothing has changed then.
+    #[inline]
     pub fn get_or_insert_with<'a, Q: ToKey<K>, E, F: FnOnce() -> Result<V, E>>(
         &'a mut self,
         query: &'a Q,

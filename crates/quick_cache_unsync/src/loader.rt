@@ -43,6 +43,7 @@ impl<
 > Cache<K, V, We, B, L, A> {
     /// Looks the query's key up and gives the token of its item, or takes a placeholder for it
     /// where there is none.
+    #[inline(always)]
     pub(crate) fn begin_load<Q: ToKey<K>>(
         &mut self,
         hash: u64,
@@ -105,6 +106,7 @@ impl<
 
     /// What `load` does, with the query's hash. Beside its answer it gives the number of the slot
     /// where the item is thought to stand, or 0.
+    #[inline(always)]
     pub(crate) fn load_by<Q: ToKey<K>, E, F: FnOnce() -> Result<V, E>>(
         &mut self,
         hash: u64,

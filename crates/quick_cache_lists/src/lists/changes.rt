@@ -1,9 +1,9 @@
 //! What changes the lists: an entry comes, goes, moves or is written.
-ghost use Rattle.std.specs.Prelude.{◌≡◌, ◌+◌, ◌<◌};
+ghost use Rattle.std.specs.Prelude.{◌≡◌, ◌+◌, ◌<◌, false};
 ghost use Rattle.std.specs.Int.NonZero.{non_zero_u32_get as number};
-ghost use Rattle.quick_cache_lists.specs.Lists.{PutsLast, HasEntry, IsEntry, without_entry, HasItemToken, ring_turned, with_change, with_counts, with_reads, HasItemOfQueue, Rewrites, Reweighs};
+ghost use Rattle.quick_cache_lists.specs.Lists.{PutsLast, HasEntry, IsEntry, without_entry, HasGhostToken, HasItemToken, ring_turned, with_change, with_counts, with_reads, HasItemOfQueue, Rewrites, Reweighs};
 
-use crate::entry::{Entry, Slot};
+use crate::entry::{Entry, Slot, Stand};
 use crate::lists::Lists;
 use crate::resident::Resident;
 use crate::ring::turn;
@@ -45,6 +45,22 @@ impl<K, V, P, T, A: Allocator> Lists<K, V, P, T, A> {
         self.rings.leave(token, next, stand, restarts, weight);
         self.loading -= stand.loading();
         slot
+    }
+
+    /// Takes a ghost out. The others keep their order.
+    #[inline(always)]
+    pub fn take_ghost(&mut self, token: Token)
+    where
+        K: Drop,
+        V: Drop,
+        P: Drop,
+        T: Drop,
+        requires { HasGhostToken self.old (number token) }
+        ensures { self.new ≡ without_entry false (number token) self.old }
+    {
+        self.slab.validate();
+        let (_, next) = displace(&mut self.slab, &mut self.table, token);
+        self.rings.leave(token, next, Stand::AmongGhosts, false, 0);
     }
 
     /// Begins the ring one further on.

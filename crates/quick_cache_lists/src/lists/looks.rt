@@ -4,7 +4,7 @@ ghost use Rattle.std.specs.Int.NonZero.{non_zero_u32_get as number};
 ghost use Rattle.quick_cache_model.specs.CacheState.{ring_place};
 ghost use Rattle.quick_cache_slab.specs.LinkedSlab.{IsOccupied, item_at};
 ghost use Rattle.quick_cache_lists.specs.Slots.{is_item_under_at};
-ghost use Rattle.quick_cache_lists.specs.Lists.{Finds, FindsItemOfAnyHash, HasNoItem, HasItemToken, IsItemOf, HasLoadingToken, IsAwaitedOf, HasRingToken, next_in_ring, IsFirstAbove, number_or_zero, IsFirstOf, items_at};
+ghost use Rattle.quick_cache_lists.specs.Lists.{Finds, FindsByKey, FindsItemOfAnyHash, HasNoItem, HasItemToken, IsItemOf, HasLoadingToken, IsAwaitedOf, HasRingToken, next_in_ring, IsFirstAbove, number_or_zero, IsFirstOf, items_at};
 
 use crate::found::Found;
 use crate::lists::Lists;
@@ -99,6 +99,25 @@ impl<K, V, P, T, A: Allocator> Lists<K, V, P, T, A> {
             }
         }
         None
+    }
+
+    /// The item or the placeholder whose key the query stands for; else some ghost of that hash;
+    /// else nothing. As `find_item` it compares keys alone: the caller knows which hash such a key
+    /// has.
+    #[inline(always)]
+    pub fn find_by_key<Q: Equivalent<K>>(&self, hash: u64, query: &Q) -> Found
+    where
+        K: Eq + Hash,
+        ensures { FindsByKey (Q.equivalent query.now) hash self.now result }
+    {
+        let Some(first) = self.table.candidates(hash).next() else {
+            return Found::Nothing;
+        };
+        // The first is nearly always the item, if there is one.
+        if is_item_under(&self.slab, first, query) {
+            return Found::Item(first);
+        }
+        self.find_on_walk(hash, query)
     }
 
     /// The token of the item that is visited next.

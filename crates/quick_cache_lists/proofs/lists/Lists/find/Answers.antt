@@ -1,15 +1,5 @@
-use Rattle.std.proofs.Common.{◌≡◌, ◌<◌, ◌==◌, ℕ, List, [], count_by, subst, arith}
-use Rattle.quick_cache_table.specs.Table.{Table, HasPair, CoversTokensOf}
-use Rattle.quick_cache_lists.proofs.FindLemmas.{HasNothing-from}
+use Rattle.quick_cache_lists.proofs.FindLemmas.{HasNothing-from, none_of_hash}
 use Rattle.quick_cache_lists.proofs.lists.Lists.find.Goals as goal
-
--- without a candidate the table has no pair of the hash
-none_of_hash : (table : Table) (hash : ℕ) (tokens : List ℕ) → CoversTokensOf table hash tokens
-    → tokens ≡ [] → (t : ℕ) → HasPair table hash t → ⊥
-none_of_hash table hash tokens covers none t has =
-    let some : 0 < count_by (λ k. k == t) [] =
-    subst (λ (ts : List ℕ). 0 < count_by (λ k. k == t) ts) none (covers.all t has) in
-    omega (arith, some)
 
 pub returns-in-None : goal.returns-in-None
 returns-in-None g c =
