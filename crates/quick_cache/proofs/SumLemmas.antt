@@ -3,7 +3,7 @@ use Rattle.std.proofs.Common.{◌≡◌, ℕ, ◌+◌, ◌-◌, ◌^◌, Bool, [
 use Rattle.std.proofs.lemmas.List.Sums.{sum_by-cons}
 use Rattle.quick_cache_model.specs.declared.lifecycle.Lifecycle as lifecycle
 use Rattle.quick_cache_shard.specs.Shard.{Shard}
-use Rattle.quick_cache.specs.Locked.{FromSome}
+use Rattle.quick_cache_locked.specs.Locked.{FromSome}
 use Rattle.quick_cache.specs.Sums.{AddsUp}
 
 module _ {K V We B L S : Type 0} (life : lifecycle.Ghosts L K V S) (equal : K → K → Bool)

@@ -5,7 +5,7 @@ use Rattle.quick_cache_model.specs.declared.refusal.Refusal.{Refusal}
 use Rattle.quick_cache_model.specs.Hooks.{Rules, Hooks}
 use Rattle.quick_cache_shard.specs.Shard.{Shard}
 use Rattle.quick_cache.specs.Answers.{InsertsSo, InsertsAloneSo}
-use Rattle.quick_cache.specs.Locked.{FromSome}
+use Rattle.quick_cache_locked.specs.Locked.{FromSome}
 use Rattle.quick_cache.specs.Tries.{IsTriedWith, IfContended}
 use Rattle.quick_cache.specs.declared.sync.error.TryError.{TryError}
 use Rattle.quick_cache.specs.declared.sync.error.TryError.TheVariants.{Contended, Refused}

@@ -1,29 +1,13 @@
 -- The answers of calls whose state before nobody knows.
-use Rattle.std.specs.Prelude.{ℕ, Bool, List, Option, Result, Ok, Err}
+use Rattle.std.specs.Prelude.{ℕ, Bool, Option, Result}
 use Rattle.quick_cache_model.specs.declared.refusal.Refusal.{Refusal}
-use Rattle.quick_cache_model.specs.declared.refusal.Refusal.TheVariants.{Memory}
-use Rattle.quick_cache_model.specs.CacheState.{CacheState, Item, Place, UpToOrder}
-use Rattle.quick_cache_model.specs.Finding.{IsItemAt}
+use Rattle.quick_cache_model.specs.CacheState.{CacheState, UpToOrder}
 use Rattle.quick_cache_model.specs.Hooks.{Rules, Hooks}
-use Rattle.quick_cache_model.specs.Lookups.{Sees}
 use Rattle.quick_cache_model.specs.Removal.{Removes}
-use Rattle.quick_cache_calls.specs.Shown.{IsShown}
 use Rattle.quick_cache_shard.specs.Predicates.{RemovesAsked}
 use Rattle.quick_cache_unsync.specs.Alone.{IsDoneAlone}
 use Rattle.quick_cache_unsync.specs.Inserts.{Inserts, InsertsAlone}
 use Rattle.quick_cache_unsync.specs.Replaces.{Replaces}
-
-module _ {K V : Type 0} (stands_for : K → Bool) (is_clone : V → V → Type 0)
-    (old : CacheState K V) where
-  -- The answer shows a clone of what is there. It is refused only where there is an item, of whose
-  -- value the clone failed. A look answers so, and a look-up beside other readers, and both leave
-  -- lists and marks as they were.
-  pub data Peeks : Result (Option V) Refusal → Type 0 where
-    peeks : (found shown : Option V) → Sees stands_for old (λ item. item.value) found
-        → IsShown is_clone found shown → Peeks (Ok shown)
-    refuses : (place : Place) (before : List (Item K V)) (item : Item K V)
-        (after : List (Item K V))
-        → IsItemAt stands_for old place before item after → Peeks (Err Memory)
 
 module _ {K V : Type 0} (stands_for : K → Bool) (old : CacheState K V) where
   -- a removal answers so, and some state comes of it

@@ -1,11 +1,13 @@
-pub mod Touches
 pub mod FirstPairs
-pub mod Fitting
-pub mod Locked
 pub mod Answers
 pub mod Shards
 pub mod Sums
 pub mod Tries
+pub use Rattle.quick_cache_locked.specs.Touches
+pub use Rattle.quick_cache_locked.specs.Counts
+pub use Rattle.quick_cache_locked.specs.Fitting
+pub use Rattle.quick_cache_locked.specs.Locked
+pub use Rattle.quick_cache_locked.specs.Peeks
 pub use Rattle.quick_cache_calls.specs.Shown
 pub use Rattle.quick_cache_unsync.specs.Alone
 pub use Rattle.quick_cache_unsync.specs.Replaces

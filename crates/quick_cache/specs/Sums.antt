@@ -2,21 +2,8 @@
 use Rattle.std.specs.Prelude.{◌≡◌, ℕ, ◌-◌, ◌^◌, Bool, List, length, min, sum}
 use Rattle.std.specs.List.{AllByRecursion}
 use Rattle.quick_cache_model.specs.declared.lifecycle.Lifecycle as lifecycle
-use Rattle.quick_cache_model.specs.CacheState.{CacheState, item_count, total_weight}
-use Rattle.quick_cache_model.specs.Touches.{ShowsCount}
 use Rattle.quick_cache_shard.specs.Shard.{Shard}
-use Rattle.quick_cache.specs.Locked.{FromSome}
-use Rattle.quick_cache.specs.Touches.{any_touches}
-use Rattle.quick_cache.specs.declared.sync.count.Count.{Count}
-use Rattle.quick_cache.specs.declared.sync.count.Count.TheVariants.{Items, Weight, Capacity, Hits, Misses}
-
--- what a shard answers of itself
-abbrev pub Shows : {K V : Type 0} → Count → CacheState K V → ℕ → Type 0
-Shows Items state shown = shown ≡ item_count state
-Shows Weight state shown = shown ≡ min (total_weight state) (2 ^ 64 - 1)
-Shows Capacity state shown = shown ≡ state.capacity
-Shows Hits state shown = ShowsCount any_touches state.hits shown
-Shows Misses state shown = ShowsCount any_touches state.misses shown
+use Rattle.quick_cache_locked.specs.Locked.{FromSome}
 
 -- So many shards answered one after the other, each what it was behind its lock then, and this is
 -- the sum of their answers, at most the greatest u64.

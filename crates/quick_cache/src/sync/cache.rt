@@ -5,15 +5,15 @@ ghost use Rattle.quick_cache_model.specs.Sizes.{IsShardCount};
 ghost use Rattle.quick_cache_base.specs.Options.{default_shards};
 ghost use Rattle.quick_cache_shard.specs.Shard.{rules_of, hooks_of};
 ghost use Rattle.quick_cache.specs.Answers.{InsertsSo, InsertsAloneSo};
-ghost use Rattle.quick_cache.specs.Locked.{FromSome};
-ghost use Rattle.quick_cache.specs.Touches.{any_touches};
+ghost use Rattle.quick_cache_locked.specs.Locked.{FromSome};
+ghost use Rattle.quick_cache_locked.specs.Touches.{any_touches};
 
 use crate::sync::lifecycle::DefaultLifecycle;
-use crate::sync::locked::LockedShard;
 use quick_cache_base::sizes::shard_sizes;
 use quick_cache_base::{
     DefaultHashBuilder, Lifecycle, Options, OptionsBuilder, Refusal, UnitWeighter, Weighter,
 };
+use quick_cache_locked::LockedShard;
 use std::alloc::{Allocator, Global};
 use std::fmt::{Debug, Formatter, Write};
 use std::hash::{BuildHasher, Hash};

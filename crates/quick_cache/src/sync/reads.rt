@@ -4,10 +4,10 @@ ghost use Rattle.std.specs.Bool.{OnTrue, OnFalse};
 ghost use Rattle.quick_cache_model.specs.Finding.{HasNoItem};
 ghost use Rattle.quick_cache_shard.specs.Shard.{Shard, HasItem};
 ghost use Rattle.quick_cache_shard.specs.Stats.{ShowsReads};
-ghost use Rattle.quick_cache.specs.Answers.{Peeks};
-ghost use Rattle.quick_cache.specs.Fitting.{ClonesFit, FitsQuery};
-ghost use Rattle.quick_cache.specs.Locked.{FromSome, AlwaysSteady};
-ghost use Rattle.quick_cache.specs.Touches.{any_touches};
+ghost use Rattle.quick_cache_locked.specs.Peeks.{Peeks};
+ghost use Rattle.quick_cache_locked.specs.Fitting.{ClonesFit, FitsQuery};
+ghost use Rattle.quick_cache_locked.specs.Locked.{FromSome, AlwaysSteady};
+ghost use Rattle.quick_cache_locked.specs.Touches.{any_touches};
 
 use crate::sync::cache::Cache;
 use quick_cache_base::{Equivalent, ItemStats, Lifecycle, Refusal};

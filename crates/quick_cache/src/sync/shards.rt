@@ -4,8 +4,8 @@ ghost use Rattle.quick_cache_model.specs.Hashing.{hash_of};
 ghost use Rattle.quick_cache.specs.Shards.{shard_of_hash};
 
 use crate::sync::cache::Cache;
-use crate::sync::locked::LockedShard;
 use quick_cache_base::{Equivalent, Lifecycle, hash_of};
+use quick_cache_locked::LockedShard;
 use std::alloc::Allocator;
 use std::hash::{BuildHasher, Hash};
 use std::sync::{RwLock, RwLockReadGuard, Wait};

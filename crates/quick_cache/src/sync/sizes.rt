@@ -2,14 +2,15 @@
 ghost use Rattle.std.specs.Prelude.{◌≡◌, ℕ, ◌↔◌, IfErr, IsTrue};
 ghost use Rattle.quick_cache_model.specs.declared.refusal.Refusal.TheVariants.{Memory};
 ghost use Rattle.quick_cache_shard.specs.Shard.{Shard};
-ghost use Rattle.quick_cache.specs.Locked.{FromSome};
-ghost use Rattle.quick_cache.specs.Sums.{Shows, AddsUp};
-ghost use Rattle.quick_cache.specs.declared.sync.count.Count.TheVariants.{Items, Weight, Capacity, Hits, Misses};
+ghost use Rattle.quick_cache_locked.specs.Locked.{FromSome};
+ghost use Rattle.quick_cache_locked.specs.Counts.{Shows};
+ghost use Rattle.quick_cache.specs.Sums.{AddsUp};
+ghost use Rattle.quick_cache_locked.specs.declared.count.Count.TheVariants.{Items, Weight, Capacity, Hits, Misses};
 
 use crate::sync::cache::Cache;
-use crate::sync::count::Count;
 use quick_cache_base::sizes::{shard_items, shard_weight};
 use quick_cache_base::{Lifecycle, MemoryUsed, Refusal, Weighter};
+use quick_cache_locked::Count;
 use std::alloc::Allocator;
 use std::hash::{BuildHasher, Hash};
 use std::sync::Wait;

@@ -5,10 +5,11 @@ ghost use Rattle.quick_cache_model.specs.Finding.{HasNoItem};
 ghost use Rattle.quick_cache_model.specs.Hashing.{hash_of};
 ghost use Rattle.quick_cache_shard.specs.Stats.{ShowsReads};
 ghost use Rattle.quick_cache_shard.specs.Shard.{Shard, HasItem, rules_of, hooks_of};
-ghost use Rattle.quick_cache.specs.Answers.{Peeks, RemovesSo, InsertsSo, InsertsAloneSo};
-ghost use Rattle.quick_cache.specs.Fitting.{ClonesFit, FitsQuery};
-ghost use Rattle.quick_cache.specs.Locked.{FromSome, AlwaysSteady};
-ghost use Rattle.quick_cache.specs.Touches.{any_touches};
+ghost use Rattle.quick_cache_locked.specs.Peeks.{Peeks};
+ghost use Rattle.quick_cache.specs.Answers.{RemovesSo, InsertsSo, InsertsAloneSo};
+ghost use Rattle.quick_cache_locked.specs.Fitting.{ClonesFit, FitsQuery};
+ghost use Rattle.quick_cache_locked.specs.Locked.{FromSome, AlwaysSteady};
+ghost use Rattle.quick_cache_locked.specs.Touches.{any_touches};
 ghost use Rattle.quick_cache.specs.Tries.{IsTried, IsTriedWith, IfContended};
 
 use crate::sync::cache::Cache;

@@ -4,9 +4,9 @@ ghost use Rattle.std.specs.Fn.{FnOnceReturnsAt};
 ghost use Rattle.quick_cache_model.specs.Hashing.{hash_of};
 ghost use Rattle.quick_cache_shard.specs.Shard.{Shard, rules_of, hooks_of};
 ghost use Rattle.quick_cache.specs.Answers.{RemovesSo, RemovesAskedSo, ReplacesSo, ReplacesAloneSo};
-ghost use Rattle.quick_cache.specs.Fitting.{FitsQuery};
-ghost use Rattle.quick_cache.specs.Locked.{FromSome, AlwaysSteady};
-ghost use Rattle.quick_cache.specs.Touches.{any_touches};
+ghost use Rattle.quick_cache_locked.specs.Fitting.{FitsQuery};
+ghost use Rattle.quick_cache_locked.specs.Locked.{FromSome, AlwaysSteady};
+ghost use Rattle.quick_cache_locked.specs.Touches.{any_touches};
 
 use crate::sync::cache::Cache;
 use quick_cache_base::{Equivalent, Lifecycle, Weighter};

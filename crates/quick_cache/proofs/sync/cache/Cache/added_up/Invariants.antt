@@ -1,5 +1,6 @@
 use Rattle.quick_cache_shard.specs.Shard.{Shard}
-use Rattle.quick_cache.specs.Sums.{Shows, AddsUp}
+use Rattle.quick_cache_locked.specs.Counts.{Shows}
+use Rattle.quick_cache.specs.Sums.{AddsUp}
 use Rattle.quick_cache.proofs.sync.cache.Cache.added_up.Given as goal
 
 -- the shards up to here were asked

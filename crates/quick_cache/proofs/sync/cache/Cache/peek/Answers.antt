@@ -1,8 +1,5 @@
-use Rattle.quick_cache.proofs.PeekLemmas.{Peeks-fits}
 use Rattle.quick_cache.proofs.sync.cache.Cache.peek.Goals as goal
 
--- the shard behind the lock had values that fit, and the answer is a clone of one
+-- every lifecycle of the type has steady pins, and so has that of the shard behind the lock
 pub returns-clause-fits : goal.returns-clause-fits
-returns-clause-fits g c steady clones = Peeks-fits (g.Q.Equivalent.equivalent c.args.query.now)
-    g.V.Clone.is_clone _ g.L.Lifecycle.fits c.peek.result c.peek.ensures.peeks
-    (c.peek.ensures.kept.fit (steady _)) clones
+returns-clause-fits g c steady clones = c.peek.ensures.fits (steady _) clones

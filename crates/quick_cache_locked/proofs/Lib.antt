@@ -1,0 +1,4 @@
+pub mod FitLemmas
+pub mod FitWrites
+pub mod FitRemovals
+pub mod PeekLemmas

@@ -1,0 +1,5 @@
+pub mod Touches
+pub mod Counts
+pub mod Fitting
+pub mod Locked
+pub mod Peeks

@@ -1,0 +1,106 @@
+//! Reads of a shard behind its lock, which change neither its lists nor its marks.
+ghost use Rattle.std.specs.Prelude.{IfOk, IfSome, MatchOption};
+ghost use Rattle.std.specs.Bool.{OnTrue, OnFalse};
+ghost use Rattle.quick_cache_model.specs.Finding.{HasNoItem};
+ghost use Rattle.quick_cache_shard.specs.Stats.{ShowsReads};
+ghost use Rattle.quick_cache_shard.specs.Shard.{HasItem};
+ghost use Rattle.quick_cache_locked.specs.Peeks.{Peeks};
+ghost use Rattle.quick_cache_locked.specs.Fitting.{ClonesFit, FitsQuery};
+ghost use Rattle.quick_cache_locked.specs.Locked.{IsKept};
+ghost use Rattle.quick_cache_locked.specs.Counts.{Shows};
+ghost use Rattle.quick_cache_locked.specs.Touches.{any_touches};
+
+use crate::count::Count;
+use crate::locked::LockedShard;
+use quick_cache_base::{Equivalent, ItemStats, Lifecycle, MemoryUsed, Refusal};
+use std::alloc::Allocator;
+use std::hash::{BuildHasher, Hash};
+
+impl<
+    K: Eq + Hash + Drop,
+    V: Drop,
+    We,
+    B: BuildHasher,
+    L: Lifecycle<K, V>,
+    A: Allocator,
+> LockedShard<K, V, We, B, L, A> {
+    /// Looks the query's key up beside other readers, and clones what it finds. The clone is made
+    /// first, so that a refused one counts nothing. Where pinning is steady, and clones fit as their
+    /// values do, the clone fits a key that the query stands for.
+    pub fn get<Q: Equivalent<K>>(&self, query: &Q) -> Result<Option<V>, Refusal>
+    where
+        V: Clone,
+        ensures gets { Peeks (Q.equivalent query.now) V.is_clone self.now.state result }
+        ensures fits { L.steady self.now.lifecycle → ClonesFit L.fits V.is_clone → IfOk result
+            (λ found. IfSome found (λ v. FitsQuery L.fits (Q.equivalent query.now) v)) }
+        ensures kept { IsKept L.Lifecycle K.eq self.now }
+    {
+        self.is_kept();
+        let hash = self.shard.hash(query);
+        self.shard.get_clone(hash, query)
+    }
+
+    /// Clones the value under the query's key. It is no use of the item. What it gives fits as what
+    /// `get` gives.
+    pub fn peek<Q: Equivalent<K>>(&self, query: &Q) -> Result<Option<V>, Refusal>
+    where
+        V: Clone,
+        ensures peeks { Peeks (Q.equivalent query.now) V.is_clone self.now.state result }
+        ensures fits { L.steady self.now.lifecycle → ClonesFit L.fits V.is_clone → IfOk result
+            (λ found. IfSome found (λ v. FitsQuery L.fits (Q.equivalent query.now) v)) }
+        ensures kept { IsKept L.Lifecycle K.eq self.now }
+    {
+        self.is_kept();
+        let hash = self.shard.hash(query);
+        match self.shard.peek(hash, query) {
+            None => Ok(None),
+            Some(value) => match value.clone() {
+                Ok(copy) => Ok(Some(copy)),
+                Err(_) => Err(Refusal::Memory),
+            },
+        }
+    }
+
+    /// Whether an item stands under the query's key.
+    pub fn contains_key<Q: Equivalent<K>>(&self, query: &Q) -> bool
+        ensures there { OnTrue result (HasItem (Q.equivalent query.now) self.now.state) }
+        ensures absent { OnFalse result (HasNoItem (Q.equivalent query.now) self.now.state) }
+        ensures kept { IsKept L.Lifecycle K.eq self.now }
+    {
+        self.is_kept();
+        let hash = self.shard.hash(query);
+        self.shard.contains(hash, query)
+    }
+
+    /// How often the item under the query's key was read, with what readers added since.
+    pub fn item_stats<Q: Equivalent<K>>(&self, query: &Q) -> Option<ItemStats>
+        ensures shown { MatchOption result (HasNoItem (Q.equivalent query.now) self.now.state)
+            (λ stats. ShowsReads any_touches (Q.equivalent query.now) self.now.state
+            stats.access_count) }
+        ensures kept { IsKept L.Lifecycle K.eq self.now }
+    {
+        self.is_kept();
+        let hash = self.shard.hash(query);
+        self.shard.item_stats(hash, query)
+    }
+
+    /// One of its numbers.
+    pub fn count(&self, count: Count) -> u64
+        ensures shows { Shows count self.now.state result }
+        ensures kept { IsKept L.Lifecycle K.eq self.now }
+    {
+        self.is_kept();
+        match count {
+            Count::Items => self.shard.len() as u64,
+            Count::Weight => self.shard.weight(),
+            Count::Capacity => self.shard.capacity(),
+            Count::Hits => self.shard.hits(),
+            Count::Misses => self.shard.misses(),
+        }
+    }
+
+    /// How many bytes the entries and the table that finds them take.
+    pub fn memory_used(&self) -> MemoryUsed {
+        self.shard.memory_used()
+    }
+}

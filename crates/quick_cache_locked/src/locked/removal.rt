@@ -1,0 +1,80 @@
+//! Removals from a shard behind its lock.
+ghost use Rattle.std.specs.Prelude.{◌≡◌, IfSome};
+ghost use Rattle.std.specs.Fn.{FnOnceReturnsAt};
+ghost use Rattle.quick_cache_model.specs.Hashing.{hash_of};
+ghost use Rattle.quick_cache_model.specs.Removal.{Removes, cleared};
+ghost use Rattle.quick_cache_shard.specs.Predicates.{Answers, RemovesAsked, RetainsAsked};
+ghost use Rattle.quick_cache_shard.specs.Shard.{UpToOrder};
+ghost use Rattle.quick_cache_locked.specs.Fitting.{FitsQuery};
+ghost use Rattle.quick_cache_locked.specs.Locked.{IsKept};
+
+use crate::locked::LockedShard;
+use quick_cache_base::{Equivalent, Lifecycle};
+use std::alloc::Allocator;
+use std::hash::{BuildHasher, Hash};
+
+impl<
+    K: Eq + Hash + Drop,
+    V: Drop,
+    We,
+    B: BuildHasher,
+    L: Lifecycle<K, V>,
+    A: Allocator,
+> LockedShard<K, V, We, B, L, A> {
+    /// Takes the item under the query's key out, or a ghost of its hash. Where pinning is steady, the
+    /// value that it gives fits a key that the query stands for.
+    pub fn remove<Q: Equivalent<K>>(&mut self, query: &Q) -> Option<(K, V)>
+        ensures removes { let hash = hash_of B.BuildHasher B.Hasher.Hasher self.old.builder
+            (Q.hash_input query.now) in
+            UpToOrder (Removes (Q.equivalent query.now) self.old.state hash result) self.new.state }
+        ensures fits { L.steady self.old.lifecycle → IfSome result
+            (λ pair. FitsQuery L.fits (Q.equivalent query.now) pair.1) }
+        ensures same { self.new ≡ record self.old { state = self.new.state; room = self.new.room } }
+        ensures kept { IsKept L.Lifecycle K.eq self.old }
+    {
+        self.is_kept();
+        let hash = self.shard.hash(query);
+        self.shard.remove(hash, query)
+    }
+
+    /// Takes the item under the query's key out where its value is wanted. What it gives fits as what
+    /// `remove` gives.
+    pub fn remove_if<Q: Equivalent<K>, F: FnOnce(&V) -> bool>(
+        &mut self,
+        query: &Q,
+        wanted: F,
+    ) -> Option<(K, V)>
+        requires callable { F.IsAlwaysCallable wanted }
+        ensures asks { UpToOrder (RemovesAsked (Q.equivalent query.now) self.old.state
+            (FnOnceReturnsAt F.FnOnce wanted) result) self.new.state }
+        ensures fits { L.steady self.old.lifecycle → IfSome result
+            (λ pair. FitsQuery L.fits (Q.equivalent query.now) pair.1) }
+        ensures same { self.new ≡ record self.old { state = self.new.state; room = self.new.room } }
+        ensures kept { IsKept L.Lifecycle K.eq self.old }
+    {
+        self.is_kept();
+        let hash = self.shard.hash(query);
+        self.shard.remove_if(hash, query, wanted)
+    }
+
+    /// Drops the items that the predicate does not keep.
+    pub fn retain<F: Fn(&K, &V) -> bool>(&mut self, keep: F)
+        requires callable { F.IsAlwaysCallable keep }
+        ensures asks { UpToOrder (RetainsAsked (Answers F.Fn keep) self.old.state) self.new.state }
+        ensures same { self.new ≡ record self.old { state = self.new.state; room = self.new.room } }
+        ensures kept { IsKept L.Lifecycle K.eq self.old }
+    {
+        self.is_kept();
+        self.shard.retain(keep);
+    }
+
+    /// Drops all items, and forgets those that left.
+    pub fn clear(&mut self)
+        ensures clears { self.new.state ≡ cleared self.old.state }
+        ensures same { self.new ≡ record self.old { state = self.new.state; room = self.new.room } }
+        ensures kept { IsKept L.Lifecycle K.eq self.old }
+    {
+        self.is_kept();
+        self.shard.clear();
+    }
+}
