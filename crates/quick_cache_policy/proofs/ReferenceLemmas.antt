@@ -1,6 +1,6 @@
 -- Values that are written where they stand, and items that are weighed anew.
 use Rattle.std.proofs.Common.{◌≡◌, ℕ, ◌<◌, ◌≤◌, Bool, true, false, cond, Option, Some, None, MatchOption, List, [], ◌∷◌, ◌++◌, map, refl, sym, ap, subst, ◌∙◌, arith}
-use Rattle.std.specs.Prelude.{IsSome}
+use Rattle.std.specs.Prelude.{IfNone, IfSome, IsSome}
 use Rattle.std.specs.Cmp.{IsEquivalence}
 use Rattle.std.specs.List.{AllByRecursion, count_by}
 use Rattle.std.proofs.lemmas.List.{map-append}
@@ -30,6 +30,18 @@ pub IsSome-from : {X : Type 0} (none : Type 0) (some : X → Type 0) (answer : O
     → MatchOption answer none some → ¬ none → IsSome answer
 IsSome-from none some None is never = absurd (never is)
 IsSome-from none some (Some x) is never = refl
+
+-- what is said of each answer is said where there is none
+pub IfNone-from : {X : Type 0} (none also : Type 0) (some : X → Type 0) (answer : Option X)
+    → (none → also) → MatchOption answer none some → IfNone answer also
+IfNone-from none also some None to is = to is
+IfNone-from none also some (Some x) to is = tt
+
+-- and of the one that there is
+pub IfSome-from : {X : Type 0} (none : Type 0) (some also : X → Type 0) (answer : Option X)
+    → ((x : X) → some x → also x) → MatchOption answer none some → IfSome answer also
+IfSome-from none some also None to is = tt
+IfSome-from none some also (Some x) to is = to x is
 
 module _ {K V : Type 0} (stands_for : K → Bool) where
   -- ---- how many items a query stands for

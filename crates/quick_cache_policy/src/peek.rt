@@ -1,10 +1,11 @@
 //! A look that changes nothing.
-ghost use Rattle.std.specs.Prelude.{◌≡◌, true, MatchOption};
+ghost use Rattle.std.specs.Prelude.{◌≡◌, ◌<◌, true, IfNone, IfSome, MatchOption};
 ghost use Rattle.std.specs.Int.NonZero.{non_zero_u32_get as number};
-ghost use Rattle.quick_cache_lists.specs.Lists.{FindsItemOfAnyHash, IsItemOf};
+ghost use Rattle.quick_cache_lists.specs.Lists.{FindsItem, FindsItemOfAnyHash, IsItemOf};
 ghost use Rattle.quick_cache_model.specs.Finding.{HasNoItem};
 ghost use Rattle.quick_cache_policy.specs.Contents.{state_of};
 ghost use Rattle.quick_cache_policy.specs.Finding.{AreUnder, IsThere};
+ghost use Rattle.quick_cache_policy.specs.References.{count_under};
 
 use crate::contents::Contents;
 use crate::placeholder::SharedPlaceholder;
@@ -30,6 +31,20 @@ impl<K: Eq + Hash, V, P: SharedPlaceholder<K>, A: Allocator> Contents<K, V, P, A
             return None;
         };
         Some(self.lists.item(token))
+    }
+
+    /// The token of the item under the query, if there is one. Nothing changes.
+    #[inline]
+    pub fn token_of<Q: Equivalent<K>>(&self, hash: u64, query: &Q) -> Option<Token>
+        requires under { AreUnder (Q.equivalent query.now) hash self.now.lists }
+        ensures absent { IfNone result
+            (HasNoItem (Q.equivalent query.now) (state_of P.ticket_of self.now)) }
+        ensures finds { IfSome result
+            (λ token. FindsItem (Q.equivalent query.now) hash self.now.lists (number token)) }
+        ensures there { IfSome result
+            (λ _. 0 < count_under (Q.equivalent query.now) (state_of P.ticket_of self.now)) }
+    {
+        self.find_item(hash, query)
     }
 
     /// The item under the query, of which it is thought that it stands at that token: where it

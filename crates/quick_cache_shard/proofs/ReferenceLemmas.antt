@@ -1,6 +1,5 @@
 -- An item that is known to be there.
 use Rattle.std.proofs.Common.{◌≡◌, ℕ, ◌<◌, ◌≤◌, Bool, true, false, List, ◌∷◌, ◌++◌, Option, Some, refl, sym, ap, subst, ◌∙◌, arith}
-use Rattle.std.specs.Bool.{OnTrue}
 use Rattle.quick_cache_model.specs.CacheState.{CacheState, Item, Place, InHot, InCold, InStill, UpToOrder, items_at, with_items, keys_by}
 use Rattle.quick_cache_model.specs.Finding.{IsItemAt}
 use Rattle.quick_cache_model.specs.Lookups.{LooksUp, looked_up, after_hit}
@@ -10,11 +9,6 @@ use Rattle.quick_cache_policy.specs.declared.contents.Contents.{Contents}
 use Rattle.quick_cache_policy.specs.Contents.{IsSound, state_of}
 use Rattle.quick_cache_policy.specs.References.{count_under, IsValueUnder}
 use Rattle.quick_cache_policy.proofs.ReferenceLemmas.{count_under-some, count_under-reordered, keys_by-query, found-there, found-value}
-
--- what holds where it is true holds so that another thing does
-pub OnTrue-to : (b : Bool) (P R : Type 0) → (P → R) → OnTrue b P → OnTrue b R
-OnTrue-to true P R to is = to is
-OnTrue-to false P R to is = tt
 
 module _ {K V : Type 0} (stands_for : K → Bool) where
   -- an item stands where it was put

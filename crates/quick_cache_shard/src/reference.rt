@@ -1,6 +1,5 @@
 //! A value that is written where it stands.
-ghost use Rattle.std.specs.Prelude.{◌≡◌, ◌<◌};
-ghost use Rattle.std.specs.Bool.{OnTrue, OnFalse};
+ghost use Rattle.std.specs.Prelude.{◌≡◌, ◌<◌, IfNone, IfSome, MatchOption, true, false};
 ghost use Rattle.std.specs.Borrow.{sem};
 ghost use Rattle.quick_cache_model.specs.Finding.{HasNoItem};
 ghost use Rattle.quick_cache_model.specs.Hashing.{hash_of};
@@ -24,32 +23,36 @@ impl<K: Eq + Hash, V, We, B: BuildHasher, L, P: SharedPlaceholder<K>, A: Allocat
 > {
     ghost use Rattle.quick_cache_shard.specs.Lent.{lends_under};
 
-    /// Counts a look-up as `get` does, and tells whether an item was found.
+    /// Counts a look-up as `get` does, and gives the token of the item, if one was found.
     #[inline]
-    pub fn look_up<Q: Equivalent<K>>(&mut self, hash: u64, query: &Q) -> bool
+    pub fn look_up<Q: Equivalent<K>>(&mut self, hash: u64, query: &Q) -> Option<Token>
         requires hash_is { hash ≡ hash_of B.BuildHasher B.Hasher.Hasher self.old.builder
             (Q.hash_input query.now) }
-        ensures looks_up { NotesLookUp (Q.equivalent query.now) self.old.state result
-            self.new.state }
-        ensures there { OnTrue result (0 < count_under (Q.equivalent query.now) self.new.state) }
+        ensures looks_up { MatchOption result
+            (NotesLookUp (Q.equivalent query.now) self.old.state false self.new.state)
+            (λ _. NotesLookUp (Q.equivalent query.now) self.old.state true self.new.state) }
+        ensures there { IfSome result
+            (λ _. 0 < count_under (Q.equivalent query.now) self.new.state) }
         ensures same { self.new ≡ record self.old { state = self.new.state } }
         ensures sound { IsSoundShard K.eq self.new }
     {
-        let found = self.contents.look_up(hash, query).is_some();
+        let found = self.contents.look_up(hash, query);
         self.contents.lists.apart();
         found
     }
 
-    /// Whether there is an item under the query. Nothing changes.
+    /// The token of the item under the query, if there is one. Nothing changes.
     #[inline]
-    pub fn has_item<Q: Equivalent<K>>(&self, hash: u64, query: &Q) -> bool
+    pub fn token_of<Q: Equivalent<K>>(&self, hash: u64, query: &Q) -> Option<Token>
         requires hash_is { hash ≡ hash_of B.BuildHasher B.Hasher.Hasher self.now.builder
             (Q.hash_input query.now) }
-        ensures there { OnTrue result (0 < count_under (Q.equivalent query.now) self.now.state) }
-        ensures absent { OnFalse result (HasNoItem (Q.equivalent query.now) self.now.state) }
+        ensures there { IfSome result
+            (λ _. 0 < count_under (Q.equivalent query.now) self.now.state) }
+        ensures absent { IfNone result (HasNoItem (Q.equivalent query.now) self.now.state) }
         ensures sound { IsSoundShard K.eq self.now }
     {
-        self.contains(hash, query)
+        self.contents.lists.apart();
+        self.contents.token_of(hash, query)
     }
 
     /// The value of the item under the query, which is known to be there. Where it stands at the

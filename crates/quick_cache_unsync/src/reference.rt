@@ -31,8 +31,7 @@ pub struct RefMut<
     pub(crate) cache: &'a mut Cache<K, V, We, B, L, A>,
     pub(crate) query: &'a Q,
     pub(crate) hash: u64,
-    // The slot where the item is thought to stand, or 0: only what it costs to find it hangs on
-    // that.
+    // The slot where the item is thought to stand: only what it costs to find it hangs on that.
     pub(crate) slot: u32,
     ghost there: { 0 < count_under (Q.equivalent query.now) cache.now.state },
     ghost hash_is: { hash
@@ -207,14 +206,14 @@ impl<
         ensures sound { IfSome result (λ r. IsSoundShard K.eq (lent r)) }
     {
         let hash = self.shard.hash(query);
-        if !self.shard.look_up(hash, query) {
+        let Some(token) = self.shard.look_up(hash, query) else {
             return None;
-        }
+        };
         Some(RefMut {
             cache: self,
             query,
             hash,
-            slot: 0,
+            slot: token.get(),
         })
     }
 
@@ -235,14 +234,14 @@ impl<
         ensures sound { IsSoundShard K.eq self.old }
     {
         let hash = self.shard.hash(query);
-        if !self.shard.has_item(hash, query) {
+        let Some(token) = self.shard.token_of(hash, query) else {
             return None;
-        }
+        };
         Some(RefMut {
             cache: self,
             query,
             hash,
-            slot: 0,
+            slot: token.get(),
         })
     }
 }
