@@ -25,8 +25,8 @@ impl<
     A: Allocator,
 > LockedShard<K, V, We, B, L, A> {
     /// Looks the query's key up beside other readers, and clones what it finds. The clone is made
-    /// first, so that a refused one counts nothing. Where pinning is steady, and clones fit as their
-    /// values do, the clone fits a key that the query stands for.
+    /// first, so that a refused one counts nothing. Where pinning is steady, and clones fit as
+    /// their values do, the clone fits a key that the query stands for.
     pub fn get<Q: Equivalent<K>>(&self, query: &Q) -> Result<Option<V>, Refusal>
     where
         V: Clone,

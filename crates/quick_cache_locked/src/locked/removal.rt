@@ -21,8 +21,8 @@ impl<
     L: Lifecycle<K, V>,
     A: Allocator,
 > LockedShard<K, V, We, B, L, A> {
-    /// Takes the item under the query's key out, or a ghost of its hash. Where pinning is steady, the
-    /// value that it gives fits a key that the query stands for.
+    /// Takes the item under the query's key out, or a ghost of its hash. Where pinning is steady,
+    /// the value that it gives fits a key that the query stands for.
     pub fn remove<Q: Equivalent<K>>(&mut self, query: &Q) -> Option<(K, V)>
         ensures removes { let hash = hash_of B.BuildHasher B.Hasher.Hasher self.old.builder
             (Q.hash_input query.now) in
@@ -37,8 +37,8 @@ impl<
         self.shard.remove(hash, query)
     }
 
-    /// Takes the item under the query's key out where its value is wanted. What it gives fits as what
-    /// `remove` gives.
+    /// Takes the item under the query's key out where its value is wanted. What it gives fits as
+    /// what `remove` gives.
     pub fn remove_if<Q: Equivalent<K>, F: FnOnce(&V) -> bool>(
         &mut self,
         query: &Q,
