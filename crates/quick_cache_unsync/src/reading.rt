@@ -25,8 +25,7 @@ pub struct Ref<
     pub(crate) cache: &'a mut Cache<K, V, We, B, L, A>,
     pub(crate) query: &'a Q,
     pub(crate) hash: u64,
-    // The slot where the item is thought to stand, or 0: only what it costs to find it hangs on
-    // that.
+    // The slot where the item is thought to stand: only what it costs to find it hangs on that.
     pub(crate) slot: u32,
     ghost there: { 0 < count_under (Q.equivalent query.now) cache.now.state },
     ghost hash_is: { hash
