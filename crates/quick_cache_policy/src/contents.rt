@@ -15,15 +15,17 @@ use std::hash::Hash;
 /// The lists of a cache, its sizes and its counts. The steps of a call are its methods.
 #[derive(Drop)]
 pub struct Contents<K: Eq + Hash, V, P: SharedPlaceholder<K>, A: Allocator = Global> {
+    /// What readers counted of hits and misses, each through a shared reference. They come first,
+    /// beside the word of a lock round the contents: a reader writes to both, so that cores hand one
+    /// line to each other and not two.
+    pub shared_hits: P::Touch,
+    pub shared_misses: P::Touch,
     pub lists: Lists<K, V, P, P::Touch, A>,
     pub capacity: u64,
     pub hot_target: u64,
     pub ghost_limit: usize,
     pub hits: u64,
     pub misses: u64,
-    /// What readers counted of hits and misses, each through a shared reference.
-    pub shared_hits: P::Touch,
-    pub shared_misses: P::Touch,
     /// The ticket of the next placeholder.
     pub next_ticket: u64,
     /// How many hot advances were made, and how many visits in them. Only contracts read these.

@@ -65,6 +65,7 @@ impl<K: Eq + Hash + Drop, V: Drop, P: SharedPlaceholder<K>, A: Allocator> Conten
     /// Takes the first item that is marked or unpinned out of the cold ring: a marked one goes to
     /// the hot ring, which is then brought to its target, an unmarked one leaves. Where there is
     /// none it is a hot advance.
+    #[inline(always)]
     pub(crate) fn advance_cold<M: Policy<K, V>>(
         &mut self,
         terms: &M,
@@ -112,6 +113,7 @@ impl<K: Eq + Hash + Drop, V: Drop, P: SharedPlaceholder<K>, A: Allocator> Conten
 
     /// Makes cold advances while all items and what is needed weigh more than the capacity, up to
     /// one that answers no.
+    #[inline(always)]
     pub fn evict_to_capacity<M: Policy<K, V>>(
         &mut self,
         need: u64,

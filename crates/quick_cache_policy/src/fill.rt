@@ -46,6 +46,7 @@ impl<K: Eq + Hash + Drop, V: Drop, P: SharedPlaceholder<K>, A: Allocator> Conten
     /// Fills the placeholder of a token: its pair is put in where the placeholder stands, and room
     /// is made behind it where it weighs something, or the placeholder goes and the pair is turned
     /// away. It is hot if it fits the hot target, and else of the placeholder's queue.
+    #[inline(always)]
     fn fill<M: Policy<K, V>>(
         &mut self,
         token: Token,
@@ -114,6 +115,7 @@ impl<K: Eq + Hash + Drop, V: Drop, P: SharedPlaceholder<K>, A: Allocator> Conten
     ///
     /// It asks for no memory. Where the placeholder is not in the slot that it names, and some key
     /// is being loaded, each slot is looked at.
+    #[inline(always)]
     pub fn replace_placeholder<M: Policy<K, V>>(
         &mut self,
         terms: &M,

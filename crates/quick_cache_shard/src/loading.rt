@@ -67,6 +67,7 @@ impl<
     /// # Errors
     ///
     /// The value, where the placeholder is gone. Nothing has changed then, and no hook was called.
+    #[inline(always)]
     pub fn replace_placeholder(
         &mut self,
         state: &mut L::RequestState,
