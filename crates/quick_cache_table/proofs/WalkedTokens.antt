@@ -3,7 +3,7 @@ use Rattle.std.proofs.Common.{◌≡◌, ◌≢◌, ℕ, suc, ◌+◌, ◌-◌, 
 use Rattle.std.specs.Int.Bits.{xor_zero_r}
 use Rattle.std.specs.Int.{trailing_zeros, w64}
 use Rattle.std.specs.List.{cons_option, filter_map}
-use Rattle.std.proofs.lemmas.Bool.Decides.{eqb_tells, leb_tells}
+use Rattle.std.proofs.lemmas.Bool.Decides.{leb_tells}
 use Rattle.std.proofs.lemmas.Bool.{eqb-true, eq-eqb, ne_eqb}
 use Rattle.std.proofs.lemmas.Nat.{xor_lt, and_le_r}
 use Rattle.std.specs.Simd.Lanes.{chunk, mask_l}
@@ -207,11 +207,11 @@ tagged_token-some tags places hash position token has =
           absurd (cc)
     ]
 
--- a lane is looked at, and the walk goes on behind it
 -- a tag is not 0
 pub tag_of-some : (hash : ℕ) → 0 < tag_of hash
 tag_of-some hash = omega arith
 
+-- a lane is looked at, and the walk goes on behind it
 pub looks_at_lane : (walk : Walk) → IsWalk walk → 0 < walk.lanes
     → LooksAtLane walk (behind_lane walk) (lane_position walk)
 looks_at_lane walk is some =
@@ -457,16 +457,6 @@ begins_walk walk mask home tag lanes whole some begins value at =
     let Q : ℕ → Type 0 =
     λ group. BeginsWalk walk group (lanes_at (home_of mask walk.hash) (tag_of walk.hash)) in
     subst P (sym same) (subst Q (sym begins) (begins_walk-tag walk mask whole some))
-
--- a list that fails the test for an empty one
-pub some-from_test : (xs : List ℕ) → false ≡ eqb (length xs) 0 → 0 < length xs
-some-from_test xs fails =
-    elim (eqb_tells (length xs) 0) [
-      | inl none ↦
-          let contrary : false ≡ true = fails ∙ none.0 in
-          absurd (cc)
-      | inr some ↦ omega (arith, some.1)
-    ]
 
 -- a token that was met, and is another, does not count
 pub count_by-passed : (tokens rest : List ℕ) (met k : ℕ) → tokens ≡ met ∷ rest → ¬ (met ≡ k)

@@ -17,7 +17,7 @@ use quick_cache_model::{Refusal, Token};
 use std::alloc::{Allocator, Global};
 use std::marker::Model;
 pub use tokens::Tokens;
-use walk::{Walk, position_of, tagged_position_of};
+use walk::{Walk, first_position_of, position_of, tagged_position_of};
 
 /// A set of pairs of a hash and a token.
 ///
@@ -214,6 +214,35 @@ impl<A: Allocator> Table<A> {
     /// It goes by the tag and the token alone, so that it touches none of the hashes. It shortens
     /// the way of later look-ups as `remove` does.
     pub fn remove_only(&mut self, hash: u64, token: Token)
+        requires has { HasPair self.old hash (non_zero_u32_get token) }
+        requires only { (other : ℕ) → HasPair self.old other (non_zero_u32_get token)
+            → other ≡ hash }
+        ensures removes { RemovesPair self.old self.new hash (non_zero_u32_get token) }
+        ensures room { self.new.room ≡ self.old.room + 1 }
+        ensures allocated { self.new.allocated ≡ self.old.allocated }
+    {
+        let walk = Walk::begin(
+            self.tags.as_slice(),
+            self.places.seen(),
+            self.reaches.as_slice(),
+            self.mask,
+            hash,
+        );
+        // The first place of the home group is nearly always the one, and no reach ends there. Apart
+        // from the rest it takes half of the instructions.
+        match first_position_of(&walk, token.get()) {
+            Some(position) => {
+                groups::free_place(self.tags.as_mut_slice(), &mut self.places, position);
+                self.len -= 1;
+            }
+            None => self.remove_on_walk(hash, token),
+        }
+    }
+
+    /// The same by a walk over all places that may have the pair.
+    #[cold]
+    #[inline(never)]
+    fn remove_on_walk(&mut self, hash: u64, token: Token)
         requires has { HasPair self.old hash (non_zero_u32_get token) }
         requires only { (other : ℕ) → HasPair self.old other (non_zero_u32_get token)
             → other ≡ hash }

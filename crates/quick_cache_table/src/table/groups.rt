@@ -4,7 +4,7 @@
 //! groups at distance 1, 2 and so on, up to the home's reach. The group at a distance is the one
 //! whose number differs from the home's in the bits of that distance, so that the next few lie in
 //! the same line of the cache, and each group is met once.
-ghost use Rattle.std.specs.Prelude.{◌≡◌, ◌≢◌, ℕ, ◌+◌, ◌-◌, ◌*◌, ◌^◌, ◌<◌, ◌≤◌, ◌==◌, ◌&&◌, false, length, count_by, map, replicate, IsTrue, IsFalse, OnOk, OnErr, IfErr, bit_xor, slice_index, slice_set, vec_len, vec_capacity};
+ghost use Rattle.std.specs.Prelude.{◌≡◌, ◌≢◌, ℕ, List, ◌+◌, ◌-◌, ◌*◌, ◌^◌, ◌<◌, ◌≤◌, ◌==◌, ◌&&◌, false, length, count_by, map, replicate, IsTrue, IsFalse, OnOk, OnErr, IfErr, bit_xor, slice_index, slice_set, vec_len, vec_capacity};
 ghost use Rattle.std.specs.Simd.Lanes.{chunk, mask_l};
 ghost use Rattle.std.specs.Int.{IsPowerOfTwo};
 ghost use Rattle.quick_cache_table.specs.TableGroups.{hash_at, is_free, place_at, tag_of as tag_number, home_of as home_number, distance, IsReached, IsGrouped, IsHoused, IsBareBelow, IsWhole, capacity_of, HasOneMore, HasSamePairs, HasPairOf, ReachesGrow, empty_place};
@@ -288,7 +288,23 @@ fn shorten(places: &Seen<'_>, reaches: &mut [u32], mask: usize, home: usize)
     reaches[home] = step;
 }
 
-// Frees a place, whose pair is of that hash. The list of hashes is neither read nor written.
+// Frees a place, and leaves each reach as it is. The list of hashes is neither read nor written.
+#[inline(always)]
+pub(crate) fn free_place<A: Allocator>(tags: &mut [u8], places: &mut Places<A>, position: usize)
+    requires tagged { length tags.old ≡ length places.old.items }
+    requires within { position < length places.old.items }
+    requires taken { is_free (place_at places.old.items position) ≡ false }
+    ensures whole { (reaches : List ℕ) (mask : ℕ) → IsWhole tags.old places.old.items reaches mask
+        → IsWhole tags.new places.new.items reaches mask }
+    ensures loses { let left = place_at places.old.items position in
+        HasOneMore places.new.items places.old.items (hash_at left) left.token }
+    ensures allocated { places.new.allocated ≡ places.old.allocated }
+{
+    tags[position] = 0;
+    places.free(position);
+}
+
+// Frees a place, whose pair is of that hash, and lets its home reach no farther than it needs.
 pub(crate) fn leave_place<A: Allocator>(
     tags: &mut [u8],
     places: &mut Places<A>,
@@ -308,8 +324,7 @@ pub(crate) fn leave_place<A: Allocator>(
     ensures allocated { places.new.allocated ≡ places.old.allocated }
 {
     let home = home_of(hash, mask);
-    tags[position] = 0;
-    places.free(position);
+    free_place(tags, places, position);
     let step = home ^ position / LANES;
     if step != 0 && step == reaches[home] as usize {
         shorten(&places.seen(), reaches, mask, home);

@@ -20,6 +20,34 @@ pub(crate) struct Walk<'a> {
 }
 
 impl<'a> Walk<'a> {
+    /// A walk of a table that has groups.
+    #[inline(always)]
+    pub(crate) fn begin(
+        tags: &'a [u8],
+        places: Seen<'a>,
+        reaches: &'a [u32],
+        mask: usize,
+        hash: u64,
+    ) -> Walk<'a>
+        requires whole { IsWhole tags.now places reaches.now mask }
+        requires some { 0 < length reaches.now }
+        ensures walk { IsWalk result }
+        ensures places { result.places ≡ places.entry }
+        ensures hash { result.hash ≡ hash }
+        ensures all { AreTokensOf places.entry hash (tokens_left result) }
+    {
+        let home = home_of(hash, mask);
+        Walk {
+            tags,
+            places,
+            reaches,
+            hash,
+            home,
+            step: 0,
+            lanes: lanes_of(tags, home, tag_of(hash)),
+        }
+    }
+
     pub(crate) fn new(
         tags: &'a [u8],
         places: Seen<'a>,
@@ -38,12 +66,13 @@ impl<'a> Walk<'a> {
             places,
             reaches,
             hash,
-            home: 0,
+            home: home_of(hash, mask),
             step: 0,
             lanes: 0,
         };
-        if !reaches.is_empty() {
-            walk.home = home_of(hash, mask);
+        // Only a table without groups has no reach there. `reach` asks the same, so that the
+        // compiler leaves out the second test.
+        if walk.home < reaches.len() {
             walk.lanes = lanes_of(tags, walk.home, tag_of(hash));
         }
         walk
@@ -180,6 +209,26 @@ pub(crate) fn position_of(mut walk: Walk<'_>, token: u32) -> Option<usize>
         }
     }
     None
+}
+
+// The position of that token, where the next place of the group that is being read has it.
+#[inline(always)]
+pub(crate) fn first_position_of(walk: &Walk<'_>, token: u32) -> Option<usize>
+    requires { IsWalk walk.now }
+    ensures within { IfSome result (λ position. position < length walk.now.places) }
+    ensures found { IfSome result (λ position.
+        let place = place_at walk.now.places position in
+        (0 < place.token) × (place.token ≡ token)) }
+{
+    if walk.lanes == 0 {
+        return None;
+    }
+    let position = LANES * (walk.home ^ walk.step) + walk.lanes.trailing_zeros() as usize;
+    if walk.places.token(position) == token {
+        Some(position)
+    } else {
+        None
+    }
 }
 
 // The position of that token, where a place has it that has the tag of the hash.

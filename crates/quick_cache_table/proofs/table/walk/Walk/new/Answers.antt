@@ -1,9 +1,10 @@
+use Rattle.std.proofs.Common.{◌<◌, length, arith}
 use Rattle.quick_cache_table.specs.declared.table.walk.Walk.{Walk}
-use Rattle.quick_cache_table.proofs.WalkedTokens.{begins_walk, some-from_test}
+use Rattle.quick_cache_table.proofs.WalkedTokens.{begins_walk}
 use Rattle.quick_cache_table.proofs.table.walk.Walk.new.Goals as goal
 
-pub returns-then-not-is_empty-clause-walk : goal.returns-then-not-is_empty-clause-walk
-returns-then-not-is_empty-clause-walk c =
+pub returns-then-walk-reaches-clause-walk : goal.returns-then-walk-reaches-clause-walk
+returns-then-walk-reaches-clause-walk c =
     let walk : Walk =
     record {
       tags = c.args.tags;
@@ -15,13 +16,13 @@ returns-then-not-is_empty-clause-walk c =
       step = 0;
       lanes = 0;
     } in
-    let some = some-from_test c.args.reaches.now c.if-not-is_empty.ensures in
+    let some : 0 < length c.args.reaches.now = omega (arith, c.if-walk-reaches.true) in
     (begins_walk walk c.args.mask c.home_of.result c.tag_of.result c.lanes_of.result c.requires some
     c.home_of.ensures.value c.tag_of.ensures.value c.lanes_of.ensures).still
 
 -- each pair of the hash stands in a group that the walk reads
-pub returns-then-not-is_empty-clause-all : goal.returns-then-not-is_empty-clause-all
-returns-then-not-is_empty-clause-all c =
+pub returns-then-walk-reaches-clause-all : goal.returns-then-walk-reaches-clause-all
+returns-then-walk-reaches-clause-all c =
     let walk : Walk =
     record {
       tags = c.args.tags;
@@ -33,6 +34,6 @@ returns-then-not-is_empty-clause-all c =
       step = 0;
       lanes = 0;
     } in
-    let some = some-from_test c.args.reaches.now c.if-not-is_empty.ensures in
+    let some : 0 < length c.args.reaches.now = omega (arith, c.if-walk-reaches.true) in
     (begins_walk walk c.args.mask c.home_of.result c.tag_of.result c.lanes_of.result c.requires some
     c.home_of.ensures.value c.tag_of.ensures.value c.lanes_of.ensures).all
