@@ -1,5 +1,5 @@
 -- The item of a token, and room that grew.
-use Rattle.std.proofs.Common.{◌≡◌, ℕ, Option, Some, None, length, refl, sym, ap, subst, ◌∙◌, arith}
+use Rattle.std.proofs.Common.{◌≡◌, ℕ, [], Option, Some, None, length, refl, sym, ap, subst, ◌∙◌, arith}
 use Rattle.quick_cache_model.specs.CacheState.{Item, Place, InHot, InCold, InStill}
 use Rattle.quick_cache_slab.specs.LinkedSlab.{LinkedSlab, item_at, next_token}
 use Rattle.quick_cache_table.specs.Table.{Table}
@@ -8,9 +8,10 @@ use Rattle.quick_cache_lists.specs.declared.entry.Entry.TheVariants.{Item as ite
 use Rattle.quick_cache_lists.specs.declared.entry.Slot.{Slot}
 use Rattle.quick_cache_lists.specs.declared.ring.Ring.{Ring}
 use Rattle.quick_cache_lists.specs.declared.rings.Rings.{Rings}
+use Rattle.std.specs.Int.NonZero.{non_zero_u32_get}
 use Rattle.std.specs.declared.num.NonZeroU32.{NonZeroU32 as Token}
-use Rattle.quick_cache_lists.specs.Lists.{HeldItem, StandsIn, items_at, HasItem, HasItemToken}
-use Rattle.quick_cache_lists.specs.Slots.{Stand, AmongHot, AmongCold, AmongGhosts, weight_at, item_of, still_of, loading_of, ghost_of}
+use Rattle.quick_cache_lists.specs.Lists.{HeldItem, StandsIn, items_at, HasItem, HasItemToken, IsFirstOf}
+use Rattle.quick_cache_lists.specs.Slots.{Stand, AmongHot, AmongCold, AmongGhosts, stand_of, weight_at, item_of, still_of, loading_of, ghost_of}
 use Rattle.quick_cache_lists.specs.Sound.{weigh, gather, upto, tokens_of, lists_of, room_of, IsRingOf, IsSound}
 use Rattle.quick_cache_lists.proofs.GatherLemmas.{gather-from}
 use Rattle.quick_cache_lists.proofs.FindLemmas.{held_still}
@@ -60,6 +61,18 @@ module _ {K V P T : Type 0} where
             let at = gather-from (λ u. still_of u (item_at slab u))
             (upto (length slab.slots)) held there in
             found at.0 held (held_still (item_of at.0 (item_at slab at.0)) held at.2) e
+
+    -- the first cold item stands in the cold ring
+    pub stand_of-first_cold : IsRingOf slab cold AmongCold → (token : Token)
+        → IsFirstOf (λ (held : HeldItem K V). held.token)
+        (lists_of slab table hot cold ghosts).cold (Some token)
+        → stand_of (item_at slab (non_zero_u32_get token)) ≡ Some AmongCold
+    stand_of-first_cold ring token first =
+        let at = gather-from (λ u. item_of u (item_at slab u)) (tokens_of slab cold.head) first.0
+        (record { before = []; after = first.1; split = first.2 }) in
+        let is : at.0 ≡ non_zero_u32_get token =
+        sym (named_item at.0 (item_at slab at.0) first.0 at.2) ∙ first.3 in
+        subst (λ (u : ℕ). stand_of (item_at slab u) ≡ Some AmongCold) is (ring.members at.0 at.1)
 
   pub item_is : (o : Option (Slot K V P T)) (slot : Slot K V P T) (hash : ℕ) (item : Item K V)
       → o ≡ Some (record { hash = hash; entry = item_variant item }) → o ≡ Some slot

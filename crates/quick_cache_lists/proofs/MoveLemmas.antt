@@ -11,7 +11,7 @@ use Rattle.quick_cache_table.specs.Table.{Table, has_pair}
 use Rattle.quick_cache_lists.specs.declared.entry.Slot.{Slot}
 use Rattle.quick_cache_lists.specs.declared.rings.Rings.{Rings}
 use Rattle.quick_cache_lists.specs.Frames.{IsPlaced, IsRemoved, CanEnter, EntersRing, LeavesRingOf}
-use Rattle.quick_cache_lists.specs.Lists.{Lists, PutsLast, without_entry}
+use Rattle.quick_cache_lists.specs.Lists.{Lists, PutsLast, Replaces, without_entry}
 use Rattle.quick_cache_lists.specs.Slots.{Stand, stand_of, stand_in, has_hash, weight_in, weight_at, loading_in}
 use Rattle.quick_cache_lists.specs.Sound.{lists_of, room_of, IsKeyed, IsStanding, IsSound}
 use Rattle.quick_cache_lists.proofs.ApartLemmas.{apart_by}
@@ -230,7 +230,23 @@ module _ {K V P T : Type 0} (old alone : LinkedSlab (Slot K V P T)) (told : Tabl
           all_counted = omega (arith, sound.all_counted, less.all, counted.all);
         }
 
-    -- an item stays an item
+    -- the lists say that the other took its place
+    pub Replaces-moved : Replaces (lists_of old told rings.hot rings.cold rings.ghosts)
+        (non_zero_u32_get token) restarts y.entry x.entry
+        (lists_of new told grown.hot grown.cold grown.ghosts)
+    Replaces-moved = record {
+      hash = x.hash;
+      taken = IsEntry-from old told rings.hot rings.cold rings.ghosts sound.standing
+          (non_zero_u32_get token) x at;
+      last = subst (λ (h : ℕ). PutsLast (without_entry restarts (non_zero_u32_get token)
+          (lists_of old told rings.hot rings.cold rings.ghosts))
+          (non_zero_u32_get token) h y.entry
+          (lists_of new told grown.hot grown.cold grown.ghosts)) same_hash last-moved;
+      room = room-moved;
+      next = next-moved;
+    }
+
+    -- neither is a placeholder
     pub IsSound-requeued : loading_in s ≡ 0 → loading_in r ≡ 0 → IsSound new told grown loading
     IsSound-requeued none none' =
         let sound' = IsSound-moved 0 0 (sym none) (sym none') in

@@ -333,6 +333,25 @@ impl<K, V, P, T> Stored<K, V, P, T> {
         replace(&mut self.entry, stored).into_entry()
     }
 
+    /// Leaves a ghost in the place of the item that it has, and gives the item. It does not look
+    /// whether it has one, as `item` does not.
+    #[inline(always)]
+    pub(crate) fn bury(&mut self) -> Resident<K, V, T>
+        requires { is_item self.old ≡ true }
+        ensures new { self.new ≡ record self.old { entry = Entry.Ghost } }
+        ensures old { self.old.entry ≡ Entry.Item result }
+    {
+        match replace(&mut self.entry, StoredEntry::Ghost) {
+            StoredEntry::Item(mark, queue, body) => Resident { mark, queue, body },
+            _ => {
+                let too_far = usize::BITS;
+                let mut none = [0u8; 0];
+                none[1 << too_far] = 0;
+                unreachable!()
+            }
+        }
+    }
+
     /// Takes another item for the one that it has, and gives the old one back. The other goes on
     /// with the counter of touches.
     pub(crate) fn rewrite(&mut self, resident: Resident<K, V, T>) -> Resident<K, V, T>

@@ -119,19 +119,15 @@ impl<K: Eq + Hash + Drop, V: Drop, P: SharedPlaceholder<K>, A: Allocator> Conten
         ensures same { self.new ≡ record self.old { lists = self.new.lists } }
     {
         self.lists.apart();
-        match self.lists.replace(token, false, Entry::Ghost) {
-            Entry::Item(item) => match decide(item, terms, state) {
-                Fate::Stays(item) => {
-                    self.lists.apart();
-                    let _ = self.lists.replace(token, false, Entry::Item(item));
-                }
-                Fate::Leaves(key, value) => {
-                    self.forget_oldest();
-                    terms.on_evict_cold(state, key, value);
-                }
-            },
-            Entry::Loading(_) => unreachable!(),
-            Entry::Ghost => unreachable!(),
+        match decide(self.lists.bury(token), terms, state) {
+            Fate::Stays(item) => {
+                self.lists.apart();
+                let _ = self.lists.replace(token, false, Entry::Item(item));
+            }
+            Fate::Leaves(key, value) => {
+                self.forget_oldest();
+                terms.on_evict_cold(state, key, value);
+            }
         }
     }
 

@@ -1,9 +1,11 @@
 //! Entries that go from list to list and keep their tokens, so that the table does not change.
+ghost use Rattle.std.specs.Prelude.{◌≡◌, false, Some};
 ghost use Rattle.std.specs.Int.NonZero.{non_zero_u32_get as number};
-ghost use Rattle.quick_cache_lists.specs.Lists.{HasEntry, HasItemToken, Replaces, Requeues, requeued};
+ghost use Rattle.quick_cache_lists.specs.Lists.{HasEntry, HasItemToken, IsFirstOf, Replaces, Requeues, requeued};
 
-use crate::entry::Entry;
+use crate::entry::{Entry, Stand};
 use crate::lists::Lists;
+use crate::resident::Resident;
 use quick_cache_model::{Queue, Token};
 use std::alloc::Allocator;
 
@@ -32,6 +34,26 @@ impl<K, V, P, T, A: Allocator> Lists<K, V, P, T, A> {
         self.rings.enter(&mut self.slab, token, to, weight);
         self.loading = self.loading - from.loading() + to.loading();
         was
+    }
+
+    /// Makes the newest ghost of the first cold item, and answers the item. The token and the hash
+    /// stay, and no room is needed. It is `replace` by a ghost, with no test of what stands there.
+    #[inline(always)]
+    pub fn bury(&mut self, token: Token) -> Resident<K, V, T>
+        requires { IsFirstOf (λ held. held.token) self.old.cold (Some token) }
+        ensures { Replaces {T = T} self.old (number token) false Entry.Ghost (Entry.Item result)
+            self.new }
+    {
+        self.slab.validate();
+        let next = self.slab.unlink(token);
+        let (slot, _) = unsafe { self.slab.get_mut_unchecked(token) };
+        let item = slot.bury();
+        let weight = item.weight();
+        self.rings
+            .leave(token, next, Stand::AmongCold, false, weight);
+        self.rings
+            .enter(&mut self.slab, token, Stand::AmongGhosts, 0);
+        item
     }
 
     /// Gives the item of a token another queue, mark and weight, and puts it last in its ring, or

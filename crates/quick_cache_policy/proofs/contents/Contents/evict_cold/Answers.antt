@@ -1,10 +1,8 @@
-use Rattle.std.proofs.Common.{[], ◌∷◌, length, refl, sym, ap, subst, ◌∙◌, arith, inl}
+use Rattle.std.proofs.Common.{[], ◌∷◌, length, refl, sym, ap, subst, ◌∙◌, arith}
 use Rattle.std.specs.Int.NonZero.{non_zero_u32_get as number}
 use Rattle.quick_cache_model.specs.declared.queue.Queue.TheVariants.{Hot, Cold}
-use Rattle.quick_cache_model.specs.CacheState.{ring_place}
 use Rattle.quick_cache_model.specs.Hooks.{BeforeEvict, EvictCold}
-use Rattle.quick_cache_lists.specs.Lists.{Lists, IsEntry}
-use Rattle.quick_cache_lists.proofs.OneEntryLemmas.{first-loading, first-ghost}
+use Rattle.quick_cache_lists.specs.Lists.{Lists}
 use Rattle.quick_cache_policy.specs.declared.contents.Contents.{Contents}
 use Rattle.quick_cache_policy.specs.Advances.{AreEvictions, FirstIsEvicted}
 use Rattle.quick_cache_policy.specs.Contents.{IsSound, state_of, ring_count}
@@ -17,48 +15,17 @@ use Rattle.quick_cache_policy.proofs.SoundLemmas.{AreHashed-stays, AreHashed-gho
 use Rattle.quick_cache_policy.proofs.SoundLemmas.{ring_count-falls, hot_count-stays}
 use Rattle.quick_cache_policy.proofs.contents.Contents.evict_cold.Goals as goal
 
--- the first of the cold ring stands there
-pub replace-requires : goal.replace-requires
-replace-requires g c =
-    let first = c.requires.first in
-    inl (
-      first.0,
-      record {
-        place = ring_place Cold;
-        stands = record { before = []; after = first.1; split = first.2 };
-      },
-      first.3,
-    )
-
--- its token has no placeholder
-pub unreachable-requires : goal.unreachable-requires
-unreachable-requires g c =
-    let first = c.requires.first in
-    let lists = c.args.self.now.lists in
-    first-loading lists c.apart.ensures.apart first.0 first.1 Cold _ first.2
-    (subst (λ e. IsEntry lists (number c.args.token) c.replace.ensures.hash e) c.in-Loading.is
-    c.replace.ensures.taken) (sym first.3)
-
--- and no ghost
-pub unreachable-requires-in-Ghost : goal.unreachable-requires-in-Ghost
-unreachable-requires-in-Ghost g c =
-    let first = c.requires.first in
-    let lists = c.args.self.now.lists in
-    first-ghost lists c.apart.ensures.apart first.0 first.1 Cold _ first.2
-    (subst (λ e. IsEntry lists (number c.args.token) c.replace.ensures.hash e) c.in-Ghost.is
-    c.replace.ensures.taken) (sym first.3)
-
 -- there is one ghost more
 pub forget_oldest-requires : goal.forget_oldest-requires
 forget_oldest-requires g c =
     let first = c.requires.first in
     let lists = c.args.self.now.lists in
     record {
-      one = ghosts-one_more c.args.self.now.ghost_limit lists.ghosts c.replace.new.self.ghosts
-          (record { token = number c.args.token; hash = c.replace.ensures.hash })
+      one = ghosts-one_more c.args.self.now.ghost_limit lists.ghosts c.bury.new.self.ghosts
+          (record { token = number c.args.token; hash = c.bury.ensures.hash })
           (ap (λ (l : Lists _ _ _). l.ghosts)
-          (Replaces-ghost lists c.apart.ensures.apart first.0 first.1 (number c.args.token)
-          c.replace.result c.replace.new.self c.replace.ensures first.2 first.3))
+          (Replaces-ghost lists c.apart.ensures.apart first.0 first.1 (number c.args.token) _
+          c.bury.new.self c.bury.ensures first.2 first.3))
           c.requires.sound.valid.ghosts_within;
     }
 
@@ -70,17 +37,16 @@ returns-in-Stays-clause-evicts g c =
     let lists = contents.lists in
     let apart = c.apart.ensures.apart in
     let t = number c.args.token in
-    let hash = c.replace.ensures.hash in
-    let item = c.in-Item.item in
+    let hash = c.bury.ensures.hash in
+    let item = c.bury.result in
     let kept = c.in-Stays.item in
-    let new = c.replace-in-Stays.new.self in
+    let new = c.replace.new.self in
     let split = ring-first lists apart Cold first.0 first.1 t hash item first.2 first.3
-    (subst (λ e. IsEntry lists t hash e) c.in-Item.is c.replace.ensures.taken) in
-    let is = Replaces-ghost lists apart first.0 first.1 t c.replace.result c.replace.new.self
-    c.replace.ensures first.2 first.3 in
-    let order = Replaces-stays lists c.replace.new.self c.apart-in-Stays.ensures.apart first.1 t
-    hash item kept kept.value c.replace-in-Stays.result new is c.in-Stays.ensures.2
-    c.replace-in-Stays.ensures in
+    c.bury.ensures.taken in
+    let is = Replaces-ghost lists apart first.0 first.1 t _ c.bury.new.self c.bury.ensures first.2
+    first.3 in
+    let order = Replaces-stays lists c.bury.new.self c.apart-in-Stays.ensures.apart first.1 t
+    hash item kept kept.value c.replace.result new is c.in-Stays.ensures.2 c.replace.ensures in
     record {
       calls = BeforeEvict item.key item.value kept.value ∷ [];
       holds = (
@@ -100,17 +66,16 @@ returns-in-Stays-clause-sound g c =
     let lists = contents.lists in
     let apart = c.apart.ensures.apart in
     let t = number c.args.token in
-    let hash = c.replace.ensures.hash in
-    let item = c.in-Item.item in
+    let hash = c.bury.ensures.hash in
+    let item = c.bury.result in
     let kept = c.in-Stays.item in
-    let new = c.replace-in-Stays.new.self in
+    let new = c.replace.new.self in
     let split = ring-first lists apart Cold first.0 first.1 t hash item first.2 first.3
-    (subst (λ e. IsEntry lists t hash e) c.in-Item.is c.replace.ensures.taken) in
-    let is = Replaces-ghost lists apart first.0 first.1 t c.replace.result c.replace.new.self
-    c.replace.ensures first.2 first.3 in
-    let order = Replaces-stays lists c.replace.new.self c.apart-in-Stays.ensures.apart first.1 t
-    hash item kept kept.value c.replace-in-Stays.result new is c.in-Stays.ensures.2
-    c.replace-in-Stays.ensures in
+    c.bury.ensures.taken in
+    let is = Replaces-ghost lists apart first.0 first.1 t _ c.bury.new.self c.bury.ensures first.2
+    first.3 in
+    let order = Replaces-stays lists c.bury.new.self c.apart-in-Stays.ensures.apart first.1 t
+    hash item kept kept.value c.replace.result new is c.in-Stays.ensures.2 c.replace.ensures in
     let evicts = returns-in-Stays-clause-evicts g c in
     IsSound-evicted g.P.SharedPlaceholder.ticket_of contents
     (rules_by g.M.Policy g.P.Touch.Touches.may_count c.args.terms.now) g.K.PartialEq.eq
@@ -123,13 +88,13 @@ pub returns-in-Stays-clause-falls : goal.returns-in-Stays-clause-falls
 returns-in-Stays-clause-falls g c =
     ring_count-falls g.P.SharedPlaceholder.ticket_of c.args.self.now
     (rules_by g.M.Policy g.P.Touch.Touches.may_count c.args.terms.now) Cold _
-    c.replace-in-Stays.new.self (returns-in-Stays-clause-evicts g c).holds.0
+    c.replace.new.self (returns-in-Stays-clause-evicts g c).holds.0
 
 pub returns-in-Stays-clause-hot : goal.returns-in-Stays-clause-hot
 returns-in-Stays-clause-hot g c =
     hot_count-stays g.P.SharedPlaceholder.ticket_of c.args.self.now
     (rules_by g.M.Policy g.P.Touch.Touches.may_count c.args.terms.now) _
-    c.replace-in-Stays.new.self (returns-in-Stays-clause-evicts g c).holds.0
+    c.replace.new.self (returns-in-Stays-clause-evicts g c).holds.0
 
 -- it is the newest where the victim leaves
 pub returns-in-Leaves-clause-evicts : goal.returns-in-Leaves-clause-evicts
@@ -139,16 +104,15 @@ returns-in-Leaves-clause-evicts g c =
     let lists = contents.lists in
     let apart = c.apart.ensures.apart in
     let t = number c.args.token in
-    let hash = c.replace.ensures.hash in
-    let item = c.in-Item.item in
+    let hash = c.bury.ensures.hash in
+    let item = c.bury.result in
     let left = c.in-Leaves.value in
-    let mid = c.replace.new.self in
+    let mid = c.bury.new.self in
     let new = c.forget_oldest.new.self in
     let rules = rules_by g.M.Policy g.P.Touch.Touches.may_count c.args.terms.now in
     let split = ring-first lists apart Cold first.0 first.1 t hash item first.2 first.3
-    (subst (λ e. IsEntry lists t hash e) c.in-Item.is c.replace.ensures.taken) in
-    let is = Replaces-ghost lists apart first.0 first.1 t c.replace.result mid c.replace.ensures
-    first.2 first.3 in
+    c.bury.ensures.taken in
+    let is = Replaces-ghost lists apart first.0 first.1 t _ mid c.bury.ensures first.2 first.3 in
     let hashes = hashes_of-last lists.ghosts mid.ghosts t hash (rules.hash item.key)
     (ap (λ (l : Lists _ _ _). l.ghosts) is)
     (AreHashed-first (g.M.Policy.hashed c.args.terms.now) Cold
@@ -189,9 +153,9 @@ returns-in-Leaves-clause-sound g c =
     let hash = g.M.Policy.hashed c.args.terms.now in
     let new = c.forget_oldest.new.self in
     let rules = rules_by g.M.Policy g.P.Touch.Touches.may_count c.args.terms.now in
-    let same = without-ghosts g.P.SharedPlaceholder.ticket_of contents c.replace.new.self first.1 _
-    new (Replaces-ghost lists c.apart.ensures.apart first.0 first.1 (number c.args.token)
-    c.replace.result c.replace.new.self c.replace.ensures first.2 first.3)
+    let same = without-ghosts g.P.SharedPlaceholder.ticket_of contents c.bury.new.self first.1 _
+    new (Replaces-ghost lists c.apart.ensures.apart first.0 first.1 (number c.args.token) _
+    c.bury.new.self c.bury.ensures first.2 first.3)
     c.forget_oldest.ensures.same in
     let evicts = returns-in-Leaves-clause-evicts g c in
     subst (λ (s : Contents _ _ _ _ _). IsSound g.P.SharedPlaceholder.ticket_of g.K.PartialEq.eq hash
@@ -209,10 +173,10 @@ pub returns-in-Leaves-clause-falls : goal.returns-in-Leaves-clause-falls
 returns-in-Leaves-clause-falls g c =
     let first = c.requires.first in
     let contents = c.args.self.now in
-    let same = without-ghosts g.P.SharedPlaceholder.ticket_of contents c.replace.new.self first.1 _
+    let same = without-ghosts g.P.SharedPlaceholder.ticket_of contents c.bury.new.self first.1 _
     c.forget_oldest.new.self
-    (Replaces-ghost contents.lists c.apart.ensures.apart first.0 first.1 (number c.args.token)
-    c.replace.result c.replace.new.self c.replace.ensures first.2 first.3)
+    (Replaces-ghost contents.lists c.apart.ensures.apart first.0 first.1 (number c.args.token) _
+    c.bury.new.self c.bury.ensures first.2 first.3)
     c.forget_oldest.ensures.same in
     omega (arith, ap (λ (s : Contents _ _ _ _ _). ring_count Cold s) same, ap length first.2)
 
@@ -221,8 +185,8 @@ returns-in-Leaves-clause-hot g c =
     let first = c.requires.first in
     let contents = c.args.self.now in
     ap (λ (s : Contents _ _ _ _ _). ring_count Hot s)
-    (without-ghosts g.P.SharedPlaceholder.ticket_of contents c.replace.new.self first.1 _
+    (without-ghosts g.P.SharedPlaceholder.ticket_of contents c.bury.new.self first.1 _
     c.forget_oldest.new.self
-    (Replaces-ghost contents.lists c.apart.ensures.apart first.0 first.1 (number c.args.token)
-    c.replace.result c.replace.new.self c.replace.ensures first.2 first.3)
+    (Replaces-ghost contents.lists c.apart.ensures.apart first.0 first.1 (number c.args.token) _
+    c.bury.new.self c.bury.ensures first.2 first.3)
     c.forget_oldest.ensures.same)
