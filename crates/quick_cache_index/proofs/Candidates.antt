@@ -58,3 +58,16 @@ AreCandidates-walk index walk hash same is all = record {
       ap (λ ts. get_or ts position 0) (sym same) ∙ at.1 in
       lt-ltb _ _ (count_by-place index.tokens position token (omega (arith, taken, at.1)) there);
 }
+
+-- what covers the lists that were lent covers those of the index
+pub CoversTagged-lent : (index : Index) (tags tokens reaches : List ℕ) (mask hash : ℕ)
+    (found : List ℕ) → tags ≡ index.tags → tokens ≡ index.tokens → reaches ≡ index.reaches
+    → mask ≡ index.mask → CoversTagged tags tokens reaches mask hash found
+    → CoversTagged index.tags index.tokens index.reaches index.mask hash found
+CoversTagged-lent index tags tokens reaches mask hash found tags_are tokens_are reaches_are mask_is
+    covers =
+    let T : List ℕ → Type 0 = λ ts. CoversTagged ts tokens reaches mask hash found in
+    let K : List ℕ → Type 0 = λ ts. CoversTagged index.tags ts reaches mask hash found in
+    let R : List ℕ → Type 0 = λ rs. CoversTagged index.tags index.tokens rs mask hash found in
+    let M : ℕ → Type 0 = λ m. CoversTagged index.tags index.tokens index.reaches m hash found in
+    subst M mask_is (subst R reaches_are (subst K tokens_are (subst T tags_are covers)))

@@ -1,9 +1,9 @@
 -- What places hold, counted, and places that are written.
-use Rattle.std.proofs.Common.{◌≡◌, ◌≢◌, ℕ, zero, suc, ◌+◌, ◌<◌, ◌≤◌, ◌⊎◌, Bool, true, false, cond, not, ◌&&◌, eqb, List, [], ◌∷◌, ◌++◌, length, replicate, get_or, set, refl, sym, ap, ◌∙◌, inl, inr, arith, count_by}
+use Rattle.std.proofs.Common.{◌≡◌, ◌≢◌, ℕ, zero, suc, ◌+◌, ◌-◌, ◌<◌, ◌≤◌, ◌⊎◌, Bool, true, false, cond, not, ◌&&◌, eqb, List, [], ◌∷◌, ◌++◌, length, replicate, take, get_or, set, refl, sym, ap, ◌∙◌, inl, inr, arith, count_by}
 use Rattle.std.specs.List.{swap}
 use Rattle.std.proofs.lemmas.Bool.Decides.{eqb_tells, leb_tells}
 use Rattle.std.proofs.lemmas.Bool.{eqb-true, eq-eqb, ne_eqb}
-use Rattle.std.proofs.lemmas.List.{get_or_past}
+use Rattle.std.proofs.lemmas.List.{get_or_past, take_all}
 use Rattle.std.proofs.lemmas.List.Folds.{sum_by-replicate}
 use Rattle.std.proofs.lemmas.List.Sorted.{IsPermutation-swap, sum_by-IsPermutation}
 use Rattle.std.proofs.lemmas.List.Sums.{sum_by-cons, sum_by-set, sum_by-append, get_or-le-sum_by}
@@ -210,3 +210,19 @@ count_by-free n token = omega (arith, sum_by-replicate (λ t. bit (holds token t
 
 pub taken_count-none : (n : ℕ) → taken_count (replicate n 0) ≡ 0
 taken_count-none n = omega (arith, sum_by-replicate (λ t. bit (not (is_free t))) n 0)
+
+-- what is known of the token of a place
+pub known-place : (knows : ℕ → Type 0) (tokens : List ℕ) (position token : ℕ)
+    → AreKnown knows tokens → 0 < token → token ≡ get_or tokens position 0 → knows token
+known-place knows tokens position token known some at =
+    known token (count_by-place tokens position token some (sym at))
+
+-- a list of numbers that was filled up, as a call that answered so leaves it
+pub filled_up : (old reserved new : List ℕ) (done : Bool) (count n : ℕ) → reserved ≡ old
+    → length old ≤ count → n ≡ count - length old → done ≡ true
+    → new ≡ cond done (take count reserved ++ replicate n 0) reserved
+    → new ≡ old ++ replicate (count - length old) 0
+filled_up old reserved new done count n kept few as_many answers is =
+    is ∙ ap (λ b. cond b (take count reserved ++ replicate n 0) reserved) answers
+    ∙ ap (λ xs. xs ++ replicate n 0) (ap (take count) kept ∙ take_all count old few)
+    ∙ ap (λ k. old ++ replicate k 0) as_many

@@ -224,6 +224,24 @@ pub free-from_room : (tags tokens reaches : List ℕ) (mask len : ℕ)
 free-from_room tags tokens reaches mask len sound room =
     omega (arith, sound.counted, sound.sized.sixteen, room, taken_count-free tokens)
 
+-- what a call did with lists that were lent to it, it did with those that they are
+pub TakesPlace-lent : (tags tags' tokens tokens' reaches reaches' lent_tags lent_tokens
+    lent_reaches : List ℕ) (mask hash got token : ℕ) → lent_tags ≡ tags → lent_tokens ≡ tokens
+    → lent_reaches ≡ reaches → got ≡ token
+    → TakesPlace lent_tags tags' lent_tokens tokens' lent_reaches reaches' mask hash got
+    → TakesPlace tags tags' tokens tokens' reaches reaches' mask hash token
+TakesPlace-lent tags tags' tokens tokens' reaches reaches' lent_tags lent_tokens lent_reaches mask
+    hash got token tags_are tokens_are reaches_are token_is takes =
+    let T : List ℕ → Type 0 =
+    λ ts. TakesPlace ts tags' lent_tokens tokens' lent_reaches reaches' mask hash got in
+    let K : List ℕ → Type 0 =
+    λ ts. TakesPlace tags tags' ts tokens' lent_reaches reaches' mask hash got in
+    let R : List ℕ → Type 0 =
+    λ rs. TakesPlace tags tags' tokens tokens' rs reaches' mask hash got in
+    let N : ℕ → Type 0 =
+    λ n. TakesPlace tags tags' tokens tokens' reaches reaches' mask hash n in
+    subst N token_is (subst R reaches_are (subst K tokens_are (subst T tags_are takes)))
+
 -- ---- a token goes
 
 -- the token that stood at that place is gone, and reaches are as far as the others need
@@ -234,6 +252,26 @@ pub record LeavesPlace (hashed : ℕ → ℕ) (tags tags' tokens tokens' reaches
   pub token_is : tokens' ≡ set tokens position 0
   pub tag_is : tags' ≡ set tags position 0
   pub reached : KeepsReached hashed tokens' reaches reaches' mask
+
+-- what a call left of lists that were lent to it, it left of those that they are
+pub LeavesPlace-lent : (hashed : ℕ → ℕ) (tags tags' tokens tokens' reaches reaches' lent_tags
+    lent_tokens lent_reaches read : List ℕ) (mask got token position : ℕ) → lent_tags ≡ tags
+    → lent_tokens ≡ tokens → lent_reaches ≡ reaches → read ≡ tokens → got ≡ token → 0 < token
+    → get_or read position 0 ≡ got → tags' ≡ set lent_tags position 0
+    → tokens' ≡ set lent_tokens position 0
+    → KeepsReached hashed tokens' lent_reaches reaches' mask
+    → LeavesPlace hashed tags tags' tokens tokens' reaches reaches' mask token position
+LeavesPlace-lent hashed tags tags' tokens tokens' reaches reaches' lent_tags lent_tokens lent_reaches
+    read mask got token position tags_are tokens_are reaches_are read_is token_is some found tag_is
+    place_is kept =
+    let R : List ℕ → Type 0 = λ rs. KeepsReached hashed tokens' rs reaches' mask in
+    record {
+      some = some;
+      there = ap (λ ts. get_or ts position 0) (sym read_is) ∙ found ∙ token_is;
+      token_is = place_is ∙ ap (λ ts. set ts position 0) tokens_are;
+      tag_is = tag_is ∙ ap (λ ts. set ts position 0) tags_are;
+      reached = subst R reaches_are kept;
+    }
 
 kept-leave : (hashed : ℕ → ℕ) (tags tags' tokens tokens' reaches reaches' : List ℕ)
     (mask token place position : ℕ)

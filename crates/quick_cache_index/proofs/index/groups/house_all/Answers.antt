@@ -19,4 +19,8 @@ loop-position-preserved g c = record {
 }
 
 pub returns-clause-matched : goal.returns-clause-matched
-returns-clause-matched g c = ?
+returns-clause-matched g c =
+    IsMatched-housed (g.H.Hashes.hash_of c.args.hashes.now) c.loop-position.tags
+    c.loop-position.tokens c.loop-position.reaches c.args.mask c.loop-position.position
+    c.loop-position.invariant.housed c.loop-position.invariant.bare
+    (omega (arith, c.loop-position-test.false, c.loop-position.auto.tokens))
