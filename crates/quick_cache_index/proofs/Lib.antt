@@ -1,0 +1,10 @@
+pub mod Candidates
+pub mod CountedTokens
+pub mod Distances
+pub mod FreedPlaces
+pub mod GroupLanes
+pub mod HousedTokens
+pub mod NearestFreePlace
+pub mod PowersOfTwo
+pub mod ShownTokens
+pub mod WalkedTokens

@@ -1,0 +1,153 @@
+-- How an `Index` lays out its tokens: places in groups of sixteen, each with a tag. No public clause
+-- cites this module.
+use Rattle.std.specs.Prelude.{◌≡◌, ℕ, ◌+◌, ◌-◌, ◌*◌, ◌^◌, ◌<◌, ◌≤◌, Bool, not, ◌==◌, min, if◌then◌else◌, List, [], ◌∷◌, zero, suc, length, count_by, filter, filter_map, ◌++◌, Option, Some, None, bit_xor, slice_index, slice_set}
+use Rattle.std.specs.Int.{IsPowerOfTwo, bit_at}
+use Rattle.quick_cache_index.specs.Index.{tag_of, home_of, IsReached, is_free, holds}
+use Rattle.quick_cache_index.specs.declared.index.walk.Walk.{Walk}
+
+-- how many of the places have a token
+abbrev pub taken_count : List ℕ → ℕ
+taken_count tokens = count_by (λ place. not (is_free place)) tokens
+
+-- a reach for each group, and sixteen tags and tokens: of a power of two of groups, or of none
+pub record IsGrouped (tags tokens reaches : List ℕ) (mask : ℕ) : Type 0 where
+  pub groups : 0 < length reaches → length reaches ≡ mask + 1
+  pub sixteen : length tokens ≡ 16 * length reaches
+  pub tagged : length tags ≡ length tokens
+  pub power : IsPowerOfTwo (mask + 1)
+  pub few : mask < 2 ^ 29
+  pub near : (group : ℕ) → slice_index reaches group ≤ mask
+
+-- a place has a tag where it has a token, and there alone
+pub record IsMatched (tags tokens : List ℕ) : Type 0 where
+  pub taken : (position : ℕ) → 0 < slice_index tags position → 0 < slice_index tokens position
+  pub bare : (position : ℕ) → slice_index tags position ≡ 0 → slice_index tokens position ≡ 0
+
+-- as many tokens as so many groups are made for
+abbrev pub capacity_of : ℕ → ℕ
+capacity_of groups = min (14 * groups) 4294967294
+
+-- the places and the length of an index
+pub record IsSound (tags tokens reaches : List ℕ) (mask len : ℕ) : Type 0 where
+  pub sized : IsGrouped tags tokens reaches mask
+  pub matched : IsMatched tags tokens
+  pub counted : len ≡ taken_count tokens
+  pub load : len ≤ capacity_of (length reaches)
+  pub once : (token : ℕ) → count_by (holds token) tokens ≤ 1
+
+-- a token stands at the position under the tag of its hash, and a search finds it there
+pub record IsHousedAt (hashed : ℕ → ℕ) (tags reaches : List ℕ) (mask token position : ℕ) : Type 0 where
+  pub taken : 0 < token
+  pub tag : slice_index tags position ≡ tag_of (hashed token)
+  pub reached : IsReached reaches mask (hashed token) position
+
+-- where there is a tag, its token is housed
+pub record IsHoused (hashed : ℕ → ℕ) (tags tokens reaches : List ℕ) (mask : ℕ) : Type 0 where
+  pub sized : IsGrouped tags tokens reaches mask
+  pub housed : (position : ℕ) → 0 < slice_index tags position
+      → IsHousedAt hashed tags reaches mask (slice_index tokens position) position
+
+-- the places below `count` that have no tag have no token
+abbrev pub IsBareBelow : List ℕ → List ℕ → ℕ → Type 0
+IsBareBelow tags tokens count =
+    (position : ℕ) → position < count → slice_index tags position ≡ 0
+    → slice_index tokens position ≡ 0
+
+-- both have the same tokens
+pub record AreSame (old new : List ℕ) : Type 0 where
+  pub each : (token : ℕ) → count_by (holds token) new ≡ count_by (holds token) old
+  pub taken : taken_count new ≡ taken_count old
+
+-- each token of these places is known
+abbrev pub AreKnown : (ℕ → Type 0) → List ℕ → Type 0
+AreKnown knows tokens = (token : ℕ) → 0 < count_by (holds token) tokens → knows token
+
+-- no reach got shorter
+abbrev pub ReachesGrow : List ℕ → List ℕ → Type 0
+ReachesGrow old new =
+    (length new ≡ length old) × ((group : ℕ) → slice_index old group ≤ slice_index new group)
+
+-- the token came to a free place, under the tag of the hash, where a search for that finds it
+pub record TakesPlace (tags tags' tokens tokens' reaches reaches' : List ℕ)
+    (mask hash token : ℕ) : Type 0 where
+  pub position : ℕ
+  pub inside : position < length tokens
+  pub free : slice_index tokens position ≡ 0
+  pub token_is : tokens' ≡ slice_set tokens position token
+  pub tag_is : tags' ≡ slice_set tags position (tag_of hash)
+  pub reached : IsReached reaches' mask hash position
+  pub grow : ReachesGrow reaches reaches'
+
+-- a token of that home is in the group
+abbrev pub HasTokenOf : (ℕ → ℕ) → List ℕ → ℕ → ℕ → ℕ → Type 0
+HasTokenOf hashed tokens mask home group =
+    (lane : ℕ) × (lane < 16)
+    × let token = slice_index tokens (16 * group + lane) in
+    (0 < token) × (home_of mask (hashed token) ≡ home)
+
+-- what a search found of these tokens by their hashes, it finds still
+abbrev pub KeepsReached : (ℕ → ℕ) → List ℕ → List ℕ → List ℕ → ℕ → Type 0
+KeepsReached hashed tokens old new mask =
+    (position : ℕ) → 0 < slice_index tokens position
+    → IsReached old mask (hashed (slice_index tokens position)) position
+    → IsReached new mask (hashed (slice_index tokens position)) position
+
+-- so many positions from this one on
+abbrev pub positions_from : ℕ → ℕ → List ℕ
+positions_from position zero = []
+positions_from position (suc count) = position ∷ positions_from (position + 1) count
+
+-- the positions of a group
+abbrev pub group_positions : ℕ → List ℕ
+group_positions group = positions_from (16 * group) 16
+
+-- those of them that have their bit set
+abbrev pub lane_positions : ℕ → ℕ → List ℕ
+lane_positions group lanes =
+    filter (λ position. bit_at lanes (position - 16 * group) == 1) (group_positions group)
+
+-- the positions of so many groups, by their distance from the home, from `step` on
+abbrev pub positions_along : ℕ → ℕ → ℕ → List ℕ
+positions_along home step zero = []
+positions_along home step (suc count) =
+    group_positions (bit_xor home step) ++ positions_along home (step + 1) count
+
+-- the distance of the group that a walk reads last
+abbrev pub reach_of : Walk → ℕ
+reach_of walk = slice_index walk.reaches.now walk.home
+
+-- the positions that a walk has not looked at
+abbrev pub positions_left : Walk → List ℕ
+positions_left walk =
+    lane_positions (bit_xor walk.home walk.step) walk.lanes
+    ++ positions_along walk.home (walk.step + 1) (reach_of walk - walk.step)
+
+-- the token at a place, where that place has the tag of the hash
+abbrev pub tagged_token : List ℕ → List ℕ → ℕ → ℕ → Option ℕ
+tagged_token tags tokens hash position =
+    if slice_index tags position == tag_of hash then Some (slice_index tokens position) else None
+
+-- the tokens of such places that a walk has not met
+abbrev pub candidates_left : Walk → List ℕ
+candidates_left walk =
+    filter_map (tagged_token walk.tags.now walk.tokens.now walk.hash) (positions_left walk)
+
+-- a walk looks at places that there are and have tokens
+pub record IsWalk (walk : Walk) : Type 0 where
+  pub here : 0 < walk.lanes → 16 * bit_xor walk.home walk.step + 16 ≤ length walk.tokens.now
+  pub later : (step : ℕ) → walk.step < step → step ≤ reach_of walk
+      → 16 * bit_xor walk.home step + 16 ≤ length walk.tokens.now
+  pub few : walk.lanes < 2 ^ 16
+  pub short : length walk.tokens.now ≤ 2 ^ 33
+  pub lit : (lane : ℕ) → bit_at walk.lanes lane ≡ 1
+      → slice_index walk.tags.now (16 * bit_xor walk.home walk.step + lane) ≡ tag_of walk.hash
+  pub tagged : length walk.tags.now ≡ length walk.tokens.now
+  pub taken : (position : ℕ) → 0 < slice_index walk.tags.now position
+      → 0 < slice_index walk.tokens.now position
+
+-- each token that a search for the hash meets is among these
+abbrev pub CoversTagged : List ℕ → List ℕ → List ℕ → ℕ → ℕ → List ℕ → Type 0
+CoversTagged tags tokens reaches mask hash found =
+    (position : ℕ) → position < length tokens → slice_index tags position ≡ tag_of hash
+    → IsReached reaches mask hash position
+    → 0 < count_by (λ t. t == slice_index tokens position) found

@@ -1,0 +1,265 @@
+//! Tokens by hash: tokens in groups of sixteen places, found by tags of their hashes.
+ghost use Rattle.std.specs.Prelude.{◌≡◌, ℕ, ◌+◌, ◌-◌, ◌^◌, ◌<◌, ◌≤◌, ◌↔◌, min, IsTrue, IsOk, IfOk, IfErr, OnOk, OnErr};
+ghost use Rattle.std.specs.Int.NonZero.{non_zero_u32_get};
+ghost use Rattle.quick_cache_index.specs.Index.{HasToken, HasNone, HasSameTokens, GainsToken, LosesToken, Leads, KeepsLeads, KeepsOtherLeads, KeepsAllLeads, AreAll, AreOthers, AreCandidates, token_count, wanted_room};
+
+pub(crate) mod candidates;
+pub(crate) mod groups;
+pub(crate) mod hashes;
+pub(crate) mod walk;
+
+pub use candidates::Candidates;
+use groups::{MOST_TOKENS, capacity, groups_for};
+pub use hashes::Hashes;
+use quick_cache_model::{Refusal, Token};
+use std::alloc::{Allocator, Global};
+use std::marker::Model;
+use walk::{Walk, tagged_position_of};
+
+/// Tokens by hash, each at one place at most.
+///
+/// It keeps no hash. A place has a tag of one byte from the hash of its token, and a look-up
+/// compares the sixteen tags of a group at once before it reads a token, as Rust's own hash map
+/// does (SwissTable). So a look-up gives candidates, which the caller compares, and the calls that
+/// need the hash of a token that is not at hand ask the caller for it. A token that goes gives its
+/// room back, and no call but `reserve` allocates. A look-up reads no group past the farthest that
+/// has a token of its own, so that a removal leaves nothing behind.
+#[derive(Drop)]
+pub struct Index<A: Allocator = Global> {
+    // The tag of each place, or 0 where it is free.
+    tags: Vec<u8, A>,
+    // The token of each place, or 0 where it is free.
+    tokens: Vec<u32, A>,
+    // For each group, how far from it the tokens are whose home it is.
+    reaches: Vec<u32, A>,
+    // One less than how many groups there are.
+    mask: usize,
+    // How many places are taken.
+    len: usize,
+}
+
+impl<A: Allocator> Model for Index<A> {
+    ghost use Rattle.std.specs.Prelude.{◌+◌, ◌-◌, ◌*◌, length, vec_capacity};
+    ghost use Rattle.quick_cache_index.specs.Index.{Index as Shown, index_code};
+
+    ghost Value = { Shown };
+
+    ghost coded = { index_code };
+
+    ghost use Rattle.quick_cache_index.specs.IndexGroups.{taken_count, capacity_of, IsSound};
+
+    ghost view = { λ i. record {
+      tags = i.tags.items;
+      tokens = i.tokens.items;
+      reaches = i.reaches.items;
+      mask = i.mask;
+      room = capacity_of (length i.reaches.items) - taken_count i.tokens.items;
+      allocated = vec_capacity i.tags + 4 * vec_capacity i.tokens + 4 * vec_capacity i.reaches;
+    } };
+
+    ghost invariant = { λ i. IsSound i.tags.items i.tokens.items i.reaches.items i.mask i.len };
+}
+
+impl<A: Allocator> Index<A> {
+    /// An empty index, which allocates nothing until the first `reserve`.
+    ///
+    /// # Errors
+    ///
+    /// `Memory` where the allocator cannot be cloned.
+    pub fn new(alloc: A) -> Result<Self, Refusal>
+    where
+        A: Clone,
+        ensures empty { IfOk result HasNone }
+        ensures count { IfOk result (λ index. token_count index ≡ 0) }
+        ensures room { IfOk result (λ index. index.room ≡ 0) }
+        ensures allocated { IfOk result (λ index. index.allocated ≡ 0) }
+        ensures succeeds { A.is_infallible alloc → IsOk result }
+        ensures refused { OnErr result (result ≡ Err Refusal.Memory) }
+    {
+        let Ok(for_tags) = alloc.clone() else {
+            return Err(Refusal::Memory);
+        };
+        let Ok(for_reaches) = alloc.clone() else {
+            return Err(Refusal::Memory);
+        };
+        Ok(Index {
+            tags: Vec::new(for_tags),
+            tokens: Vec::new(alloc),
+            reaches: Vec::new(for_reaches),
+            mask: 0,
+            len: 0,
+        })
+    }
+
+    /// How many tokens there are.
+    pub fn len(&self) -> usize
+        ensures value { result ≡ token_count self.now }
+        ensures most { token_count self.now + self.now.room ≤ 4294967294 }
+    {
+        self.len
+    }
+
+    /// Whether it takes one more token as it is.
+    #[inline(always)]
+    pub fn has_room(&self) -> bool
+        ensures room { IsTrue result ↔ 0 < self.now.room }
+        ensures most { token_count self.now + self.now.room ≤ 4294967294 }
+    {
+        capacity(self.reaches.len()) > self.len
+    }
+
+    /// How many bytes the index holds, apart from its own.
+    pub fn allocation_size(&self) -> usize
+        ensures { result ≡ min self.now.allocated (2 ^ 64 - 1) }
+    {
+        let tags = self.tags.capacity();
+        let tokens = self.tokens.capacity().saturating_mul(size_of::<u32>());
+        let reaches = self.reaches.capacity().saturating_mul(size_of::<u32>());
+        tags.saturating_add(tokens).saturating_add(reaches)
+    }
+
+    /// Makes room for `additional` more tokens, or for all that the index can still take.
+    ///
+    /// It asks for memory only where the room does not suffice. A growth at least doubles the
+    /// groups, asks for the hash of each token, and puts each into its group anew. A refused call
+    /// may keep memory that it got, and changes nothing else.
+    ///
+    /// # Errors
+    ///
+    /// `Memory` where there is none.
+    pub fn reserve<H: Hashes>(&mut self, hashes: &H, additional: usize) -> Result<(), Refusal>
+        requires known { AreAll (H.Knows hashes.now) self.old }
+
+        // The tokens stay, and what their hashes led to, these lead to still.
+        ensures tokens { HasSameTokens self.old self.new }
+        ensures count { token_count self.new ≡ token_count self.old }
+        ensures leads { KeepsLeads self.old self.new (H.hash_of hashes.now) }
+        ensures room { OnOk result (wanted_room self.old additional ≤ self.new.room) }
+        ensures more { self.old.room ≤ self.new.room }
+        ensures most { token_count self.new + self.new.room ≤ 4294967294 }
+
+        // Where there is room it succeeds and nothing changes, so that it takes no memory.
+        ensures succeeds { wanted_room self.old additional ≤ self.old.room → IsOk result }
+        ensures had_room { wanted_room self.old additional ≤ self.old.room
+            → self.new ≡ self.old }
+
+        // It is refused only where there was no room, and then nothing but the memory changes.
+        ensures lacked_room { OnErr result (self.old.room < wanted_room self.old additional) }
+        ensures memory { IfErr result (λ refusal. refusal ≡ Refusal.Memory) }
+        ensures refused { OnErr result (self.new
+            ≡ record self.old { allocated = self.new.allocated }) }
+        ensures allocated { self.old.allocated ≤ self.new.allocated }
+    {
+        let wanted = additional.min(MOST_TOKENS - self.len);
+        if wanted <= capacity(self.reaches.len()) - self.len {
+            return Ok(());
+        }
+        let count = groups_for(self.len + wanted);
+        groups::grow(
+            &mut self.tags,
+            &mut self.tokens,
+            &mut self.reaches,
+            hashes,
+            count,
+        )?;
+        self.mask = count - 1;
+        Ok(())
+    }
+
+    /// Puts the token into the index, into the first group on the hash's way that has a free place.
+    ///
+    /// Of n tokens of one hash the next reads about n / 16 groups.
+    pub fn insert_reserved(&mut self, hash: u64, token: Token)
+        requires room { 0 < self.old.room }
+        requires is_new { ¬ HasToken self.old (non_zero_u32_get token) }
+        ensures leads { Leads self.new hash (non_zero_u32_get token) }
+        ensures kept { KeepsAllLeads self.old self.new }
+        ensures tokens { GainsToken self.old self.new (non_zero_u32_get token) }
+        ensures count { token_count self.new ≡ token_count self.old + 1 }
+        ensures room { self.new.room + 1 ≡ self.old.room }
+        ensures allocated { self.new.allocated ≡ self.old.allocated }
+    {
+        groups::take_place(
+            self.tags.as_mut_slice(),
+            self.tokens.as_mut_slice(),
+            self.reaches.as_mut_slice(),
+            self.mask,
+            hash,
+            token.get(),
+        );
+        self.len += 1;
+    }
+
+    /// Takes the token out of the index, to which that hash leads.
+    ///
+    /// It goes by the tag and the token alone. Where no token of its home lies farther out, it asks
+    /// for the hashes of those in the groups on the way back until one is of that home, so that
+    /// later look-ups read no more than they need.
+    pub fn remove<H: Hashes>(&mut self, hashes: &H, hash: u64, token: Token)
+        requires there { Leads self.old hash (non_zero_u32_get token) }
+        requires known { AreOthers (H.Knows hashes.now) self.old (non_zero_u32_get token) }
+        ensures tokens { LosesToken self.old self.new (non_zero_u32_get token) }
+        ensures kept { KeepsOtherLeads self.old self.new (H.hash_of hashes.now)
+            (non_zero_u32_get token) }
+        ensures count { token_count self.new + 1 ≡ token_count self.old }
+        ensures room { self.new.room ≡ self.old.room + 1 }
+        ensures allocated { self.new.allocated ≡ self.old.allocated }
+    {
+        let walk = Walk::new(
+            self.tags.as_slice(),
+            self.tokens.as_slice(),
+            self.reaches.as_slice(),
+            self.mask,
+            hash,
+        );
+        let Some(position) = tagged_position_of(walk, token.get()) else {
+            unreachable!()
+        };
+        groups::leave_place(
+            self.tags.as_mut_slice(),
+            self.tokens.as_mut_slice(),
+            self.reaches.as_mut_slice(),
+            self.mask,
+            hashes,
+            hash,
+            position,
+        );
+        self.len -= 1
+    }
+
+    /// Tokens that are there, among them each to which that hash leads, in no order that counts.
+    ///
+    /// These are the tokens of all places on the hash's way that have its tag, so that of 255 others
+    /// about one is among them. It asks for no hash. A caller who compares keys needs none.
+    #[inline(always)]
+    pub fn candidates(&self, hash: u64) -> Candidates<'_>
+        ensures { AreCandidates self.now hash result }
+    {
+        let walk = Walk::new(
+            self.tags.as_slice(),
+            self.tokens.as_slice(),
+            self.reaches.as_slice(),
+            self.mask,
+            hash,
+        );
+        Candidates { walk }
+    }
+
+    /// Removes every token. The room and the memory stay.
+    pub fn clear(&mut self)
+        ensures empty { HasNone self.new }
+        ensures count { token_count self.new ≡ 0 }
+        ensures room { self.new.room ≡ self.old.room + token_count self.old }
+        ensures allocated { self.new.allocated ≡ self.old.allocated }
+    {
+        if self.len == 0 {
+            return;
+        }
+        groups::free_all(
+            self.tags.as_mut_slice(),
+            self.tokens.as_mut_slice(),
+            self.reaches.as_mut_slice(),
+        );
+        self.len = 0;
+    }
+}
