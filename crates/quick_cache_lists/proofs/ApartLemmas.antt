@@ -4,7 +4,7 @@ use Rattle.std.specs.declared.num.NonZeroU32.{NonZeroU32 as Token}
 use Rattle.std.specs.Int.NonZero.{non_zero_u32_get}
 use Rattle.std.proofs.lemmas.Bool.{cases_eq, cases_lt}
 use Rattle.quick_cache_slab.specs.LinkedSlab.{LinkedSlab, times, item_at, IsParted}
-use Rattle.quick_cache_table.specs.Table.{Table}
+use Rattle.quick_cache_index.specs.Index.{Index}
 use Rattle.quick_cache_model.specs.declared.queue.Queue.{Queue}
 use Rattle.quick_cache_slab.proofs.TokenCounts.{times-append, times-other}
 use Rattle.quick_cache_lists.specs.declared.entry.Entry.{Entry}
@@ -97,14 +97,14 @@ module _ {K V P T : Type 0} where
       by_entry hash (loading_variant awaited) off' = absurd (off' refl)
       by_entry hash ghost_variant off' = refl
 
-module _ {K V P T : Type 0} (slab : LinkedSlab (Slot K V P T)) (table : Table)
+module _ {K V P T : Type 0} (slab : LinkedSlab (Slot K V P T)) (index : Index)
     (hot cold ghosts : Ring) (parted : IsParted slab)
     (sound : IsStanding slab hot cold ghosts) where
   once_ring : (o : Option Token) (t : ℕ) → times t (tokens_of slab o) ≤ 1
   once_ring None t = omega arith
   once_ring (Some head) t = parted.once (non_zero_u32_get head) t
 
-  pub apart_by : AreApart (lists_of slab table hot cold ghosts)
+  pub apart_by : AreApart (lists_of slab index hot cold ghosts)
   apart_by t = by_stand (stand_of (item_at slab t)) refl
     where
       held_le : (ring : Ring) → times t
@@ -146,7 +146,7 @@ module _ {K V P T : Type 0} (slab : LinkedSlab (Slot K V P T)) (table : Table)
           (upto (length slab.slots))
 
       by_stand : (o : Option Stand) → stand_of (item_at slab t) ≡ o
-          → entries_of t (lists_of slab table hot cold ghosts) ≤ 1
+          → entries_of t (lists_of slab index hot cold ghosts) ≤ 1
       by_stand None e = omega (
         arith,
         held_le hot,

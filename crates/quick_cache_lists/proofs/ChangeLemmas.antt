@@ -6,7 +6,7 @@ use Rattle.std.proofs.lemmas.Bool.{cases_eq}
 use Rattle.std.proofs.lemmas.List.{set-get_or}
 use Rattle.quick_cache_model.specs.CacheState.{Item}
 use Rattle.quick_cache_slab.specs.LinkedSlab.{LinkedSlab, times, ring_from, at_token, with_token, item_at, next_token, with_item}
-use Rattle.quick_cache_table.specs.Table.{Table}
+use Rattle.quick_cache_index.specs.Index.{Index}
 use Rattle.quick_cache_slab.proofs.AtTokens.{at_token-with_same, at_token-with_other, length-with_token}
 use Rattle.quick_cache_lists.specs.declared.entry.Entry.TheVariants.{Item as item_variant}
 use Rattle.quick_cache_lists.specs.declared.entry.Slot.{Slot}
@@ -124,9 +124,9 @@ module _ {K V P T : Type 0} where
       loading = λ u stands. sound.loading u (sym (alike stand_of stand_same u) ∙ stands);
     }
 
-    pub IsKeyed-changed : (change item).weight < 18446744073709551616 → (table : Table)
-        → IsKeyed old table → IsKeyed (written hash (change item) t old) table
-    IsKeyed-changed light table keyed = record {
+    pub IsKeyed-changed : (change item).weight < 18446744073709551616 → (index : Index)
+        → IsKeyed old index → IsKeyed (written hash (change item) t old) index
+    IsKeyed-changed light index keyed = record {
       pairs = λ h u. keyed.pairs h u ∙ sym (alike (has_hash h) refl u);
       few = rw long keyed.few;
       light = λ u. elim (cases_eq u t) [
@@ -171,10 +171,10 @@ module _ {K V P T : Type 0} where
         (sym (ap (still_of t) at) ∙ none))
         tokens
 
-    pub lists-changed : (table : Table) (hot cold ghosts : Ring)
-        → lists_of (written hash (change item) t old) table hot cold ghosts
-        ≡ with_change t change (lists_of old table hot cold ghosts)
-    lists-changed table hot cold ghosts =
+    pub lists-changed : (index : Index) (hot cold ghosts : Ring)
+        → lists_of (written hash (change item) t old) index hot cold ghosts
+        ≡ with_change t change (lists_of old index hot cold ghosts)
+    lists-changed index hot cold ghosts =
         let hot_is = view-changed (tokens_of old hot.head) in
         let cold_is = view-changed (tokens_of old cold.head) in
         let still_is = ap (λ n. gather
@@ -192,7 +192,7 @@ module _ {K V P T : Type 0} where
         (ap (ghost_of t) at) (ap (ghost_of t) here) in
         let next_is : next_token (written hash (change item) t old) ≡ next_token old =
         rw long refl in
-        let room_is : room_of (written hash (change item) t old) table ≡ room_of old table = refl in
+        let room_is : room_of (written hash (change item) t old) index ≡ room_of old index = refl in
         λ i. record {
           hot = hot_is i;
           cold = cold_is i;
@@ -204,17 +204,17 @@ module _ {K V P T : Type 0} where
         }
 
     pub IsSound-changed : (change item).weight ≡ item.weight
-        → (table : Table) (rings : Rings) (loading : ℕ) → IsSound old table rings loading
-        → IsSound (written hash (change item) t old) table rings loading
-    IsSound-changed weight table rings loading sound =
-        let same = lists-changed table rings.hot rings.cold rings.ghosts in
-        let before = lists_of old table rings.hot rings.cold rings.ghosts in
+        → (index : Index) (rings : Rings) (loading : ℕ) → IsSound old index rings loading
+        → IsSound (written hash (change item) t old) index rings loading
+    IsSound-changed weight index rings loading sound =
+        let same = lists-changed index rings.hot rings.cold rings.ghosts in
+        let before = lists_of old index rings.hot rings.cold rings.ghosts in
         let waiting = ap (λ (l : Lists K V P). length l.loading) same in
         let all = ap entry_count same in
         record {
           standing = IsStanding-changed weight rings.hot rings.cold rings.ghosts sound.standing;
           keyed = IsKeyed-changed (omega (arith, weight, sound.keyed.light t, ap weight_at at))
-              table sound.keyed;
+              index sound.keyed;
           loading_counted = sound.loading_counted ∙ sym waiting;
           all_counted = all ∙ entry_count-change t change before ∙ sound.all_counted;
         }
@@ -363,34 +363,34 @@ module _ {K V P T : Type 0} where
           rw same (beside is sound (λ e. cc) (λ e. cc) (λ e. cc))
 
     -- no list changes but for the item
-    pub lists-reweighed : (table : Table) (rings after : Rings) (s : Stand)
+    pub lists-reweighed : (index : Index) (rings after : Rings) (s : Stand)
         → ReweighsRing rings after item.weight (change item).weight s
-        → lists_of (written hash (change item) t old) table after.hot after.cold after.ghosts
-        ≡ with_change t change (lists_of old table rings.hot rings.cold rings.ghosts)
-    lists-reweighed table rings after AmongHot same =
-        rw same.1 (lists-changed table rings.hot rings.cold rings.ghosts)
-    lists-reweighed table rings after AmongCold same =
-        rw same.1 (lists-changed table rings.hot rings.cold rings.ghosts)
-    lists-reweighed table rings after AmongGhosts same =
-        rw same (lists-changed table rings.hot rings.cold rings.ghosts)
-    lists-reweighed table rings after AmongStill same =
-        rw same (lists-changed table rings.hot rings.cold rings.ghosts)
-    lists-reweighed table rings after AmongLoading same =
-        rw same (lists-changed table rings.hot rings.cold rings.ghosts)
+        → lists_of (written hash (change item) t old) index after.hot after.cold after.ghosts
+        ≡ with_change t change (lists_of old index rings.hot rings.cold rings.ghosts)
+    lists-reweighed index rings after AmongHot same =
+        rw same.1 (lists-changed index rings.hot rings.cold rings.ghosts)
+    lists-reweighed index rings after AmongCold same =
+        rw same.1 (lists-changed index rings.hot rings.cold rings.ghosts)
+    lists-reweighed index rings after AmongGhosts same =
+        rw same (lists-changed index rings.hot rings.cold rings.ghosts)
+    lists-reweighed index rings after AmongStill same =
+        rw same (lists-changed index rings.hot rings.cold rings.ghosts)
+    lists-reweighed index rings after AmongLoading same =
+        rw same (lists-changed index rings.hot rings.cold rings.ghosts)
 
     pub IsSound-reweighed : ((u w : ℕ) → times w (ring_from old u) ≤ 1)
         → (change item).weight < 18446744073709551616
-        → (table : Table) (rings after : Rings) (loading : ℕ) (s : Stand)
+        → (index : Index) (rings after : Rings) (loading : ℕ) (s : Stand)
         → stand_of (item_at old t) ≡ Some s
         → ReweighsRing rings after item.weight (change item).weight s
-        → IsSound old table rings loading
-        → IsSound (written hash (change item) t old) table after loading
-    IsSound-reweighed single light table rings after loading s is reweighs sound =
-        let same = lists-reweighed table rings after s reweighs in
-        let before = lists_of old table rings.hot rings.cold rings.ghosts in
+        → IsSound old index rings loading
+        → IsSound (written hash (change item) t old) index after loading
+    IsSound-reweighed single light index rings after loading s is reweighs sound =
+        let same = lists-reweighed index rings after s reweighs in
+        let before = lists_of old index rings.hot rings.cold rings.ghosts in
         record {
           standing = IsStanding-reweighed single rings after s is reweighs sound.standing;
-          keyed = IsKeyed-changed light table sound.keyed;
+          keyed = IsKeyed-changed light index sound.keyed;
           loading_counted = sound.loading_counted
               ∙ sym (ap (λ (l : Lists K V P). length l.loading) same);
           all_counted = ap entry_count same ∙ entry_count-change t change before
@@ -410,9 +410,9 @@ module _ {S : Type 0} where
   with_item-same slab t x is = λ i. record slab { slots = slots_same slab.slots t (Some x) is i }
 
 module _ {K V P T : Type 0} where
-  pub lists-same : (slab : LinkedSlab (Slot K V P T)) (table : Table) (hot cold ghosts : Ring)
+  pub lists-same : (slab : LinkedSlab (Slot K V P T)) (index : Index) (hot cold ghosts : Ring)
       (t : ℕ) (x y : Slot K V P T) → item_at slab t ≡ Some x → y ≡ x
-      → lists_of (with_item slab t y) table hot cold ghosts ≡ lists_of slab table hot cold ghosts
-  lists-same slab table hot cold ghosts t x y at same =
-      ap (λ (s : LinkedSlab (Slot K V P T)). lists_of s table hot cold ghosts)
+      → lists_of (with_item slab t y) index hot cold ghosts ≡ lists_of slab index hot cold ghosts
+  lists-same slab index hot cold ghosts t x y at same =
+      ap (λ (s : LinkedSlab (Slot K V P T)). lists_of s index hot cold ghosts)
       (ap (λ (z : Slot K V P T). with_item slab t z) same ∙ with_item-same slab t x at)

@@ -1,4 +1,4 @@
--- Copied slots under the hashes of a new table are copies of the lists.
+-- Copied slots under the hashes of a new index are copies of the lists.
 use Rattle.std.proofs.Common.{◌≡◌, ◌≢◌, ℕ, zero, suc, ◌+◌, ◌<◌, ◌≤◌, ◌==◌, if◌then◌else◌, Bool, true, false, List, [], ◌∷◌, cond, map, length, count_by, Option, Some, None, IfSome, is_some, refl, sym, ap, ◌∙◌, inl, inr, arith}
 use Rattle.std.proofs.lemmas.Bool.{cases_eq, eq-eqb, ne_eqb}
 use Rattle.std.proofs.lemmas.List.Sums.{sum_by-cons}
@@ -9,7 +9,7 @@ use Rattle.quick_cache_model.specs.CacheState.{Item}
 use Rattle.quick_cache_slab.specs.LinkedSlab.{LinkedSlab, AreItemCopies, at_token, entries_after, entries_past, item_at, next_token, ring_from, times}
 use Rattle.quick_cache_slab.specs.LinkedSlab.{IsSlotCopy as IsCopyAt}
 use Rattle.quick_cache_slab.proofs.TokenCounts.{times-cons_le, times-here, times-other}
-use Rattle.quick_cache_table.specs.Table.{Table, HasPair, AddsPair, has_pair, pair_count}
+use Rattle.quick_cache_index.specs.Index.{Index, HasPair, AddsPair, has_pair, token_count}
 use Rattle.quick_cache_lists.specs.declared.entry.Entry.{Entry}
 use Rattle.quick_cache_lists.specs.declared.entry.Entry.TheVariants.{Item as item_variant, Loading as loading_variant, Ghost as ghost_variant}
 use Rattle.quick_cache_lists.specs.declared.entry.Slot.{Slot}
@@ -261,9 +261,9 @@ module _ {K V P : Type 0} (clones_key : K → K → Type 0) (clones_value : V �
 
       -- ---- the lists
 
-      module _ (table keyed : Table) (hot cold ghosts : Ring) where
+      module _ (index keyed : Index) (hot cold ghosts : Ring) where
         pub lists_of-copied : AreCopies clones_key clones_value hash_of shares
-            (lists_of slab table hot cold ghosts) (lists_of copy keyed hot cold ghosts)
+            (lists_of slab index hot cold ghosts) (lists_of copy keyed hot cold ghosts)
         lists_of-copied = record {
           hot = ring hot;
           cold = ring cold;
@@ -298,19 +298,19 @@ module _ {K V P : Type 0} (clones_key : K → K → Type 0) (clones_value : V �
             by_free [] = ap (λ n. n + 1) slots-copied
             by_free (t ∷ free) = refl
 
-      -- ---- the table
+      -- ---- the index
 
       -- a copy weighs no more than its entry
-      pub light-copied : (table : Table) → IsKeyed slab table
+      pub light-copied : (index : Index) → IsKeyed slab index
           → (t : ℕ) → weight_at (item_at copy t) < 18446744073709551616
-      light-copied table was t = rw (weight-copied t) (was.light t)
+      light-copied index was t = rw (weight-copied t) (was.light t)
 
-      module _ (table keyed : Table) (rings : Rings) (loading : ℕ) where
+      module _ (index keyed : Index) (rings : Rings) (loading : ℕ) where
         -- once its entries are keyed, the copy is as sound as the lists are
-        pub IsSound-copied : IsSound slab table rings loading → IsKeyed copy keyed
+        pub IsSound-copied : IsSound slab index rings loading → IsKeyed copy keyed
             → IsSound copy keyed rings loading
         IsSound-copied sound are_keyed =
-            let lists = lists_of-copied table keyed rings.hot rings.cold rings.ghosts in
+            let lists = lists_of-copied index keyed rings.hot rings.cold rings.ghosts in
             let waiting = length-zip Waiting _ _ lists.loading in
             let free = ap (λ (s : LinkedSlab (Slot K V P T)). length s.free) are.same in
             record {
@@ -383,8 +383,8 @@ module _ {S : Type 0} where
       let cut = ap (λ (es : List (ℕ × S)). times t (map (λ entry. entry.0) es)) is in
       omega (arith, cut, times-cons_le t u (map (λ entry. entry.0) rest))
 
-  -- once the first entry is keyed, what is left is new to the table
-  pub rest-apart : (old new : Table) (hash t : ℕ) (x : S) (all rest : List (ℕ × S))
+  -- once the first entry is keyed, what is left is new to the index
+  pub rest-apart : (old new : Index) (hash t : ℕ) (x : S) (all rest : List (ℕ × S))
       → all ≡ (t, x) ∷ rest → AddsPair old new hash t
       → ((token : ℕ) → times token (map (λ entry. entry.0) all) ≤ 1)
       → ((h k : ℕ) → HasPair old h k → times k (map (λ entry. entry.0) all) ≡ 0)
@@ -400,26 +400,26 @@ module _ {S : Type 0} where
             omega (arith, apart h k had, rest-times k t x all rest is)
       ]
 
--- no pair stands in an empty table
-pub no_pair : (table : Table) → table.pairs ≡ [] → (hash t : ℕ) → has_pair table hash t ≡ false
-no_pair table none hash t = rw none refl
+-- no pair stands in an empty index
+pub no_pair : (index : Index) → index.pairs ≡ [] → (hash t : ℕ) → has_pair index hash t ≡ false
+no_pair index none hash t = rw none refl
 
 module _ {K V P T : Type 0} where
-  -- the table got the hash of each slot past so many, and nothing else
-  record AreKeyedPast (p : ℕ) (xs : List (Option (Slot K V P T))) (old new : Table) : Type 0 where
-    count : pair_count new ≡ pair_count old + count_by is_some xs
+  -- the index got the hash of each slot past so many, and nothing else
+  record AreKeyedPast (p : ℕ) (xs : List (Option (Slot K V P T))) (old new : Index) : Type 0 where
+    count : token_count new ≡ token_count old + count_by is_some xs
     kept : (hash t : ℕ) → t ≤ p → has_pair new hash t ≡ has_pair old hash t
     keyed : (hash i t : ℕ) → t ≡ p + 1 + i
         → has_pair new hash t ≡ has_hash hash (at_token xs (suc i) None)
 
-  keyed-past : (p : ℕ) (xs : List (Option (Slot K V P T))) (old new : Table)
+  keyed-past : (p : ℕ) (xs : List (Option (Slot K V P T))) (old new : Index)
       → AddsPairs (entries_past p xs) old new
       → ((hash t : ℕ) → p < t → has_pair old hash t ≡ false)
       → AreKeyedPast p xs old new
   keyed-past p [] old new adds none = record {
-    count = omega (arith, ap pair_count adds);
-    kept = λ hash t within. ap (λ (table : Table). has_pair table hash t) adds;
-    keyed = λ hash i t is. ap (λ (table : Table). has_pair table hash t) adds
+    count = omega (arith, ap token_count adds);
+    kept = λ hash t within. ap (λ (index : Index). has_pair index hash t) adds;
+    keyed = λ hash i t is. ap (λ (index : Index). has_pair index hash t) adds
         ∙ none hash t (omega (arith, is));
   }
   keyed-past p (None ∷ xs) old new adds none =
@@ -457,17 +457,17 @@ module _ {K V P T : Type 0} where
           ]
       at rest hash (suc i) t is = rest.keyed hash i t (omega (arith, is))
 
-  -- an empty table that got the hash of each entry leads to each
-  pub IsKeyed-all : (slab : LinkedSlab (Slot K V P T)) (empty table : Table)
-      → AddsPairs (entries_after slab 0) empty table → empty.pairs ≡ []
+  -- an empty index that got the hash of each entry leads to each
+  pub IsKeyed-all : (slab : LinkedSlab (Slot K V P T)) (empty index : Index)
+      → AddsPairs (entries_after slab 0) empty index → empty.pairs ≡ []
       → length slab.slots ≤ 4294967295
       → ((t : ℕ) → weight_at (item_at slab t) < 18446744073709551616)
       → count_by is_some slab.slots + length slab.free ≡ length slab.slots
-      → IsKeyed slab table
-  IsKeyed-all slab empty table adds none few light counted =
-      let all = keyed-past 0 slab.slots empty table adds
+      → IsKeyed slab index
+  IsKeyed-all slab empty index adds none few light counted =
+      let all = keyed-past 0 slab.slots empty index adds
       (λ hash t past. no_pair empty none hash t) in
-      let start : pair_count empty ≡ 0 = ap length none in
+      let start : token_count empty ≡ 0 = ap length none in
       record {
         pairs = at all;
         few = few;
@@ -475,7 +475,7 @@ module _ {K V P T : Type 0} where
         counted = omega (arith, all.count, start, counted);
       }
     where
-      at : AreKeyedPast 0 slab.slots empty table → (hash t : ℕ)
-          → has_pair table hash t ≡ has_hash hash (item_at slab t)
+      at : AreKeyedPast 0 slab.slots empty index → (hash t : ℕ)
+          → has_pair index hash t ≡ has_hash hash (item_at slab t)
       at all hash zero = all.kept hash 0 (omega arith) ∙ no_pair empty none hash 0
       at all hash (suc i) = all.keyed hash i (suc i) (omega arith)

@@ -5,9 +5,9 @@ use Rattle.std.specs.declared.num.NonZeroU32.{NonZeroU32 as Token}
 use Rattle.std.proofs.lemmas.Bool.{cases_eq, cases_Bool, eqb-true, eq-eqb}
 use Rattle.quick_cache_slab.specs.LinkedSlab.{LinkedSlab, times, item_at, IsOccupied}
 use Rattle.std.proofs.lemmas.List.Sums.{sum_by-cons}
-use Rattle.quick_cache_table.proofs.CountedPlaces.{bit}
+use Rattle.quick_cache_index.proofs.CountedTokens.{bit}
 use Rattle.quick_cache_slab.proofs.TokenCounts.{times-here, times-other}
-use Rattle.quick_cache_table.specs.Table.{Table, has_pair, HasPair, HasToken, IsTokensOf, CoversTokensOf}
+use Rattle.quick_cache_index.specs.Index.{Index, has_pair, HasPair, HasToken, IsTokensOf, CoversTokensOf}
 use Rattle.quick_cache_lists.specs.declared.entry.Entry.{Entry}
 use Rattle.quick_cache_lists.specs.declared.entry.Entry.TheVariants.{Item as item_variant, Loading as loading_variant, Ghost as ghost_variant}
 use Rattle.quick_cache_lists.specs.declared.entry.Slot.{Slot}
@@ -20,10 +20,10 @@ use Rattle.quick_cache_lists.specs.Sound.{gather, upto, tokens_of, lists_of, IsK
 use Rattle.quick_cache_lists.proofs.GatherLemmas.{gather-all}
 use Rattle.quick_cache_lists.proofs.StandLemmas.{HasItem-from, StandsIn-loading, StandsIn-ghosts}
 
--- without a candidate the table has no pair of the hash
-pub none_of_hash : (table : Table) (hash : ℕ) (tokens : List ℕ) → CoversTokensOf table hash tokens
-    → tokens ≡ [] → (t : ℕ) → HasPair table hash t → ⊥
-none_of_hash table hash tokens covers none t has =
+-- without a candidate the index has no pair of the hash
+pub none_of_hash : (index : Index) (hash : ℕ) (tokens : List ℕ) → CoversTokensOf index hash tokens
+    → tokens ≡ [] → (t : ℕ) → HasPair index hash t → ⊥
+none_of_hash index hash tokens covers none t has =
     let some : 0 < count_by (λ k. k == t) [] =
     subst (λ (ts : List ℕ). 0 < count_by (λ k. k == t) ts) none (covers.all t has) in
     omega (arith, some)
@@ -149,16 +149,16 @@ module _ {K V P T : Type 0} where
       by_entry hash ghost_variant e = let same : record { token = t; hash = hash } ≡ shade =
           cc in (refl, λ h. ap (λ (y : HeldGhost). eqb y.hash h) same)
 
-  module _ (slab : LinkedSlab (Slot K V P T)) (table : Table) (hot cold ghosts : Ring)
-      (sound : IsStanding slab hot cold ghosts) (keyed : IsKeyed slab table) (stands_for : K → Bool)
+  module _ (slab : LinkedSlab (Slot K V P T)) (index : Index) (hot cold ghosts : Ring)
+      (sound : IsStanding slab hot cold ghosts) (keyed : IsKeyed slab index) (stands_for : K → Bool)
       (hash : ℕ) where
     hashed : (t h : ℕ) (o : Option (Slot K V P T)) → item_at slab t ≡ o
-        → has_hash hash o ≡ eqb h hash → h ≡ hash → HasPair table hash t
+        → has_hash hash o ≡ eqb h hash → h ≡ hash → HasPair index hash t
     hashed t h o at is same = keyed.pairs hash t ∙ ap (has_hash hash) at ∙ is ∙ eq-eqb h hash same
 
-    pub HasNoKey-from : ((t : ℕ) → HasPair table hash t
+    pub HasNoKey-from : ((t : ℕ) → HasPair index hash t
         → is_under_at stands_for (item_at slab t) ≡ false)
-        → HasNoKey stands_for hash (lists_of slab table hot cold ghosts)
+        → HasNoKey stands_for hash (lists_of slab index hot cold ghosts)
     HasNoKey-from none = record {
       hot = gather-all (λ held. held.hash ≡ hash → stands_for held.item.key ≡ false)
           (λ token. item_of token (item_at slab token)) (tokens_of slab hot.head)
@@ -182,9 +182,9 @@ module _ {K V P T : Type 0} where
             let meant = under_held stands_for t (item_at slab t) held is in
             sym meant.0 ∙ none t (hashed t held.hash (item_at slab t) refl (meant.1 hash) same)
 
-    pub HasNoItem-from : ((t : ℕ) → HasPair table hash t
+    pub HasNoItem-from : ((t : ℕ) → HasPair index hash t
         → is_item_under_at stands_for (item_at slab t) ≡ false)
-        → HasNoItem stands_for hash (lists_of slab table hot cold ghosts)
+        → HasNoItem stands_for hash (lists_of slab index hot cold ghosts)
     HasNoItem-from none = record {
       hot = gather-all (λ held. held.hash ≡ hash → stands_for held.item.key ≡ false)
           (λ token. item_of token (item_at slab token)) (tokens_of slab hot.head)
@@ -204,10 +204,10 @@ module _ {K V P T : Type 0} where
             sym (item_under_held stands_for t (item_at slab t) held is)
             ∙ none t (hashed t held.hash (item_at slab t) refl (meant.1 hash) same)
 
-    pub HasNothing-from : ((t : ℕ) → HasPair table hash t
+    pub HasNothing-from : ((t : ℕ) → HasPair index hash t
         → is_under_at stands_for (item_at slab t) ≡ false)
-        → ((t : ℕ) → HasPair table hash t → is_ghost_at (item_at slab t) ≡ false)
-        → HasNothing stands_for hash (lists_of slab table hot cold ghosts)
+        → ((t : ℕ) → HasPair index hash t → is_ghost_at (item_at slab t) ≡ false)
+        → HasNothing stands_for hash (lists_of slab index hot cold ghosts)
     HasNothing-from none no_ghost = record {
       keys = HasNoKey-from none;
       ghosts = gather-all (λ shade. shade.hash ≢ hash)
@@ -218,9 +218,9 @@ module _ {K V P T : Type 0} where
           (hashed t y.hash (item_at slab t) refl (meant.1 hash) same)));
     }
 
-    pub FindsItem-from : (t : ℕ) → HasPair table hash t
+    pub FindsItem-from : (t : ℕ) → HasPair index hash t
         → is_under_at stands_for (item_at slab t) ≡ true → is_item_at (item_at slab t) ≡ true
-        → FindsItem stands_for hash (lists_of slab table hot cold ghosts) t
+        → FindsItem stands_for hash (lists_of slab index hot cold ghosts) t
     FindsItem-from t has passes item =
         by_slot (item_at slab t) refl (sym (keyed.pairs hash t) ∙ has) passes item
       where
@@ -228,10 +228,10 @@ module _ {K V P T : Type 0} where
             → item_at slab t ≡ Some (record { hash = h; entry = entry }) → eqb h hash ≡ true
             → is_under_at stands_for (Some (record { hash = h; entry = entry })) ≡ true
             → is_item_at (Some (record { hash = h; entry = entry })) ≡ true
-            → FindsItem stands_for hash (lists_of slab table hot cold ghosts) t
+            → FindsItem stands_for hash (lists_of slab index hot cold ghosts) t
         by_entry h (item_variant i) at same under is = record {
           item = i;
-          stands = HasItem-from slab table hot cold ghosts sound t hash i
+          stands = HasItem-from slab index hot cold ghosts sound t hash i
               (at ∙ ap (λ n. Some (record { hash = n; entry = item_variant i }))
               (eqb-true h hash same));
           passes = under;
@@ -241,13 +241,13 @@ module _ {K V P T : Type 0} where
 
         by_slot : (o : Option (Slot K V P T)) → item_at slab t ≡ o → has_hash hash o ≡ true
             → is_under_at stands_for o ≡ true → is_item_at o ≡ true
-            → FindsItem stands_for hash (lists_of slab table hot cold ghosts) t
+            → FindsItem stands_for hash (lists_of slab index hot cold ghosts) t
         by_slot None at same under is = absurd (true≢false (sym is))
         by_slot (Some slot) at same under is = by_entry slot.hash slot.entry at same under is
 
-    pub FindsLoading-from : (t : ℕ) → HasPair table hash t
+    pub FindsLoading-from : (t : ℕ) → HasPair index hash t
         → is_under_at stands_for (item_at slab t) ≡ true → is_item_at (item_at slab t) ≡ false
-        → FindsLoading stands_for hash (lists_of slab table hot cold ghosts) t
+        → FindsLoading stands_for hash (lists_of slab index hot cold ghosts) t
     FindsLoading-from t has passes item =
         by_slot (item_at slab t) refl (sym (keyed.pairs hash t) ∙ has) passes item
       where
@@ -255,7 +255,7 @@ module _ {K V P T : Type 0} where
             → item_at slab t ≡ Some (record { hash = h; entry = entry }) → eqb h hash ≡ true
             → is_under_at stands_for (Some (record { hash = h; entry = entry })) ≡ true
             → is_item_at (Some (record { hash = h; entry = entry })) ≡ false
-            → FindsLoading stands_for hash (lists_of slab table hot cold ghosts) t
+            → FindsLoading stands_for hash (lists_of slab index hot cold ghosts) t
         by_entry h (item_variant i) at same under is = absurd (true≢false is)
         by_entry h (loading_variant w) at same under is = record {
           waiting = record {
@@ -267,18 +267,18 @@ module _ {K V P T : Type 0} where
           };
           named = refl;
           hashed = eqb-true h hash same;
-          stands = StandsIn-loading slab table hot cold ghosts sound t _ _ at refl;
+          stands = StandsIn-loading slab index hot cold ghosts sound t _ _ at refl;
           passes = under;
         }
         by_entry h ghost_variant at same under is = absurd (true≢false (sym under))
 
         by_slot : (o : Option (Slot K V P T)) → item_at slab t ≡ o → has_hash hash o ≡ true
             → is_under_at stands_for o ≡ true → is_item_at o ≡ false
-            → FindsLoading stands_for hash (lists_of slab table hot cold ghosts) t
+            → FindsLoading stands_for hash (lists_of slab index hot cold ghosts) t
         by_slot None at same under is = absurd (true≢false (sym under))
         by_slot (Some slot) at same under is = by_entry slot.hash slot.entry at same under is
 
-    pub StandsIn-found : (t : ℕ) → HasPair table hash t → is_ghost_at (item_at slab t) ≡ true
+    pub StandsIn-found : (t : ℕ) → HasPair index hash t → is_ghost_at (item_at slab t) ≡ true
         → StandsIn (gather (λ token. ghost_of token (item_at slab token))
         (tokens_of slab ghosts.head)) (record { token = t; hash = hash })
     StandsIn-found t has is_ghost =
@@ -292,7 +292,7 @@ module _ {K V P T : Type 0} where
         by_entry h (item_variant i) at same is = absurd (true≢false (sym is))
         by_entry h (loading_variant w) at same is = absurd (true≢false (sym is))
         by_entry h ghost_variant at same is =
-            StandsIn-ghosts slab table hot cold ghosts sound t hash
+            StandsIn-ghosts slab index hot cold ghosts sound t hash
             (at ∙ ap (λ n. Some (record { hash = n; entry = ghost_variant }))
             (eqb-true h hash same))
 
@@ -303,30 +303,30 @@ module _ {K V P T : Type 0} where
         by_slot None at same is = absurd (true≢false (sym is))
         by_slot (Some slot) at same is = by_entry slot.hash slot.entry at same is
 
-  -- an item under the query, whose token the table has, is found under its hash there
-  pub FindsItemOfAnyHash-from : (slab : LinkedSlab (Slot K V P T)) (table : Table)
-      (hot cold ghosts : Ring) → IsStanding slab hot cold ghosts → IsKeyed slab table
-      → (stands_for : K → Bool) (t : ℕ) → HasToken table t
+  -- an item under the query, whose token the index has, is found under its hash there
+  pub FindsItemOfAnyHash-from : (slab : LinkedSlab (Slot K V P T)) (index : Index)
+      (hot cold ghosts : Ring) → IsStanding slab hot cold ghosts → IsKeyed slab index
+      → (stands_for : K → Bool) (t : ℕ) → HasToken index t
       → is_item_under_at stands_for (item_at slab t) ≡ true
-      → FindsItemOfAnyHash stands_for (lists_of slab table hot cold ghosts) t
-  FindsItemOfAnyHash-from slab table hot cold ghosts sound keyed stands_for t (hash, has) passes =
+      → FindsItemOfAnyHash stands_for (lists_of slab index hot cold ghosts) t
+  FindsItemOfAnyHash-from slab index hot cold ghosts sound keyed stands_for t (hash, has) passes =
       let is = item_under-is stands_for (item_at slab t) passes in (
         hash,
-        FindsItem-from slab table hot cold ghosts sound keyed stands_for hash t has is.0 is.1,
+        FindsItem-from slab index hot cold ghosts sound keyed stands_for hash t has is.0 is.1,
       )
 
-  module _ (slab : LinkedSlab (Slot K V P T)) (table : Table) (hash : ℕ)
+  module _ (slab : LinkedSlab (Slot K V P T)) (index : Index) (hash : ℕ)
       (stands_for : K → Bool) where
-    counted_pair : (tokens : List ℕ) (t : ℕ) → IsTokensOf table hash tokens
-        → ((has_pair table hash t ≡ true) × (times t tokens ≡ 1))
-        ⊎ ((has_pair table hash t ≡ false) × (times t tokens ≡ 0))
-    counted_pair tokens t are = elim (cases_Bool (has_pair table hash t)) [
+    counted_pair : (tokens : List ℕ) (t : ℕ) → IsTokensOf index hash tokens
+        → ((has_pair index hash t ≡ true) × (times t tokens ≡ 1))
+        ⊎ ((has_pair index hash t ≡ false) × (times t tokens ≡ 0))
+    counted_pair tokens t are = elim (cases_Bool (has_pair index hash t)) [
       | inl has ↦ inl (has, times-count t tokens ∙ are t ∙ rw has refl)
       | inr misses ↦ inr (misses, times-count t tokens ∙ are t ∙ rw misses refl)
     ]
 
-    pub IsWalked-start : (tokens : List ℕ) → IsTokensOf table hash tokens
-        → IsWalked slab table hash stands_for tokens None
+    pub IsWalked-start : (tokens : List ℕ) → IsTokensOf index hash tokens
+        → IsWalked slab index hash stands_for tokens None
     IsWalked-start tokens are = record {
       left_has = λ t some. elim (counted_pair tokens t are) [
         | inl has ↦ has.0
@@ -344,10 +344,10 @@ module _ {K V P T : Type 0} where
         → is_under_at stands_for (item_at slab (non_zero_u32_get token)) ≡ false
         → (is_ghost_at (item_at slab (non_zero_u32_get token)) ≡ true → noted ≢ None)
         → (shade ≢ None → noted ≢ None)
-        → IfSome noted (λ t. HasPair table hash (non_zero_u32_get t)
+        → IfSome noted (λ t. HasPair index hash (non_zero_u32_get t)
         × (is_ghost_at (item_at slab (non_zero_u32_get t)) ≡ true))
-        → IsWalked slab table hash stands_for tokens shade
-        → IsWalked slab table hash stands_for rest noted
+        → IsWalked slab index hash stands_for tokens shade
+        → IsWalked slab index hash stands_for rest noted
     IsWalked-past tokens rest token shade noted first differs here still notes walked = record {
       left_has = λ t some. walked.left_has t (rw first (omega arith));
       passed = λ t has none. elim (cases_eq (non_zero_u32_get token) t) [
@@ -366,19 +366,19 @@ module _ {K V P T : Type 0} where
     }
 
     pub IsWalked-has : (tokens rest : List ℕ) (token : Token) (shade : Option Token)
-        → tokens ≡ non_zero_u32_get token ∷ rest → IsWalked slab table hash stands_for tokens shade
-        → HasPair table hash (non_zero_u32_get token)
+        → tokens ≡ non_zero_u32_get token ∷ rest → IsWalked slab index hash stands_for tokens shade
+        → HasPair index hash (non_zero_u32_get token)
     IsWalked-has tokens rest token shade first walked =
         walked.left_has (non_zero_u32_get token)
         (rw first (omega (arith, times-here (non_zero_u32_get token) rest)))
 
     pub IsWalked-none : (tokens : List ℕ) (shade : Option Token) → tokens ≡ []
-        → IsWalked slab table hash stands_for tokens shade → (t : ℕ) → HasPair table hash t
+        → IsWalked slab index hash stands_for tokens shade → (t : ℕ) → HasPair index hash t
         → is_under_at stands_for (item_at slab t) ≡ false
     IsWalked-none tokens shade end walked t has = (walked.passed t has (rw end refl)).0
 
     pub IsWalked-ghostless : (tokens : List ℕ) (shade : Option Token) → tokens ≡ [] → shade ≡ None
-        → IsWalked slab table hash stands_for tokens shade → (t : ℕ) → HasPair table hash t
+        → IsWalked slab index hash stands_for tokens shade → (t : ℕ) → HasPair index hash t
         → is_ghost_at (item_at slab t) ≡ false
     IsWalked-ghostless tokens shade end unseen walked t has =
         elim (cases_Bool (is_ghost_at (item_at slab t))) [
@@ -387,17 +387,17 @@ module _ {K V P T : Type 0} where
         ]
 
     pub IsWalked-noted : (tokens : List ℕ) (shade : Option Token) (token : Token)
-        → shade ≡ Some token → IsWalked slab table hash stands_for tokens shade
-        → HasPair table hash (non_zero_u32_get token)
+        → shade ≡ Some token → IsWalked slab index hash stands_for tokens shade
+        → HasPair index hash (non_zero_u32_get token)
         × (is_ghost_at (item_at slab (non_zero_u32_get token)) ≡ true)
     IsWalked-noted tokens shade token seen walked =
         subst (λ (o : Option Token). IfSome o
-        (λ t. HasPair table hash (non_zero_u32_get t)
+        (λ t. HasPair index hash (non_zero_u32_get t)
         × (is_ghost_at (item_at slab (non_zero_u32_get t)) ≡ true))) seen walked.noted
 
     -- the same of a walk along candidates that seeks an item alone
-    pub PassesNoItem-start : (tokens : List ℕ) → CoversTokensOf table hash tokens
-        → PassesNoItem slab table hash stands_for tokens
+    pub PassesNoItem-start : (tokens : List ℕ) → CoversTokensOf index hash tokens
+        → PassesNoItem slab index hash stands_for tokens
     PassesNoItem-start tokens covers = record {
       left_has = λ t some. covers.only t (omega (arith, some, times-count t tokens));
       passed = λ t has none.
@@ -406,15 +406,15 @@ module _ {K V P T : Type 0} where
 
     pub PassesNoItem-past : (tokens rest : List ℕ) (token : Token)
         → tokens ≡ non_zero_u32_get token ∷ rest
-        → (HasPair table hash (non_zero_u32_get token)
+        → (HasPair index hash (non_zero_u32_get token)
         → is_item_under_at stands_for (item_at slab (non_zero_u32_get token)) ≡ false)
-        → PassesNoItem slab table hash stands_for tokens
-        → PassesNoItem slab table hash stands_for rest
+        → PassesNoItem slab index hash stands_for tokens
+        → PassesNoItem slab index hash stands_for rest
     PassesNoItem-past tokens rest token first differs walked = record {
       left_has = λ t some. walked.left_has t (rw first (omega arith));
       passed = λ t has none. elim (cases_eq (non_zero_u32_get token) t) [
         | inl same ↦ subst
-            (λ (u : ℕ). HasPair table hash u → is_item_under_at stands_for (item_at slab u) ≡ false)
+            (λ (u : ℕ). HasPair index hash u → is_item_under_at stands_for (item_at slab u) ≡ false)
             same differs has
         | inr other ↦ walked.passed t has (rw first
             (omega (arith, times-other t (non_zero_u32_get token) rest other)))
@@ -423,14 +423,14 @@ module _ {K V P T : Type 0} where
 
     pub PassesNoItem-has : (tokens rest : List ℕ) (token : Token)
         → tokens ≡ non_zero_u32_get token ∷ rest
-        → PassesNoItem slab table hash stands_for tokens
-        → HasToken table (non_zero_u32_get token)
+        → PassesNoItem slab index hash stands_for tokens
+        → HasToken index (non_zero_u32_get token)
     PassesNoItem-has tokens rest token first walked =
         walked.left_has (non_zero_u32_get token)
         (rw first (omega (arith, times-here (non_zero_u32_get token) rest)))
 
     pub PassesNoItem-none : (tokens : List ℕ) → tokens ≡ []
-        → PassesNoItem slab table hash stands_for tokens → (t : ℕ) → HasPair table hash t
+        → PassesNoItem slab index hash stands_for tokens → (t : ℕ) → HasPair index hash t
         → is_item_under_at stands_for (item_at slab t) ≡ false
     PassesNoItem-none tokens end walked t has = walked.passed t has (rw end refl)
 
@@ -439,10 +439,10 @@ module _ {K V P T : Type 0} where
   hashed_some hash None is = absurd (true≢false (sym is))
   hashed_some hash (Some slot) is = refl
 
-  -- a token of the table has an entry
-  pub occupied_by_pair : (slab : LinkedSlab (Slot K V P T)) (table : Table) → IsKeyed slab table
-      → (hash t : ℕ) → HasPair table hash t → IsOccupied slab t
-  occupied_by_pair slab table keyed hash t has =
+  -- a token of the index has an entry
+  pub occupied_by_pair : (slab : LinkedSlab (Slot K V P T)) (index : Index) → IsKeyed slab index
+      → (hash t : ℕ) → HasPair index hash t → IsOccupied slab t
+  occupied_by_pair slab index keyed hash t has =
       hashed_some hash (item_at slab t) (sym (keyed.pairs hash t) ∙ has)
 
 -- what is found by key and hash is found by key

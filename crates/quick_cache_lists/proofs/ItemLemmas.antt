@@ -2,7 +2,7 @@
 use Rattle.std.proofs.Common.{◌≡◌, ℕ, [], Option, Some, None, length, refl, sym, ap, subst, ◌∙◌, arith}
 use Rattle.quick_cache_model.specs.CacheState.{Item, Place, InHot, InCold, InStill}
 use Rattle.quick_cache_slab.specs.LinkedSlab.{LinkedSlab, item_at, next_token}
-use Rattle.quick_cache_table.specs.Table.{Table}
+use Rattle.quick_cache_index.specs.Index.{Index}
 use Rattle.quick_cache_lists.specs.declared.entry.Entry.{Entry}
 use Rattle.quick_cache_lists.specs.declared.entry.Entry.TheVariants.{Item as item_variant, Loading as loading_variant, Ghost as ghost_variant}
 use Rattle.quick_cache_lists.specs.declared.entry.Slot.{Slot}
@@ -33,8 +33,8 @@ module _ {K V P T : Type 0} where
       by_entry hash (loading_variant awaited) e = absurd (cc)
       by_entry hash ghost_variant e = absurd (cc)
 
-  module _ (slab : LinkedSlab (Slot K V P T)) (table : Table) (hot cold ghosts : Ring) where
-    pub item_by_token : (t : ℕ) → HasItemToken (lists_of slab table hot cold ghosts) t → (hash : ℕ)
+  module _ (slab : LinkedSlab (Slot K V P T)) (index : Index) (hot cold ghosts : Ring) where
+    pub item_by_token : (t : ℕ) → HasItemToken (lists_of slab index hot cold ghosts) t → (hash : ℕ)
         × (item : Item K V) × (item_at slab t
         ≡ Some (record { hash = hash; entry = item_variant item }))
     item_by_token t has = by_place has.0 has.1.place has.1.stands has.2
@@ -46,7 +46,7 @@ module _ {K V P T : Type 0} where
             (slot_by_held u (item_at slab u) held is)
 
         by_place : (held : HeldItem K V) (place : Place)
-            → StandsIn (items_at place (lists_of slab table hot cold ghosts)) held → held.token ≡ t
+            → StandsIn (items_at place (lists_of slab index hot cold ghosts)) held → held.token ≡ t
             → (hash : ℕ) × (item : Item K V)
             × (item_at slab t ≡ Some (record { hash = hash; entry = item_variant item }))
         by_place held InHot there e =
@@ -65,7 +65,7 @@ module _ {K V P T : Type 0} where
     -- the first cold item stands in the cold ring
     pub stand_of-first_cold : IsRingOf slab cold AmongCold → (token : Token)
         → IsFirstOf (λ (held : HeldItem K V). held.token)
-        (lists_of slab table hot cold ghosts).cold (Some token)
+        (lists_of slab index hot cold ghosts).cold (Some token)
         → stand_of (item_at slab (non_zero_u32_get token)) ≡ Some AmongCold
     stand_of-first_cold ring token first =
         let at = gather-from (λ u. item_of u (item_at slab u)) (tokens_of slab cold.head) first.0
@@ -86,7 +86,7 @@ module _ {K V P T : Type 0} where
       → slot ≡ record { hash = hash; entry = item_variant item }
   slot_is o slot hash item is at = cc
 
-  pub lists-reserved : (old new : LinkedSlab (Slot K V P T)) (told tnew : Table)
+  pub lists-reserved : (old new : LinkedSlab (Slot K V P T)) (told tnew : Index)
       (hot cold ghosts : Ring) → new ≡ record old { room = new.room }
       → lists_of new tnew hot cold ghosts
       ≡ record (lists_of old told hot cold ghosts) { room = room_of new tnew }
@@ -100,7 +100,7 @@ module _ {K V P T : Type 0} where
     room = room_of new tnew;
   }
 
-  pub IsSound-room : (slab : LinkedSlab (Slot K V P T)) (room : ℕ) (told tnew : Table)
+  pub IsSound-room : (slab : LinkedSlab (Slot K V P T)) (room : ℕ) (told tnew : Index)
       (rings : Rings) (loading : ℕ) → tnew.pairs ≡ told.pairs → IsSound slab told rings loading
       → IsSound (record slab { room = room }) tnew rings loading
   IsSound-room slab room told tnew rings loading same_pairs sound = record {
@@ -145,7 +145,7 @@ module _ {K V P T : Type 0} where
         weighed = is.weighed ∙ ap (weigh (λ t. weight_at (item_at slab t))) (sym (same ring.head));
       }
 
-  pub IsSound-grown : (old new : LinkedSlab (Slot K V P T)) (told tnew : Table) (rings : Rings)
+  pub IsSound-grown : (old new : LinkedSlab (Slot K V P T)) (told tnew : Index) (rings : Rings)
       (loading : ℕ) → new ≡ record old { room = new.room } → tnew.pairs ≡ told.pairs
       → IsSound old told rings loading → IsSound new tnew rings loading
   IsSound-grown old new told tnew rings loading kept same_pairs sound =
@@ -169,10 +169,10 @@ module _ {K V P T : Type 0} where
       by_entry hash ghost_variant e = absurd (cc)
 
   -- an item is in the slot of its token
-  pub item_at-held : (slab : LinkedSlab (Slot K V P T)) (table : Table) (hot cold ghosts : Ring)
-      (held : HeldItem K V) → HasItem (lists_of slab table hot cold ghosts) held
+  pub item_at-held : (slab : LinkedSlab (Slot K V P T)) (index : Index) (hot cold ghosts : Ring)
+      (held : HeldItem K V) → HasItem (lists_of slab index hot cold ghosts) held
       → item_at slab held.token ≡ Some (record { hash = held.hash; entry = item_variant held.item })
-  item_at-held slab table hot cold ghosts held has = by_place has.place has.stands
+  item_at-held slab index hot cold ghosts held has = by_place has.place has.stands
     where
       found : (u : ℕ) → item_of u (item_at slab u) ≡ Some held
           → item_at slab held.token ≡ Some
@@ -181,7 +181,7 @@ module _ {K V P T : Type 0} where
           ∙ slot_of_held u (item_at slab u) held is
 
       by_place : (place : Place) → StandsIn
-          (items_at place (lists_of slab table hot cold ghosts)) held
+          (items_at place (lists_of slab index hot cold ghosts)) held
           → item_at slab held.token ≡ Some
           (record { hash = held.hash; entry = item_variant held.item })
       by_place InHot there =

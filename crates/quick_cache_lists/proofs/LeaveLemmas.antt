@@ -3,7 +3,7 @@ use Rattle.std.proofs.Common.{◌≡◌, ℕ, ◌+◌, ◌<◌, ◌≤◌, ◌-�
 use Rattle.std.specs.Int.NonZero.{non_zero_u32_get}
 use Rattle.std.specs.declared.num.NonZeroU32.{NonZeroU32 as Token}
 use Rattle.quick_cache_slab.specs.LinkedSlab.{LinkedSlab, times, ring_from, item_at, IsNextOf, IsParted}
-use Rattle.quick_cache_table.specs.Table.{Table, pair_count}
+use Rattle.quick_cache_index.specs.Index.{Index, token_count}
 use Rattle.quick_cache_lists.specs.declared.entry.Slot.{Slot}
 use Rattle.quick_cache_lists.specs.declared.ring.Ring.{Ring}
 use Rattle.quick_cache_lists.specs.declared.rings.Rings.{Rings}
@@ -37,7 +37,7 @@ module _ {K V P T : Type 0} where
     can_leave AmongLoading stands = tt
 
   -- it can weigh more, or less
-  module _ (old : LinkedSlab (Slot K V P T)) (told : Table) (rings : Rings)
+  module _ (old : LinkedSlab (Slot K V P T)) (told : Index) (rings : Rings)
       (standing : IsStanding old rings.hot rings.cold rings.ghosts) (keyed : IsKeyed old told)
       (single : (u w : ℕ) → times w (ring_from old u) ≤ 1) (t : ℕ) (weight : ℕ)
       (light : weight < 18446744073709551616) where
@@ -65,7 +65,7 @@ module _ {K V P T : Type 0} where
     can_reweigh AmongStill stands = tt
     can_reweigh AmongLoading stands = tt
 
-  module _ (old new : LinkedSlab (Slot K V P T)) (told tnew : Table) (token : Token)
+  module _ (old new : LinkedSlab (Slot K V P T)) (told tnew : Index) (token : Token)
       (next : Option Token) (restarts : Bool) (rings left : Rings)
       (standing : IsStanding old rings.hot rings.cold rings.ghosts) (parted : IsParted old)
       (removed : IsRemoved old new (non_zero_u32_get token))
@@ -123,13 +123,13 @@ module _ {K V P T : Type 0} where
 
   -- ---- and is counted no more
 
-  module _ (old new : LinkedSlab (Slot K V P T)) (told tnew : Table) (token : Token)
+  module _ (old new : LinkedSlab (Slot K V P T)) (told tnew : Index) (token : Token)
       (next : Option Token) (restarts : Bool) (rings left : Rings) (loading : ℕ)
       (sound : IsSound old told rings loading) (parted : IsParted old)
       (removed : IsRemoved old new (non_zero_u32_get token))
       (is_next : IsNextOf old (non_zero_u32_get token) next)
       (room : room_of new tnew ≡ room_of old told + 1) (keyed : IsKeyed new tnew)
-      (count : pair_count tnew + 1 ≡ pair_count told) (x : Slot K V P T)
+      (count : token_count tnew + 1 ≡ token_count told) (x : Slot K V P T)
       (at : item_at old (non_zero_u32_get token) ≡ Some x) (s : Stand) (w : ℕ)
       (is_stand : s ≡ stand_in x.entry) (is_weight : w ≡ weight_in x.entry)
       (leaves : LeavesRingOf rings left token next restarts w s) where

@@ -7,7 +7,7 @@ use Rattle.std.proofs.lemmas.Bool.{cases_eq}
 use Rattle.std.proofs.lemmas.List.{length-map}
 use Rattle.quick_cache_slab.specs.LinkedSlab.{LinkedSlab, at_token, times, first_or, next_token, without, item_at, ring_from, with_item, removed, unlinked, IsAlone, IsNextOf, IsParted}
 use Rattle.quick_cache_slab.proofs.AtTokens.{length-with_token, at_token-with_same, at_token-with_other, at_token-map}
-use Rattle.quick_cache_table.specs.Table.{Table, has_pair}
+use Rattle.quick_cache_index.specs.Index.{Index, has_pair}
 use Rattle.quick_cache_lists.specs.declared.entry.Slot.{Slot}
 use Rattle.quick_cache_lists.specs.declared.rings.Rings.{Rings}
 use Rattle.quick_cache_lists.specs.Frames.{IsPlaced, IsRemoved, CanEnter, EntersRing, LeavesRingOf}
@@ -21,7 +21,7 @@ use Rattle.quick_cache_lists.proofs.PutLemmas.{can_enter, IsPut-by, IsKeyed-ente
 use Rattle.quick_cache_lists.proofs.SlabFrames.{occupied_within, IsRemoved-from, times-without_same, times-without_other}
 use Rattle.quick_cache_lists.proofs.TakeLemmas.{IsEntry-from}
 
-module _ {K V P T : Type 0} (old alone : LinkedSlab (Slot K V P T)) (told : Table) (token : Token)
+module _ {K V P T : Type 0} (old alone : LinkedSlab (Slot K V P T)) (told : Index) (token : Token)
     (next : Option Token) (restarts : Bool) (rings left : Rings) (loading : ℕ)
     (sound : IsSound old told rings loading) (parted : IsParted old)
     (is_next : IsNextOf old (non_zero_u32_get token) next) (x y : Slot K V P T)
@@ -38,7 +38,7 @@ module _ {K V P T : Type 0} (old alone : LinkedSlab (Slot K V P T)) (told : Tabl
   abbrev mid : LinkedSlab (Slot K V P T)
   mid = removed old (non_zero_u32_get token)
 
-  abbrev tmid : Table
+  abbrev tmid : Index
   tmid = record told { room = told.room + 1 }
 
   -- the other entry at the token

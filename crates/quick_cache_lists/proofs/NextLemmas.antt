@@ -7,7 +7,7 @@ use Rattle.quick_cache_model.specs.declared.queue.Queue.{Queue}
 use Rattle.quick_cache_model.specs.declared.queue.Queue.TheVariants.{Hot, Cold}
 use Rattle.quick_cache_model.specs.CacheState.{ring_place}
 use Rattle.quick_cache_slab.specs.LinkedSlab.{LinkedSlab, times, entries_past, entries_after, item_at, successor, IsOccupied, IsParted}
-use Rattle.quick_cache_table.specs.Table.{Table}
+use Rattle.quick_cache_index.specs.Index.{Index}
 use Rattle.quick_cache_lists.specs.declared.entry.Entry.{Entry}
 use Rattle.quick_cache_lists.specs.declared.entry.Entry.TheVariants.{Item as item_variant, Loading as loading_variant, Ghost as ghost_variant}
 use Rattle.quick_cache_lists.specs.declared.entry.Slot.{Slot}
@@ -21,17 +21,17 @@ use Rattle.quick_cache_lists.proofs.StandLemmas.{HasItem-from}
 use Rattle.quick_cache_lists.proofs.TakeLemmas.{named_item, occupied_by_entry}
 use Rattle.quick_cache_lists.proofs.TurnLemmas.{next-in_ring}
 
-module _ {K V P T : Type 0} (slab : LinkedSlab (Slot K V P T)) (table : Table)
+module _ {K V P T : Type 0} (slab : LinkedSlab (Slot K V P T)) (index : Index)
     (hot cold ghosts : Ring) where
   pub occupied_by_ring : (t : ℕ) (queue : Queue)
-      → HasRingToken queue (lists_of slab table hot cold ghosts) t → IsOccupied slab t
+      → HasRingToken queue (lists_of slab index hot cold ghosts) t → IsOccupied slab t
   occupied_by_ring t queue has =
-      occupied_by_entry slab table hot cold ghosts t
+      occupied_by_entry slab index hot cold ghosts t
       (inl (has.0, record { place = ring_place queue; stands = has.1 }, has.2))
 
   pub next_by_queue : IsParted slab → IsStanding slab hot cold ghosts → (t : ℕ) (queue : Queue)
-      → HasRingToken queue (lists_of slab table hot cold ghosts) t
-      → successor slab t ≡ next_in_ring queue (lists_of slab table hot cold ghosts) t
+      → HasRingToken queue (lists_of slab index hot cold ghosts) t
+      → successor slab t ≡ next_in_ring queue (lists_of slab index hot cold ghosts) t
   next_by_queue parted standing t Hot has =
       let from = gather-from (λ u. item_of u (item_at slab u))
       (tokens_of slab hot.head) has.0 has.1 in
@@ -135,7 +135,7 @@ module _ {K V P T : Type 0} where
             earlier = λ j y below at. by_index isnt f.earlier j y below at;
           }
 
-module _ {K V P T : Type 0} (slab : LinkedSlab (Slot K V P T)) (table : Table)
+module _ {K V P T : Type 0} (slab : LinkedSlab (Slot K V P T)) (index : Index)
     (hot cold ghosts : Ring) (standing : IsStanding slab hot cold ghosts) (k : ℕ) where
   shown_at : (u : ℕ) → k < u → item_at slab u ≡ get_or (drop k slab.slots) (u - k - 1) None
   shown_at zero below = absurd (omega (arith, below))
@@ -145,22 +145,22 @@ module _ {K V P T : Type 0} (slab : LinkedSlab (Slot K V P T)) (table : Table)
 
   -- an item shows at its token
   not_item : (u : ℕ) → ((x : Slot K V P T) → item_at slab u ≡ Some x → is_item x ≡ false)
-      → ¬ HasItemToken (lists_of slab table hot cold ghosts) u
+      → ¬ HasItemToken (lists_of slab index hot cold ghosts) u
   not_item u isnt has =
-      let item = item_by_token slab table hot cold ghosts u has in
+      let item = item_by_token slab index hot cold ghosts u has in
       true≢false (isnt _ item.2)
 
   HasItem-at : (u : ℕ) (x : Slot K V P T) → item_at slab u ≡ Some x → is_item x ≡ true
-      → HasItemToken (lists_of slab table hot cold ghosts) u
+      → HasItemToken (lists_of slab index hot cold ghosts) u
   HasItem-at u x at is = by_entry x.hash x.entry at is
     where
       by_entry : (hash : ℕ) (entry : Entry K V P T)
           → item_at slab u ≡ Some (record { hash = hash; entry = entry })
           → is_item (record { hash = hash; entry = entry }) ≡ true
-          → HasItemToken (lists_of slab table hot cold ghosts) u
+          → HasItemToken (lists_of slab index hot cold ghosts) u
       by_entry hash (item_variant item) here item_is = (
         record { token = u; hash = hash; item = item },
-        HasItem-from slab table hot cold ghosts
+        HasItem-from slab index hot cold ghosts
             standing u hash item here,
         refl,
       )
@@ -168,7 +168,7 @@ module _ {K V P T : Type 0} (slab : LinkedSlab (Slot K V P T)) (table : Table)
       by_entry hash ghost_variant here item_is = absurd (true≢false (sym item_is))
 
   pub IsFirstAbove-none : first_item (entries_after slab k) ≡ None
-      → IsFirstAbove (lists_of slab table hot cold ghosts) k None
+      → IsFirstAbove (lists_of slab index hot cold ghosts) k None
   IsFirstAbove-none e = record {
     none = λ _ u below. not_item u
         (λ x at. none_past k (drop k slab.slots) e (u - k - 1) x (sym (shown_at u below) ∙ at));
@@ -178,11 +178,11 @@ module _ {K V P T : Type 0} (slab : LinkedSlab (Slot K V P T)) (table : Table)
 
   pub IsFirstAbove-some : (token : Token)
       → first_item (entries_after slab k) ≡ Some (non_zero_u32_get token)
-      → IsFirstAbove (lists_of slab table hot cold ghosts) k (Some token)
+      → IsFirstAbove (lists_of slab index hot cold ghosts) k (Some token)
   IsFirstAbove-some token e = record {
     none = λ nothing. absurd (cc);
     found = λ first some. subst (λ (t : Token). (k < non_zero_u32_get t)
-        × HasItemToken (lists_of slab table hot cold ghosts) (non_zero_u32_get t))
+        × HasItemToken (lists_of slab index hot cold ghosts) (non_zero_u32_get t))
         (token_same first some) (above, HasItem-at (non_zero_u32_get token) f.slot there f.is);
     least = λ first u some below before.
         let under : u < non_zero_u32_get token =

@@ -7,7 +7,7 @@ use Rattle.quick_cache_model.specs.CacheState.{Place, InHot, InCold, InStill, pl
 use Rattle.quick_cache_model.specs.declared.queue.Queue.{Queue}
 use Rattle.quick_cache_model.specs.declared.queue.Queue.TheVariants.{Hot, Cold}
 use Rattle.quick_cache_slab.specs.LinkedSlab.{LinkedSlab, item_at, ring_from, times, next_token, IsOccupied}
-use Rattle.quick_cache_table.specs.Table.{Table, pair_count}
+use Rattle.quick_cache_index.specs.Index.{Index, token_count}
 use Rattle.quick_cache_lists.specs.declared.entry.Entry.{Entry}
 use Rattle.quick_cache_lists.specs.declared.entry.Entry.TheVariants.{Item as item_variant, Loading as loading_variant, Ghost as ghost_variant}
 use Rattle.quick_cache_lists.specs.declared.entry.Slot.{Slot}
@@ -37,31 +37,31 @@ module _ {K V P : Type 0} where
   with_items-still false Cold xs lists weighs = refl
 
 module _ {K V P T : Type 0} where
-  -- ---- the table knows nothing of rings
+  -- ---- the index knows nothing of rings
 
-  module _ (mid new : LinkedSlab (Slot K V P T)) (table : Table) (rings grown : Rings)
+  module _ (mid new : LinkedSlab (Slot K V P T)) (index : Index) (rings grown : Rings)
       (token : Token) (w : ℕ) where
-    pub IsKeyed-entered : (s : Stand) → EntersRing mid new rings grown token w s → IsKeyed mid table
-        → IsKeyed new table
+    pub IsKeyed-entered : (s : Stand) → EntersRing mid new rings grown token w s → IsKeyed mid index
+        → IsKeyed new index
     IsKeyed-entered AmongHot enters keyed =
-        IsKeyed-joined mid new table rings.hot grown.hot token w enters.0 keyed
+        IsKeyed-joined mid new index rings.hot grown.hot token w enters.0 keyed
     IsKeyed-entered AmongCold enters keyed =
-        IsKeyed-joined mid new table rings.cold grown.cold token w enters.0 keyed
+        IsKeyed-joined mid new index rings.cold grown.cold token w enters.0 keyed
     IsKeyed-entered AmongGhosts enters keyed =
-        IsKeyed-joined mid new table rings.ghosts grown.ghosts token w enters.0 keyed
+        IsKeyed-joined mid new index rings.ghosts grown.ghosts token w enters.0 keyed
     IsKeyed-entered AmongStill enters keyed = rw enters.0 keyed
     IsKeyed-entered AmongLoading enters keyed = rw enters.0 keyed
 
     pub room-entered : (s : Stand) → EntersRing mid new rings grown token w s
-        → room_of new table ≡ room_of mid table
-    room-entered AmongHot enters = room-joined mid new table rings.hot grown.hot token w enters.0
-    room-entered AmongCold enters = room-joined mid new table rings.cold grown.cold token w enters.0
+        → room_of new index ≡ room_of mid index
+    room-entered AmongHot enters = room-joined mid new index rings.hot grown.hot token w enters.0
+    room-entered AmongCold enters = room-joined mid new index rings.cold grown.cold token w enters.0
     room-entered AmongGhosts enters =
-        room-joined mid new table rings.ghosts grown.ghosts token w enters.0
+        room-joined mid new index rings.ghosts grown.ghosts token w enters.0
     room-entered AmongStill enters =
-        ap (λ (s : LinkedSlab (Slot K V P T)). room_of s table) enters.0
+        ap (λ (s : LinkedSlab (Slot K V P T)). room_of s index) enters.0
     room-entered AmongLoading enters =
-        ap (λ (s : LinkedSlab (Slot K V P T)). room_of s table) enters.0
+        ap (λ (s : LinkedSlab (Slot K V P T)). room_of s index) enters.0
 
     -- the next token is that of the free tokens and the slots
     next-joined : (ring after : Ring) → IsJoined mid new ring after token w
@@ -143,7 +143,7 @@ module _ {K V P T : Type 0} where
 
   -- ---- it stands last
 
-  module _ (old new : LinkedSlab (Slot K V P T)) (told tnew : Table) (token : Token) (hash : ℕ)
+  module _ (old new : LinkedSlab (Slot K V P T)) (told tnew : Index) (token : Token) (hash : ℕ)
       (rings : Rings) where
     abbrev before : Lists K V P
     before = lists_of old told rings.hot rings.cold rings.ghosts
@@ -179,7 +179,7 @@ module _ {K V P T : Type 0} where
               ∙ with_last-loading (non_zero_u32_get token) hash entry before is;
         }
 
-  module _ (old mid new : LinkedSlab (Slot K V P T)) (told tnew : Table) (token : Token) (hash : ℕ)
+  module _ (old mid new : LinkedSlab (Slot K V P T)) (told tnew : Index) (token : Token) (hash : ℕ)
       (rings grown : Rings) (standing : IsStanding old rings.hot rings.cold rings.ghosts) where
     pub IsPut-by : (entry : Entry K V P T)
         → IsPlaced old mid (non_zero_u32_get token) (record { hash = hash; entry = entry })
@@ -262,11 +262,11 @@ module _ {K V P T : Type 0} where
 
   -- ---- and is counted
 
-  module _ (old mid new : LinkedSlab (Slot K V P T)) (told tnew : Table) (token : Token) (hash : ℕ)
+  module _ (old mid new : LinkedSlab (Slot K V P T)) (told tnew : Index) (token : Token) (hash : ℕ)
       (rings grown : Rings) (loading : ℕ) (sound : IsSound old told rings loading)
       (entry : Entry K V P T) (placed : IsPlaced old mid (non_zero_u32_get token)
       (record { hash = hash; entry = entry })) (keyed : IsKeyed mid tnew)
-      (count : pair_count tnew ≡ pair_count told + 1) (s : Stand) (w : ℕ)
+      (count : token_count tnew ≡ token_count told + 1) (s : Stand) (w : ℕ)
       (stands : s ≡ stand_in entry) (weighs : w ≡ weight_in entry)
       (enters : EntersRing mid new rings grown token w s) where
     pub IsPut-entered : IsPut old new told tnew token hash rings entry grown

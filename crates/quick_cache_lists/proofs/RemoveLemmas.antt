@@ -4,7 +4,7 @@ use Rattle.std.specs.Int.NonZero.{non_zero_u32_get}
 use Rattle.std.specs.declared.num.NonZeroU32.{NonZeroU32 as Token}
 use Rattle.std.proofs.lemmas.Bool.{cases_eq, cases_Bool, eq-eqb, ne_eqb}
 use Rattle.quick_cache_slab.specs.LinkedSlab.{LinkedSlab, first_or, times, without, item_at, ring_from, IsNextOf, IsParted}
-use Rattle.quick_cache_table.specs.Table.{Table, has_pair, RemovesPair}
+use Rattle.quick_cache_index.specs.Index.{Index, has_pair, RemovesPair}
 use Rattle.quick_cache_slab.proofs.TokenCounts.{times-here, times-other, times-append, without_none}
 use Rattle.quick_cache_lists.specs.declared.entry.Slot.{Slot}
 use Rattle.quick_cache_lists.specs.declared.ring.Ring.{Ring}
@@ -99,7 +99,7 @@ module _ {K V P T : Type 0} (old new : LinkedSlab (Slot K V P T)) (t : ℕ)
       (alone u (sym (ap stand_of (removed.others u other)) ∙ is))
       ∙ without_none t (u ∷ []) (omega (arith, times-other t u [] other))
 
-  pub IsKeyed-removed : (told tnew : Table) (x : Slot K V P T) → item_at old t ≡ Some x
+  pub IsKeyed-removed : (told tnew : Index) (x : Slot K V P T) → item_at old t ≡ Some x
       → IsKeyed old told → RemovesPair told tnew x.hash t → IsKeyed new tnew
   IsKeyed-removed told tnew x was keyed removes = record {
     pairs = λ h u. elim (cases_eq u t) [

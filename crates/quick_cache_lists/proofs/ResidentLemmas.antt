@@ -10,7 +10,7 @@ use Rattle.quick_cache_model.specs.declared.queue.Queue.{Queue}
 use Rattle.quick_cache_model.specs.declared.queue.Queue.TheVariants.{Hot, Cold}
 use Rattle.quick_cache_slab.specs.LinkedSlab.{LinkedSlab, times, item_at, items, IsParted}
 use Rattle.quick_cache_slab.proofs.TokenCounts.{times-here, times-other, times-append}
-use Rattle.quick_cache_table.specs.Table.{Table}
+use Rattle.quick_cache_index.specs.Index.{Index}
 use Rattle.quick_cache_lists.specs.declared.entry.Entry.{Entry}
 use Rattle.quick_cache_lists.specs.declared.entry.Entry.TheVariants.{Item as item_variant, Loading as loading_variant, Ghost as ghost_variant}
 use Rattle.quick_cache_lists.specs.declared.entry.Slot.{Slot}
@@ -210,7 +210,7 @@ module _ {K V P T : Type 0} where
       by_entry hash (loading_variant awaited) there = absurd (cc)
       by_entry hash ghost_variant there = absurd (cc)
 
-module _ {K V P T : Type 0} (slab : LinkedSlab (Slot K V P T)) (table : Table)
+module _ {K V P T : Type 0} (slab : LinkedSlab (Slot K V P T)) (index : Index)
     (hot cold ghosts : Ring) (parted : IsParted slab)
     (standing : IsStanding slab hot cold ghosts) where
   in_all : (t : ℕ) (o : Option (Slot K V P T)) (s : Stand) → item_at slab t ≡ o
@@ -286,7 +286,7 @@ module _ {K V P T : Type 0} (slab : LinkedSlab (Slot K V P T)) (table : Table)
       (slots-gather slab.slots 0 (λ t. item_at slab t)
       (λ i. let e : 0 + i ≡ i = omega arith in ap (λ m. item_at slab (suc m)) e))
 
-  pub IsPermutation-items_in : IsPermutation (residents (lists_of slab table hot cold ghosts))
+  pub IsPermutation-items_in : IsPermutation (residents (lists_of slab index hot cold ghosts))
       (items_in (items slab))
   IsPermutation-items_in =
       let is : items_in (items slab)

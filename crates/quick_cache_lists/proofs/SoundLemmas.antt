@@ -5,7 +5,7 @@ use Rattle.std.specs.declared.num.NonZeroU32.{NonZeroU32 as Token}
 use Rattle.std.proofs.lemmas.Bool.{cases_eq, eq-eqb, ne_eqb}
 use Rattle.std.proofs.lemmas.List.{length_push}
 use Rattle.quick_cache_slab.specs.LinkedSlab.{LinkedSlab, at_token, times, joined, item_at, ring_from, spare, IsAlone}
-use Rattle.quick_cache_table.specs.Table.{Table, has_pair, AddsPair}
+use Rattle.quick_cache_index.specs.Index.{Index, has_pair, AddsPair}
 use Rattle.quick_cache_slab.proofs.AtTokens.{at_token-past}
 use Rattle.quick_cache_slab.proofs.TokenCounts.{zero_from_none, times-here, times-other, times-append, length_once}
 use Rattle.quick_cache_lists.specs.declared.entry.Slot.{Slot}
@@ -55,9 +55,9 @@ module _ {K V P T : Type 0} where
     loading = AreAlone-empty slab AmongLoading none;
   }
 
-  pub IsKeyed-empty : (slab : LinkedSlab (Slot K V P T)) (table : Table) → slab.slots ≡ []
-      → slab.free ≡ [] → table.pairs ≡ [] → IsKeyed slab table
-  IsKeyed-empty slab table none free pairs = record {
+  pub IsKeyed-empty : (slab : LinkedSlab (Slot K V P T)) (index : Index) → slab.slots ≡ []
+      → slab.free ≡ [] → index.pairs ≡ [] → IsKeyed slab index
+  IsKeyed-empty slab index none free pairs = record {
     pairs = λ h t. rw (pairs, item_at-empty slab t none) refl;
     few = rw none (omega arith);
     light = λ t. rw (item_at-empty slab t none) (omega arith);
@@ -132,7 +132,7 @@ module _ {K V P T : Type 0} where
       | inr other ↦ placed.rings u other ∙ alone u (sym (ap stand_of (placed.others u other)) ∙ is)
     ]
 
-    pub IsKeyed-placed : (told tnew : Table) → IsKeyed old told → AddsPair told tnew x.hash t
+    pub IsKeyed-placed : (told tnew : Index) → IsKeyed old told → AddsPair told tnew x.hash t
         → t ≤ 4294967295 → weight_in x.entry < 18446744073709551616 → IsKeyed new tnew
     IsKeyed-placed told tnew keyed adds low lean = record {
       pairs = λ h u. elim (cases_eq u t) [
@@ -168,7 +168,7 @@ module _ {K V P T : Type 0} where
       ];
     }
 
-    pub room-placed : (told tnew : Table) → (0 < spare old → spare new + 1 ≡ spare old)
+    pub room-placed : (told tnew : Index) → (0 < spare old → spare new + 1 ≡ spare old)
         → tnew.room + 1 ≡ told.room → 0 < room_of old told → room_of new tnew + 1 ≡ room_of old told
     room-placed told tnew takes fewer some = omega (arith, takes (omega (arith, some)), fewer, some)
 
@@ -436,16 +436,16 @@ module _ {K V P T : Type 0} where
             ));
       }
 
-  -- the table knows nothing of rings
-  pub IsKeyed-joined : (mid new : LinkedSlab (Slot K V P T)) (table : Table) (ring grown : Ring)
-      (token : Token) (w : ℕ) → IsJoined mid new ring grown token w → IsKeyed mid table
-      → IsKeyed new table
-  IsKeyed-joined mid new table ring grown token w joined keyed = by_head ring.head joined.by_head
+  -- the index knows nothing of rings
+  pub IsKeyed-joined : (mid new : LinkedSlab (Slot K V P T)) (index : Index) (ring grown : Ring)
+      (token : Token) (w : ℕ) → IsJoined mid new ring grown token w → IsKeyed mid index
+      → IsKeyed new index
+  IsKeyed-joined mid new index ring grown token w joined keyed = by_head ring.head joined.by_head
     where
       by_head : (o : Option Token) → MatchOption o
           ((new ≡ mid) × (non_zero_u32_get joined.head ≡ non_zero_u32_get token))
           (λ h. IsLinked mid new (non_zero_u32_get token) (non_zero_u32_get h)
-          × (non_zero_u32_get joined.head ≡ non_zero_u32_get h)) → IsKeyed new table
+          × (non_zero_u32_get joined.head ≡ non_zero_u32_get h)) → IsKeyed new index
       by_head None done = rw done.0 keyed
       by_head (Some h) done = record {
         pairs = λ hash u. keyed.pairs hash u
@@ -457,17 +457,17 @@ module _ {K V P T : Type 0} where
         counted = rw (done.0.slots, done.0.free) keyed.counted;
       }
 
-  pub room-joined : (mid new : LinkedSlab (Slot K V P T)) (table : Table) (ring grown : Ring)
+  pub room-joined : (mid new : LinkedSlab (Slot K V P T)) (index : Index) (ring grown : Ring)
       (token : Token) (w : ℕ) → IsJoined mid new ring grown token w
-      → room_of new table ≡ room_of mid table
-  room-joined mid new table ring grown token w joined = by_head ring.head joined.by_head
+      → room_of new index ≡ room_of mid index
+  room-joined mid new index ring grown token w joined = by_head ring.head joined.by_head
     where
       by_head : (o : Option Token) → MatchOption o
           ((new ≡ mid) × (non_zero_u32_get joined.head ≡ non_zero_u32_get token))
           (λ h. IsLinked mid new (non_zero_u32_get token) (non_zero_u32_get h)
           × (non_zero_u32_get joined.head ≡ non_zero_u32_get h))
-          → room_of new table ≡ room_of mid table
-      by_head None done = ap (λ s. room_of s table) done.0
+          → room_of new index ≡ room_of mid index
+      by_head None done = ap (λ s. room_of s index) done.0
       by_head (Some h) done = rw (done.0.free, done.0.room) refl
 
   -- a ring can take one more weight

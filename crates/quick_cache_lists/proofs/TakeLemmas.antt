@@ -4,7 +4,7 @@ use Rattle.std.specs.Int.NonZero.{non_zero_u32_get}
 use Rattle.std.specs.declared.num.NonZeroU32.{NonZeroU32 as Token}
 use Rattle.quick_cache_model.specs.CacheState.{Place, InHot, InCold, InStill}
 use Rattle.quick_cache_slab.specs.LinkedSlab.{LinkedSlab, item_at, next_token, IsOccupied, IsNextOf, IsParted}
-use Rattle.quick_cache_table.specs.Table.{Table}
+use Rattle.quick_cache_index.specs.Index.{Index}
 use Rattle.quick_cache_model.specs.declared.queue.Queue.{Queue}
 use Rattle.quick_cache_model.specs.declared.queue.Queue.TheVariants.{Hot, Cold}
 use Rattle.quick_cache_lists.specs.declared.entry.Entry.{Entry}
@@ -110,8 +110,8 @@ module _ {K V P T : Type 0} where
       by_entry hash (loading_variant awaited) e = absurd (cc)
       by_entry hash ghost_variant e = (record { token = t; hash = hash }, refl)
 
-  module _ (slab : LinkedSlab (Slot K V P T)) (table : Table) (hot cold ghosts : Ring) where
-    pub occupied_by_entry : (t : ℕ) → HasEntry (lists_of slab table hot cold ghosts) t
+  module _ (slab : LinkedSlab (Slot K V P T)) (index : Index) (hot cold ghosts : Ring) where
+    pub occupied_by_entry : (t : ℕ) → HasEntry (lists_of slab index hot cold ghosts) t
         → IsOccupied slab t
     occupied_by_entry t has = elim has [
       | inl item ↦ by_item item.0 item.1.place item.1.stands item.2
@@ -133,7 +133,7 @@ module _ {K V P T : Type 0} where
         occupied u same there = rw same at there
 
         by_item : (held : HeldItem K V) (place : Place)
-            → StandsIn (items_at place (lists_of slab table hot cold ghosts)) held → held.token ≡ t
+            → StandsIn (items_at place (lists_of slab index hot cold ghosts)) held → held.token ≡ t
             → IsOccupied slab t
         by_item held InHot there e =
             let at = gather-from (λ u. item_of u (item_at slab u))
@@ -153,19 +153,19 @@ module _ {K V P T : Type 0} where
 
     pub IsEntry-from : (sound : IsStanding slab hot cold ghosts) (t : ℕ) (slot : Slot K V P T)
         → item_at slab t ≡ Some slot → IsEntry
-        (lists_of slab table hot cold ghosts) t slot.hash slot.entry
+        (lists_of slab index hot cold ghosts) t slot.hash slot.entry
     IsEntry-from sound t slot at = by_entry slot.hash slot.entry at
       where
         by_entry : (hash : ℕ) (entry : Entry K V P T)
             → item_at slab t ≡ Some (record { hash = hash; entry = entry })
-            → IsEntry (lists_of slab table hot cold ghosts) t hash entry
+            → IsEntry (lists_of slab index hot cold ghosts) t hash entry
         by_entry hash (item_variant item) is =
-            HasItem-from slab table hot cold ghosts sound t hash item is
+            HasItem-from slab index hot cold ghosts sound t hash item is
         by_entry hash (loading_variant awaited) is =
-            StandsIn-loading slab table hot cold ghosts sound t _ _ is refl
-        by_entry hash ghost_variant is = StandsIn-ghosts slab table hot cold ghosts sound t hash is
+            StandsIn-loading slab index hot cold ghosts sound t _ _ is refl
+        by_entry hash ghost_variant is = StandsIn-ghosts slab index hot cold ghosts sound t hash is
 
-  module _ (old new : LinkedSlab (Slot K V P T)) (told tnew : Table) (token : Token)
+  module _ (old new : LinkedSlab (Slot K V P T)) (told tnew : Index) (token : Token)
       (next : Option Token) (restarts : Bool) (hot cold ghosts left : Ring)
       (sound : IsStanding old hot cold ghosts) (parted : IsParted old)
       (removed : IsRemoved old new (non_zero_u32_get token))

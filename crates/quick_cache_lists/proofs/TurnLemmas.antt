@@ -12,7 +12,7 @@ use Rattle.quick_cache_lists.specs.declared.entry.Slot.{Slot}
 use Rattle.quick_cache_lists.specs.declared.ring.Ring.{Ring}
 use Rattle.quick_cache_lists.specs.declared.rings.Rings.{Rings}
 use Rattle.quick_cache_model.specs.declared.queue.Queue.TheVariants.{Hot, Cold}
-use Rattle.quick_cache_table.specs.Table.{Table}
+use Rattle.quick_cache_index.specs.Index.{Index}
 use Rattle.quick_cache_lists.specs.Frames.{IsTurned}
 use Rattle.quick_cache_lists.specs.Lists.{HeldItem, Lists, IsFirstOf, turned, ring_turned, restarted}
 use Rattle.quick_cache_lists.specs.Slots.{Stand, AmongHot, AmongCold, AmongLoading, AmongGhosts, stand_of, weight_at, item_of, ghost_of}
@@ -217,27 +217,27 @@ length-turned : {X : Type 0} (xs : List X) → length (turned xs) ≡ length xs
 length-turned [] = refl
 length-turned (x ∷ xs) = omega (arith, length_push xs x)
 
-module _ {K V P T : Type 0} (slab : LinkedSlab (Slot K V P T)) (table : Table) (rings : Rings)
-    (loading : ℕ) (parted : IsParted slab) (sound : IsSound slab table rings loading)
+module _ {K V P T : Type 0} (slab : LinkedSlab (Slot K V P T)) (index : Index) (rings : Rings)
+    (loading : ℕ) (parted : IsParted slab) (sound : IsSound slab index rings loading)
     (after : Ring) where
   pub lists-turned_hot : IsTurned slab rings.hot after
-      → lists_of slab table after rings.cold rings.ghosts
-      ≡ ring_turned Hot (lists_of slab table rings.hot rings.cold rings.ghosts)
+      → lists_of slab index after rings.cold rings.ghosts
+      ≡ ring_turned Hot (lists_of slab index rings.hot rings.cold rings.ghosts)
   lists-turned_hot turns =
       let is = view-turned slab parted rings.hot after AmongHot (λ e. cc)
       (λ e. cc) sound.standing.hot_ring turns in
-      λ j. record (lists_of slab table rings.hot rings.cold rings.ghosts) { hot = is j }
+      λ j. record (lists_of slab index rings.hot rings.cold rings.ghosts) { hot = is j }
 
   pub lists-turned_cold : IsTurned slab rings.cold after
-      → lists_of slab table rings.hot after rings.ghosts
-      ≡ ring_turned Cold (lists_of slab table rings.hot rings.cold rings.ghosts)
+      → lists_of slab index rings.hot after rings.ghosts
+      ≡ ring_turned Cold (lists_of slab index rings.hot rings.cold rings.ghosts)
   lists-turned_cold turns =
       let is = view-turned slab parted rings.cold after AmongCold (λ e. cc)
       (λ e. cc) sound.standing.cold_ring turns in
-      λ j. record (lists_of slab table rings.hot rings.cold rings.ghosts) { cold = is j }
+      λ j. record (lists_of slab index rings.hot rings.cold rings.ghosts) { cold = is j }
 
   pub IsSound-turned_hot : IsTurned slab rings.hot after
-      → IsSound slab table (record rings { hot = after }) loading
+      → IsSound slab index (record rings { hot = after }) loading
   IsSound-turned_hot turns = record {
     standing = record {
       hot_ring = IsRingOf-turned slab parted rings.hot after AmongHot sound.standing.hot_ring turns;
@@ -254,12 +254,12 @@ module _ {K V P T : Type 0} (slab : LinkedSlab (Slot K V P T)) (table : Table) (
       ap (λ (l : Lists K V P). length l.hot)
           (lists-turned_hot turns),
       length-turned
-          (lists_of slab table rings.hot rings.cold rings.ghosts).hot,
+          (lists_of slab index rings.hot rings.cold rings.ghosts).hot,
     );
   }
 
   pub IsSound-turned_cold : IsTurned slab rings.cold after
-      → IsSound slab table (record rings { cold = after }) loading
+      → IsSound slab index (record rings { cold = after }) loading
   IsSound-turned_cold turns = record {
     standing = record {
       hot_ring = sound.standing.hot_ring;
@@ -277,7 +277,7 @@ module _ {K V P T : Type 0} (slab : LinkedSlab (Slot K V P T)) (table : Table) (
       ap (λ (l : Lists K V P). length l.cold)
           (lists-turned_cold turns),
       length-turned
-          (lists_of slab table rings.hot rings.cold rings.ghosts).cold,
+          (lists_of slab index rings.hot rings.cold rings.ghosts).cold,
     );
   }
 

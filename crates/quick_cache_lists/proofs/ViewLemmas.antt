@@ -6,7 +6,7 @@ use Rattle.std.specs.List.Sorted.{IsPermutation}
 use Rattle.std.proofs.lemmas.List.Sorted.{IsPermutation-refl, IsPermutation-trans, IsPermutation-to_front}
 use Rattle.quick_cache_model.specs.CacheState.{Item, Place, InHot, InCold, InStill, place_of_item}
 use Rattle.quick_cache_slab.specs.LinkedSlab.{LinkedSlab, times, item_at, next_token}
-use Rattle.quick_cache_table.specs.Table.{Table}
+use Rattle.quick_cache_index.specs.Index.{Index}
 use Rattle.quick_cache_model.specs.declared.queue.Queue.TheVariants.{Hot, Cold}
 use Rattle.quick_cache_lists.specs.declared.entry.Entry.TheVariants.{Item as item_variant, Loading as loading_variant, Ghost as ghost_variant}
 use Rattle.quick_cache_lists.specs.declared.entry.Awaited.{Awaited}
@@ -112,7 +112,7 @@ module _ {K V P T : Type 0} where
 
   -- ---- an item comes to the hot ring
 
-  module _ (old mid new : LinkedSlab (Slot K V P T)) (told tnew : Table) (token : Token) (hash : ℕ)
+  module _ (old mid new : LinkedSlab (Slot K V P T)) (told tnew : Index) (token : Token) (hash : ℕ)
       (item : Item K V) (hot cold ghosts grown : Ring) (sound : IsStanding old hot cold ghosts)
       (placed : IsPlaced old mid (non_zero_u32_get token)
       (record { hash = hash; entry = item_variant item }))
@@ -242,7 +242,7 @@ module _ {K V P T : Type 0} where
 
   -- ---- beside the rings
 
-  module _ (old new : LinkedSlab (Slot K V P T)) (told tnew : Table) (token : Token) (hash : ℕ)
+  module _ (old new : LinkedSlab (Slot K V P T)) (told tnew : Index) (token : Token) (hash : ℕ)
       (item : Item K V) (hot cold ghosts : Ring) (sound : IsStanding old hot cold ghosts)
       (placed : IsPlaced old new (non_zero_u32_get token)
       (record { hash = hash; entry = item_variant item }))
@@ -304,7 +304,7 @@ module _ {K V P T : Type 0} where
 
   -- ---- among the ghosts
 
-  module _ (old mid new : LinkedSlab (Slot K V P T)) (told tnew : Table) (token : Token) (hash : ℕ)
+  module _ (old mid new : LinkedSlab (Slot K V P T)) (told tnew : Index) (token : Token) (hash : ℕ)
       (hot cold ghosts grown : Ring) (sound : IsStanding old hot cold ghosts)
       (placed : IsPlaced old mid (non_zero_u32_get token)
       (record { hash = hash; entry = ghost_variant }))
@@ -359,7 +359,7 @@ module _ {K V P T : Type 0} where
 
   -- ---- a placeholder, beside the rings
 
-  module _ (old new : LinkedSlab (Slot K V P T)) (told tnew : Table) (token : Token) (hash : ℕ)
+  module _ (old new : LinkedSlab (Slot K V P T)) (told tnew : Index) (token : Token) (hash : ℕ)
       (awaited : Awaited K P) (hot cold ghosts : Ring) (sound : IsStanding old hot cold ghosts)
       (placed : IsPlaced old new (non_zero_u32_get token)
       (record { hash = hash; entry = loading_variant awaited })) where

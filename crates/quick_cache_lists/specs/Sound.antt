@@ -1,9 +1,9 @@
 -- The lists that the slots of a slab stand for. No public clause cites this module.
-use Rattle.std.specs.Prelude.{◌≡◌, ◌≢◌, ℕ, zero, suc, ◌+◌, ◌<◌, ◌≤◌, min, Bool, List, [], ◌∷◌, ◌++◌, length, Option, Some, None, IfSome, true, false}
+use Rattle.std.specs.Prelude.{◌≡◌, ◌≢◌, ℕ, zero, suc, ◌+◌, ◌<◌, ◌≤◌, min, Bool, IsTrue, List, [], ◌∷◌, ◌++◌, length, Option, Some, None, IfSome, is_some, true, false}
 use Rattle.std.specs.Int.NonZero.{non_zero_u32_get}
 use Rattle.std.specs.declared.num.NonZeroU32.{NonZeroU32 as Token}
 use Rattle.quick_cache_slab.specs.LinkedSlab.{LinkedSlab, item_at, ring_from, times, next_token, spare, IsAlone}
-use Rattle.quick_cache_table.specs.Table.{HasToken, Table, has_pair, HasPair, pair_count, AddsPair}
+use Rattle.quick_cache_index.specs.Index.{Index, HasToken, GainsToken, KeepsAllLeads, Leads, has_token, token_count}
 use Rattle.quick_cache_lists.specs.declared.entry.Slot.{Slot}
 use Rattle.quick_cache_lists.specs.declared.ring.Ring.{Ring}
 use Rattle.quick_cache_lists.specs.declared.rings.Rings.{Rings}
@@ -38,18 +38,18 @@ module _ {S : Type 0} where
 
 module _ {K V P T : Type 0} where
   -- how many more entries fit with no allocation
-  abbrev pub room_of : LinkedSlab (Slot K V P T) → Table → ℕ
-  room_of slab table = min (spare slab) table.room
+  abbrev pub room_of : LinkedSlab (Slot K V P T) → Index → ℕ
+  room_of slab index = min (spare slab) index.room
 
-  abbrev pub lists_of : LinkedSlab (Slot K V P T) → Table → (hot cold ghosts : Ring) → Lists K V P
-  lists_of slab table hot cold ghosts = record {
+  abbrev pub lists_of : LinkedSlab (Slot K V P T) → Index → (hot cold ghosts : Ring) → Lists K V P
+  lists_of slab index hot cold ghosts = record {
     hot = gather (λ token. item_of token (item_at slab token)) (tokens_of slab hot.head);
     cold = gather (λ token. item_of token (item_at slab token)) (tokens_of slab cold.head);
     still = gather (λ token. still_of token (item_at slab token)) (upto (length slab.slots));
     loading = gather (λ token. loading_of token (item_at slab token)) (upto (length slab.slots));
     ghosts = gather (λ token. ghost_of token (item_at slab token)) (tokens_of slab ghosts.head);
     next = next_token slab;
-    room = room_of slab table;
+    room = room_of slab index;
   }
 
   -- the ring with that head has the entries of that list, and so many
@@ -70,19 +70,31 @@ module _ {K V P T : Type 0} where
   AreAlone slab stand = (token : ℕ) → stand_of (item_at slab token) ≡ Some stand
       → IsAlone slab token
 
-  -- each entry is found by its hash, and each slot is taken or free
-  pub record IsKeyed (slab : LinkedSlab (Slot K V P T)) (table : Table) : Type 0 where
-    pub pairs : (hash token : ℕ) → has_pair table hash token ≡ has_hash hash (item_at slab token)
+  -- the entry of the token has that hash
+  abbrev pub HasHash : LinkedSlab (Slot K V P T) → ℕ → ℕ → Type 0
+  HasHash slab hash token = IsTrue (has_hash hash (item_at slab token))
+
+  -- each entry's hash leads to it, and each slot is taken or free
+  pub record IsKeyed (slab : LinkedSlab (Slot K V P T)) (index : Index) : Type 0 where
+    pub leads : (hash token : ℕ) → HasHash slab hash token → Leads index hash token
+    pub tokens : (token : ℕ) → has_token index token ≡ is_some (item_at slab token)
     pub few : length slab.slots ≤ 4294967295
     pub light : (token : ℕ) → weight_at (item_at slab token) < 18446744073709551616
-    pub counted : pair_count table + length slab.free ≡ length slab.slots
+    pub counted : token_count index + length slab.free ≡ length slab.slots
 
-  -- the hashes of these entries came to the table one by one
-  abbrev pub AddsPairs : List (ℕ × Slot K V P T) → (old new : Table) → Type 0
-  AddsPairs [] old new = new ≡ old
-  AddsPairs (entry ∷ entries) old new =
-      (between : Table) × AddsPair old between entry.1.hash entry.0
-      × AddsPairs entries between new
+  -- the token came to the index under that hash
+  pub record AddsToken (old new : Index) (hash token : ℕ) : Type 0 where
+    pub leads : Leads new hash token
+    pub kept : KeepsAllLeads old new
+    pub tokens : GainsToken old new token
+    pub count : token_count new ≡ token_count old + 1
+
+  -- these entries came to the index one by one
+  abbrev pub AddsTokens : List (ℕ × Slot K V P T) → (old new : Index) → Type 0
+  AddsTokens [] old new = new ≡ old
+  AddsTokens (entry ∷ entries) old new =
+      (between : Index) × AddsToken old between entry.1.hash entry.0
+      × AddsTokens entries between new
 
   -- each ring has its entries, and the others stand alone
   pub record IsStanding (slab : LinkedSlab (Slot K V P T)) (hot cold ghosts : Ring) : Type 0 where
@@ -94,30 +106,30 @@ module _ {K V P T : Type 0} where
 
   -- What always holds of the slots: each entry stands in its list, is found by its hash, and is
   -- counted.
-  pub record IsSound (slab : LinkedSlab (Slot K V P T)) (table : Table) (rings : Rings)
+  pub record IsSound (slab : LinkedSlab (Slot K V P T)) (index : Index) (rings : Rings)
       (loading : ℕ) : Type 0 where
     pub standing : IsStanding slab rings.hot rings.cold rings.ghosts
-    pub keyed : IsKeyed slab table
+    pub keyed : IsKeyed slab index
     pub loading_counted : loading ≡ length
-        (lists_of slab table rings.hot rings.cold rings.ghosts).loading
-    pub all_counted : entry_count (lists_of slab table rings.hot rings.cold rings.ghosts)
-        ≡ pair_count table
+        (lists_of slab index rings.hot rings.cold rings.ghosts).loading
+    pub all_counted : entry_count (lists_of slab index rings.hot rings.cold rings.ghosts)
+        ≡ token_count index
 
-  -- a walk along the tokens of a hash, with these left: it passed no key, and noted a ghost if it
-  -- passed one
-  pub record IsWalked (slab : LinkedSlab (Slot K V P T)) (table : Table) (hash : ℕ)
+  -- a walk along candidates for a hash, with these left: it passed no key of that hash, and noted a
+  -- ghost if it passed one
+  pub record IsWalked (slab : LinkedSlab (Slot K V P T)) (index : Index) (hash : ℕ)
       (stands_for : K → Bool) (left : List ℕ) (shade : Option Token) : Type 0 where
-    pub left_has : (t : ℕ) → 0 < times t left → HasPair table hash t
-    pub passed : (t : ℕ) → HasPair table hash t → times t left ≡ 0
+    pub left_has : (t : ℕ) → 0 < times t left → HasToken index t
+    pub passed : (t : ℕ) → HasHash slab hash t → times t left ≡ 0
         → (is_under_at stands_for (item_at slab t) ≡ false)
         × (is_ghost_at (item_at slab t) ≡ true → shade ≢ None)
-    pub noted : IfSome shade (λ t. HasPair table hash (non_zero_u32_get t)
+    pub noted : IfSome shade (λ t. HasHash slab hash (non_zero_u32_get t)
         × (is_ghost_at (item_at slab (non_zero_u32_get t)) ≡ true))
 
   -- a walk along candidates for a hash, with these left, that passed no item of that hash whose key
   -- passes
-  pub record PassesNoItem (slab : LinkedSlab (Slot K V P T)) (table : Table) (hash : ℕ)
+  pub record PassesNoItem (slab : LinkedSlab (Slot K V P T)) (index : Index) (hash : ℕ)
       (stands_for : K → Bool) (left : List ℕ) : Type 0 where
-    pub left_has : (t : ℕ) → 0 < times t left → HasToken table t
-    pub passed : (t : ℕ) → HasPair table hash t → times t left ≡ 0
+    pub left_has : (t : ℕ) → 0 < times t left → HasToken index t
+    pub passed : (t : ℕ) → HasHash slab hash t → times t left ≡ 0
         → is_item_under_at stands_for (item_at slab t) ≡ false

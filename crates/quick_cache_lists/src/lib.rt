@@ -7,6 +7,7 @@
 
 mod entry;
 mod found;
+mod hashes;
 mod lists;
 mod refs;
 mod resident;

@@ -13,13 +13,14 @@ mod tokens;
 mod values;
 mod walks;
 
+use crate::hashes::SlotHashes;
 use crate::rings::Rings;
 use crate::stored::Stored;
 pub use copies::Copying;
 pub use placeholders::Meaning;
+use quick_cache_index::Index;
 use quick_cache_model::Refusal;
 use quick_cache_slab::LinkedSlab;
-use quick_cache_table::Table;
 use std::alloc::{Allocator, Global};
 use std::marker::Model;
 
@@ -31,7 +32,7 @@ const MOST_ENTRIES: usize = 4294967294;
 #[derive(Drop)]
 pub struct Lists<K, V, P, T, A: Allocator = Global> {
     slab: LinkedSlab<Stored<K, V, P, T>, A>,
-    table: Table<A>,
+    index: Index<A>,
     rings: Rings,
     // How many placeholders there are.
     loading: usize,
@@ -44,9 +45,9 @@ impl<K, V, P, T, A: Allocator> Model for Lists<K, V, P, T, A> {
 
     ghost use Rattle.quick_cache_lists.specs.Sound.{lists_of, IsSound};
 
-    ghost view = { λ l. lists_of l.slab l.table l.rings.hot l.rings.cold l.rings.ghosts };
+    ghost view = { λ l. lists_of l.slab l.index l.rings.hot l.rings.cold l.rings.ghosts };
 
-    ghost invariant = { λ l. IsSound l.slab l.table l.rings l.loading };
+    ghost invariant = { λ l. IsSound l.slab l.index l.rings l.loading };
 }
 
 impl<K, V, P, T, A: Allocator> Lists<K, V, P, T, A> {
@@ -61,11 +62,11 @@ impl<K, V, P, T, A: Allocator> Lists<K, V, P, T, A> {
         let Ok(for_slots) = alloc.clone() else {
             return Err(Refusal::Memory);
         };
-        let table = Table::new(alloc)?;
+        let index = Index::new(alloc)?;
         let slab = LinkedSlab::with_capacity(for_slots, 0)?;
         Ok(Lists {
             slab,
-            table,
+            index,
             rings: Rings::empty(),
             loading: 0,
         })
@@ -73,7 +74,7 @@ impl<K, V, P, T, A: Allocator> Lists<K, V, P, T, A> {
 
     /// Makes room for so many more entries, or for all that can still come.
     ///
-    /// The slots grow first, then the table. A refusal is for want of memory: it may keep room that
+    /// The slots grow first, then the index. A refusal is for want of memory: it may keep room that
     /// it got, and changes nothing else.
     pub fn reserve(&mut self, additional: usize) -> Result<(), Refusal>
         ensures lists { self.new ≡ record self.old { room = self.new.room } }
@@ -87,7 +88,8 @@ impl<K, V, P, T, A: Allocator> Lists<K, V, P, T, A> {
     {
         self.slab.validate();
         self.slab.reserve(additional)?;
-        self.table.reserve(additional)
+        self.index
+            .reserve(&SlotHashes { slab: &self.slab }, additional)
     }
 
     /// Makes room for one more entry where there is none.
@@ -104,7 +106,7 @@ impl<K, V, P, T, A: Allocator> Lists<K, V, P, T, A> {
         ensures refusals { IfErr result
             (λ refused. (refused ≡ Refusal.SlotsFull) ⊎ (refused ≡ Refusal.Memory)) }
     {
-        if self.slab.has_room() && self.table.has_room() {
+        if self.slab.has_room() && self.index.has_room() {
             return Ok(());
         }
         self.grow()
@@ -122,7 +124,7 @@ impl<K, V, P, T, A: Allocator> Lists<K, V, P, T, A> {
             (λ refused. (refused ≡ Refusal.SlotsFull) ⊎ (refused ≡ Refusal.Memory)) }
     {
         self.slab.validate();
-        if self.table.len() >= MOST_ENTRIES {
+        if self.index.len() >= MOST_ENTRIES {
             return Err(Refusal::SlotsFull);
         }
         self.reserve(1)
@@ -139,7 +141,7 @@ impl<K, V, P, T, A: Allocator> Lists<K, V, P, T, A> {
     {
         self.slab.validate();
         let _ = self.slab.drain();
-        self.table.clear();
+        self.index.clear();
         self.rings = Rings::empty();
         self.loading = 0;
     }

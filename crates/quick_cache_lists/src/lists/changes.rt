@@ -24,7 +24,7 @@ impl<K, V, P, T, A: Allocator> Lists<K, V, P, T, A> {
         self.slab.validate();
         let stand = entry.stand();
         let weight = entry.weight();
-        let token = place(&mut self.slab, &mut self.table, Slot { hash, entry });
+        let token = place(&mut self.slab, &mut self.index, Slot { hash, entry });
         self.rings.enter(&mut self.slab, token, stand, weight);
         self.loading += stand.loading();
         token
@@ -39,7 +39,7 @@ impl<K, V, P, T, A: Allocator> Lists<K, V, P, T, A> {
         ensures rest { self.new ≡ without_entry restarts (number token) self.old }
     {
         self.slab.validate();
-        let (slot, next) = displace(&mut self.slab, &mut self.table, token);
+        let (slot, next) = displace(&mut self.slab, &mut self.index, token);
         let stand = slot.entry.stand();
         let weight = slot.entry.weight();
         self.rings.leave(token, next, stand, restarts, weight);
@@ -59,7 +59,7 @@ impl<K, V, P, T, A: Allocator> Lists<K, V, P, T, A> {
         ensures { self.new ≡ without_entry false (number token) self.old }
     {
         self.slab.validate();
-        let (_, next) = displace(&mut self.slab, &mut self.table, token);
+        let (_, next) = displace(&mut self.slab, &mut self.index, token);
         self.rings.leave(token, next, Stand::AmongGhosts, false, 0);
     }
 

@@ -3,13 +3,14 @@ ghost use Rattle.std.specs.Prelude.{◌≡◌, ℕ, IfOk, IfErr, OnErr};
 ghost use Rattle.quick_cache_lists.specs.Copies.{AreCopies, IsAwaitedCopy, IsSlotCopy};
 
 use crate::entry::{Awaited, Entry, Slot};
+use crate::hashes::SlotHashes;
 use crate::lists::Lists;
 use crate::refs::AwaitedRef;
 use crate::store::key_all;
 use crate::stored::Stored;
+use quick_cache_index::Index;
 use quick_cache_model::{Refusal, Touches};
 use quick_cache_slab::linked_slab::CopyItem;
-use quick_cache_table::Table;
 use std::alloc::Allocator;
 
 /// What a copy goes by: how it hashes its keys, and what stands in for a placeholder.
@@ -97,12 +98,12 @@ impl<K: Clone + Drop, V: Clone + Drop, P: Drop, T: Touches, A: Allocator> Lists<
             return Err(Refusal::Memory);
         };
         let slab = self.slab.try_copy(for_slots, &Copier { by })?;
-        let mut table = Table::new(alloc)?;
-        table.reserve(slab.len())?;
-        key_all(&mut table, slab.iter_from(None));
+        let mut index = Index::new(alloc)?;
+        index.reserve(&SlotHashes { slab: &slab }, slab.len())?;
+        key_all(&mut index, slab.iter_from(None));
         Ok(Lists {
             slab,
-            table,
+            index,
             rings: self.rings,
             loading: self.loading,
         })

@@ -37,7 +37,7 @@ impl<K, V, P, T, A: Allocator> Lists<K, V, P, T, A> {
         ensures { result ≡ item_count self.now }
     {
         self.slab.validate();
-        self.table.len() - self.rings.ghosts.count - self.loading
+        self.index.len() - self.rings.ghosts.count - self.loading
     }
 
     /// How many ghosts there are.
@@ -60,11 +60,11 @@ impl<K, V, P, T, A: Allocator> Lists<K, V, P, T, A> {
         self.slab.allocator()
     }
 
-    /// How many bytes the slots and the table take.
+    /// How many bytes the slots and the index take.
     pub fn memory_used(&self) -> MemoryUsed {
         MemoryUsed {
             entries: self.slab.memory_used(),
-            map: self.table.allocation_size(),
+            map: self.index.allocation_size(),
         }
     }
 }

@@ -43,7 +43,7 @@ impl<K, V, P, T> Stored<K, V, P, T> {
 
 impl<K, V, P, T, A: Allocator> Lists<K, V, P, T, A> {
     /// Makes an item of the key that is being loaded under a token, and puts it last as with `put`.
-    /// The token and the hash stay, so that the table does not change, and no room is needed.
+    /// The token and the hash stay, so that the index does not change, and no room is needed.
     #[inline(always)]
     pub fn fill(&mut self, token: Token, queue: Queue, mark: u8, weight: u64, value: V, touch: T)
     where

@@ -42,21 +42,24 @@ impl<K, V, P, T, A: Allocator> Lists<K, V, P, T, A> {
         ensures { Finds (Q.equivalent query.now) hash self.now result }
     {
         // A fresh key mostly has no candidate, and then it needs no walk.
-        match self.table.candidates(hash).next() {
+        match self.index.candidates(hash).next() {
             Some(_) => self.find_on_walk(hash, query),
             None => Found::Nothing,
         }
     }
 
-    /// The same by a walk over the entries of the hash.
+    /// The same by a walk over the entries that may be of the hash.
     fn find_on_walk<Q: Equivalent<K>>(&self, hash: u64, query: &Q) -> Found
     where
         K: Eq + Hash,
         ensures { Finds (Q.equivalent query.now) hash self.now result }
     {
         let mut shade = None;
-        for token in self.table.iter_hash(hash) {
+        for token in self.index.candidates(hash) {
             let (slot, _) = unsafe { self.slab.get_unchecked(token) };
+            if slot.hash != hash {
+                continue;
+            }
             if slot.is_under(query) {
                 return if slot.is_item() {
                     Found::Item(token)
@@ -85,7 +88,7 @@ impl<K, V, P, T, A: Allocator> Lists<K, V, P, T, A> {
             (HasNoItem (Q.equivalent query.now) hash self.now)
             (λ token. FindsItemOfAnyHash (Q.equivalent query.now) self.now (number token)) }
     {
-        let mut tokens = self.table.candidates(hash);
+        let mut tokens = self.index.candidates(hash);
         // The first is nearly always the one, and apart from the rest it takes fewer instructions.
         let Some(first) = tokens.next() else {
             return None;
@@ -110,7 +113,7 @@ impl<K, V, P, T, A: Allocator> Lists<K, V, P, T, A> {
         K: Eq + Hash,
         ensures { FindsByKey (Q.equivalent query.now) hash self.now result }
     {
-        let Some(first) = self.table.candidates(hash).next() else {
+        let Some(first) = self.index.candidates(hash).next() else {
             return Found::Nothing;
         };
         // The first is nearly always the item, if there is one.

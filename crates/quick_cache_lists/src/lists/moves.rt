@@ -1,4 +1,4 @@
-//! Entries that go from list to list and keep their tokens, so that the table does not change.
+//! Entries that go from list to list and keep their tokens, so that the index does not change.
 ghost use Rattle.std.specs.Prelude.{◌≡◌, false, Some};
 ghost use Rattle.std.specs.Int.NonZero.{non_zero_u32_get as number};
 ghost use Rattle.quick_cache_lists.specs.Lists.{HasEntry, HasItemToken, IsFirstOf, Replaces, Requeues, requeued};

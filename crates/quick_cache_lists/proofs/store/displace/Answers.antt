@@ -34,7 +34,7 @@ returns-clause-keyed g c =
     let removed = IsRemoved-from c.args.slab.now c.remove.new.self
     (number c.args.token) slot was c.in-Some.ensures.removed in
     IsKeyed-removed c.args.slab.now c.remove.new.self
-    (number c.args.token) removed c.args.table.now c.remove_only.new.self slot was
+    (number c.args.token) removed c.args.index.now c.remove_only.new.self slot was
     c.requires.keyed c.remove_only.ensures.removes
 
 pub returns-clause-removed : goal.returns-clause-removed

@@ -1,6 +1,6 @@
 use Rattle.std.proofs.Common.{length, ap, subst, refl, arith}
 use Rattle.std.specs.Int.NonZero.{non_zero_u32_get as number}
-use Rattle.quick_cache_table.specs.Table.{HasPair, AddsPair}
+use Rattle.quick_cache_index.specs.Index.{HasPair, AddsPair}
 use Rattle.quick_cache_lists.specs.declared.entry.Slot.{Slot}
 use Rattle.quick_cache_lists.proofs.CopyLemmas.{first-times, rest-times, rest-apart}
 use Rattle.quick_cache_lists.proofs.store.key_all.Goals as goal
@@ -24,7 +24,7 @@ insert_reserved-requires-clause-is_new g c =
       first-times (number c.in-Some.token) c.in-Some.slot.now c.loop-token.token-iterator
           c.next.new.self c.in-Some.ensures.steps,
       c.loop-token.invariant.apart c.in-Some.slot.now.hash t
-          (subst (λ h. HasPair c.loop-token.table h t) hash has),
+          (subst (λ h. HasPair c.loop-token.index h t) hash has),
     )
 
 pub loop-token-preserved : goal.loop-token-preserved
@@ -35,13 +35,13 @@ loop-token-preserved g c =
     let rest = c.next.new.self in
     let cut = c.in-Some.ensures.steps in
     let hash = ap (λ (s : Slot _ _ _ _). s.hash) c.slot.view_is in
-    let adds = subst (λ h. AddsPair c.loop-token.table c.insert_reserved.new.self h t) hash
+    let adds = subst (λ h. AddsPair c.loop-token.index c.insert_reserved.new.self h t) hash
     c.insert_reserved.ensures.adds in
     record {
       room = omega (arith, ap length cut, c.loop-token.invariant.room, c.insert_reserved.ensures.room);
       once = λ token. omega
           (arith, rest-times token t slot all rest cut, c.loop-token.invariant.once token);
-      apart = rest-apart c.loop-token.table c.insert_reserved.new.self slot.hash t slot all rest cut
+      apart = rest-apart c.loop-token.index c.insert_reserved.new.self slot.hash t slot all rest cut
           adds c.loop-token.invariant.once c.loop-token.invariant.apart;
       adds = λ last more. c.loop-token.invariant.adds last
           (rw cut (c.insert_reserved.new.self, adds, more));
@@ -49,5 +49,5 @@ loop-token-preserved g c =
 
 pub returns : goal.returns
 returns g c = record {
-  adds = c.loop-token.invariant.adds c.loop-token.table (rw c.in-None.ensures.steps.0 refl);
+  adds = c.loop-token.invariant.adds c.loop-token.index (rw c.in-None.ensures.steps.0 refl);
 }

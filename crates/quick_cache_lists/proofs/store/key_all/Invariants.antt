@@ -1,16 +1,16 @@
 use Rattle.std.proofs.Common.{◌≡◌, ◌≤◌, ℕ, length, map}
 use Rattle.quick_cache_slab.specs.LinkedSlab.{times}
-use Rattle.quick_cache_table.specs.Table.{HasPair}
+use Rattle.quick_cache_index.specs.Index.{HasPair}
 use Rattle.quick_cache_lists.specs.Sound.{AddsPairs}
 use Rattle.quick_cache_lists.proofs.store.key_all.Given as goal
 
 -- the entries that are left can be keyed, and then all were
 abbrev pub invariant-loop-token : goal.invariant-loop-token
 invariant-loop-token g l = record {
-  room : length l.token-iterator ≤ l.table.room;
+  room : length l.token-iterator ≤ l.index.room;
   once : (token : ℕ) → times token (map (λ entry. entry.0) l.token-iterator) ≤ 1;
-  apart : (hash token : ℕ) → HasPair l.table hash token
+  apart : (hash token : ℕ) → HasPair l.index hash token
       → times token (map (λ entry. entry.0) l.token-iterator) ≡ 0;
-  adds : (last : _) → AddsPairs l.token-iterator l.table last
-      → AddsPairs l.fn.entries l.fn.table last;
+  adds : (last : _) → AddsPairs l.token-iterator l.index last
+      → AddsPairs l.fn.entries l.fn.index last;
 }

@@ -12,11 +12,11 @@ returns-clause-placed g c =
 pub returns-clause-keyed : goal.returns-clause-keyed
 returns-clause-keyed g c =
     IsKeyed-placed c.args.slab.now c.insert.new.self c.in-Ok.token.value c.args.slot
-    (returns-clause-placed g c) c.args.table.now c.insert_reserved.new.self c.requires.keyed
+    (returns-clause-placed g c) c.args.index.now c.insert_reserved.new.self c.requires.keyed
     c.insert_reserved.ensures.adds (omega arith) c.requires.light
 
 pub returns-clause-room : goal.returns-clause-room
 returns-clause-room g c =
     room-placed c.args.slab.now c.insert.new.self c.in-Ok.token.value c.args.slot
-    (returns-clause-placed g c) c.args.table.now c.insert_reserved.new.self
+    (returns-clause-placed g c) c.args.index.now c.insert_reserved.new.self
     c.in-Ok.ensures.spare c.insert_reserved.ensures.room c.requires.room

@@ -16,11 +16,11 @@ enter-requires g c =
     sym (ap (λ (s : LinkedSlab _). item_at s (number c.args.token)) c.unlink-next.ensures.unlinked)
     ∙ c.get_mut_unchecked.ensures.item in
     let stands : Some AmongCold ≡ Some (stand_in x.entry) =
-    sym (stand_of-first_cold i.slab i.table i.rings.hot i.rings.cold i.rings.ghosts
+    sym (stand_of-first_cold i.slab i.index i.rings.hot i.rings.cold i.rings.ghosts
     c.self.invariant.standing.cold_ring c.args.token (rw (← c.self.view_is) at c.requires))
     ∙ ap stand_of at in
     let ghost = c.bury-item.ensures.new in
-    can_enter-moved i.slab c.unlink-next.new.self i.table c.args.token c.unlink-next.result false
+    can_enter-moved i.slab c.unlink-next.new.self i.index c.args.token c.unlink-next.result false
     i.rings c.leave.new.self i.loading c.self.invariant c.validate.ensures
     c.unlink-next.ensures.next x y at (ap (λ (s : Slot _ _ _ _). s.hash) ghost)
     c.unlink-next.ensures.unlinked c.unlink-next.ensures.alone
@@ -39,11 +39,11 @@ invariant_of-self g c =
     sym (ap (λ (s : LinkedSlab _). item_at s (number c.args.token)) c.unlink-next.ensures.unlinked)
     ∙ c.get_mut_unchecked.ensures.item in
     let stands : Some AmongCold ≡ Some (stand_in x.entry) =
-    sym (stand_of-first_cold i.slab i.table i.rings.hot i.rings.cold i.rings.ghosts
+    sym (stand_of-first_cold i.slab i.index i.rings.hot i.rings.cold i.rings.ghosts
     c.self.invariant.standing.cold_ring c.args.token (rw (← c.self.view_is) at c.requires))
     ∙ ap stand_of at in
     let ghost = c.bury-item.ensures.new in
-    IsSound-requeued i.slab c.unlink-next.new.self i.table c.args.token c.unlink-next.result false
+    IsSound-requeued i.slab c.unlink-next.new.self i.index c.args.token c.unlink-next.result false
     i.rings c.leave.new.self i.loading c.self.invariant c.validate.ensures
     c.unlink-next.ensures.next x y at (ap (λ (s : Slot _ _ _ _). s.hash) ghost)
     c.unlink-next.ensures.unlinked c.unlink-next.ensures.alone
@@ -64,11 +64,11 @@ returns g c =
     sym (ap (λ (s : LinkedSlab _). item_at s (number c.args.token)) c.unlink-next.ensures.unlinked)
     ∙ c.get_mut_unchecked.ensures.item in
     let stands : Some AmongCold ≡ Some (stand_in x.entry) =
-    sym (stand_of-first_cold i.slab i.table i.rings.hot i.rings.cold i.rings.ghosts
+    sym (stand_of-first_cold i.slab i.index i.rings.hot i.rings.cold i.rings.ghosts
     c.self.invariant.standing.cold_ring c.args.token (rw (← c.self.view_is) at c.requires))
     ∙ ap stand_of at in
     let ghost = c.bury-item.ensures.new in
-    let moved = Replaces-moved i.slab c.unlink-next.new.self i.table c.args.token
+    let moved = Replaces-moved i.slab c.unlink-next.new.self i.index c.args.token
     c.unlink-next.result false i.rings c.leave.new.self i.loading c.self.invariant
     c.validate.ensures c.unlink-next.ensures.next x y at (ap (λ (s : Slot _ _ _ _). s.hash) ghost)
     c.unlink-next.ensures.unlinked c.unlink-next.ensures.alone

@@ -18,7 +18,7 @@ use Rattle.quick_cache_lists.proofs.lists.Lists.fill.Goals as goal
 pub unlink-next-requires : goal.unlink-next-requires
 unlink-next-requires g c =
     let i = c.self.inside in
-    occupied_by_entry i.slab i.table i.rings.hot i.rings.cold i.rings.ghosts (number c.args.token)
+    occupied_by_entry i.slab i.index i.rings.hot i.rings.cold i.rings.ghosts (number c.args.token)
     (inr (inl (rw (← c.self.view_is) at c.requires)))
 
 -- what has the token of a placeholder is one
@@ -30,7 +30,7 @@ fill-requires g c =
     let at : item_at i.slab t ≡ Some x =
     sym (ap (λ (s : LinkedSlab _). item_at s t) c.unlink-next.ensures.unlinked)
     ∙ c.get_mut_unchecked.ensures.item in
-    let has = awaited_by_token i.slab i.table i.rings.hot i.rings.cold i.rings.ghosts t
+    let has = awaited_by_token i.slab i.index i.rings.hot i.rings.cold i.rings.ghosts t
     (rw (← c.self.view_is) at c.requires) x at in
     ap is_placeholder has.1
 
@@ -42,14 +42,14 @@ enter-requires g c =
     let at : item_at i.slab t ≡ Some x =
     sym (ap (λ (s : LinkedSlab _). item_at s t) c.unlink-next.ensures.unlinked)
     ∙ c.get_mut_unchecked.ensures.item in
-    let has = awaited_by_token i.slab i.table i.rings.hot i.rings.cold i.rings.ghosts t
+    let has = awaited_by_token i.slab i.index i.rings.hot i.rings.cold i.rings.ghosts t
     (rw (← c.self.view_is) at c.requires) x at in
     let item = filled c.args.queue c.args.mark c.args.weight c.args.value has.0.key in
     let y = c.fill.new.self in
     let entry : y.entry ≡ item_variant item = ap (λ (s : Slot _ _ _ _). s.entry) c.fill.ensures
     ∙ ap (entry_filled (filled c.args.queue c.args.mark c.args.weight c.args.value)) has.1 in
     let hash : y.hash ≡ x.hash = ap (λ (s : Slot _ _ _ _). s.hash) c.fill.ensures in
-    can_enter-moved i.slab c.unlink-next.new.self i.table c.args.token c.unlink-next.result false
+    can_enter-moved i.slab c.unlink-next.new.self i.index c.args.token c.unlink-next.result false
     i.rings c.leave.new.self i.loading c.self.invariant c.validate.ensures
     c.unlink-next.ensures.next x y at hash c.unlink-next.ensures.unlinked
     c.unlink-next.ensures.alone (omega (arith, sym (ap weight_in entry))) AmongLoading 0
@@ -65,7 +65,7 @@ invariant_of-self g c =
     let at : item_at i.slab t ≡ Some x =
     sym (ap (λ (s : LinkedSlab _). item_at s t) c.unlink-next.ensures.unlinked)
     ∙ c.get_mut_unchecked.ensures.item in
-    let has = awaited_by_token i.slab i.table i.rings.hot i.rings.cold i.rings.ghosts t
+    let has = awaited_by_token i.slab i.index i.rings.hot i.rings.cold i.rings.ghosts t
     (rw (← c.self.view_is) at c.requires) x at in
     let item = filled c.args.queue c.args.mark c.args.weight c.args.value has.0.key in
     let y = c.fill.new.self in
@@ -77,8 +77,8 @@ invariant_of-self g c =
     let none : loading_in c.stand-to.result ≡ 0 = ap loading_in c.stand-to.ensures
     ∙ loading_in-slot y x.hash item now in
     let less : i.loading - 1 + 0 ≡ i.loading - 1 = omega arith in
-    subst (λ (n : ℕ). IsSound c.enter.new.slab i.table c.enter.new.self n) less
-    (IsSound-moved i.slab c.unlink-next.new.self i.table c.args.token c.unlink-next.result false
+    subst (λ (n : ℕ). IsSound c.enter.new.slab i.index c.enter.new.self n) less
+    (IsSound-moved i.slab c.unlink-next.new.self i.index c.args.token c.unlink-next.result false
     i.rings c.leave.new.self i.loading c.self.invariant c.validate.ensures
     c.unlink-next.ensures.next x y at hash c.unlink-next.ensures.unlinked
     c.unlink-next.ensures.alone (omega (arith, sym (ap weight_in entry))) AmongLoading 0
@@ -94,42 +94,42 @@ returns g c =
     let at : item_at i.slab t ≡ Some x =
     sym (ap (λ (s : LinkedSlab _). item_at s t) c.unlink-next.ensures.unlinked)
     ∙ c.get_mut_unchecked.ensures.item in
-    let has = awaited_by_token i.slab i.table i.rings.hot i.rings.cold i.rings.ghosts t
+    let has = awaited_by_token i.slab i.index i.rings.hot i.rings.cold i.rings.ghosts t
     (rw (← c.self.view_is) at c.requires) x at in
     let item = filled c.args.queue c.args.mark c.args.weight c.args.value has.0.key in
     let y = c.fill.new.self in
     let entry : y.entry ≡ item_variant item = ap (λ (s : Slot _ _ _ _). s.entry) c.fill.ensures
     ∙ ap (entry_filled (filled c.args.queue c.args.mark c.args.weight c.args.value)) has.1 in
     let hash : y.hash ≡ x.hash = ap (λ (s : Slot _ _ _ _). s.hash) c.fill.ensures in
-    let last = last-moved i.slab c.unlink-next.new.self i.table c.args.token c.unlink-next.result false
+    let last = last-moved i.slab c.unlink-next.new.self i.index c.args.token c.unlink-next.result false
     i.rings c.leave.new.self i.loading c.self.invariant c.validate.ensures
     c.unlink-next.ensures.next x y at hash c.unlink-next.ensures.unlinked
     c.unlink-next.ensures.alone (omega (arith, sym (ap weight_in entry))) AmongLoading 0
     (sym (ap stand_in has.1)) (sym (ap weight_in has.1)) c.leave.ensures
     c.enter.new.slab c.enter.new.self c.stand-to.result c.args.weight c.stand-to.ensures
     (sym (ap weight_in entry)) c.enter.ensures in
-    let room = room-moved i.slab c.unlink-next.new.self i.table c.args.token c.unlink-next.result false
+    let room = room-moved i.slab c.unlink-next.new.self i.index c.args.token c.unlink-next.result false
     i.rings c.leave.new.self i.loading c.self.invariant c.validate.ensures
     c.unlink-next.ensures.next x y at hash c.unlink-next.ensures.unlinked
     c.unlink-next.ensures.alone (omega (arith, sym (ap weight_in entry))) AmongLoading 0
     (sym (ap stand_in has.1)) (sym (ap weight_in has.1)) c.leave.ensures
     c.enter.new.slab c.enter.new.self c.stand-to.result c.args.weight c.stand-to.ensures
     (sym (ap weight_in entry)) c.enter.ensures in
-    let next = next-moved i.slab c.unlink-next.new.self i.table c.args.token c.unlink-next.result false
+    let next = next-moved i.slab c.unlink-next.new.self i.index c.args.token c.unlink-next.result false
     i.rings c.leave.new.self i.loading c.self.invariant c.validate.ensures
     c.unlink-next.ensures.next x y at hash c.unlink-next.ensures.unlinked
     c.unlink-next.ensures.alone (omega (arith, sym (ap weight_in entry))) AmongLoading 0
     (sym (ap stand_in has.1)) (sym (ap weight_in has.1)) c.leave.ensures
     c.enter.new.slab c.enter.new.self c.stand-to.result c.args.weight c.stand-to.ensures
     (sym (ap weight_in entry)) c.enter.ensures in
-    let old = lists_of i.slab i.table i.rings.hot i.rings.cold i.rings.ghosts in
-    let new = lists_of c.enter.new.slab i.table c.enter.new.self.hot c.enter.new.self.cold
+    let old = lists_of i.slab i.index i.rings.hot i.rings.cold i.rings.ghosts in
+    let new = lists_of c.enter.new.slab i.index c.enter.new.self.hot c.enter.new.self.cold
     c.enter.new.self.ghosts in
     let puts = subst (λ (e : Entry _ _ _ _). PutsLast (without_entry false t old) t x.hash e new)
     entry (subst (λ (h : ℕ). PutsLast (without_entry false t old) t h y.entry new) hash last) in
     let here : item_at i.slab t ≡ Some (record { hash = x.hash; entry = loading_variant has.0 }) =
     at ∙ ap (λ (e : Entry _ _ _ _). Some (record x { entry = e })) has.1 in
-    let stands = StandsIn-loading i.slab i.table i.rings.hot i.rings.cold i.rings.ghosts
+    let stands = StandsIn-loading i.slab i.index i.rings.hot i.rings.cold i.rings.ghosts
     c.self.invariant.standing t _ _ here refl in
     rw (← c.self.view_is) (record {
       hash = x.hash;

@@ -9,29 +9,29 @@ pub returns-in_default : goal.returns-in_default
 returns-in_default g c =
     let i = c.self.inside in
     let stands_for = g.Q.Equivalent.equivalent c.args.query.now in
-    rw (← c.self.view_is) (HasNoItem-from i.slab i.table i.rings.hot i.rings.cold i.rings.ghosts
+    rw (← c.self.view_is) (HasNoItem-from i.slab i.index i.rings.hot i.rings.cold i.rings.ghosts
     c.self.invariant.standing c.self.invariant.keyed _ c.args.hash
-    (PassesNoItem-none i.slab i.table c.args.hash _ _ c.in_default.ensures.steps.0
-    (PassesNoItem-start i.slab i.table c.args.hash stands_for _ c.candidates-tokens.ensures)))
+    (PassesNoItem-none i.slab i.index c.args.hash _ _ c.in_default.ensures.steps.0
+    (PassesNoItem-start i.slab i.index c.args.hash stands_for _ c.candidates-tokens.ensures)))
 
 pub is_item_under-requires : goal.is_item_under-requires
 is_item_under-requires g c =
     let i = c.self.inside in
     let stands_for = g.Q.Equivalent.equivalent c.args.query.now in
-    let has = PassesNoItem-has i.slab i.table c.args.hash stands_for _ _ c.in-Some.first
+    let has = PassesNoItem-has i.slab i.index c.args.hash stands_for _ _ c.in-Some.first
     c.in-Some.ensures.steps
-    (PassesNoItem-start i.slab i.table c.args.hash stands_for _ c.candidates-tokens.ensures) in
-    occupied_by_pair i.slab i.table c.self.invariant.keyed has.0 (number c.in-Some.first) has.1
+    (PassesNoItem-start i.slab i.index c.args.hash stands_for _ c.candidates-tokens.ensures) in
+    occupied_by_pair i.slab i.index c.self.invariant.keyed has.0 (number c.in-Some.first) has.1
 
 -- the first candidate is the item
 pub returns-then-is_item_under : goal.returns-then-is_item_under
 returns-then-is_item_under g c =
     let i = c.self.inside in
     let stands_for = g.Q.Equivalent.equivalent c.args.query.now in
-    let has = PassesNoItem-has i.slab i.table c.args.hash stands_for _ _ c.in-Some.first
+    let has = PassesNoItem-has i.slab i.index c.args.hash stands_for _ _ c.in-Some.first
     c.in-Some.ensures.steps
-    (PassesNoItem-start i.slab i.table c.args.hash stands_for _ c.candidates-tokens.ensures) in
-    rw (← c.self.view_is) (FindsItemOfAnyHash-from i.slab i.table i.rings.hot i.rings.cold
+    (PassesNoItem-start i.slab i.index c.args.hash stands_for _ c.candidates-tokens.ensures) in
+    rw (← c.self.view_is) (FindsItemOfAnyHash-from i.slab i.index i.rings.hot i.rings.cold
     i.rings.ghosts c.self.invariant.standing c.self.invariant.keyed stands_for
     (number c.in-Some.first) has (sym c.is_item_under.ensures ∙ c.if-is_item_under.true))
 
@@ -40,18 +40,18 @@ pub loop-token-init : goal.loop-token-init
 loop-token-init g c =
     let i = c.self.inside in
     let stands_for = g.Q.Equivalent.equivalent c.args.query.now in
-    subst (PassesNoItem i.slab i.table c.args.hash stands_for)
+    subst (PassesNoItem i.slab i.index c.args.hash stands_for)
     (sym c.into_iter-token-iterator.ensures.into_iter_gives)
-    (PassesNoItem-past i.slab i.table c.args.hash stands_for _ _ c.in-Some.first
+    (PassesNoItem-past i.slab i.index c.args.hash stands_for _ _ c.in-Some.first
     c.in-Some.ensures.steps (λ _. sym c.is_item_under.ensures ∙ c.if-is_item_under.false)
-    (PassesNoItem-start i.slab i.table c.args.hash stands_for _ c.candidates-tokens.ensures))
+    (PassesNoItem-start i.slab i.index c.args.hash stands_for _ c.candidates-tokens.ensures))
 
 pub is_item_under-requires-in-loop-token : goal.is_item_under-requires-in-loop-token
 is_item_under-requires-in-loop-token g c =
     let i = c.self.inside in
-    let has = PassesNoItem-has i.slab i.table c.args.hash _ _ _ c.in-Some-token.token
+    let has = PassesNoItem-has i.slab i.index c.args.hash _ _ _ c.in-Some-token.token
     c.in-Some-token.ensures.steps c.loop-token.invariant in
-    occupied_by_pair i.slab i.table c.self.invariant.keyed has.0 (number c.in-Some-token.token)
+    occupied_by_pair i.slab i.index c.self.invariant.keyed has.0 (number c.in-Some-token.token)
     has.1
 
 -- a later candidate is the item
@@ -59,9 +59,9 @@ pub returns-then-is_item_under-2 : goal.returns-then-is_item_under-2
 returns-then-is_item_under-2 g c =
     let i = c.self.inside in
     let stands_for = g.Q.Equivalent.equivalent c.args.query.now in
-    let has = PassesNoItem-has i.slab i.table c.args.hash _ _ _ c.in-Some-token.token
+    let has = PassesNoItem-has i.slab i.index c.args.hash _ _ _ c.in-Some-token.token
     c.in-Some-token.ensures.steps c.loop-token.invariant in
-    rw (← c.self.view_is) (FindsItemOfAnyHash-from i.slab i.table i.rings.hot i.rings.cold
+    rw (← c.self.view_is) (FindsItemOfAnyHash-from i.slab i.index i.rings.hot i.rings.cold
     i.rings.ghosts c.self.invariant.standing c.self.invariant.keyed stands_for
     (number c.in-Some-token.token) has
     (sym c.is_item_under-in-loop-token.ensures ∙ c.if-is_item_under-2.true))
@@ -70,7 +70,7 @@ returns-then-is_item_under-2 g c =
 pub loop-token-preserved : goal.loop-token-preserved
 loop-token-preserved g c =
     let i = c.self.inside in
-    PassesNoItem-past i.slab i.table c.args.hash _ _ _ c.in-Some-token.token
+    PassesNoItem-past i.slab i.index c.args.hash _ _ _ c.in-Some-token.token
     c.in-Some-token.ensures.steps
     (λ _. sym c.is_item_under-in-loop-token.ensures ∙ c.if-is_item_under-2.false)
     c.loop-token.invariant
@@ -78,7 +78,7 @@ loop-token-preserved g c =
 pub returns : goal.returns
 returns g c =
     let i = c.self.inside in
-    rw (← c.self.view_is) (HasNoItem-from i.slab i.table i.rings.hot i.rings.cold i.rings.ghosts
+    rw (← c.self.view_is) (HasNoItem-from i.slab i.index i.rings.hot i.rings.cold i.rings.ghosts
     c.self.invariant.standing c.self.invariant.keyed _ c.args.hash
-    (PassesNoItem-none i.slab i.table c.args.hash _ _ c.in-None.ensures.steps.0
+    (PassesNoItem-none i.slab i.index c.args.hash _ _ c.in-None.ensures.steps.0
     c.loop-token.invariant))

@@ -1,6 +1,6 @@
 use Rattle.std.proofs.Common.{◌∙◌, sym, ap, subst, List, ℕ, Some, true≢false}
 use Rattle.std.specs.Int.NonZero.{non_zero_u32_get as number}
-use Rattle.quick_cache_table.specs.Table.{IsTokensOf}
+use Rattle.quick_cache_index.specs.Index.{IsTokensOf}
 use Rattle.quick_cache_lists.specs.Slots.{is_under_at, is_item_at, is_ghost_at}
 use Rattle.quick_cache_lists.proofs.FindLemmas.{occupied_by_pair, FindsItem-from, FindsLoading-from, StandsIn-found, HasNoKey-from, HasNothing-from, IsWalked-start, IsWalked-past, IsWalked-has, IsWalked-none, IsWalked-ghostless, IsWalked-noted}
 use Rattle.quick_cache_lists.proofs.lists.Lists.find_on_walk.Goals as goal
@@ -8,15 +8,15 @@ use Rattle.quick_cache_lists.proofs.lists.Lists.find_on_walk.Goals as goal
 pub loop-token-init : goal.loop-token-init
 loop-token-init g c =
     IsWalked-start _ _ _ _ _ (subst
-    (λ (tokens : List ℕ). IsTokensOf c.self.inside.table c.args.hash tokens)
+    (λ (tokens : List ℕ). IsTokensOf c.self.inside.index c.args.hash tokens)
     (sym c.into_iter-token-iterator.ensures.into_iter_gives) c.iter_hash-token-items.ensures)
 
 pub returns-then-is_item : goal.returns-then-is_item
 returns-then-is_item g c =
     let i = c.self.inside in
-    let has = IsWalked-has i.slab i.table c.args.hash _ _ _ c.in-Some.token _
+    let has = IsWalked-has i.slab i.index c.args.hash _ _ _ c.in-Some.token _
     c.in-Some.ensures.steps c.loop-token.invariant in
-    rw (← c.self.view_is) (FindsItem-from i.slab i.table i.rings.hot i.rings.cold i.rings.ghosts
+    rw (← c.self.view_is) (FindsItem-from i.slab i.index i.rings.hot i.rings.cold i.rings.ghosts
     c.self.invariant.standing c.self.invariant.keyed _ c.args.hash (number c.in-Some.token) has
     (ap (is_under_at (g.Q.Equivalent.equivalent c.args.query.now)) c.get_unchecked.ensures.item
     ∙ sym c.is_under.ensures ∙ c.if-is_under.true)
@@ -25,9 +25,9 @@ returns-then-is_item g c =
 pub returns-else-is_item : goal.returns-else-is_item
 returns-else-is_item g c =
     let i = c.self.inside in
-    let has = IsWalked-has i.slab i.table c.args.hash _ _ _ c.in-Some.token _
+    let has = IsWalked-has i.slab i.index c.args.hash _ _ _ c.in-Some.token _
     c.in-Some.ensures.steps c.loop-token.invariant in
-    rw (← c.self.view_is) (FindsLoading-from i.slab i.table i.rings.hot i.rings.cold i.rings.ghosts
+    rw (← c.self.view_is) (FindsLoading-from i.slab i.index i.rings.hot i.rings.cold i.rings.ghosts
     c.self.invariant.standing c.self.invariant.keyed _ c.args.hash (number c.in-Some.token) has
     (ap (is_under_at (g.Q.Equivalent.equivalent c.args.query.now)) c.get_unchecked.ensures.item
     ∙ sym c.is_under.ensures ∙ c.if-is_under.true)
@@ -36,9 +36,9 @@ returns-else-is_item g c =
 pub loop-token-preserved-then-is_ghost : goal.loop-token-preserved-then-is_ghost
 loop-token-preserved-then-is_ghost g c =
     let i = c.self.inside in
-    let has = IsWalked-has i.slab i.table c.args.hash _ _ _ c.in-Some.token _
+    let has = IsWalked-has i.slab i.index c.args.hash _ _ _ c.in-Some.token _
     c.in-Some.ensures.steps c.loop-token.invariant in
-    IsWalked-past i.slab i.table c.args.hash _ _ _ c.in-Some.token _
+    IsWalked-past i.slab i.index c.args.hash _ _ _ c.in-Some.token _
     (Some c.in-Some.token) c.in-Some.ensures.steps
     (ap (is_under_at (g.Q.Equivalent.equivalent c.args.query.now)) c.get_unchecked.ensures.item
     ∙ sym c.is_under.ensures ∙ c.if-is_under.false) (λ _ e. absurd (cc)) (λ _ e. absurd (cc)) (
@@ -50,7 +50,7 @@ loop-token-preserved-then-is_ghost g c =
 pub loop-token-preserved : goal.loop-token-preserved
 loop-token-preserved g c =
     let i = c.self.inside in
-    IsWalked-past i.slab i.table c.args.hash _ _ _ c.in-Some.token _ c.loop-token.shade
+    IsWalked-past i.slab i.index c.args.hash _ _ _ c.in-Some.token _ c.loop-token.shade
     c.in-Some.ensures.steps (ap (is_under_at (g.Q.Equivalent.equivalent c.args.query.now))
     c.get_unchecked.ensures.item ∙ sym c.is_under.ensures ∙ c.if-is_under.false)
     (λ is _. true≢false (sym is ∙ ap is_ghost_at c.get_unchecked.ensures.item
@@ -60,14 +60,14 @@ loop-token-preserved g c =
 pub returns-in-Some-shade : goal.returns-in-Some-shade
 returns-in-Some-shade g c =
     let i = c.self.inside in
-    let noted = IsWalked-noted i.slab i.table c.args.hash _ _ _ c.in-Some-shade.token
+    let noted = IsWalked-noted i.slab i.index c.args.hash _ _ _ c.in-Some-shade.token
     c.in-Some-shade.is c.loop-token.invariant in
     rw (← c.self.view_is) (
-      HasNoKey-from i.slab i.table i.rings.hot i.rings.cold i.rings.ghosts
+      HasNoKey-from i.slab i.index i.rings.hot i.rings.cold i.rings.ghosts
           c.self.invariant.standing c.self.invariant.keyed _ c.args.hash
-          (IsWalked-none i.slab i.table c.args.hash _ _ _ c.in-None.ensures.steps.0
+          (IsWalked-none i.slab i.index c.args.hash _ _ _ c.in-None.ensures.steps.0
           c.loop-token.invariant),
-      StandsIn-found i.slab i.table i.rings.hot i.rings.cold
+      StandsIn-found i.slab i.index i.rings.hot i.rings.cold
           i.rings.ghosts c.self.invariant.standing c.self.invariant.keyed
           (g.Q.Equivalent.equivalent c.args.query.now) c.args.hash
           (number c.in-Some-shade.token) noted.0 noted.1,
@@ -76,15 +76,15 @@ returns-in-Some-shade g c =
 pub returns-in-None-shade : goal.returns-in-None-shade
 returns-in-None-shade g c =
     let i = c.self.inside in
-    rw (← c.self.view_is) (HasNothing-from i.slab i.table i.rings.hot i.rings.cold i.rings.ghosts
+    rw (← c.self.view_is) (HasNothing-from i.slab i.index i.rings.hot i.rings.cold i.rings.ghosts
     c.self.invariant.standing c.self.invariant.keyed _ c.args.hash
-    (IsWalked-none i.slab i.table c.args.hash _ _ _ c.in-None.ensures.steps.0
-    c.loop-token.invariant) (IsWalked-ghostless i.slab i.table c.args.hash _ _ _
+    (IsWalked-none i.slab i.index c.args.hash _ _ _ c.in-None.ensures.steps.0
+    c.loop-token.invariant) (IsWalked-ghostless i.slab i.index c.args.hash _ _ _
     c.in-None.ensures.steps.0 c.in-None-shade.is c.loop-token.invariant))
 
 pub get_unchecked-requires : goal.get_unchecked-requires
 get_unchecked-requires g c =
     let i = c.self.inside in
-    let has = IsWalked-has i.slab i.table c.args.hash _ _ _ c.in-Some.token _
+    let has = IsWalked-has i.slab i.index c.args.hash _ _ _ c.in-Some.token _
     c.in-Some.ensures.steps c.loop-token.invariant in
-    occupied_by_pair i.slab i.table c.self.invariant.keyed c.args.hash (number c.in-Some.token) has
+    occupied_by_pair i.slab i.index c.self.invariant.keyed c.args.hash (number c.in-Some.token) has

@@ -8,13 +8,13 @@ pub returns-in_err-slot : goal.returns-in_err-slot
 returns-in_err-slot g c =
     let i = c.self.inside in
     rw c.from_residual.ensures (λ has.
-    let at = item_by_token i.slab i.table i.rings.hot i.rings.cold i.rings.ghosts
+    let at = item_by_token i.slab i.index i.rings.hot i.rings.cold i.rings.ghosts
     (number c.args.token) (rw (← c.self.view_is) at has) in
     absurd (cc (at.2, c.in_err-slot.ensures.absent)))
 
 pub returns : goal.returns
 returns g c =
     let i = c.self.inside in
-    rw (← c.self.view_is) (IsItemOf-shown i.slab i.table i.rings.hot i.rings.cold i.rings.ghosts
+    rw (← c.self.view_is) (IsItemOf-shown i.slab i.index i.rings.hot i.rings.cold i.rings.ghosts
     c.self.invariant.standing (number c.args.token) c.in_ok-slot.slot.now
     c.in_ok-slot.ensures.item c.as_item.result c.as_item.ensures)

@@ -7,10 +7,10 @@ pub invariant_of-result : goal.invariant_of-result
 invariant_of-result g c =
     let slots = ap (λ (s : LinkedSlab _). s.slots) c.in_ok-slab.ensures.empty in
     let free = ap (λ (s : LinkedSlab _). s.free) c.in_ok-slab.ensures.empty in
-    let pairs = c.in_ok-table.ensures.empty in
+    let pairs = c.in_ok-index.ensures.empty in
     rw c.empty.ensures (record {
       standing = IsStanding-empty c.in_ok-slab.slab slots;
-      keyed = IsKeyed-empty c.in_ok-slab.slab c.in_ok-table.table slots free pairs;
+      keyed = IsKeyed-empty c.in_ok-slab.slab c.in_ok-index.index slots free pairs;
       loading_counted = rw slots refl;
       all_counted = rw (slots, pairs) refl;
     })

@@ -6,13 +6,13 @@ use Rattle.quick_cache_lists.proofs.lists.Lists.next_in_ring.Goals as goal
 pub get_unchecked-requires : goal.get_unchecked-requires
 get_unchecked-requires g c =
     let i = c.self.inside in
-    occupied_by_ring i.slab i.table i.rings.hot i.rings.cold i.rings.ghosts
+    occupied_by_ring i.slab i.index i.rings.hot i.rings.cold i.rings.ghosts
     (number c.args.token) c.args.queue (rw (← c.self.view_is) at c.requires)
 
 pub returns : goal.returns
 returns g c =
     let i = c.self.inside in
     rw (← c.self.view_is) (c.get_unchecked.ensures.next
-    ∙ next_by_queue i.slab i.table i.rings.hot i.rings.cold i.rings.ghosts c.validate.ensures
+    ∙ next_by_queue i.slab i.index i.rings.hot i.rings.cold i.rings.ghosts c.validate.ensures
     c.self.invariant.standing (number c.args.token) c.args.queue
     (rw (← c.self.view_is) at c.requires))

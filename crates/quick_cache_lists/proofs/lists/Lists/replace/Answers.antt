@@ -12,7 +12,7 @@ use Rattle.quick_cache_lists.proofs.lists.Lists.replace.Goals as goal
 pub unlink-next-requires : goal.unlink-next-requires
 unlink-next-requires g c =
     let i = c.self.inside in
-    occupied_by_entry i.slab i.table i.rings.hot i.rings.cold i.rings.ghosts (number c.args.token)
+    occupied_by_entry i.slab i.index i.rings.hot i.rings.cold i.rings.ghosts (number c.args.token)
     (rw (← c.self.view_is) at c.requires)
 
 pub leave-requires : goal.leave-requires
@@ -37,7 +37,7 @@ enter-requires g c =
     let at : item_at i.slab t ≡ Some c.get_mut_unchecked.result.0.now =
     sym (ap (λ (s : LinkedSlab _). item_at s t) c.unlink-next.ensures.unlinked)
     ∙ c.get_mut_unchecked.ensures.item in
-    can_enter-moved i.slab c.unlink-next.new.self i.table c.args.token c.unlink-next.result
+    can_enter-moved i.slab c.unlink-next.new.self i.index c.args.token c.unlink-next.result
     c.args.restarts i.rings c.leave.new.self i.loading c.self.invariant c.validate.ensures
     c.unlink-next.ensures.next c.get_mut_unchecked.result.0.now c.replace-was.new.self at
     (ap (λ (s : Slot _ _ _ _). s.hash) c.replace-was.ensures.new) c.unlink-next.ensures.unlinked
@@ -60,7 +60,7 @@ overflow_sub-self g c =
     ∙ c.get_mut_unchecked.ensures.item in
     omega (
       arith,
-      loading-kept i.slab c.unlink-next.new.self i.table c.args.token
+      loading-kept i.slab c.unlink-next.new.self i.index c.args.token
           c.unlink-next.result c.args.restarts i.rings c.leave.new.self i.loading c.self.invariant
           c.validate.ensures c.unlink-next.ensures.next c.get_mut_unchecked.result.0.now
           c.replace-was.new.self at (ap (λ (s : Slot _ _ _ _). s.hash) c.replace-was.ensures.new)
@@ -83,7 +83,7 @@ invariant_of-self g c =
     let at : item_at i.slab t ≡ Some c.get_mut_unchecked.result.0.now =
     sym (ap (λ (s : LinkedSlab _). item_at s t) c.unlink-next.ensures.unlinked)
     ∙ c.get_mut_unchecked.ensures.item in
-    IsSound-moved i.slab c.unlink-next.new.self i.table c.args.token c.unlink-next.result
+    IsSound-moved i.slab c.unlink-next.new.self i.index c.args.token c.unlink-next.result
     c.args.restarts i.rings c.leave.new.self i.loading c.self.invariant c.validate.ensures
     c.unlink-next.ensures.next c.get_mut_unchecked.result.0.now c.replace-was.new.self at
     (ap (λ (s : Slot _ _ _ _). s.hash) c.replace-was.ensures.new) c.unlink-next.ensures.unlinked
@@ -108,7 +108,7 @@ returns g c =
     let at : item_at i.slab t ≡ Some c.get_mut_unchecked.result.0.now =
     sym (ap (λ (s : LinkedSlab _). item_at s t) c.unlink-next.ensures.unlinked)
     ∙ c.get_mut_unchecked.ensures.item in
-    let last = last-moved i.slab c.unlink-next.new.self i.table c.args.token c.unlink-next.result
+    let last = last-moved i.slab c.unlink-next.new.self i.index c.args.token c.unlink-next.result
     c.args.restarts i.rings c.leave.new.self i.loading c.self.invariant c.validate.ensures
     c.unlink-next.ensures.next c.get_mut_unchecked.result.0.now c.replace-was.new.self at
     (ap (λ (s : Slot _ _ _ _). s.hash) c.replace-was.ensures.new) c.unlink-next.ensures.unlinked
@@ -125,7 +125,7 @@ returns g c =
     c.replace-was.ensures.new)) (c.weight-weight.ensures
     ∙ sym (ap (λ (s : Slot _ _ _ _). weight_in s.entry) c.replace-was.ensures.new))
     c.enter.ensures in
-    let room = room-moved i.slab c.unlink-next.new.self i.table c.args.token c.unlink-next.result
+    let room = room-moved i.slab c.unlink-next.new.self i.index c.args.token c.unlink-next.result
     c.args.restarts i.rings c.leave.new.self i.loading c.self.invariant c.validate.ensures
     c.unlink-next.ensures.next c.get_mut_unchecked.result.0.now c.replace-was.new.self at
     (ap (λ (s : Slot _ _ _ _). s.hash) c.replace-was.ensures.new) c.unlink-next.ensures.unlinked
@@ -142,7 +142,7 @@ returns g c =
     c.replace-was.ensures.new)) (c.weight-weight.ensures
     ∙ sym (ap (λ (s : Slot _ _ _ _). weight_in s.entry) c.replace-was.ensures.new))
     c.enter.ensures in
-    let next = next-moved i.slab c.unlink-next.new.self i.table c.args.token c.unlink-next.result
+    let next = next-moved i.slab c.unlink-next.new.self i.index c.args.token c.unlink-next.result
     c.args.restarts i.rings c.leave.new.self i.loading c.self.invariant c.validate.ensures
     c.unlink-next.ensures.next c.get_mut_unchecked.result.0.now c.replace-was.new.self at
     (ap (λ (s : Slot _ _ _ _). s.hash) c.replace-was.ensures.new) c.unlink-next.ensures.unlinked
@@ -159,7 +159,7 @@ returns g c =
     c.replace-was.ensures.new)) (c.weight-weight.ensures
     ∙ sym (ap (λ (s : Slot _ _ _ _). weight_in s.entry) c.replace-was.ensures.new))
     c.enter.ensures in
-    let taken = IsEntry-from i.slab i.table i.rings.hot i.rings.cold i.rings.ghosts
+    let taken = IsEntry-from i.slab i.index i.rings.hot i.rings.cold i.rings.ghosts
     c.self.invariant.standing t c.get_mut_unchecked.result.0.now at in
     rw (← c.self.view_is, c.replace-was.ensures.old)
     (record {

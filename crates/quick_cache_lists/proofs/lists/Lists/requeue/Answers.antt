@@ -17,7 +17,7 @@ use Rattle.quick_cache_lists.proofs.lists.Lists.requeue.Goals as goal
 pub unlink-next-requires : goal.unlink-next-requires
 unlink-next-requires g c =
     let i = c.self.inside in
-    let has = item_by_token i.slab i.table i.rings.hot i.rings.cold i.rings.ghosts
+    let has = item_by_token i.slab i.index i.rings.hot i.rings.cold i.rings.ghosts
     (number c.args.token) (rw (← c.self.view_is) at c.requires) in
     rw has.2 refl
 
@@ -28,7 +28,7 @@ requeue-requires g c =
     let at : item_at i.slab t ≡ Some c.get_mut_unchecked.result.0.now =
     sym (ap (λ (s : LinkedSlab _). item_at s t) c.unlink-next.ensures.unlinked)
     ∙ c.get_mut_unchecked.ensures.item in
-    let has = item_by_token i.slab i.table i.rings.hot i.rings.cold i.rings.ghosts
+    let has = item_by_token i.slab i.index i.rings.hot i.rings.cold i.rings.ghosts
     (number c.args.token) (rw (← c.self.view_is) at c.requires) in
     (changed_slot (item_at c.self.inside.slab (number c.args.token))
     c.get_mut_unchecked.result.0.now has.0 has.1
@@ -55,13 +55,13 @@ enter-requires g c =
     let at : item_at i.slab t ≡ Some c.get_mut_unchecked.result.0.now =
     sym (ap (λ (s : LinkedSlab _). item_at s t) c.unlink-next.ensures.unlinked)
     ∙ c.get_mut_unchecked.ensures.item in
-    let has = item_by_token i.slab i.table i.rings.hot i.rings.cold i.rings.ghosts
+    let has = item_by_token i.slab i.index i.rings.hot i.rings.cold i.rings.ghosts
     (number c.args.token) (rw (← c.self.view_is) at c.requires) in
     let slot = changed_slot (item_at c.self.inside.slab (number c.args.token))
     c.get_mut_unchecked.result.0.now has.0 has.1
     (requeued c.args.queue c.args.mark c.args.weight) has.2 at in
     let now = c.requeue.ensures ∙ slot.1 in
-    can_enter-moved i.slab c.unlink-next.new.self i.table c.args.token c.unlink-next.result
+    can_enter-moved i.slab c.unlink-next.new.self i.index c.args.token c.unlink-next.result
     c.args.restarts i.rings c.leave.new.self i.loading c.self.invariant c.validate.ensures
     c.unlink-next.ensures.next c.get_mut_unchecked.result.0.now c.requeue.new.self at
     (ap (λ (s : Slot _ _ _ _). s.hash) c.requeue.ensures) c.unlink-next.ensures.unlinked
@@ -77,7 +77,7 @@ invariant_of-self g c =
     let at : item_at i.slab t ≡ Some c.get_mut_unchecked.result.0.now =
     sym (ap (λ (s : LinkedSlab _). item_at s t) c.unlink-next.ensures.unlinked)
     ∙ c.get_mut_unchecked.ensures.item in
-    let has = item_by_token i.slab i.table i.rings.hot i.rings.cold i.rings.ghosts
+    let has = item_by_token i.slab i.index i.rings.hot i.rings.cold i.rings.ghosts
     (number c.args.token) (rw (← c.self.view_is) at c.requires) in
     let slot = changed_slot (item_at c.self.inside.slab (number c.args.token))
     c.get_mut_unchecked.result.0.now has.0 has.1
@@ -89,7 +89,7 @@ invariant_of-self g c =
     let still = ap loading_in c.stand-to.ensures
     ∙ loading_in-slot c.requeue.new.self has.0
     (requeued c.args.queue c.args.mark c.args.weight has.1) now in
-    IsSound-requeued i.slab c.unlink-next.new.self i.table c.args.token c.unlink-next.result
+    IsSound-requeued i.slab c.unlink-next.new.self i.index c.args.token c.unlink-next.result
     c.args.restarts i.rings c.leave.new.self i.loading c.self.invariant c.validate.ensures
     c.unlink-next.ensures.next c.get_mut_unchecked.result.0.now c.requeue.new.self at
     (ap (λ (s : Slot _ _ _ _). s.hash) c.requeue.ensures) c.unlink-next.ensures.unlinked
@@ -107,13 +107,13 @@ returns g c =
     let at : item_at i.slab t ≡ Some c.get_mut_unchecked.result.0.now =
     sym (ap (λ (s : LinkedSlab _). item_at s t) c.unlink-next.ensures.unlinked)
     ∙ c.get_mut_unchecked.ensures.item in
-    let has = item_by_token i.slab i.table i.rings.hot i.rings.cold i.rings.ghosts
+    let has = item_by_token i.slab i.index i.rings.hot i.rings.cold i.rings.ghosts
     (number c.args.token) (rw (← c.self.view_is) at c.requires) in
     let slot = changed_slot (item_at c.self.inside.slab (number c.args.token))
     c.get_mut_unchecked.result.0.now has.0 has.1
     (requeued c.args.queue c.args.mark c.args.weight) has.2 at in
     let now = c.requeue.ensures ∙ slot.1 in
-    let last = last-moved i.slab c.unlink-next.new.self i.table c.args.token c.unlink-next.result
+    let last = last-moved i.slab c.unlink-next.new.self i.index c.args.token c.unlink-next.result
     c.args.restarts i.rings c.leave.new.self i.loading c.self.invariant c.validate.ensures
     c.unlink-next.ensures.next c.get_mut_unchecked.result.0.now c.requeue.new.self at
     (ap (λ (s : Slot _ _ _ _). s.hash) c.requeue.ensures) c.unlink-next.ensures.unlinked
@@ -123,7 +123,7 @@ returns g c =
     (c.weight-weighed.ensures) c.leave.ensures c.enter.new.slab c.enter.new.self
     c.stand-to.result c.args.weight (c.stand-to.ensures)
     (sym (ap (λ (s : Slot _ _ _ _). weight_in s.entry) now)) c.enter.ensures in
-    let room = room-moved i.slab c.unlink-next.new.self i.table c.args.token c.unlink-next.result
+    let room = room-moved i.slab c.unlink-next.new.self i.index c.args.token c.unlink-next.result
     c.args.restarts i.rings c.leave.new.self i.loading c.self.invariant c.validate.ensures
     c.unlink-next.ensures.next c.get_mut_unchecked.result.0.now c.requeue.new.self at
     (ap (λ (s : Slot _ _ _ _). s.hash) c.requeue.ensures) c.unlink-next.ensures.unlinked
@@ -133,7 +133,7 @@ returns g c =
     (c.weight-weighed.ensures) c.leave.ensures c.enter.new.slab c.enter.new.self
     c.stand-to.result c.args.weight (c.stand-to.ensures)
     (sym (ap (λ (s : Slot _ _ _ _). weight_in s.entry) now)) c.enter.ensures in
-    let next = next-moved i.slab c.unlink-next.new.self i.table c.args.token c.unlink-next.result
+    let next = next-moved i.slab c.unlink-next.new.self i.index c.args.token c.unlink-next.result
     c.args.restarts i.rings c.leave.new.self i.loading c.self.invariant c.validate.ensures
     c.unlink-next.ensures.next c.get_mut_unchecked.result.0.now c.requeue.new.self at
     (ap (λ (s : Slot _ _ _ _). s.hash) c.requeue.ensures) c.unlink-next.ensures.unlinked
@@ -145,17 +145,17 @@ returns g c =
     (sym (ap (λ (s : Slot _ _ _ _). weight_in s.entry) now)) c.enter.ensures in
     let puts = subst (λ (s : Slot _ _ _ _). PutsLast
     (without_entry c.args.restarts t
-    (lists_of i.slab i.table i.rings.hot i.rings.cold i.rings.ghosts)) t s.hash s.entry
-    (lists_of c.enter.new.slab i.table c.enter.new.self.hot c.enter.new.self.cold
+    (lists_of i.slab i.index i.rings.hot i.rings.cold i.rings.ghosts)) t s.hash s.entry
+    (lists_of c.enter.new.slab i.index c.enter.new.self.hot c.enter.new.self.cold
     c.enter.new.self.ghosts)) now last in
     rw (← c.self.view_is) (record {
       hash = has.0;
       item = has.1;
-      taken = HasItem-from i.slab i.table i.rings.hot i.rings.cold i.rings.ghosts
+      taken = HasItem-from i.slab i.index i.rings.hot i.rings.cold i.rings.ghosts
           c.self.invariant.standing t has.0 has.1 has.2;
       last = PutsItem-from (without_entry c.args.restarts t
-          (lists_of i.slab i.table i.rings.hot i.rings.cold i.rings.ghosts))
-          (lists_of c.enter.new.slab i.table c.enter.new.self.hot c.enter.new.self.cold
+          (lists_of i.slab i.index i.rings.hot i.rings.cold i.rings.ghosts))
+          (lists_of c.enter.new.slab i.index c.enter.new.self.hot c.enter.new.self.cold
           c.enter.new.self.ghosts) t has.0
           (requeued c.args.queue c.args.mark c.args.weight has.1) puts;
       room = room;

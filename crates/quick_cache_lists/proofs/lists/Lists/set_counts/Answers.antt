@@ -8,14 +8,14 @@ use Rattle.quick_cache_lists.proofs.lists.Lists.set_counts.Goals as goal
 pub get_mut_unchecked-requires : goal.get_mut_unchecked-requires
 get_mut_unchecked-requires g c =
     let i = c.self.inside in
-    let has = item_by_token i.slab i.table i.rings.hot i.rings.cold i.rings.ghosts
+    let has = item_by_token i.slab i.index i.rings.hot i.rings.cold i.rings.ghosts
     (number c.args.token) (rw (← c.self.view_is) at c.requires) in
     rw has.2 refl
 
 pub set_counts-requires : goal.set_counts-requires
 set_counts-requires g c =
     let i = c.self.inside in
-    let has = item_by_token i.slab i.table i.rings.hot i.rings.cold i.rings.ghosts
+    let has = item_by_token i.slab i.index i.rings.hot i.rings.cold i.rings.ghosts
     (number c.args.token) (rw (← c.self.view_is) at c.requires) in
     (changed_slot _ c.get_mut_unchecked.result.0.now has.0 has.1
     (with_counts c.args.mark c.args.reads) has.2 c.get_mut_unchecked.ensures.item).0
@@ -23,21 +23,21 @@ set_counts-requires g c =
 pub invariant_of-self : goal.invariant_of-self
 invariant_of-self g c =
     let i = c.self.inside in
-    let has = item_by_token i.slab i.table i.rings.hot i.rings.cold i.rings.ghosts
+    let has = item_by_token i.slab i.index i.rings.hot i.rings.cold i.rings.ghosts
     (number c.args.token) (rw (← c.self.view_is) at c.requires) in
     let is = c.set_counts.ensures ∙ (changed_slot _ c.get_mut_unchecked.result.0.now has.0 has.1
     (with_counts c.args.mark c.args.reads) has.2 c.get_mut_unchecked.ensures.item).1 in
     rw is (IsSound-changed i.slab (number c.args.token) has.0 has.1
-    (with_counts c.args.mark c.args.reads) refl refl has.2 refl i.table i.rings i.loading
+    (with_counts c.args.mark c.args.reads) refl refl has.2 refl i.index i.rings i.loading
     c.self.invariant)
 
 pub returns : goal.returns
 returns g c =
     let i = c.self.inside in
-    let has = item_by_token i.slab i.table i.rings.hot i.rings.cold i.rings.ghosts
+    let has = item_by_token i.slab i.index i.rings.hot i.rings.cold i.rings.ghosts
     (number c.args.token) (rw (← c.self.view_is) at c.requires) in
     let is = c.set_counts.ensures ∙ (changed_slot _ c.get_mut_unchecked.result.0.now has.0 has.1
     (with_counts c.args.mark c.args.reads) has.2 c.get_mut_unchecked.ensures.item).1 in
     rw (← c.self.view_is, is) (lists-changed i.slab (number c.args.token) has.0 has.1
-    (with_counts c.args.mark c.args.reads) refl refl has.2 i.table i.rings.hot i.rings.cold
+    (with_counts c.args.mark c.args.reads) refl refl has.2 i.index i.rings.hot i.rings.cold
     i.rings.ghosts)

@@ -10,7 +10,7 @@ use Rattle.quick_cache_lists.proofs.lists.Lists.take.Goals as goal
 pub displace-slot-requires-clause-occupied : goal.displace-slot-requires-clause-occupied
 displace-slot-requires-clause-occupied g c =
     let i = c.self.inside in
-    occupied_by_entry i.slab i.table i.rings.hot i.rings.cold i.rings.ghosts (number c.args.token)
+    occupied_by_entry i.slab i.index i.rings.hot i.rings.cold i.rings.ghosts (number c.args.token)
     (rw (← c.self.view_is) at c.requires)
 
 pub leave-requires : goal.leave-requires
@@ -31,7 +31,7 @@ overflow_sub-self g c =
     let u = c.displace-slot.ensures in
     omega (
       arith,
-      loading-enough i.slab c.displace-slot.new.slab i.table c.displace-slot.new.table
+      loading-enough i.slab c.displace-slot.new.slab i.index c.displace-slot.new.index
           c.args.token c.displace-slot.result.1 c.args.restarts i.rings c.leave.new.self i.loading
           c.self.invariant c.validate.ensures u.removed u.next u.room u.keyed u.count
           c.displace-slot.result.0 u.item c.stand-stand.result c.weight-weight.result
@@ -43,7 +43,7 @@ pub invariant_of-self : goal.invariant_of-self
 invariant_of-self g c =
     let i = c.self.inside in
     let u = c.displace-slot.ensures in
-    IsSound-left i.slab c.displace-slot.new.slab i.table c.displace-slot.new.table c.args.token
+    IsSound-left i.slab c.displace-slot.new.slab i.index c.displace-slot.new.index c.args.token
     c.displace-slot.result.1 c.args.restarts i.rings c.leave.new.self i.loading c.self.invariant
     c.validate.ensures u.removed u.next u.room u.keyed u.count c.displace-slot.result.0 u.item
     c.stand-stand.result c.weight-weight.result c.stand-stand.ensures c.weight-weight.ensures
@@ -52,7 +52,7 @@ invariant_of-self g c =
 pub returns-clause-taken : goal.returns-clause-taken
 returns-clause-taken g c =
     let i = c.self.inside in
-    rw (← c.self.view_is) (IsEntry-from i.slab i.table i.rings.hot i.rings.cold i.rings.ghosts
+    rw (← c.self.view_is) (IsEntry-from i.slab i.index i.rings.hot i.rings.cold i.rings.ghosts
     c.self.invariant.standing (number c.args.token) c.displace-slot.result.0
     c.displace-slot.ensures.item)
 
@@ -60,8 +60,8 @@ pub returns-clause-rest : goal.returns-clause-rest
 returns-clause-rest g c =
     let i = c.self.inside in
     let u = c.displace-slot.ensures in
-    rw (← c.self.view_is) (IsGone-left i.slab c.displace-slot.new.slab i.table
-    c.displace-slot.new.table c.args.token c.displace-slot.result.1 c.args.restarts i.rings
+    rw (← c.self.view_is) (IsGone-left i.slab c.displace-slot.new.slab i.index
+    c.displace-slot.new.index c.args.token c.displace-slot.result.1 c.args.restarts i.rings
     c.leave.new.self i.loading c.self.invariant c.validate.ensures u.removed u.next u.room
     u.keyed u.count c.displace-slot.result.0 u.item c.stand-stand.result c.weight-weight.result
     c.stand-stand.ensures c.weight-weight.ensures c.leave.ensures).1

@@ -6,7 +6,7 @@ use Rattle.quick_cache_lists.proofs.lists.Lists.try_clone.Goals as goal
 pub key_all-requires-clause-room : goal.key_all-requires-clause-room
 key_all-requires-clause-room g c =
     let slots = c.in_ok-slab.slab.slots in
-    let none = ap length c.in_ok-table.ensures.empty in
+    let none = ap length c.in_ok-index.ensures.empty in
     rw c.iter_from.ensures (omega (
       arith,
       none,
@@ -34,18 +34,18 @@ invariant_of-result g c =
     omega (arith, c.in_ok-slab.ensures.parted.few) in
     let counted : count_by is_some copy.slots + length copy.free ≡ length copy.slots =
     omega (arith, c.len.ensures.items, c.len.ensures.free) in
-    let none = c.reserve.ensures.pairs ∙ c.in_ok-table.ensures.empty in
-    let keyed = IsKeyed-all copy c.reserve.new.self c.key_all.new.table
+    let none = c.reserve.ensures.pairs ∙ c.in_ok-index.ensures.empty in
+    let keyed = IsKeyed-all copy c.reserve.new.self c.key_all.new.index
     (rw (← c.iter_from.ensures) c.key_all.ensures.adds) none few
-    (light-copied clones_key clones_value hash_of shares i.slab copy are i.table
+    (light-copied clones_key clones_value hash_of shares i.slab copy are i.index
     c.self.invariant.keyed) counted in
-    IsSound-copied clones_key clones_value hash_of shares i.slab copy are i.table
-    c.key_all.new.table i.rings i.loading c.self.invariant keyed
+    IsSound-copied clones_key clones_value hash_of shares i.slab copy are i.index
+    c.key_all.new.index i.rings i.loading c.self.invariant keyed
 
 pub returns-clause-copies : goal.returns-clause-copies
 returns-clause-copies g c =
     let i = c.self.inside in
     rw (← c.self.view_is) (lists_of-copied g.K.Clone.is_clone g.V.Clone.is_clone
     (g.C.Copying.hash_of c.args.by.now) (g.C.Copying.shares c.args.by.now) i.slab
-    c.in_ok-slab.slab c.in_ok-slab.ensures.copies i.table c.key_all.new.table
+    c.in_ok-slab.slab c.in_ok-slab.ensures.copies i.index c.key_all.new.index
     i.rings.hot i.rings.cold i.rings.ghosts)

@@ -13,14 +13,14 @@ use Rattle.quick_cache_lists.proofs.lists.Lists.value_mut.Goals as goal
 pub get_mut_unchecked-requires : goal.get_mut_unchecked-requires
 get_mut_unchecked-requires g c =
     let i = c.self.inside in
-    let has = item_by_token i.slab i.table i.rings.hot i.rings.cold i.rings.ghosts
+    let has = item_by_token i.slab i.index i.rings.hot i.rings.cold i.rings.ghosts
     (number c.args.token) (rw (← c.self.view_is) at c.requires) in
     rw has.2 refl
 
 pub value_mut-requires : goal.value_mut-requires
 value_mut-requires g c =
     let i = c.self.inside in
-    let has = item_by_token i.slab i.table i.rings.hot i.rings.cold i.rings.ghosts
+    let has = item_by_token i.slab i.index i.rings.hot i.rings.cold i.rings.ghosts
     (number c.args.token) (rw (← c.self.view_is) at c.requires) in
     (changed_slot _ c.get_mut_unchecked.result.0.now has.0 has.1 (λ item. item) has.2
     c.get_mut_unchecked.ensures.item).0
@@ -30,30 +30,30 @@ pub invariant_of-self-lent : goal.invariant_of-self-lent
 invariant_of-self-lent g c w =
     let i = c.self.inside in
     let t = number c.args.token in
-    let has = item_by_token i.slab i.table i.rings.hot i.rings.cold i.rings.ghosts t
+    let has = item_by_token i.slab i.index i.rings.hot i.rings.cold i.rings.ghosts t
     (rw (← c.self.view_is) at c.requires) in
     let is = (changed_slot _ c.get_mut_unchecked.result.0.now has.0 has.1
     (with_value w) has.2 c.get_mut_unchecked.ensures.item).1 in
     subst (λ (slot : Slot g.row.K.Denot g.row.V.Denot g.row.P.Denot g.row.T.Denot).
-    IsSound (with_item i.slab t slot) i.table i.rings i.loading) (sym is)
-    (IsSound-changed i.slab t has.0 has.1 (with_value w) refl refl has.2 refl i.table i.rings
+    IsSound (with_item i.slab t slot) i.index i.rings i.loading) (sym is)
+    (IsSound-changed i.slab t has.0 has.1 (with_value w) refl refl has.2 refl i.index i.rings
     i.loading c.self.invariant)
 
 pub returns : goal.returns
 returns g c =
     let i = c.self.inside in
     let t = number c.args.token in
-    let has = item_by_token i.slab i.table i.rings.hot i.rings.cold i.rings.ghosts t
+    let has = item_by_token i.slab i.index i.rings.hot i.rings.cold i.rings.ghosts t
     (rw (← c.self.view_is) at c.requires) in
     let slot = c.get_mut_unchecked.result.0.now in (
       (
         refl,
         λ w. rw (← c.self.view_is)
             (ap (λ (slot : Slot g.row.K.Denot g.row.V.Denot g.row.P.Denot g.row.T.Denot).
-            lists_of (with_item i.slab t slot) i.table i.rings.hot i.rings.cold i.rings.ghosts)
+            lists_of (with_item i.slab t slot) i.index i.rings.hot i.rings.cold i.rings.ghosts)
             (changed_slot _ slot has.0 has.1 (with_value w) has.2
             c.get_mut_unchecked.ensures.item).1
-            ∙ lists-changed i.slab t has.0 has.1 (with_value w) refl refl has.2 i.table i.rings.hot
+            ∙ lists-changed i.slab t has.0 has.1 (with_value w) refl refl has.2 i.index i.rings.hot
             i.rings.cold i.rings.ghosts),
       ),
       record {
@@ -64,7 +64,7 @@ returns g c =
               (
                 slot.hash,
                 rw (← c.self.view_is)
-                    (HasItem-from i.slab i.table i.rings.hot i.rings.cold i.rings.ghosts
+                    (HasItem-from i.slab i.index i.rings.hot i.rings.cold i.rings.ghosts
                     c.self.invariant.standing t slot.hash seen.0
                     (c.get_mut_unchecked.ensures.item
                     ∙ ap (λ entry. Some (record slot { entry = entry })) seen.1)),
