@@ -3,7 +3,7 @@ use Rattle.std.proofs.Common.{◌≡◌, ◌≢◌, ℕ, ◌+◌, ◌-◌, ◌<�
 use Rattle.std.proofs.lemmas.Bool.{lt-ltb, ltb-true, eq-eqb, ne_eqb}
 use Rattle.std.proofs.lemmas.Bool.Decides.{leb_tells}
 use Rattle.std.proofs.lemmas.List.{length-set, get_or-set_same, get_or-set_other}
-use Rattle.quick_cache_index.specs.Index.{Index, tag_of, home_of, distance, holds, is_free, has_token, HasToken, token_count, Leads, KeepsLeads, KeepsOtherLeads, KeepsAllLeads, HasSameTokens, GainsToken, LosesToken, AreAll, AreOthers}
+use Rattle.quick_cache_index.specs.Index.{Index, tag_of, home_of, distance, holds, is_free, has_token, HasToken, token_count, HasNone, Leads, KeepsLeads, KeepsOtherLeads, KeepsAllLeads, HasSameTokens, GainsToken, LosesToken, AreAll, AreOthers}
 use Rattle.quick_cache_index.specs.IndexGroups.{taken_count, IsGrouped, IsMatched, IsHoused, IsSound, AreSame, AreKnown, KeepsReached, TakesPlace, capacity_of}
 use Rattle.quick_cache_index.proofs.CountedTokens.{equal_or_not, bool_tells, bit, inside-some, taken_count-free, holds-itself, holds-other, place_of, count_by-place, count_by-take, taken_count-take, count_by-leave, taken_count-leave}
 use Rattle.quick_cache_index.proofs.HousedTokens.{tag_of-pos}
@@ -441,3 +441,20 @@ IsSound-grown hashed tags tags' tokens tokens' reaches reaches' mask mask' len s
       load = load;
       once = λ token. omega (arith, same.each token, sound.once token);
     }
+
+-- ---- no token is there
+
+pub HasNone-count : (index : Index) → token_count index ≡ 0 → HasNone index
+HasNone-count index none token =
+    elim (leb_tells 1 (count_by (holds token) index.tokens)) [
+      | inl t ↦
+          let at = place_of index.tokens token t.1 in
+          let taken = position_taken index.tokens at.1 token at.0 at.2 in
+          absurd (omega (arith, none, taken))
+      | inr t ↦ has_token-none index token (omega (arith, t.1))
+    ]
+  where
+    position_taken : (tokens : List ℕ) (position token : ℕ) → 0 < token
+        → get_or tokens position 0 ≡ token → 0 < taken_count tokens
+    position_taken tokens position token some there =
+        omega (arith, taken_count-leave tokens position token some there)
