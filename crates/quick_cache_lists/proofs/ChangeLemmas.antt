@@ -1,5 +1,5 @@
 -- An item that is written in its place.
-use Rattle.std.proofs.Common.{◌≡◌, ◌≢◌, ◌<◌, ◌≤◌, ◌+◌, [], ◌∷◌, arith, ℕ, zero, suc, subst, ◌==◌, if◌then◌else◌, Bool, true, false, cond, eqb, List, map, length, Option, Some, None, IfSome, refl, sym, ap, ◌∙◌, inl, inr}
+use Rattle.std.proofs.Common.{◌≡◌, ◌≢◌, ◌<◌, ◌≤◌, ◌+◌, [], ◌∷◌, arith, ℕ, zero, suc, subst, ◌==◌, if◌then◌else◌, Bool, true, false, cond, eqb, List, map, length, Option, Some, None, is_some, IfSome, refl, sym, ap, ◌∙◌, inl, inr}
 use Rattle.std.specs.Int.NonZero.{non_zero_u32_get}
 use Rattle.std.specs.declared.num.NonZeroU32.{NonZeroU32 as Token}
 use Rattle.std.proofs.lemmas.Bool.{cases_eq}
@@ -127,7 +127,8 @@ module _ {K V P T : Type 0} where
     pub IsKeyed-changed : (change item).weight < 18446744073709551616 → (index : Index)
         → IsKeyed old index → IsKeyed (written hash (change item) t old) index
     IsKeyed-changed light index keyed = record {
-      pairs = λ h u. keyed.pairs h u ∙ sym (alike (has_hash h) refl u);
+      leads = λ h u has. keyed.leads h u (sym (alike (has_hash h) refl u) ∙ has);
+      tokens = λ u. keyed.tokens u ∙ sym (alike is_some refl u);
       few = rw long keyed.few;
       light = λ u. elim (cases_eq u t) [
         | inl is ↦ rw (is, here) light

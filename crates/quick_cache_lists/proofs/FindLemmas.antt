@@ -1,5 +1,5 @@
 -- What a look-up finds.
-use Rattle.std.proofs.Common.{◌≡◌, ◌≢◌, ◌⊎◌, ℕ, ◌+◌, ◌<◌, ◌==◌, if◌then◌else◌, Bool, true, false, eqb, List, [], ◌∷◌, count_by, length, IfSome, Option, Some, None, IsSome, refl, sym, ap, subst, ◌∙◌, inl, inr, arith, true≢false}
+use Rattle.std.proofs.Common.{◌≡◌, ◌≢◌, ◌⊎◌, ℕ, ◌+◌, ◌<◌, ◌==◌, if◌then◌else◌, Bool, true, false, eqb, List, [], ◌∷◌, count_by, length, IfSome, Option, Some, None, IsSome, is_some, refl, sym, ap, subst, ◌∙◌, inl, inr, arith, true≢false}
 use Rattle.std.specs.Int.NonZero.{non_zero_u32_get}
 use Rattle.std.specs.declared.num.NonZeroU32.{NonZeroU32 as Token}
 use Rattle.std.proofs.lemmas.Bool.{cases_eq, cases_Bool, eqb-true, eq-eqb}
@@ -7,7 +7,7 @@ use Rattle.quick_cache_slab.specs.LinkedSlab.{LinkedSlab, times, item_at, IsOccu
 use Rattle.std.proofs.lemmas.List.Sums.{sum_by-cons}
 use Rattle.quick_cache_index.proofs.CountedTokens.{bit}
 use Rattle.quick_cache_slab.proofs.TokenCounts.{times-here, times-other}
-use Rattle.quick_cache_index.specs.Index.{Index, has_pair, HasPair, HasToken, IsTokensOf, CoversTokensOf}
+use Rattle.quick_cache_index.specs.Index.{Index, HasToken, AreCandidates}
 use Rattle.quick_cache_lists.specs.declared.entry.Entry.{Entry}
 use Rattle.quick_cache_lists.specs.declared.entry.Entry.TheVariants.{Item as item_variant, Loading as loading_variant, Ghost as ghost_variant}
 use Rattle.quick_cache_lists.specs.declared.entry.Slot.{Slot}
@@ -15,18 +15,10 @@ use Rattle.quick_cache_lists.specs.declared.found.Found.{Found}
 use Rattle.quick_cache_lists.specs.declared.found.Found.TheVariants.{Item as found_item, Loading as found_loading, Ghost as found_ghost, Nothing as found_nothing}
 use Rattle.quick_cache_lists.specs.declared.ring.Ring.{Ring}
 use Rattle.quick_cache_lists.specs.Lists.{Lists, HeldItem, HeldLoading, HeldGhost, StandsIn, Finds, FindsByKey, HasNoItem, HasNoKey, HasNothing, FindsItem, FindsItemOfAnyHash, FindsLoading}
-use Rattle.quick_cache_lists.specs.Slots.{has_hash, item_of, if_still, still_of, loading_of, ghost_of, is_under_at, is_item_under_at, is_ghost_at, is_item_at}
-use Rattle.quick_cache_lists.specs.Sound.{gather, upto, tokens_of, lists_of, IsKeyed, IsStanding, IsWalked, PassesNoItem}
+use Rattle.quick_cache_lists.specs.Slots.{has_hash, hash_in, item_of, if_still, still_of, loading_of, ghost_of, is_under_at, is_item_under_at, is_ghost_at, is_item_at}
+use Rattle.quick_cache_lists.specs.Sound.{gather, upto, tokens_of, lists_of, HasHash, IsKeyed, IsStanding, IsWalked, PassesNoItem}
 use Rattle.quick_cache_lists.proofs.GatherLemmas.{gather-all}
 use Rattle.quick_cache_lists.proofs.StandLemmas.{HasItem-from, StandsIn-loading, StandsIn-ghosts}
-
--- without a candidate the index has no pair of the hash
-pub none_of_hash : (index : Index) (hash : ℕ) (tokens : List ℕ) → CoversTokensOf index hash tokens
-    → tokens ≡ [] → (t : ℕ) → HasPair index hash t → ⊥
-none_of_hash index hash tokens covers none t has =
-    let some : 0 < count_by (λ k. k == t) [] =
-    subst (λ (ts : List ℕ). 0 < count_by (λ k. k == t) ts) none (covers.all t has) in
-    omega (arith, some)
 
 -- how often a token stands in a list, as std counts it
 times-count : (t : ℕ) (xs : List ℕ) → times t xs ≡ count_by (λ k. eqb k t) xs
@@ -107,6 +99,12 @@ module _ {K V P T : Type 0} where
       by_entry hash (loading_variant awaited) e = absurd (true≢false (sym e))
       by_entry hash ghost_variant e = absurd (true≢false (sym e))
 
+  -- what is under the query has the hash of its slot
+  under_has_hash : (stands_for : K → Bool) (o : Option (Slot K V P T))
+      → is_under_at stands_for o ≡ true → has_hash (hash_in o) o ≡ true
+  under_has_hash stands_for None is = absurd (true≢false (sym is))
+  under_has_hash stands_for (Some slot) is = eq-eqb slot.hash slot.hash refl
+
   under_waiting : (stands_for : K → Bool) (t : ℕ) (o : Option (Slot K V P T))
       (waiting : HeldLoading K P) → loading_of t o ≡ Some waiting
       → (is_under_at stands_for o ≡ stands_for waiting.key)
@@ -153,10 +151,10 @@ module _ {K V P T : Type 0} where
       (sound : IsStanding slab hot cold ghosts) (keyed : IsKeyed slab index) (stands_for : K → Bool)
       (hash : ℕ) where
     hashed : (t h : ℕ) (o : Option (Slot K V P T)) → item_at slab t ≡ o
-        → has_hash hash o ≡ eqb h hash → h ≡ hash → HasPair index hash t
-    hashed t h o at is same = keyed.pairs hash t ∙ ap (has_hash hash) at ∙ is ∙ eq-eqb h hash same
+        → has_hash hash o ≡ eqb h hash → h ≡ hash → HasHash slab hash t
+    hashed t h o at is same = ap (has_hash hash) at ∙ is ∙ eq-eqb h hash same
 
-    pub HasNoKey-from : ((t : ℕ) → HasPair index hash t
+    pub HasNoKey-from : ((t : ℕ) → HasHash slab hash t
         → is_under_at stands_for (item_at slab t) ≡ false)
         → HasNoKey stands_for hash (lists_of slab index hot cold ghosts)
     HasNoKey-from none = record {
@@ -182,7 +180,7 @@ module _ {K V P T : Type 0} where
             let meant = under_held stands_for t (item_at slab t) held is in
             sym meant.0 ∙ none t (hashed t held.hash (item_at slab t) refl (meant.1 hash) same)
 
-    pub HasNoItem-from : ((t : ℕ) → HasPair index hash t
+    pub HasNoItem-from : ((t : ℕ) → HasHash slab hash t
         → is_item_under_at stands_for (item_at slab t) ≡ false)
         → HasNoItem stands_for hash (lists_of slab index hot cold ghosts)
     HasNoItem-from none = record {
@@ -204,9 +202,9 @@ module _ {K V P T : Type 0} where
             sym (item_under_held stands_for t (item_at slab t) held is)
             ∙ none t (hashed t held.hash (item_at slab t) refl (meant.1 hash) same)
 
-    pub HasNothing-from : ((t : ℕ) → HasPair index hash t
+    pub HasNothing-from : ((t : ℕ) → HasHash slab hash t
         → is_under_at stands_for (item_at slab t) ≡ false)
-        → ((t : ℕ) → HasPair index hash t → is_ghost_at (item_at slab t) ≡ false)
+        → ((t : ℕ) → HasHash slab hash t → is_ghost_at (item_at slab t) ≡ false)
         → HasNothing stands_for hash (lists_of slab index hot cold ghosts)
     HasNothing-from none no_ghost = record {
       keys = HasNoKey-from none;
@@ -218,11 +216,11 @@ module _ {K V P T : Type 0} where
           (hashed t y.hash (item_at slab t) refl (meant.1 hash) same)));
     }
 
-    pub FindsItem-from : (t : ℕ) → HasPair index hash t
+    pub FindsItem-from : (t : ℕ) → HasHash slab hash t
         → is_under_at stands_for (item_at slab t) ≡ true → is_item_at (item_at slab t) ≡ true
         → FindsItem stands_for hash (lists_of slab index hot cold ghosts) t
     FindsItem-from t has passes item =
-        by_slot (item_at slab t) refl (sym (keyed.pairs hash t) ∙ has) passes item
+        by_slot (item_at slab t) refl has passes item
       where
         by_entry : (h : ℕ) (entry : Entry K V P T)
             → item_at slab t ≡ Some (record { hash = h; entry = entry }) → eqb h hash ≡ true
@@ -245,11 +243,11 @@ module _ {K V P T : Type 0} where
         by_slot None at same under is = absurd (true≢false (sym is))
         by_slot (Some slot) at same under is = by_entry slot.hash slot.entry at same under is
 
-    pub FindsLoading-from : (t : ℕ) → HasPair index hash t
+    pub FindsLoading-from : (t : ℕ) → HasHash slab hash t
         → is_under_at stands_for (item_at slab t) ≡ true → is_item_at (item_at slab t) ≡ false
         → FindsLoading stands_for hash (lists_of slab index hot cold ghosts) t
     FindsLoading-from t has passes item =
-        by_slot (item_at slab t) refl (sym (keyed.pairs hash t) ∙ has) passes item
+        by_slot (item_at slab t) refl has passes item
       where
         by_entry : (h : ℕ) (entry : Entry K V P T)
             → item_at slab t ≡ Some (record { hash = h; entry = entry }) → eqb h hash ≡ true
@@ -278,11 +276,11 @@ module _ {K V P T : Type 0} where
         by_slot None at same under is = absurd (true≢false (sym under))
         by_slot (Some slot) at same under is = by_entry slot.hash slot.entry at same under is
 
-    pub StandsIn-found : (t : ℕ) → HasPair index hash t → is_ghost_at (item_at slab t) ≡ true
+    pub StandsIn-found : (t : ℕ) → HasHash slab hash t → is_ghost_at (item_at slab t) ≡ true
         → StandsIn (gather (λ token. ghost_of token (item_at slab token))
         (tokens_of slab ghosts.head)) (record { token = t; hash = hash })
     StandsIn-found t has is_ghost =
-        by_slot (item_at slab t) refl (sym (keyed.pairs hash t) ∙ has) is_ghost
+        by_slot (item_at slab t) refl has is_ghost
       where
         by_entry : (h : ℕ) (entry : Entry K V P T)
             → item_at slab t ≡ Some (record { hash = h; entry = entry }) → eqb h hash ≡ true
@@ -303,48 +301,40 @@ module _ {K V P T : Type 0} where
         by_slot None at same is = absurd (true≢false (sym is))
         by_slot (Some slot) at same is = by_entry slot.hash slot.entry at same is
 
-  -- an item under the query, whose token the index has, is found under its hash there
+  -- an item under the query is found under its hash
   pub FindsItemOfAnyHash-from : (slab : LinkedSlab (Slot K V P T)) (index : Index)
       (hot cold ghosts : Ring) → IsStanding slab hot cold ghosts → IsKeyed slab index
-      → (stands_for : K → Bool) (t : ℕ) → HasToken index t
+      → (stands_for : K → Bool) (t : ℕ)
       → is_item_under_at stands_for (item_at slab t) ≡ true
       → FindsItemOfAnyHash stands_for (lists_of slab index hot cold ghosts) t
-  FindsItemOfAnyHash-from slab index hot cold ghosts sound keyed stands_for t (hash, has) passes =
-      let is = item_under-is stands_for (item_at slab t) passes in (
+  FindsItemOfAnyHash-from slab index hot cold ghosts sound keyed stands_for t passes =
+      let is = item_under-is stands_for (item_at slab t) passes in
+      let hash = hash_in (item_at slab t) in (
         hash,
-        FindsItem-from slab index hot cold ghosts sound keyed stands_for hash t has is.0 is.1,
+        FindsItem-from slab index hot cold ghosts sound keyed stands_for hash t
+            (under_has_hash stands_for (item_at slab t) is.0) is.0 is.1,
       )
 
   module _ (slab : LinkedSlab (Slot K V P T)) (index : Index) (hash : ℕ)
       (stands_for : K → Bool) where
-    counted_pair : (tokens : List ℕ) (t : ℕ) → IsTokensOf index hash tokens
-        → ((has_pair index hash t ≡ true) × (times t tokens ≡ 1))
-        ⊎ ((has_pair index hash t ≡ false) × (times t tokens ≡ 0))
-    counted_pair tokens t are = elim (cases_Bool (has_pair index hash t)) [
-      | inl has ↦ inl (has, times-count t tokens ∙ are t ∙ rw has refl)
-      | inr misses ↦ inr (misses, times-count t tokens ∙ are t ∙ rw misses refl)
-    ]
-
-    pub IsWalked-start : (tokens : List ℕ) → IsTokensOf index hash tokens
+    pub IsWalked-start : (tokens : List ℕ) → IsKeyed slab index
+        → AreCandidates index hash tokens
         → IsWalked slab index hash stands_for tokens None
-    IsWalked-start tokens are = record {
-      left_has = λ t some. elim (counted_pair tokens t are) [
-        | inl has ↦ has.0
-        | inr misses ↦ absurd (omega (arith, misses.1))
-      ];
-      passed = λ t has none. elim (counted_pair tokens t are) [
-        | inl there ↦ absurd (omega (arith, there.1))
-        | inr misses ↦ absurd (true≢false (sym has ∙ misses.0))
-      ];
+    IsWalked-start tokens keyed are = record {
+      left_has = λ t some. are.only t (omega (arith, some, times-count t tokens));
+      passed = λ t has none.
+          absurd (omega (arith, none, times-count t tokens, are.all t (keyed.leads hash t has)));
       noted = tt;
     }
 
     pub IsWalked-past : (tokens rest : List ℕ) (token : Token) (shade noted : Option Token)
         → tokens ≡ non_zero_u32_get token ∷ rest
-        → is_under_at stands_for (item_at slab (non_zero_u32_get token)) ≡ false
-        → (is_ghost_at (item_at slab (non_zero_u32_get token)) ≡ true → noted ≢ None)
+        → (HasHash slab hash (non_zero_u32_get token)
+        → is_under_at stands_for (item_at slab (non_zero_u32_get token)) ≡ false)
+        → (HasHash slab hash (non_zero_u32_get token)
+        → is_ghost_at (item_at slab (non_zero_u32_get token)) ≡ true → noted ≢ None)
         → (shade ≢ None → noted ≢ None)
-        → IfSome noted (λ t. HasPair index hash (non_zero_u32_get t)
+        → IfSome noted (λ t. HasHash slab hash (non_zero_u32_get t)
         × (is_ghost_at (item_at slab (non_zero_u32_get t)) ≡ true))
         → IsWalked slab index hash stands_for tokens shade
         → IsWalked slab index hash stands_for rest noted
@@ -352,10 +342,10 @@ module _ {K V P T : Type 0} where
       left_has = λ t some. walked.left_has t (rw first (omega arith));
       passed = λ t has none. elim (cases_eq (non_zero_u32_get token) t) [
         | inl same ↦ (
-          subst (λ (u : ℕ). is_under_at stands_for (item_at slab u) ≡ false) same
-              differs,
-          subst (λ (u : ℕ). is_ghost_at (item_at slab u) ≡ true → noted ≢ None) same
-              here,
+          subst (λ (u : ℕ). HasHash slab hash u
+              → is_under_at stands_for (item_at slab u) ≡ false) same differs has,
+          subst (λ (u : ℕ). HasHash slab hash u
+              → is_ghost_at (item_at slab u) ≡ true → noted ≢ None) same here has,
         )
         | inr other ↦
             let was = walked.passed t has (rw first
@@ -367,18 +357,18 @@ module _ {K V P T : Type 0} where
 
     pub IsWalked-has : (tokens rest : List ℕ) (token : Token) (shade : Option Token)
         → tokens ≡ non_zero_u32_get token ∷ rest → IsWalked slab index hash stands_for tokens shade
-        → HasPair index hash (non_zero_u32_get token)
+        → HasToken index (non_zero_u32_get token)
     IsWalked-has tokens rest token shade first walked =
         walked.left_has (non_zero_u32_get token)
         (rw first (omega (arith, times-here (non_zero_u32_get token) rest)))
 
     pub IsWalked-none : (tokens : List ℕ) (shade : Option Token) → tokens ≡ []
-        → IsWalked slab index hash stands_for tokens shade → (t : ℕ) → HasPair index hash t
+        → IsWalked slab index hash stands_for tokens shade → (t : ℕ) → HasHash slab hash t
         → is_under_at stands_for (item_at slab t) ≡ false
     IsWalked-none tokens shade end walked t has = (walked.passed t has (rw end refl)).0
 
     pub IsWalked-ghostless : (tokens : List ℕ) (shade : Option Token) → tokens ≡ [] → shade ≡ None
-        → IsWalked slab index hash stands_for tokens shade → (t : ℕ) → HasPair index hash t
+        → IsWalked slab index hash stands_for tokens shade → (t : ℕ) → HasHash slab hash t
         → is_ghost_at (item_at slab t) ≡ false
     IsWalked-ghostless tokens shade end unseen walked t has =
         elim (cases_Bool (is_ghost_at (item_at slab t))) [
@@ -388,25 +378,26 @@ module _ {K V P T : Type 0} where
 
     pub IsWalked-noted : (tokens : List ℕ) (shade : Option Token) (token : Token)
         → shade ≡ Some token → IsWalked slab index hash stands_for tokens shade
-        → HasPair index hash (non_zero_u32_get token)
+        → HasHash slab hash (non_zero_u32_get token)
         × (is_ghost_at (item_at slab (non_zero_u32_get token)) ≡ true)
     IsWalked-noted tokens shade token seen walked =
         subst (λ (o : Option Token). IfSome o
-        (λ t. HasPair index hash (non_zero_u32_get t)
+        (λ t. HasHash slab hash (non_zero_u32_get t)
         × (is_ghost_at (item_at slab (non_zero_u32_get t)) ≡ true))) seen walked.noted
 
     -- the same of a walk along candidates that seeks an item alone
-    pub PassesNoItem-start : (tokens : List ℕ) → CoversTokensOf index hash tokens
+    pub PassesNoItem-start : (tokens : List ℕ) → IsKeyed slab index
+        → AreCandidates index hash tokens
         → PassesNoItem slab index hash stands_for tokens
-    PassesNoItem-start tokens covers = record {
-      left_has = λ t some. covers.only t (omega (arith, some, times-count t tokens));
+    PassesNoItem-start tokens keyed are = record {
+      left_has = λ t some. are.only t (omega (arith, some, times-count t tokens));
       passed = λ t has none.
-          absurd (omega (arith, none, times-count t tokens, covers.all t has));
+          absurd (omega (arith, none, times-count t tokens, are.all t (keyed.leads hash t has)));
     }
 
     pub PassesNoItem-past : (tokens rest : List ℕ) (token : Token)
         → tokens ≡ non_zero_u32_get token ∷ rest
-        → (HasPair index hash (non_zero_u32_get token)
+        → (HasHash slab hash (non_zero_u32_get token)
         → is_item_under_at stands_for (item_at slab (non_zero_u32_get token)) ≡ false)
         → PassesNoItem slab index hash stands_for tokens
         → PassesNoItem slab index hash stands_for rest
@@ -414,7 +405,7 @@ module _ {K V P T : Type 0} where
       left_has = λ t some. walked.left_has t (rw first (omega arith));
       passed = λ t has none. elim (cases_eq (non_zero_u32_get token) t) [
         | inl same ↦ subst
-            (λ (u : ℕ). HasPair index hash u → is_item_under_at stands_for (item_at slab u) ≡ false)
+            (λ (u : ℕ). HasHash slab hash u → is_item_under_at stands_for (item_at slab u) ≡ false)
             same differs has
         | inr other ↦ walked.passed t has (rw first
             (omega (arith, times-other t (non_zero_u32_get token) rest other)))
@@ -430,20 +421,30 @@ module _ {K V P T : Type 0} where
         (rw first (omega (arith, times-here (non_zero_u32_get token) rest)))
 
     pub PassesNoItem-none : (tokens : List ℕ) → tokens ≡ []
-        → PassesNoItem slab index hash stands_for tokens → (t : ℕ) → HasPair index hash t
+        → PassesNoItem slab index hash stands_for tokens → (t : ℕ) → HasHash slab hash t
         → is_item_under_at stands_for (item_at slab t) ≡ false
     PassesNoItem-none tokens end walked t has = walked.passed t has (rw end refl)
 
 module _ {K V P T : Type 0} where
-  hashed_some : (hash : ℕ) (o : Option (Slot K V P T)) → has_hash hash o ≡ true → IsSome o
-  hashed_some hash None is = absurd (true≢false (sym is))
-  hashed_some hash (Some slot) is = refl
+  is_some-some : (o : Option (Slot K V P T)) → is_some o ≡ true → IsSome o
+  is_some-some None is = absurd (true≢false (sym is))
+  is_some-some (Some slot) is = refl
 
   -- a token of the index has an entry
-  pub occupied_by_pair : (slab : LinkedSlab (Slot K V P T)) (index : Index) → IsKeyed slab index
-      → (hash t : ℕ) → HasPair index hash t → IsOccupied slab t
-  occupied_by_pair slab index keyed hash t has =
-      hashed_some hash (item_at slab t) (sym (keyed.pairs hash t) ∙ has)
+  pub occupied_by_token : (slab : LinkedSlab (Slot K V P T)) (index : Index) → IsKeyed slab index
+      → (t : ℕ) → HasToken index t → IsOccupied slab t
+  occupied_by_token slab index keyed t has =
+      is_some-some (item_at slab t) (sym (keyed.tokens t) ∙ has)
+
+  -- without a candidate no entry has the hash
+  pub none_of_hash : (slab : LinkedSlab (Slot K V P T)) (index : Index) → IsKeyed slab index
+      → (hash : ℕ) (tokens : List ℕ) → AreCandidates index hash tokens → tokens ≡ []
+      → (t : ℕ) → HasHash slab hash t → ⊥
+  none_of_hash slab index keyed hash tokens are none t has =
+      let some : 0 < count_by (λ k. k == t) [] =
+      subst (λ (ts : List ℕ). 0 < count_by (λ k. k == t) ts) none
+      (are.all t (keyed.leads hash t has)) in
+      omega (arith, some)
 
 -- what is found by key and hash is found by key
 pub FindsByKey-from : {K V P : Type 0} (stands_for : K → Bool) (hash : ℕ) (lists : Lists K V P)

@@ -2,7 +2,7 @@
 use Rattle.std.proofs.Common.{◌≡◌, ℕ, [], Option, Some, None, length, refl, sym, ap, subst, ◌∙◌, arith}
 use Rattle.quick_cache_model.specs.CacheState.{Item, Place, InHot, InCold, InStill}
 use Rattle.quick_cache_slab.specs.LinkedSlab.{LinkedSlab, item_at, next_token}
-use Rattle.quick_cache_index.specs.Index.{Index}
+use Rattle.quick_cache_index.specs.Index.{Index, HasSameTokens, KeepsLeads, Leads, token_count}
 use Rattle.quick_cache_lists.specs.declared.entry.Entry.{Entry}
 use Rattle.quick_cache_lists.specs.declared.entry.Entry.TheVariants.{Item as item_variant, Loading as loading_variant, Ghost as ghost_variant}
 use Rattle.quick_cache_lists.specs.declared.entry.Slot.{Slot}
@@ -11,10 +11,11 @@ use Rattle.quick_cache_lists.specs.declared.rings.Rings.{Rings}
 use Rattle.std.specs.Int.NonZero.{non_zero_u32_get}
 use Rattle.std.specs.declared.num.NonZeroU32.{NonZeroU32 as Token}
 use Rattle.quick_cache_lists.specs.Lists.{HeldItem, StandsIn, items_at, HasItem, HasItemToken, IsFirstOf}
-use Rattle.quick_cache_lists.specs.Slots.{Stand, AmongHot, AmongCold, AmongGhosts, stand_of, weight_at, item_of, still_of, loading_of, ghost_of}
-use Rattle.quick_cache_lists.specs.Sound.{weigh, gather, upto, tokens_of, lists_of, room_of, IsRingOf, IsSound}
+use Rattle.quick_cache_lists.specs.Slots.{Stand, AmongHot, AmongCold, AmongGhosts, stand_of, hash_in, weight_at, item_of, still_of, loading_of, ghost_of}
+use Rattle.quick_cache_lists.specs.Sound.{weigh, gather, upto, tokens_of, lists_of, room_of, IsRingOf, IsKeyed, IsSound}
 use Rattle.quick_cache_lists.proofs.GatherLemmas.{gather-from}
 use Rattle.quick_cache_lists.proofs.FindLemmas.{held_still}
+use Rattle.quick_cache_lists.proofs.SoundLemmas.{hash_in-has}
 use Rattle.quick_cache_lists.proofs.TakeLemmas.{named_item}
 
 module _ {K V P T : Type 0} where
@@ -101,9 +102,11 @@ module _ {K V P T : Type 0} where
   }
 
   pub IsSound-room : (slab : LinkedSlab (Slot K V P T)) (room : ℕ) (told tnew : Index)
-      (rings : Rings) (loading : ℕ) → tnew.pairs ≡ told.pairs → IsSound slab told rings loading
+      (rings : Rings) (loading : ℕ) → KeepsLeads told tnew (λ t. hash_in (item_at slab t))
+      → HasSameTokens told tnew → token_count tnew ≡ token_count told
+      → IsSound slab told rings loading
       → IsSound (record slab { room = room }) tnew rings loading
-  IsSound-room slab room told tnew rings loading same_pairs sound = record {
+  IsSound-room slab room told tnew rings loading keeps same_tokens count sound = record {
     standing = record {
       hot_ring = kept rings.hot AmongHot sound.standing.hot_ring;
       cold_ring = kept rings.cold AmongCold sound.standing.cold_ring;
@@ -112,16 +115,20 @@ module _ {K V P T : Type 0} where
       loading = sound.standing.loading;
     };
     keyed = record {
-      pairs = λ h t. rw same_pairs (sound.keyed.pairs h t);
+      leads = λ h t has.
+          let same = hash_in-has h (item_at slab t) has in
+          subst (λ (n : ℕ). Leads tnew n t) same
+          (keeps t (subst (λ (n : ℕ). Leads told n t) (sym same) (sound.keyed.leads h t has)));
+      tokens = λ t. same_tokens t ∙ sound.keyed.tokens t;
       few = sound.keyed.few;
       light = sound.keyed.light;
-      counted = rw same_pairs sound.keyed.counted;
+      counted = omega (arith, count, sound.keyed.counted);
     };
     loading_counted = sound.loading_counted;
     all_counted = omega (
       arith,
       sound.all_counted,
-      ap length same_pairs,
+      count,
       ap
           (λ xs. length (gather (λ t. item_of t (item_at slab t)) xs)) (same rings.hot.head),
       ap
@@ -146,11 +153,15 @@ module _ {K V P T : Type 0} where
       }
 
   pub IsSound-grown : (old new : LinkedSlab (Slot K V P T)) (told tnew : Index) (rings : Rings)
-      (loading : ℕ) → new ≡ record old { room = new.room } → tnew.pairs ≡ told.pairs
+      (loading : ℕ) → new ≡ record old { room = new.room }
+      → KeepsLeads told tnew (λ t. hash_in (item_at new t)) → HasSameTokens told tnew
+      → token_count tnew ≡ token_count told
       → IsSound old told rings loading → IsSound new tnew rings loading
-  IsSound-grown old new told tnew rings loading kept same_pairs sound =
+  IsSound-grown old new told tnew rings loading kept keeps same_tokens count sound =
       subst (λ (s : LinkedSlab (Slot K V P T)). IsSound s tnew rings loading) (sym kept)
-      (IsSound-room old new.room told tnew rings loading same_pairs sound)
+      (IsSound-room old new.room told tnew rings loading
+      (subst (λ (s : LinkedSlab (Slot K V P T)). KeepsLeads told tnew (λ t. hash_in (item_at s t)))
+      kept keeps) same_tokens count sound)
 
   slot_of_held : (u : ℕ) (o : Option (Slot K V P T)) (held : HeldItem K V) → item_of u o ≡ Some held
       → o ≡ Some (record { hash = held.hash; entry = item_variant held.item })

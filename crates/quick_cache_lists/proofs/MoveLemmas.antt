@@ -1,19 +1,19 @@
 -- An entry left its list, and another came to its token and was put last. It is told by way of a
 -- slab that has nothing at the token.
-use Rattle.std.proofs.Common.{◌≡◌, ◌≢◌, ℕ, ◌+◌, ◌-◌, ◌<◌, ◌≤◌, length, Bool, eqb, map, [], ◌∷◌, Option, Some, None, refl, sym, ap, subst, ◌∙◌, inl, inr, arith}
+use Rattle.std.proofs.Common.{◌≡◌, ◌≢◌, ℕ, ◌+◌, ◌-◌, ◌<◌, ◌≤◌, length, Bool, eqb, map, [], ◌∷◌, Option, Some, None, is_some, true, refl, sym, ap, subst, ◌∙◌, inl, inr, arith}
 use Rattle.std.specs.Int.NonZero.{non_zero_u32_get}
 use Rattle.std.specs.declared.num.NonZeroU32.{NonZeroU32 as Token}
 use Rattle.std.proofs.lemmas.Bool.{cases_eq}
 use Rattle.std.proofs.lemmas.List.{length-map}
 use Rattle.quick_cache_slab.specs.LinkedSlab.{LinkedSlab, at_token, times, first_or, next_token, without, item_at, ring_from, with_item, removed, unlinked, IsAlone, IsNextOf, IsParted}
 use Rattle.quick_cache_slab.proofs.AtTokens.{length-with_token, at_token-with_same, at_token-with_other, at_token-map}
-use Rattle.quick_cache_index.specs.Index.{Index, has_pair}
+use Rattle.quick_cache_index.specs.Index.{Index, Leads, has_token}
 use Rattle.quick_cache_lists.specs.declared.entry.Slot.{Slot}
 use Rattle.quick_cache_lists.specs.declared.rings.Rings.{Rings}
 use Rattle.quick_cache_lists.specs.Frames.{IsPlaced, IsRemoved, CanEnter, EntersRing, LeavesRingOf}
 use Rattle.quick_cache_lists.specs.Lists.{Lists, PutsLast, Replaces, without_entry}
 use Rattle.quick_cache_lists.specs.Slots.{Stand, stand_of, stand_in, has_hash, weight_in, weight_at, loading_in}
-use Rattle.quick_cache_lists.specs.Sound.{lists_of, room_of, IsKeyed, IsStanding, IsSound}
+use Rattle.quick_cache_lists.specs.Sound.{lists_of, room_of, HasHash, IsKeyed, IsStanding, IsSound}
 use Rattle.quick_cache_lists.proofs.ApartLemmas.{apart_by}
 use Rattle.quick_cache_lists.proofs.CountLemmas.{IsMore-put, IsLess-without}
 use Rattle.quick_cache_lists.proofs.LeaveLemmas.{IsGone, IsGone-by}
@@ -148,12 +148,19 @@ module _ {K V P T : Type 0} (old alone : LinkedSlab (Slot K V P T)) (told : Inde
 
   keyed : IsKeyed other told
   keyed = record {
-    pairs = λ h u. elim (cases_eq u (non_zero_u32_get token)) [
+    leads = λ h u has. elim (cases_eq u (non_zero_u32_get token)) [
       | inl same ↦
-          let was = sound.keyed.pairs h (non_zero_u32_get token) ∙ ap (has_hash h) at in
-          subst (λ (z : ℕ). has_pair told h z ≡ has_hash h (item_at other z)) (sym same)
-          (was ∙ ap (λ n. eqb n h) (sym same_hash) ∙ ap (has_hash h) (sym here))
-      | inr differs ↦ sound.keyed.pairs h u ∙ ap (has_hash h) (sym (others u differs))
+          let had : HasHash old h (non_zero_u32_get token) =
+          ap (has_hash h) at ∙ ap (λ n. eqb n h) (sym same_hash) ∙ ap (has_hash h) (sym here)
+          ∙ subst (λ (z : ℕ). has_hash h (item_at other z) ≡ true) same has in
+          subst (λ (z : ℕ). Leads told h z) (sym same)
+          (sound.keyed.leads h (non_zero_u32_get token) had)
+      | inr differs ↦ sound.keyed.leads h u (sym (ap (has_hash h) (others u differs)) ∙ has)
+    ];
+    tokens = λ u. elim (cases_eq u (non_zero_u32_get token)) [
+      | inl same ↦ subst (λ (z : ℕ). has_token told z ≡ is_some (item_at other z)) (sym same)
+          (sound.keyed.tokens (non_zero_u32_get token) ∙ ap is_some at ∙ sym (ap is_some here))
+      | inr differs ↦ sound.keyed.tokens u ∙ ap is_some (sym (others u differs))
     ];
     few = omega (
       arith,

@@ -1,20 +1,20 @@
 -- What holds of the slots, and what the lists show, once an entry left.
-use Rattle.std.proofs.Common.{◌≡◌, ◌≢◌, ◌⊎◌, ℕ, ◌+◌, ◌<◌, ◌≤◌, Bool, true, false, eqb, List, [], ◌∷◌, ◌++◌, length, Option, Some, None, IsSome, IfSome, refl, sym, ap, subst, ◌∙◌, inl, inr, arith, true≢false, append-nil, length-append}
+use Rattle.std.proofs.Common.{◌≡◌, ◌≢◌, ◌⊎◌, ℕ, ◌+◌, ◌<◌, ◌≤◌, Bool, true, false, ◌&&◌, not, eqb, is_some, List, [], ◌∷◌, ◌++◌, length, Option, Some, None, IsSome, IfSome, refl, sym, ap, subst, ◌∙◌, inl, inr, arith, true≢false, append-nil, length-append}
 use Rattle.std.specs.Int.NonZero.{non_zero_u32_get}
 use Rattle.std.specs.declared.num.NonZeroU32.{NonZeroU32 as Token}
 use Rattle.std.proofs.lemmas.Bool.{cases_eq, cases_Bool, eq-eqb, ne_eqb}
 use Rattle.quick_cache_slab.specs.LinkedSlab.{LinkedSlab, first_or, times, without, item_at, ring_from, IsNextOf, IsParted}
-use Rattle.quick_cache_index.specs.Index.{Index, has_pair, RemovesPair}
+use Rattle.quick_cache_index.specs.Index.{Index, KeepsOtherLeads, Leads, LosesToken, has_token, token_count}
 use Rattle.quick_cache_slab.proofs.TokenCounts.{times-here, times-other, times-append, without_none}
 use Rattle.quick_cache_lists.specs.declared.entry.Slot.{Slot}
 use Rattle.quick_cache_lists.specs.declared.ring.Ring.{Ring}
 use Rattle.quick_cache_lists.specs.Frames.{IsRemoved, IsLeft}
 use Rattle.quick_cache_lists.specs.Lists.{dropped, restarted, left_by}
-use Rattle.quick_cache_lists.specs.Slots.{Stand, stand_of, has_hash, weight_at}
-use Rattle.quick_cache_lists.specs.Sound.{weigh, gather, tokens_of, IsRingOf, AreAlone, IsKeyed}
+use Rattle.quick_cache_lists.specs.Slots.{Stand, stand_of, has_hash, hash_in, weight_at}
+use Rattle.quick_cache_lists.specs.Sound.{weigh, gather, tokens_of, HasHash, IsRingOf, AreAlone, IsKeyed}
 use Rattle.quick_cache_lists.proofs.GatherLemmas.{weigh-append, weigh-same, gather-dropped, gather-without, gather-restarted, gather-other, untouched}
 use Rattle.quick_cache_lists.proofs.SlabFrames.{times-split}
-use Rattle.quick_cache_lists.proofs.SoundLemmas.{out_of_ring}
+use Rattle.quick_cache_lists.proofs.SoundLemmas.{hash_in-has, out_of_ring}
 
 -- ---- lists of tokens
 
@@ -99,27 +99,35 @@ module _ {K V P T : Type 0} (old new : LinkedSlab (Slot K V P T)) (t : ℕ)
       (alone u (sym (ap stand_of (removed.others u other)) ∙ is))
       ∙ without_none t (u ∷ []) (omega (arith, times-other t u [] other))
 
-  pub IsKeyed-removed : (told tnew : Index) (x : Slot K V P T) → item_at old t ≡ Some x
-      → IsKeyed old told → RemovesPair told tnew x.hash t → IsKeyed new tnew
-  IsKeyed-removed told tnew x was keyed removes = record {
-    pairs = λ h u. elim (cases_eq u t) [
-      | inl here ↦ elim (cases_eq x.hash h) [
-        | inl same ↦ rw (here, removed.here, ← same) removes.removed
-        | inr differs ↦
-            let off : ¬ ((h ≡ x.hash) × (t ≡ t)) = λ both. differs (sym both.0) in
-            let had : has_pair told h t ≡ false = keyed.pairs h t ∙ ap (has_hash h) was
-            ∙ ne_eqb x.hash h differs in
-            rw (here, removed.here) (removes.others h t off ∙ had)
-      ]
-      | inr other ↦ removes.others h u (λ both. other both.1) ∙ keyed.pairs h u
-          ∙ ap (has_hash h) (sym (removed.others u other))
+  pub IsKeyed-removed : (told tnew : Index) → IsKeyed old told → LosesToken told tnew t
+      → KeepsOtherLeads told tnew (λ u. hash_in (item_at new u)) t
+      → token_count tnew + 1 ≡ token_count told → IsKeyed new tnew
+  IsKeyed-removed told tnew keyed loses kept count = record {
+    leads = λ h u has. elim (cases_eq u t) [
+      | inl here ↦
+          let gone : item_at new u ≡ None = ap (λ (w : ℕ). item_at new w) here ∙ removed.here in
+          absurd (true≢false (sym has ∙ ap (has_hash h) gone))
+      | inr other ↦
+          let same : hash_in (item_at new u) ≡ h = hash_in-has h (item_at new u) has in
+          let led : Leads told h u =
+          keyed.leads h u (sym (ap (has_hash h) (removed.others u other)) ∙ has) in
+          subst (λ (n : ℕ). Leads tnew n u) same
+          (kept u other (subst (λ (n : ℕ). Leads told n u) (sym same) led))
+    ];
+    tokens = λ u. elim (cases_eq u t) [
+      | inl here ↦
+          let gone : item_at new u ≡ None = ap (λ (w : ℕ). item_at new w) here ∙ removed.here in
+          loses u ∙ ap (λ (b : Bool). not b && has_token told u) (eq-eqb u t here)
+          ∙ sym (ap is_some gone)
+      | inr other ↦ loses u ∙ ap (λ (b : Bool). not b && has_token told u) (ne_eqb u t other)
+          ∙ keyed.tokens u ∙ ap is_some (sym (removed.others u other))
     ];
     few = omega (arith, removed.long, keyed.few);
     light = λ u. elim (cases_eq u t) [
       | inl here ↦ rw (here, removed.here) (omega arith)
       | inr other ↦ rw (removed.others u other) (keyed.light u)
     ];
-    counted = omega (arith, removed.long, ap length removed.free, keyed.counted, removes.count);
+    counted = omega (arith, removed.long, ap length removed.free, keyed.counted, count);
   }
 
   -- ---- the ring that it left

@@ -1,18 +1,18 @@
 -- What holds of the slots, before and after.
-use Rattle.std.proofs.Common.{◌≡◌, ◌≢◌, ◌⊎◌, ℕ, zero, suc, ◌+◌, ◌*◌, ◌<◌, ◌≤◌, false, List, [], ◌∷◌, ◌++◌, length, Option, Some, None, IsSome, IfSome, MatchOption, refl, sym, ap, subst, ◌∙◌, inl, inr, arith}
+use Rattle.std.proofs.Common.{◌≡◌, ◌≢◌, ◌⊎◌, ℕ, zero, suc, ◌+◌, ◌*◌, ◌<◌, ◌≤◌, ◌==◌, ◌&&◌, ◌||◌, not, Bool, true, false, true≢false, is_some, List, [], ◌∷◌, ◌++◌, length, Option, Some, None, IsSome, IfSome, MatchOption, refl, sym, ap, subst, ◌∙◌, inl, inr, arith}
 use Rattle.std.specs.Int.NonZero.{non_zero_u32_get}
 use Rattle.std.specs.declared.num.NonZeroU32.{NonZeroU32 as Token}
-use Rattle.std.proofs.lemmas.Bool.{cases_eq, eq-eqb, ne_eqb}
+use Rattle.std.proofs.lemmas.Bool.{cases_eq, eq-eqb, eqb-true, ne_eqb}
 use Rattle.std.proofs.lemmas.List.{length_push}
 use Rattle.quick_cache_slab.specs.LinkedSlab.{LinkedSlab, at_token, times, joined, item_at, ring_from, spare, IsAlone}
-use Rattle.quick_cache_index.specs.Index.{Index, has_pair, AddsPair}
+use Rattle.quick_cache_index.specs.Index.{Index, HasNone, Leads, has_token, token_count}
 use Rattle.quick_cache_slab.proofs.AtTokens.{at_token-past}
 use Rattle.quick_cache_slab.proofs.TokenCounts.{zero_from_none, times-here, times-other, times-append, length_once}
 use Rattle.quick_cache_lists.specs.declared.entry.Slot.{Slot}
 use Rattle.quick_cache_lists.specs.declared.ring.Ring.{Ring}
 use Rattle.quick_cache_lists.specs.Frames.{IsPlaced, IsLinked, IsJoined}
-use Rattle.quick_cache_lists.specs.Slots.{Stand, AmongHot, AmongCold, AmongStill, AmongLoading, AmongGhosts, stand_of, has_hash, weight_in, weight_at}
-use Rattle.quick_cache_lists.specs.Sound.{weigh, tokens_of, room_of, IsRingOf, AreAlone, IsKeyed, IsStanding}
+use Rattle.quick_cache_lists.specs.Slots.{Stand, AmongHot, AmongCold, AmongStill, AmongLoading, AmongGhosts, stand_of, has_hash, hash_in, weight_in, weight_at}
+use Rattle.quick_cache_lists.specs.Sound.{weigh, tokens_of, room_of, AddsToken, HasHash, IsRingOf, AreAlone, IsKeyed, IsStanding}
 use Rattle.quick_cache_lists.proofs.GatherLemmas.{weigh-append, weigh-same, weigh-member, weigh-light}
 use Rattle.quick_cache_lists.proofs.SlabFrames.{occupied_within, joined-other}
 
@@ -56,13 +56,21 @@ module _ {K V P T : Type 0} where
   }
 
   pub IsKeyed-empty : (slab : LinkedSlab (Slot K V P T)) (index : Index) → slab.slots ≡ []
-      → slab.free ≡ [] → index.pairs ≡ [] → IsKeyed slab index
-  IsKeyed-empty slab index none free pairs = record {
-    pairs = λ h t. rw (pairs, item_at-empty slab t none) refl;
+      → slab.free ≡ [] → HasNone index → token_count index ≡ 0 → IsKeyed slab index
+  IsKeyed-empty slab index none free empty count = record {
+    leads = λ h t has.
+        absurd (true≢false (sym has ∙ ap (has_hash h) (item_at-empty slab t none)));
+    tokens = λ t. empty t ∙ sym (ap is_some (item_at-empty slab t none));
     few = rw none (omega arith);
     light = λ t. rw (item_at-empty slab t none) (omega arith);
-    counted = rw (none, free, pairs) (omega arith);
+    counted = rw (none, free, count) (omega arith);
   }
+
+  -- what has a hash has it in its slot
+  pub hash_in-has : (hash : ℕ) (o : Option (Slot K V P T)) → has_hash hash o ≡ true
+      → hash_in o ≡ hash
+  hash_in-has hash None is = absurd (true≢false (sym is))
+  hash_in-has hash (Some slot) is = eqb-true slot.hash hash is
 
   -- ---- a new entry
 
@@ -132,20 +140,26 @@ module _ {K V P T : Type 0} where
       | inr other ↦ placed.rings u other ∙ alone u (sym (ap stand_of (placed.others u other)) ∙ is)
     ]
 
-    pub IsKeyed-placed : (told tnew : Index) → IsKeyed old told → AddsPair told tnew x.hash t
+    pub IsKeyed-placed : (told tnew : Index) → IsKeyed old told → AddsToken told tnew x.hash t
         → t ≤ 4294967295 → weight_in x.entry < 18446744073709551616 → IsKeyed new tnew
     IsKeyed-placed told tnew keyed adds low lean = record {
-      pairs = λ h u. elim (cases_eq u t) [
-        | inl here ↦ elim (cases_eq x.hash h) [
-          | inl same ↦ rw (here, placed.here, eq-eqb x.hash h same, ← same) adds.added
-          | inr differs ↦
-              let off : ¬ ((h ≡ x.hash) × (t ≡ t)) = λ both. differs (sym both.0) in
-              let was : has_pair told h t ≡ false = keyed.pairs h t
-              ∙ ap (has_hash h) placed.vacant in
-              rw (here, placed.here, ne_eqb x.hash h differs) (adds.others h t off ∙ was)
-        ]
-        | inr other ↦ adds.others h u (λ both. other both.1) ∙ keyed.pairs h u
-            ∙ ap (has_hash h) (sym (placed.others u other))
+      leads = λ h u has. elim (cases_eq u t) [
+        | inl here ↦
+            let at : item_at new u ≡ Some x = ap (λ (w : ℕ). item_at new w) here ∙ placed.here in
+            let same : x.hash ≡ h = eqb-true x.hash h (sym (ap (has_hash h) at) ∙ has) in
+            subst (λ (n : ℕ). Leads tnew n u) same
+            (subst (λ (w : ℕ). Leads tnew x.hash w) (sym here) adds.leads)
+        | inr other ↦ adds.kept h u
+            (keyed.leads h u (sym (ap (has_hash h) (placed.others u other)) ∙ has))
+      ];
+      tokens = λ u. elim (cases_eq u t) [
+        | inl here ↦
+            let at : item_at new u ≡ Some x = ap (λ (w : ℕ). item_at new w) here ∙ placed.here in
+            adds.tokens u ∙ ap (λ (b : Bool). b || has_token told u) (eq-eqb u t here)
+            ∙ sym (ap is_some at)
+        | inr other ↦ adds.tokens u
+            ∙ ap (λ (b : Bool). b || has_token told u) (ne_eqb u t other)
+            ∙ keyed.tokens u ∙ ap is_some (sym (placed.others u other))
       ];
       few = elim placed.grows [
         | inl same ↦ omega (arith, same.0, keyed.few)
@@ -448,8 +462,11 @@ module _ {K V P T : Type 0} where
           × (non_zero_u32_get joined.head ≡ non_zero_u32_get h)) → IsKeyed new index
       by_head None done = rw done.0 keyed
       by_head (Some h) done = record {
-        pairs = λ hash u. keyed.pairs hash u
-            ∙ ap (has_hash hash) (sym (items-linked mid new (non_zero_u32_get token)
+        leads = λ hash u has. keyed.leads hash u
+            (sym (ap (has_hash hash) (items-linked mid new (non_zero_u32_get token)
+            (non_zero_u32_get h) done.0 u)) ∙ has);
+        tokens = λ u. keyed.tokens u
+            ∙ ap is_some (sym (items-linked mid new (non_zero_u32_get token)
             (non_zero_u32_get h) done.0 u));
         few = rw done.0.slots keyed.few;
         light = λ u. rw (items-linked mid new (non_zero_u32_get token)

@@ -132,12 +132,12 @@ module _ {K V P T : Type 0} where
   first_item [] = None
   first_item (entry ∷ rest) = if is_item entry.1 then Some entry.0 else first_item rest
 
-  -- the slot has that hash
   -- the hash of a slot, or 0 where it has no entry
   abbrev pub hash_in : Option (Slot K V P T) → ℕ
   hash_in None = 0
   hash_in (Some slot) = slot.hash
 
+  -- the slot has that hash
   abbrev pub has_hash : ℕ → Option (Slot K V P T) → Bool
   has_hash hash None = false
   has_hash hash (Some slot) = eqb slot.hash hash

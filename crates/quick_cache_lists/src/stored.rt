@@ -1,8 +1,8 @@
 //! An entry as its slot stores it. What is small stands beside the tag of the entry, so that a slot
 //! takes 64 bytes where a key and a value take 8 each.
-ghost use Rattle.std.specs.Prelude.{◌≡◌, true};
+ghost use Rattle.std.specs.Prelude.{◌≡◌, Some, true};
 ghost use Rattle.std.specs.Borrow.{sem};
-ghost use Rattle.quick_cache_lists.specs.Slots.{stand_by as list_by, stand_in, entry_is_item, is_under, is_item_under, is_ghost, is_item, weight_in, slot_changed, entry_awaited};
+ghost use Rattle.quick_cache_lists.specs.Slots.{has_hash, stand_by as list_by, stand_in, entry_is_item, is_under, is_item_under, is_ghost, is_item, weight_in, slot_changed, entry_awaited};
 ghost use Rattle.quick_cache_lists.specs.Stored.{entry_of};
 ghost use Rattle.quick_cache_lists.specs.Lists.{with_counts, with_reads, with_weight, requeued};
 ghost use Rattle.quick_cache_lists.specs.Walks.{entry_item};
@@ -173,6 +173,14 @@ impl<K, V, P, T> Stored<K, V, P, T> {
             StoredEntry::Loading(_, _, _) => Stand::AmongLoading,
             StoredEntry::Ghost => Stand::AmongGhosts,
         }
+    }
+
+    /// Whether it stands under that hash.
+    #[inline(always)]
+    pub(crate) fn is_of(&self, hash: u64) -> bool
+        ensures { result ≡ has_hash hash (Some self.now) }
+    {
+        self.hash == hash
     }
 
     /// Whether the query stands for the key of an item or of a placeholder.

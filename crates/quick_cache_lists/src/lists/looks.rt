@@ -57,7 +57,7 @@ impl<K, V, P, T, A: Allocator> Lists<K, V, P, T, A> {
         let mut shade = None;
         for token in self.index.candidates(hash) {
             let (slot, _) = unsafe { self.slab.get_unchecked(token) };
-            if slot.hash != hash {
+            if !slot.is_of(hash) {
                 continue;
             }
             if slot.is_under(query) {

@@ -13,7 +13,12 @@ pub returns-clause-keyed : goal.returns-clause-keyed
 returns-clause-keyed g c =
     IsKeyed-placed c.args.slab.now c.insert.new.self c.in-Ok.token.value c.args.slot
     (returns-clause-placed g c) c.args.index.now c.insert_reserved.new.self c.requires.keyed
-    c.insert_reserved.ensures.adds (omega arith) c.requires.light
+    (record {
+      leads = c.insert_reserved.ensures.leads;
+      kept = c.insert_reserved.ensures.kept;
+      tokens = c.insert_reserved.ensures.tokens;
+      count = c.insert_reserved.ensures.count;
+    }) (omega arith) c.requires.light
 
 pub returns-clause-room : goal.returns-clause-room
 returns-clause-room g c =

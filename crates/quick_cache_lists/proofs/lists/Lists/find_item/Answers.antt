@@ -1,7 +1,7 @@
 use Rattle.std.proofs.Common.{◌∙◌, sym, subst}
 use Rattle.std.specs.Int.NonZero.{non_zero_u32_get as number}
 use Rattle.quick_cache_lists.specs.Sound.{PassesNoItem}
-use Rattle.quick_cache_lists.proofs.FindLemmas.{occupied_by_pair, FindsItemOfAnyHash-from, HasNoItem-from, PassesNoItem-start, PassesNoItem-past, PassesNoItem-has, PassesNoItem-none}
+use Rattle.quick_cache_lists.proofs.FindLemmas.{occupied_by_token, FindsItemOfAnyHash-from, HasNoItem-from, PassesNoItem-start, PassesNoItem-past, PassesNoItem-has, PassesNoItem-none}
 use Rattle.quick_cache_lists.proofs.lists.Lists.find_item.Goals as goal
 
 -- there was no candidate
@@ -12,7 +12,8 @@ returns-in_default g c =
     rw (← c.self.view_is) (HasNoItem-from i.slab i.index i.rings.hot i.rings.cold i.rings.ghosts
     c.self.invariant.standing c.self.invariant.keyed _ c.args.hash
     (PassesNoItem-none i.slab i.index c.args.hash _ _ c.in_default.ensures.steps.0
-    (PassesNoItem-start i.slab i.index c.args.hash stands_for _ c.candidates-tokens.ensures)))
+    (PassesNoItem-start i.slab i.index c.args.hash stands_for _ c.self.invariant.keyed
+    c.candidates-tokens.ensures)))
 
 pub is_item_under-requires : goal.is_item_under-requires
 is_item_under-requires g c =
@@ -20,8 +21,9 @@ is_item_under-requires g c =
     let stands_for = g.Q.Equivalent.equivalent c.args.query.now in
     let has = PassesNoItem-has i.slab i.index c.args.hash stands_for _ _ c.in-Some.first
     c.in-Some.ensures.steps
-    (PassesNoItem-start i.slab i.index c.args.hash stands_for _ c.candidates-tokens.ensures) in
-    occupied_by_pair i.slab i.index c.self.invariant.keyed has.0 (number c.in-Some.first) has.1
+    (PassesNoItem-start i.slab i.index c.args.hash stands_for _ c.self.invariant.keyed
+    c.candidates-tokens.ensures) in
+    occupied_by_token i.slab i.index c.self.invariant.keyed (number c.in-Some.first) has
 
 -- the first candidate is the item
 pub returns-then-is_item_under : goal.returns-then-is_item_under
@@ -30,10 +32,11 @@ returns-then-is_item_under g c =
     let stands_for = g.Q.Equivalent.equivalent c.args.query.now in
     let has = PassesNoItem-has i.slab i.index c.args.hash stands_for _ _ c.in-Some.first
     c.in-Some.ensures.steps
-    (PassesNoItem-start i.slab i.index c.args.hash stands_for _ c.candidates-tokens.ensures) in
+    (PassesNoItem-start i.slab i.index c.args.hash stands_for _ c.self.invariant.keyed
+    c.candidates-tokens.ensures) in
     rw (← c.self.view_is) (FindsItemOfAnyHash-from i.slab i.index i.rings.hot i.rings.cold
     i.rings.ghosts c.self.invariant.standing c.self.invariant.keyed stands_for
-    (number c.in-Some.first) has (sym c.is_item_under.ensures ∙ c.if-is_item_under.true))
+    (number c.in-Some.first) (sym c.is_item_under.ensures ∙ c.if-is_item_under.true))
 
 -- the first candidate was passed
 pub loop-token-init : goal.loop-token-init
@@ -44,15 +47,15 @@ loop-token-init g c =
     (sym c.into_iter-token-iterator.ensures.into_iter_gives)
     (PassesNoItem-past i.slab i.index c.args.hash stands_for _ _ c.in-Some.first
     c.in-Some.ensures.steps (λ _. sym c.is_item_under.ensures ∙ c.if-is_item_under.false)
-    (PassesNoItem-start i.slab i.index c.args.hash stands_for _ c.candidates-tokens.ensures))
+    (PassesNoItem-start i.slab i.index c.args.hash stands_for _ c.self.invariant.keyed
+    c.candidates-tokens.ensures))
 
 pub is_item_under-requires-in-loop-token : goal.is_item_under-requires-in-loop-token
 is_item_under-requires-in-loop-token g c =
     let i = c.self.inside in
     let has = PassesNoItem-has i.slab i.index c.args.hash _ _ _ c.in-Some-token.token
     c.in-Some-token.ensures.steps c.loop-token.invariant in
-    occupied_by_pair i.slab i.index c.self.invariant.keyed has.0 (number c.in-Some-token.token)
-    has.1
+    occupied_by_token i.slab i.index c.self.invariant.keyed (number c.in-Some-token.token) has
 
 -- a later candidate is the item
 pub returns-then-is_item_under-2 : goal.returns-then-is_item_under-2
@@ -63,7 +66,7 @@ returns-then-is_item_under-2 g c =
     c.in-Some-token.ensures.steps c.loop-token.invariant in
     rw (← c.self.view_is) (FindsItemOfAnyHash-from i.slab i.index i.rings.hot i.rings.cold
     i.rings.ghosts c.self.invariant.standing c.self.invariant.keyed stands_for
-    (number c.in-Some-token.token) has
+    (number c.in-Some-token.token)
     (sym c.is_item_under-in-loop-token.ensures ∙ c.if-is_item_under-2.true))
 
 -- another candidate was passed

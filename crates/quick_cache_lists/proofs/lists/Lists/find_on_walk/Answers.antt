@@ -1,21 +1,21 @@
 use Rattle.std.proofs.Common.{◌∙◌, sym, ap, subst, List, ℕ, Some, true≢false}
 use Rattle.std.specs.Int.NonZero.{non_zero_u32_get as number}
-use Rattle.quick_cache_index.specs.Index.{IsTokensOf}
-use Rattle.quick_cache_lists.specs.Slots.{is_under_at, is_item_at, is_ghost_at}
-use Rattle.quick_cache_lists.proofs.FindLemmas.{occupied_by_pair, FindsItem-from, FindsLoading-from, StandsIn-found, HasNoKey-from, HasNothing-from, IsWalked-start, IsWalked-past, IsWalked-has, IsWalked-none, IsWalked-ghostless, IsWalked-noted}
+use Rattle.quick_cache_index.specs.Index.{AreCandidates}
+use Rattle.quick_cache_lists.specs.Slots.{has_hash, is_under_at, is_item_at, is_ghost_at}
+use Rattle.quick_cache_lists.proofs.FindLemmas.{occupied_by_token, FindsItem-from, FindsLoading-from, StandsIn-found, HasNoKey-from, HasNothing-from, IsWalked-start, IsWalked-past, IsWalked-has, IsWalked-none, IsWalked-ghostless, IsWalked-noted}
 use Rattle.quick_cache_lists.proofs.lists.Lists.find_on_walk.Goals as goal
 
 pub loop-token-init : goal.loop-token-init
 loop-token-init g c =
-    IsWalked-start _ _ _ _ _ (subst
-    (λ (tokens : List ℕ). IsTokensOf c.self.inside.index c.args.hash tokens)
-    (sym c.into_iter-token-iterator.ensures.into_iter_gives) c.iter_hash-token-items.ensures)
+    IsWalked-start _ _ _ _ _ c.self.invariant.keyed (subst
+    (λ (tokens : List ℕ). AreCandidates c.self.inside.index c.args.hash tokens)
+    (sym c.into_iter-token-iterator.ensures.into_iter_gives) c.candidates-token-items.ensures)
 
 pub returns-then-is_item : goal.returns-then-is_item
 returns-then-is_item g c =
     let i = c.self.inside in
-    let has = IsWalked-has i.slab i.index c.args.hash _ _ _ c.in-Some.token _
-    c.in-Some.ensures.steps c.loop-token.invariant in
+    let has = ap (has_hash c.args.hash) c.get_unchecked.ensures.item ∙ sym c.is_of.ensures
+    ∙ c.if-not-is_of.false in
     rw (← c.self.view_is) (FindsItem-from i.slab i.index i.rings.hot i.rings.cold i.rings.ghosts
     c.self.invariant.standing c.self.invariant.keyed _ c.args.hash (number c.in-Some.token) has
     (ap (is_under_at (g.Q.Equivalent.equivalent c.args.query.now)) c.get_unchecked.ensures.item
@@ -25,8 +25,8 @@ returns-then-is_item g c =
 pub returns-else-is_item : goal.returns-else-is_item
 returns-else-is_item g c =
     let i = c.self.inside in
-    let has = IsWalked-has i.slab i.index c.args.hash _ _ _ c.in-Some.token _
-    c.in-Some.ensures.steps c.loop-token.invariant in
+    let has = ap (has_hash c.args.hash) c.get_unchecked.ensures.item ∙ sym c.is_of.ensures
+    ∙ c.if-not-is_of.false in
     rw (← c.self.view_is) (FindsLoading-from i.slab i.index i.rings.hot i.rings.cold i.rings.ghosts
     c.self.invariant.standing c.self.invariant.keyed _ c.args.hash (number c.in-Some.token) has
     (ap (is_under_at (g.Q.Equivalent.equivalent c.args.query.now)) c.get_unchecked.ensures.item
@@ -36,12 +36,13 @@ returns-else-is_item g c =
 pub loop-token-preserved-then-is_ghost : goal.loop-token-preserved-then-is_ghost
 loop-token-preserved-then-is_ghost g c =
     let i = c.self.inside in
-    let has = IsWalked-has i.slab i.index c.args.hash _ _ _ c.in-Some.token _
-    c.in-Some.ensures.steps c.loop-token.invariant in
+    let has = ap (has_hash c.args.hash) c.get_unchecked.ensures.item ∙ sym c.is_of.ensures
+    ∙ c.if-not-is_of.false in
     IsWalked-past i.slab i.index c.args.hash _ _ _ c.in-Some.token _
     (Some c.in-Some.token) c.in-Some.ensures.steps
-    (ap (is_under_at (g.Q.Equivalent.equivalent c.args.query.now)) c.get_unchecked.ensures.item
-    ∙ sym c.is_under.ensures ∙ c.if-is_under.false) (λ _ e. absurd (cc)) (λ _ e. absurd (cc)) (
+    (λ _. ap (is_under_at (g.Q.Equivalent.equivalent c.args.query.now))
+    c.get_unchecked.ensures.item ∙ sym c.is_under.ensures ∙ c.if-is_under.false)
+    (λ _ _ e. absurd (cc)) (λ _ e. absurd (cc)) (
       has,
       ap is_ghost_at c.get_unchecked.ensures.item ∙ sym c.is_ghost.ensures
           ∙ c.if-is_ghost.true,
@@ -51,10 +52,21 @@ pub loop-token-preserved : goal.loop-token-preserved
 loop-token-preserved g c =
     let i = c.self.inside in
     IsWalked-past i.slab i.index c.args.hash _ _ _ c.in-Some.token _ c.loop-token.shade
-    c.in-Some.ensures.steps (ap (is_under_at (g.Q.Equivalent.equivalent c.args.query.now))
+    c.in-Some.ensures.steps (λ _. ap (is_under_at (g.Q.Equivalent.equivalent c.args.query.now))
     c.get_unchecked.ensures.item ∙ sym c.is_under.ensures ∙ c.if-is_under.false)
-    (λ is _. true≢false (sym is ∙ ap is_ghost_at c.get_unchecked.ensures.item
+    (λ _ is _. true≢false (sym is ∙ ap is_ghost_at c.get_unchecked.ensures.item
     ∙ sym c.is_ghost.ensures ∙ c.if-is_ghost.false))
+    (λ some. some) c.loop-token.invariant.noted c.loop-token.invariant
+
+-- another hash was passed
+pub loop-token-preserved-then-not-is_of : goal.loop-token-preserved-then-not-is_of
+loop-token-preserved-then-not-is_of g c =
+    let i = c.self.inside in
+    let off = ap (has_hash c.args.hash) c.get_unchecked.ensures.item ∙ sym c.is_of.ensures
+    ∙ c.if-not-is_of.true in
+    IsWalked-past i.slab i.index c.args.hash _ _ _ c.in-Some.token _ c.loop-token.shade
+    c.in-Some.ensures.steps (λ has. absurd (true≢false (sym has ∙ off)))
+    (λ has. absurd (true≢false (sym has ∙ off)))
     (λ some. some) c.loop-token.invariant.noted c.loop-token.invariant
 
 pub returns-in-Some-shade : goal.returns-in-Some-shade
@@ -87,4 +99,4 @@ get_unchecked-requires g c =
     let i = c.self.inside in
     let has = IsWalked-has i.slab i.index c.args.hash _ _ _ c.in-Some.token _
     c.in-Some.ensures.steps c.loop-token.invariant in
-    occupied_by_pair i.slab i.index c.self.invariant.keyed c.args.hash (number c.in-Some.token) has
+    occupied_by_token i.slab i.index c.self.invariant.keyed (number c.in-Some.token) has

@@ -7,10 +7,11 @@ pub invariant_of-result : goal.invariant_of-result
 invariant_of-result g c =
     let slots = ap (λ (s : LinkedSlab _). s.slots) c.in_ok-slab.ensures.empty in
     let free = ap (λ (s : LinkedSlab _). s.free) c.in_ok-slab.ensures.empty in
-    let pairs = c.in_ok-index.ensures.empty in
+    let count = c.in_ok-index.ensures.count in
     rw c.empty.ensures (record {
       standing = IsStanding-empty c.in_ok-slab.slab slots;
-      keyed = IsKeyed-empty c.in_ok-slab.slab c.in_ok-index.index slots free pairs;
+      keyed = IsKeyed-empty c.in_ok-slab.slab c.in_ok-index.index slots free
+          c.in_ok-index.ensures.empty count;
       loading_counted = rw slots refl;
-      all_counted = rw (slots, pairs) refl;
+      all_counted = rw (slots, count) refl;
     })

@@ -5,7 +5,8 @@ pub invariant_of-self-2 : goal.invariant_of-self-2
 invariant_of-self-2 g c =
     let i = c.self.inside in
     IsSound-grown i.slab c.reserve.new.self i.index c.reserve-2.new.self i.rings i.loading
-    c.reserve.ensures.kept c.reserve-2.ensures.pairs c.self.invariant
+    c.reserve.ensures.kept c.reserve-2.ensures.leads c.reserve-2.ensures.tokens
+    c.reserve-2.ensures.count c.self.invariant
 
 pub returns-clause-lists : goal.returns-clause-lists
 returns-clause-lists g c =
