@@ -36,6 +36,13 @@ module _ {S : Type 0} where
   tokens_of slab None = []
   tokens_of slab (Some head) = ring_from slab (non_zero_u32_get head)
 
+-- the token came to the index under that hash
+pub record AddsToken (old new : Index) (hash token : ℕ) : Type 0 where
+  pub leads : Leads new hash token
+  pub kept : KeepsAllLeads old new
+  pub tokens : GainsToken old new token
+  pub count : token_count new ≡ token_count old + 1
+
 module _ {K V P T : Type 0} where
   -- how many more entries fit with no allocation
   abbrev pub room_of : LinkedSlab (Slot K V P T) → Index → ℕ
@@ -81,13 +88,6 @@ module _ {K V P T : Type 0} where
     pub few : length slab.slots ≤ 4294967295
     pub light : (token : ℕ) → weight_at (item_at slab token) < 18446744073709551616
     pub counted : token_count index + length slab.free ≡ length slab.slots
-
-  -- the token came to the index under that hash
-  pub record AddsToken (old new : Index) (hash token : ℕ) : Type 0 where
-    pub leads : Leads new hash token
-    pub kept : KeepsAllLeads old new
-    pub tokens : GainsToken old new token
-    pub count : token_count new ≡ token_count old + 1
 
   -- these entries came to the index one by one
   abbrev pub AddsTokens : List (ℕ × Slot K V P T) → (old new : Index) → Type 0
