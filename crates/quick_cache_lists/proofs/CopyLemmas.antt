@@ -18,7 +18,7 @@ use Rattle.quick_cache_lists.specs.declared.rings.Rings.{Rings}
 use Rattle.quick_cache_lists.specs.Copies.{AreCopies, IsEntryCopy, IsHeldCopy, IsItemCopy, IsSlotCopy, IsWaitingCopy}
 use Rattle.quick_cache_lists.specs.Lists.{HeldItem, HeldLoading}
 use Rattle.quick_cache_lists.specs.Slots.{Stand, ghost_of, has_hash, if_still, item_of, loading_of, stand_of, stand_of_item, still_of, weight_at}
-use Rattle.quick_cache_lists.specs.Sound.{AddsToken, AddsTokens, AreAlone, HasHash, IsKeyed, IsRingOf, IsSound, IsStanding, gather, lists_of, put, tokens_of, upto, weigh}
+use Rattle.quick_cache_lists.specs.Sound.{AddsTokens, AreAlone, HasHash, IsKeyed, IsRingOf, IsSound, IsStanding, gather, lists_of, put, tokens_of, upto, weigh}
 use Rattle.quick_cache_lists.proofs.GatherLemmas.{weigh-same}
 
 -- ---- lists, place by place
