@@ -19,12 +19,13 @@ key_all-requires-clause-room g c =
       c.in_ok-reserve.ensures.room,
     ))
 
--- the new index has no token, and room brings none
+-- the new index has no token
 pub reserve-requires : goal.reserve-requires
 reserve-requires g c = record {
   known = λ token has. absurd (true≢false (sym has ∙ c.in_ok-index.ensures.empty token));
 }
 
+-- and with room it still has none
 pub key_all-requires-clause-apart : goal.key_all-requires-clause-apart
 key_all-requires-clause-apart g c =
     λ token has. absurd (true≢false (sym has ∙ c.reserve.ensures.tokens token
