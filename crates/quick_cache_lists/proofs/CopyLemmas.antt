@@ -1,6 +1,6 @@
 -- Copied slots under the hashes of a new index are copies of the lists.
-use Rattle.std.proofs.Common.{◌≡◌, ◌≢◌, ℕ, zero, suc, ◌+◌, ◌<◌, ◌≤◌, ◌==◌, if◌then◌else◌, Bool, true, false, List, [], ◌∷◌, cond, map, length, count_by, Option, Some, None, IfSome, is_some, refl, sym, ap, ◌∙◌, inl, inr, arith}
-use Rattle.std.proofs.lemmas.Bool.{cases_eq, eq-eqb, ne_eqb}
+use Rattle.std.proofs.Common.{◌≡◌, ◌≢◌, ℕ, zero, suc, ◌+◌, ◌<◌, ◌≤◌, ◌==◌, if◌then◌else◌, Bool, true, false, List, [], ◌∷◌, cond, map, length, count_by, Option, Some, None, IfSome, is_some, ◌||◌, IsTrue, refl, sym, ap, subst, ◌∙◌, inl, inr, arith}
+use Rattle.std.proofs.lemmas.Bool.{cases_eq, eq-eqb, eqb-true, ne_eqb}
 use Rattle.std.proofs.lemmas.List.Sums.{sum_by-cons}
 use Rattle.std.specs.List.{AllZip}
 use Rattle.std.specs.Int.NonZero.{non_zero_u32_get}
@@ -9,7 +9,7 @@ use Rattle.quick_cache_model.specs.CacheState.{Item}
 use Rattle.quick_cache_slab.specs.LinkedSlab.{LinkedSlab, AreItemCopies, at_token, entries_after, entries_past, item_at, next_token, ring_from, times}
 use Rattle.quick_cache_slab.specs.LinkedSlab.{IsSlotCopy as IsCopyAt}
 use Rattle.quick_cache_slab.proofs.TokenCounts.{times-cons_le, times-here, times-other}
-use Rattle.quick_cache_index.specs.Index.{Index, HasPair, AddsPair, has_pair, token_count}
+use Rattle.quick_cache_index.specs.Index.{Index, GainsToken, HasNone, HasToken, KeepsAllLeads, Leads, has_token, token_count}
 use Rattle.quick_cache_lists.specs.declared.entry.Entry.{Entry}
 use Rattle.quick_cache_lists.specs.declared.entry.Entry.TheVariants.{Item as item_variant, Loading as loading_variant, Ghost as ghost_variant}
 use Rattle.quick_cache_lists.specs.declared.entry.Slot.{Slot}
@@ -18,7 +18,7 @@ use Rattle.quick_cache_lists.specs.declared.rings.Rings.{Rings}
 use Rattle.quick_cache_lists.specs.Copies.{AreCopies, IsEntryCopy, IsHeldCopy, IsItemCopy, IsSlotCopy, IsWaitingCopy}
 use Rattle.quick_cache_lists.specs.Lists.{HeldItem, HeldLoading}
 use Rattle.quick_cache_lists.specs.Slots.{Stand, ghost_of, has_hash, if_still, item_of, loading_of, stand_of, stand_of_item, still_of, weight_at}
-use Rattle.quick_cache_lists.specs.Sound.{AddsPairs, AreAlone, IsKeyed, IsRingOf, IsSound, IsStanding, gather, lists_of, put, tokens_of, upto, weigh}
+use Rattle.quick_cache_lists.specs.Sound.{AddsTokens, AreAlone, HasHash, IsKeyed, IsRingOf, IsSound, IsStanding, gather, lists_of, put, tokens_of, upto, weigh}
 use Rattle.quick_cache_lists.proofs.GatherLemmas.{weigh-same}
 
 -- ---- lists, place by place
@@ -332,7 +332,18 @@ module _ {K V P : Type 0} (clones_key : K → K → Type 0) (clones_value : V �
               );
             }
 
--- ---- the hashes of all entries
+-- ---- the tokens of all entries
+
+-- a token that came is there
+gained-here : (old new : Index) (t k : ℕ) → GainsToken old new t → k ≡ t → has_token new k ≡ true
+gained-here old new t k gains same =
+    gains k ∙ ap (λ b. b || has_token old k) (eq-eqb k t same)
+
+-- and each other is there if it was
+gained-other : (old new : Index) (t k : ℕ) → GainsToken old new t → k ≢ t
+    → has_token new k ≡ has_token old k
+gained-other old new t k gains other =
+    gains k ∙ ap (λ b. b || has_token old k) (ne_eqb k t other)
 
 module _ {S : Type 0} where
   past-times : (p t : ℕ) (xs : List (Option S)) → t ≤ p
@@ -383,99 +394,113 @@ module _ {S : Type 0} where
       let cut = ap (λ (es : List (ℕ × S)). times t (map (λ entry. entry.0) es)) is in
       omega (arith, cut, times-cons_le t u (map (λ entry. entry.0) rest))
 
-  -- once the first entry is keyed, what is left is new to the index
-  pub rest-apart : (old new : Index) (hash t : ℕ) (x : S) (all rest : List (ℕ × S))
-      → all ≡ (t, x) ∷ rest → AddsPair old new hash t
+  -- once the token of the first entry is in the index, what is left is new to it
+  pub rest-apart : (old new : Index) (t : ℕ) (x : S) (all rest : List (ℕ × S))
+      → all ≡ (t, x) ∷ rest → GainsToken old new t
       → ((token : ℕ) → times token (map (λ entry. entry.0) all) ≤ 1)
-      → ((h k : ℕ) → HasPair old h k → times k (map (λ entry. entry.0) all) ≡ 0)
-      → (h k : ℕ) → HasPair new h k → times k (map (λ entry. entry.0) rest) ≡ 0
-  rest-apart old new hash t x all rest is adds once apart h k has =
+      → ((token : ℕ) → HasToken old token → times token (map (λ entry. entry.0) all) ≡ 0)
+      → (token : ℕ) → HasToken new token → times token (map (λ entry. entry.0) rest) ≡ 0
+  rest-apart old new t x all rest is gains once apart k has =
       elim (cases_eq k t) [
         | inl same ↦
             let single : times t (map (λ entry. entry.0) rest) ≡ 0 =
             omega (arith, once t, first-times t x all rest is) in
             rw same single
         | inr other ↦
-            let had : HasPair old h k = rw (← adds.others h k (λ both. other both.1)) has in
-            omega (arith, apart h k had, rest-times k t x all rest is)
+            let had : HasToken old k = sym (gained-other old new t k gains other) ∙ has in
+            omega (arith, apart k had, rest-times k t x all rest is)
       ]
 
--- no pair stands in an empty index
-pub no_pair : (index : Index) → index.pairs ≡ [] → (hash t : ℕ) → has_pair index hash t ≡ false
-no_pair index none hash t = rw none refl
-
 module _ {K V P T : Type 0} where
-  -- the index got the hash of each slot past so many, and nothing else
+  -- the index got the token of each entry past so many, and nothing else
   record AreKeyedPast (p : ℕ) (xs : List (Option (Slot K V P T))) (old new : Index) : Type 0 where
     count : token_count new ≡ token_count old + count_by is_some xs
-    kept : (hash t : ℕ) → t ≤ p → has_pair new hash t ≡ has_pair old hash t
-    keyed : (hash i t : ℕ) → t ≡ p + 1 + i
-        → has_pair new hash t ≡ has_hash hash (at_token xs (suc i) None)
+    kept : KeepsAllLeads old new
+    before : (t : ℕ) → t ≤ p → has_token new t ≡ has_token old t
+    tokens : (i t : ℕ) → t ≡ p + 1 + i → has_token new t ≡ is_some (at_token xs (suc i) None)
+    leads : (hash i t : ℕ) → t ≡ p + 1 + i → IsTrue (has_hash hash (at_token xs (suc i) None))
+        → Leads new hash t
 
   keyed-past : (p : ℕ) (xs : List (Option (Slot K V P T))) (old new : Index)
-      → AddsPairs (entries_past p xs) old new
-      → ((hash t : ℕ) → p < t → has_pair old hash t ≡ false)
+      → AddsTokens (entries_past p xs) old new
+      → ((t : ℕ) → p < t → has_token old t ≡ false)
       → AreKeyedPast p xs old new
   keyed-past p [] old new adds none = record {
     count = omega (arith, ap token_count adds);
-    kept = λ hash t within. ap (λ (index : Index). has_pair index hash t) adds;
-    keyed = λ hash i t is. ap (λ (index : Index). has_pair index hash t) adds
-        ∙ none hash t (omega (arith, is));
+    kept = λ hash t leads. subst (λ (index : Index). Leads index hash t) (sym adds) leads;
+    before = λ t within. ap (λ (index : Index). has_token index t) adds;
+    tokens = λ i t is. ap (λ (index : Index). has_token index t) adds ∙ none t (omega (arith, is));
+    leads = λ hash i t is has. absurd (cc);
   }
   keyed-past p (None ∷ xs) old new adds none =
-      let rest = keyed-past (p + 1) xs old new adds (λ hash t past. none hash t (omega arith)) in
+      let rest = keyed-past (p + 1) xs old new adds (λ t past. none t (omega arith)) in
       record {
         count = omega (arith, rest.count, count-none xs);
-        kept = λ hash t within. rest.kept hash t (omega arith);
-        keyed = at rest;
+        kept = rest.kept;
+        before = λ t within. rest.before t (omega arith);
+        tokens = at rest;
+        leads = led rest;
       }
     where
-      at : AreKeyedPast (p + 1) xs old new → (hash i t : ℕ) → t ≡ p + 1 + i
-          → has_pair new hash t ≡ has_hash hash (at_token (None ∷ xs) (suc i) None)
-      at rest hash zero t is = rest.kept hash t (omega (arith, is)) ∙ none hash t (omega (arith, is))
-      at rest hash (suc i) t is = rest.keyed hash i t (omega (arith, is))
+      at : AreKeyedPast (p + 1) xs old new → (i t : ℕ) → t ≡ p + 1 + i
+          → has_token new t ≡ is_some (at_token (None ∷ xs) (suc i) None)
+      at rest zero t is = rest.before t (omega (arith, is)) ∙ none t (omega (arith, is))
+      at rest (suc i) t is = rest.tokens i t (omega (arith, is))
+
+      led : AreKeyedPast (p + 1) xs old new → (hash i t : ℕ) → t ≡ p + 1 + i
+          → IsTrue (has_hash hash (at_token (None ∷ xs) (suc i) None)) → Leads new hash t
+      led rest hash zero t is has = absurd (cc)
+      led rest hash (suc i) t is has = rest.leads hash i t (omega (arith, is)) has
   keyed-past p (Some slot ∷ xs) old new adds none =
       let rest = keyed-past (p + 1) xs adds.0 new adds.2
-      (λ hash t past. adds.1.others hash t (λ both. omega (arith, both.1))
-      ∙ none hash t (omega arith)) in
+      (λ t past. gained-other old adds.0 (p + 1) t adds.1.tokens (λ same. omega (arith, same))
+      ∙ none t (omega arith)) in
       record {
         count = omega (arith, rest.count, adds.1.count, count-some slot xs);
-        kept = λ hash t within. rest.kept hash t (omega arith)
-            ∙ adds.1.others hash t (λ both. omega (arith, both.1));
-        keyed = at rest;
+        kept = λ hash t leads. rest.kept hash t (adds.1.kept hash t leads);
+        before = λ t within. rest.before t (omega arith)
+            ∙ gained-other old adds.0 (p + 1) t adds.1.tokens (λ same. omega (arith, same));
+        tokens = at rest;
+        leads = led rest;
       }
     where
-      at : AreKeyedPast (p + 1) xs adds.0 new → (hash i t : ℕ) → t ≡ p + 1 + i
-          → has_pair new hash t ≡ has_hash hash (at_token (Some slot ∷ xs) (suc i) None)
-      at rest hash zero t is =
-          let here : t ≡ p + 1 = omega (arith, is) in
-          rest.kept hash t (omega (arith, is)) ∙ elim (cases_eq slot.hash hash) [
-            | inl same ↦ rw (here, eq-eqb slot.hash hash same, ← same) adds.1.added
-            | inr other ↦ rw (ne_eqb slot.hash hash other)
-                (adds.1.others hash t (λ both. other (sym both.0))
-                ∙ none hash t (omega (arith, is)))
-          ]
-      at rest hash (suc i) t is = rest.keyed hash i t (omega (arith, is))
+      at : AreKeyedPast (p + 1) xs adds.0 new → (i t : ℕ) → t ≡ p + 1 + i
+          → has_token new t ≡ is_some (at_token (Some slot ∷ xs) (suc i) None)
+      at rest zero t is =
+          rest.before t (omega (arith, is))
+          ∙ gained-here old adds.0 (p + 1) t adds.1.tokens (omega (arith, is))
+      at rest (suc i) t is = rest.tokens i t (omega (arith, is))
 
-  -- an empty index that got the hash of each entry leads to each
+      led : AreKeyedPast (p + 1) xs adds.0 new → (hash i t : ℕ) → t ≡ p + 1 + i
+          → IsTrue (has_hash hash (at_token (Some slot ∷ xs) (suc i) None)) → Leads new hash t
+      led rest hash zero t is has =
+          let here : t ≡ p + 1 = omega (arith, is) in
+          rw (here, ← eqb-true slot.hash hash has) (rest.kept slot.hash (p + 1) adds.1.leads)
+      led rest hash (suc i) t is has = rest.leads hash i t (omega (arith, is)) has
+
+  -- an empty index that got the token of each entry leads to each by its hash
   pub IsKeyed-all : (slab : LinkedSlab (Slot K V P T)) (empty index : Index)
-      → AddsPairs (entries_after slab 0) empty index → empty.pairs ≡ []
+      → AddsTokens (entries_after slab 0) empty index → HasNone empty → token_count empty ≡ 0
       → length slab.slots ≤ 4294967295
       → ((t : ℕ) → weight_at (item_at slab t) < 18446744073709551616)
       → count_by is_some slab.slots + length slab.free ≡ length slab.slots
       → IsKeyed slab index
-  IsKeyed-all slab empty index adds none few light counted =
-      let all = keyed-past 0 slab.slots empty index adds
-      (λ hash t past. no_pair empty none hash t) in
-      let start : token_count empty ≡ 0 = ap length none in
+  IsKeyed-all slab empty index adds none start few light counted =
+      let all = keyed-past 0 slab.slots empty index adds (λ t past. none t) in
       record {
-        pairs = at all;
+        leads = led all;
+        tokens = at all;
         few = few;
         light = light;
         counted = omega (arith, all.count, start, counted);
       }
     where
-      at : AreKeyedPast 0 slab.slots empty index → (hash t : ℕ)
-          → has_pair index hash t ≡ has_hash hash (item_at slab t)
-      at all hash zero = all.kept hash 0 (omega arith) ∙ no_pair empty none hash 0
-      at all hash (suc i) = all.keyed hash i (suc i) (omega arith)
+      at : AreKeyedPast 0 slab.slots empty index → (t : ℕ)
+          → has_token index t ≡ is_some (item_at slab t)
+      at all zero = all.before 0 (omega arith) ∙ none 0
+      at all (suc i) = all.tokens i (suc i) (omega arith)
+
+      led : AreKeyedPast 0 slab.slots empty index → (hash t : ℕ) → HasHash slab hash t
+          → Leads index hash t
+      led all hash zero has = absurd (cc)
+      led all hash (suc i) has = all.leads hash i (suc i) (omega arith) has

@@ -1,7 +1,8 @@
 use Rattle.std.proofs.Common.{length, ap, subst, refl, arith}
 use Rattle.std.specs.Int.NonZero.{non_zero_u32_get as number}
-use Rattle.quick_cache_index.specs.Index.{HasPair, AddsPair}
+use Rattle.quick_cache_index.specs.Index.{Leads}
 use Rattle.quick_cache_lists.specs.declared.entry.Slot.{Slot}
+use Rattle.quick_cache_lists.specs.Sound.{AddsToken}
 use Rattle.quick_cache_lists.proofs.CopyLemmas.{first-times, rest-times, rest-apart}
 use Rattle.quick_cache_lists.proofs.store.key_all.Goals as goal
 
@@ -14,17 +15,15 @@ loop-token-init g c =
       adds = λ last adds. adds;
     })
 
--- a token that is left has no pair
+-- a token that is left is not in the index
 pub insert_reserved-requires-clause-is_new : goal.insert_reserved-requires-clause-is_new
 insert_reserved-requires-clause-is_new g c =
     let t = number c.in-Some.token in
-    let hash = ap (λ (s : Slot _ _ _ _). s.hash) c.slot.view_is in
     λ has. omega (
       arith,
-      first-times (number c.in-Some.token) c.in-Some.slot.now c.loop-token.token-iterator
-          c.next.new.self c.in-Some.ensures.steps,
-      c.loop-token.invariant.apart c.in-Some.slot.now.hash t
-          (subst (λ h. HasPair c.loop-token.index h t) hash has),
+      first-times t c.in-Some.slot.now c.loop-token.token-iterator c.next.new.self
+          c.in-Some.ensures.steps,
+      c.loop-token.invariant.apart t has,
     )
 
 pub loop-token-preserved : goal.loop-token-preserved
@@ -33,18 +32,23 @@ loop-token-preserved g c =
     let slot = c.in-Some.slot.now in
     let all = c.loop-token.token-iterator in
     let rest = c.next.new.self in
+    let old = c.loop-token.index in
+    let new = c.insert_reserved.new.self in
     let cut = c.in-Some.ensures.steps in
     let hash = ap (λ (s : Slot _ _ _ _). s.hash) c.slot.view_is in
-    let adds = subst (λ h. AddsPair c.loop-token.index c.insert_reserved.new.self h t) hash
-    c.insert_reserved.ensures.adds in
+    let adds : AddsToken old new slot.hash t = record {
+      leads = subst (λ h. Leads new h t) hash c.insert_reserved.ensures.leads;
+      kept = c.insert_reserved.ensures.kept;
+      tokens = c.insert_reserved.ensures.tokens;
+      count = c.insert_reserved.ensures.count;
+    } in
     record {
       room = omega (arith, ap length cut, c.loop-token.invariant.room, c.insert_reserved.ensures.room);
       once = λ token. omega
           (arith, rest-times token t slot all rest cut, c.loop-token.invariant.once token);
-      apart = rest-apart c.loop-token.index c.insert_reserved.new.self slot.hash t slot all rest cut
-          adds c.loop-token.invariant.once c.loop-token.invariant.apart;
-      adds = λ last more. c.loop-token.invariant.adds last
-          (rw cut (c.insert_reserved.new.self, adds, more));
+      apart = rest-apart old new t slot all rest cut adds.tokens c.loop-token.invariant.once
+          c.loop-token.invariant.apart;
+      adds = λ last more. c.loop-token.invariant.adds last (rw cut (new, adds, more));
     }
 
 pub returns : goal.returns

@@ -1,7 +1,7 @@
 use Rattle.std.proofs.Common.{◌≡◌, ◌≤◌, ℕ, length, map}
 use Rattle.quick_cache_slab.specs.LinkedSlab.{times}
-use Rattle.quick_cache_index.specs.Index.{HasPair}
-use Rattle.quick_cache_lists.specs.Sound.{AddsPairs}
+use Rattle.quick_cache_index.specs.Index.{HasToken}
+use Rattle.quick_cache_lists.specs.Sound.{AddsTokens}
 use Rattle.quick_cache_lists.proofs.store.key_all.Given as goal
 
 -- the entries that are left can be keyed, and then all were
@@ -9,8 +9,8 @@ abbrev pub invariant-loop-token : goal.invariant-loop-token
 invariant-loop-token g l = record {
   room : length l.token-iterator ≤ l.index.room;
   once : (token : ℕ) → times token (map (λ entry. entry.0) l.token-iterator) ≤ 1;
-  apart : (hash token : ℕ) → HasPair l.index hash token
+  apart : (token : ℕ) → HasToken l.index token
       → times token (map (λ entry. entry.0) l.token-iterator) ≡ 0;
-  adds : (last : _) → AddsPairs l.token-iterator l.index last
-      → AddsPairs l.fn.entries l.fn.index last;
+  adds : (last : _) → AddsTokens l.token-iterator l.index last
+      → AddsTokens l.fn.entries l.fn.index last;
 }
