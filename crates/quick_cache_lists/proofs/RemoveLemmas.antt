@@ -11,7 +11,7 @@ use Rattle.quick_cache_lists.specs.declared.ring.Ring.{Ring}
 use Rattle.quick_cache_lists.specs.Frames.{IsRemoved, IsLeft}
 use Rattle.quick_cache_lists.specs.Lists.{dropped, restarted, left_by}
 use Rattle.quick_cache_lists.specs.Slots.{Stand, stand_of, has_hash, hash_in, weight_at}
-use Rattle.quick_cache_lists.specs.Sound.{weigh, gather, tokens_of, HasHash, IsRingOf, AreAlone, IsKeyed}
+use Rattle.quick_cache_lists.specs.Sound.{weigh, gather, tokens_of, IsRingOf, AreAlone, IsKeyed}
 use Rattle.quick_cache_lists.proofs.GatherLemmas.{weigh-append, weigh-same, gather-dropped, gather-without, gather-restarted, gather-other, untouched}
 use Rattle.quick_cache_lists.proofs.SlabFrames.{times-split}
 use Rattle.quick_cache_lists.proofs.SoundLemmas.{hash_in-has, out_of_ring}

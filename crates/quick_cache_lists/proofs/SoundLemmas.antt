@@ -1,5 +1,5 @@
 -- What holds of the slots, before and after.
-use Rattle.std.proofs.Common.{◌≡◌, ◌≢◌, ◌⊎◌, ℕ, zero, suc, ◌+◌, ◌*◌, ◌<◌, ◌≤◌, ◌==◌, ◌&&◌, ◌||◌, not, Bool, true, false, true≢false, is_some, List, [], ◌∷◌, ◌++◌, length, Option, Some, None, IsSome, IfSome, MatchOption, refl, sym, ap, subst, ◌∙◌, inl, inr, arith}
+use Rattle.std.proofs.Common.{◌≡◌, ◌≢◌, ◌⊎◌, ℕ, zero, suc, ◌+◌, ◌*◌, ◌<◌, ◌≤◌, ◌||◌, Bool, true, true≢false, is_some, List, [], ◌∷◌, ◌++◌, length, Option, Some, None, IsSome, IfSome, MatchOption, refl, sym, ap, subst, ◌∙◌, inl, inr, arith}
 use Rattle.std.specs.Int.NonZero.{non_zero_u32_get}
 use Rattle.std.specs.declared.num.NonZeroU32.{NonZeroU32 as Token}
 use Rattle.std.proofs.lemmas.Bool.{cases_eq, eq-eqb, eqb-true, ne_eqb}
@@ -12,7 +12,7 @@ use Rattle.quick_cache_lists.specs.declared.entry.Slot.{Slot}
 use Rattle.quick_cache_lists.specs.declared.ring.Ring.{Ring}
 use Rattle.quick_cache_lists.specs.Frames.{IsPlaced, IsLinked, IsJoined}
 use Rattle.quick_cache_lists.specs.Slots.{Stand, AmongHot, AmongCold, AmongStill, AmongLoading, AmongGhosts, stand_of, has_hash, hash_in, weight_in, weight_at}
-use Rattle.quick_cache_lists.specs.Sound.{weigh, tokens_of, room_of, AddsToken, HasHash, IsRingOf, AreAlone, IsKeyed, IsStanding}
+use Rattle.quick_cache_lists.specs.Sound.{weigh, tokens_of, room_of, AddsToken, IsRingOf, AreAlone, IsKeyed, IsStanding}
 use Rattle.quick_cache_lists.proofs.GatherLemmas.{weigh-append, weigh-same, weigh-member, weigh-light}
 use Rattle.quick_cache_lists.proofs.SlabFrames.{occupied_within, joined-other}
 

@@ -1,7 +1,6 @@
 use Rattle.std.proofs.Common.{◌∙◌, ap, refl, sym, subst, length, Some, IsSome, arith}
 use Rattle.std.proofs.lemmas.Bool.{eq-eqb}
 use Rattle.std.specs.Int.NonZero.{non_zero_u32_get as number}
-use Rattle.quick_cache_slab.specs.LinkedSlab.{item_at}
 use Rattle.quick_cache_lists.specs.declared.entry.Slot.{Slot}
 use Rattle.quick_cache_lists.specs.Slots.{has_hash}
 use Rattle.quick_cache_lists.proofs.FindLemmas.{occupied_by_token}
@@ -28,7 +27,10 @@ remove-requires-in-Some-clause-there g c =
 -- each other token that the index has is still occupied
 pub remove-requires-in-Some-clause-known : goal.remove-requires-in-Some-clause-known
 remove-requires-in-Some-clause-known g c other differs has =
-    let removed = returns-clause-removed g c in
+    let removed = IsRemoved-from c.args.slab.now c.remove.new.self
+    (number c.args.token) c.into_slot-slot.result
+    (c.in-Some.ensures.item ∙ ap (λ (s : Slot _ _ _ _). Some s) (sym c.into_slot-slot.ensures))
+    c.in-Some.ensures.removed in
     subst IsSome (sym (removed.others other differs))
     (occupied_by_token c.args.slab.now c.args.index.now c.requires.keyed other has)
 
