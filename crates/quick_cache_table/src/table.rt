@@ -228,8 +228,8 @@ impl<A: Allocator> Table<A> {
             self.mask,
             hash,
         );
-        // The first place of the home group is nearly always the one, and no reach ends there. Apart
-        // from the rest it takes half of the instructions.
+        // The first place of the home group is nearly always the one, and no reach ends there, so
+        // that a look at it alone takes half of the instructions.
         match first_position_of(&walk, token.get()) {
             Some(position) => {
                 groups::free_place(self.tags.as_mut_slice(), &mut self.places, position);
@@ -287,9 +287,9 @@ impl<A: Allocator> Table<A> {
 
     /// Tokens of the table, among them each of that hash, in no order that counts.
     ///
-    /// These are the tokens of all places on the hash's way that have its tag, so that of 255 others
-    /// about one is among them. It reads no hash. A caller who knows a token's owner when he sees it,
-    /// as one who compares keys, needs none.
+    /// These are the tokens of all places on the hash's way that have its tag, so that of 255
+    /// others about one is among them. It reads no hash. A caller who knows a token's owner when he
+    /// sees it, as one who compares keys, needs none.
     #[inline(always)]
     pub fn candidates(&self, hash: u64) -> Candidates<'_>
         ensures { CoversTokensOf self.now hash result }

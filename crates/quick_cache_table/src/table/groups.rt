@@ -300,8 +300,8 @@ pub(crate) fn free_place<A: Allocator>(tags: &mut [u8], places: &mut Places<A>, 
         HasOneMore places.new.items places.old.items (hash_at left) left.token }
     ensures allocated { places.new.allocated ≡ places.old.allocated }
 {
-    tags[position] = 0;
     places.free(position);
+    tags[position] = 0;
 }
 
 // Frees a place, whose pair is of that hash, and lets its home reach no farther than it needs.
