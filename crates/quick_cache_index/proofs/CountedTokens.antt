@@ -1,5 +1,5 @@
 -- What places hold, counted, and places that are written.
-use Rattle.std.proofs.Common.{◌≡◌, ◌≢◌, ℕ, zero, suc, ◌+◌, ◌-◌, ◌<◌, ◌≤◌, ◌⊎◌, Bool, true, false, cond, not, ◌&&◌, eqb, List, [], ◌∷◌, ◌++◌, length, replicate, take, get_or, set, refl, sym, ap, ◌∙◌, inl, inr, arith, count_by}
+use Rattle.std.proofs.Common.{◌≡◌, ◌≢◌, ℕ, suc, ◌+◌, ◌-◌, ◌<◌, ◌≤◌, ◌⊎◌, Bool, true, false, cond, not, ◌&&◌, eqb, List, [], ◌∷◌, ◌++◌, length, replicate, take, get_or, set, refl, sym, ap, ◌∙◌, inl, inr, arith, count_by}
 use Rattle.std.specs.List.{swap}
 use Rattle.std.proofs.lemmas.Bool.Decides.{eqb_tells, leb_tells}
 use Rattle.std.proofs.lemmas.Bool.{eqb-true, eq-eqb, ne_eqb}
@@ -203,13 +203,6 @@ pub AreKnown-same : (knows : ℕ → Type 0) (old new : List ℕ) → AreKnown k
     → AreSame old new → AreKnown knows new
 AreKnown-same knows old new known same token some =
     known token (omega (arith, some, same.each token))
-
--- free places have no token
-pub count_by-free : (n token : ℕ) → count_by (holds token) (replicate n 0) ≡ 0
-count_by-free n token = omega (arith, sum_by-replicate (λ t. bit (holds token t)) n 0)
-
-pub taken_count-none : (n : ℕ) → taken_count (replicate n 0) ≡ 0
-taken_count-none n = omega (arith, sum_by-replicate (λ t. bit (not (is_free t))) n 0)
 
 -- what is known of the token of a place
 pub known-place : (knows : ℕ → Type 0) (tokens : List ℕ) (position token : ℕ)

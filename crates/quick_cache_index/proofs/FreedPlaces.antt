@@ -1,5 +1,5 @@
 -- A place that a token leaves, and reaches that get shorter.
-use Rattle.std.proofs.Common.{◌≡◌, ◌≢◌, ℕ, ◌+◌, ◌-◌, ◌*◌, ◌/◌, ◌%◌, ◌<◌, ◌≤◌, List, length, get_or, sym, ap, subst, ◌∙◌, inl, inr, arith}
+use Rattle.std.proofs.Common.{◌≡◌, ◌≢◌, ℕ, ◌+◌, ◌-◌, ◌*◌, ◌/◌, ◌%◌, ◌<◌, ◌≤◌, List, get_or, sym, ap, subst, ◌∙◌, inl, inr, arith}
 use Rattle.std.specs.Int.Bits.{bit_xor}
 use Rattle.quick_cache_index.specs.Index.{home_of, distance}
 use Rattle.quick_cache_index.proofs.Distances.{xor-back}

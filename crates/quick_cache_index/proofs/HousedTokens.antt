@@ -7,7 +7,7 @@ use Rattle.std.proofs.lemmas.Bool.Decides.{leb_tells}
 use Rattle.std.proofs.lemmas.List.{length-set, get_or_past, get_or-set_same, get_or-set_other}
 use Rattle.std.proofs.lemmas.List.Edits.{length-swap, swapped_from_swap}
 use Rattle.quick_cache_index.specs.Index.{tag_of, IsReached}
-use Rattle.quick_cache_index.specs.IndexGroups.{IsGrouped, IsMatched, IsHoused, IsHousedAt, IsBareBelow, ReachesGrow}
+use Rattle.quick_cache_index.specs.IndexGroups.{IsMatched, IsHoused, IsHousedAt, IsBareBelow, ReachesGrow}
 use Rattle.quick_cache_index.proofs.PowersOfTwo.{IsPowerOfTwo-pos}
 use Rattle.quick_cache_index.proofs.CountedTokens.{equal_or_not}
 

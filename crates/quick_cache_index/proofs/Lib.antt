@@ -1,3 +1,4 @@
+pub mod CallerLemmas
 pub mod Candidates
 pub mod CountedTokens
 pub mod Distances

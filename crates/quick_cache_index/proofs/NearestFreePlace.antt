@@ -1,17 +1,17 @@
 -- The search for a free place, from the home of a hash outward: the nearest without a tag.
-use Rattle.std.proofs.Common.{◌≡◌, ◌≢◌, ℕ, suc, ◌+◌, ◌*◌, ◌/◌, ◌%◌, ◌^◌, ◌<◌, ◌≤◌, Bool, true, false, eqb, List, [], ◌∷◌, length, map, get_or, count_by, sym, ap, subst, ◌∙◌, inl, inr, arith, w64}
+use Rattle.std.proofs.Common.{◌≡◌, ◌≢◌, ℕ, ◌+◌, ◌*◌, ◌/◌, ◌%◌, ◌^◌, ◌<◌, ◌≤◌, eqb, List, length, map, get_or, count_by, sym, ap, subst, ◌∙◌, inl, inr, arith, w64}
 use Rattle.std.specs.Int.{IsPowerOfTwo, bit_at, trailing_zeros, w64}
 use Rattle.std.specs.Int.Bits.{bit_xor}
 use Rattle.std.specs.Simd.Lanes.{chunk, mask_l}
 use Rattle.std.proofs.lemmas.Bool.{eqb-true, eqb-false, eq-eqb}
 use Rattle.std.proofs.lemmas.Bool.Decides.{leb_tells}
-use Rattle.std.proofs.lemmas.List.Sums.{get_or-le-sum_by, sum_by-cons}
+use Rattle.std.proofs.lemmas.List.Sums.{get_or-le-sum_by}
 use Rattle.std.proofs.lemmas.Simd.{none_from_empty_mask}
 use Rattle.quick_cache_index.specs.Index.{is_free}
 use Rattle.quick_cache_index.specs.IndexGroups.{IsMatched}
 use Rattle.quick_cache_index.proofs.Distances.{xor-back, xor-within}
 use Rattle.quick_cache_index.proofs.GroupLanes.{lanes-few, lit-tag, trailing_zeros-IsLowestBit, trailing_zeros-lt}
-use Rattle.quick_cache_index.proofs.CountedTokens.{bit, position_of_some, inside-some}
+use Rattle.quick_cache_index.proofs.CountedTokens.{bit, position_of_some}
 
 -- the lowest bit of a mask is a lane that has the tag
 pub lane_of_mask : (tags : List ℕ) (group tag lanes : ℕ) → 16 * group + 16 ≤ length tags

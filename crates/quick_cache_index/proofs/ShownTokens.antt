@@ -1,19 +1,14 @@
 -- What an index shows, from what its places hold.
-use Rattle.std.proofs.Common.{◌≡◌, ◌≢◌, ℕ, ◌+◌, ◌-◌, ◌<◌, ◌≤◌, Bool, true, false, not, ◌&&◌, ◌||◌, eqb, ltb, List, length, get_or, set, refl, sym, ap, subst, ◌∙◌, inl, inr, arith, count_by}
-use Rattle.std.proofs.lemmas.Bool.{lt-ltb, ltb-true, eq-eqb, ne_eqb}
+use Rattle.std.proofs.Common.{◌≡◌, ◌≢◌, ℕ, ◌+◌, ◌-◌, ◌<◌, ◌≤◌, Bool, true, false, not, ◌&&◌, ltb, List, length, get_or, set, sym, ap, subst, ◌∙◌, inl, inr, arith, count_by}
+use Rattle.std.proofs.lemmas.Bool.{lt-ltb, eq-eqb, ne_eqb}
 use Rattle.std.proofs.lemmas.Bool.Decides.{leb_tells}
-use Rattle.std.proofs.lemmas.List.{length-set, get_or-set_same, get_or-set_other}
-use Rattle.quick_cache_index.specs.Index.{Index, tag_of, home_of, distance, holds, is_free, has_token, HasToken, token_count, HasNone, Leads, KeepsLeads, KeepsOtherLeads, KeepsAllLeads, HasSameTokens, GainsToken, LosesToken, AreAll, AreOthers}
+use Rattle.std.proofs.lemmas.List.{get_or-set_same, get_or-set_other}
+use Rattle.quick_cache_index.specs.Index.{Index, tag_of, home_of, distance, holds, is_free, has_token, HasToken, token_count, HasNone, Leads, KeepsLeads, KeepsOtherLeads, KeepsAllLeads, HasSameTokens, LosesToken, AreOthers}
 use Rattle.quick_cache_index.specs.IndexGroups.{taken_count, IsGrouped, IsMatched, IsHoused, IsSound, AreSame, AreKnown, KeepsReached, TakesPlace, capacity_of}
-use Rattle.quick_cache_index.proofs.CountedTokens.{equal_or_not, bool_tells, bit, inside-some, taken_count-free, holds-itself, holds-other, place_of, count_by-place, count_by-take, taken_count-take, count_by-leave, taken_count-leave}
+use Rattle.quick_cache_index.proofs.CountedTokens.{equal_or_not, bit, inside-some, taken_count-free, holds-itself, holds-other, place_of, count_by-place, count_by-take, taken_count-take, count_by-leave, taken_count-leave}
 use Rattle.quick_cache_index.proofs.HousedTokens.{tag_of-pos}
 
--- what is known of tokens, by the index or by its places
-pub AreKnown-all : (knows : ℕ → Type 0) (index : Index) → AreAll knows index
-    → AreKnown knows index.tokens
-AreKnown-all knows index all token some = all token (lt-ltb _ _ some)
-
--- the same of all but the one that leaves its place
+-- what is known of all tokens but one is known of all, once that left its place
 pub AreKnown-others : (knows : ℕ → Type 0) (index : Index) (position token : ℕ) → 0 < token
     → get_or index.tokens position 0 ≡ token → count_by (holds token) index.tokens ≤ 1
     → AreOthers knows index token → AreKnown knows (set index.tokens position 0)
@@ -125,32 +120,6 @@ count_by-absent index token absent =
       | inl t ↦ absurd (absent (lt-ltb _ _ t.1))
       | inr t ↦ omega (arith, t.1)
     ]
-
-pub GainsToken-take : (old new : Index) (hash token : ℕ)
-    → TakesPlace old.tags new.tags old.tokens new.tokens old.reaches new.reaches new.mask hash token
-    → 0 < token → GainsToken old new token
-GainsToken-take old new hash token takes some other =
-    let counted : count_by (holds other) new.tokens
-    ≡ count_by (holds other) old.tokens + bit (holds other token) =
-    ap (count_by (holds other)) takes.token_is
-    ∙ count_by-take old.tokens takes.position token other takes.inside takes.free in
-    elim (equal_or_not other token) [
-      | inl same ↦
-          let one = ap (λ k. bit (holds k token)) same ∙ ap bit (holds-itself token some) in
-          lt-ltb 0 (count_by (holds other) new.tokens) (omega (arith, counted, one))
-          ∙ ap (λ b. b || has_token old other) (sym (eq-eqb other token same))
-      | inr off ↦
-          has_token-same old new other
-          (omega (arith, counted, ap bit (holds-other other token (λ e. off (sym e)))))
-          ∙ ap (λ b. b || has_token old other) (sym (ne_eqb other token off))
-    ]
-
-pub token_count-take : (old new : Index) (hash token : ℕ)
-    → TakesPlace old.tags new.tags old.tokens new.tokens old.reaches new.reaches new.mask hash token
-    → 0 < token → token_count new ≡ token_count old + 1
-token_count-take old new hash token takes some =
-    ap taken_count takes.token_is
-    ∙ taken_count-take old.tokens takes.position token takes.inside takes.free some
 
 -- an index stays sound when a new token takes a place
 pub IsSound-take : (tags tags' tokens tokens' reaches reaches' : List ℕ) (mask len hash token : ℕ)

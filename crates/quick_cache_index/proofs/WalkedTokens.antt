@@ -1,7 +1,7 @@
 -- What a walk over the groups of a hash meets: each token whose place has its tag.
 use Rattle.std.proofs.Common.{◌≡◌, ℕ, zero, suc, ◌+◌, ◌-◌, ◌*◌, ◌/◌, ◌%◌, ◌^◌, ◌<◌, ◌≤◌, false, true, cond, eqb, List, [], ◌∷◌, ◌++◌, length, map, get_or, Option, Some, None, refl, sym, ap, subst, ◌∙◌, inl, inr, arith, count_by, bit_and, bit_xor}
 use Rattle.std.specs.Int.Bits.{xor_zero_r}
-use Rattle.std.specs.Int.{bit_at, trailing_zeros, w64}
+use Rattle.std.specs.Int.{trailing_zeros, w64}
 use Rattle.std.specs.List.{cons_option, filter_map}
 use Rattle.std.proofs.lemmas.Bool.Decides.{eqb_tells}
 use Rattle.std.proofs.lemmas.Bool.{eqb-true, eq-eqb, ne_eqb}
@@ -10,9 +10,9 @@ use Rattle.std.specs.Simd.Lanes.{chunk, mask_l}
 use Rattle.std.proofs.lemmas.List.Elements.{filter_map-append}
 use Rattle.std.proofs.lemmas.List.Sums.{sum_by-cons, sum_by-append}
 use Rattle.quick_cache_index.specs.declared.index.walk.Walk.{Walk}
-use Rattle.quick_cache_index.specs.Index.{tag_of, home_of, IsReached}
-use Rattle.quick_cache_index.specs.IndexGroups.{IsGrouped, IsMatched, positions_from, group_positions, lane_positions, positions_along, reach_of, positions_left, tagged_token, candidates_left, IsWalk, CoversTagged}
-use Rattle.quick_cache_index.proofs.CountedTokens.{bool_tells, equal_or_not, bit, inside-some}
+use Rattle.quick_cache_index.specs.Index.{tag_of, home_of}
+use Rattle.quick_cache_index.specs.IndexGroups.{IsGrouped, IsMatched, positions_from, group_positions, lane_positions, positions_along, reach_of, tagged_token, candidates_left, IsWalk, CoversTagged}
+use Rattle.quick_cache_index.proofs.CountedTokens.{bool_tells, equal_or_not, bit}
 use Rattle.quick_cache_index.proofs.GroupLanes.{lane_positions-first, lane_positions-none, lanes-few, lit-tag, given-lanes, trailing_zeros-lt, trailing_zeros-IsLowestBit, bit_at-rest}
 use Rattle.quick_cache_index.proofs.Distances.{xor-back}
 
@@ -342,13 +342,6 @@ begins_walk walk mask home tag lanes sized matched some begins value at =
     let Q : ℕ → Type 0 =
     λ group. BeginsWalk walk mask group (lanes_at (home_of mask walk.hash) (tag_of walk.hash)) in
     subst P (sym same) (subst Q (sym begins) (begins_walk-tag walk mask sized matched some))
-
--- a walk over no groups has nothing to meet
-pub CoversTagged-none : (tags tokens reaches : List ℕ) (mask hash : ℕ) (found : List ℕ)
-    → IsGrouped tags tokens reaches mask → length reaches ≡ 0
-    → CoversTagged tags tokens reaches mask hash found
-CoversTagged-none tags tokens reaches mask hash found sized none position placed tag reached =
-    absurd (omega (arith, placed, sized.sixteen, none))
 
 -- a list that fails the test for an empty one
 pub some-from_test : (xs : List ℕ) → false ≡ eqb (length xs) 0 → 0 < length xs

@@ -1,5 +1,5 @@
 -- What a contract sees of an `Index`: tokens at places, found by a tag and by how far a search goes.
-use Rattle.std.specs.Prelude.{◌≡◌, ℕ, ◌+◌, ◌-◌, ◌/◌, ◌^◌, ◌<◌, ◌≤◌, min, max, Bool, false, ◌&&◌, ◌||◌, not, ◌==◌, nat_lt, IsTrue, List, length, count_by, bit_and, bit_xor, slice_index, refl}
+use Rattle.std.specs.Prelude.{◌≡◌, ℕ, ◌-◌, ◌/◌, ◌^◌, ◌<◌, ◌≤◌, min, max, Bool, false, ◌&&◌, ◌||◌, not, ◌==◌, nat_lt, IsTrue, List, count_by, bit_and, bit_xor, slice_index, refl}
 use Rattle.std.specs.Coded.{Coded, code_by, coded×, coded_ℕ, coded_list}
 
 -- what a look-up reads: the tag and the token of each place, or 0 where it is free, how far from

@@ -248,13 +248,7 @@ pub(crate) fn free_all(tags: &mut [u8], tokens: &mut [u32], reaches: &mut [u32])
 }
 
 // Whether a token of that home is in the group.
-fn is_home_of<H: Hashes>(
-    tokens: &[u32],
-    mask: usize,
-    hashes: &H,
-    home: usize,
-    group: usize,
-) -> bool
+fn is_home_of<H: Hashes>(tokens: &[u32], mask: usize, hashes: &H, home: usize, group: usize) -> bool
     requires within { 16 * group + 16 ≤ length tokens.now }
     requires few { length tokens.now ≤ 2 ^ 33 }
     requires known { AreKnown (H.Knows hashes.now) tokens.now }
@@ -274,13 +268,7 @@ fn is_home_of<H: Hashes>(
 }
 
 // Lets a home reach no farther than to the last group that has a token of it.
-fn shorten<H: Hashes>(
-    tokens: &[u32],
-    reaches: &mut [u32],
-    mask: usize,
-    hashes: &H,
-    home: usize,
-)
+fn shorten<H: Hashes>(tokens: &[u32], reaches: &mut [u32], mask: usize, hashes: &H, home: usize)
     requires groups { length reaches.old ≡ mask + 1 }
     requires sized { length tokens.now ≡ 16 * (mask + 1) }
     requires power { IsPowerOfTwo (mask + 1) }

@@ -1,5 +1,5 @@
-use Rattle.std.proofs.Common.{◌≡◌, ◌∙◌, ap, subst, List, ℕ}
-use Rattle.quick_cache_index.specs.IndexGroups.{candidates_left, CoversTagged}
+use Rattle.std.proofs.Common.{◌∙◌, ap}
+use Rattle.quick_cache_index.specs.IndexGroups.{candidates_left}
 use Rattle.quick_cache_index.proofs.Candidates.{AreCandidates-walk, CoversTagged-lent}
 use Rattle.quick_cache_index.proofs.index.Index.candidates.Goals as goal
 

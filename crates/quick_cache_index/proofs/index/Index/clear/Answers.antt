@@ -1,4 +1,4 @@
-use Rattle.std.proofs.Common.{◌≡◌, ap, sym, ◌∙◌, arith}
+use Rattle.std.proofs.Common.{ap, sym, ◌∙◌}
 use Rattle.quick_cache_index.specs.Index.{token_count}
 use Rattle.quick_cache_index.proofs.ShownTokens.{HasNone-count}
 use Rattle.quick_cache_index.proofs.index.Index.clear.Goals as goal

@@ -1,4 +1,4 @@
-use Rattle.std.proofs.Common.{refl, ◌≡◌, ◌<◌, ◌-◌, ◌∙◌, ap, sym, subst, List, ℕ, arith, length, count_by}
+use Rattle.std.proofs.Common.{◌≡◌, ◌-◌, ◌∙◌, ap, sym, ℕ, arith, length, count_by}
 use Rattle.std.proofs.lemmas.List.{with_items_is}
 use Rattle.std.specs.Int.NonZero.{non_zero_u32_get}
 use Rattle.quick_cache_index.specs.Index.{holds}

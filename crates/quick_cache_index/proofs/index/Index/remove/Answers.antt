@@ -1,8 +1,8 @@
-use Rattle.std.proofs.Common.{refl, ◌≡◌, ◌<◌, ◌≤◌, ◌-◌, ◌+◌, ◌==◌, ◌∙◌, ap, sym, subst, List, ℕ, arith, length, count_by, get_or, set}
+use Rattle.std.proofs.Common.{refl, ◌≡◌, ◌≤◌, ◌-◌, ◌==◌, ◌∙◌, ap, sym, subst, ℕ, arith, length, count_by, get_or, set}
 use Rattle.std.proofs.lemmas.List.{with_items_is}
 use Rattle.std.specs.Int.NonZero.{non_zero_u32_get}
 use Rattle.quick_cache_index.specs.Index.{Index, holds}
-use Rattle.quick_cache_index.specs.IndexGroups.{taken_count, capacity_of, candidates_left, AreKnown}
+use Rattle.quick_cache_index.specs.IndexGroups.{candidates_left, AreKnown}
 use Rattle.quick_cache_index.proofs.Candidates.{CoversTagged-lent, times-leads}
 use Rattle.quick_cache_index.proofs.ShownTokens.{AreKnown-others, LeavesPlace-lent, KeepsOtherLeads-leave, LosesToken-leave, taken_count-leaves, IsSound-leave}
 use Rattle.quick_cache_index.proofs.index.Index.remove.Goals as goal

@@ -1,4 +1,4 @@
-use Rattle.std.proofs.Common.{◌≡◌, ◌-◌, ◌∙◌, ap, sym, subst, List, ℕ, arith, length, vec_len}
+use Rattle.std.proofs.Common.{◌≡◌, ◌-◌, ap, subst, arith, vec_len}
 use Rattle.quick_cache_index.specs.IndexGroups.{AreSame}
 use Rattle.quick_cache_index.proofs.ShownTokens.{HasSameTokens-same, KeepsLeads-housed, IsSound-grown}
 use Rattle.quick_cache_index.proofs.index.Index.reserve.Goals as goal

@@ -1,6 +1,6 @@
 -- New tags and reaches are all 0, so that no token is to be housed yet, and new places are free.
-use Rattle.std.proofs.Common.{rules, ◌≡◌, ℕ, ◌++◌, ◌-◌, ◌*◌, ◌<◌, List, length, replicate, get_or, ap, ◌∙◌, arith, IsOk, is_ok}
-use Rattle.std.proofs.lemmas.List.{length-append, length-replicate, with_items_is}
+use Rattle.std.proofs.Common.{rules, ◌≡◌, ℕ, ◌-◌, ◌*◌, ◌<◌, length, get_or, ap, ◌∙◌, arith, IsOk, is_ok}
+use Rattle.std.proofs.lemmas.List.{with_items_is}
 use Rattle.quick_cache_index.proofs.CountedTokens.{AreSame-then, AreSame-filled, AreKnown-same, filled_up}
 use Rattle.quick_cache_index.proofs.HousedTokens.{zero_past, IsHoused-untagged}
 use Rattle.quick_cache_index.proofs.index.groups.grow.Goals as goal

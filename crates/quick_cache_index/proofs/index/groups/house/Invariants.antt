@@ -1,5 +1,5 @@
 -- Where there is a tag, its token is housed, and the tokens are those that there were.
-use Rattle.std.proofs.Common.{◌≡◌, eqb, count_by}
+use Rattle.std.proofs.Common.{eqb, count_by}
 use Rattle.quick_cache_index.specs.IndexGroups.{IsHoused, IsBareBelow, AreSame}
 use Rattle.quick_cache_index.proofs.index.groups.house.Given as goal
 

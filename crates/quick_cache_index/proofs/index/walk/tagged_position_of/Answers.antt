@@ -1,4 +1,4 @@
-use Rattle.std.proofs.Common.{◌≡◌, ◌<◌, ℕ, get_or, sym, ap, ◌∙◌}
+use Rattle.std.proofs.Common.{get_or, ap, ◌∙◌}
 use Rattle.quick_cache_index.specs.IndexGroups.{candidates_left}
 use Rattle.quick_cache_index.proofs.WalkedTokens.{count_by-passed}
 use Rattle.quick_cache_index.proofs.index.walk.tagged_position_of.Goals as goal

@@ -1,5 +1,5 @@
 use Rattle.quick_cache_index.specs.declared.index.walk.Walk.{Walk}
-use Rattle.quick_cache_index.proofs.WalkedTokens.{begins_walk, some-from_test, CoversTagged-none}
+use Rattle.quick_cache_index.proofs.WalkedTokens.{begins_walk, some-from_test}
 use Rattle.quick_cache_index.proofs.index.walk.Walk.new.Goals as goal
 
 pub returns-then-not-is_empty-clause-walk : goal.returns-then-not-is_empty-clause-walk
