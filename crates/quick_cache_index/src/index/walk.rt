@@ -38,12 +38,13 @@ impl<'a> Walk<'a> {
             tokens,
             reaches,
             hash,
-            home: 0,
+            home: home_of(hash, mask),
             step: 0,
             lanes: 0,
         };
-        if !reaches.is_empty() {
-            walk.home = home_of(hash, mask);
+        // Only an index without groups has no reach there. `reach` asks the same, so that the
+        // compiler leaves out the second test.
+        if walk.home < reaches.len() {
             walk.lanes = lanes_of(tags, walk.home, tag_of(hash));
         }
         walk
@@ -86,8 +87,48 @@ impl<'a> Walk<'a> {
     }
 }
 
+// The position of that token, where the next place of the group that is being read has it.
+#[inline(always)]
+fn first_position_of(walk: &Walk<'_>, token: u32) -> Option<usize>
+    requires { IsWalk walk.now }
+    ensures within { IfSome result (λ position. position < length walk.now.tokens.now) }
+    ensures found { IfSome result (λ position.
+        slice_index walk.now.tokens.now position ≡ token) }
+{
+    if walk.lanes == 0 {
+        return None;
+    }
+    let position = LANES * (walk.home ^ walk.step) + walk.lanes.trailing_zeros() as usize;
+    let tokens = walk.tokens;
+    if tokens[position] == token {
+        Some(position)
+    } else {
+        None
+    }
+}
+
 // The position of that token, where a place has it that has the tag of the hash.
-pub(crate) fn tagged_position_of(mut walk: Walk<'_>, token: u32) -> Option<usize>
+//
+// The first place of the home group is nearly always the one. Apart from the rest it takes half of
+// the instructions.
+#[inline(always)]
+pub(crate) fn tagged_position_of(walk: Walk<'_>, token: u32) -> Option<usize>
+    requires { IsWalk walk }
+    ensures within { IfSome result (λ position. position < length walk.entry.tokens.now) }
+    ensures found { IfSome result (λ position.
+        slice_index walk.entry.tokens.now position ≡ token) }
+    ensures none { IfNone result
+        (count_by (λ t. t == token) (candidates_left walk.entry) ≡ 0) }
+{
+    match first_position_of(&walk, token) {
+        Some(position) => Some(position),
+        None => position_on_walk(walk, token),
+    }
+}
+
+// The same by a walk over all places that may have the token.
+#[inline(never)]
+fn position_on_walk(mut walk: Walk<'_>, token: u32) -> Option<usize>
     requires { IsWalk walk }
     ensures within { IfSome result (λ position. position < length walk.entry.tokens.now) }
     ensures found { IfSome result (λ position.

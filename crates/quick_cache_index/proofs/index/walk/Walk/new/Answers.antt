@@ -1,9 +1,10 @@
+use Rattle.std.proofs.Common.{◌<◌, length, arith}
 use Rattle.quick_cache_index.specs.declared.index.walk.Walk.{Walk}
-use Rattle.quick_cache_index.proofs.WalkedTokens.{begins_walk, some-from_test}
+use Rattle.quick_cache_index.proofs.WalkedTokens.{begins_walk}
 use Rattle.quick_cache_index.proofs.index.walk.Walk.new.Goals as goal
 
-pub returns-then-not-is_empty-clause-walk : goal.returns-then-not-is_empty-clause-walk
-returns-then-not-is_empty-clause-walk c =
+pub returns-then-walk-reaches-clause-walk : goal.returns-then-walk-reaches-clause-walk
+returns-then-walk-reaches-clause-walk c =
     let walk : Walk =
     record {
       tags = c.args.tags;
@@ -15,14 +16,14 @@ returns-then-not-is_empty-clause-walk c =
       step = 0;
       lanes = 0;
     } in
-    let some = some-from_test c.args.reaches.now c.if-not-is_empty.ensures in
+    let some : 0 < length c.args.reaches.now = omega (arith, c.if-walk-reaches.true) in
     (begins_walk walk c.args.mask c.home_of.result c.tag_of.result c.lanes_of.result
     c.requires.sized c.requires.matched some
     c.home_of.ensures.value c.tag_of.ensures.value c.lanes_of.ensures).still
 
 -- each token with the tag that the hash's home reaches stands in a group that the walk reads
-pub returns-then-not-is_empty-clause-all : goal.returns-then-not-is_empty-clause-all
-returns-then-not-is_empty-clause-all c =
+pub returns-then-walk-reaches-clause-all : goal.returns-then-walk-reaches-clause-all
+returns-then-walk-reaches-clause-all c =
     let walk : Walk =
     record {
       tags = c.args.tags;
@@ -34,7 +35,7 @@ returns-then-not-is_empty-clause-all c =
       step = 0;
       lanes = 0;
     } in
-    let some = some-from_test c.args.reaches.now c.if-not-is_empty.ensures in
+    let some : 0 < length c.args.reaches.now = omega (arith, c.if-walk-reaches.true) in
     (begins_walk walk c.args.mask c.home_of.result c.tag_of.result c.lanes_of.result
     c.requires.sized c.requires.matched some
     c.home_of.ensures.value c.tag_of.ensures.value c.lanes_of.ensures).all

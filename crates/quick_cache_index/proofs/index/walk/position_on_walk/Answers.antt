@@ -1,7 +1,7 @@
 use Rattle.std.proofs.Common.{get_or, ap, ◌∙◌}
 use Rattle.quick_cache_index.specs.IndexGroups.{candidates_left}
 use Rattle.quick_cache_index.proofs.WalkedTokens.{count_by-passed}
-use Rattle.quick_cache_index.proofs.index.walk.tagged_position_of.Goals as goal
+use Rattle.quick_cache_index.proofs.index.walk.position_on_walk.Goals as goal
 
 -- the place that was met has another token
 pub loop-position-preserved : goal.loop-position-preserved

@@ -1,6 +1,6 @@
 use Rattle.std.proofs.Common.{◌≡◌, ◌==◌, length, count_by}
 use Rattle.quick_cache_index.specs.IndexGroups.{IsWalk, candidates_left}
-use Rattle.quick_cache_index.proofs.index.walk.tagged_position_of.Given as goal
+use Rattle.quick_cache_index.proofs.index.walk.position_on_walk.Given as goal
 
 -- what is left has the token as often as all of it
 abbrev pub invariant-loop-position : goal.invariant-loop-position
