@@ -1,9 +1,11 @@
-//! Tests of what stands below the cache: the slab, the table, the loading core, options and sizes,
-//! and the test allocator.
+//! Tests of what stands below the cache: the slab, the table, the index, the loading core, options
+//! and sizes, and the test allocator.
 #![tactic(auto)]
 
 #[cfg(test)]
 mod asked_memory;
+#[cfg(test)]
+mod index;
 #[cfg(test)]
 mod linked_slab;
 #[cfg(test)]
