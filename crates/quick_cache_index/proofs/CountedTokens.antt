@@ -55,7 +55,8 @@ bit-not true = refl
 bit-not false = refl
 
 -- each place has a token or is free
-pub taken_count-free : (tokens : List ℕ) → taken_count tokens + count_by is_free tokens ≡ length tokens
+pub taken_count-free : (tokens : List ℕ)
+    → taken_count tokens + count_by is_free tokens ≡ length tokens
 taken_count-free [] = refl
 taken_count-free (token ∷ rest) =
     omega (

@@ -14,8 +14,9 @@ AreWithin hashed tokens reaches mask home step =
 
 -- one step less, where no token of that home is in the group at that distance
 pub AreWithin-less : (hashed : ℕ → ℕ) (tokens reaches : List ℕ) (mask home step : ℕ)
-    → AreWithin hashed tokens reaches mask home step → step ≢ 0 →
-    ((lane : ℕ) → lane < 16 → 0 < get_or tokens (16 * bit_xor home step + lane) 0 → home_of mask (hashed (get_or tokens (16 * bit_xor home step + lane) 0)) ≡ home → ⊥)
+    → AreWithin hashed tokens reaches mask home step → step ≢ 0
+    → ((lane : ℕ) → lane < 16 → 0 < get_or tokens (16 * bit_xor home step + lane) 0
+    → home_of mask (hashed (get_or tokens (16 * bit_xor home step + lane) 0)) ≡ home → ⊥)
     → AreWithin hashed tokens reaches mask home (step - 1)
 AreWithin-less hashed tokens reaches mask home step within some none position taken at reached =
     let near : distance home position ≤ step = within position taken at reached in

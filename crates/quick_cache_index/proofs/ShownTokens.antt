@@ -67,8 +67,8 @@ pub Leads-take : (old new : Index) (hash token : ℕ)
     → TakesPlace old.tags new.tags old.tokens new.tokens old.reaches new.reaches new.mask hash token
     → length old.tags ≡ length old.tokens → 0 < token → Leads new hash token
 Leads-take old new hash token takes long some =
-    let at = taken-take old.tags new.tags old.tokens new.tokens old.reaches new.reaches new.mask hash
-    token takes long in
+    let at = taken-take old.tags new.tags old.tokens new.tokens old.reaches new.reaches new.mask
+    hash token takes long in
     record {
       some = some;
       position = takes.position;
@@ -81,8 +81,8 @@ pub KeepsAllLeads-take : (old new : Index) (hash token : ℕ)
     → TakesPlace old.tags new.tags old.tokens new.tokens old.reaches new.reaches new.mask hash token
     → new.mask ≡ old.mask → KeepsAllLeads old new
 KeepsAllLeads-take old new hash token takes mask h k leads =
-    let kept = kept-take old.tags new.tags old.tokens new.tokens old.reaches new.reaches new.mask hash
-    token leads.position takes
+    let kept = kept-take old.tags new.tags old.tokens new.tokens old.reaches new.reaches new.mask
+    hash token leads.position takes
     (λ same. absurd (omega (
       arith,
       leads.some,
@@ -93,8 +93,9 @@ KeepsAllLeads-take old new hash token takes mask h k leads =
     in
     let P : ℕ → Type 0 =
     λ m. distance (home_of m h) leads.position ≤ get_or new.reaches (home_of m h) 0 in
-    let near : distance (home_of old.mask h) leads.position ≤ get_or new.reaches (home_of old.mask h) 0 =
-    omega (arith, leads.reached, takes.grow.1 (home_of old.mask h)) in
+    let home : ℕ = home_of old.mask h in
+    let near : distance home leads.position ≤ get_or new.reaches home 0 =
+    omega (arith, leads.reached, takes.grow.1 home) in
     record {
       some = leads.some;
       position = leads.position;
@@ -131,8 +132,8 @@ IsSound-take tags tags' tokens tokens' reaches reaches' mask len hash token soun
     absent room =
     let long = sound.sized.tagged in
     let at = taken-take tags tags' tokens tokens' reaches reaches' mask hash token takes long in
-    let kept = λ (position : ℕ). kept-take tags tags' tokens tokens' reaches reaches' mask hash token
-    position takes in
+    let kept = λ (position : ℕ). kept-take tags tags' tokens tokens' reaches reaches' mask hash
+    token position takes in
     record {
       sized = sized;
       matched = record {
@@ -230,8 +231,8 @@ pub LeavesPlace-lent : (hashed : ℕ → ℕ) (tags tags' tokens tokens' reaches
     → tokens' ≡ set lent_tokens position 0
     → KeepsReached hashed tokens' lent_reaches reaches' mask
     → LeavesPlace hashed tags tags' tokens tokens' reaches reaches' mask token position
-LeavesPlace-lent hashed tags tags' tokens tokens' reaches reaches' lent_tags lent_tokens lent_reaches
-    read mask got token position tags_are tokens_are reaches_are read_is token_is some found tag_is
+LeavesPlace-lent hashed tags tags' tokens tokens' reaches reaches' lent_tags lent_tokens
+    lent_reaches read mask got token position tags_are tokens_are reaches_are read_is token_is some found tag_is
     place_is kept =
     let R : List ℕ → Type 0 = λ rs. KeepsReached hashed tokens' rs reaches' mask in
     record {
@@ -246,7 +247,8 @@ kept-leave : (hashed : ℕ → ℕ) (tags tags' tokens tokens' reaches reaches' 
     (mask token place position : ℕ)
     → LeavesPlace hashed tags tags' tokens tokens' reaches reaches' mask token place
     → position ≢ place → IsKept tags tags' tokens tokens' position
-kept-leave hashed tags tags' tokens tokens' reaches reaches' mask token place position leaves other =
+kept-leave hashed tags tags' tokens tokens' reaches reaches' mask token place position leaves
+    other =
     record {
       token =
           ap (λ ts. get_or ts position 0) leaves.token_is
@@ -315,8 +317,8 @@ pub IsSound-leave : (hashed : ℕ → ℕ) (tags tags' tokens tokens' reaches re
     → IsGrouped tags' tokens' reaches' mask
     → LeavesPlace hashed tags tags' tokens tokens' reaches reaches' mask token place
     → length reaches' ≡ length reaches → less ≡ len - 1 → IsSound tags' tokens' reaches' mask less
-IsSound-leave hashed tags tags' tokens tokens' reaches reaches' mask len less token place sound sized
-    leaves groups fewer =
+IsSound-leave hashed tags tags' tokens tokens' reaches reaches' mask len less token place sound
+    sized leaves groups fewer =
     let inside : place < length tokens =
     inside-some tokens place (omega (arith, leaves.some, leaves.there)) in
     let gone : get_or tokens' place 0 ≡ 0 =

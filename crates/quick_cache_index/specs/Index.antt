@@ -1,4 +1,5 @@
--- What a contract sees of an `Index`: tokens at places, found by a tag and by how far a search goes.
+-- What a contract sees of an `Index`: tokens at places, found by a tag and by how far a search
+-- goes.
 use Rattle.std.specs.Prelude.{◌≡◌, ℕ, ◌-◌, ◌/◌, ◌^◌, ◌<◌, ◌≤◌, min, max, Bool, false, ◌&&◌, ◌||◌, not, ◌==◌, nat_lt, IsTrue, List, count_by, bit_and, bit_xor, slice_index, refl}
 use Rattle.std.specs.Coded.{Coded, code_by, coded×, coded_ℕ, coded_list}
 
@@ -99,7 +100,8 @@ HasSameTokens old new = (token : ℕ) → has_token new token ≡ has_token old 
 
 -- the token came, and the others stay as they were
 abbrev pub GainsToken : Index → Index → ℕ → Type 0
-GainsToken old new token = (other : ℕ) → has_token new other ≡ ((other == token) || has_token old other)
+GainsToken old new token =
+    (other : ℕ) → has_token new other ≡ ((other == token) || has_token old other)
 
 -- the token went, and the others stay as they were
 abbrev pub LosesToken : Index → Index → ℕ → Type 0

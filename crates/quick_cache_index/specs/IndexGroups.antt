@@ -1,5 +1,5 @@
--- How an `Index` lays out its tokens: places in groups of sixteen, each with a tag. No public clause
--- cites this module.
+-- How an `Index` lays out its tokens: places in groups of sixteen, each with a tag. No public
+-- clause cites this module.
 use Rattle.std.specs.Prelude.{◌≡◌, ℕ, ◌+◌, ◌-◌, ◌*◌, ◌^◌, ◌<◌, ◌≤◌, not, ◌==◌, min, if◌then◌else◌, List, [], ◌∷◌, zero, suc, length, count_by, filter, filter_map, ◌++◌, Option, Some, None, bit_xor, slice_index, slice_set}
 use Rattle.std.specs.Int.{IsPowerOfTwo, bit_at}
 use Rattle.quick_cache_index.specs.Index.{tag_of, home_of, IsReached, is_free, holds}
@@ -36,7 +36,8 @@ pub record IsSound (tags tokens reaches : List ℕ) (mask len : ℕ) : Type 0 wh
   pub once : (token : ℕ) → count_by (holds token) tokens ≤ 1
 
 -- a token stands at the position under the tag of its hash, and a search finds it there
-pub record IsHousedAt (hashed : ℕ → ℕ) (tags reaches : List ℕ) (mask token position : ℕ) : Type 0 where
+pub record IsHousedAt (hashed : ℕ → ℕ) (tags reaches : List ℕ)
+    (mask token position : ℕ) : Type 0 where
   pub taken : 0 < token
   pub tag : slice_index tags position ≡ tag_of (hashed token)
   pub reached : IsReached reaches mask (hashed token) position

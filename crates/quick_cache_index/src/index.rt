@@ -229,8 +229,8 @@ impl<A: Allocator> Index<A> {
 
     /// Tokens that are there, among them each to which that hash leads, in no order that counts.
     ///
-    /// These are the tokens of all places on the hash's way that have its tag, so that of 255 others
-    /// about one is among them. It asks for no hash. A caller who compares keys needs none.
+    /// These are the tokens of all places on the hash's way that have its tag, so that of 255
+    /// others about one is among them. It asks for no hash. A caller who compares keys needs none.
     #[inline(always)]
     pub fn candidates(&self, hash: u64) -> Candidates<'_>
         ensures { AreCandidates self.now hash result }

@@ -22,8 +22,8 @@ unreachable-requires g c =
     (ap (λ i. i.mask) c.self.view_is) c.new-walk.ensures.all in
     let T : ℕ → Type 0 = λ k. count_by (λ t. t == k) (candidates_left walk) ≡ 0 in
     let none = subst T c.get.ensures.value c.in_default.ensures.none in
-    omega
-    (arith, none, times-leads shown c.args.hash token (candidates_left walk) c.requires.there covers)
+    let among = times-leads shown c.args.hash token (candidates_left walk) c.requires.there covers in
+    omega (arith, none, among)
 
 -- no other place has the token, and each other token is known
 pub leave_place-requires-clause-known : goal.leave_place-requires-clause-known

@@ -7,7 +7,8 @@ abbrev pub invariant-loop-position : goal.invariant-loop-position
 invariant-loop-position l = record {
   still : IsWalk l.walk;
   tokens : l.walk.tokens ≡ l.fn.walk.tokens;
-  left : count_by (λ t. t == l.token) (candidates_left l.walk) ≡ count_by (λ t. t == l.token) (candidates_left l.fn.walk);
+  left : count_by (λ t. t == l.token) (candidates_left l.walk)
+      ≡ count_by (λ t. t == l.token) (candidates_left l.fn.walk);
 }
 
 abbrev pub decreases-loop-position : goal.decreases-loop-position
