@@ -1,9 +1,8 @@
 -- What a walk over the groups of a hash meets: each token whose place has its tag.
-use Rattle.std.proofs.Common.{◌≡◌, ℕ, zero, suc, ◌+◌, ◌-◌, ◌*◌, ◌/◌, ◌%◌, ◌^◌, ◌<◌, ◌≤◌, false, true, cond, eqb, List, [], ◌∷◌, ◌++◌, length, map, get_or, Option, Some, None, refl, sym, ap, subst, ◌∙◌, inl, inr, arith, count_by, bit_and, bit_xor}
+use Rattle.std.proofs.Common.{◌≡◌, ℕ, zero, suc, ◌+◌, ◌-◌, ◌*◌, ◌/◌, ◌%◌, ◌^◌, ◌<◌, ◌≤◌, cond, eqb, List, [], ◌∷◌, ◌++◌, length, map, get_or, Option, Some, None, refl, sym, ap, subst, ◌∙◌, inl, inr, arith, count_by, bit_and, bit_xor}
 use Rattle.std.specs.Int.Bits.{xor_zero_r}
 use Rattle.std.specs.Int.{trailing_zeros, w64}
 use Rattle.std.specs.List.{cons_option, filter_map}
-use Rattle.std.proofs.lemmas.Bool.Decides.{eqb_tells}
 use Rattle.std.proofs.lemmas.Bool.{eqb-true, eq-eqb, ne_eqb}
 use Rattle.std.proofs.lemmas.Nat.{xor_lt, and_le_r}
 use Rattle.std.specs.Simd.Lanes.{chunk, mask_l}
@@ -342,16 +341,6 @@ begins_walk walk mask home tag lanes sized matched some begins value at =
     let Q : ℕ → Type 0 =
     λ group. BeginsWalk walk mask group (lanes_at (home_of mask walk.hash) (tag_of walk.hash)) in
     subst P (sym same) (subst Q (sym begins) (begins_walk-tag walk mask sized matched some))
-
--- a list that fails the test for an empty one
-pub some-from_test : (xs : List ℕ) → false ≡ eqb (length xs) 0 → 0 < length xs
-some-from_test xs fails =
-    elim (eqb_tells (length xs) 0) [
-      | inl none ↦
-          let contrary : false ≡ true = fails ∙ none.0 in
-          absurd (cc)
-      | inr some ↦ omega (arith, some.1)
-    ]
 
 -- a token that was met, and is another, does not count
 pub count_by-passed : (tokens rest : List ℕ) (met k : ℕ) → tokens ≡ met ∷ rest → ¬ (met ≡ k)
