@@ -267,7 +267,9 @@ fn is_home_of<H: Hashes>(tokens: &[u32], mask: usize, hashes: &H, home: usize, g
     false
 }
 
-// Lets a home reach no farther than to the last group that has a token of it.
+// Lets a home reach no farther than to the last group that has a token of it. It is seldom called.
+#[cold]
+#[inline(never)]
 fn shorten<H: Hashes>(tokens: &[u32], reaches: &mut [u32], mask: usize, hashes: &H, home: usize)
     requires groups { length reaches.old ≡ mask + 1 }
     requires sized { length tokens.now ≡ 16 * (mask + 1) }

@@ -127,6 +127,7 @@ pub(crate) fn tagged_position_of(walk: Walk<'_>, token: u32) -> Option<usize>
 }
 
 // The same by a walk over all places that may have the token.
+#[cold]
 #[inline(never)]
 fn position_on_walk(mut walk: Walk<'_>, token: u32) -> Option<usize>
     requires { IsWalk walk }
