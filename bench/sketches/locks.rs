@@ -1,4 +1,4 @@
-//! What threads over sixteen locks cost at the least: each turn draws a lock and a slot, takes the lock to read by one
+//! What threads over sixteen locks cost: each turn draws a lock and a slot, takes the lock to read by one
 //! atomic step, reads the slot, counts or does not, and lets the lock go by another. It prints the wall time of all
 //! turns by their number, in nanoseconds.
 use std::hint::black_box;
