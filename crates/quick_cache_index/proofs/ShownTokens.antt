@@ -311,6 +311,20 @@ taken_count-leaves hashed tags tags' tokens tokens' reaches reaches' mask token 
     ap (λ ts. taken_count ts + 1) leaves.token_is
     ∙ taken_count-leave tokens place token leaves.some leaves.there
 
+-- groups stay as they are when places change
+pub IsGrouped-as_long : (tags tags' tokens tokens' reaches : List ℕ) (mask : ℕ)
+    → IsGrouped tags tokens reaches mask → length tags' ≡ length tags
+    → length tokens' ≡ length tokens → IsGrouped tags' tokens' reaches mask
+IsGrouped-as_long tags tags' tokens tokens' reaches mask sized tags_as_long tokens_as_long =
+    record {
+      groups = sized.groups;
+      sixteen = tokens_as_long ∙ sized.sixteen;
+      tagged = tags_as_long ∙ sized.tagged ∙ sym tokens_as_long;
+      power = sized.power;
+      few = sized.few;
+      near = sized.near;
+    }
+
 -- an index stays sound when a token leaves its place
 pub IsSound-leave : (hashed : ℕ → ℕ) (tags tags' tokens tokens' reaches reaches' : List ℕ)
     (mask len less token place : ℕ) → IsSound tags tokens reaches mask len

@@ -14,7 +14,7 @@ pub use hashes::Hashes;
 use quick_cache_model::{Refusal, Token};
 use std::alloc::{Allocator, Global};
 use std::marker::Model;
-use walk::{Walk, tagged_position_of};
+use walk::{Walk, first_position_of, position_on_walk};
 
 /// Tokens by hash, each at one place at most.
 ///
@@ -205,6 +205,41 @@ impl<A: Allocator> Index<A> {
         ensures room { self.new.room ≡ self.old.room + 1 }
         ensures allocated { self.new.allocated ≡ self.old.allocated }
     {
+        let walk = Walk::begin(
+            self.tags.as_slice(),
+            self.tokens.as_slice(),
+            self.reaches.as_slice(),
+            self.mask,
+            hash,
+        );
+        // The first place of the home group is nearly always the one, and no reach ends there, so
+        // that a look at it alone takes half of the instructions.
+        match first_position_of(&walk, token.get()) {
+            Some(position) => {
+                groups::free_place(
+                    self.tags.as_mut_slice(),
+                    self.tokens.as_mut_slice(),
+                    position,
+                );
+                self.len -= 1;
+            }
+            None => self.remove_on_walk(hashes, hash, token),
+        }
+    }
+
+    // The same by a walk over all places that may have the token.
+    #[cold]
+    #[inline(never)]
+    fn remove_on_walk<H: Hashes>(&mut self, hashes: &H, hash: u64, token: Token)
+        requires there { Leads self.old hash (non_zero_u32_get token) }
+        requires known { AreOthers (H.Knows hashes.now) self.old (non_zero_u32_get token) }
+        ensures tokens { LosesToken self.old self.new (non_zero_u32_get token) }
+        ensures kept { KeepsOtherLeads self.old self.new (H.hash_of hashes.now)
+            (non_zero_u32_get token) }
+        ensures count { token_count self.new + 1 ≡ token_count self.old }
+        ensures room { self.new.room ≡ self.old.room + 1 }
+        ensures allocated { self.new.allocated ≡ self.old.allocated }
+    {
         let walk = Walk::new(
             self.tags.as_slice(),
             self.tokens.as_slice(),
@@ -212,7 +247,7 @@ impl<A: Allocator> Index<A> {
             self.mask,
             hash,
         );
-        let Some(position) = tagged_position_of(walk, token.get()) else {
+        let Some(position) = position_on_walk(walk, token.get()) else {
             unreachable!()
         };
         groups::leave_place(

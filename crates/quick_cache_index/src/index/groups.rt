@@ -293,6 +293,18 @@ fn shorten<H: Hashes>(tokens: &[u32], reaches: &mut [u32], mask: usize, hashes: 
     reaches[home] = step;
 }
 
+// Frees a place, and lets the reaches be.
+#[inline(always)]
+pub(crate) fn free_place(tags: &mut [u8], tokens: &mut [u32], position: usize)
+    requires tagged { length tags.old ≡ length tokens.old }
+    requires within { position < length tokens.old }
+    ensures tags { tags.new ≡ slice_set tags.old position 0 }
+    ensures tokens { tokens.new ≡ slice_set tokens.old position 0 }
+{
+    tags[position] = 0;
+    tokens[position] = 0;
+}
+
 // Frees a place, whose token is of that hash. It asks for hashes only where the place was as far
 // out as its home reaches.
 pub(crate) fn leave_place<H: Hashes>(
@@ -313,8 +325,7 @@ pub(crate) fn leave_place<H: Hashes>(
     ensures reached { KeepsReached (H.hash_of hashes.now) tokens.new reaches.old reaches.new mask }
 {
     let home = home_of(hash, mask);
-    tags[position] = 0;
-    tokens[position] = 0;
+    free_place(tags, tokens, position);
     let step = home ^ position / LANES;
     if step != 0 && step == reaches[home] as usize {
         shorten(tokens, reaches, mask, hashes, home);

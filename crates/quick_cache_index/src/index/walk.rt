@@ -19,6 +19,35 @@ pub(crate) struct Walk<'a> {
 }
 
 impl<'a> Walk<'a> {
+    /// A walk of an index that has groups.
+    #[inline(always)]
+    pub(crate) fn begin(
+        tags: &'a [u8],
+        tokens: &'a [u32],
+        reaches: &'a [u32],
+        mask: usize,
+        hash: u64,
+    ) -> Walk<'a>
+        requires sized { IsGrouped tags.now tokens.now reaches.now mask }
+        requires matched { IsMatched tags.now tokens.now }
+        requires some { 0 < length reaches.now }
+        ensures walk { IsWalk result }
+        ensures tokens { result.tokens ≡ tokens.entry }
+        ensures all { CoversTagged tags.now tokens.now reaches.now mask hash
+            (candidates_left result) }
+    {
+        let home = home_of(hash, mask);
+        Walk {
+            tags,
+            tokens,
+            reaches,
+            hash,
+            home,
+            step: 0,
+            lanes: lanes_of(tags, home, tag_of(hash)),
+        }
+    }
+
     pub(crate) fn new(
         tags: &'a [u8],
         tokens: &'a [u32],
@@ -89,7 +118,7 @@ impl<'a> Walk<'a> {
 
 // The position of that token, where the next place of the group that is being read has it.
 #[inline(always)]
-fn first_position_of(walk: &Walk<'_>, token: u32) -> Option<usize>
+pub(crate) fn first_position_of(walk: &Walk<'_>, token: u32) -> Option<usize>
     requires { IsWalk walk.now }
     ensures within { IfSome result (λ position. position < length walk.now.tokens.now) }
     ensures found { IfSome result (λ position.
@@ -108,28 +137,7 @@ fn first_position_of(walk: &Walk<'_>, token: u32) -> Option<usize>
 }
 
 // The position of that token, where a place has it that has the tag of the hash.
-//
-// The first place of the home group is nearly always the one. Apart from the rest it takes half of
-// the instructions.
-#[inline(always)]
-pub(crate) fn tagged_position_of(walk: Walk<'_>, token: u32) -> Option<usize>
-    requires { IsWalk walk }
-    ensures within { IfSome result (λ position. position < length walk.entry.tokens.now) }
-    ensures found { IfSome result (λ position.
-        slice_index walk.entry.tokens.now position ≡ token) }
-    ensures none { IfNone result
-        (count_by (λ t. t == token) (candidates_left walk.entry) ≡ 0) }
-{
-    match first_position_of(&walk, token) {
-        Some(position) => Some(position),
-        None => position_on_walk(walk, token),
-    }
-}
-
-// The same by a walk over all places that may have the token.
-#[cold]
-#[inline(never)]
-fn position_on_walk(mut walk: Walk<'_>, token: u32) -> Option<usize>
+pub(crate) fn position_on_walk(mut walk: Walk<'_>, token: u32) -> Option<usize>
     requires { IsWalk walk }
     ensures within { IfSome result (λ position. position < length walk.entry.tokens.now) }
     ensures found { IfSome result (λ position.
