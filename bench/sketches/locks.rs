@@ -1,15 +1,20 @@
-//! What threads over sixteen locks cost: each turn draws a lock and a slot, takes the lock to read by one
-//! atomic step, reads the slot, counts or does not, and lets the lock go by another. It prints the wall time of all
-//! turns by their number, in nanoseconds.
-use std::hint::black_box;
+//! What threads over sixteen locks cost, where a lock is one word and where it is divided among its readers in eight.
+//! To read, a turn draws a lock and a slot, takes the thread's word of the lock by one atomic step, reads the slot,
+//! counts or does not, and lets the word go by another. To write, it takes all words of the lock. It prints the wall
+//! time of all turns by their number, in nanoseconds.
+use std::hint::{black_box, spin_loop};
 use std::sync::atomic::{AtomicU64, Ordering::SeqCst};
 use std::thread;
 use std::time::Instant;
 
-/// A lock's word and the hits behind it, on a line of their own.
+const LOCKS: usize = 16;
+const TURNS: u64 = 2_000_000;
+const WRITER: u64 = 1 << 40;
+
+/// A word of a lock and the hits behind it, on a line of their own.
 #[repr(align(128))]
 #[derive(Default)]
-struct Lock {
+struct Word {
     readers: AtomicU64,
     hits: AtomicU64,
 }
@@ -22,47 +27,79 @@ struct Slot {
     value: u64,
 }
 
-fn turns(locks: &[Lock], slots: &[Slot], seed: u64, turns: u64, counts: bool) -> u64 {
-    let mut state = seed.wrapping_mul(0x9e37_79b9_7f4a_7c15) | 1;
+fn drawn(state: &mut u64) -> u64 {
+    *state ^= *state << 13;
+    *state ^= *state >> 7;
+    *state ^= *state << 17;
+    *state
+}
+
+fn reads(words: &[Word], slots: &[Slot], thread: u64, turns: u64, counts: bool) -> u64 {
+    let mut state = (thread + 1).wrapping_mul(0x9e37_79b9_7f4a_7c15) | 1;
+    let parts = words.len() / LOCKS;
     let mut sum = 0u64;
     for _ in 0..turns {
-        state ^= state << 13;
-        state ^= state >> 7;
-        state ^= state << 17;
-        let lock = &locks[(state >> 60) as usize];
-        let slot = &slots[(state >> 20) as usize % slots.len()];
-        let mut seen = lock.readers.load(SeqCst);
-        while let Err(now) = lock.readers.compare_exchange(seen, seen + 1, SeqCst, SeqCst) {
+        let number = drawn(&mut state);
+        let word = &words[(number >> 60) as usize * parts + thread as usize % parts];
+        let slot = &slots[(number >> 20) as usize % slots.len()];
+        let mut seen = word.readers.load(SeqCst);
+        while let Err(now) = word.readers.compare_exchange(seen, seen + 1, SeqCst, SeqCst) {
             seen = now;
         }
         sum = sum.wrapping_add(slot.value);
         if counts {
             slot.reads.fetch_add(1, SeqCst);
-            lock.hits.fetch_add(1, SeqCst);
+            word.hits.fetch_add(1, SeqCst);
         }
-        lock.readers.fetch_sub(1, SeqCst);
+        word.readers.fetch_sub(1, SeqCst);
     }
     sum
 }
 
-fn main() {
-    let locks: Vec<Lock> = (0..16).map(|_| Lock::default()).collect();
-    let slots: Vec<Slot> = (0..16_384).map(|_| Slot::default()).collect();
-    let all = 4_000_000;
-    for counts in [false, true] {
-        for threads in [1, 2, 4] {
-            let mut best = f64::MAX;
-            for _ in 0..7 {
-                let start = Instant::now();
-                thread::scope(|scope| {
-                    for thread in 0..threads {
-                        let (locks, slots) = (&locks, &slots);
-                        scope.spawn(move || black_box(turns(locks, slots, thread + 1, all / threads, counts)));
-                    }
-                });
-                best = best.min(start.elapsed().as_nanos() as f64 / all as f64);
+fn writes(words: &[Word], thread: u64, turns: u64) -> u64 {
+    let mut state = (thread + 1).wrapping_mul(0x9e37_79b9_7f4a_7c15) | 1;
+    let parts = words.len() / LOCKS;
+    for _ in 0..turns {
+        let first = (drawn(&mut state) >> 60) as usize * parts;
+        let lock = &words[first..first + parts];
+        for word in lock {
+            while word.readers.compare_exchange(0, WRITER, SeqCst, SeqCst).is_err() {
+                spin_loop();
             }
-            println!("{} counts, {threads} threads: {best:.1} ns", if counts { "two" } else { "no" });
+        }
+        for word in lock {
+            word.readers.fetch_sub(WRITER, SeqCst);
+        }
+    }
+    state
+}
+
+/// The least nanoseconds of a turn, where so many threads share them.
+fn least(threads: u64, turns: &(dyn Fn(u64, u64) -> u64 + Sync)) -> f64 {
+    let mut best = f64::MAX;
+    for _ in 0..7 {
+        let start = Instant::now();
+        thread::scope(|scope| {
+            for thread in 0..threads {
+                scope.spawn(move || black_box(turns(thread, TURNS / threads)));
+            }
+        });
+        best = best.min(start.elapsed().as_nanos() as f64 / TURNS as f64);
+    }
+    best
+}
+
+fn main() {
+    let slots: Vec<Slot> = (0..16_384).map(|_| Slot::default()).collect();
+    for parts in [1, 8] {
+        let words: Vec<Word> = (0..LOCKS * parts).map(|_| Word::default()).collect();
+        for threads in [1, 2, 4] {
+            println!(
+                "{parts} words a lock, {threads} threads: reads {:.1}, with two counts {:.1}; writes {:.1}",
+                least(threads, &|thread, turns| reads(&words, &slots, thread, turns, false)),
+                least(threads, &|thread, turns| reads(&words, &slots, thread, turns, true)),
+                least(threads, &|thread, turns| writes(&words, thread, turns))
+            );
         }
     }
 }

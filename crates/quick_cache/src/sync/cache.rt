@@ -9,6 +9,7 @@ ghost use Rattle.quick_cache_locked.specs.Locked.{FromSome};
 ghost use Rattle.quick_cache_locked.specs.Touches.{any_touches};
 
 use crate::sync::lifecycle::DefaultLifecycle;
+use crossbeam_utils::CachePadded;
 use quick_cache_base::sizes::shard_sizes;
 use quick_cache_base::{
     DefaultHashBuilder, Lifecycle, Options, OptionsBuilder, Refusal, UnitWeighter, Weighter,
@@ -35,7 +36,8 @@ pub struct Cache<
     L: Lifecycle<K, V> = DefaultLifecycle<K, V>,
     A: Allocator = Global,
 > {
-    pub(crate) shards: Vec<RwLock<LockedShard<K, V, We, B, L, A>>, A>,
+    // Each is apart from the others, so that threads at two shards never write to one line.
+    pub(crate) shards: Vec<CachePadded<RwLock<LockedShard<K, V, We, B, L, A>>>, A>,
     pub(crate) builder: B,
 }
 
@@ -196,7 +198,7 @@ impl<K: Eq + Hash + Drop, V: Drop, We, B: BuildHasher, L: Lifecycle<K, V>, A: Al
                 return Err(Refusal::Memory);
             };
             let shard = LockedShard::new(alloc, &options, sizes, weigher, builder, lifecycle)?;
-            shards.push_reserved(RwLock::new(shard));
+            shards.push_reserved(CachePadded::new(RwLock::new(shard)));
         }
         Ok(Cache { shards, builder })
     }
@@ -245,7 +247,7 @@ impl<K: Eq + Hash + Drop, V: Drop, We, B: BuildHasher, L: Lifecycle<K, V>, A: Al
             L.Lifecycle shard)
             K.eq shard.state state.old key value result state.new) }
     {
-        self.shard_of(&key).write(rt).insert(key, value, state)
+        self.writing(rt, &key).insert(key, value, state)
     }
 }
 

@@ -68,8 +68,7 @@ impl<K: Eq + Hash + Drop, V: Drop, We, B: BuildHasher, L: Lifecycle<K, V>, A: Al
             L.Lifecycle shard)
             K.eq shard.state soft state.old key value result state.new) }
     {
-        self.shard_of(&key)
-            .write(rt)
+        self.writing(rt, &key)
             .replace(key, value, soft, state)
     }
 
@@ -83,7 +82,7 @@ impl<K: Eq + Hash + Drop, V: Drop, We, B: BuildHasher, L: Lifecycle<K, V>, A: Al
         ensures fits { AlwaysSteady L.steady → IfSome result
             (λ pair. FitsQuery L.fits (Q.equivalent query.now) pair.1) }
     {
-        self.shard_of(query).write(rt).remove(query)
+        self.writing(rt, query).remove(query)
     }
 
     /// Takes the item under the query's key out where its value is wanted, and gives its pair. A
@@ -104,7 +103,7 @@ impl<K: Eq + Hash + Drop, V: Drop, We, B: BuildHasher, L: Lifecycle<K, V>, A: Al
         ensures fits { AlwaysSteady L.steady → IfSome result
             (λ pair. FitsQuery L.fits (Q.equivalent query.now) pair.1) }
     {
-        self.shard_of(query).write(rt).remove_if(query, wanted)
+        self.writing(rt, query).remove_if(query, wanted)
     }
 
     /// Shows each item to the predicate and drops those that it does not keep, one shard after the
