@@ -247,7 +247,7 @@ impl<K: Eq + Hash + Drop, V: Drop, We, B: BuildHasher, L: Lifecycle<K, V>, A: Al
             L.Lifecycle shard)
             K.eq shard.state state.old key value result state.new) }
     {
-        self.writing(rt, &key).insert(key, value, state)
+        self.shard_of(&key).write(rt).insert(key, value, state)
     }
 }
 

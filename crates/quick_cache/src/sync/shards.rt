@@ -8,7 +8,7 @@ use quick_cache_base::{Equivalent, Lifecycle, hash_of};
 use quick_cache_locked::LockedShard;
 use std::alloc::Allocator;
 use std::hash::{BuildHasher, Hash};
-use std::sync::{RwLock, RwLockReadGuard, RwLockWriteGuard, Wait};
+use std::sync::{RwLock, RwLockReadGuard, Wait};
 
 impl<K: Eq + Hash + Drop, V: Drop, We, B: BuildHasher, L: Lifecycle<K, V>, A: Allocator> Cache<
     K,
@@ -57,20 +57,6 @@ impl<K: Eq + Hash + Drop, V: Drop, We, B: BuildHasher, L: Lifecycle<K, V>, A: Al
         match lock.try_read() {
             Some(guard) => guard,
             None => lock.read(rt),
-        }
-    }
-
-    /// The write lock of the query's shard, which is tried once as that to read is.
-    #[inline(always)]
-    pub(crate) fn writing<R: Wait, Q: Equivalent<K>>(
-        &self,
-        rt: &R,
-        query: &Q,
-    ) -> RwLockWriteGuard<'_, LockedShard<K, V, We, B, L, A>> {
-        let lock = self.shard_of(query);
-        match lock.try_write() {
-            Some(guard) => guard,
-            None => lock.write(rt),
         }
     }
 }

@@ -68,7 +68,8 @@ impl<K: Eq + Hash + Drop, V: Drop, We, B: BuildHasher, L: Lifecycle<K, V>, A: Al
             L.Lifecycle shard)
             K.eq shard.state soft state.old key value result state.new) }
     {
-        self.writing(rt, &key)
+        self.shard_of(&key)
+            .write(rt)
             .replace(key, value, soft, state)
     }
 
@@ -82,7 +83,7 @@ impl<K: Eq + Hash + Drop, V: Drop, We, B: BuildHasher, L: Lifecycle<K, V>, A: Al
         ensures fits { AlwaysSteady L.steady → IfSome result
             (λ pair. FitsQuery L.fits (Q.equivalent query.now) pair.1) }
     {
-        self.writing(rt, query).remove(query)
+        self.shard_of(query).write(rt).remove(query)
     }
 
     /// Takes the item under the query's key out where its value is wanted, and gives its pair. A
@@ -103,7 +104,7 @@ impl<K: Eq + Hash + Drop, V: Drop, We, B: BuildHasher, L: Lifecycle<K, V>, A: Al
         ensures fits { AlwaysSteady L.steady → IfSome result
             (λ pair. FitsQuery L.fits (Q.equivalent query.now) pair.1) }
     {
-        self.writing(rt, query).remove_if(query, wanted)
+        self.shard_of(query).write(rt).remove_if(query, wanted)
     }
 
     /// Shows each item to the predicate and drops those that it does not keep, one shard after the
