@@ -1,7 +1,8 @@
 //! What threads over sixteen locks cost, where a lock is one word and where it is divided among its readers in eight.
 //! To read, a turn draws a lock and a slot, takes the thread's word of the lock by one atomic step, reads the slot,
 //! counts or does not, and lets the word go by another. To write, it takes all words of the lock. It prints the wall
-//! time of all turns by their number, in nanoseconds.
+//! time of all turns by their number, in nanoseconds, and before that what two to four atomic additions take, one after
+//! the other, to words that no other core wants.
 use std::hint::{black_box, spin_loop};
 use std::sync::atomic::{AtomicU64, Ordering::SeqCst};
 use std::thread;
@@ -74,6 +75,16 @@ fn writes(words: &[Word], thread: u64, turns: u64) -> u64 {
     state
 }
 
+/// So many atomic additions a turn, each to a word of its own.
+fn adds(words: &[Word], turns: u64) -> u64 {
+    for _ in 0..turns {
+        for word in words {
+            word.hits.fetch_add(1, SeqCst);
+        }
+    }
+    turns
+}
+
 /// The least nanoseconds of a turn, where so many threads share them.
 fn least(threads: u64, turns: &(dyn Fn(u64, u64) -> u64 + Sync)) -> f64 {
     let mut best = f64::MAX;
@@ -90,6 +101,10 @@ fn least(threads: u64, turns: &(dyn Fn(u64, u64) -> u64 + Sync)) -> f64 {
 }
 
 fn main() {
+    let apart: Vec<Word> = (0..4).map(|_| Word::default()).collect();
+    for count in 2..=4 {
+        println!("{count} atomic additions: {:.1}", least(1, &|_, turns| adds(&apart[..count], turns)));
+    }
     let slots: Vec<Slot> = (0..16_384).map(|_| Slot::default()).collect();
     for parts in [1, 8] {
         let words: Vec<Word> = (0..LOCKS * parts).map(|_| Word::default()).collect();
