@@ -78,14 +78,23 @@ impl<A: Allocator> Row<A> {
         })
     }
 
-    // Makes room for one more token.
+    // Makes room for one more token. A growth comes before any token is taken out, so it puts in
+    // again all that were given.
     fn reserve(&mut self) -> Result<(), Refusal> {
-        self.index.reserve(&self.formula, 1)
+        if self.index.has_room_for(1) {
+            return Ok(());
+        }
+        self.index.clear_for(self.index.len().saturating_add(1))?;
+        let given = self.given;
+        self.given = 0;
+        for _ in 0..given {
+            self.put_in()?;
+        }
+        Ok(())
     }
 
-    // Puts in the next token, where there is room or memory for it.
-    fn put(&mut self) -> Result<(), Refusal> {
-        self.reserve()?;
+    // Puts in the next token, where there is room for it.
+    fn put_in(&mut self) -> Result<(), Refusal> {
         let Some(next) = self.given.checked_add(1) else {
             return Err(Refusal::SlotsFull);
         };
@@ -98,6 +107,12 @@ impl<A: Allocator> Row<A> {
         self.index.insert_reserved(self.formula.hash(token), token);
         self.given = next;
         Ok(())
+    }
+
+    // Puts in the next token, where there is room or memory for it.
+    fn put(&mut self) -> Result<(), Refusal> {
+        self.reserve()?;
+        self.put_in()
     }
 
     fn has(&self, token: Token) -> bool {

@@ -1,14 +1,11 @@
 -- What places hold, counted, and places that are written.
-use Rattle.std.proofs.Common.{◌≡◌, ◌≢◌, ℕ, suc, ◌+◌, ◌-◌, ◌<◌, ◌≤◌, ◌⊎◌, Bool, true, false, cond, not, ◌&&◌, eqb, List, [], ◌∷◌, ◌++◌, length, replicate, take, get_or, set, refl, sym, ap, ◌∙◌, inl, inr, arith, count_by}
-use Rattle.std.specs.List.{swap}
+use Rattle.std.proofs.Common.{◌≡◌, ◌≢◌, ℕ, suc, ◌+◌, ◌<◌, ◌≤◌, ◌⊎◌, Bool, true, false, cond, not, ◌&&◌, eqb, List, [], ◌∷◌, length, get_or, set, refl, sym, ap, subst, ◌∙◌, inl, inr, arith, count_by}
 use Rattle.std.proofs.lemmas.Bool.Decides.{eqb_tells, leb_tells}
 use Rattle.std.proofs.lemmas.Bool.{eqb-true, eq-eqb, ne_eqb}
-use Rattle.std.proofs.lemmas.List.{get_or_past, take_all}
-use Rattle.std.proofs.lemmas.List.Folds.{sum_by-replicate}
-use Rattle.std.proofs.lemmas.List.Sorted.{IsPermutation-swap, sum_by-IsPermutation}
-use Rattle.std.proofs.lemmas.List.Sums.{sum_by-cons, sum_by-set, sum_by-append, get_or-le-sum_by}
-use Rattle.quick_cache_index.specs.Index.{is_free, holds}
-use Rattle.quick_cache_index.specs.IndexGroups.{taken_count, AreSame, AreKnown}
+use Rattle.std.proofs.lemmas.List.{get_or_past, get_or-set_same, get_or-set_other}
+use Rattle.std.proofs.lemmas.List.Sums.{sum_by-cons, sum_by-set, get_or-le-sum_by}
+use Rattle.quick_cache_index.specs.Index.{is_free, holds, tag_of}
+use Rattle.quick_cache_index.specs.IndexGroups.{taken_count, AreKnown}
 
 -- two numbers are equal or not
 pub equal_or_not : (a b : ℕ) → (a ≡ b) ⊎ (a ≢ b)
@@ -164,59 +161,23 @@ taken_count-leave tokens position token some there =
       ap (λ b. bit (not b)) (ne_eqb token 0 (λ e. omega (arith, some, e))),
     )
 
--- two places change their tokens
-pub AreSame-swap : (tokens : List ℕ) (p q : ℕ) → p < length tokens → q < length tokens
-    → AreSame tokens (swap tokens p q)
-AreSame-swap tokens p q p_in q_in =
-    let moved = IsPermutation-swap tokens (swap tokens p q) p q p_in q_in refl in
-    record {
-      each =
-          λ token. sum_by-IsPermutation (λ t. bit (holds token t)) tokens (swap tokens p q) moved;
-      taken =
-          sum_by-IsPermutation (λ t. bit (not (is_free t))) tokens (swap tokens p q) moved;
-    }
-
-pub AreSame-then : (old mid new : List ℕ) → AreSame old mid → AreSame mid new → AreSame old new
-AreSame-then old mid new first second = record {
-  each = λ token. second.each token ∙ first.each token;
-  taken = second.taken ∙ first.taken;
-}
-
--- more free places have no more tokens
-pub AreSame-filled : (old new : List ℕ) (n : ℕ) → new ≡ old ++ replicate n 0 → AreSame old new
-AreSame-filled old new n is = record {
-  each =
-      λ token. ap (count_by (holds token)) is ∙ omega (
-        arith,
-        sum_by-append (λ t. bit (holds token t)) old (replicate n 0),
-        sum_by-replicate (λ t. bit (holds token t)) n 0,
-      );
-  taken =
-      ap taken_count is ∙ omega (
-        arith,
-        sum_by-append (λ t. bit (not (is_free t))) old (replicate n 0),
-        sum_by-replicate (λ t. bit (not (is_free t))) n 0,
-      );
-}
-
--- what is known of tokens is known where they are the same
-pub AreKnown-same : (knows : ℕ → Type 0) (old new : List ℕ) → AreKnown knows old
-    → AreSame old new → AreKnown knows new
-AreKnown-same knows old new known same token some =
-    known token (omega (arith, some, same.each token))
-
 -- what is known of the token of a place
 pub known-place : (knows : ℕ → Type 0) (tokens : List ℕ) (position token : ℕ)
     → AreKnown knows tokens → 0 < token → token ≡ get_or tokens position 0 → knows token
 known-place knows tokens position token known some at =
     known token (count_by-place tokens position token some (sym at))
 
--- a list of numbers that was filled up, as a call that answered so leaves it
-pub filled_up : (old reserved new : List ℕ) (done : Bool) (count n : ℕ) → reserved ≡ old
-    → length old ≤ count → n ≡ count - length old → done ≡ true
-    → new ≡ cond done (take count reserved ++ replicate n 0) reserved
-    → new ≡ old ++ replicate (count - length old) 0
-filled_up old reserved new done count n kept few as_many answers is =
-    is ∙ ap (λ b. cond b (take count reserved ++ replicate n 0) reserved) answers
-    ∙ ap (λ xs. xs ++ replicate n 0) (ap (take count) kept ∙ take_all count old few)
-    ∙ ap (λ k. old ++ replicate k 0) as_many
+-- a bound of each number stays where one within it is written
+pub within-set : (xs : List ℕ) (i x bound : ℕ) → i < length xs → x ≤ bound
+    → ((j : ℕ) → get_or xs j 0 ≤ bound) → (j : ℕ) → get_or (set xs i x) j 0 ≤ bound
+within-set xs i x bound inside small within j =
+    elim (equal_or_not j i) [
+      | inl same ↦
+          subst (λ n. get_or (set xs i x) n 0 ≤ bound) (sym same)
+          (omega (arith, small, get_or-set_same xs i x 0 inside))
+      | inr other ↦ omega (arith, get_or-set_other xs i j x 0 other, within j)
+    ]
+
+-- each tag is more than 0
+pub tag_of-pos : (hash : ℕ) → 0 < tag_of hash
+tag_of-pos hash = omega arith

@@ -4,7 +4,6 @@ pub mod CountedTokens
 pub mod Distances
 pub mod FreedPlaces
 pub mod GroupLanes
-pub mod HousedTokens
 pub mod NearestFreePlace
 pub mod PowersOfTwo
 pub mod ShownTokens

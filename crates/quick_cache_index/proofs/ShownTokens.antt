@@ -3,10 +3,9 @@ use Rattle.std.proofs.Common.{◌≡◌, ◌≢◌, ℕ, ◌+◌, ◌-◌, ◌<�
 use Rattle.std.proofs.lemmas.Bool.{lt-ltb, eq-eqb, ne_eqb}
 use Rattle.std.proofs.lemmas.Bool.Decides.{leb_tells}
 use Rattle.std.proofs.lemmas.List.{get_or-set_same, get_or-set_other}
-use Rattle.quick_cache_index.specs.Index.{Index, tag_of, home_of, distance, holds, is_free, has_token, HasToken, token_count, HasNone, Leads, KeepsLeads, KeepsOtherLeads, KeepsAllLeads, HasSameTokens, LosesToken, AreOthers}
-use Rattle.quick_cache_index.specs.IndexGroups.{taken_count, IsGrouped, IsMatched, IsHoused, IsSound, AreSame, AreKnown, KeepsReached, TakesPlace, capacity_of}
-use Rattle.quick_cache_index.proofs.CountedTokens.{equal_or_not, bit, inside-some, taken_count-free, holds-itself, holds-other, place_of, count_by-place, count_by-take, taken_count-take, count_by-leave, taken_count-leave}
-use Rattle.quick_cache_index.proofs.HousedTokens.{tag_of-pos}
+use Rattle.quick_cache_index.specs.Index.{Index, tag_of, home_of, distance, holds, is_free, has_token, HasToken, token_count, HasNone, Leads, KeepsOtherLeads, KeepsAllLeads, LosesToken, AreOthers}
+use Rattle.quick_cache_index.specs.IndexGroups.{taken_count, IsGrouped, IsSound, AreKnown, KeepsReached, TakesPlace, capacity_of}
+use Rattle.quick_cache_index.proofs.CountedTokens.{equal_or_not, bit, inside-some, taken_count-free, holds-itself, holds-other, place_of, count_by-take, taken_count-take, count_by-leave, taken_count-leave, tag_of-pos}
 
 -- what is known of all tokens but one is known of all, once that left its place
 pub AreKnown-others : (knows : ℕ → Type 0) (index : Index) (position token : ℕ) → 0 < token
@@ -374,57 +373,6 @@ IsSound-leave hashed tags tags' tokens tokens' reaches reaches' mask len less to
         ap (λ ts. count_by (holds k) ts + bit (holds k token)) leaves.token_is,
         count_by-leave tokens place token k leaves.some leaves.there,
       );
-    }
-
--- ---- a growth
-
-pub HasSameTokens-same : (old new : Index) → AreSame old.tokens new.tokens → HasSameTokens old new
-HasSameTokens-same old new same token = has_token-same old new token (same.each token)
-
--- each token is led to by its hash
-pub KeepsLeads-housed : (hashed : ℕ → ℕ) (old new : Index)
-    → IsHoused hashed new.tags new.tokens new.reaches new.mask → IsMatched new.tags new.tokens
-    → AreSame old.tokens new.tokens → KeepsLeads old new hashed
-KeepsLeads-housed hashed old new housed matched same token leads =
-    let some : 0 < count_by (holds token) new.tokens =
-    omega (
-      arith,
-      same.each token,
-      count_by-place old.tokens leads.position token leads.some leads.there,
-    ) in
-    let at = place_of new.tokens token some in
-    let position : ℕ = at.1 in
-    let there : get_or new.tokens position 0 ≡ token = at.2 in
-    let tagged : 0 < get_or new.tags position 0 =
-    elim (leb_tells 1 (get_or new.tags position 0)) [
-      | inl t ↦ t.1
-      | inr t ↦
-          absurd (omega (arith, there, at.0, matched.bare position (omega (arith, t.1))))
-    ] in
-    let is = housed.housed position tagged in
-    let P : ℕ → Type 0 = λ k. distance (home_of new.mask (hashed k)) position
-    ≤ get_or new.reaches (home_of new.mask (hashed k)) 0 in
-    record {
-      some = at.0;
-      position = position;
-      there = there;
-      tag = is.tag ∙ ap (λ k. tag_of (hashed k)) there;
-      reached = subst P there is.reached;
-    }
-
--- an index stays sound where there are more groups
-pub IsSound-grown : (hashed : ℕ → ℕ) (tags tags' tokens tokens' reaches reaches' : List ℕ)
-    (mask mask' len : ℕ) → IsSound tags tokens reaches mask len
-    → IsHoused hashed tags' tokens' reaches' mask' → IsMatched tags' tokens'
-    → AreSame tokens tokens' → len ≤ capacity_of (length reaches')
-    → IsSound tags' tokens' reaches' mask' len
-IsSound-grown hashed tags tags' tokens tokens' reaches reaches' mask mask' len sound housed matched
-    same load = record {
-      sized = housed.sized;
-      matched = matched;
-      counted = omega (arith, sound.counted, same.taken);
-      load = load;
-      once = λ token. omega (arith, same.each token, sound.once token);
     }
 
 -- ---- no token is there

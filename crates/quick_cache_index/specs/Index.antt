@@ -85,18 +85,10 @@ wanted_room index additional = min additional (4294967294 - token_count index)
 abbrev pub HasNone : Index → Type 0
 HasNone index = (token : ℕ) → has_token index token ≡ false
 
--- each token that is there is one of these
-abbrev pub AreAll : (ℕ → Type 0) → Index → Type 0
-AreAll knows index = (token : ℕ) → HasToken index token → knows token
-
 -- each token that is there, but this one, is one of these
 abbrev pub AreOthers : (ℕ → Type 0) → Index → ℕ → Type 0
 AreOthers knows index token =
     (other : ℕ) → ¬ (other ≡ token) → HasToken index other → knows other
-
--- the same tokens are there
-abbrev pub HasSameTokens : Index → Index → Type 0
-HasSameTokens old new = (token : ℕ) → has_token new token ≡ has_token old token
 
 -- the token came, and the others stay as they were
 abbrev pub GainsToken : Index → Index → ℕ → Type 0
@@ -108,12 +100,7 @@ abbrev pub LosesToken : Index → Index → ℕ → Type 0
 LosesToken old new token =
     (other : ℕ) → has_token new other ≡ (not (other == token) && has_token old other)
 
--- what led to a token by these hashes leads to it still
-abbrev pub KeepsLeads : Index → Index → (ℕ → ℕ) → Type 0
-KeepsLeads old new hash_of =
-    (token : ℕ) → Leads old (hash_of token) token → Leads new (hash_of token) token
-
--- the same for all tokens but this one
+-- what led to another token than this one by these hashes leads to it still
 abbrev pub KeepsOtherLeads : Index → Index → (ℕ → ℕ) → ℕ → Type 0
 KeepsOtherLeads old new hash_of token =
     (other : ℕ) → ¬ (other ≡ token)

@@ -35,30 +35,6 @@ pub record IsSound (tags tokens reaches : List ℕ) (mask len : ℕ) : Type 0 wh
   pub load : len ≤ capacity_of (length reaches)
   pub once : (token : ℕ) → count_by (holds token) tokens ≤ 1
 
--- a token stands at the position under the tag of its hash, and a search finds it there
-pub record IsHousedAt (hashed : ℕ → ℕ) (tags reaches : List ℕ)
-    (mask token position : ℕ) : Type 0 where
-  pub taken : 0 < token
-  pub tag : slice_index tags position ≡ tag_of (hashed token)
-  pub reached : IsReached reaches mask (hashed token) position
-
--- where there is a tag, its token is housed
-pub record IsHoused (hashed : ℕ → ℕ) (tags tokens reaches : List ℕ) (mask : ℕ) : Type 0 where
-  pub sized : IsGrouped tags tokens reaches mask
-  pub housed : (position : ℕ) → 0 < slice_index tags position
-      → IsHousedAt hashed tags reaches mask (slice_index tokens position) position
-
--- the places below `count` that have no tag have no token
-abbrev pub IsBareBelow : List ℕ → List ℕ → ℕ → Type 0
-IsBareBelow tags tokens count =
-    (position : ℕ) → position < count → slice_index tags position ≡ 0
-    → slice_index tokens position ≡ 0
-
--- both have the same tokens
-pub record AreSame (old new : List ℕ) : Type 0 where
-  pub each : (token : ℕ) → count_by (holds token) new ≡ count_by (holds token) old
-  pub taken : taken_count new ≡ taken_count old
-
 -- each token of these places is known
 abbrev pub AreKnown : (ℕ → Type 0) → List ℕ → Type 0
 AreKnown knows tokens = (token : ℕ) → 0 < count_by (holds token) tokens → knows token

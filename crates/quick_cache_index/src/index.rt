@@ -1,7 +1,7 @@
 //! Tokens by hash: tokens in groups of sixteen places, found by tags of their hashes.
 ghost use Rattle.std.specs.Prelude.{◌≡◌, ℕ, ◌+◌, ◌-◌, ◌^◌, ◌<◌, ◌≤◌, ◌↔◌, min, IsTrue, IsOk, IfOk, IfErr, OnOk, OnErr};
 ghost use Rattle.std.specs.Int.NonZero.{non_zero_u32_get};
-ghost use Rattle.quick_cache_index.specs.Index.{HasToken, HasNone, HasSameTokens, GainsToken, LosesToken, Leads, KeepsLeads, KeepsOtherLeads, KeepsAllLeads, AreAll, AreOthers, AreCandidates, token_count, wanted_room};
+ghost use Rattle.quick_cache_index.specs.Index.{HasToken, HasNone, GainsToken, LosesToken, Leads, KeepsOtherLeads, KeepsAllLeads, AreOthers, AreCandidates, token_count, wanted_room};
 
 pub(crate) mod candidates;
 pub(crate) mod groups;
@@ -20,9 +20,10 @@ use walk::{Walk, first_position_of, position_on_walk};
 ///
 /// It keeps no hash. A place has a tag of one byte from the hash of its token, and a look-up
 /// compares the sixteen tags of a group at once before it reads a token, as Rust's own hash map
-/// does (SwissTable). So a look-up gives candidates, which the caller compares, and the calls that
-/// need the hash of a token that is not at hand ask the caller for it. A token that goes gives its
-/// room back, and no call but `reserve` allocates. A look-up reads no group past the farthest that
+/// does (SwissTable). So a look-up gives candidates, which the caller compares, a removal asks the
+/// caller for the hash of a token that is not at hand, and an index that grows forgets its tokens,
+/// which the caller puts in again. A token that goes gives its room back, and no call but
+/// `clear_for` allocates. A look-up reads no group past the farthest that
 /// has a token of its own, so that a removal leaves nothing behind.
 #[derive(Drop)]
 pub struct Index<A: Allocator = Global> {
@@ -61,7 +62,7 @@ impl<A: Allocator> Model for Index<A> {
 }
 
 impl<A: Allocator> Index<A> {
-    /// An empty index, which allocates nothing until the first `reserve`.
+    /// An empty index, which allocates nothing until the first `clear_for`.
     ///
     /// # Errors
     ///
@@ -118,51 +119,47 @@ impl<A: Allocator> Index<A> {
         tags.saturating_add(tokens).saturating_add(reaches)
     }
 
-    /// Makes room for `additional` more tokens, or for all that the index can still take.
+    /// Whether it takes `additional` more tokens as it is, or all that an index can still take.
+    pub fn has_room_for(&self, additional: usize) -> bool
+        ensures room { IsTrue result ↔ wanted_room self.now additional ≤ self.now.room }
+        ensures most { token_count self.now + self.now.room ≤ 4294967294 }
+    {
+        let wanted = additional.min(MOST_TOKENS - self.len);
+        wanted <= capacity(self.reaches.len()) - self.len
+    }
+
+    /// Removes every token, and makes room for so many, or for as many as an index can have.
     ///
-    /// It asks for memory only where the room does not suffice. A growth at least doubles the
-    /// groups, asks for the hash of each token, and puts each into its group anew. A refused call
-    /// may keep memory that it got, and changes nothing else.
+    /// This is how an index grows: it keeps no hash, so the caller puts the tokens in again. It
+    /// asks for memory only where there are too few groups, and then makes at least twice as many.
+    /// A refused call may keep memory that it got, and changes nothing else.
     ///
     /// # Errors
     ///
     /// `Memory` where there is none.
-    pub fn reserve<H: Hashes>(&mut self, hashes: &H, additional: usize) -> Result<(), Refusal>
-        requires known { AreAll (H.Knows hashes.now) self.old }
+    pub fn clear_for(&mut self, tokens: usize) -> Result<(), Refusal>
+        ensures empty { OnOk result (HasNone self.new) }
+        ensures count { OnOk result (token_count self.new ≡ 0) }
+        ensures room { OnOk result (min tokens 4294967294 ≤ self.new.room) }
+        ensures more { OnOk result (self.old.room + token_count self.old ≤ self.new.room) }
+        ensures most { OnOk result (self.new.room ≤ 4294967294) }
 
-        // The tokens stay, and what their hashes led to, these lead to still.
-        ensures tokens { HasSameTokens self.old self.new }
-        ensures count { token_count self.new ≡ token_count self.old }
-        ensures leads { KeepsLeads self.old self.new (H.hash_of hashes.now) }
-        ensures room { OnOk result (wanted_room self.old additional ≤ self.new.room) }
-        ensures more { self.old.room ≤ self.new.room }
-        ensures most { token_count self.new + self.new.room ≤ 4294967294 }
-
-        // Where there is room it succeeds and nothing changes, so that it takes no memory.
-        ensures succeeds { wanted_room self.old additional ≤ self.old.room → IsOk result }
-        ensures had_room { wanted_room self.old additional ≤ self.old.room
-            → self.new ≡ self.old }
-
-        // It is refused only where there was no room, and then nothing but the memory changes.
-        ensures lacked_room { OnErr result (self.old.room < wanted_room self.old additional) }
+        // Where it had that room for all of its tokens, it takes no memory.
+        ensures succeeds { min tokens 4294967294 ≤ self.old.room + token_count self.old
+            → IsOk result × (self.new.allocated ≡ self.old.allocated) }
         ensures memory { IfErr result (λ refusal. refusal ≡ Refusal.Memory) }
         ensures refused { OnErr result (self.new
             ≡ record self.old { allocated = self.new.allocated }) }
         ensures allocated { self.old.allocated ≤ self.new.allocated }
     {
-        let wanted = additional.min(MOST_TOKENS - self.len);
-        if wanted <= capacity(self.reaches.len()) - self.len {
+        let tokens = tokens.min(MOST_TOKENS);
+        if tokens <= capacity(self.reaches.len()) {
+            self.clear();
             return Ok(());
         }
-        let count = groups_for(self.len + wanted);
-        groups::grow(
-            &mut self.tags,
-            &mut self.tokens,
-            &mut self.reaches,
-            hashes,
-            count,
-        )?;
-        self.mask = count - 1;
+        let count = groups_for(tokens);
+        groups::make_groups(&mut self.tags, &mut self.tokens, &mut self.reaches, count)?;
+        (self.mask, self.len) = (count - 1, 0);
         Ok(())
     }
 

@@ -2,7 +2,8 @@
 use Rattle.std.proofs.Common.{◌≡◌, ℕ, [], Option, Some, None, length, refl, sym, ap, subst, ◌∙◌, arith}
 use Rattle.quick_cache_model.specs.CacheState.{Item, Place, InHot, InCold, InStill}
 use Rattle.quick_cache_slab.specs.LinkedSlab.{LinkedSlab, item_at, next_token}
-use Rattle.quick_cache_index.specs.Index.{Index, HasSameTokens, KeepsLeads, Leads, token_count}
+use Rattle.quick_cache_index.specs.Index.{Index, has_token, token_count}
+use Rattle.quick_cache_index.proofs.CallerLemmas.{Leads-same}
 use Rattle.quick_cache_lists.specs.declared.entry.Entry.{Entry}
 use Rattle.quick_cache_lists.specs.declared.entry.Entry.TheVariants.{Item as item_variant, Loading as loading_variant, Ghost as ghost_variant}
 use Rattle.quick_cache_lists.specs.declared.entry.Slot.{Slot}
@@ -12,7 +13,7 @@ use Rattle.std.specs.Int.NonZero.{non_zero_u32_get}
 use Rattle.std.specs.declared.num.NonZeroU32.{NonZeroU32 as Token}
 use Rattle.quick_cache_lists.specs.Lists.{HeldItem, StandsIn, items_at, HasItem, HasItemToken, IsFirstOf}
 use Rattle.quick_cache_lists.specs.Slots.{Stand, AmongHot, AmongCold, AmongGhosts, stand_of, hash_in, weight_at, item_of, still_of, loading_of, ghost_of}
-use Rattle.quick_cache_lists.specs.Sound.{weigh, gather, upto, tokens_of, lists_of, room_of, IsRingOf, IsSound}
+use Rattle.quick_cache_lists.specs.Sound.{weigh, gather, upto, tokens_of, lists_of, room_of, IsKeyed, IsRingOf, IsSound}
 use Rattle.quick_cache_lists.proofs.GatherLemmas.{gather-from}
 use Rattle.quick_cache_lists.proofs.FindLemmas.{held_still}
 use Rattle.quick_cache_lists.proofs.SoundLemmas.{hash_in-has}
@@ -101,12 +102,48 @@ module _ {K V P T : Type 0} where
     room = room_of new tnew;
   }
 
-  pub IsSound-room : (slab : LinkedSlab (Slot K V P T)) (room : ℕ) (told tnew : Index)
-      (rings : Rings) (loading : ℕ) → KeepsLeads told tnew (λ t. hash_in (item_at slab t))
-      → HasSameTokens told tnew → token_count tnew ≡ token_count told
-      → IsSound slab told rings loading
+  -- the memory of an index is nothing to its tokens
+  pub IsKeyed-allocated : (slab : LinkedSlab (Slot K V P T)) (old new : Index)
+      → new ≡ record old { allocated = new.allocated } → IsKeyed slab old → IsKeyed slab new
+  IsKeyed-allocated slab old new kept keyed = record {
+    leads = λ h t has. Leads-same old new h t (ap (λ i. i.tags) kept) (ap (λ i. i.tokens) kept)
+        (ap (λ i. i.reaches) kept) (ap (λ i. i.mask) kept) (keyed.leads h t has);
+    tokens = λ t. ap (λ i. has_token i t) kept ∙ keyed.tokens t;
+    few = keyed.few;
+    light = keyed.light;
+    counted = omega (arith, ap token_count kept, keyed.counted);
+  }
+
+  -- nor is the room of the slots
+  pub IsKeyed-grown : (old new : LinkedSlab (Slot K V P T)) (index : Index)
+      → new ≡ record old { room = new.room } → IsKeyed old index → IsKeyed new index
+  IsKeyed-grown old new index kept keyed =
+      subst (λ (s : LinkedSlab (Slot K V P T)). IsKeyed s index) (sym kept) (record {
+        leads = keyed.leads;
+        tokens = keyed.tokens;
+        few = keyed.few;
+        light = keyed.light;
+        counted = keyed.counted;
+      })
+
+  -- as many tokens are in each index that has those of all slots
+  pub token_count-keyed : (old new : LinkedSlab (Slot K V P T)) (told tnew : Index)
+      → new ≡ record old { room = new.room } → IsKeyed old told → IsKeyed new tnew
+      → token_count tnew ≡ token_count told
+  token_count-keyed old new told tnew kept was is =
+      omega (
+        arith,
+        was.counted,
+        is.counted,
+        ap (λ (s : LinkedSlab (Slot K V P T)). length s.free) kept,
+        ap (λ (s : LinkedSlab (Slot K V P T)). length s.slots) kept,
+      )
+
+  IsSound-room : (slab : LinkedSlab (Slot K V P T)) (room : ℕ) (told tnew : Index)
+      (rings : Rings) (loading : ℕ) → IsKeyed (record slab { room = room }) tnew
+      → token_count tnew ≡ token_count told → IsSound slab told rings loading
       → IsSound (record slab { room = room }) tnew rings loading
-  IsSound-room slab room told tnew rings loading keeps same_tokens count sound = record {
+  IsSound-room slab room told tnew rings loading keyed count sound = record {
     standing = record {
       hot_ring = kept rings.hot AmongHot sound.standing.hot_ring;
       cold_ring = kept rings.cold AmongCold sound.standing.cold_ring;
@@ -114,16 +151,7 @@ module _ {K V P T : Type 0} where
       still = sound.standing.still;
       loading = sound.standing.loading;
     };
-    keyed = record {
-      leads = λ h t has.
-          let same = hash_in-has h (item_at slab t) has in
-          subst (λ (n : ℕ). Leads tnew n t) same
-          (keeps t (subst (λ (n : ℕ). Leads told n t) (sym same) (sound.keyed.leads h t has)));
-      tokens = λ t. same_tokens t ∙ sound.keyed.tokens t;
-      few = sound.keyed.few;
-      light = sound.keyed.light;
-      counted = omega (arith, count, sound.keyed.counted);
-    };
+    keyed = keyed;
     loading_counted = sound.loading_counted;
     all_counted = omega (
       arith,
@@ -152,16 +180,15 @@ module _ {K V P T : Type 0} where
         weighed = is.weighed ∙ ap (weigh (λ t. weight_at (item_at slab t))) (sym (same ring.head));
       }
 
+  -- what holds of the slots holds with more room, and with another index that has their tokens
   pub IsSound-grown : (old new : LinkedSlab (Slot K V P T)) (told tnew : Index) (rings : Rings)
-      (loading : ℕ) → new ≡ record old { room = new.room }
-      → KeepsLeads told tnew (λ t. hash_in (item_at new t)) → HasSameTokens told tnew
-      → token_count tnew ≡ token_count told
+      (loading : ℕ) → new ≡ record old { room = new.room } → IsKeyed new tnew
       → IsSound old told rings loading → IsSound new tnew rings loading
-  IsSound-grown old new told tnew rings loading kept keeps same_tokens count sound =
+  IsSound-grown old new told tnew rings loading kept keyed sound =
+      let count = token_count-keyed old new told tnew kept sound.keyed keyed in
       subst (λ (s : LinkedSlab (Slot K V P T)). IsSound s tnew rings loading) (sym kept)
       (IsSound-room old new.room told tnew rings loading
-      (subst (λ (s : LinkedSlab (Slot K V P T)). KeepsLeads told tnew (λ t. hash_in (item_at s t)))
-      kept keeps) same_tokens count sound)
+      (subst (λ (s : LinkedSlab (Slot K V P T)). IsKeyed s tnew) kept keyed) count sound)
 
   slot_of_held : (u : ℕ) (o : Option (Slot K V P T)) (held : HeldItem K V) → item_of u o ≡ Some held
       → o ≡ Some (record { hash = held.hash; entry = item_variant held.item })

@@ -13,8 +13,8 @@ mod tokens;
 mod values;
 mod walks;
 
-use crate::hashes::SlotHashes;
 use crate::rings::Rings;
+use crate::store::grow_index;
 use crate::stored::Stored;
 pub use copies::Copying;
 pub use placeholders::Meaning;
@@ -74,8 +74,8 @@ impl<K, V, P, T, A: Allocator> Lists<K, V, P, T, A> {
 
     /// Makes room for so many more entries, or for all that can still come.
     ///
-    /// The slots grow first, then the index. A refusal is for want of memory: it may keep room that
-    /// it got, and changes nothing else.
+    /// The slots grow first, then the index, which takes the token of each slot anew. A refusal is
+    /// for want of memory: it may keep room that it got, and changes nothing else.
     pub fn reserve(&mut self, additional: usize) -> Result<(), Refusal>
         ensures lists { self.new ≡ record self.old { room = self.new.room } }
         ensures room { OnOk result (min additional (slots_left self.old) ≤ self.new.room) }
@@ -88,8 +88,7 @@ impl<K, V, P, T, A: Allocator> Lists<K, V, P, T, A> {
     {
         self.slab.validate();
         self.slab.reserve(additional)?;
-        self.index
-            .reserve(&SlotHashes { slab: &self.slab }, additional)
+        grow_index(&self.slab, &mut self.index, additional)
     }
 
     /// Makes room for one more entry where there is none.

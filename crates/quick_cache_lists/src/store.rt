@@ -1,17 +1,17 @@
 //! The slots and the index in step: each entry is in a slot, and its hash leads to the slot.
-ghost use Rattle.std.specs.Prelude.{◌≡◌, ◌+◌, ◌<◌, ◌≤◌, ℕ, length, map, Some};
+ghost use Rattle.std.specs.Prelude.{◌≡◌, ◌+◌, ◌<◌, ◌≤◌, ℕ, min, length, map, Some, IsOk, IfErr, OnOk, OnErr};
 ghost use Rattle.std.specs.Int.NonZero.{non_zero_u32_get as number};
 ghost use Rattle.quick_cache_slab.specs.LinkedSlab.{next_token, times, IsOccupied, IsNextOf, item_at};
-ghost use Rattle.quick_cache_index.specs.Index.{token_count, HasToken};
+ghost use Rattle.quick_cache_index.specs.Index.{token_count, wanted_room, HasToken};
 ghost use Rattle.quick_cache_lists.specs.Frames.{IsPlaced, IsRemoved};
-ghost use Rattle.quick_cache_lists.specs.Slots.{weight_in};
+ghost use Rattle.quick_cache_lists.specs.Slots.{weight_in, weight_at};
 ghost use Rattle.quick_cache_lists.specs.Sound.{AddsTokens, IsKeyed, room_of};
 
 use crate::entry::Slot;
 use crate::hashes::SlotHashes;
 use crate::stored::Stored;
 use quick_cache_index::Index;
-use quick_cache_model::Token;
+use quick_cache_model::{Refusal, Token};
 use quick_cache_slab::LinkedSlab;
 use quick_cache_slab::linked_slab::IterFrom;
 use std::alloc::Allocator;
@@ -68,8 +68,8 @@ pub(crate) fn displace<K, V, P, T, A: Allocator>(
     }
 }
 
-/// Puts the token of each of these entries into an index that has none of them.
-pub(crate) fn key_all<K, V, P, T, A: Allocator>(
+// Puts the token of each of these entries into an index that has none of them.
+fn key_all<K, V, P, T, A: Allocator>(
     index: &mut Index<A>,
     entries: IterFrom<'_, Stored<K, V, P, T>>,
 )
@@ -78,8 +78,58 @@ pub(crate) fn key_all<K, V, P, T, A: Allocator>(
     requires apart { (token : ℕ) → HasToken index.old token
         → times token (map (λ entry. entry.0) entries) ≡ 0 }
     ensures adds { AddsTokens entries.entry index.old index.new }
+    ensures room { index.new.room + length entries.entry ≡ index.old.room }
 {
     for (token, slot) in entries {
         index.insert_reserved(slot.hash, token);
     }
+}
+
+/// Leaves the tokens of all slots in the index, whatever it had, and room for so many more.
+///
+/// It goes along the slots, so that their hashes are read one after the other. A refusal is for want
+/// of memory: it may keep memory that it got, and changes nothing else.
+pub(crate) fn rekey<K, V, P, T, A: Allocator>(
+    slab: &LinkedSlab<Stored<K, V, P, T>, A>,
+    index: &mut Index<A>,
+    additional: usize,
+) -> Result<(), Refusal>
+    requires light { (token : ℕ) → weight_at (item_at slab.now token) < 18446744073709551616 }
+    ensures keyed { OnOk result (IsKeyed slab.now index.new) }
+    ensures room { OnOk result (min (token_count index.new + additional) 4294967294
+        ≤ token_count index.new + index.new.room) }
+    ensures more { OnOk result (token_count index.old + index.old.room
+        ≤ token_count index.new + index.new.room) }
+    ensures memory { IfErr result (λ refused. refused ≡ Refusal.Memory) }
+    ensures refused { OnErr result (index.new
+        ≡ record index.old { allocated = index.new.allocated }) }
+{
+    slab.validate();
+    index.clear_for(slab.len().saturating_add(additional))?;
+    key_all(index, slab.iter_from(None));
+    Ok(())
+}
+
+/// Makes room in the index for so many more entries, or for all that can still come.
+///
+/// A refusal is for want of memory: it may keep memory that it got, and changes nothing else.
+pub(crate) fn grow_index<K, V, P, T, A: Allocator>(
+    slab: &LinkedSlab<Stored<K, V, P, T>, A>,
+    index: &mut Index<A>,
+    additional: usize,
+) -> Result<(), Refusal>
+    requires keyed { IsKeyed slab.now index.old }
+    ensures keyed { IsKeyed slab.now index.new }
+    ensures room { OnOk result (wanted_room index.old additional ≤ index.new.room) }
+    ensures grows { index.old.room ≤ index.new.room }
+
+    // Where there is room it succeeds, and nothing changes.
+    ensures had_room { wanted_room index.old additional ≤ index.old.room
+        → IsOk result × (index.new ≡ index.old) }
+    ensures memory { IfErr result (λ refused. refused ≡ Refusal.Memory) }
+{
+    if index.has_room_for(additional) {
+        return Ok(());
+    }
+    rekey(slab, index, additional)
 }

@@ -8,7 +8,7 @@ ghost use Rattle.std.specs.Prelude.{◌≡◌, ◌≢◌, ℕ, ◌+◌, ◌-◌,
 ghost use Rattle.std.specs.Simd.Lanes.{chunk, mask_l};
 ghost use Rattle.std.specs.Int.{IsPowerOfTwo};
 ghost use Rattle.quick_cache_index.specs.Index.{tag_of as tag_number, home_of as home_number, distance, IsReached, is_free};
-ghost use Rattle.quick_cache_index.specs.IndexGroups.{IsGrouped, IsMatched, IsHoused, IsBareBelow, capacity_of, AreSame, AreKnown, HasTokenOf, ReachesGrow, KeepsReached, TakesPlace};
+ghost use Rattle.quick_cache_index.specs.IndexGroups.{IsGrouped, IsMatched, capacity_of, AreKnown, HasTokenOf, ReachesGrow, KeepsReached, TakesPlace};
 
 use super::hashes::Hashes;
 use quick_cache_model::{Refusal, Token};
@@ -132,73 +132,17 @@ pub(crate) fn take_place(
     tokens[position] = token;
 }
 
-// Houses the token at that position, where it has no tag, and each that makes room for the one
-// before.
-fn house<H: Hashes>(
-    tags: &mut [u8],
-    tokens: &mut [u32],
-    reaches: &mut [u32],
-    mask: usize,
-    hashes: &H,
-    position: usize,
-)
-    requires housed { IsHoused (H.hash_of hashes.now) tags.old tokens.old reaches.old mask }
-    requires bare { IsBareBelow tags.old tokens.old position }
-    requires within { position < length tokens.old }
-    requires known { AreKnown (H.Knows hashes.now) tokens.old }
-    ensures housed { IsHoused (H.hash_of hashes.now) tags.new tokens.new reaches.new mask }
-    ensures bare { IsBareBelow tags.new tokens.new (position + 1) }
-    ensures same { AreSame tokens.old tokens.new }
-{
-    while tags[position] == 0 {
-        let Some(token) = Token::new(tokens[position]) else {
-            return;
-        };
-        let hash = hashes.hash(token);
-        let other = untagged(tags, mask, home_of(hash, mask));
-        tokens.swap(position, other);
-        tag_place(tags, reaches, mask, hash, other);
-    }
-}
-
-// Houses every token that has no tag.
-fn house_all<H: Hashes>(
-    tags: &mut [u8],
-    tokens: &mut [u32],
-    reaches: &mut [u32],
-    mask: usize,
-    hashes: &H,
-)
-    requires housed { IsHoused (H.hash_of hashes.now) tags.old tokens.old reaches.old mask }
-    requires known { AreKnown (H.Knows hashes.now) tokens.old }
-    ensures housed { IsHoused (H.hash_of hashes.now) tags.new tokens.new reaches.new mask }
-    ensures matched { IsMatched tags.new tokens.new }
-    ensures same { AreSame tokens.old tokens.new }
-{
-    for position in 0..tokens.len() {
-        house(tags, tokens, reaches, mask, hashes, position);
-    }
-}
-
-// Makes so many groups, where there is memory, and houses all tokens anew.
-#[cold]
-#[inline(never)]
-pub(crate) fn grow<H: Hashes, A: Allocator>(
+// Makes so many groups, all free, where there is memory.
+pub(crate) fn make_groups<A: Allocator>(
     tags: &mut Vec<u8, A>,
     tokens: &mut Vec<u32, A>,
     reaches: &mut Vec<u32, A>,
-    hashes: &H,
     count: usize,
 ) -> Result<(), Refusal>
-    requires power { IsPowerOfTwo count }
     requires few { count ≤ 2 ^ 29 }
-    requires longer { length tokens.old.items ≤ 16 * count }
-    requires known { AreKnown (H.Knows hashes.now) tokens.old.items }
-    ensures housed { OnOk result (IsHoused (H.hash_of hashes.now)
-        tags.new.items tokens.new.items reaches.new.items (count - 1)) }
-    ensures matched { OnOk result (IsMatched tags.new.items tokens.new.items) }
-    ensures groups { OnOk result (vec_len reaches.new ≡ count) }
-    ensures same { OnOk result (AreSame tokens.old.items tokens.new.items) }
+    ensures tags { OnOk result (tags.new.items ≡ replicate (16 * count) 0) }
+    ensures tokens { OnOk result (tokens.new.items ≡ replicate (16 * count) 0) }
+    ensures reaches { OnOk result (reaches.new.items ≡ replicate count 0) }
     ensures tags_grow { vec_capacity tags.old ≤ vec_capacity tags.new }
     ensures tokens_grow { vec_capacity tokens.old ≤ vec_capacity tokens.new }
     ensures reaches_grow { vec_capacity reaches.old ≤ vec_capacity reaches.new }
@@ -223,16 +167,10 @@ pub(crate) fn grow<H: Hashes, A: Allocator>(
     // There is memory for all three, and none is asked for from here on.
     tags.clear();
     let _ = tags.resize(wanted, 0);
+    tokens.clear();
     let _ = tokens.resize(wanted, 0);
     reaches.clear();
     let _ = reaches.resize(count, 0);
-    house_all(
-        tags.as_mut_slice(),
-        tokens.as_mut_slice(),
-        reaches.as_mut_slice(),
-        count - 1,
-        hashes,
-    );
     Ok(())
 }
 

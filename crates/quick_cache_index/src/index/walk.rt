@@ -62,7 +62,12 @@ impl<'a> Walk<'a> {
         ensures all { CoversTagged tags.now tokens.now reaches.now mask hash
             (candidates_left result) }
     {
-        let mut walk = Walk {
+        // Only an index without groups has no reach there. `reach` asks the same, so that the
+        // compiler leaves out the second test.
+        if home_of(hash, mask) < reaches.len() {
+            return Walk::begin(tags, tokens, reaches, mask, hash);
+        }
+        Walk {
             tags,
             tokens,
             reaches,
@@ -70,13 +75,7 @@ impl<'a> Walk<'a> {
             home: home_of(hash, mask),
             step: 0,
             lanes: 0,
-        };
-        // Only an index without groups has no reach there. `reach` asks the same, so that the
-        // compiler leaves out the second test.
-        if walk.home < reaches.len() {
-            walk.lanes = lanes_of(tags, walk.home, tag_of(hash));
         }
-        walk
     }
 
     // The distance of the group that is read last.

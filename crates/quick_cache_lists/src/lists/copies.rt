@@ -3,10 +3,9 @@ ghost use Rattle.std.specs.Prelude.{◌≡◌, ℕ, IfOk, IfErr, OnErr};
 ghost use Rattle.quick_cache_lists.specs.Copies.{AreCopies, IsAwaitedCopy, IsSlotCopy};
 
 use crate::entry::{Awaited, Entry, Slot};
-use crate::hashes::SlotHashes;
 use crate::lists::Lists;
 use crate::refs::AwaitedRef;
-use crate::store::key_all;
+use crate::store::rekey;
 use crate::stored::Stored;
 use quick_cache_index::Index;
 use quick_cache_model::{Refusal, Touches};
@@ -99,8 +98,7 @@ impl<K: Clone + Drop, V: Clone + Drop, P: Drop, T: Touches, A: Allocator> Lists<
         };
         let slab = self.slab.try_copy(for_slots, &Copier { by })?;
         let mut index = Index::new(alloc)?;
-        index.reserve(&SlotHashes { slab: &slab }, slab.len())?;
-        key_all(&mut index, slab.iter_from(None));
+        rekey(&slab, &mut index, 0)?;
         Ok(Lists {
             slab,
             index,

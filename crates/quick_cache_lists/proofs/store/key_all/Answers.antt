@@ -9,7 +9,7 @@ use Rattle.quick_cache_lists.proofs.store.key_all.Goals as goal
 pub loop-token-init : goal.loop-token-init
 loop-token-init g c =
     rw c.into_iter-token-iterator.ensures.into_iter_gives (record {
-      room = c.requires.room;
+      room = refl;
       once = c.requires.once;
       apart = c.requires.apart;
       adds = λ last adds. adds;
@@ -53,5 +53,6 @@ loop-token-preserved g c =
 
 pub returns : goal.returns
 returns g c = record {
+  room = omega (arith, c.loop-token.invariant.room, ap length c.in-None.ensures.steps.0);
   adds = c.loop-token.invariant.adds c.loop-token.index (rw c.in-None.ensures.steps.0 refl);
 }

@@ -1,4 +1,4 @@
-use Rattle.std.proofs.Common.{◌≡◌, ◌≤◌, ℕ, length, map}
+use Rattle.std.proofs.Common.{◌≡◌, ◌+◌, ◌≤◌, ℕ, length, map}
 use Rattle.quick_cache_slab.specs.LinkedSlab.{times}
 use Rattle.quick_cache_index.specs.Index.{HasToken}
 use Rattle.quick_cache_lists.specs.Sound.{AddsTokens}
@@ -7,7 +7,7 @@ use Rattle.quick_cache_lists.proofs.store.key_all.Given as goal
 -- the entries that are left can be keyed, and then all were
 abbrev pub invariant-loop-token : goal.invariant-loop-token
 invariant-loop-token g l = record {
-  room : length l.token-iterator ≤ l.index.room;
+  room : l.index.room + length l.fn.entries ≡ l.fn.index.room + length l.token-iterator;
   once : (token : ℕ) → times token (map (λ entry. entry.0) l.token-iterator) ≤ 1;
   apart : (token : ℕ) → HasToken l.index token
       → times token (map (λ entry. entry.0) l.token-iterator) ≡ 0;

@@ -2,7 +2,7 @@
 use Rattle.std.proofs.Common.{◌/◌, arith}
 use Rattle.std.specs.Int.Bits.{bit_xor}
 use Rattle.quick_cache_index.proofs.Distances.{xor-within}
-use Rattle.quick_cache_index.proofs.HousedTokens.{within-set}
+use Rattle.quick_cache_index.proofs.CountedTokens.{within-set}
 use Rattle.quick_cache_index.proofs.index.groups.tag_place.Goals as goal
 
 pub returns-then-step-reaches-clause-near : goal.returns-then-step-reaches-clause-near

@@ -2,7 +2,7 @@ use Rattle.std.proofs.Common.{ℕ, ◌+◌, ◌*◌, ◌/◌, ◌%◌, ◌≤◌
 use Rattle.std.specs.Int.NonZero.{non_zero_u32_get as number}
 use Rattle.std.proofs.lemmas.Bool.Decides.{eqb_tells}
 use Rattle.quick_cache_index.specs.Index.{has_token, Leads}
-use Rattle.quick_cache_base_tests.proofs.index.Row.put.Goals as goal
+use Rattle.quick_cache_base_tests.proofs.index.Row.put_in.Goals as goal
 
 -- the new token is there by its hash, and the others as before
 pub invariant_of-self : goal.invariant_of-self
