@@ -4,7 +4,7 @@ ghost use Rattle.std.specs.Int.NonZero.{non_zero_u32_get as number};
 ghost use Rattle.quick_cache_index.specs.Index.{HasToken, Leads};
 
 use quick_cache_base::{Refusal, Token};
-use quick_cache_index::{Hashes, Index};
+use quick_cache_index::Index;
 use rationed::Rationed;
 use std::alloc::Allocator;
 use std::marker::Model;
@@ -26,12 +26,11 @@ struct Formula {
     apart: u64,
 }
 
-impl Hashes for Formula {
-    ghost Knows = { λ _ _. Unit {0} };
-
-    ghost hash_of = { λ f token. (f.first + token / 3 * f.apart % 2 ^ 64) % 2 ^ 64 };
-
-    fn hash(&self, token: Token) -> u64 {
+impl Formula {
+    fn hash(&self, token: Token) -> u64
+        ensures { result
+            ≡ (self.now.first + number token / 3 * self.now.apart % 2 ^ 64) % 2 ^ 64 }
+    {
         let step = u64::from(token.get() / 3).wrapping_mul(self.apart);
         self.first.wrapping_add(step)
     }
@@ -125,7 +124,7 @@ impl<A: Allocator> Row<A> {
             return false;
         }
         let hash = self.formula.hash(token);
-        self.index.remove(&self.formula, hash, token);
+        self.index.remove(hash, token);
         true
     }
 
@@ -211,14 +210,14 @@ fn an_index_finds_ten_thousand_tokens_after_its_growths(rt: HostRuntime) -> Resu
 
 #[test]
 fn an_index_that_cannot_grow_keeps_its_tokens(rt: HostRuntime) -> Result<(), Fail> {
-    let ration = Rationed::new(rt.alloc(), 3);
+    let ration = Rationed::new(rt.alloc(), 4);
     let mut row = Row::new(&ration, 0, ODD)?;
     for _ in 0..14 {
         row.put()?;
     }
     assert!(rt; !row.has_room());
-    // A growth asks for the tags, the tokens and the reaches, and keeps what it got.
-    for blocks in [0, 1, 1] {
+    // A growth asks for the tags, the tokens, the distances and the reaches, and keeps what it got.
+    for blocks in [0, 1, 1, 1] {
         ration.allow(blocks);
         assert!(rt; row.reserve() == Err(Refusal::Memory));
         assert_eq!(rt; row.len(), 14);

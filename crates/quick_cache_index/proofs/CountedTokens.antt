@@ -5,7 +5,7 @@ use Rattle.std.proofs.lemmas.Bool.{eqb-true, eq-eqb, ne_eqb}
 use Rattle.std.proofs.lemmas.List.{get_or_past, get_or-set_same, get_or-set_other}
 use Rattle.std.proofs.lemmas.List.Sums.{sum_by-cons, sum_by-set, get_or-le-sum_by}
 use Rattle.quick_cache_index.specs.Index.{is_free, holds, tag_of}
-use Rattle.quick_cache_index.specs.IndexGroups.{taken_count, AreKnown}
+use Rattle.quick_cache_index.specs.IndexGroups.{taken_count}
 
 -- two numbers are equal or not
 pub equal_or_not : (a b : ℕ) → (a ≡ b) ⊎ (a ≢ b)
@@ -160,12 +160,6 @@ taken_count-leave tokens position token some there =
       ap (λ t. bit (not (is_free t))) there,
       ap (λ b. bit (not b)) (ne_eqb token 0 (λ e. omega (arith, some, e))),
     )
-
--- what is known of the token of a place
-pub known-place : (knows : ℕ → Type 0) (tokens : List ℕ) (position token : ℕ)
-    → AreKnown knows tokens → 0 < token → token ≡ get_or tokens position 0 → knows token
-known-place knows tokens position token known some at =
-    known token (count_by-place tokens position token some (sym at))
 
 -- a bound of each number stays where one within it is written
 pub within-set : (xs : List ℕ) (i x bound : ℕ) → i < length xs → x ≤ bound

@@ -1,33 +1,56 @@
--- A place that a token leaves, and reaches that get shorter.
-use Rattle.std.proofs.Common.{◌≡◌, ◌≢◌, ℕ, ◌+◌, ◌-◌, ◌*◌, ◌/◌, ◌%◌, ◌<◌, ◌≤◌, List, get_or, sym, ap, subst, ◌∙◌, inl, inr, arith}
+-- Reaches that get shorter: what is as far from a home as the distances tell is reached still.
+use Rattle.std.proofs.Common.{◌≡◌, ◌≢◌, ℕ, ◌+◌, ◌-◌, ◌*◌, ◌/◌, ◌<◌, ◌≤◌, eqb, List, length, map, get_or, set, sym, ap, subst, ◌∙◌, inl, inr, arith}
 use Rattle.std.specs.Int.Bits.{bit_xor}
-use Rattle.quick_cache_index.specs.Index.{home_of, distance}
+use Rattle.std.specs.Simd.Lanes.{chunk, mask_l}
+use Rattle.std.proofs.lemmas.Bool.{eqb-false}
+use Rattle.std.proofs.lemmas.List.{get_or-set_same, get_or-set_other}
+use Rattle.std.proofs.lemmas.Simd.{none_from_empty_mask}
+use Rattle.quick_cache_index.specs.Index.{distance, told}
+use Rattle.quick_cache_index.specs.IndexGroups.{KeepsReached}
 use Rattle.quick_cache_index.proofs.Distances.{xor-back}
 use Rattle.quick_cache_index.proofs.CountedTokens.{equal_or_not}
 
--- the tokens of a home are at most so far from it, of those that it reached
-abbrev pub AreWithin : (ℕ → ℕ) → List ℕ → List ℕ → ℕ → ℕ → ℕ → Type 0
-AreWithin hashed tokens reaches mask home step =
-    (position : ℕ) → 0 < get_or tokens position 0
-    → home_of mask (hashed (get_or tokens position 0)) ≡ home
+-- what is as far from a home as the distances tell, of all that it reached, is at most so far
+abbrev pub AreWithin : (distances reaches : List ℕ) → (home step : ℕ) → Type 0
+AreWithin distances reaches home step =
+    (position : ℕ) → get_or distances position 0 ≡ told (distance home position)
     → distance home position ≤ get_or reaches home 0 → distance home position ≤ step
 
--- one step less, where no token of that home is in the group at that distance
-pub AreWithin-less : (hashed : ℕ → ℕ) (tokens reaches : List ℕ) (mask home step : ℕ)
-    → AreWithin hashed tokens reaches mask home step → step ≢ 0
-    → ((lane : ℕ) → lane < 16 → 0 < get_or tokens (16 * bit_xor home step + lane) 0
-    → home_of mask (hashed (get_or tokens (16 * bit_xor home step + lane) 0)) ≡ home → ⊥)
-    → AreWithin hashed tokens reaches mask home (step - 1)
-AreWithin-less hashed tokens reaches mask home step within some none position taken at reached =
-    let near : distance home position ≤ step = within position taken at reached in
+-- one step less, where no place of the group at that distance has it
+pub AreWithin-less : (distances reaches : List ℕ) (home step : ℕ)
+    → AreWithin distances reaches home step → step ≢ 0
+    → 16 * bit_xor home step + 16 ≤ length distances
+    → mask_l (map (λ t. eqb t (told step)) (chunk (16 * bit_xor home step) 16 distances)) ≡ 0
+    → AreWithin distances reaches home (step - 1)
+AreWithin-less distances reaches home step within some inside none position at reached =
+    let near : distance home position ≤ step = within position at reached in
     elim (equal_or_not (distance home position) step) [
       | inl same ↦
           let group : bit_xor home step ≡ position / 16 =
           ap (bit_xor home) (sym same) ∙ xor-back home (position / 16) in
-          let place : 16 * bit_xor home step + position % 16 ≡ position = omega (arith, group) in
-          let P : ℕ → Type 0 = λ p. 0 < get_or tokens p 0 in
-          let Q : ℕ → Type 0 = λ p. home_of mask (hashed (get_or tokens p 0)) ≡ home in
-          absurd
-          (none (position % 16) (omega arith) (subst P (sym place) taken) (subst Q (sym place) at))
+          let from = 16 * bit_xor home step in
+          let other = none_from_empty_mask (λ x. eqb x (told step)) distances from 16 0 inside none
+          position (omega (arith, group)) (omega (arith, group)) in
+          absurd (eqb-false (get_or distances position 0) (told step) other (at ∙ ap told same))
       | inr other ↦ omega (arith, near, other, some)
+    ]
+
+-- a home that reaches as far as that keeps what it reached, and so do the others
+pub KeepsReached-within : (distances reaches : List ℕ) (home step : ℕ) → home < length reaches
+    → AreWithin distances reaches home step
+    → KeepsReached distances reaches (set reaches home step)
+KeepsReached-within distances reaches home step inside within other position at reached =
+    elim (equal_or_not other home) [
+      | inl same ↦
+          let P : ℕ → Type 0 = λ h. get_or distances position 0 ≡ told (distance h position) in
+          let Q : ℕ → Type 0 = λ h. distance h position ≤ get_or reaches h 0 in
+          let near = within position (subst P same at) (subst Q same reached) in
+          omega (
+            arith,
+            near,
+            ap (λ h. distance h position) same,
+            ap (λ h. get_or (set reaches home step) h 0) same,
+            get_or-set_same reaches home step 0 inside,
+          )
+      | inr apart ↦ omega (arith, reached, get_or-set_other reaches home other step 0 apart)
     ]

@@ -1,87 +1,82 @@
 -- What an index shows, from what its places hold.
-use Rattle.std.proofs.Common.{◌≡◌, ◌≢◌, ℕ, ◌+◌, ◌-◌, ◌<◌, ◌≤◌, Bool, true, false, not, ◌&&◌, ltb, List, length, get_or, set, sym, ap, subst, ◌∙◌, inl, inr, arith, count_by}
+use Rattle.std.proofs.Common.{◌≡◌, ◌≢◌, ℕ, ◌+◌, ◌-◌, ◌/◌, ◌<◌, ◌≤◌, Bool, true, false, not, ◌&&◌, ltb, List, length, get_or, set, sym, ap, subst, ◌∙◌, inl, inr, arith, count_by}
+use Rattle.std.specs.Int.Bits.{bit_xor, xor_self}
 use Rattle.std.proofs.lemmas.Bool.{lt-ltb, eq-eqb, ne_eqb}
 use Rattle.std.proofs.lemmas.Bool.Decides.{leb_tells}
-use Rattle.std.proofs.lemmas.List.{get_or-set_same, get_or-set_other}
-use Rattle.quick_cache_index.specs.Index.{Index, tag_of, home_of, distance, holds, is_free, has_token, HasToken, token_count, HasNone, Leads, KeepsOtherLeads, KeepsAllLeads, LosesToken, AreOthers}
-use Rattle.quick_cache_index.specs.IndexGroups.{taken_count, IsGrouped, IsSound, AreKnown, KeepsReached, TakesPlace, capacity_of}
-use Rattle.quick_cache_index.proofs.CountedTokens.{equal_or_not, bit, inside-some, taken_count-free, holds-itself, holds-other, place_of, count_by-take, taken_count-take, count_by-leave, taken_count-leave, tag_of-pos}
-
--- what is known of all tokens but one is known of all, once that left its place
-pub AreKnown-others : (knows : ℕ → Type 0) (index : Index) (position token : ℕ) → 0 < token
-    → get_or index.tokens position 0 ≡ token → count_by (holds token) index.tokens ≤ 1
-    → AreOthers knows index token → AreKnown knows (set index.tokens position 0)
-AreKnown-others knows index position token some there once others k left =
-    let counted = count_by-leave index.tokens position token k some there in
-    others k
-    (λ same.
-    let before = count_by-leave index.tokens position token token some there in
-    omega (
-      arith,
-      left,
-      ap (λ t. count_by (holds t) (set index.tokens position 0)) same,
-      before,
-      once,
-      ap bit (holds-itself token some),
-    ))
-    (lt-ltb _ _ (omega (arith, left, counted)))
+use Rattle.std.proofs.lemmas.List.{length-set, get_or-set_same, get_or-set_other, set-get_or}
+use Rattle.quick_cache_index.specs.Index.{Index, tag_of, home_of, distance, told, holds, is_free, has_token, HasToken, token_count, HasNone, Leads, KeepsOtherLeads, KeepsAllLeads, LosesToken}
+use Rattle.quick_cache_index.specs.IndexGroups.{taken_count, IsGrouped, IsSound, KeepsReached, TakesPlace, capacity_of}
+use Rattle.quick_cache_index.proofs.CountedTokens.{equal_or_not, bit, inside-some, taken_count-free, holds-itself, holds-other, place_of, count_by-place, count_by-take, taken_count-take, count_by-leave, taken_count-leave, tag_of-pos}
 
 -- ---- a token comes
 
 -- each place that was taken is as it was
-record IsKept (tags tags' tokens tokens' : List ℕ) (position : ℕ) : Type 0 where
+record IsKept (tags tags' tokens tokens' distances distances' : List ℕ)
+    (position : ℕ) : Type 0 where
   token : get_or tokens' position 0 ≡ get_or tokens position 0
   tag : get_or tags' position 0 ≡ get_or tags position 0
+  far : get_or distances' position 0 ≡ get_or distances position 0
 
-kept-take : (tags tags' tokens tokens' reaches reaches' : List ℕ) (mask hash token position : ℕ)
-    → (takes : TakesPlace tags tags' tokens tokens' reaches reaches' mask hash token)
-    → position ≢ takes.position → IsKept tags tags' tokens tokens' position
-kept-take tags tags' tokens tokens' reaches reaches' mask hash token position takes other = record {
-  token =
-      ap (λ ts. get_or ts position 0) takes.token_is
-      ∙ get_or-set_other tokens takes.position position token 0 other;
-  tag =
-      ap (λ ts. get_or ts position 0) takes.tag_is
-      ∙ get_or-set_other tags takes.position position (tag_of hash) 0 other;
-}
-
--- the place that was taken has the token and the tag
-record IsTaken (tags' tokens' : List ℕ) (hash token position : ℕ) : Type 0 where
+-- the place that was taken has the token, the tag and the distance
+record IsTaken (tags' tokens' distances' : List ℕ) (mask hash token position : ℕ) : Type 0 where
   token_is : get_or tokens' position 0 ≡ token
   tag_is : get_or tags' position 0 ≡ tag_of hash
+  far_is : get_or distances' position 0 ≡ told (distance (home_of mask hash) position)
 
-taken-take : (tags tags' tokens tokens' reaches reaches' : List ℕ) (mask hash token : ℕ)
-    → (takes : TakesPlace tags tags' tokens tokens' reaches reaches' mask hash token)
-    → length tags ≡ length tokens → IsTaken tags' tokens' hash token takes.position
-taken-take tags tags' tokens tokens' reaches reaches' mask hash token takes long = record {
-  token_is =
-      ap (λ ts. get_or ts takes.position 0) takes.token_is
-      ∙ get_or-set_same tokens takes.position token 0 takes.inside;
-  tag_is =
-      ap (λ ts. get_or ts takes.position 0) takes.tag_is
-      ∙ get_or-set_same tags takes.position (tag_of hash) 0 (omega (arith, takes.inside, long));
-}
+module _ (tags tags' tokens tokens' distances distances' reaches reaches' : List ℕ)
+    (mask hash token : ℕ)
+    (takes : TakesPlace tags tags' tokens tokens' distances distances' reaches reaches' mask hash
+    token) where
+  kept-take : (position : ℕ) → position ≢ takes.position
+      → IsKept tags tags' tokens tokens' distances distances' position
+  kept-take position other = record {
+    token =
+        ap (λ ts. get_or ts position 0) takes.token_is
+        ∙ get_or-set_other tokens takes.position position token 0 other;
+    tag =
+        ap (λ ts. get_or ts position 0) takes.tag_is
+        ∙ get_or-set_other tags takes.position position (tag_of hash) 0 other;
+    far =
+        ap (λ ts. get_or ts position 0) takes.far_is
+        ∙ get_or-set_other distances takes.position position _ 0 other;
+  }
+
+  taken-take : length tags ≡ length tokens → length distances ≡ length tags
+      → IsTaken tags' tokens' distances' mask hash token takes.position
+  taken-take long as_long = record {
+    token_is =
+        ap (λ ts. get_or ts takes.position 0) takes.token_is
+        ∙ get_or-set_same tokens takes.position token 0 takes.inside;
+    tag_is =
+        ap (λ ts. get_or ts takes.position 0) takes.tag_is
+        ∙ get_or-set_same tags takes.position (tag_of hash) 0 (omega (arith, takes.inside, long));
+    far_is =
+        ap (λ ts. get_or ts takes.position 0) takes.far_is
+        ∙ get_or-set_same distances takes.position _ 0 (omega (arith, takes.inside, long, as_long));
+  }
 
 pub Leads-take : (old new : Index) (hash token : ℕ)
-    → TakesPlace old.tags new.tags old.tokens new.tokens old.reaches new.reaches new.mask hash token
-    → length old.tags ≡ length old.tokens → 0 < token → Leads new hash token
-Leads-take old new hash token takes long some =
-    let at = taken-take old.tags new.tags old.tokens new.tokens old.reaches new.reaches new.mask
-    hash token takes long in
+    → TakesPlace old.tags new.tags old.tokens new.tokens old.distances new.distances old.reaches
+    new.reaches new.mask hash token → length old.tags ≡ length old.tokens
+    → length old.distances ≡ length old.tags → 0 < token → Leads new hash token
+Leads-take old new hash token takes long as_long some =
+    let at = taken-take old.tags new.tags old.tokens new.tokens old.distances new.distances
+    old.reaches new.reaches new.mask hash token takes long as_long in
     record {
       some = some;
       position = takes.position;
       there = at.token_is;
       tag = at.tag_is;
+      far = at.far_is;
       reached = takes.reached;
     }
 
 pub KeepsAllLeads-take : (old new : Index) (hash token : ℕ)
-    → TakesPlace old.tags new.tags old.tokens new.tokens old.reaches new.reaches new.mask hash token
-    → new.mask ≡ old.mask → KeepsAllLeads old new
+    → TakesPlace old.tags new.tags old.tokens new.tokens old.distances new.distances old.reaches
+    new.reaches new.mask hash token → new.mask ≡ old.mask → KeepsAllLeads old new
 KeepsAllLeads-take old new hash token takes mask h k leads =
-    let kept = kept-take old.tags new.tags old.tokens new.tokens old.reaches new.reaches new.mask
-    hash token leads.position takes
+    let kept = kept-take old.tags new.tags old.tokens new.tokens old.distances new.distances
+    old.reaches new.reaches new.mask hash token takes leads.position
     (λ same. absurd (omega (
       arith,
       leads.some,
@@ -92,6 +87,8 @@ KeepsAllLeads-take old new hash token takes mask h k leads =
     in
     let P : ℕ → Type 0 =
     λ m. distance (home_of m h) leads.position ≤ get_or new.reaches (home_of m h) 0 in
+    let F : ℕ → Type 0 = λ m. get_or new.distances leads.position 0
+    ≡ told (distance (home_of m h) leads.position) in
     let home : ℕ = home_of old.mask h in
     let near : distance home leads.position ≤ get_or new.reaches home 0 =
     omega (arith, leads.reached, takes.grow.1 home) in
@@ -100,6 +97,7 @@ KeepsAllLeads-take old new hash token takes mask h k leads =
       position = leads.position;
       there = kept.token ∙ leads.there;
       tag = kept.tag ∙ leads.tag;
+      far = subst F (sym mask) (kept.far ∙ leads.far);
       reached = subst P (sym mask) near;
     }
 
@@ -122,17 +120,19 @@ count_by-absent index token absent =
     ]
 
 -- an index stays sound when a new token takes a place
-pub IsSound-take : (tags tags' tokens tokens' reaches reaches' : List ℕ) (mask len hash token : ℕ)
-    → IsSound tags tokens reaches mask len → IsGrouped tags' tokens' reaches' mask
-    → TakesPlace tags tags' tokens tokens' reaches reaches' mask hash token → 0 < token
-    → count_by (holds token) tokens ≡ 0 → len < capacity_of (length reaches)
-    → IsSound tags' tokens' reaches' mask (len + 1)
-IsSound-take tags tags' tokens tokens' reaches reaches' mask len hash token sound sized takes some
-    absent room =
+pub IsSound-take : (tags tags' tokens tokens' distances distances' reaches reaches' : List ℕ)
+    (mask len hash token : ℕ) → IsSound tags tokens distances reaches mask len
+    → IsGrouped tags' tokens' reaches' mask
+    → TakesPlace tags tags' tokens tokens' distances distances' reaches reaches' mask hash token
+    → 0 < token → count_by (holds token) tokens ≡ 0 → len < capacity_of (length reaches)
+    → IsSound tags' tokens' distances' reaches' mask (len + 1)
+IsSound-take tags tags' tokens tokens' distances distances' reaches reaches' mask len hash token
+    sound sized takes some absent room =
     let long = sound.sized.tagged in
-    let at = taken-take tags tags' tokens tokens' reaches reaches' mask hash token takes long in
-    let kept = λ (position : ℕ). kept-take tags tags' tokens tokens' reaches reaches' mask hash
-    token position takes in
+    let at = taken-take tags tags' tokens tokens' distances distances' reaches reaches' mask hash
+    token takes long sound.distant.as_long in
+    let kept = λ (position : ℕ). kept-take tags tags' tokens tokens' distances distances' reaches
+    reaches' mask hash token takes position in
     record {
       sized = sized;
       matched = record {
@@ -155,6 +155,25 @@ IsSound-take tags tags' tokens tokens' reaches reaches' mask len hash token soun
           | inr other ↦
               let is = kept position other in
               is.token ∙ sound.matched.bare position (sym is.tag ∙ tag)
+        ];
+      };
+      distant = record {
+        as_long =
+            ap length takes.far_is ∙ length-set distances takes.position _
+            ∙ sound.distant.as_long
+            ∙ sym (ap length takes.tag_is ∙ length-set tags takes.position (tag_of hash));
+        free = λ position tag. elim (equal_or_not position takes.position) [
+          | inl same ↦
+              absurd (omega (
+                arith,
+                tag,
+                at.tag_is,
+                tag_of-pos hash,
+                ap (λ p. get_or tags' p 0) same,
+              ))
+          | inr other ↦
+              let is = kept position other in
+              is.far ∙ sound.distant.free position (sym is.tag ∙ tag)
         ];
       };
       counted =
@@ -187,67 +206,75 @@ IsSound-take tags tags' tokens tokens' reaches reaches' mask len hash token soun
     bit-most false = omega arith
 
 -- where there is room for a token, a place is free
-pub free-from_room : (tags tokens reaches : List ℕ) (mask len : ℕ)
-    → IsSound tags tokens reaches mask len → len < capacity_of (length reaches)
+pub free-from_room : (tags tokens distances reaches : List ℕ) (mask len : ℕ)
+    → IsSound tags tokens distances reaches mask len → len < capacity_of (length reaches)
     → 0 < count_by is_free tokens
-free-from_room tags tokens reaches mask len sound room =
+free-from_room tags tokens distances reaches mask len sound room =
     omega (arith, sound.counted, sound.sized.sixteen, room, taken_count-free tokens)
 
 -- what a call did with lists that were lent to it, it did with those that they are
-pub TakesPlace-lent : (tags tags' tokens tokens' reaches reaches' lent_tags lent_tokens
-    lent_reaches : List ℕ) (mask hash got token : ℕ) → lent_tags ≡ tags → lent_tokens ≡ tokens
-    → lent_reaches ≡ reaches → got ≡ token
-    → TakesPlace lent_tags tags' lent_tokens tokens' lent_reaches reaches' mask hash got
-    → TakesPlace tags tags' tokens tokens' reaches reaches' mask hash token
-TakesPlace-lent tags tags' tokens tokens' reaches reaches' lent_tags lent_tokens lent_reaches mask
-    hash got token tags_are tokens_are reaches_are token_is takes =
-    let T : List ℕ → Type 0 =
-    λ ts. TakesPlace ts tags' lent_tokens tokens' lent_reaches reaches' mask hash got in
-    let K : List ℕ → Type 0 =
-    λ ts. TakesPlace tags tags' ts tokens' lent_reaches reaches' mask hash got in
-    let R : List ℕ → Type 0 =
-    λ rs. TakesPlace tags tags' tokens tokens' rs reaches' mask hash got in
-    let N : ℕ → Type 0 =
-    λ n. TakesPlace tags tags' tokens tokens' reaches reaches' mask hash n in
-    subst N token_is (subst R reaches_are (subst K tokens_are (subst T tags_are takes)))
+pub TakesPlace-lent : (tags tags' tokens tokens' distances distances' reaches reaches' lent_tags
+    lent_tokens lent_distances lent_reaches : List ℕ) (mask hash got token : ℕ) → lent_tags ≡ tags
+    → lent_tokens ≡ tokens → lent_distances ≡ distances → lent_reaches ≡ reaches → got ≡ token
+    → TakesPlace lent_tags tags' lent_tokens tokens' lent_distances distances' lent_reaches
+    reaches' mask hash got
+    → TakesPlace tags tags' tokens tokens' distances distances' reaches reaches' mask hash token
+TakesPlace-lent tags tags' tokens tokens' distances distances' reaches reaches' lent_tags
+    lent_tokens lent_distances lent_reaches mask hash got token tags_are tokens_are distances_are
+    reaches_are token_is takes =
+    let T : List ℕ → Type 0 = λ ts. TakesPlace ts tags' lent_tokens tokens' lent_distances
+    distances' lent_reaches reaches' mask hash got in
+    let K : List ℕ → Type 0 = λ ts. TakesPlace tags tags' ts tokens' lent_distances distances'
+    lent_reaches reaches' mask hash got in
+    let D : List ℕ → Type 0 = λ ds. TakesPlace tags tags' tokens tokens' ds distances'
+    lent_reaches reaches' mask hash got in
+    let R : List ℕ → Type 0 = λ rs. TakesPlace tags tags' tokens tokens' distances distances' rs
+    reaches' mask hash got in
+    let N : ℕ → Type 0 = λ n. TakesPlace tags tags' tokens tokens' distances distances' reaches
+    reaches' mask hash n in
+    subst N token_is (subst R reaches_are (subst D distances_are (subst K tokens_are
+    (subst T tags_are takes))))
 
 -- ---- a token goes
 
--- the token that stood at that place is gone, and reaches are as far as the others need
-pub record LeavesPlace (hashed : ℕ → ℕ) (tags tags' tokens tokens' reaches reaches' : List ℕ)
-    (mask token position : ℕ) : Type 0 where
+-- the token that stood at that place is gone, and what is left is reached still
+pub record LeavesPlace (tags tags' tokens tokens' distances distances' reaches reaches' : List ℕ)
+    (token position : ℕ) : Type 0 where
   pub some : 0 < token
   pub there : get_or tokens position 0 ≡ token
   pub token_is : tokens' ≡ set tokens position 0
   pub tag_is : tags' ≡ set tags position 0
-  pub reached : KeepsReached hashed tokens' reaches reaches' mask
+  pub far_is : distances' ≡ set distances position 0
+  pub reached : KeepsReached distances' reaches reaches'
 
 -- what a call left of lists that were lent to it, it left of those that they are
-pub LeavesPlace-lent : (hashed : ℕ → ℕ) (tags tags' tokens tokens' reaches reaches' lent_tags
-    lent_tokens lent_reaches read : List ℕ) (mask got token position : ℕ) → lent_tags ≡ tags
-    → lent_tokens ≡ tokens → lent_reaches ≡ reaches → read ≡ tokens → got ≡ token → 0 < token
+pub LeavesPlace-lent : (tags tags' tokens tokens' distances distances' reaches reaches' lent_tags
+    lent_tokens lent_distances lent_reaches read : List ℕ) (got token position : ℕ)
+    → lent_tags ≡ tags → lent_tokens ≡ tokens → lent_distances ≡ distances
+    → lent_reaches ≡ reaches → read ≡ tokens → got ≡ token → 0 < token
     → get_or read position 0 ≡ got → tags' ≡ set lent_tags position 0
-    → tokens' ≡ set lent_tokens position 0
-    → KeepsReached hashed tokens' lent_reaches reaches' mask
-    → LeavesPlace hashed tags tags' tokens tokens' reaches reaches' mask token position
-LeavesPlace-lent hashed tags tags' tokens tokens' reaches reaches' lent_tags lent_tokens
-    lent_reaches read mask got token position tags_are tokens_are reaches_are read_is token_is some found tag_is
-    place_is kept =
-    let R : List ℕ → Type 0 = λ rs. KeepsReached hashed tokens' rs reaches' mask in
+    → tokens' ≡ set lent_tokens position 0 → distances' ≡ set lent_distances position 0
+    → KeepsReached distances' lent_reaches reaches'
+    → LeavesPlace tags tags' tokens tokens' distances distances' reaches reaches' token position
+LeavesPlace-lent tags tags' tokens tokens' distances distances' reaches reaches' lent_tags
+    lent_tokens lent_distances lent_reaches read got token position tags_are tokens_are
+    distances_are reaches_are read_is token_is some found tag_is place_is far_is kept =
+    let R : List ℕ → Type 0 = λ rs. KeepsReached distances' rs reaches' in
     record {
       some = some;
       there = ap (λ ts. get_or ts position 0) (sym read_is) ∙ found ∙ token_is;
       token_is = place_is ∙ ap (λ ts. set ts position 0) tokens_are;
       tag_is = tag_is ∙ ap (λ ts. set ts position 0) tags_are;
+      far_is = far_is ∙ ap (λ ts. set ts position 0) distances_are;
       reached = subst R reaches_are kept;
     }
 
-kept-leave : (hashed : ℕ → ℕ) (tags tags' tokens tokens' reaches reaches' : List ℕ)
-    (mask token place position : ℕ)
-    → LeavesPlace hashed tags tags' tokens tokens' reaches reaches' mask token place
-    → position ≢ place → IsKept tags tags' tokens tokens' position
-kept-leave hashed tags tags' tokens tokens' reaches reaches' mask token place position leaves
-    other =
+kept-leave : (tags tags' tokens tokens' distances distances' reaches reaches' : List ℕ)
+    (token place position : ℕ)
+    → LeavesPlace tags tags' tokens tokens' distances distances' reaches reaches' token place
+    → position ≢ place → IsKept tags tags' tokens tokens' distances distances' position
+kept-leave tags tags' tokens tokens' distances distances' reaches reaches' token place position
+    leaves other =
     record {
       token =
           ap (λ ts. get_or ts position 0) leaves.token_is
@@ -255,37 +282,37 @@ kept-leave hashed tags tags' tokens tokens' reaches reaches' mask token place po
       tag =
           ap (λ ts. get_or ts position 0) leaves.tag_is
           ∙ get_or-set_other tags place position 0 0 other;
+      far =
+          ap (λ ts. get_or ts position 0) leaves.far_is
+          ∙ get_or-set_other distances place position 0 0 other;
     }
 
-pub KeepsOtherLeads-leave : (hashed : ℕ → ℕ) (old new : Index) (token place : ℕ)
-    → LeavesPlace hashed old.tags new.tags old.tokens new.tokens old.reaches new.reaches new.mask
-    token place → new.mask ≡ old.mask → KeepsOtherLeads old new hashed token
-KeepsOtherLeads-leave hashed old new token place leaves mask k off leads =
-    let kept = kept-leave hashed old.tags new.tags old.tokens new.tokens old.reaches new.reaches
-    new.mask token place leads.position leaves
+pub KeepsOtherLeads-leave : (old new : Index) (token place : ℕ)
+    → LeavesPlace old.tags new.tags old.tokens new.tokens old.distances new.distances old.reaches
+    new.reaches token place → new.mask ≡ old.mask → KeepsOtherLeads old new token
+KeepsOtherLeads-leave old new token place leaves mask h k off leads =
+    let kept = kept-leave old.tags new.tags old.tokens new.tokens old.distances new.distances
+    old.reaches new.reaches token place leads.position leaves
     (λ same. off (sym leads.there ∙ ap (λ p. get_or old.tokens p 0) same ∙ leaves.there)) in
-    let there : get_or new.tokens leads.position 0 ≡ k = kept.token ∙ leads.there in
-    let h : ℕ → ℕ = hashed in
-    let P : ℕ → Type 0 = λ m. distance (home_of m (h k)) leads.position
-    ≤ get_or old.reaches (home_of m (h k)) 0 in
-    let Q : List ℕ → ℕ → Type 0 = λ reaches t. distance (home_of new.mask (h t)) leads.position
-    ≤ get_or reaches (home_of new.mask (h t)) 0 in
-    let before : Q old.reaches k = subst P (sym mask) leads.reached in
-    let after : Q new.reaches (get_or new.tokens leads.position 0) =
-    leaves.reached leads.position (omega (arith, there, leads.some))
-    (subst (Q old.reaches) (sym there) before) in
+    let P : ℕ → Type 0 =
+    λ m. distance (home_of m h) leads.position ≤ get_or new.reaches (home_of m h) 0 in
+    let F : ℕ → Type 0 = λ m. get_or new.distances leads.position 0
+    ≡ told (distance (home_of m h) leads.position) in
+    let far = kept.far ∙ leads.far in
     record {
       some = leads.some;
       position = leads.position;
-      there = there;
+      there = kept.token ∙ leads.there;
       tag = kept.tag ∙ leads.tag;
-      reached = subst (Q new.reaches) there after;
+      far = subst F (sym mask) far;
+      reached = subst P (sym mask)
+          (leaves.reached (home_of old.mask h) leads.position far leads.reached);
     }
 
-pub LosesToken-leave : (hashed : ℕ → ℕ) (old new : Index) (token place : ℕ)
-    → LeavesPlace hashed old.tags new.tags old.tokens new.tokens old.reaches new.reaches new.mask
-    token place → count_by (holds token) old.tokens ≤ 1 → LosesToken old new token
-LosesToken-leave hashed old new token place leaves once other =
+pub LosesToken-leave : (old new : Index) (token place : ℕ)
+    → LeavesPlace old.tags new.tags old.tokens new.tokens old.distances new.distances old.reaches
+    new.reaches token place → count_by (holds token) old.tokens ≤ 1 → LosesToken old new token
+LosesToken-leave old new token place leaves once other =
     let counted : count_by (holds other) new.tokens + bit (holds other token)
     ≡ count_by (holds other) old.tokens =
     ap (λ ts. count_by (holds other) ts + bit (holds other token)) leaves.token_is
@@ -302,11 +329,12 @@ LosesToken-leave hashed old new token place leaves once other =
           ∙ ap (λ b. not b && has_token old other) (sym (ne_eqb other token off))
     ]
 
-pub taken_count-leaves : (hashed : ℕ → ℕ) (tags tags' tokens tokens' reaches reaches' : List ℕ)
-    (mask token place : ℕ)
-    → LeavesPlace hashed tags tags' tokens tokens' reaches reaches' mask token place
+pub taken_count-leaves : (tags tags' tokens tokens' distances distances' reaches
+    reaches' : List ℕ) (token place : ℕ)
+    → LeavesPlace tags tags' tokens tokens' distances distances' reaches reaches' token place
     → taken_count tokens' + 1 ≡ taken_count tokens
-taken_count-leaves hashed tags tags' tokens tokens' reaches reaches' mask token place leaves =
+taken_count-leaves tags tags' tokens tokens' distances distances' reaches reaches' token place
+    leaves =
     ap (λ ts. taken_count ts + 1) leaves.token_is
     ∙ taken_count-leave tokens place token leaves.some leaves.there
 
@@ -325,13 +353,14 @@ IsGrouped-as_long tags tags' tokens tokens' reaches mask sized tags_as_long toke
     }
 
 -- an index stays sound when a token leaves its place
-pub IsSound-leave : (hashed : ℕ → ℕ) (tags tags' tokens tokens' reaches reaches' : List ℕ)
-    (mask len less token place : ℕ) → IsSound tags tokens reaches mask len
+pub IsSound-leave : (tags tags' tokens tokens' distances distances' reaches reaches' : List ℕ)
+    (mask len less token place : ℕ) → IsSound tags tokens distances reaches mask len
     → IsGrouped tags' tokens' reaches' mask
-    → LeavesPlace hashed tags tags' tokens tokens' reaches reaches' mask token place
-    → length reaches' ≡ length reaches → less ≡ len - 1 → IsSound tags' tokens' reaches' mask less
-IsSound-leave hashed tags tags' tokens tokens' reaches reaches' mask len less token place sound
-    sized leaves groups fewer =
+    → LeavesPlace tags tags' tokens tokens' distances distances' reaches reaches' token place
+    → length reaches' ≡ length reaches → less ≡ len - 1
+    → IsSound tags' tokens' distances' reaches' mask less
+IsSound-leave tags tags' tokens tokens' distances distances' reaches reaches' mask len less token
+    place sound sized leaves groups fewer =
     let inside : place < length tokens =
     inside-some tokens place (omega (arith, leaves.some, leaves.there)) in
     let gone : get_or tokens' place 0 ≡ 0 =
@@ -339,8 +368,11 @@ IsSound-leave hashed tags tags' tokens tokens' reaches reaches' mask len less to
     let untagged : get_or tags' place 0 ≡ 0 =
     ap (λ ts. get_or ts place 0) leaves.tag_is
     ∙ get_or-set_same tags place 0 0 (omega (arith, inside, sound.sized.tagged)) in
-    let kept = λ (position : ℕ). kept-leave hashed tags tags' tokens tokens' reaches reaches' mask
-    token place position leaves in
+    let at_none : get_or distances' place 0 ≡ 0 =
+    ap (λ ts. get_or ts place 0) leaves.far_is ∙ get_or-set_same distances place 0 0
+    (omega (arith, inside, sound.sized.tagged, sound.distant.as_long)) in
+    let kept = λ (position : ℕ). kept-leave tags tags' tokens tokens' distances distances' reaches
+    reaches' token place position leaves in
     record {
       sized = sized;
       matched = record {
@@ -358,13 +390,24 @@ IsSound-leave hashed tags tags' tokens tokens' reaches reaches' mask len less to
               is.token ∙ sound.matched.bare position (sym is.tag ∙ tag)
         ];
       };
+      distant = record {
+        as_long =
+            ap length leaves.far_is ∙ length-set distances place 0 ∙ sound.distant.as_long
+            ∙ sym (ap length leaves.tag_is ∙ length-set tags place 0);
+        free = λ position tag. elim (equal_or_not position place) [
+          | inl same ↦ ap (λ p. get_or distances' p 0) same ∙ at_none
+          | inr other ↦
+              let is = kept position other in
+              is.far ∙ sound.distant.free position (sym is.tag ∙ tag)
+        ];
+      };
       counted =
           omega (
             arith,
             sound.counted,
             fewer,
-            taken_count-leaves hashed tags tags' tokens tokens' reaches reaches' mask token place
-                leaves,
+            taken_count-leaves tags tags' tokens tokens' distances distances' reaches reaches'
+                token place leaves,
           );
       load = subst (λ n. less ≤ capacity_of n) (sym groups) (omega (arith, fewer, sound.load));
       once = λ k. omega (
@@ -374,6 +417,38 @@ IsSound-leave hashed tags tags' tokens tokens' reaches reaches' mask len less to
         count_by-leave tokens place token k leaves.some leaves.there,
       );
     }
+
+-- a token that is there once stands at one place
+one_place : (tokens : List ℕ) (token p q : ℕ) → 0 < token → count_by (holds token) tokens ≤ 1
+    → get_or tokens p 0 ≡ token → get_or tokens q 0 ≡ token → p ≡ q
+one_place tokens token p q some once at_p at_q =
+    elim (equal_or_not q p) [
+      | inl same ↦ sym same
+      | inr other ↦
+          let left = count_by-place (set tokens p 0) q token some
+          (get_or-set_other tokens p q 0 0 other ∙ at_q) in
+          absurd (omega (
+            arith,
+            once,
+            left,
+            count_by-leave tokens p token token some at_p,
+            ap bit (holds-itself token some),
+          ))
+    ]
+
+-- a token that is found in the group of its home has no distance
+pub distances-at_home : (index : Index) (hash token position : ℕ) → Leads index hash token
+    → count_by (holds token) index.tokens ≤ 1 → get_or index.tokens position 0 ≡ token
+    → position / 16 ≡ home_of index.mask hash → index.distances ≡ set index.distances position 0
+distances-at_home index hash token position leads once found at_home =
+    let same = one_place index.tokens token leads.position position leads.some once leads.there
+    found in
+    let home = home_of index.mask hash in
+    let none : distance home position ≡ 0 = ap (bit_xor home) at_home ∙ xor_self home in
+    let far : get_or index.distances position 0 ≡ 0 =
+    subst (λ p. get_or index.distances p 0 ≡ told (distance home p)) same leads.far
+    ∙ ap told none in
+    sym (set-get_or index.distances position 0) ∙ ap (set index.distances position) far
 
 -- ---- no token is there
 

@@ -4,11 +4,13 @@ use Rattle.std.specs.Prelude.{◌≡◌, ℕ, ◌-◌, ◌/◌, ◌^◌, ◌<◌
 use Rattle.std.specs.Coded.{Coded, code_by, coded×, coded_ℕ, coded_list}
 
 -- what a look-up reads: the tag and the token of each place, or 0 where it is free, how far from
--- each group its tokens are, and one less than how many groups there are; how many more tokens fit
--- with no allocation, and how many bytes are held
+-- each group its tokens are, and one less than how many groups there are; how far from its home the
+-- token of each place is, as far as a byte tells; how many more tokens fit with no allocation, and
+-- how many bytes are held
 pub record Index : Type 0 where
   pub tags : List ℕ
   pub tokens : List ℕ
+  pub distances : List ℕ
   pub reaches : List ℕ
   pub mask : ℕ
   pub room : ℕ
@@ -18,13 +20,14 @@ pub record Index : Type 0 where
 abbrev pub index_code : Coded Index
 index_code =
     code_by
-    ((List ℕ × (List ℕ × List ℕ)) × (ℕ × (ℕ × ℕ)))
-    (coded× (coded× (coded_list coded_ℕ) (coded× (coded_list coded_ℕ) (coded_list coded_ℕ)))
-    (coded× coded_ℕ (coded× coded_ℕ coded_ℕ)))
-    (λ i. ((i.tags, (i.tokens, i.reaches)), (i.mask, (i.room, i.allocated))))
+    (((List ℕ × List ℕ) × (List ℕ × List ℕ)) × (ℕ × (ℕ × ℕ)))
+    (coded× (coded× (coded× (coded_list coded_ℕ) (coded_list coded_ℕ))
+    (coded× (coded_list coded_ℕ) (coded_list coded_ℕ))) (coded× coded_ℕ (coded× coded_ℕ coded_ℕ)))
+    (λ i. (((i.tags, i.tokens), (i.distances, i.reaches)), (i.mask, (i.room, i.allocated))))
     (λ p. record {
-      tags = p.0.0;
-      tokens = p.0.1.0;
+      tags = p.0.0.0;
+      tokens = p.0.0.1;
+      distances = p.0.1.0;
       reaches = p.0.1.1;
       mask = p.1.0;
       room = p.1.1.0;
@@ -43,6 +46,10 @@ home_of mask hash = bit_and hash mask
 -- how many groups a search from a home reads before that of the position
 abbrev pub distance : ℕ → ℕ → ℕ
 distance home position = bit_xor home (position / 16)
+
+-- a distance as a byte tells it: 255 is that or more
+abbrev pub told : ℕ → ℕ
+told far = min far 255
 
 -- a search for the hash reads the group of the position
 abbrev pub IsReached : List ℕ → ℕ → ℕ → ℕ → Type 0
@@ -69,12 +76,14 @@ HasToken index token = IsTrue (has_token index token)
 abbrev pub token_count : Index → ℕ
 token_count index = count_by (λ place. not (is_free place)) index.tokens
 
--- a search for the hash meets the token, at a place that has the hash's tag
+-- a search for the hash meets the token, at a place that has the hash's tag and its distance
 pub record Leads (index : Index) (hash token : ℕ) : Type 0 where
   pub some : 0 < token
   pub position : ℕ
   pub there : slice_index index.tokens position ≡ token
   pub tag : slice_index index.tags position ≡ tag_of hash
+  pub far : slice_index index.distances position
+      ≡ told (distance (home_of index.mask hash) position)
   pub reached : IsReached index.reaches index.mask hash position
 
 -- so much room, or room for all the tokens that the index can still take
@@ -84,11 +93,6 @@ wanted_room index additional = min additional (4294967294 - token_count index)
 -- no token is there
 abbrev pub HasNone : Index → Type 0
 HasNone index = (token : ℕ) → has_token index token ≡ false
-
--- each token that is there, but this one, is one of these
-abbrev pub AreOthers : (ℕ → Type 0) → Index → ℕ → Type 0
-AreOthers knows index token =
-    (other : ℕ) → ¬ (other ≡ token) → HasToken index other → knows other
 
 -- the token came, and the others stay as they were
 abbrev pub GainsToken : Index → Index → ℕ → Type 0
@@ -100,11 +104,10 @@ abbrev pub LosesToken : Index → Index → ℕ → Type 0
 LosesToken old new token =
     (other : ℕ) → has_token new other ≡ (not (other == token) && has_token old other)
 
--- what led to another token than this one by these hashes leads to it still
-abbrev pub KeepsOtherLeads : Index → Index → (ℕ → ℕ) → ℕ → Type 0
-KeepsOtherLeads old new hash_of token =
-    (other : ℕ) → ¬ (other ≡ token)
-    → Leads old (hash_of other) other → Leads new (hash_of other) other
+-- whatever hash led to another token than this one leads to it still
+abbrev pub KeepsOtherLeads : Index → Index → ℕ → Type 0
+KeepsOtherLeads old new token =
+    (hash other : ℕ) → ¬ (other ≡ token) → Leads old hash other → Leads new hash other
 
 -- whatever hash led to a token leads to it still
 abbrev pub KeepsAllLeads : Index → Index → Type 0

@@ -2,7 +2,7 @@
 -- clause cites this module.
 use Rattle.std.specs.Prelude.{◌≡◌, ℕ, ◌+◌, ◌-◌, ◌*◌, ◌^◌, ◌<◌, ◌≤◌, not, ◌==◌, min, if◌then◌else◌, List, [], ◌∷◌, zero, suc, length, count_by, filter, filter_map, ◌++◌, Option, Some, None, bit_xor, slice_index, slice_set}
 use Rattle.std.specs.Int.{IsPowerOfTwo, bit_at}
-use Rattle.quick_cache_index.specs.Index.{tag_of, home_of, IsReached, is_free, holds}
+use Rattle.quick_cache_index.specs.Index.{tag_of, home_of, distance, told, IsReached, is_free, holds}
 use Rattle.quick_cache_index.specs.declared.index.walk.Walk.{Walk}
 
 -- how many of the places have a token
@@ -23,51 +23,52 @@ pub record IsMatched (tags tokens : List ℕ) : Type 0 where
   pub taken : (position : ℕ) → 0 < slice_index tags position → 0 < slice_index tokens position
   pub bare : (position : ℕ) → slice_index tags position ≡ 0 → slice_index tokens position ≡ 0
 
+-- a distance for each place, and none where there is no tag
+pub record HasDistances (tags distances : List ℕ) : Type 0 where
+  pub as_long : length distances ≡ length tags
+  pub free : (position : ℕ) → slice_index tags position ≡ 0 → slice_index distances position ≡ 0
+
 -- as many tokens as so many groups are made for
 abbrev pub capacity_of : ℕ → ℕ
 capacity_of groups = min (14 * groups) 4294967294
 
 -- the places and the length of an index
-pub record IsSound (tags tokens reaches : List ℕ) (mask len : ℕ) : Type 0 where
+pub record IsSound (tags tokens distances reaches : List ℕ) (mask len : ℕ) : Type 0 where
   pub sized : IsGrouped tags tokens reaches mask
   pub matched : IsMatched tags tokens
+  pub distant : HasDistances tags distances
   pub counted : len ≡ taken_count tokens
   pub load : len ≤ capacity_of (length reaches)
   pub once : (token : ℕ) → count_by (holds token) tokens ≤ 1
-
--- each token of these places is known
-abbrev pub AreKnown : (ℕ → Type 0) → List ℕ → Type 0
-AreKnown knows tokens = (token : ℕ) → 0 < count_by (holds token) tokens → knows token
 
 -- no reach got shorter
 abbrev pub ReachesGrow : List ℕ → List ℕ → Type 0
 ReachesGrow old new =
     (length new ≡ length old) × ((group : ℕ) → slice_index old group ≤ slice_index new group)
 
--- the token came to a free place, under the tag of the hash, where a search for that finds it
-pub record TakesPlace (tags tags' tokens tokens' reaches reaches' : List ℕ)
+-- the token came to a free place, under the tag and the distance of the hash, where a search for
+-- that finds it
+pub record TakesPlace (tags tags' tokens tokens' distances distances' reaches reaches' : List ℕ)
     (mask hash token : ℕ) : Type 0 where
   pub position : ℕ
   pub inside : position < length tokens
   pub free : slice_index tokens position ≡ 0
   pub token_is : tokens' ≡ slice_set tokens position token
   pub tag_is : tags' ≡ slice_set tags position (tag_of hash)
+  pub far_is : distances' ≡ slice_set distances position (told (distance (home_of mask hash) position))
   pub reached : IsReached reaches' mask hash position
   pub grow : ReachesGrow reaches reaches'
 
--- a token of that home is in the group
-abbrev pub HasTokenOf : (ℕ → ℕ) → List ℕ → ℕ → ℕ → ℕ → Type 0
-HasTokenOf hashed tokens mask home group =
-    (lane : ℕ) × (lane < 16)
-    × let token = slice_index tokens (16 * group + lane) in
-    (0 < token) × (home_of mask (hashed token) ≡ home)
+-- what is as far from a home as the distances tell, and was reached from there, is reached still
+abbrev pub KeepsReached : (distances old new : List ℕ) → Type 0
+KeepsReached distances old new =
+    (home position : ℕ) → slice_index distances position ≡ told (distance home position)
+    → distance home position ≤ slice_index old home → distance home position ≤ slice_index new home
 
--- what a search found of these tokens by their hashes, it finds still
-abbrev pub KeepsReached : (ℕ → ℕ) → List ℕ → List ℕ → List ℕ → ℕ → Type 0
-KeepsReached hashed tokens old new mask =
-    (position : ℕ) → 0 < slice_index tokens position
-    → IsReached old mask (hashed (slice_index tokens position)) position
-    → IsReached new mask (hashed (slice_index tokens position)) position
+-- a place of the group has that distance
+abbrev pub HasAtDistance : (distances : List ℕ) → (group far : ℕ) → Type 0
+HasAtDistance distances group far =
+    (lane : ℕ) × (lane < 16) × (slice_index distances (16 * group + lane) ≡ far)
 
 -- so many positions from this one on
 abbrev pub positions_from : ℕ → ℕ → List ℕ

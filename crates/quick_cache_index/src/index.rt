@@ -1,16 +1,14 @@
 //! Tokens by hash: tokens in groups of sixteen places, found by tags of their hashes.
 ghost use Rattle.std.specs.Prelude.{◌≡◌, ℕ, ◌+◌, ◌-◌, ◌^◌, ◌<◌, ◌≤◌, ◌↔◌, min, IsTrue, IsOk, IfOk, IfErr, OnOk, OnErr};
 ghost use Rattle.std.specs.Int.NonZero.{non_zero_u32_get};
-ghost use Rattle.quick_cache_index.specs.Index.{HasToken, HasNone, GainsToken, LosesToken, Leads, KeepsOtherLeads, KeepsAllLeads, AreOthers, AreCandidates, token_count, wanted_room};
+ghost use Rattle.quick_cache_index.specs.Index.{HasToken, HasNone, GainsToken, LosesToken, Leads, KeepsOtherLeads, KeepsAllLeads, AreCandidates, token_count, wanted_room};
 
 pub(crate) mod candidates;
 pub(crate) mod groups;
-pub(crate) mod hashes;
 pub(crate) mod walk;
 
 pub use candidates::Candidates;
 use groups::{MOST_TOKENS, capacity, groups_for};
-pub use hashes::Hashes;
 use quick_cache_model::{Refusal, Token};
 use std::alloc::{Allocator, Global};
 use std::marker::Model;
@@ -20,10 +18,9 @@ use walk::{Walk, first_position_of, position_on_walk};
 ///
 /// It keeps no hash. A place has a tag of one byte from the hash of its token, and a look-up
 /// compares the sixteen tags of a group at once before it reads a token, as Rust's own hash map
-/// does (SwissTable). So a look-up gives candidates, which the caller compares, a removal asks the
-/// caller for the hash of a token that is not at hand, and an index that grows forgets its tokens,
-/// which the caller puts in again. A token that goes gives its room back, and no call but
-/// `clear_for` allocates. A look-up reads no group past the farthest that
+/// does (SwissTable). So a look-up gives candidates, which the caller compares, and an index that
+/// grows forgets its tokens, which the caller puts in again. A token that goes gives its room back,
+/// and no call but `clear_for` allocates. A look-up reads no group past the farthest that
 /// has a token of its own, so that a removal leaves nothing behind.
 #[derive(Drop)]
 pub struct Index<A: Allocator = Global> {
@@ -31,6 +28,8 @@ pub struct Index<A: Allocator = Global> {
     tags: Vec<u8, A>,
     // The token of each place, or 0 where it is free.
     tokens: Vec<u32, A>,
+    // For each place how far from its home the token is, or 255 where that is farther.
+    distances: Vec<u8, A>,
     // For each group, how far from it the tokens are whose home it is.
     reaches: Vec<u32, A>,
     // One less than how many groups there are.
@@ -52,13 +51,16 @@ impl<A: Allocator> Model for Index<A> {
     ghost view = { λ i. record {
       tags = i.tags.items;
       tokens = i.tokens.items;
+      distances = i.distances.items;
       reaches = i.reaches.items;
       mask = i.mask;
       room = capacity_of (length i.reaches.items) - taken_count i.tokens.items;
-      allocated = vec_capacity i.tags + 4 * vec_capacity i.tokens + 4 * vec_capacity i.reaches;
+      allocated = vec_capacity i.tags + 4 * vec_capacity i.tokens + vec_capacity i.distances
+          + 4 * vec_capacity i.reaches;
     } };
 
-    ghost invariant = { λ i. IsSound i.tags.items i.tokens.items i.reaches.items i.mask i.len };
+    ghost invariant = { λ i. IsSound i.tags.items i.tokens.items i.distances.items i.reaches.items
+        i.mask i.len };
 }
 
 impl<A: Allocator> Index<A> {
@@ -80,12 +82,16 @@ impl<A: Allocator> Index<A> {
         let Ok(for_tags) = alloc.clone() else {
             return Err(Refusal::Memory);
         };
+        let Ok(for_distances) = alloc.clone() else {
+            return Err(Refusal::Memory);
+        };
         let Ok(for_reaches) = alloc.clone() else {
             return Err(Refusal::Memory);
         };
         Ok(Index {
             tags: Vec::new(for_tags),
             tokens: Vec::new(alloc),
+            distances: Vec::new(for_distances),
             reaches: Vec::new(for_reaches),
             mask: 0,
             len: 0,
@@ -116,7 +122,9 @@ impl<A: Allocator> Index<A> {
         let tags = self.tags.capacity();
         let tokens = self.tokens.capacity().saturating_mul(size_of::<u32>());
         let reaches = self.reaches.capacity().saturating_mul(size_of::<u32>());
-        tags.saturating_add(tokens).saturating_add(reaches)
+        tags.saturating_add(tokens)
+            .saturating_add(self.distances.capacity())
+            .saturating_add(reaches)
     }
 
     /// Whether it takes `additional` more tokens as it is, or all that an index can still take.
@@ -158,7 +166,13 @@ impl<A: Allocator> Index<A> {
             return Ok(());
         }
         let count = groups_for(tokens);
-        groups::make_groups(&mut self.tags, &mut self.tokens, &mut self.reaches, count)?;
+        groups::make_groups(
+            &mut self.tags,
+            &mut self.tokens,
+            &mut self.distances,
+            &mut self.reaches,
+            count,
+        )?;
         (self.mask, self.len) = (count - 1, 0);
         Ok(())
     }
@@ -179,6 +193,7 @@ impl<A: Allocator> Index<A> {
         groups::take_place(
             self.tags.as_mut_slice(),
             self.tokens.as_mut_slice(),
+            self.distances.as_mut_slice(),
             self.reaches.as_mut_slice(),
             self.mask,
             hash,
@@ -189,15 +204,12 @@ impl<A: Allocator> Index<A> {
 
     /// Takes the token out of the index, to which that hash leads.
     ///
-    /// It goes by the tag and the token alone. Where no token of its home lies farther out, it asks
-    /// for the hashes of those in the groups on the way back until one is of that home, so that
-    /// later look-ups read no more than they need.
-    pub fn remove<H: Hashes>(&mut self, hashes: &H, hash: u64, token: Token)
+    /// It goes by the tag and the token alone. Where no token of its home lies farther out, later
+    /// look-ups read no farther than to the last of those that are left.
+    pub fn remove(&mut self, hash: u64, token: Token)
         requires there { Leads self.old hash (non_zero_u32_get token) }
-        requires known { AreOthers (H.Knows hashes.now) self.old (non_zero_u32_get token) }
         ensures tokens { LosesToken self.old self.new (non_zero_u32_get token) }
-        ensures kept { KeepsOtherLeads self.old self.new (H.hash_of hashes.now)
-            (non_zero_u32_get token) }
+        ensures kept { KeepsOtherLeads self.old self.new (non_zero_u32_get token) }
         ensures count { token_count self.new + 1 ≡ token_count self.old }
         ensures room { self.new.room ≡ self.old.room + 1 }
         ensures allocated { self.new.allocated ≡ self.old.allocated }
@@ -220,19 +232,17 @@ impl<A: Allocator> Index<A> {
                 );
                 self.len -= 1;
             }
-            None => self.remove_on_walk(hashes, hash, token),
+            None => self.remove_on_walk(hash, token),
         }
     }
 
     // The same by a walk over all places that may have the token.
     #[cold]
     #[inline(never)]
-    fn remove_on_walk<H: Hashes>(&mut self, hashes: &H, hash: u64, token: Token)
+    fn remove_on_walk(&mut self, hash: u64, token: Token)
         requires there { Leads self.old hash (non_zero_u32_get token) }
-        requires known { AreOthers (H.Knows hashes.now) self.old (non_zero_u32_get token) }
         ensures tokens { LosesToken self.old self.new (non_zero_u32_get token) }
-        ensures kept { KeepsOtherLeads self.old self.new (H.hash_of hashes.now)
-            (non_zero_u32_get token) }
+        ensures kept { KeepsOtherLeads self.old self.new (non_zero_u32_get token) }
         ensures count { token_count self.new + 1 ≡ token_count self.old }
         ensures room { self.new.room ≡ self.old.room + 1 }
         ensures allocated { self.new.allocated ≡ self.old.allocated }
@@ -250,9 +260,9 @@ impl<A: Allocator> Index<A> {
         groups::leave_place(
             self.tags.as_mut_slice(),
             self.tokens.as_mut_slice(),
+            self.distances.as_mut_slice(),
             self.reaches.as_mut_slice(),
             self.mask,
-            hashes,
             hash,
             position,
         );
@@ -290,6 +300,7 @@ impl<A: Allocator> Index<A> {
         groups::free_all(
             self.tags.as_mut_slice(),
             self.tokens.as_mut_slice(),
+            self.distances.as_mut_slice(),
             self.reaches.as_mut_slice(),
         );
         self.len = 0;

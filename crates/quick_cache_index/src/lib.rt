@@ -3,4 +3,4 @@
 
 pub mod index;
 
-pub use index::{Hashes, Index};
+pub use index::Index;

@@ -2,8 +2,7 @@
 use Rattle.std.proofs.Common.{◌≡◌, ℕ, [], Option, Some, None, length, refl, sym, ap, subst, ◌∙◌, arith}
 use Rattle.quick_cache_model.specs.CacheState.{Item, Place, InHot, InCold, InStill}
 use Rattle.quick_cache_slab.specs.LinkedSlab.{LinkedSlab, item_at, next_token}
-use Rattle.quick_cache_index.specs.Index.{Index, has_token, token_count}
-use Rattle.quick_cache_index.proofs.CallerLemmas.{Leads-same}
+use Rattle.quick_cache_index.specs.Index.{Index, token_count}
 use Rattle.quick_cache_lists.specs.declared.entry.Entry.{Entry}
 use Rattle.quick_cache_lists.specs.declared.entry.Entry.TheVariants.{Item as item_variant, Loading as loading_variant, Ghost as ghost_variant}
 use Rattle.quick_cache_lists.specs.declared.entry.Slot.{Slot}
@@ -12,11 +11,10 @@ use Rattle.quick_cache_lists.specs.declared.rings.Rings.{Rings}
 use Rattle.std.specs.Int.NonZero.{non_zero_u32_get}
 use Rattle.std.specs.declared.num.NonZeroU32.{NonZeroU32 as Token}
 use Rattle.quick_cache_lists.specs.Lists.{HeldItem, StandsIn, items_at, HasItem, HasItemToken, IsFirstOf}
-use Rattle.quick_cache_lists.specs.Slots.{Stand, AmongHot, AmongCold, AmongGhosts, stand_of, hash_in, weight_at, item_of, still_of, loading_of, ghost_of}
+use Rattle.quick_cache_lists.specs.Slots.{Stand, AmongHot, AmongCold, AmongGhosts, stand_of, weight_at, item_of, still_of, loading_of, ghost_of}
 use Rattle.quick_cache_lists.specs.Sound.{weigh, gather, upto, tokens_of, lists_of, room_of, IsKeyed, IsRingOf, IsSound}
 use Rattle.quick_cache_lists.proofs.GatherLemmas.{gather-from}
 use Rattle.quick_cache_lists.proofs.FindLemmas.{held_still}
-use Rattle.quick_cache_lists.proofs.SoundLemmas.{hash_in-has}
 use Rattle.quick_cache_lists.proofs.TakeLemmas.{named_item}
 
 module _ {K V P T : Type 0} where
@@ -102,19 +100,7 @@ module _ {K V P T : Type 0} where
     room = room_of new tnew;
   }
 
-  -- the memory of an index is nothing to its tokens
-  pub IsKeyed-allocated : (slab : LinkedSlab (Slot K V P T)) (old new : Index)
-      → new ≡ record old { allocated = new.allocated } → IsKeyed slab old → IsKeyed slab new
-  IsKeyed-allocated slab old new kept keyed = record {
-    leads = λ h t has. Leads-same old new h t (ap (λ i. i.tags) kept) (ap (λ i. i.tokens) kept)
-        (ap (λ i. i.reaches) kept) (ap (λ i. i.mask) kept) (keyed.leads h t has);
-    tokens = λ t. ap (λ i. has_token i t) kept ∙ keyed.tokens t;
-    few = keyed.few;
-    light = keyed.light;
-    counted = omega (arith, ap token_count kept, keyed.counted);
-  }
-
-  -- nor is the room of the slots
+  -- the room of the slots is nothing to the tokens of an index
   pub IsKeyed-grown : (old new : LinkedSlab (Slot K V P T)) (index : Index)
       → new ≡ record old { room = new.room } → IsKeyed old index → IsKeyed new index
   IsKeyed-grown old new index kept keyed =

@@ -4,17 +4,17 @@ use Rattle.std.specs.Int.NonZero.{non_zero_u32_get}
 use Rattle.std.specs.declared.num.NonZeroU32.{NonZeroU32 as Token}
 use Rattle.std.proofs.lemmas.Bool.{cases_eq, cases_Bool, eq-eqb, ne_eqb}
 use Rattle.quick_cache_slab.specs.LinkedSlab.{LinkedSlab, first_or, times, without, item_at, ring_from, IsNextOf, IsParted}
-use Rattle.quick_cache_index.specs.Index.{Index, KeepsOtherLeads, Leads, LosesToken, has_token, token_count}
+use Rattle.quick_cache_index.specs.Index.{Index, KeepsOtherLeads, LosesToken, has_token, token_count}
 use Rattle.quick_cache_slab.proofs.TokenCounts.{times-here, times-other, times-append, without_none}
 use Rattle.quick_cache_lists.specs.declared.entry.Slot.{Slot}
 use Rattle.quick_cache_lists.specs.declared.ring.Ring.{Ring}
 use Rattle.quick_cache_lists.specs.Frames.{IsRemoved, IsLeft}
 use Rattle.quick_cache_lists.specs.Lists.{dropped, restarted, left_by}
-use Rattle.quick_cache_lists.specs.Slots.{Stand, stand_of, has_hash, hash_in, weight_at}
+use Rattle.quick_cache_lists.specs.Slots.{Stand, stand_of, has_hash, weight_at}
 use Rattle.quick_cache_lists.specs.Sound.{weigh, gather, tokens_of, IsRingOf, AreAlone, IsKeyed}
 use Rattle.quick_cache_lists.proofs.GatherLemmas.{weigh-append, weigh-same, gather-dropped, gather-without, gather-restarted, gather-other, untouched}
 use Rattle.quick_cache_lists.proofs.SlabFrames.{times-split}
-use Rattle.quick_cache_lists.proofs.SoundLemmas.{hash_in-has, out_of_ring}
+use Rattle.quick_cache_lists.proofs.SoundLemmas.{out_of_ring}
 
 -- ---- lists of tokens
 
@@ -100,7 +100,7 @@ module _ {K V P T : Type 0} (old new : LinkedSlab (Slot K V P T)) (t : ℕ)
       ∙ without_none t (u ∷ []) (omega (arith, times-other t u [] other))
 
   pub IsKeyed-removed : (told tnew : Index) → IsKeyed old told → LosesToken told tnew t
-      → KeepsOtherLeads told tnew (λ u. hash_in (item_at new u)) t
+      → KeepsOtherLeads told tnew t
       → token_count tnew + 1 ≡ token_count told → IsKeyed new tnew
   IsKeyed-removed told tnew keyed loses kept count = record {
     leads = λ h u has. elim (cases_eq u t) [
@@ -108,11 +108,8 @@ module _ {K V P T : Type 0} (old new : LinkedSlab (Slot K V P T)) (t : ℕ)
           let gone : item_at new u ≡ None = ap (λ (w : ℕ). item_at new w) here ∙ removed.here in
           absurd (true≢false (sym has ∙ ap (has_hash h) gone))
       | inr other ↦
-          let same : hash_in (item_at new u) ≡ h = hash_in-has h (item_at new u) has in
-          let led : Leads told h u =
-          keyed.leads h u (sym (ap (has_hash h) (removed.others u other)) ∙ has) in
-          subst (λ (n : ℕ). Leads tnew n u) same
-          (kept u other (subst (λ (n : ℕ). Leads told n u) (sym same) led))
+          kept h u other
+          (keyed.leads h u (sym (ap (has_hash h) (removed.others u other)) ∙ has))
     ];
     tokens = λ u. elim (cases_eq u t) [
       | inl here ↦

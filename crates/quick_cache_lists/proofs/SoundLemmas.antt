@@ -1,5 +1,5 @@
 -- What holds of the slots, before and after.
-use Rattle.std.proofs.Common.{◌≡◌, ◌≢◌, ◌⊎◌, ℕ, zero, suc, ◌+◌, ◌*◌, ◌<◌, ◌≤◌, ◌||◌, Bool, true, true≢false, is_some, List, [], ◌∷◌, ◌++◌, length, Option, Some, None, IsSome, IfSome, MatchOption, refl, sym, ap, subst, ◌∙◌, inl, inr, arith}
+use Rattle.std.proofs.Common.{◌≡◌, ◌≢◌, ◌⊎◌, ℕ, zero, suc, ◌+◌, ◌*◌, ◌<◌, ◌≤◌, ◌||◌, Bool, true≢false, is_some, List, [], ◌∷◌, ◌++◌, length, Option, Some, None, IsSome, IfSome, MatchOption, refl, sym, ap, subst, ◌∙◌, inl, inr, arith}
 use Rattle.std.specs.Int.NonZero.{non_zero_u32_get}
 use Rattle.std.specs.declared.num.NonZeroU32.{NonZeroU32 as Token}
 use Rattle.std.proofs.lemmas.Bool.{cases_eq, eq-eqb, eqb-true, ne_eqb}
@@ -11,7 +11,7 @@ use Rattle.quick_cache_slab.proofs.TokenCounts.{zero_from_none, times-here, time
 use Rattle.quick_cache_lists.specs.declared.entry.Slot.{Slot}
 use Rattle.quick_cache_lists.specs.declared.ring.Ring.{Ring}
 use Rattle.quick_cache_lists.specs.Frames.{IsPlaced, IsLinked, IsJoined}
-use Rattle.quick_cache_lists.specs.Slots.{Stand, AmongHot, AmongCold, AmongStill, AmongLoading, AmongGhosts, stand_of, has_hash, hash_in, weight_in, weight_at}
+use Rattle.quick_cache_lists.specs.Slots.{Stand, AmongHot, AmongCold, AmongStill, AmongLoading, AmongGhosts, stand_of, has_hash, weight_in, weight_at}
 use Rattle.quick_cache_lists.specs.Sound.{weigh, tokens_of, room_of, AddsToken, IsRingOf, AreAlone, IsKeyed, IsStanding}
 use Rattle.quick_cache_lists.proofs.GatherLemmas.{weigh-append, weigh-same, weigh-member, weigh-light}
 use Rattle.quick_cache_lists.proofs.SlabFrames.{occupied_within, joined-other}
@@ -65,12 +65,6 @@ module _ {K V P T : Type 0} where
     light = λ t. rw (item_at-empty slab t none) (omega arith);
     counted = rw (none, free, count) (omega arith);
   }
-
-  -- what has a hash has it in its slot
-  pub hash_in-has : (hash : ℕ) (o : Option (Slot K V P T)) → has_hash hash o ≡ true
-      → hash_in o ≡ hash
-  hash_in-has hash None is = absurd (true≢false (sym is))
-  hash_in-has hash (Some slot) is = eqb-true slot.hash hash is
 
   -- ---- a new entry
 

@@ -7,7 +7,6 @@
 
 mod entry;
 mod found;
-mod hashes;
 mod lists;
 mod refs;
 mod resident;

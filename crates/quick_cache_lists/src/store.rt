@@ -8,7 +8,6 @@ ghost use Rattle.quick_cache_lists.specs.Slots.{weight_in, weight_at};
 ghost use Rattle.quick_cache_lists.specs.Sound.{AddsTokens, IsKeyed, room_of};
 
 use crate::entry::Slot;
-use crate::hashes::SlotHashes;
 use crate::stored::Stored;
 use quick_cache_index::Index;
 use quick_cache_model::{Refusal, Token};
@@ -61,7 +60,7 @@ pub(crate) fn displace<K, V, P, T, A: Allocator>(
     match slab.remove(token) {
         Some((stored, next)) => {
             let slot = stored.into_slot();
-            index.remove(&SlotHashes { slab }, slot.hash, token);
+            index.remove(slot.hash, token);
             (slot, next)
         }
         None => unreachable!(),

@@ -1,7 +1,6 @@
 -- An item that is known to be there.
-use Rattle.std.proofs.Common.{◌≡◌, ℕ, ◌<◌, ◌≤◌, Bool, true, false, List, ◌∷◌, ◌++◌, Option, Some, refl, sym, ap, subst, ◌∙◌, arith}
+use Rattle.std.proofs.Common.{◌≡◌, ℕ, ◌<◌, ◌≤◌, Bool, true, List, ◌∷◌, ◌++◌, Some, refl, ap, ◌∙◌, arith}
 use Rattle.quick_cache_model.specs.CacheState.{CacheState, Item, Place, InHot, InCold, InStill, UpToOrder, items_at, with_items, keys_by}
-use Rattle.quick_cache_model.specs.Finding.{IsItemAt}
 use Rattle.quick_cache_model.specs.Lookups.{LooksUp, looked_up, after_hit}
 use Rattle.quick_cache_model.proofs.LookupLaws.{same_everywhere}
 use Rattle.quick_cache_lists.specs.Lists.{AreApart, FindsItem, IsItemOf}

@@ -1,5 +1,5 @@
 -- What a look-up shows of the item that it found.
-use Rattle.std.proofs.Common.{◌≡◌, ℕ, Bool, Option, Some, refl, sym, subst, ap}
+use Rattle.std.proofs.Common.{◌≡◌, ℕ, Bool, Some, refl, sym, subst, ap}
 use Rattle.quick_cache_model.specs.CacheState.{CacheState, Item, UpToOrder}
 use Rattle.quick_cache_model.specs.Lookups.{LooksUp}
 use Rattle.quick_cache_lists.specs.Lists.{Lists, HeldItem, AreApart, IsItemOf}

@@ -1,5 +1,6 @@
 //! A walk over the places that have the tag of a hash.
-ghost use Rattle.std.specs.Prelude.{◌≡◌, ◌<◌, ◌==◌, ◌∷◌, [], length, count_by, slice_index, IfSome, IfNone};
+ghost use Rattle.std.specs.Prelude.{◌≡◌, ◌/◌, ◌<◌, ◌==◌, ◌∷◌, [], length, count_by, slice_index, bit_xor, IfSome, IfNone};
+ghost use Rattle.quick_cache_index.specs.Index.{home_of as home_number};
 ghost use Rattle.quick_cache_index.specs.IndexGroups.{reach_of, IsGrouped, IsMatched, IsWalk, candidates_left, CoversTagged};
 
 use super::groups::{LANES, home_of, lanes_of, tag_of};
@@ -33,6 +34,7 @@ impl<'a> Walk<'a> {
         requires some { 0 < length reaches.now }
         ensures walk { IsWalk result }
         ensures tokens { result.tokens ≡ tokens.entry }
+        ensures at_home { bit_xor result.home result.step ≡ home_number mask hash }
         ensures all { CoversTagged tags.now tokens.now reaches.now mask hash
             (candidates_left result) }
     {
@@ -120,6 +122,8 @@ impl<'a> Walk<'a> {
 pub(crate) fn first_position_of(walk: &Walk<'_>, token: u32) -> Option<usize>
     requires { IsWalk walk.now }
     ensures within { IfSome result (λ position. position < length walk.now.tokens.now) }
+    ensures here { IfSome result (λ position.
+        position / 16 ≡ bit_xor walk.now.home walk.now.step) }
     ensures found { IfSome result (λ position.
         slice_index walk.now.tokens.now position ≡ token) }
 {

@@ -1,9 +1,8 @@
-use Rattle.std.proofs.Common.{◌∙◌, ap, refl, sym, subst, length, Some, IsSome, arith}
+use Rattle.std.proofs.Common.{◌∙◌, ap, refl, sym, length, Some, arith}
 use Rattle.std.proofs.lemmas.Bool.{eq-eqb}
 use Rattle.std.specs.Int.NonZero.{non_zero_u32_get as number}
 use Rattle.quick_cache_lists.specs.declared.entry.Slot.{Slot}
 use Rattle.quick_cache_lists.specs.Slots.{has_hash}
-use Rattle.quick_cache_lists.proofs.FindLemmas.{occupied_by_token}
 use Rattle.quick_cache_lists.proofs.SlabFrames.{IsRemoved-from}
 use Rattle.quick_cache_lists.proofs.RemoveLemmas.{IsKeyed-removed}
 use Rattle.quick_cache_lists.proofs.store.displace.Goals as goal
@@ -16,23 +15,14 @@ returns-clause-removed g c =
     c.in-Some.ensures.removed
 
 -- the hash of the entry leads to its token
-pub remove-requires-in-Some-clause-there : goal.remove-requires-in-Some-clause-there
-remove-requires-in-Some-clause-there g c =
-    let slot = c.into_slot-slot.result in
-    c.requires.keyed.leads slot.hash (number c.args.token)
-    (ap (has_hash slot.hash)
-    (c.in-Some.ensures.item ∙ ap (λ (s : Slot _ _ _ _). Some s) (sym c.into_slot-slot.ensures))
-    ∙ eq-eqb slot.hash slot.hash refl)
-
--- each other token that the index has is still occupied
-pub remove-requires-in-Some-clause-known : goal.remove-requires-in-Some-clause-known
-remove-requires-in-Some-clause-known g c other differs has =
-    let removed = IsRemoved-from c.args.slab.now c.remove.new.self
-    (number c.args.token) c.into_slot-slot.result
-    (c.in-Some.ensures.item ∙ ap (λ (s : Slot _ _ _ _). Some s) (sym c.into_slot-slot.ensures))
-    c.in-Some.ensures.removed in
-    subst IsSome (sym (removed.others other differs))
-    (occupied_by_token c.args.slab.now c.args.index.now c.requires.keyed other has)
+pub remove-requires-in-Some : goal.remove-requires-in-Some
+remove-requires-in-Some g c =
+    let slot = c.into_slot-slot.result in record {
+      there = c.requires.keyed.leads slot.hash (number c.args.token)
+          (ap (has_hash slot.hash) (c.in-Some.ensures.item
+          ∙ ap (λ (s : Slot _ _ _ _). Some s) (sym c.into_slot-slot.ensures))
+          ∙ eq-eqb slot.hash slot.hash refl);
+    }
 
 pub returns-clause-keyed : goal.returns-clause-keyed
 returns-clause-keyed g c =

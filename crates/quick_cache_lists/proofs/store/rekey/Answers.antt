@@ -1,6 +1,5 @@
 use Rattle.std.proofs.Common.{◌≡◌, ◌≤◌, ◌+◌, length, count_by, is_some, ap, sym, ◌∙◌, arith}
 use Rattle.std.proofs.lemmas.Bool.{true≢false}
-use Rattle.quick_cache_index.specs.Index.{token_count}
 use Rattle.quick_cache_lists.proofs.CopyLemmas.{IsKeyed-all, length-past, past-once}
 use Rattle.quick_cache_lists.proofs.store.rekey.Goals as goal
 

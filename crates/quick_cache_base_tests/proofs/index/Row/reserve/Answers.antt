@@ -10,7 +10,8 @@ invariant_of-self g c token has =
     let kept = c.self.invariant token (sym (ap (λ i. has_token i token) same) ∙ has) in (
       kept.0,
       Leads-same c.self.inside.index c.clear_for.new.self _ token (ap (λ i. i.tags) same)
-          (ap (λ i. i.tokens) same) (ap (λ i. i.reaches) same) (ap (λ i. i.mask) same) kept.1,
+          (ap (λ i. i.tokens) same) (ap (λ i. i.distances) same) (ap (λ i. i.reaches) same)
+          (ap (λ i. i.mask) same) kept.1,
     )
 
 -- no token is there after another

@@ -16,5 +16,5 @@ invariant_of-self g c other has =
       | inr apart ↦
           let kept =
           c.self.invariant other (sym (lost ∙ ap (λ b. not b && had) apart.0) ∙ has) in
-          (kept.0, c.remove.ensures.kept other apart.1 kept.1)
+          (kept.0, c.remove.ensures.kept _ other apart.1 kept.1)
     ]

@@ -14,6 +14,7 @@ returns-clause-takes c = record {
   free = c.requires.matched.bare c.untagged-position.result c.untagged-position.ensures.untagged;
   token_is = refl;
   tag_is = c.tag_place.ensures.tags;
+  far_is = c.tag_place.ensures.distances;
   reached = c.tag_place.ensures.reached;
   grow = c.tag_place.ensures.grow;
 }

@@ -1,5 +1,4 @@
-use Rattle.std.proofs.Common.{◌≡◌, ◌∙◌, refl, sym, ap, subst}
-use Rattle.std.specs.Int.NonZero.{non_zero_u32_get as number}
+use Rattle.std.proofs.Common.{◌∙◌, sym, ap}
 use Rattle.quick_cache_model.specs.Hashing.{hash_of}
 use Rattle.quick_cache_policy.proofs.FindLemmas.{AreHashed-under}
 use Rattle.quick_cache_shard.proofs.shard.CacheShard.reweigh.Goals as goal

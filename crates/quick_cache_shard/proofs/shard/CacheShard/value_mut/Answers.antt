@@ -1,11 +1,8 @@
-use Rattle.std.proofs.Common.{◌≡◌, ◌∙◌, refl, sym, ap, subst}
+use Rattle.std.proofs.Common.{◌∙◌, refl, sym, ap}
 use Rattle.std.specs.Int.NonZero.{non_zero_u32_get as number}
 use Rattle.quick_cache_model.specs.Hashing.{hash_of}
 use Rattle.quick_cache_policy.proofs.FindLemmas.{AreHashed-under}
-use Rattle.quick_cache_model.specs.CacheState.{CacheState}
-use Rattle.quick_cache_policy.specs.Contents.{state_of}
 use Rattle.quick_cache_policy.proofs.ReferenceLemmas.{written-state, written-sound}
-use Rattle.quick_cache_shard.specs.Shard.{Shard}
 use Rattle.quick_cache_shard.proofs.ReferenceLemmas.{found-single, found-shown}
 use Rattle.quick_cache_shard.proofs.shard.CacheShard.value_mut.Goals as goal
 
