@@ -1,5 +1,5 @@
 -- What a drain of a cache gives in all.
-use Rattle.std.proofs.Common.{List, [], ◌∷◌, refl, subst, ◌∙◌}
+use Rattle.std.proofs.Common.{[], ◌∷◌, refl, subst, ◌∙◌}
 use Rattle.std.proofs.lemmas.List.Sorted.{IsPermutation-refl, IsPermutation-trans, IsPermutation-cons}
 use Rattle.quick_cache_shard.proofs.DrainLemmas.{KeepsBesideItems-refl, KeepsBesideItems-trans}
 use Rattle.quick_cache_unsync.specs.CacheDrain.{DrainsAlong, DrainsInAll}
