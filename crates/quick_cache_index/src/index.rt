@@ -1,5 +1,5 @@
 //! Tokens by hash: tokens in groups of sixteen places, found by tags of their hashes.
-ghost use Rattle.std.specs.Prelude.{◌≡◌, ℕ, ◌+◌, ◌-◌, ◌^◌, ◌<◌, ◌≤◌, ◌↔◌, min, IsTrue, IsOk, IfOk, IfErr, OnOk, OnErr};
+ghost use Rattle.std.specs.Prelude.{◌≡◌, ◌+◌, ◌-◌, ◌^◌, ◌<◌, ◌≤◌, ◌↔◌, min, IsTrue, IsOk, IfOk, IfErr, OnOk, OnErr};
 ghost use Rattle.std.specs.Int.NonZero.{non_zero_u32_get};
 ghost use Rattle.quick_cache_index.specs.Index.{HasToken, HasNone, GainsToken, LosesToken, Leads, KeepsOtherLeads, KeepsAllLeads, AreCandidates, token_count, wanted_room};
 
@@ -20,8 +20,9 @@ use walk::{Walk, first_position_of, position_on_walk};
 /// compares the sixteen tags of a group at once before it reads a token, as Rust's own hash map
 /// does (SwissTable). So a look-up gives candidates, which the caller compares, and an index that
 /// grows forgets its tokens, which the caller puts in again. A token that goes gives its room back,
-/// and no call but `clear_for` allocates. A look-up reads no group past the farthest that
-/// has a token of its own, so that a removal leaves nothing behind.
+/// and no call but `clear_for` allocates. A look-up reads no group past the farthest that has a
+/// token of its own, so that a removal leaves nothing behind; where that is 255 groups away or
+/// more, it may read some past it.
 #[derive(Drop)]
 pub struct Index<A: Allocator = Global> {
     // The tag of each place, or 0 where it is free.

@@ -4,7 +4,7 @@
 //! groups at distance 1, 2 and so on, up to the home's reach. The group at a distance is the one
 //! whose number differs from the home's in the bits of that distance, so that the next few lie in
 //! the same line of the cache, and each group is met once.
-ghost use Rattle.std.specs.Prelude.{◌≡◌, ◌≢◌, ℕ, ◌+◌, ◌-◌, ◌*◌, ◌^◌, ◌<◌, ◌≤◌, ◌==◌, max, length, count_by, map, replicate, IsTrue, IsFalse, OnOk, OnErr, IfErr, bit_xor, slice_index, slice_set, vec_len, vec_capacity};
+ghost use Rattle.std.specs.Prelude.{◌≡◌, ◌≢◌, ℕ, ◌+◌, ◌-◌, ◌*◌, ◌^◌, ◌<◌, ◌≤◌, ◌==◌, max, length, count_by, map, replicate, OnOk, OnErr, IfErr, bit_xor, slice_index, slice_set, vec_capacity};
 ghost use Rattle.std.specs.Simd.Lanes.{chunk, mask_l};
 ghost use Rattle.std.specs.Int.{IsPowerOfTwo};
 ghost use Rattle.quick_cache_index.specs.Index.{tag_of as tag_number, home_of as home_number, distance, told as told_number, IsReached, is_free};
