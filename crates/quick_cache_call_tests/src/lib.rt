@@ -4,6 +4,8 @@
 #[cfg(test)]
 mod draining;
 #[cfg(test)]
+mod great;
+#[cfg(test)]
 mod loads;
 #[cfg(test)]
 mod references;

@@ -1,4 +1,3 @@
-pub mod CallerLemmas
 pub mod Candidates
 pub mod CountedTokens
 pub mod Distances

@@ -159,6 +159,7 @@ impl<A: Allocator> Index<A> {
         ensures memory { IfErr result (λ refusal. refusal ≡ Refusal.Memory) }
         ensures refused { OnErr result (self.new
             ≡ record self.old { allocated = self.new.allocated }) }
+        ensures kept { OnErr result (KeepsAllLeads self.old self.new) }
         ensures allocated { self.old.allocated ≤ self.new.allocated }
     {
         let tokens = tokens.min(MOST_TOKENS);

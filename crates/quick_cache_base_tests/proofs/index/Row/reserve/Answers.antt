@@ -1,18 +1,13 @@
 use Rattle.std.proofs.Common.{◌≡◌, true, false, sym, ap, ◌∙◌}
 use Rattle.quick_cache_index.specs.Index.{has_token}
-use Rattle.quick_cache_index.proofs.CallerLemmas.{Leads-same}
 use Rattle.quick_cache_base_tests.proofs.index.Row.reserve.Goals as goal
 
 -- a refused growth keeps the tokens and what leads to them
 pub invariant_of-self : goal.invariant_of-self
 invariant_of-self g c token has =
     let same = c.in_err-clear_for.ensures.refused in
-    let kept = c.self.invariant token (sym (ap (λ i. has_token i token) same) ∙ has) in (
-      kept.0,
-      Leads-same c.self.inside.index c.clear_for.new.self _ token (ap (λ i. i.tags) same)
-          (ap (λ i. i.tokens) same) (ap (λ i. i.distances) same) (ap (λ i. i.reaches) same)
-          (ap (λ i. i.mask) same) kept.1,
-    )
+    let kept = c.self.invariant token (sym (ap (λ i. has_token i token) same) ∙ has) in
+    (kept.0, c.in_err-clear_for.ensures.kept _ token kept.1)
 
 -- no token is there after another
 pub invariant_of-self-2 : goal.invariant_of-self-2
