@@ -61,7 +61,7 @@ fn key(rank: usize) -> u64 {
     (rank as u64).wrapping_mul(0x2545_f491_4f6c_dd1d)
 }
 
-fn least<const N: usize>(items: usize, writes: bool) -> f64 {
+fn least<const N: usize, const WRITES: bool>(items: usize) -> f64 {
     let mut table = Table::new(items);
     let mut slots = vec![Slot([0; N]); items];
     for rank in 0..items {
@@ -77,12 +77,12 @@ fn least<const N: usize>(items: usize, writes: bool) -> f64 {
     };
     let keys: Vec<u64> = (0..400_000).map(|_| drawn()).collect();
     let mut best = f64::MAX;
-    for _ in 0..15 {
+    for _ in 0..4 {
         let start = Instant::now();
         let mut hits = 0u64;
         for &key in &keys {
             if let Some(slot) = table.find(hash(key), key, &slots) {
-                if writes {
+                if WRITES {
                     slots[slot].0[READS] = slots[slot].0[READS].saturating_add(1);
                 }
                 hits = black_box(hits + 1);
@@ -95,15 +95,23 @@ fn least<const N: usize>(items: usize, writes: bool) -> f64 {
 }
 
 fn main() {
-    println!("items; 64 bytes, a store; 64, none; 48, a store; 40, a store; 32, none");
+    println!("items; 64 bytes, a store; 64, none; 56, a store; 48, a store; 40, a store; 32, none");
     for items in [1_000, 10_000, 100_000, 1_000_000] {
-        println!(
-            "{items}; {:.1}; {:.1}; {:.1}; {:.1}; {:.1}",
-            least::<8>(items, true),
-            least::<8>(items, false),
-            least::<6>(items, true),
-            least::<5>(items, true),
-            least::<4>(items, false)
-        );
+        // In turns, so that a slow while of the machine falls on all of them.
+        let mut best = [f64::MAX; 6];
+        for _ in 0..8 {
+            let now = [
+                least::<8, true>(items),
+                least::<8, false>(items),
+                least::<7, true>(items),
+                least::<6, true>(items),
+                least::<5, true>(items),
+                least::<4, false>(items),
+            ];
+            for (best, now) in best.iter_mut().zip(now) {
+                *best = best.min(now);
+            }
+        }
+        println!("{items}; {}", best.map(|ns| format!("{ns:.1}")).join("; "));
     }
 }
