@@ -10,9 +10,9 @@ use Rattle.quick_cache_model.proofs.EachElement.{all-without}
 use Rattle.quick_cache_model.proofs.Valid.Edits.{without-valid}
 use Rattle.quick_cache_lists.specs.Lists.{HeldItem, FindsItem, IsEntry, AreApart, Finds, items_at, without_entry}
 use Rattle.quick_cache_lists.specs.Views.{items_of}
-use Rattle.quick_cache_slots.specs.declared.entry.Entry.{Entry}
-use Rattle.quick_cache_slots.specs.declared.entry.Awaited.{Awaited}
-use Rattle.quick_cache_slots.specs.declared.entry.Entry.TheVariants.{Item as item_variant, Loading as loading_variant, Ghost as ghost_variant}
+use Rattle.quick_cache_lists.specs.declared.entry.Entry.{Entry}
+use Rattle.quick_cache_lists.specs.declared.entry.Awaited.{Awaited}
+use Rattle.quick_cache_lists.specs.declared.entry.Entry.TheVariants.{Item as item_variant, Loading as loading_variant, Ghost as ghost_variant}
 use Rattle.quick_cache_lists.specs.declared.found.Found.{Found}
 use Rattle.quick_cache_lists.specs.declared.found.Found.TheVariants.{Item as found_item, Loading as found_loading, Ghost as found_ghost, Nothing as found_nothing}
 use Rattle.quick_cache_lists.proofs.CallerLemmas.{items_of-around, without-hot, without-cold, without-still}

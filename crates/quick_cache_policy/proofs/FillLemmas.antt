@@ -16,9 +16,9 @@ use Rattle.quick_cache_model.proofs.EachElement.{all-middle}
 use Rattle.quick_cache_model.proofs.OrderLaws.{UpToOrder-map, UpToOrder-exact}
 use Rattle.quick_cache_model.proofs.Valid.Edits.{entered-valid, keys_by-unloaded, keys_by-taken}
 use Rattle.quick_cache_model.proofs.Valid.Orders.{SameButOrder-valid}
-use Rattle.quick_cache_slots.specs.declared.entry.Awaited.{Awaited}
-use Rattle.quick_cache_slots.specs.declared.entry.Entry.{Entry}
-use Rattle.quick_cache_slots.specs.declared.entry.Entry.TheVariants.{Loading as loading_variant}
+use Rattle.quick_cache_lists.specs.declared.entry.Awaited.{Awaited}
+use Rattle.quick_cache_lists.specs.declared.entry.Entry.{Entry}
+use Rattle.quick_cache_lists.specs.declared.entry.Entry.TheVariants.{Loading as loading_variant}
 use Rattle.quick_cache_lists.specs.Lists.{HeldItem, HeldLoading, Lists, AreApart, StandsIn, IsEntry, PutsItem, entered, without_entry}
 use Rattle.quick_cache_lists.specs.Fills.{FillsToken, filled}
 use Rattle.quick_cache_lists.specs.Placeholders.{HasNoPlaceholder}

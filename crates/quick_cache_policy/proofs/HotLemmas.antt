@@ -4,7 +4,7 @@ use Rattle.std.proofs.Common.{refl, sym, ap, ap₂, subst, ◌∙◌, arith, if�
 use Rattle.quick_cache_model.specs.CacheState.{Item, InHot, default_mark_cut}
 use Rattle.quick_cache_model.specs.Eviction.{lowered}
 use Rattle.quick_cache_model.specs.Touches.{counted_up}
-use Rattle.quick_cache_lists.specs.Lists.{HeldItem, Lists, HasItemToken, IsItemOf, AreApart, with_change, with_counts, with_mark}
+use Rattle.quick_cache_lists.specs.Lists.{HeldItem, Lists, HasItemToken, IsItemOf, AreApart, with_change, with_counts}
 use Rattle.quick_cache_lists.proofs.CallerLemmas.{change-hot}
 use Rattle.quick_cache_policy.specs.declared.contents.Contents.{Contents}
 use Rattle.quick_cache_policy.specs.declared.hot.Visit.{Visit}
@@ -140,7 +140,7 @@ module _ {K V P A T : Type 0} (steady : Type 0) (pinned : K → V → Bool) (tak
       in
       let is = IsItemOf-first_hot mid.lists apart made rest visited.item here visited.is_of in
       let change = change-hot mid.lists apart
-      (with_mark (visited.item.mark - 1)) [] rest made here in
+      (with_counts (visited.item.mark - 1) visited.item.reads) [] rest made here in
       record {
         held = held;
         rest = rest;
@@ -155,7 +155,7 @@ module _ {K V P A T : Type 0} (steady : Type 0) (pinned : K → V → Bool) (tak
             }) change
             ∙ ap (λ (x : Item K V). record mid {
               lists = record mid.lists {
-                hot = record made { item = with_mark (x.mark - 1) first.item } ∷ rest;
+                hot = record made { item = with_counts (x.mark - 1) x.reads first.item } ∷ rest;
               };
               visits = counted_up 1 mid.visits;
             }) is
@@ -167,18 +167,19 @@ module _ {K V P A T : Type 0} (steady : Type 0) (pinned : K → V → Bool) (tak
 
 module _ {K V P A T : Type 0} (steady : Type 0) (pinned : K → V → Bool) (token : ℕ)
     (old : Contents K V P A T) (met : Visit) (item : Item K V) (lists : Lists K V P)
-    (mark visits : ℕ) where
+    (mark reads visits : ℕ) where
   -- a visit by its parts
   pub IsVisited-by : IsItemOf old.lists token item → Meets steady pinned item met
-      → lists ≡ with_change token (with_mark mark) old.lists
-      → mark ≡ item.mark - 1 → visits ≡ counted_up 1 old.visits
+      → lists ≡ with_change token (with_counts mark reads) old.lists
+      → mark ≡ item.mark - 1 → reads ≡ item.reads → visits ≡ counted_up 1 old.visits
       → IsVisited steady pinned token old met (record old { lists = lists; visits = visits })
-  IsVisited-by is_of meets changed lower counted = record {
+  IsVisited-by is_of meets changed lower read counted = record {
     item = item;
     is_of = is_of;
     meets = meets;
     same = λ i. record old {
-      lists = (changed ∙ ap (λ m. with_change token (with_mark m) old.lists) lower) i;
+      lists = (changed
+          ∙ ap₂ (λ m r. with_change token (with_counts m r) old.lists) lower read) i;
       visits = counted i;
     };
   }

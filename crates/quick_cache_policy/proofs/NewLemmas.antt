@@ -15,7 +15,7 @@ use Rattle.quick_cache_model.proofs.Eviction.Keys.{keys_by-none}
 use Rattle.quick_cache_model.proofs.OrderLaws.{SameButOrder-trans, entered-reordered}
 use Rattle.quick_cache_model.proofs.Valid.Edits.{entered-valid}
 use Rattle.quick_cache_model.proofs.Valid.Orders.{SameButOrder-valid}
-use Rattle.quick_cache_slots.specs.declared.entry.Entry.TheVariants.{Item as item_variant}
+use Rattle.quick_cache_lists.specs.declared.entry.Entry.TheVariants.{Item as item_variant}
 use Rattle.quick_cache_lists.specs.Lists.{HeldItem, Lists, PutsLast, entered}
 use Rattle.quick_cache_policy.specs.declared.contents.Contents.{Contents}
 use Rattle.quick_cache_policy.specs.Contents.{IsSound, state_of}

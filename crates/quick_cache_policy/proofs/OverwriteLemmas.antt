@@ -16,8 +16,8 @@ use Rattle.quick_cache_model.proofs.Valid.Edits.{entered-valid, without_ghost-va
 use Rattle.quick_cache_model.proofs.Valid.Orders.{SameButOrder-valid}
 use Rattle.std.specs.List.{AllByRecursion}
 use Rattle.quick_cache_model.proofs.EachElement.{all-without}
-use Rattle.quick_cache_slots.specs.declared.entry.Entry.{Entry}
-use Rattle.quick_cache_slots.specs.declared.entry.Entry.TheVariants.{Item as item_variant}
+use Rattle.quick_cache_lists.specs.declared.entry.Entry.{Entry}
+use Rattle.quick_cache_lists.specs.declared.entry.Entry.TheVariants.{Item as item_variant}
 use Rattle.quick_cache_lists.specs.Lists.{HeldItem, HeldLoading, HeldGhost, Lists, AreApart, StandsIn, Replaces, PutsLast, HasNoKey, FindsLoading, entered, without_entry}
 use Rattle.quick_cache_lists.specs.Views.{hashes_of, loading_entry, loading_entries}
 use Rattle.quick_cache_lists.proofs.StandingLemmas.{ghost-hash, loading-hash}

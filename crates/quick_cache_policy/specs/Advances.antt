@@ -7,7 +7,7 @@ use Rattle.quick_cache_model.specs.CacheState.{CacheState, Item, UpToOrder, defa
 use Rattle.quick_cache_model.specs.Eviction.{EvictsVictim}
 use Rattle.quick_cache_model.specs.Hooks.{Rules, Hooks, HookCall, BeforeEvict, evicted}
 use Rattle.quick_cache_model.specs.Touches.{RaisesMarks, TakesTouches, counted_up}
-use Rattle.quick_cache_lists.specs.Lists.{IsItemOf, with_change, with_counts, with_mark}
+use Rattle.quick_cache_lists.specs.Lists.{IsItemOf, with_change, with_counts}
 use Rattle.quick_cache_policy.specs.declared.contents.Contents.{Contents}
 use Rattle.quick_cache_policy.specs.declared.hot.Visit.{Visit}
 use Rattle.quick_cache_policy.specs.declared.hot.Visit.TheVariants.{Pinned, Marked, Victim}
@@ -143,6 +143,6 @@ module _ {K V P A T : Type 0} where
     pub is_of : IsItemOf old.lists token item
     pub meets : Meets steady pinned item met
     pub same : new ≡ record old {
-      lists = with_change token (with_mark (item.mark - 1)) old.lists;
+      lists = with_change token (with_counts (item.mark - 1) item.reads) old.lists;
       visits = counted_up 1 old.visits;
     }

@@ -90,7 +90,6 @@ impl<T, A: Allocator> LinkedSlab<T, A> {
     /// Stores an item, a ring of its own, under the token that was freed last, or under a new one.
     ///
     /// It allocates only where no token is free and there is no room. A refused item comes back.
-    #[inline(always)]
     pub fn insert(&mut self, item: T) -> Result<Token, (T, Refusal)>
         ensures token { IfOk result (λ token. number token ≡ next_token self.old) }
         ensures placed { OnOk result (self.new

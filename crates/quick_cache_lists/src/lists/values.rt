@@ -18,6 +18,7 @@ impl<K, V, P, T, A: Allocator> Lists<K, V, P, T, A> {
             self.entry (number token) result) }
         ensures value { IsValueAt self.old (number token) result.now }
     {
-        self.slots.value_mut(token)
+        let (slot, _) = unsafe { self.slab.get_mut_unchecked(token) };
+        slot.value_mut()
     }
 }

@@ -19,10 +19,10 @@ impl<K, V, P, T, A: Allocator> Lists<K, V, P, T, A> {
             Queue::Hot => self.rings.hot,
             Queue::Cold => self.rings.cold,
         };
-        self.slots.validate();
+        self.slab.validate();
         RingIter {
             walk: Walk {
-                slots: &self.slots,
+                slab: &self.slab,
                 at: ring.head,
                 left: ring.count,
             },
@@ -33,10 +33,10 @@ impl<K, V, P, T, A: Allocator> Lists<K, V, P, T, A> {
     pub fn iter_ghosts(&self) -> GhostIter<'_, K, V, P, T, A>
         ensures { result ≡ hashes_of self.now.ghosts }
     {
-        self.slots.validate();
+        self.slab.validate();
         GhostIter {
             walk: Walk {
-                slots: &self.slots,
+                slab: &self.slab,
                 at: self.rings.ghosts.head,
                 left: self.rings.ghosts.count,
             },
@@ -47,9 +47,9 @@ impl<K, V, P, T, A: Allocator> Lists<K, V, P, T, A> {
     pub fn iter_items(&self) -> ItemIter<'_, K, V, P, T>
         ensures { IsPermutation (residents self.now) result }
     {
-        self.slots.validate();
+        self.slab.validate();
         ItemIter {
-            slots: self.slots.iter(),
+            slots: self.slab.iter(),
             left: self.item_count(),
         }
     }

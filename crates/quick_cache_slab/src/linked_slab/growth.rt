@@ -51,8 +51,8 @@ impl<T, A: Allocator> LinkedSlab<T, A> {
         }
     }
 
-    /// How many slots are free, of so many that are looked for. It reads as many as it finds.
-    pub fn free_up_to(&self, most: usize) -> usize
+    // How many slots are free, of so many that are looked for.
+    fn free_up_to(&self, most: usize) -> usize
         ensures { result ≡ min most (length self.now.free) }
     {
         let nodes = self.nodes.as_slice();

@@ -7,7 +7,7 @@ use Rattle.quick_cache_model.specs.Placeholders.{MakesRoomFor}
 use Rattle.quick_cache_model.specs.Writes.{new_item, queue_for}
 use Rattle.quick_cache_lists.proofs.CallerLemmas.{weight_of-items}
 use Rattle.quick_cache_lists.proofs.StandingLemmas.{loading-not_item, loading-not_ghost}
-use Rattle.quick_cache_slots.specs.declared.entry.Awaited.{Awaited}
+use Rattle.quick_cache_lists.specs.declared.entry.Awaited.{Awaited}
 use Rattle.quick_cache_lists.specs.Fills.{filled}
 use Rattle.quick_cache_lists.specs.Lists.{HeldLoading, Lists, StandsIn, without_entry}
 use Rattle.quick_cache_lists.specs.Views.{loading_entry, loading_entries}

@@ -5,7 +5,7 @@ use Rattle.quick_cache_model.specs.Placeholders.{MakesPlaceholder, with_placehol
 use Rattle.quick_cache_model.specs.Lookups.{after_miss}
 use Rattle.quick_cache_model.proofs.EqualKeys.{keys_by-absent}
 use Rattle.quick_cache_model.specs.Touches.{counted_up}
-use Rattle.quick_cache_slots.specs.declared.entry.Entry.TheVariants.{Loading as loading_variant}
+use Rattle.quick_cache_lists.specs.declared.entry.Entry.TheVariants.{Loading as loading_variant}
 use Rattle.std.proofs.lemmas.List.{map-append}
 use Rattle.quick_cache_model.proofs.Valid.Edits.{without_ghost-valid}
 use Rattle.quick_cache_lists.specs.declared.found.Found.{Found}

@@ -1,0 +1,125 @@
+//! An item, as it comes in and goes out.
+ghost use Rattle.std.specs.Prelude.{◌≡◌};
+ghost use Rattle.quick_cache_lists.specs.Slots.{stand_of_item};
+
+use crate::entry::Stand;
+use crate::stored::{Body, stand_by};
+use quick_cache_model::Queue;
+use std::marker::Model;
+
+/// An item: its pair, the weight that it counts for, how often it was used lately and read, and its
+/// ring.
+#[derive(Drop)]
+pub struct Resident<K, V, T> {
+    pub(crate) mark: u8,
+    pub(crate) queue: Queue,
+    pub(crate) body: Body<K, V, T>,
+}
+
+impl<K, V, T> Model for Resident<K, V, T> {
+    ghost use Rattle.quick_cache_model.specs.CacheState.{Item};
+
+    ghost Value = { Item K V };
+
+    ghost use Rattle.quick_cache_lists.specs.Stored.{item_of_body};
+
+    ghost view = { λ r. item_of_body r.mark r.queue r.body };
+}
+
+impl<K, V, T> Resident<K, V, T> {
+    /// An item that was never read.
+    pub fn new(key: K, value: V, weight: u64, mark: u8, queue: Queue, touch: T) -> Self
+        ensures { result ≡ record {
+          key = key;
+          value = value;
+          weight = weight;
+          mark = mark;
+          reads = 0;
+          queue = queue;
+        } }
+    {
+        let body = Body {
+            touch,
+            reads: 0,
+            key,
+            value,
+            weight,
+        };
+        Resident { mark, queue, body }
+    }
+
+    /// The same item with another count of reads.
+    pub fn with_reads(self, reads: u64) -> Self
+        ensures { result ≡ record self { reads = reads } }
+    {
+        let body = Body { reads, ..self.body };
+        Resident { body, ..self }
+    }
+
+    pub fn queue(&self) -> Queue
+        ensures { result ≡ self.now.queue }
+    {
+        self.queue
+    }
+
+    pub fn weight(&self) -> u64
+        ensures { result ≡ self.now.weight }
+    {
+        self.body.weight
+    }
+
+    pub fn mark(&self) -> u8
+        ensures { result ≡ self.now.mark }
+    {
+        self.mark
+    }
+
+    pub fn key(&self) -> &K
+        ensures { result.now ≡ self.now.key }
+    {
+        &self.body.key
+    }
+
+    pub fn value(&self) -> &V
+        ensures { result.now ≡ self.now.value }
+    {
+        &self.body.value
+    }
+
+    /// The key and the value.
+    pub fn pair(&self) -> (&K, &V)
+        ensures key { result.0.now ≡ self.now.key }
+        ensures value { result.1.now ≡ self.now.value }
+    {
+        (&self.body.key, &self.body.value)
+    }
+
+    /// The list of an item: that of its queue, or neither if it weighs nothing.
+    pub(crate) fn stand(&self) -> Stand
+        ensures { result ≡ stand_of_item self.now }
+    {
+        stand_by(self.body.weight, self.queue)
+    }
+
+    pub fn reads(&self) -> u64
+        ensures { result ≡ self.now.reads }
+    {
+        self.body.reads
+    }
+
+    /// The pair, taken apart.
+    pub fn into_pair(self) -> (K, V)
+    where
+        T: Drop,
+        ensures { result ≡ (self.key, self.value) }
+    {
+        let Body {
+            touch: _touch,
+            reads: _,
+            key,
+            value,
+            weight: _,
+        } = self.body;
+        (key, value)
+    }
+}

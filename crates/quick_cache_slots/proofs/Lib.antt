@@ -1,6 +1,0 @@
-pub mod TokenEdits
-pub mod JoinedLemmas
-pub mod JoinedEdits
-pub mod JoinedWalks
-pub mod WrittenLemmas
-pub mod CopiedLemmas
