@@ -4,12 +4,12 @@ use std::arch::x86_64::*;
 use std::hint::black_box;
 use std::time::Instant;
 
-/// A slot of `8 * N` bytes: links, then tag and mark, then how often it was read, the key, and the rest.
+/// A slot of `8 * N` bytes: links, then tag, mark and how often it was read, the key, and the rest.
 #[derive(Clone, Copy)]
 struct Slot<const N: usize>([u64; N]);
 
-const READS: usize = 2;
-const KEY: usize = 3;
+const READS: usize = 1;
+const KEY: usize = 2;
 
 /// Tags in groups of sixteen, and the token at each place.
 struct Table {
@@ -95,7 +95,7 @@ fn least<const N: usize, const WRITES: bool>(items: usize) -> f64 {
 }
 
 fn main() {
-    println!("items; 64 bytes, a store; 64, none; 56, a store; 48, a store; 40, a store; 32, none");
+    println!("items; 64 bytes, a store; 64, none; 40, a store; 40, none; 32, a store; 32, none");
     for items in [1_000, 10_000, 100_000, 1_000_000] {
         // In turns, so that a slow while of the machine falls on all of them.
         let mut best = [f64::MAX; 6];
@@ -103,9 +103,9 @@ fn main() {
             let now = [
                 least::<8, true>(items),
                 least::<8, false>(items),
-                least::<7, true>(items),
-                least::<6, true>(items),
                 least::<5, true>(items),
+                least::<5, false>(items),
+                least::<4, true>(items),
                 least::<4, false>(items),
             ];
             for (best, now) in best.iter_mut().zip(now) {

@@ -21,18 +21,16 @@ const NOT_BUILT: u64 = u64::MAX;
 /// The answer where the cache could not be made or an insert was refused.
 const REFUSED: u64 = u64::MAX - 1;
 
-// Looks each key up, inserts it as its own value where nothing was found, and counts the hits.
+// Looks each key up, and inserts it as its own value where nothing was found. The cache counts the
+// hits.
 fn hits_by_get_and_insert(alloc: Global, items: usize, keys: &[u64]) -> Result<u64, Refusal> {
     let mut cache = Cache::new(alloc, items)?;
-    let mut hits = 0u64;
     for key in keys {
-        if cache.get(key).is_some() {
-            hits += 1;
-        } else {
+        if cache.get(key).is_none() {
             cache.insert(*key, *key).map_err(|(_, _, refusal)| refusal)?;
         }
     }
-    Ok(hits)
+    Ok(cache.hits())
 }
 
 // Looks each key up, loads it as its own value where nothing was found, and counts the hits.

@@ -5,7 +5,8 @@ ghost use Rattle.qcrun.specs.Printed.{counts_text, event_lines, events_text, gho
 
 use crate::events::{Event, Events};
 use crate::session::{NumberCache, Outcome, Session};
-use quick_cache_shard::{GhostIter, RingIter, SharedPlaceholder};
+use quick_cache_shard::{GhostIter, RingIter};
+use quick_cache_unsync::Placeholder;
 use std::alloc::Allocator;
 use std::io::{self, Write};
 
@@ -93,9 +94,9 @@ fn print_counts<A: Allocator, W: Write>(cache: &NumberCache<A>, writer: &mut W) 
 }
 
 /// Prints the line of a ring: its name and its items.
-fn print_ring<P: SharedPlaceholder<u64>, A: Allocator, W: Write>(
+fn print_ring<A: Allocator, W: Write>(
     name: &str,
-    items: RingIter<'_, u64, u64, P, A>,
+    items: RingIter<'_, u64, u64, Placeholder, A>,
     writer: &mut W,
 ) -> io::Result<()>
     ensures { OnOk result (Appends (W.contents writer.old) (W.contents writer.new)
@@ -107,8 +108,8 @@ fn print_ring<P: SharedPlaceholder<u64>, A: Allocator, W: Write>(
 }
 
 /// Prints the line of the ghosts.
-fn print_ghosts<P: SharedPlaceholder<u64>, A: Allocator, W: Write>(
-    hashes: GhostIter<'_, u64, u64, P, A>,
+fn print_ghosts<A: Allocator, W: Write>(
+    hashes: GhostIter<'_, u64, u64, Placeholder, A>,
     writer: &mut W,
 ) -> io::Result<()>
     ensures { OnOk result (Appends (W.contents writer.old) (W.contents writer.new)
@@ -141,8 +142,8 @@ fn print_pairs<W: Write>(pairs: &[(u64, u64)], writer: &mut W) -> io::Result<()>
 }
 
 /// Prints the items of a ring.
-fn print_items<P: SharedPlaceholder<u64>, A: Allocator, W: Write>(
-    items: RingIter<'_, u64, u64, P, A>,
+fn print_items<A: Allocator, W: Write>(
+    items: RingIter<'_, u64, u64, Placeholder, A>,
     writer: &mut W,
 ) -> io::Result<()>
     ensures { OnOk result (Appends (W.contents writer.old) (W.contents writer.new)
@@ -155,8 +156,8 @@ fn print_items<P: SharedPlaceholder<u64>, A: Allocator, W: Write>(
 }
 
 /// Prints hashes.
-fn print_hashes<P: SharedPlaceholder<u64>, A: Allocator, W: Write>(
-    hashes: GhostIter<'_, u64, u64, P, A>,
+fn print_hashes<A: Allocator, W: Write>(
+    hashes: GhostIter<'_, u64, u64, Placeholder, A>,
     writer: &mut W,
 ) -> io::Result<()>
     ensures { OnOk result (Appends (W.contents writer.old) (W.contents writer.new)

@@ -4,7 +4,8 @@ ghost use Rattle.qcrun.specs.Still.{AreStill, is_weightless};
 
 use crate::kinds::weight_of;
 use crate::session::NumberCache;
-use quick_cache_shard::{Iter, SharedPlaceholder};
+use quick_cache_shard::Iter;
+use quick_cache_unsync::Placeholder;
 use std::alloc::{AllocError, Allocator};
 
 /// The pairs of all items of weight 0, by key.
@@ -24,9 +25,9 @@ pub fn still<M: Allocator, A: Allocator>(
 }
 
 /// Those of the pairs whose value weighs nothing.
-fn weightless<M: Allocator, P: SharedPlaceholder<u64>>(
+fn weightless<M: Allocator>(
     alloc: M,
-    pairs: Iter<'_, u64, u64, P>,
+    pairs: Iter<'_, u64, u64, Placeholder>,
 ) -> Result<Vec<(u64, u64), M>, AllocError>
     ensures filters { IfOk result (λ light. light.items ≡ filter is_weightless pairs.entry) }
 {

@@ -121,13 +121,13 @@ count_by-absent index token absent =
 
 -- an index stays sound when a new token takes a place
 pub IsSound-take : (tags tags' tokens tokens' distances distances' reaches reaches' : List ℕ)
-    (mask len hash token : ℕ) → IsSound tags tokens distances reaches mask len
+    (mask room hash token : ℕ) → IsSound tags tokens distances reaches mask room
     → IsGrouped tags' tokens' reaches' mask
     → TakesPlace tags tags' tokens tokens' distances distances' reaches reaches' mask hash token
-    → 0 < token → count_by (holds token) tokens ≡ 0 → len < capacity_of (length reaches)
-    → IsSound tags' tokens' distances' reaches' mask (len + 1)
-IsSound-take tags tags' tokens tokens' distances distances' reaches reaches' mask len hash token
-    sound sized takes some absent room =
+    → 0 < token → count_by (holds token) tokens ≡ 0 → 0 < room
+    → IsSound tags' tokens' distances' reaches' mask (room - 1)
+IsSound-take tags tags' tokens tokens' distances distances' reaches reaches' mask room hash token
+    sound sized takes some absent free =
     let long = sound.sized.tagged in
     let at = taken-take tags tags' tokens tokens' distances distances' reaches reaches' mask hash
     token takes long sound.distant.as_long in
@@ -182,8 +182,9 @@ IsSound-take tags tags' tokens tokens' distances distances' reaches reaches' mas
             sound.counted,
             ap taken_count takes.token_is,
             taken_count-take tokens takes.position token takes.inside takes.free some,
+            ap capacity_of takes.grow.0,
+            free,
           );
-      load = subst (λ n. len + 1 ≤ capacity_of n) (sym takes.grow.0) (omega (arith, room));
       once = λ k.
           let counted = ap (count_by (holds k)) takes.token_is
           ∙ count_by-take tokens takes.position token k takes.inside takes.free in
@@ -206,11 +207,11 @@ IsSound-take tags tags' tokens tokens' distances distances' reaches reaches' mas
     bit-most false = omega arith
 
 -- where there is room for a token, a place is free
-pub free-from_room : (tags tokens distances reaches : List ℕ) (mask len : ℕ)
-    → IsSound tags tokens distances reaches mask len → len < capacity_of (length reaches)
+pub free-from_room : (tags tokens distances reaches : List ℕ) (mask room : ℕ)
+    → IsSound tags tokens distances reaches mask room → 0 < room
     → 0 < count_by is_free tokens
-free-from_room tags tokens distances reaches mask len sound room =
-    omega (arith, sound.counted, sound.sized.sixteen, room, taken_count-free tokens)
+free-from_room tags tokens distances reaches mask room sound some =
+    omega (arith, sound.counted, sound.sized.sixteen, some, taken_count-free tokens)
 
 -- what a call did with lists that were lent to it, it did with those that they are
 pub TakesPlace-lent : (tags tags' tokens tokens' distances distances' reaches reaches' lent_tags
@@ -354,13 +355,13 @@ IsGrouped-as_long tags tags' tokens tokens' reaches mask sized tags_as_long toke
 
 -- an index stays sound when a token leaves its place
 pub IsSound-leave : (tags tags' tokens tokens' distances distances' reaches reaches' : List ℕ)
-    (mask len less token place : ℕ) → IsSound tags tokens distances reaches mask len
+    (mask room more token place : ℕ) → IsSound tags tokens distances reaches mask room
     → IsGrouped tags' tokens' reaches' mask
     → LeavesPlace tags tags' tokens tokens' distances distances' reaches reaches' token place
-    → length reaches' ≡ length reaches → less ≡ len - 1
-    → IsSound tags' tokens' distances' reaches' mask less
-IsSound-leave tags tags' tokens tokens' distances distances' reaches reaches' mask len less token
-    place sound sized leaves groups fewer =
+    → length reaches' ≡ length reaches → more ≡ room + 1
+    → IsSound tags' tokens' distances' reaches' mask more
+IsSound-leave tags tags' tokens tokens' distances distances' reaches reaches' mask room more token
+    place sound sized leaves groups grown =
     let inside : place < length tokens =
     inside-some tokens place (omega (arith, leaves.some, leaves.there)) in
     let gone : get_or tokens' place 0 ≡ 0 =
@@ -405,11 +406,11 @@ IsSound-leave tags tags' tokens tokens' distances distances' reaches reaches' ma
           omega (
             arith,
             sound.counted,
-            fewer,
+            grown,
+            ap capacity_of groups,
             taken_count-leaves tags tags' tokens tokens' distances distances' reaches reaches'
                 token place leaves,
           );
-      load = subst (λ n. less ≤ capacity_of n) (sym groups) (omega (arith, fewer, sound.load));
       once = λ k. omega (
         arith,
         sound.once k,

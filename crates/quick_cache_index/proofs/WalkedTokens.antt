@@ -118,7 +118,7 @@ behind_lane walk = record walk { lanes = bit_and walk.lanes (walk.lanes - 1) }
 
 -- the position of the lowest lane
 abbrev pub lane_position : Walk → ℕ
-lane_position walk = 16 * bit_xor walk.home walk.step + trailing_zeros w64 walk.lanes
+lane_position walk = 16 * walk.group + trailing_zeros w64 walk.lanes
 
 -- a walk that has a lane to look at: the lowest lane's position, and the walk behind it
 pub record LooksAtLane (walk next : Walk) (position : ℕ) : Type 0 where
@@ -127,9 +127,11 @@ pub record LooksAtLane (walk next : Walk) (position : ℕ) : Type 0 where
   pub taken : 0 < get_or walk.tokens.now position 0
   pub candidate : candidates_left walk ≡ get_or walk.tokens.now position 0 ∷ candidates_left next
 
-pub looks_at_lane : (walk : Walk) → IsWalk walk → 0 < walk.lanes
-    → LooksAtLane walk (behind_lane walk) (lane_position walk)
-looks_at_lane walk is some =
+-- by the distance of the group
+looks_at_lane-by : (walk : Walk) → IsWalk walk → 0 < walk.lanes
+    → LooksAtLane walk (behind_lane walk)
+    (16 * bit_xor walk.home walk.step + trailing_zeros w64 walk.lanes)
+looks_at_lane-by walk is some =
     let lanes : ℕ = bit_and walk.lanes (walk.lanes - 1) in
     let fewer : lanes ≤ walk.lanes - 1 = and_le_r walk.lanes (walk.lanes - 1) in
     let few : walk.lanes < 2 ^ 16 = is.few in
@@ -137,10 +139,12 @@ looks_at_lane walk is some =
     let behind : List ℕ = positions_along walk.home (walk.step + 1) (reach_of walk - walk.step) in
     let lowest = trailing_zeros-IsLowestBit walk.lanes some (omega arith) in
     let give : ℕ → Option ℕ = tagged_token walk.tags.now walk.tokens.now walk.hash in
+    let position : ℕ = 16 * group + trailing_zeros w64 walk.lanes in
     let tag = is.lit (trailing_zeros w64 walk.lanes) lowest.set in
     record {
       inside = omega (arith, is.here some, trailing_zeros-lt walk.lanes some few);
       still = record {
+        group = is.group;
         here = λ more. is.here some;
         later = is.later;
         few = omega arith;
@@ -151,12 +155,19 @@ looks_at_lane walk is some =
         tagged = is.tagged;
         taken = is.taken;
       };
-      taken = is.taken (lane_position walk) (omega (arith, tag, tag_of-some walk.hash));
+      taken = is.taken position (omega (arith, tag, tag_of-some walk.hash));
       candidate =
           ap (λ ps. filter_map give (ps ++ behind)) (lane_positions-first group walk.lanes some few)
           ∙ ap (λ o. cons_option o (filter_map give (lane_positions group lanes ++ behind)))
-          (tagged_token-tag walk.tags.now walk.tokens.now walk.hash (lane_position walk) tag);
+          (tagged_token-tag walk.tags.now walk.tokens.now walk.hash position tag);
     }
+
+-- by the group itself
+pub looks_at_lane : (walk : Walk) → IsWalk walk → 0 < walk.lanes
+    → LooksAtLane walk (behind_lane walk) (lane_position walk)
+looks_at_lane walk is some =
+    subst (λ (group : ℕ). LooksAtLane walk (behind_lane walk)
+    (16 * group + trailing_zeros w64 walk.lanes)) (sym is.group) (looks_at_lane-by walk is some)
 
 -- a walk without a lane to look at that has read its last group
 pub candidates_left-end : (walk : Walk) → walk.lanes ≡ 0 → reach_of walk ≤ walk.step
@@ -176,7 +187,11 @@ candidates_left-end walk none last =
 
 -- the walk that reads the next group, with these lanes to look at
 abbrev pub at_next_group : Walk → ℕ → Walk
-at_next_group walk lanes = record walk { step = walk.step + 1; lanes = lanes }
+at_next_group walk lanes = record walk {
+  group = bit_xor walk.home (walk.step + 1);
+  step = walk.step + 1;
+  lanes = lanes;
+}
 
 -- the next group is there
 pub group-inside : (walk : Walk) → IsWalk walk → walk.step < reach_of walk
@@ -210,6 +225,7 @@ reads_next_group-tag walk is none more =
     let rest : List ℕ = positions_along walk.home (walk.step + 1 + 1) left in
     record {
       still = record {
+        group = refl;
         here = λ some. omega (arith, inside, is.tagged);
         later = λ step behind within. is.later step (omega arith) within;
         few = few;
@@ -248,7 +264,7 @@ reads_next_group walk tag lanes is none more value at =
 
 -- the walk that begins at this home, with these lanes to look at
 abbrev pub first_walk : Walk → ℕ → ℕ → Walk
-first_walk walk home lanes = record walk { home = home; step = 0; lanes = lanes }
+first_walk walk home lanes = record walk { home = home; group = home; step = 0; lanes = lanes }
 
 -- it has all tokens to meet that a search for its hash meets
 pub record BeginsWalk (walk : Walk) (mask home lanes : ℕ) : Type 0 where
@@ -301,6 +317,7 @@ begins_walk-tag walk mask sized matched some =
     ∙ sym (filter_map-append give (group_positions (bit_xor home 0)) rest) in
     record {
       still = record {
+        group = sym here;
         here = λ more. within 0 (omega arith);
         later = λ step behind less. within step (omega arith);
         few = lanes-few tags home (tag_of walk.hash) inside;

@@ -32,13 +32,12 @@ pub record HasDistances (tags distances : List ℕ) : Type 0 where
 abbrev pub capacity_of : ℕ → ℕ
 capacity_of groups = min (14 * groups) 4294967294
 
--- the places and the length of an index
-pub record IsSound (tags tokens distances reaches : List ℕ) (mask len : ℕ) : Type 0 where
+-- the places and the room of an index
+pub record IsSound (tags tokens distances reaches : List ℕ) (mask room : ℕ) : Type 0 where
   pub sized : IsGrouped tags tokens reaches mask
   pub matched : IsMatched tags tokens
   pub distant : HasDistances tags distances
-  pub counted : len ≡ taken_count tokens
-  pub load : len ≤ capacity_of (length reaches)
+  pub counted : room + taken_count tokens ≡ capacity_of (length reaches)
   pub once : (token : ℕ) → count_by (holds token) tokens ≤ 1
 
 -- no reach got shorter
@@ -112,6 +111,7 @@ candidates_left walk =
 
 -- a walk looks at places that there are and have tokens
 pub record IsWalk (walk : Walk) : Type 0 where
+  pub group : walk.group ≡ bit_xor walk.home walk.step
   pub here : 0 < walk.lanes → 16 * bit_xor walk.home walk.step + 16 ≤ length walk.tokens.now
   pub later : (step : ℕ) → walk.step < step → step ≤ reach_of walk
       → 16 * bit_xor walk.home step + 16 ≤ length walk.tokens.now

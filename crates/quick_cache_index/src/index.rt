@@ -35,8 +35,8 @@ pub struct Index<A: Allocator = Global> {
     reaches: Vec<u32, A>,
     // One less than how many groups there are.
     mask: usize,
-    // How many places are taken.
-    len: usize,
+    // How many more tokens the groups are made for.
+    room: usize,
 }
 
 impl<A: Allocator> Model for Index<A> {
@@ -61,7 +61,7 @@ impl<A: Allocator> Model for Index<A> {
     } };
 
     ghost invariant = { λ i. IsSound i.tags.items i.tokens.items i.distances.items i.reaches.items
-        i.mask i.len };
+        i.mask i.room };
 }
 
 impl<A: Allocator> Index<A> {
@@ -95,7 +95,7 @@ impl<A: Allocator> Index<A> {
             distances: Vec::new(for_distances),
             reaches: Vec::new(for_reaches),
             mask: 0,
-            len: 0,
+            room: 0,
         })
     }
 
@@ -104,7 +104,7 @@ impl<A: Allocator> Index<A> {
         ensures value { result ≡ token_count self.now }
         ensures most { token_count self.now + self.now.room ≤ 4294967294 }
     {
-        self.len
+        capacity(self.reaches.len()) - self.room
     }
 
     /// Whether it takes one more token as it is.
@@ -113,7 +113,7 @@ impl<A: Allocator> Index<A> {
         ensures room { IsTrue result ↔ 0 < self.now.room }
         ensures most { token_count self.now + self.now.room ≤ 4294967294 }
     {
-        capacity(self.reaches.len()) > self.len
+        self.room > 0
     }
 
     /// How many bytes the index holds, apart from its own.
@@ -133,8 +133,7 @@ impl<A: Allocator> Index<A> {
         ensures room { IsTrue result ↔ wanted_room self.now additional ≤ self.now.room }
         ensures most { token_count self.now + self.now.room ≤ 4294967294 }
     {
-        let wanted = additional.min(MOST_TOKENS - self.len);
-        wanted <= capacity(self.reaches.len()) - self.len
+        additional.min(MOST_TOKENS - self.len()) <= self.room
     }
 
     /// Removes every token, and makes room for so many, or for as many as an index can have.
@@ -175,7 +174,7 @@ impl<A: Allocator> Index<A> {
             &mut self.reaches,
             count,
         )?;
-        (self.mask, self.len) = (count - 1, 0);
+        (self.mask, self.room) = (count - 1, capacity(count));
         Ok(())
     }
 
@@ -201,7 +200,7 @@ impl<A: Allocator> Index<A> {
             hash,
             token.get(),
         );
-        self.len += 1;
+        self.room -= 1;
     }
 
     /// Takes the token out of the index, to which that hash leads.
@@ -232,7 +231,7 @@ impl<A: Allocator> Index<A> {
                     self.tokens.as_mut_slice(),
                     position,
                 );
-                self.len -= 1;
+                self.room += 1;
             }
             None => self.remove_on_walk(hash, token),
         }
@@ -268,7 +267,7 @@ impl<A: Allocator> Index<A> {
             hash,
             position,
         );
-        self.len -= 1
+        self.room += 1;
     }
 
     /// Tokens that are there, among them each to which that hash leads, in no order that counts.
@@ -296,7 +295,7 @@ impl<A: Allocator> Index<A> {
         ensures room { self.new.room ≡ self.old.room + token_count self.old }
         ensures allocated { self.new.allocated ≡ self.old.allocated }
     {
-        if self.len == 0 {
+        if self.len() == 0 {
             return;
         }
         groups::free_all(
@@ -305,6 +304,6 @@ impl<A: Allocator> Index<A> {
             self.distances.as_mut_slice(),
             self.reaches.as_mut_slice(),
         );
-        self.len = 0;
+        self.room = capacity(self.reaches.len());
     }
 }

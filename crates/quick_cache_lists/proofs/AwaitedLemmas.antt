@@ -1,12 +1,13 @@
 -- What stands at a token, seen as an item, as a key that is being loaded or as a ghost.
-use Rattle.std.proofs.Common.{◌≡◌, ℕ, Option, Some, None, MatchOption, length, refl, sym, ap, subst, ◌∙◌}
+use Rattle.std.proofs.Common.{◌≡◌, ℕ, Option, Some, None, MatchOption, length, refl, sym, ap, subst, ◌∙◌, inl, inr}
 use Rattle.quick_cache_model.specs.CacheState.{Item}
 use Rattle.quick_cache_slab.specs.LinkedSlab.{LinkedSlab, item_at}
 use Rattle.quick_cache_index.specs.Index.{Index}
-use Rattle.quick_cache_lists.specs.declared.entry.Awaited.{Awaited}
-use Rattle.quick_cache_lists.specs.declared.entry.Entry.{Entry}
-use Rattle.quick_cache_lists.specs.declared.entry.Entry.TheVariants.{Item as item_variant, Loading as loading_variant, Ghost as ghost_variant}
-use Rattle.quick_cache_lists.specs.declared.entry.Slot.{Slot}
+use Rattle.quick_cache_slots.specs.declared.entry.Awaited.{Awaited}
+use Rattle.quick_cache_slots.specs.declared.entry.Entry.{Entry}
+use Rattle.quick_cache_slots.specs.declared.entry.Entry.TheVariants.{Item as item_variant, Loading as loading_variant, Ghost as ghost_variant}
+use Rattle.quick_cache_slots.specs.declared.entry.Slot.{Slot}
+use Rattle.quick_cache_slots.specs.Slots.{HasLoading}
 use Rattle.quick_cache_lists.specs.declared.ring.Ring.{Ring}
 use Rattle.quick_cache_lists.specs.Lists.{HeldLoading, HeldGhost, HasGhostToken, HasItemToken, IsItemOf, HasLoadingToken, IsAwaitedOf}
 use Rattle.quick_cache_lists.specs.Slots.{entry_awaited, loading_of, ghost_of}
@@ -14,8 +15,9 @@ use Rattle.quick_cache_lists.specs.Sound.{upto, tokens_of, lists_of, IsStanding}
 use Rattle.quick_cache_lists.specs.Walks.{entry_item}
 use Rattle.quick_cache_lists.proofs.GatherLemmas.{gather-from}
 use Rattle.quick_cache_lists.proofs.ItemLemmas.{item_by_token, item_is}
+use Rattle.quick_cache_lists.proofs.SlabFrames.{occupied-some}
 use Rattle.quick_cache_lists.proofs.StandLemmas.{HasItem-from, StandsIn-loading}
-use Rattle.quick_cache_lists.proofs.TakeLemmas.{named_loading, named_ghost}
+use Rattle.quick_cache_lists.proofs.TakeLemmas.{occupied_by_entry, named_loading, named_ghost}
 
 module _ {K V P T : Type 0} where
   -- an entry that is seen as a key that is being loaded is one
@@ -79,6 +81,18 @@ module _ {K V P T : Type 0} (slab : LinkedSlab (Slot K V P T)) (index : Index)
       sym (named_loading there.0 (item_at slab there.0) has.0 there.2) ∙ has.2 in
       awaited_in_slot there.0 (item_at slab there.0) has.0 there.2 slot
       (ap (λ n. item_at slab n) named ∙ at)
+
+  -- and so it stands in its slot
+  pub loading_by_token : (t : ℕ) → HasLoadingToken (lists_of slab index hot cold ghosts) t
+      → HasLoading slab t
+  loading_by_token t has =
+      let there = occupied-some (item_at slab t)
+      (occupied_by_entry slab index hot cold ghosts t (inr (inl has))) in
+      let is = awaited_by_token t has there.0 there.1 in (
+        there.0.hash,
+        is.0,
+        there.1 ∙ ap (λ (e : Entry K V P T). Some (record there.0 { entry = e })) is.1,
+      )
 
   -- what has the token of a ghost is one
   pub ghost_by_token : (t : ℕ) → HasGhostToken (lists_of slab index hot cold ghosts) t

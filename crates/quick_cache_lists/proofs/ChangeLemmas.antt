@@ -8,8 +8,9 @@ use Rattle.quick_cache_model.specs.CacheState.{Item}
 use Rattle.quick_cache_slab.specs.LinkedSlab.{LinkedSlab, times, ring_from, at_token, with_token, item_at, next_token, with_item}
 use Rattle.quick_cache_index.specs.Index.{Index}
 use Rattle.quick_cache_slab.proofs.AtTokens.{at_token-with_same, at_token-with_other, length-with_token}
-use Rattle.quick_cache_lists.specs.declared.entry.Entry.TheVariants.{Item as item_variant}
-use Rattle.quick_cache_lists.specs.declared.entry.Slot.{Slot}
+use Rattle.quick_cache_slots.specs.declared.entry.Entry.TheVariants.{Item as item_variant}
+use Rattle.quick_cache_slots.specs.declared.entry.Slot.{Slot}
+use Rattle.quick_cache_slots.specs.Writes.{Writes, changed_at, changed_to}
 use Rattle.quick_cache_lists.specs.declared.ring.Ring.{Ring}
 use Rattle.quick_cache_lists.specs.declared.rings.Rings.{Rings}
 use Rattle.quick_cache_slab.proofs.TokenCounts.{times-here, times-other}
@@ -58,6 +59,22 @@ module _ {K V P T : Type 0} where
   abbrev pub written : (hash : ℕ) (item : Item K V) (t : ℕ) → LinkedSlab (Slot K V P T)
       → LinkedSlab (Slot K V P T)
   written hash item t old = with_item old t (record { hash = hash; entry = item_variant item })
+
+  -- what a write leaves where this item stood
+  pub written-by : (old new : LinkedSlab (Slot K V P T)) (t hash : ℕ) (item : Item K V)
+      (change : Item K V → Item K V) → Writes old new t (slot_changed change)
+      → item_at old t ≡ Some (record { hash = hash; entry = item_variant item })
+      → new ≡ written hash (change item) t old
+  written-by old new t hash item change writes at = writes.is ∙ ap (with_item old t)
+      (changed_slot (item_at old t) writes.slot hash item change at writes.was).1
+
+  -- the same, where the slot is changed if it is there
+  pub changed_at-item : (old : LinkedSlab (Slot K V P T)) (t hash : ℕ) (item : Item K V)
+      (change : Item K V → Item K V)
+      → item_at old t ≡ Some (record { hash = hash; entry = item_variant item })
+      → changed_at (slot_changed change) t old ≡ written hash (change item) t old
+  changed_at-item old t hash item change at =
+      ap (λ o. changed_to (slot_changed change) t o old) at
 
   module _ (old : LinkedSlab (Slot K V P T)) (t hash : ℕ) (item : Item K V)
       (change : Item K V → Item K V) (heavy : ((change item).weight == 0) ≡ (item.weight == 0))

@@ -10,9 +10,9 @@ use Rattle.quick_cache_slab.specs.LinkedSlab.{LinkedSlab, AreItemCopies, at_toke
 use Rattle.quick_cache_slab.specs.LinkedSlab.{IsSlotCopy as IsCopyAt}
 use Rattle.quick_cache_slab.proofs.TokenCounts.{times-cons_le, times-here, times-other}
 use Rattle.quick_cache_index.specs.Index.{Index, GainsToken, HasNone, HasToken, KeepsAllLeads, Leads, has_token, token_count}
-use Rattle.quick_cache_lists.specs.declared.entry.Entry.{Entry}
-use Rattle.quick_cache_lists.specs.declared.entry.Entry.TheVariants.{Item as item_variant, Loading as loading_variant, Ghost as ghost_variant}
-use Rattle.quick_cache_lists.specs.declared.entry.Slot.{Slot}
+use Rattle.quick_cache_slots.specs.declared.entry.Entry.{Entry}
+use Rattle.quick_cache_slots.specs.declared.entry.Entry.TheVariants.{Item as item_variant, Loading as loading_variant, Ghost as ghost_variant}
+use Rattle.quick_cache_slots.specs.declared.entry.Slot.{Slot}
 use Rattle.quick_cache_lists.specs.declared.ring.Ring.{Ring}
 use Rattle.quick_cache_lists.specs.declared.rings.Rings.{Rings}
 use Rattle.quick_cache_lists.specs.Copies.{AreCopies, IsEntryCopy, IsHeldCopy, IsItemCopy, IsSlotCopy, IsWaitingCopy}

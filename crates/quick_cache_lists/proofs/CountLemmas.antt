@@ -9,9 +9,9 @@ use Rattle.quick_cache_model.specs.declared.queue.Queue.{Queue}
 use Rattle.quick_cache_model.specs.declared.queue.Queue.TheVariants.{Hot, Cold}
 use Rattle.quick_cache_slab.specs.LinkedSlab.{times}
 use Rattle.quick_cache_slab.proofs.TokenCounts.{times-here, times-other, times-append}
-use Rattle.quick_cache_lists.specs.declared.entry.Entry.{Entry}
-use Rattle.quick_cache_lists.specs.declared.entry.Slot.{Slot}
-use Rattle.quick_cache_lists.specs.declared.entry.Entry.TheVariants.{Item as item_variant, Loading as loading_variant, Ghost as ghost_variant}
+use Rattle.quick_cache_slots.specs.declared.entry.Entry.{Entry}
+use Rattle.quick_cache_slots.specs.declared.entry.Slot.{Slot}
+use Rattle.quick_cache_slots.specs.declared.entry.Entry.TheVariants.{Item as item_variant, Loading as loading_variant, Ghost as ghost_variant}
 use Rattle.quick_cache_lists.specs.Lists.{HeldItem, Lists, StandsIn, items_at, with_items, SameButOrder, PutsLast, PutsItem, HasEntry, IsEntry, AreApart, dropped, ahead_of, behind, left_by, without_entry, entries_of, entry_count, changed_held, with_change}
 use Rattle.quick_cache_lists.specs.Slots.{AmongStill, ring_stand, stand_in, loading_in}
 

@@ -3,9 +3,9 @@ use Rattle.std.proofs.Common.{◌≡◌, ℕ, [], Option, Some, None, length, re
 use Rattle.quick_cache_model.specs.CacheState.{Item, Place, InHot, InCold, InStill}
 use Rattle.quick_cache_slab.specs.LinkedSlab.{LinkedSlab, item_at, next_token}
 use Rattle.quick_cache_index.specs.Index.{Index, token_count}
-use Rattle.quick_cache_lists.specs.declared.entry.Entry.{Entry}
-use Rattle.quick_cache_lists.specs.declared.entry.Entry.TheVariants.{Item as item_variant, Loading as loading_variant, Ghost as ghost_variant}
-use Rattle.quick_cache_lists.specs.declared.entry.Slot.{Slot}
+use Rattle.quick_cache_slots.specs.declared.entry.Entry.{Entry}
+use Rattle.quick_cache_slots.specs.declared.entry.Entry.TheVariants.{Item as item_variant, Loading as loading_variant, Ghost as ghost_variant}
+use Rattle.quick_cache_slots.specs.declared.entry.Slot.{Slot}
 use Rattle.quick_cache_lists.specs.declared.ring.Ring.{Ring}
 use Rattle.quick_cache_lists.specs.declared.rings.Rings.{Rings}
 use Rattle.std.specs.Int.NonZero.{non_zero_u32_get}
@@ -73,6 +73,25 @@ module _ {K V P T : Type 0} where
         let is : at.0 ≡ non_zero_u32_get token =
         sym (named_item at.0 (item_at slab at.0) first.0 at.2) ∙ first.3 in
         subst (λ (u : ℕ). stand_of (item_at slab u) ≡ Some AmongCold) is (ring.members at.0 at.1)
+
+    -- and its slot has an item
+    pub first_cold-item : (token : Token) → IsFirstOf (λ (held : HeldItem K V). held.token)
+        (lists_of slab index hot cold ghosts).cold (Some token) → (hash : ℕ) × (item : Item K V)
+        × (item_at slab (non_zero_u32_get token)
+        ≡ Some (record { hash = hash; entry = item_variant item }))
+    first_cold-item token first =
+        let at = gather-from (λ u. item_of u (item_at slab u)) (tokens_of slab cold.head) first.0
+        (record { before = []; after = first.1; split = first.2 }) in
+        let is : at.0 ≡ non_zero_u32_get token =
+        sym (named_item at.0 (item_at slab at.0) first.0 at.2) ∙ first.3 in
+        subst (λ (u : ℕ). (hash : ℕ) × (item : Item K V)
+        × (item_at slab u ≡ Some (record { hash = hash; entry = item_variant item }))) is
+        (slot_by_held at.0 (item_at slab at.0) first.0 at.2)
+
+  -- there is one slot
+  pub one_slot : (o : Option (Slot K V P T)) (slot other : Slot K V P T) → o ≡ Some slot
+      → o ≡ Some other → slot ≡ other
+  one_slot o slot other is at = cc
 
   pub item_is : (o : Option (Slot K V P T)) (slot : Slot K V P T) (hash : ℕ) (item : Item K V)
       → o ≡ Some (record { hash = hash; entry = item_variant item }) → o ≡ Some slot

@@ -4,7 +4,7 @@ use Rattle.std.specs.Int.NonZero.{non_zero_u32_get}
 use Rattle.std.specs.declared.num.NonZeroU32.{NonZeroU32 as Token}
 use Rattle.quick_cache_slab.specs.LinkedSlab.{LinkedSlab, times, ring_from, item_at, IsNextOf, IsParted}
 use Rattle.quick_cache_index.specs.Index.{Index, token_count}
-use Rattle.quick_cache_lists.specs.declared.entry.Slot.{Slot}
+use Rattle.quick_cache_slots.specs.declared.entry.Slot.{Slot}
 use Rattle.quick_cache_lists.specs.declared.ring.Ring.{Ring}
 use Rattle.quick_cache_lists.specs.declared.rings.Rings.{Rings}
 use Rattle.quick_cache_lists.specs.Frames.{IsRemoved, CanLeave, CanLeaveRing, LeavesRingOf, CanReweigh}

@@ -7,7 +7,6 @@ pub mod ViewLemmas
 pub mod RemoveLemmas
 pub mod TakeLemmas
 pub mod TurnLemmas
-pub mod ValueLemmas
 pub mod ItemLemmas
 pub mod ChangeLemmas
 pub mod ApartLemmas

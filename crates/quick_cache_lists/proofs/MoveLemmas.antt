@@ -8,7 +8,7 @@ use Rattle.std.proofs.lemmas.List.{length-map}
 use Rattle.quick_cache_slab.specs.LinkedSlab.{LinkedSlab, at_token, times, first_or, next_token, without, item_at, ring_from, with_item, removed, unlinked, IsAlone, IsNextOf, IsParted}
 use Rattle.quick_cache_slab.proofs.AtTokens.{length-with_token, at_token-with_same, at_token-with_other, at_token-map}
 use Rattle.quick_cache_index.specs.Index.{Index, Leads, has_token}
-use Rattle.quick_cache_lists.specs.declared.entry.Slot.{Slot}
+use Rattle.quick_cache_slots.specs.declared.entry.Slot.{Slot}
 use Rattle.quick_cache_lists.specs.declared.rings.Rings.{Rings}
 use Rattle.quick_cache_lists.specs.Frames.{IsPlaced, IsRemoved, CanEnter, EntersRing, LeavesRingOf}
 use Rattle.quick_cache_lists.specs.Lists.{Lists, PutsLast, Replaces, without_entry}

@@ -8,9 +8,9 @@ use Rattle.quick_cache_model.specs.declared.queue.Queue.TheVariants.{Hot, Cold}
 use Rattle.quick_cache_model.specs.CacheState.{ring_place}
 use Rattle.quick_cache_slab.specs.LinkedSlab.{LinkedSlab, times, entries_past, entries_after, item_at, successor, IsOccupied, IsParted}
 use Rattle.quick_cache_index.specs.Index.{Index}
-use Rattle.quick_cache_lists.specs.declared.entry.Entry.{Entry}
-use Rattle.quick_cache_lists.specs.declared.entry.Entry.TheVariants.{Item as item_variant, Loading as loading_variant, Ghost as ghost_variant}
-use Rattle.quick_cache_lists.specs.declared.entry.Slot.{Slot}
+use Rattle.quick_cache_slots.specs.declared.entry.Entry.{Entry}
+use Rattle.quick_cache_slots.specs.declared.entry.Entry.TheVariants.{Item as item_variant, Loading as loading_variant, Ghost as ghost_variant}
+use Rattle.quick_cache_slots.specs.declared.entry.Slot.{Slot}
 use Rattle.quick_cache_lists.specs.declared.ring.Ring.{Ring}
 use Rattle.quick_cache_lists.specs.Lists.{HasItemToken, HasRingToken, next_in_ring, number_or_zero, IsFirstAbove}
 use Rattle.quick_cache_lists.specs.Slots.{AmongHot, AmongCold, item_of, is_item, first_item}

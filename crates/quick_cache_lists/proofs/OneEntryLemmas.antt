@@ -7,8 +7,8 @@ use Rattle.quick_cache_model.specs.declared.queue.Queue.TheVariants.{Hot, Cold}
 use Rattle.quick_cache_model.specs.CacheState.{Place, InHot, InCold, InStill, ring_place}
 use Rattle.quick_cache_slab.specs.LinkedSlab.{times}
 use Rattle.quick_cache_slab.proofs.TokenCounts.{times-here, times-append}
-use Rattle.quick_cache_lists.specs.declared.entry.Entry.{Entry}
-use Rattle.quick_cache_lists.specs.declared.entry.Entry.TheVariants.{Item as item_variant, Loading as loading_variant, Ghost as ghost_variant}
+use Rattle.quick_cache_slots.specs.declared.entry.Entry.{Entry}
+use Rattle.quick_cache_slots.specs.declared.entry.Entry.TheVariants.{Item as item_variant, Loading as loading_variant, Ghost as ghost_variant}
 use Rattle.quick_cache_lists.specs.Lists.{HeldItem, HeldLoading, HeldGhost, Lists, StandsIn, HasItem}
 use Rattle.quick_cache_lists.specs.Lists.{IsEntry, AreApart, items_at, with_items, without_entry}
 use Rattle.quick_cache_lists.proofs.CallerLemmas.{stands-once, without-hot, without-cold}

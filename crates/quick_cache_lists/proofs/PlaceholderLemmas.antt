@@ -5,9 +5,9 @@ use Rattle.std.specs.List.{AllByRecursion}
 use Rattle.quick_cache_model.proofs.EachElement.{all-push}
 use Rattle.quick_cache_slab.specs.LinkedSlab.{LinkedSlab, entries_past, entries_after, item_at}
 use Rattle.quick_cache_index.specs.Index.{Index}
-use Rattle.quick_cache_lists.specs.declared.entry.Entry.{Entry}
-use Rattle.quick_cache_lists.specs.declared.entry.Entry.TheVariants.{Item as item_variant, Loading as loading_variant, Ghost as ghost_variant}
-use Rattle.quick_cache_lists.specs.declared.entry.Slot.{Slot}
+use Rattle.quick_cache_slots.specs.declared.entry.Entry.{Entry}
+use Rattle.quick_cache_slots.specs.declared.entry.Entry.TheVariants.{Item as item_variant, Loading as loading_variant, Ghost as ghost_variant}
+use Rattle.quick_cache_slots.specs.declared.entry.Slot.{Slot}
 use Rattle.quick_cache_lists.specs.declared.ring.Ring.{Ring}
 use Rattle.quick_cache_lists.specs.Lists.{HeldLoading, Lists}
 use Rattle.quick_cache_lists.specs.Placeholders.{HasNoPlaceholder, FindsPlaceholder, is_meant, PassesNoneMeant}

@@ -6,7 +6,7 @@ use Rattle.std.proofs.lemmas.Bool.{cases_eq, cases_Bool, eq-eqb, ne_eqb}
 use Rattle.quick_cache_slab.specs.LinkedSlab.{LinkedSlab, first_or, times, without, item_at, ring_from, IsNextOf, IsParted}
 use Rattle.quick_cache_index.specs.Index.{Index, KeepsOtherLeads, LosesToken, has_token, token_count}
 use Rattle.quick_cache_slab.proofs.TokenCounts.{times-here, times-other, times-append, without_none}
-use Rattle.quick_cache_lists.specs.declared.entry.Slot.{Slot}
+use Rattle.quick_cache_slots.specs.declared.entry.Slot.{Slot}
 use Rattle.quick_cache_lists.specs.declared.ring.Ring.{Ring}
 use Rattle.quick_cache_lists.specs.Frames.{IsRemoved, IsLeft}
 use Rattle.quick_cache_lists.specs.Lists.{dropped, restarted, left_by}

@@ -11,9 +11,9 @@ use Rattle.quick_cache_model.specs.declared.queue.Queue.TheVariants.{Hot, Cold}
 use Rattle.quick_cache_slab.specs.LinkedSlab.{LinkedSlab, times, item_at, items, IsParted}
 use Rattle.quick_cache_slab.proofs.TokenCounts.{times-here, times-other, times-append}
 use Rattle.quick_cache_index.specs.Index.{Index}
-use Rattle.quick_cache_lists.specs.declared.entry.Entry.{Entry}
-use Rattle.quick_cache_lists.specs.declared.entry.Entry.TheVariants.{Item as item_variant, Loading as loading_variant, Ghost as ghost_variant}
-use Rattle.quick_cache_lists.specs.declared.entry.Slot.{Slot}
+use Rattle.quick_cache_slots.specs.declared.entry.Entry.{Entry}
+use Rattle.quick_cache_slots.specs.declared.entry.Entry.TheVariants.{Item as item_variant, Loading as loading_variant, Ghost as ghost_variant}
+use Rattle.quick_cache_slots.specs.declared.entry.Slot.{Slot}
 use Rattle.quick_cache_lists.specs.declared.ring.Ring.{Ring}
 use Rattle.quick_cache_lists.specs.Lists.{HeldItem, Lists, item_count}
 use Rattle.quick_cache_lists.specs.Slots.{Stand, AmongHot, AmongCold, AmongStill, ring_stand, stand_of, if_still, item_of, still_of}

@@ -8,9 +8,9 @@ use Rattle.quick_cache_model.specs.declared.queue.Queue.TheVariants.{Hot, Cold}
 use Rattle.quick_cache_lists.specs.Lists.{HeldItem, Lists, StandsIn, items_at, with_items, entered, AreApart, without_entry, with_change, SameButOrder, PutsItem, Replaces, Requeues, IsEntry, IsItemOf, HasItemOfQueue, with_weight, requeued, held_rewritten, Rewrites, Reweighs}
 use Rattle.quick_cache_slab.specs.LinkedSlab.{LinkedSlab, item_at, IsParted}
 use Rattle.quick_cache_index.specs.Index.{Index}
-use Rattle.quick_cache_lists.specs.declared.entry.Awaited.{Awaited}
-use Rattle.quick_cache_lists.specs.declared.entry.Entry.TheVariants.{Item as item_variant, Loading as loading_variant, Ghost as ghost_variant}
-use Rattle.quick_cache_lists.specs.declared.entry.Slot.{Slot}
+use Rattle.quick_cache_slots.specs.declared.entry.Awaited.{Awaited}
+use Rattle.quick_cache_slots.specs.declared.entry.Entry.TheVariants.{Item as item_variant, Loading as loading_variant, Ghost as ghost_variant}
+use Rattle.quick_cache_slots.specs.declared.entry.Slot.{Slot}
 use Rattle.quick_cache_lists.specs.declared.ring.Ring.{Ring}
 use Rattle.quick_cache_lists.specs.declared.rings.Rings.{Rings}
 use Rattle.quick_cache_lists.specs.Frames.{CanReweigh, ReweighsRing}

@@ -20,7 +20,7 @@ module _ {S : Type 0} where
         | inr within ↦ (omega arith, within)
       ]
 
-  occupied-some : (o : Option S) → IsSome o → (x : S) × (o ≡ Some x)
+  pub occupied-some : (o : Option S) → IsSome o → (x : S) × (o ≡ Some x)
   occupied-some None there = absurd (cc)
   occupied-some (Some x) there = (x, refl)
 

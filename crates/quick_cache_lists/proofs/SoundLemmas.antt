@@ -8,7 +8,7 @@ use Rattle.quick_cache_slab.specs.LinkedSlab.{LinkedSlab, at_token, times, joine
 use Rattle.quick_cache_index.specs.Index.{Index, HasNone, Leads, has_token, token_count}
 use Rattle.quick_cache_slab.proofs.AtTokens.{at_token-past}
 use Rattle.quick_cache_slab.proofs.TokenCounts.{zero_from_none, times-here, times-other, times-append, length_once}
-use Rattle.quick_cache_lists.specs.declared.entry.Slot.{Slot}
+use Rattle.quick_cache_slots.specs.declared.entry.Slot.{Slot}
 use Rattle.quick_cache_lists.specs.declared.ring.Ring.{Ring}
 use Rattle.quick_cache_lists.specs.Frames.{IsPlaced, IsLinked, IsJoined}
 use Rattle.quick_cache_lists.specs.Slots.{Stand, AmongHot, AmongCold, AmongStill, AmongLoading, AmongGhosts, stand_of, has_hash, weight_in, weight_at}

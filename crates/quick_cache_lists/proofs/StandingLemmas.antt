@@ -4,9 +4,9 @@ use Rattle.std.proofs.lemmas.List.{map-append, append_assoc}
 use Rattle.quick_cache_model.specs.CacheState.{Item, Place, InHot, InCold, InStill}
 use Rattle.quick_cache_slab.specs.LinkedSlab.{times}
 use Rattle.quick_cache_slab.proofs.TokenCounts.{times-append}
-use Rattle.quick_cache_lists.specs.declared.entry.Awaited.{Awaited}
-use Rattle.quick_cache_lists.specs.declared.entry.Entry.{Entry}
-use Rattle.quick_cache_lists.specs.declared.entry.Entry.TheVariants.{Item as item_variant, Loading as loading_variant, Ghost as ghost_variant}
+use Rattle.quick_cache_slots.specs.declared.entry.Awaited.{Awaited}
+use Rattle.quick_cache_slots.specs.declared.entry.Entry.{Entry}
+use Rattle.quick_cache_slots.specs.declared.entry.Entry.TheVariants.{Item as item_variant, Loading as loading_variant, Ghost as ghost_variant}
 use Rattle.quick_cache_lists.specs.Lists.{HeldItem, HeldLoading, HeldGhost, Lists, StandsIn, HasItem}
 use Rattle.quick_cache_lists.specs.Lists.{IsEntry, AreApart, items_at, entries_of}
 use Rattle.quick_cache_lists.proofs.OneEntryLemmas.{one-element}

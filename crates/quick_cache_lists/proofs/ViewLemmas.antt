@@ -8,9 +8,9 @@ use Rattle.quick_cache_model.specs.CacheState.{Item, Place, InHot, InCold, InSti
 use Rattle.quick_cache_slab.specs.LinkedSlab.{LinkedSlab, times, item_at, next_token}
 use Rattle.quick_cache_index.specs.Index.{Index}
 use Rattle.quick_cache_model.specs.declared.queue.Queue.TheVariants.{Hot, Cold}
-use Rattle.quick_cache_lists.specs.declared.entry.Entry.TheVariants.{Item as item_variant, Loading as loading_variant, Ghost as ghost_variant}
-use Rattle.quick_cache_lists.specs.declared.entry.Awaited.{Awaited}
-use Rattle.quick_cache_lists.specs.declared.entry.Slot.{Slot}
+use Rattle.quick_cache_slots.specs.declared.entry.Entry.TheVariants.{Item as item_variant, Loading as loading_variant, Ghost as ghost_variant}
+use Rattle.quick_cache_slots.specs.declared.entry.Awaited.{Awaited}
+use Rattle.quick_cache_slots.specs.declared.entry.Slot.{Slot}
 use Rattle.quick_cache_lists.specs.declared.ring.Ring.{Ring}
 use Rattle.quick_cache_lists.specs.Lists.{HeldItem, HeldLoading, Lists, items_at, with_items, entered, SameButOrder}
 use Rattle.quick_cache_lists.specs.Frames.{IsPlaced, IsJoined}

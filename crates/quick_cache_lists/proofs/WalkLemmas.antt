@@ -7,9 +7,9 @@ use Rattle.std.proofs.lemmas.List.{take_all}
 use Rattle.std.specs.List.{AllByRecursion}
 use Rattle.quick_cache_slab.specs.LinkedSlab.{LinkedSlab, first_or, times, item_at, ring_from, successor, IsParted}
 use Rattle.quick_cache_slab.proofs.TokenCounts.{times-here, without_none}
-use Rattle.quick_cache_lists.specs.declared.entry.Entry.{Entry}
-use Rattle.quick_cache_lists.specs.declared.entry.Entry.TheVariants.{Item as item_variant, Loading as loading_variant, Ghost as ghost_variant}
-use Rattle.quick_cache_lists.specs.declared.entry.Slot.{Slot}
+use Rattle.quick_cache_slots.specs.declared.entry.Entry.{Entry}
+use Rattle.quick_cache_slots.specs.declared.entry.Entry.TheVariants.{Item as item_variant, Loading as loading_variant, Ghost as ghost_variant}
+use Rattle.quick_cache_slots.specs.declared.entry.Slot.{Slot}
 use Rattle.quick_cache_lists.specs.declared.ring.Ring.{Ring}
 use Rattle.quick_cache_lists.specs.Slots.{Stand, AmongLoading, AmongGhosts, stand_of, stand_in, is_item, item_of, ghost_of}
 use Rattle.quick_cache_lists.specs.Sound.{put, gather, tokens_of, IsRingOf}

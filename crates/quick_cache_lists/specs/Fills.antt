@@ -1,20 +1,9 @@
 -- A key that is being loaded, which becomes that of an item.
 use Rattle.std.specs.Prelude.{◌≡◌, ℕ, false}
-use Rattle.quick_cache_model.specs.declared.queue.Queue.{Queue}
+pub use Rattle.quick_cache_slots.specs.Items.{filled}
 use Rattle.quick_cache_model.specs.CacheState.{Item}
-use Rattle.quick_cache_lists.specs.declared.entry.Awaited.{Awaited}
+use Rattle.quick_cache_slots.specs.declared.entry.Awaited.{Awaited}
 use Rattle.quick_cache_lists.specs.Lists.{Lists, StandsIn, PutsItem, without_entry}
-
--- an item of this key that was never read
-abbrev pub filled : {K V : Type 0} → Queue → (mark weight : ℕ) → V → K → Item K V
-filled queue mark weight value key = record {
-  key = key;
-  value = value;
-  weight = weight;
-  mark = mark;
-  reads = 0;
-  queue = queue;
-}
 
 -- The key that was being loaded under that token became that of an item, which was put last under
 -- the same token and hash. The room and the next token stay.

@@ -5,8 +5,8 @@ use Rattle.std.specs.declared.num.NonZeroU32.{NonZeroU32 as Token}
 use Rattle.quick_cache_slab.specs.LinkedSlab.{LinkedSlab, successor, item_at, ring_from, without, joined, IsOccupied, IsAlone}
 use Rattle.quick_cache_lists.specs.declared.ring.Ring.{Ring}
 use Rattle.quick_cache_lists.specs.declared.rings.Rings.{Rings}
-use Rattle.quick_cache_lists.specs.declared.entry.Stand.{Stand}
-use Rattle.quick_cache_lists.specs.declared.entry.Stand.TheVariants.{AmongHot, AmongCold, AmongStill, AmongLoading, AmongGhosts}
+use Rattle.quick_cache_slots.specs.declared.entry.Stand.{Stand}
+use Rattle.quick_cache_slots.specs.declared.entry.Stand.TheVariants.{AmongHot, AmongCold, AmongStill, AmongLoading, AmongGhosts}
 
 module _ {S : Type 0} where
   -- an item came to a token that had none

@@ -8,4 +8,3 @@ pub mod Copies
 pub mod Lent
 pub mod Placeholders
 pub mod Fills
-pub mod Stored

@@ -7,11 +7,13 @@ use Rattle.std.specs.Int.NonZero.{non_zero_u32_get}
 use Rattle.std.specs.declared.num.NonZeroU32.{NonZeroU32 as Token}
 use Rattle.quick_cache_model.specs.declared.queue.Queue.{Queue}
 use Rattle.quick_cache_model.specs.declared.queue.Queue.TheVariants.{Hot, Cold}
-use Rattle.quick_cache_lists.specs.declared.entry.Awaited.{Awaited}
-use Rattle.quick_cache_lists.specs.declared.entry.Entry.{Entry}
-use Rattle.quick_cache_lists.specs.declared.entry.Entry.TheVariants.{Item as item_variant, Loading as loading_variant, Ghost as ghost_variant}
+use Rattle.quick_cache_slots.specs.declared.entry.Awaited.{Awaited}
+use Rattle.quick_cache_slots.specs.declared.entry.Entry.{Entry}
+use Rattle.quick_cache_slots.specs.declared.entry.Entry.TheVariants.{Item as item_variant, Loading as loading_variant, Ghost as ghost_variant}
 use Rattle.quick_cache_lists.specs.declared.found.Found.{Found}
 use Rattle.quick_cache_lists.specs.declared.found.Found.TheVariants.{Item as found_item, Loading as found_loading, Ghost as found_ghost, Nothing as found_nothing}
+pub use Rattle.quick_cache_slots.specs.Items.{with_counts, with_mark, read_once, used, with_weight, with_value, requeued}
+pub use Rattle.quick_cache_slots.specs.Slots.{is_placeholder}
 use Rattle.quick_cache_model.specs.CacheState.{Item, Place, InHot, InCold, InStill, place_of_item, ring_place}
 
 -- an item under its token and its hash
@@ -32,26 +34,6 @@ pub record HeldLoading (K P : Type 0) : Type 0 where
 abbrev pub changed_held : {K V : Type 0} → ℕ → (Item K V → Item K V) → HeldItem K V → HeldItem K V
 changed_held token change held =
     cond (eqb held.token token) (record held { item = change held.item }) held
-
--- the item with another mark and another count of reads
-abbrev pub with_counts : {K V : Type 0} → (mark reads : ℕ) → Item K V → Item K V
-with_counts mark reads item = record item { mark = mark; reads = reads }
-
--- the item with another count of reads
-abbrev pub with_reads : {K V : Type 0} → (reads : ℕ) → Item K V → Item K V
-with_reads reads item = record item { reads = reads }
-
--- the item with another weight
-abbrev pub with_weight : {K V : Type 0} → (weight : ℕ) → Item K V → Item K V
-with_weight weight item = record item { weight = weight }
-
--- the item with another value
-abbrev pub with_value : {K V : Type 0} → (value : V) → Item K V → Item K V
-with_value value item = record item { value = value }
-
--- the item with another queue, mark and weight
-abbrev pub requeued : {K V : Type 0} → Queue → (mark weight : ℕ) → Item K V → Item K V
-requeued queue mark weight item = record item { queue = queue; mark = mark; weight = weight }
 
 -- a ghost: its token and its hash
 pub record HeldGhost : Type 0 where
@@ -275,12 +257,6 @@ module _ {K V P : Type 0} where
   is_in_ring (item_variant item) = if item.weight == 0 then false else true
   is_in_ring (loading_variant awaited) = false
   is_in_ring ghost_variant = true
-
-  -- the entry is a placeholder
-  abbrev pub is_placeholder : {T : Type 0} → Entry K V P T → Bool
-  is_placeholder (item_variant item) = false
-  is_placeholder (loading_variant awaited) = true
-  is_placeholder ghost_variant = false
 
   -- the entry is an item that weighs nothing
   abbrev pub is_weightless : {T : Type 0} → Entry K V P T → Bool

@@ -1,9 +1,9 @@
 -- Placeholders by a test of their own: keys that are being loaded, found by what stands for them.
 use Rattle.std.specs.Prelude.{◌≡◌, ℕ, Bool, true, false, List, ◌++◌}
 use Rattle.std.specs.List.{AllByRecursion}
-use Rattle.quick_cache_lists.specs.declared.entry.Entry.{Entry}
-use Rattle.quick_cache_lists.specs.declared.entry.Entry.TheVariants.{Item as item_variant, Loading as loading_variant, Ghost as ghost_variant}
-use Rattle.quick_cache_lists.specs.declared.entry.Slot.{Slot}
+use Rattle.quick_cache_slots.specs.declared.entry.Entry.{Entry}
+use Rattle.quick_cache_slots.specs.declared.entry.Entry.TheVariants.{Item as item_variant, Loading as loading_variant, Ghost as ghost_variant}
+use Rattle.quick_cache_slots.specs.declared.entry.Slot.{Slot}
 use Rattle.quick_cache_lists.specs.Lists.{HeldLoading, Lists, StandsIn}
 
 module _ {K V P : Type 0} (means : P → Bool) where

@@ -4,7 +4,7 @@ use Rattle.std.specs.Int.NonZero.{non_zero_u32_get}
 use Rattle.std.specs.declared.num.NonZeroU32.{NonZeroU32 as Token}
 use Rattle.quick_cache_slab.specs.LinkedSlab.{LinkedSlab, item_at, ring_from, times, next_token, spare, IsAlone}
 use Rattle.quick_cache_index.specs.Index.{Index, HasToken, GainsToken, KeepsAllLeads, Leads, has_token, token_count}
-use Rattle.quick_cache_lists.specs.declared.entry.Slot.{Slot}
+use Rattle.quick_cache_slots.specs.declared.entry.Slot.{Slot}
 use Rattle.quick_cache_lists.specs.declared.ring.Ring.{Ring}
 use Rattle.quick_cache_lists.specs.declared.rings.Rings.{Rings}
 use Rattle.quick_cache_lists.specs.Lists.{Lists, entry_count}

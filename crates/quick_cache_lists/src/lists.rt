@@ -15,23 +15,21 @@ mod walks;
 
 use crate::rings::Rings;
 use crate::store::grow_index;
-use crate::stored::Stored;
-pub use copies::Copying;
 pub use placeholders::Meaning;
 use quick_cache_index::Index;
 use quick_cache_model::Refusal;
-use quick_cache_slab::LinkedSlab;
+use quick_cache_slots::Slots;
 use std::alloc::{Allocator, Global};
 use std::marker::Model;
 
 /// How many entries there can be.
 const MOST_ENTRIES: usize = 4294967294;
 
-/// Entries in the slots of one slab: the items of a hot and of a cold ring, the ghosts in a ring of
+/// Entries in slots: the items of a hot and of a cold ring, the ghosts in a ring of
 /// their own, and items of weight 0 and placeholders in none. Each is found by its hash.
 #[derive(Drop)]
 pub struct Lists<K, V, P, T, A: Allocator = Global> {
-    slab: LinkedSlab<Stored<K, V, P, T>, A>,
+    slots: Slots<K, V, P, T, A>,
     index: Index<A>,
     rings: Rings,
     // How many placeholders there are.
@@ -45,9 +43,9 @@ impl<K, V, P, T, A: Allocator> Model for Lists<K, V, P, T, A> {
 
     ghost use Rattle.quick_cache_lists.specs.Sound.{lists_of, IsSound};
 
-    ghost view = { λ l. lists_of l.slab l.index l.rings.hot l.rings.cold l.rings.ghosts };
+    ghost view = { λ l. lists_of l.slots l.index l.rings.hot l.rings.cold l.rings.ghosts };
 
-    ghost invariant = { λ l. IsSound l.slab l.index l.rings l.loading };
+    ghost invariant = { λ l. IsSound l.slots l.index l.rings l.loading };
 }
 
 impl<K, V, P, T, A: Allocator> Lists<K, V, P, T, A> {
@@ -62,10 +60,13 @@ impl<K, V, P, T, A: Allocator> Lists<K, V, P, T, A> {
         let Ok(for_slots) = alloc.clone() else {
             return Err(Refusal::Memory);
         };
+        let Ok(for_asides) = alloc.clone() else {
+            return Err(Refusal::Memory);
+        };
         let index = Index::new(alloc)?;
-        let slab = LinkedSlab::with_capacity(for_slots, 0)?;
+        let slots = Slots::new(for_slots, for_asides)?;
         Ok(Lists {
-            slab,
+            slots,
             index,
             rings: Rings::empty(),
             loading: 0,
@@ -86,9 +87,9 @@ impl<K, V, P, T, A: Allocator> Lists<K, V, P, T, A> {
             → IsOk result × (self.new ≡ self.old) }
         ensures memory { IfErr result (λ refused. refused ≡ Refusal.Memory) }
     {
-        self.slab.validate();
-        self.slab.reserve(additional)?;
-        grow_index(&self.slab, &mut self.index, additional)
+        self.slots.validate();
+        self.slots.reserve(additional)?;
+        grow_index(&self.slots, &mut self.index, additional)
     }
 
     /// Makes room for one more entry where there is none.
@@ -105,7 +106,7 @@ impl<K, V, P, T, A: Allocator> Lists<K, V, P, T, A> {
         ensures refusals { IfErr result
             (λ refused. (refused ≡ Refusal.SlotsFull) ⊎ (refused ≡ Refusal.Memory)) }
     {
-        if self.slab.has_room() && self.index.has_room() {
+        if self.slots.has_room() && self.index.has_room() {
             return Ok(());
         }
         self.grow()
@@ -122,7 +123,7 @@ impl<K, V, P, T, A: Allocator> Lists<K, V, P, T, A> {
         ensures refusals { IfErr result
             (λ refused. (refused ≡ Refusal.SlotsFull) ⊎ (refused ≡ Refusal.Memory)) }
     {
-        self.slab.validate();
+        self.slots.validate();
         if self.index.len() >= MOST_ENTRIES {
             return Err(Refusal::SlotsFull);
         }
@@ -138,8 +139,8 @@ impl<K, V, P, T, A: Allocator> Lists<K, V, P, T, A> {
         T: Drop,
         ensures { self.new ≡ record no_lists { room = self.old.room + entry_count self.old } }
     {
-        self.slab.validate();
-        let _ = self.slab.drain();
+        self.slots.validate();
+        self.slots.clear();
         self.index.clear();
         self.rings = Rings::empty();
         self.loading = 0;
@@ -150,6 +151,6 @@ impl<K, V, P, T, A: Allocator> Lists<K, V, P, T, A> {
         ensures apart { AreApart self.now }
         ensures within { entry_count self.now ≤ 4294967294 }
     {
-        self.slab.validate();
+        self.slots.validate();
     }
 }

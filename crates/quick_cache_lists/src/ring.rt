@@ -1,11 +1,11 @@
-//! Rings of the slab, each with its head, its count and its weight.
+//! Rings of the slots, each with its head, its count and its weight.
 ghost use Rattle.std.specs.Prelude.{IfSome};
 ghost use Rattle.std.specs.Int.NonZero.{non_zero_u32_get as number};
 ghost use Rattle.quick_cache_slab.specs.LinkedSlab.{IsOccupied};
 ghost use Rattle.quick_cache_lists.specs.Frames.{CanJoin, IsJoined, CanLeave, IsLeft, IsTurned};
 
 use quick_cache_model::Token;
-use quick_cache_slab::LinkedSlab;
+use quick_cache_slots::Slots;
 use std::alloc::Allocator;
 
 /// Where a ring begins, how many entries it has, and what they weigh.
@@ -17,16 +17,16 @@ pub struct Ring {
 }
 
 /// Puts a token that is a ring of its own at the end of a ring.
-pub(crate) fn join<S, A: Allocator>(
-    slab: &mut LinkedSlab<S, A>,
+pub(crate) fn join<K, V, P, T, A: Allocator>(
+    slots: &mut Slots<K, V, P, T, A>,
     ring: &mut Ring,
     token: Token,
     weight: u64,
 )
-    requires { CanJoin slab.old ring.old token weight }
-    ensures { IsJoined slab.old slab.new ring.old ring.new token weight }
+    requires { CanJoin slots.old ring.old token weight }
+    ensures { IsJoined slots.old slots.new ring.old ring.new token weight }
 {
-    let head = slab.link(token, ring.head);
+    let head = slots.link(token, ring.head);
     ring.head = Some(head);
     ring.count += 1;
     ring.weight += u128::from(weight);
@@ -50,12 +50,11 @@ pub(crate) fn leave(ring: &mut Ring, token: Token, next: Option<Token>, restarts
 }
 
 /// Begins a ring one further on.
-pub(crate) fn turn<S, A: Allocator>(slab: &LinkedSlab<S, A>, ring: &mut Ring)
-    requires { IfSome ring.old.head (λ head. IsOccupied slab.now (number head)) }
-    ensures { IsTurned slab.now ring.old ring.new }
+pub(crate) fn turn<K, V, P, T, A: Allocator>(slots: &Slots<K, V, P, T, A>, ring: &mut Ring)
+    requires { IfSome ring.old.head (λ head. IsOccupied slots.now (number head)) }
+    ensures { IsTurned slots.now ring.old ring.new }
 {
     if let Some(head) = ring.head {
-        let (_, next) = unsafe { slab.get_unchecked(head) };
-        ring.head = Some(next);
+        ring.head = Some(slots.next(head));
     }
 }

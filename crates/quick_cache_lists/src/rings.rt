@@ -1,11 +1,11 @@
 //! The three rings, chosen by the list of an entry.
 ghost use Rattle.std.specs.Prelude.{◌≡◌};
+ghost use Rattle.quick_cache_lists.specs.Slots.{stand_by};
 ghost use Rattle.quick_cache_lists.specs.Frames.{CanEnter, EntersRing, CanLeaveRing, LeavesRingOf, CanReweigh, ReweighsRing};
 
-use crate::entry::Stand;
 use crate::ring::{Ring, join, leave};
-use quick_cache_model::Token;
-use quick_cache_slab::LinkedSlab;
+use quick_cache_model::{Queue, Token};
+use quick_cache_slots::{Slots, Stand};
 use std::alloc::Allocator;
 
 /// The rings of the hot items, of the cold ones, and of the ghosts.
@@ -39,22 +39,45 @@ impl Rings {
 
     /// Puts a token that is a ring of its own last in the ring of that list, if it is one.
     #[inline(always)]
-    pub(crate) fn enter<S, A: Allocator>(
+    pub(crate) fn enter<K, V, P, T, A: Allocator>(
         &mut self,
-        slab: &mut LinkedSlab<S, A>,
+        slots: &mut Slots<K, V, P, T, A>,
         token: Token,
         stand: Stand,
         weight: u64,
     )
-        requires { CanEnter slab.old self.old token weight stand }
-        ensures { EntersRing slab.old slab.new self.old self.new token weight stand }
+        requires { CanEnter slots.old self.old token weight stand }
+        ensures { EntersRing slots.old slots.new self.old self.new token weight stand }
     {
         match stand {
-            Stand::AmongHot => join(slab, &mut self.hot, token, weight),
-            Stand::AmongCold => join(slab, &mut self.cold, token, weight),
-            Stand::AmongGhosts => join(slab, &mut self.ghosts, token, weight),
+            Stand::AmongHot => join(slots, &mut self.hot, token, weight),
+            Stand::AmongCold => join(slots, &mut self.cold, token, weight),
+            Stand::AmongGhosts => join(slots, &mut self.ghosts, token, weight),
             Stand::AmongStill => (),
             Stand::AmongLoading => (),
+        }
+    }
+
+    /// Puts a token that is a ring of its own last in the ring of that queue, if its item weighs
+    /// something. It is `enter` with two rings to choose from.
+    #[inline(always)]
+    pub(crate) fn enter_item<K, V, P, T, A: Allocator>(
+        &mut self,
+        slots: &mut Slots<K, V, P, T, A>,
+        token: Token,
+        queue: Queue,
+        weight: u64,
+    )
+        requires { CanEnter slots.old self.old token weight (stand_by weight queue) }
+        ensures { EntersRing slots.old slots.new self.old self.new token weight
+            (stand_by weight queue) }
+    {
+        if weight == 0 {
+            return;
+        }
+        match queue {
+            Queue::Hot => join(slots, &mut self.hot, token, weight),
+            Queue::Cold => join(slots, &mut self.cold, token, weight),
         }
     }
 

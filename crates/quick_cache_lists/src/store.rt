@@ -7,36 +7,30 @@ ghost use Rattle.quick_cache_lists.specs.Frames.{IsPlaced, IsRemoved};
 ghost use Rattle.quick_cache_lists.specs.Slots.{weight_in, weight_at};
 ghost use Rattle.quick_cache_lists.specs.Sound.{AddsTokens, IsKeyed, room_of};
 
-use crate::entry::Slot;
-use crate::stored::Stored;
 use quick_cache_index::Index;
 use quick_cache_model::{Refusal, Token};
-use quick_cache_slab::LinkedSlab;
-use quick_cache_slab::linked_slab::IterFrom;
+use quick_cache_slots::{Slot, Slots, SlotsFrom};
 use std::alloc::Allocator;
 
 /// Puts an entry into a slot and its token into the index.
 #[inline(always)]
 pub(crate) fn place<K, V, P, T, A: Allocator>(
-    slab: &mut LinkedSlab<Stored<K, V, P, T>, A>,
+    slots: &mut Slots<K, V, P, T, A>,
     index: &mut Index<A>,
     slot: Slot<K, V, P, T>,
 ) -> Token
-    requires keyed { IsKeyed slab.old index.old }
-    requires room { 0 < room_of slab.old index.old }
+    requires keyed { IsKeyed slots.old index.old }
+    requires room { 0 < room_of slots.old index.old }
     requires light { weight_in slot.entry < 18446744073709551616 }
-    ensures token { number result ≡ next_token slab.old }
-    ensures placed { IsPlaced slab.old slab.new (number result) slot }
-    ensures keyed { IsKeyed slab.new index.new }
+    ensures token { number result ≡ next_token slots.old }
+    ensures placed { IsPlaced slots.old slots.new (number result) slot }
+    ensures keyed { IsKeyed slots.new index.new }
     ensures count { token_count index.new ≡ token_count index.old + 1 }
-    ensures room { room_of slab.new index.new + 1 ≡ room_of slab.old index.old }
+    ensures room { room_of slots.new index.new + 1 ≡ room_of slots.old index.old }
 {
-    slab.validate();
+    slots.validate();
     let hash = slot.hash;
-    let token = match slab.insert(Stored::new(slot)) {
-        Ok(token) => token,
-        Err(_) => unreachable!(),
-    };
+    let token = slots.insert_reserved(slot);
     index.insert_reserved(hash, token);
     token
 }
@@ -44,34 +38,26 @@ pub(crate) fn place<K, V, P, T, A: Allocator>(
 /// Takes an entry out of its slot and its token out of the index, and answers the token behind it.
 #[inline(always)]
 pub(crate) fn displace<K, V, P, T, A: Allocator>(
-    slab: &mut LinkedSlab<Stored<K, V, P, T>, A>,
+    slots: &mut Slots<K, V, P, T, A>,
     index: &mut Index<A>,
     token: Token,
 ) -> (Slot<K, V, P, T>, Option<Token>)
-    requires keyed { IsKeyed slab.old index.old }
-    requires occupied { IsOccupied slab.old (number token) }
-    ensures item { item_at slab.old (number token) ≡ Some result.0 }
-    ensures next { IsNextOf slab.old (number token) result.1 }
-    ensures removed { IsRemoved slab.old slab.new (number token) }
-    ensures keyed { IsKeyed slab.new index.new }
+    requires keyed { IsKeyed slots.old index.old }
+    requires occupied { IsOccupied slots.old (number token) }
+    ensures item { item_at slots.old (number token) ≡ Some result.0 }
+    ensures next { IsNextOf slots.old (number token) result.1 }
+    ensures removed { IsRemoved slots.old slots.new (number token) }
+    ensures keyed { IsKeyed slots.new index.new }
     ensures count { token_count index.new + 1 ≡ token_count index.old }
-    ensures room { room_of slab.new index.new ≡ room_of slab.old index.old + 1 }
+    ensures room { room_of slots.new index.new ≡ room_of slots.old index.old + 1 }
 {
-    match slab.remove(token) {
-        Some((stored, next)) => {
-            let slot = stored.into_slot();
-            index.remove(slot.hash, token);
-            (slot, next)
-        }
-        None => unreachable!(),
-    }
+    let (slot, next) = slots.remove(token);
+    index.remove(slot.hash, token);
+    (slot, next)
 }
 
 // Puts the token of each of these entries into an index that has none of them.
-fn key_all<K, V, P, T, A: Allocator>(
-    index: &mut Index<A>,
-    entries: IterFrom<'_, Stored<K, V, P, T>>,
-)
+fn key_all<K, V, P, T, A: Allocator>(index: &mut Index<A>, entries: SlotsFrom<'_, K, V, P, T>)
     requires room { length entries ≤ index.old.room }
     requires once { (token : ℕ) → times token (map (λ entry. entry.0) entries) ≤ 1 }
     requires apart { (token : ℕ) → HasToken index.old token
@@ -80,7 +66,7 @@ fn key_all<K, V, P, T, A: Allocator>(
     ensures room { index.new.room + length entries.entry ≡ index.old.room }
 {
     for (token, slot) in entries {
-        index.insert_reserved(slot.hash, token);
+        index.insert_reserved(slot.hash(), token);
     }
 }
 
@@ -89,12 +75,12 @@ fn key_all<K, V, P, T, A: Allocator>(
 /// It goes along the slots, so that their hashes are read one after the other. A refusal is for want
 /// of memory: it may keep memory that it got, and changes nothing else.
 pub(crate) fn rekey<K, V, P, T, A: Allocator>(
-    slab: &LinkedSlab<Stored<K, V, P, T>, A>,
+    slots: &Slots<K, V, P, T, A>,
     index: &mut Index<A>,
     additional: usize,
 ) -> Result<(), Refusal>
-    requires light { (token : ℕ) → weight_at (item_at slab.now token) < 18446744073709551616 }
-    ensures keyed { OnOk result (IsKeyed slab.now index.new) }
+    requires light { (token : ℕ) → weight_at (item_at slots.now token) < 18446744073709551616 }
+    ensures keyed { OnOk result (IsKeyed slots.now index.new) }
     ensures room { OnOk result (min (token_count index.new + additional) 4294967294
         ≤ token_count index.new + index.new.room) }
     ensures more { OnOk result (token_count index.old + index.old.room
@@ -103,9 +89,9 @@ pub(crate) fn rekey<K, V, P, T, A: Allocator>(
     ensures refused { OnErr result (index.new
         ≡ record index.old { allocated = index.new.allocated }) }
 {
-    slab.validate();
-    index.clear_for(slab.len().saturating_add(additional))?;
-    key_all(index, slab.iter_from(None));
+    slots.validate();
+    index.clear_for(slots.len().saturating_add(additional))?;
+    key_all(index, slots.iter_from(None));
     Ok(())
 }
 
@@ -113,12 +99,12 @@ pub(crate) fn rekey<K, V, P, T, A: Allocator>(
 ///
 /// A refusal is for want of memory: it may keep memory that it got, and changes nothing else.
 pub(crate) fn grow_index<K, V, P, T, A: Allocator>(
-    slab: &LinkedSlab<Stored<K, V, P, T>, A>,
+    slots: &Slots<K, V, P, T, A>,
     index: &mut Index<A>,
     additional: usize,
 ) -> Result<(), Refusal>
-    requires keyed { IsKeyed slab.now index.old }
-    ensures keyed { IsKeyed slab.now index.new }
+    requires keyed { IsKeyed slots.now index.old }
+    ensures keyed { IsKeyed slots.now index.new }
     ensures room { OnOk result (wanted_room index.old additional ≤ index.new.room) }
     ensures grows { index.old.room ≤ index.new.room }
 
@@ -130,5 +116,5 @@ pub(crate) fn grow_index<K, V, P, T, A: Allocator>(
     if index.has_room_for(additional) {
         return Ok(());
     }
-    rekey(slab, index, additional)
+    rekey(slots, index, additional)
 }

@@ -1,39 +1,37 @@
 //! Walks along a ring, from its head on, and over all items. A step along a ring is one look at a
 //! slot.
 ghost use Rattle.std.specs.Prelude.{◌≡◌, length, IfSome, Some};
-ghost use Rattle.std.specs.Iterator.{YieldsFirst, YieldsFirstBy, item_count, at_most, UpTo};
+ghost use Rattle.std.specs.Iterator.{YieldsFirst, item_count, at_most, UpTo};
 ghost use Rattle.std.specs.Iterator.SizeHint.{IsWithinCount};
 
-use crate::refs::ItemRef;
-use crate::stored::Stored;
 use quick_cache_model::Token;
-use quick_cache_slab::LinkedSlab;
-use quick_cache_slab::linked_slab::Iter;
+use quick_cache_slots::{ItemRef, SlotIter, SlotRef, Slots};
 use std::alloc::{Allocator, Global};
 use std::iter::FusedIterator;
 use std::marker::Model;
 
 /// The slots of a ring that are left.
 #[derive(Drop)]
-pub(crate) struct Walk<'a, S, A: Allocator = Global> {
-    pub(crate) slab: &'a LinkedSlab<S, A>,
+pub(crate) struct Walk<'a, K, V, P, T, A: Allocator = Global> {
+    pub(crate) slots: &'a Slots<K, V, P, T, A>,
     pub(crate) at: Option<Token>,
     pub(crate) left: usize,
 }
 
-impl<'a, S, A: Allocator> Model for Walk<'a, S, A> {
+impl<'a, K, V, P, T, A: Allocator> Model for Walk<'a, K, V, P, T, A> {
     ghost use Rattle.std.specs.Prelude.{◌≡◌, List, length};
+    ghost use Rattle.quick_cache_slots.specs.declared.entry.Slot.{Slot};
 
-    ghost Value = { List S };
+    ghost Value = { List (Slot K V P T) };
 
     ghost use Rattle.quick_cache_lists.specs.Walks.{walk_of};
 
-    ghost view = { λ w. walk_of w.slab.now w.at w.left };
+    ghost view = { λ w. walk_of w.slots.now w.at w.left };
 
-    ghost invariant = { λ w. length (walk_of w.slab.now w.at w.left) ≡ w.left };
+    ghost invariant = { λ w. length (walk_of w.slots.now w.at w.left) ≡ w.left };
 }
 
-impl<'a, S, A: Allocator> Walk<'a, S, A> {
+impl<'a, K, V, P, T, A: Allocator> Walk<'a, K, V, P, T, A> {
     /// How many slots are left.
     pub(crate) fn left(&self) -> usize
         ensures { result ≡ length self.now }
@@ -42,23 +40,22 @@ impl<'a, S, A: Allocator> Walk<'a, S, A> {
     }
 }
 
-impl<'a, S, A: Allocator> Iterator for Walk<'a, S, A> {
-    type Item = &'a S;
+impl<'a, K, V, P, T, A: Allocator> Iterator for Walk<'a, K, V, P, T, A> {
+    type Item = SlotRef<'a, K, V, P, T>;
 
-    ghost next_gives = { YieldsFirstBy (λ slot. slot.now) (λ rest. rest) };
+    ghost next_gives = { YieldsFirst (λ rest. rest) };
 
     ghost remaining = { item_count (λ rest. rest) };
 
-    fn next(&mut self) -> Option<&'a S> {
+    fn next(&mut self) -> Option<SlotRef<'a, K, V, P, T>> {
         if self.left == 0 {
             return None;
         }
         let token = self.at?;
-        self.slab.validate();
-        let (slot, next) = unsafe { self.slab.get_unchecked(token) };
-        self.at = Some(next);
+        self.slots.validate();
+        self.at = Some(self.slots.next(token));
         self.left -= 1;
-        Some(slot)
+        Some(self.slots.slot(token))
     }
 
     fn size_hint(&self) -> (usize, Option<usize>)
@@ -74,7 +71,7 @@ impl<'a, S, A: Allocator> Iterator for Walk<'a, S, A> {
 /// The items of a ring; the next to be visited comes first.
 #[derive(Drop)]
 pub struct RingIter<'a, K, V, P, T, A: Allocator = Global> {
-    pub(crate) walk: Walk<'a, Stored<K, V, P, T>, A>,
+    pub(crate) walk: Walk<'a, K, V, P, T, A>,
 }
 
 impl<'a, K, V, P, T, A: Allocator> Model for RingIter<'a, K, V, P, T, A> {
@@ -129,7 +126,7 @@ impl<'a, K, V, P, T, A: Allocator> FusedIterator for RingIter<'a, K, V, P, T, A>
 /// The hashes of the ghosts, the oldest first.
 #[derive(Drop)]
 pub struct GhostIter<'a, K, V, P, T, A: Allocator = Global> {
-    pub(crate) walk: Walk<'a, Stored<K, V, P, T>, A>,
+    pub(crate) walk: Walk<'a, K, V, P, T, A>,
 }
 
 impl<'a, K, V, P, T, A: Allocator> Model for GhostIter<'a, K, V, P, T, A> {
@@ -151,7 +148,7 @@ impl<'a, K, V, P, T, A: Allocator> Iterator for GhostIter<'a, K, V, P, T, A> {
 
     fn next(&mut self) -> Option<u64> {
         let slot = self.walk.next()?;
-        Some(slot.hash)
+        Some(slot.hash())
     }
 
     fn size_hint(&self) -> (usize, Option<usize>)
@@ -176,7 +173,7 @@ impl<'a, K, V, P, T, A: Allocator> FusedIterator for GhostIter<'a, K, V, P, T, A
 /// item.
 #[derive(Drop)]
 pub struct ItemIter<'a, K, V, P, T> {
-    pub(crate) slots: Iter<'a, Stored<K, V, P, T>>,
+    pub(crate) slots: SlotIter<'a, K, V, P, T>,
     // How many items are left.
     pub(crate) left: usize,
 }

@@ -16,14 +16,24 @@ pub struct Placeholder {
     ticket: u64,
 }
 
+/// The ticket of a placeholder: all that its slot keeps of it.
+#[derive(Drop)]
+pub struct Ticket {
+    number: u64,
+}
+
 impl<K: Eq + Hash> SharedPlaceholder<K> for Placeholder {
     type Touch = SharedTouches;
+
+    type Kept = Ticket;
 
     ghost hash_of = { λ placeholder. placeholder.hash };
 
     ghost idx_of = { λ placeholder. non_zero_u32_get placeholder.idx };
 
-    ghost ticket_of = { λ placeholder. placeholder.ticket };
+    ghost own_ticket = { λ placeholder. placeholder.ticket };
+
+    ghost ticket_of = { λ kept. kept.number };
 
     fn new<Q: ToKey<K>>(hash: u64, idx: Token, ticket: u64, _query: &Q) -> Result<Self, Refusal>
         // It holds no key, so it takes no memory.
@@ -52,6 +62,30 @@ impl<K: Eq + Hash> SharedPlaceholder<K> for Placeholder {
             hash: self.hash,
             idx: self.idx,
             ticket: self.ticket,
+        }
+    }
+
+    fn keep(&self) -> Ticket {
+        Ticket {
+            number: self.ticket,
+        }
+    }
+
+    fn keeps(&self, kept: &Ticket) -> bool {
+        self.ticket == kept.number
+    }
+
+    fn met(kept: &Ticket, hash: u64, idx: Token) -> Self {
+        Placeholder {
+            hash,
+            idx,
+            ticket: kept.number,
+        }
+    }
+
+    fn keep_again(kept: &Ticket) -> Ticket {
+        Ticket {
+            number: kept.number,
         }
     }
 }

@@ -10,9 +10,9 @@ use Rattle.quick_cache_model.proofs.EachElement.{all-without}
 use Rattle.quick_cache_model.proofs.Valid.Edits.{without-valid}
 use Rattle.quick_cache_lists.specs.Lists.{HeldItem, FindsItem, IsEntry, AreApart, Finds, items_at, without_entry}
 use Rattle.quick_cache_lists.specs.Views.{items_of}
-use Rattle.quick_cache_lists.specs.declared.entry.Entry.{Entry}
-use Rattle.quick_cache_lists.specs.declared.entry.Awaited.{Awaited}
-use Rattle.quick_cache_lists.specs.declared.entry.Entry.TheVariants.{Item as item_variant, Loading as loading_variant, Ghost as ghost_variant}
+use Rattle.quick_cache_slots.specs.declared.entry.Entry.{Entry}
+use Rattle.quick_cache_slots.specs.declared.entry.Awaited.{Awaited}
+use Rattle.quick_cache_slots.specs.declared.entry.Entry.TheVariants.{Item as item_variant, Loading as loading_variant, Ghost as ghost_variant}
 use Rattle.quick_cache_lists.specs.declared.found.Found.{Found}
 use Rattle.quick_cache_lists.specs.declared.found.Found.TheVariants.{Item as found_item, Loading as found_loading, Ghost as found_ghost, Nothing as found_nothing}
 use Rattle.quick_cache_lists.proofs.CallerLemmas.{items_of-around, without-hot, without-cold, without-still}
@@ -22,8 +22,8 @@ use Rattle.quick_cache_policy.specs.Finding.{AreUnder}
 use Rattle.quick_cache_policy.specs.declared.contents.Contents.{Contents}
 use Rattle.quick_cache_policy.proofs.FindLemmas.{HasNoKey-state, HasNothing-state, IsItemAt-stands, IsLoadingAt-stands, HasNoItem-loading}
 
-module _ {K V P A T : Type 0} (ticket_of : P → ℕ) (stands_for : K → Bool) (hash : ℕ)
-    (old : Contents K V P A T) where
+module _ {K V P W A T : Type 0} (ticket_of : P → ℕ) (stands_for : K → Bool) (hash : ℕ)
+    (old : Contents K V W A T P) where
   -- The item of that token was found at a place of the state, and this is the state without it.
   -- Keys that stood under their hashes do so still.
   pub record LeavesItem (token : ℕ) (item : Item K V) : Type 0 where
@@ -132,8 +132,8 @@ module _ {K V P A T : Type 0} (ticket_of : P → ℕ) (stands_for : K → Bool) 
     FindsItem-ghost taken_hash entry is ghost_is =
         not-ghost old.lists apart token taken_hash entry is held finds.stands refl ghost_is
 
-module _ {K V P A T : Type 0} (ticket_of : P → ℕ) (equal : K → K → Bool) (key : K) (hash : ℕ)
-    (old : Contents K V P A T) where
+module _ {K V P W A T : Type 0} (ticket_of : P → ℕ) (equal : K → K → Bool) (key : K) (hash : ℕ)
+    (old : Contents K V W A T P) where
   -- where no item was found, there is none under the key
   pub Finds-no_item : IsValid equal (state_of ticket_of old)
       → AreUnder (equal key) hash old.lists

@@ -171,7 +171,7 @@ WorksWithin-none n work advances visits = record {
     zero-le m = omega arith
 
 -- each entry takes a slot
-pub entry_count-taken : {K V P A T : Type 0} (ticket_of : P → ℕ) (contents : Contents K V P A T)
+pub entry_count-taken : {K V P W A T : Type 0} (ticket_of : P → ℕ) (contents : Contents K V W A T P)
     → entry_count contents.lists ≡ slots_taken (state_of ticket_of contents)
 entry_count-taken {K = K} {V = V} {P = P} ticket_of contents = omega (
   arith,
@@ -182,10 +182,10 @@ entry_count-taken {K = K} {V = V} {P = P} ticket_of contents = omega (
   length-map contents.lists.ghosts (λ (shade : HeldGhost). shade.hash),
 )
 
-module _ {K V P A T S : Type 0} (steady : Type 0) (hooks : Hooks K V S) (rules : Rules K V)
-    (equal : K → K → Bool) (ticket_of : P → ℕ) (strategy : Strategy) (old ready : Contents K V P A T)
-    (first last : S) (key : K) (value : V) (found : Found) (answer : Option (K × V))
-    (new : CacheState K V) where
+module _ {K V P W A T S : Type 0} (steady : Type 0) (hooks : Hooks K V S) (rules : Rules K V)
+    (equal : K → K → Bool) (ticket_of : P → ℕ) (strategy : Strategy)
+    (old ready : Contents K V W A T P) (first last : S) (key : K) (value : V) (found : Found)
+    (answer : Option (K × V)) (new : CacheState K V) where
   -- a pair was written after room was made where it needed some: the state does not look at room
   pub Wrote-provided : Finds (equal key) (rules.hash key) old.lists found
       → Provides found strategy (entry_count old.lists) ready.lists.room None

@@ -14,7 +14,7 @@ use Rattle.quick_cache_policy.specs.Contents.{IsSound, state_of}
 use Rattle.quick_cache_policy.proofs.GhostLemmas.{with_cut}
 use Rattle.quick_cache_policy.proofs.VictimLemmas.{newest-hashes}
 
-module _ {K V P A T : Type 0} (ticket_of : P → ℕ) (old : Contents K V P A T)
+module _ {K V P W A T : Type 0} (ticket_of : P → ℕ) (old : Contents K V W A T P)
     (capacity hot_target ghost_limit : ℕ)
     (target_is : hot_target ≡ rescaled_target old.capacity capacity old.hot_target)
     (limit_is : ghost_limit ≡ rescaled_limit old.capacity capacity old.ghost_limit)
@@ -22,7 +22,7 @@ module _ {K V P A T : Type 0} (ticket_of : P → ℕ) (old : Contents K V P A T)
     (rest : hashes_of ghosts
     ≡ drop (length old.lists.ghosts - ghost_limit) (hashes_of old.lists.ghosts)) where
   -- the contents with other sizes and other ghosts
-  abbrev pub refitted : Contents K V P A T
+  abbrev pub refitted : Contents K V W A T P
   refitted = record old {
     lists = record old.lists { ghosts = ghosts; next = next; room = room };
     capacity = capacity;

@@ -63,8 +63,8 @@ module _ {K V : Type 0} where
   TakesTouches-key may_count old new takes =
       ap (λ (i : Item K V). i.key) takes.2 ∙ with_touches-key default_mark_cut takes.0 old
 
-module _ {K V P A T : Type 0} (ticket_of : P → ℕ) (equal : K → K → Bool) (hash : K → ℕ)
-    (contents : Contents K V P A T) (sound : IsSound ticket_of equal hash contents) where
+module _ {K V P W A T : Type 0} (ticket_of : P → ℕ) (equal : K → K → Bool) (hash : K → ℕ)
+    (contents : Contents K V W A T P) (sound : IsSound ticket_of equal hash contents) where
   -- with another cold ring, whose items are in their place
   pub IsSound-cold : (cold : List (HeldItem K V))
       → ((test : K → Bool) → keys test (items_of cold)

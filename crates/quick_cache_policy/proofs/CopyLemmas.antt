@@ -14,7 +14,7 @@ use Rattle.quick_cache_lists.specs.Lists.{HeldItem, HeldLoading, Lists}
 use Rattle.quick_cache_lists.specs.Views.{hashes_of, items_of, loading_entries}
 use Rattle.quick_cache_policy.specs.declared.contents.Contents.{Contents}
 use Rattle.quick_cache_policy.specs.Contents.{IsSound, state_of}
-use Rattle.quick_cache_policy.specs.Copies.{ClonesAreEqual, IsCopyOf, IsLoadingCopy, IsShare}
+use Rattle.quick_cache_policy.specs.Copies.{ClonesAreEqual, IsCopyOf, IsLoadingCopy, IsKeptAgain}
 
 module _ {K V : Type 0} (clones_key : K → K → Type 0) (clones_value : V → V → Type 0) where
   -- a copy stands in the ring that its item stands in
@@ -142,12 +142,12 @@ module _ {K V : Type 0} (clones_key : K → K → Type 0) (clones_value : V → 
             in_still = still-copied state.mark_cut state.still copy.still is.still valid.in_still;
           }))
 
-  module _ {P : Type 0} (hash_of : K → ℕ) (idx_of ticket_of : P → ℕ) where
+  module _ {P : Type 0} (hash_of : K → ℕ) (ticket_of : P → ℕ) where
     abbrev Held : HeldItem K V → HeldItem K V → Type 0
-    Held = IsHeldCopy clones_key clones_value hash_of (IsShare idx_of ticket_of)
+    Held = IsHeldCopy clones_key clones_value hash_of (IsKeptAgain ticket_of)
 
     abbrev Waiting : HeldLoading K P → HeldLoading K P → Type 0
-    Waiting = IsWaitingCopy {V = V} clones_key clones_value hash_of (IsShare idx_of ticket_of)
+    Waiting = IsWaitingCopy {V = V} clones_key clones_value hash_of (IsKeptAgain ticket_of)
 
     -- copies under tokens are copies without them
     items_of-copied : (xs ys : List (HeldItem K V)) → AllZip Held xs ys
@@ -169,7 +169,7 @@ module _ {K V : Type 0} (clones_key : K → K → Type 0) (clones_value : V → 
         same = λ i. record {
           key = y.key;
           queue = copies.0.queue i;
-          ticket = copies.0.placeholder.ticket i;
+          ticket = copies.0.placeholder i;
         };
       },
       loading_entries-copied xs ys copies.1,
@@ -190,8 +190,8 @@ module _ {K V : Type 0} (clones_key : K → K → Type 0) (clones_value : V → 
     waiting-copied (x ∷ xs) [] copies = absurd copies
     waiting-copied (x ∷ xs) (y ∷ ys) copies = (copies.0.hash, waiting-copied xs ys copies.1)
 
-    module _ {A T : Type 0} (contents : Contents K V P A T) (copy : Lists K V P)
-        (are : AreCopies clones_key clones_value hash_of (IsShare idx_of ticket_of)
+    module _ {W A T : Type 0} (contents : Contents K V W A T P) (copy : Lists K V P)
+        (are : AreCopies clones_key clones_value hash_of (IsKeptAgain ticket_of)
         contents.lists copy) where
       -- the state of copied lists is a copy of the state
       pub state_of-copied : IsCopyOf clones_key clones_value (state_of ticket_of contents)

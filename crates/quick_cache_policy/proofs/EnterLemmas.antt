@@ -16,7 +16,7 @@ use Rattle.quick_cache_policy.specs.Contents.{AreHashed, state_of}
 
 -- ---- the state
 
-module _ {K V P A T : Type 0} (ticket_of : P → ℕ) (contents : Contents K V P A T) where
+module _ {K V P W A T : Type 0} (ticket_of : P → ℕ) (contents : Contents K V W A T P) where
   -- the state with these lists
   abbrev pub state_with : Lists K V P → CacheState K V
   state_with lists = state_of ticket_of (record contents { lists = lists })

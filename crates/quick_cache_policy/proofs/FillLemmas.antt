@@ -16,9 +16,9 @@ use Rattle.quick_cache_model.proofs.EachElement.{all-middle}
 use Rattle.quick_cache_model.proofs.OrderLaws.{UpToOrder-map, UpToOrder-exact}
 use Rattle.quick_cache_model.proofs.Valid.Edits.{entered-valid, keys_by-unloaded, keys_by-taken}
 use Rattle.quick_cache_model.proofs.Valid.Orders.{SameButOrder-valid}
-use Rattle.quick_cache_lists.specs.declared.entry.Awaited.{Awaited}
-use Rattle.quick_cache_lists.specs.declared.entry.Entry.{Entry}
-use Rattle.quick_cache_lists.specs.declared.entry.Entry.TheVariants.{Loading as loading_variant}
+use Rattle.quick_cache_slots.specs.declared.entry.Awaited.{Awaited}
+use Rattle.quick_cache_slots.specs.declared.entry.Entry.{Entry}
+use Rattle.quick_cache_slots.specs.declared.entry.Entry.TheVariants.{Loading as loading_variant}
 use Rattle.quick_cache_lists.specs.Lists.{HeldItem, HeldLoading, Lists, AreApart, StandsIn, IsEntry, PutsItem, entered, without_entry}
 use Rattle.quick_cache_lists.specs.Fills.{FillsToken, filled}
 use Rattle.quick_cache_lists.specs.Placeholders.{HasNoPlaceholder}
@@ -96,7 +96,7 @@ other-ticket : (first second : ℕ) → (first == second) ≡ false → second �
 other-ticket first second isnt same = eqb-false first second isnt (sym same)
 
 -- where no placeholder has the ticket, none has it in the state
-pub HasNoTicket-state : {K V P A X : Type 0} (ticket_of : P → ℕ) (contents : Contents K V P A X)
+pub HasNoTicket-state : {K V P W A X : Type 0} (ticket_of : P → ℕ) (contents : Contents K V W A X P)
     (ticket : ℕ) → HasNoPlaceholder (λ other. ticket == ticket_of other) contents.lists
     → HasNoTicket ticket (state_of ticket_of contents)
 HasNoTicket-state {K} {V} {P} ticket_of contents ticket none =
@@ -116,7 +116,7 @@ waiting-under {K} {V} {P} hashed lists waiting stands are =
 
 -- ---- a placeholder that leaves
 
-module _ {K V P A X : Type 0} (ticket_of : P → ℕ) (contents : Contents K V P A X)
+module _ {K V P W A X : Type 0} (ticket_of : P → ℕ) (contents : Contents K V W A X P)
     (apart : AreApart contents.lists) (token : ℕ) (waiting : HeldLoading K P)
     (stands : StandsIn contents.lists.loading waiting) (named : waiting.token ≡ token) where
   -- the state without it
@@ -187,7 +187,7 @@ module _ {K V P A X : Type 0} (ticket_of : P → ℕ) (contents : Contents K V P
 
 -- ---- a pair that is put in
 
-module _ {K V P A X : Type 0} (ticket_of : P → ℕ) (contents : Contents K V P A X)
+module _ {K V P W A X : Type 0} (ticket_of : P → ℕ) (contents : Contents K V W A X P)
     (token hash : ℕ) (item : Item K V) (new : Lists K V P)
     (puts : PutsItem contents.lists token hash item new) where
   held : HeldItem K V
@@ -250,13 +250,13 @@ module _ {K V P A X : Type 0} (ticket_of : P → ℕ) (contents : Contents K V P
 
 -- ---- a pair that is put in where the placeholder stands
 
-module _ {K V P A X : Type 0} (ticket_of : P → ℕ) (contents : Contents K V P A X)
+module _ {K V P W A X : Type 0} (ticket_of : P → ℕ) (contents : Contents K V W A X P)
     (apart : AreApart contents.lists) (token : ℕ) (waiting : HeldLoading K P)
     (stands : StandsIn contents.lists.loading waiting) (named : waiting.token ≡ token)
     (queue : Queue) (mark weight : ℕ) (value : V) (new : Lists K V P)
     (fills : FillsToken contents.lists token (filled queue mark weight value) new) where
   -- the cache without the placeholder
-  abbrev pub without : Contents K V P A X
+  abbrev pub without : Contents K V W A X P
   without = record contents { lists = without_entry false token contents.lists }
 
   filled-puts : PutsItem (without_entry false token contents.lists) token waiting.hash

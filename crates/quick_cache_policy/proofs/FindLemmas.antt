@@ -115,8 +115,8 @@ module _ {K V P : Type 0} (stands_for : K → Bool) (hash : ℕ) (lists : Lists 
   Finds-under under (found_ghost token) finds = finds
   Finds-under under found_nothing finds = finds
 
-module _ {K V P A T : Type 0} (ticket_of : P → ℕ) (stands_for : K → Bool) (hash : ℕ)
-    (contents : Contents K V P A T) where
+module _ {K V P W A T : Type 0} (ticket_of : P → ℕ) (stands_for : K → Bool) (hash : ℕ)
+    (contents : Contents K V W A T P) where
   items-fail : (entries : List (HeldItem K V))
       → AllByRecursion (λ held. stands_for held.item.key ≡ true → held.hash ≡ hash) entries
       → AllByRecursion (λ held. held.hash ≡ hash → stands_for held.item.key ≡ false) entries
@@ -271,8 +271,8 @@ HasNoItem-loading stands_for state before entry after once at =
       still = none-from_keys stands_for state.still (omega (arith, once, all, parts, here));
     }
 
-module _ {K V P A T : Type 0} (ticket_of : P → ℕ) (stands_for : K → Bool) (hash : ℕ)
-    (contents : Contents K V P A T) where
+module _ {K V P W A T : Type 0} (ticket_of : P → ℕ) (stands_for : K → Bool) (hash : ℕ)
+    (contents : Contents K V W A T P) where
   -- an item of a place whose key passes is no such that all fail
   passes-not : (xs before : List (HeldItem K V)) (held : HeldItem K V)
       (after : List (HeldItem K V)) → xs ≡ before ++ held ∷ after

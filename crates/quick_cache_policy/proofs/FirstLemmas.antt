@@ -29,8 +29,8 @@ TakesTouches-counts {K = K} {V = V} cut may_count old new takes =
     go true = refl
     go false = refl
 
-module _ {K V P A T : Type 0} {may_count : ℕ → Type 0} {old mid : Contents K V P A T} {token : ℕ}
-    (apart : AreApart old.lists)
+module _ {K V P W A T : Type 0} {may_count : ℕ → Type 0} {old mid : Contents K V W A T P}
+    {token : ℕ} (apart : AreApart old.lists)
     (first : (held : HeldItem K V) × (rest : List (HeldItem K V)) × (old.lists.cold ≡ held ∷ rest)
     × (held.token ≡ token))
     (takes : HasTakenTouches may_count token old mid) where
@@ -57,7 +57,7 @@ module _ {K V P A T : Type 0} {may_count : ℕ → Type 0} {old mid : Contents K
   pub first-touched_same : mid ≡ record old { lists = record old.lists { cold = mid.lists.cold } }
   first-touched_same = first-touched
       ∙ ap (λ (xs : List (HeldItem K V)). record old { lists = record old.lists { cold = xs } })
-      (sym (ap (λ (c : Contents K V P A T). c.lists.cold) first-touched))
+      (sym (ap (λ (c : Contents K V W A T P). c.lists.cold) first-touched))
 
   -- it is sound
   pub first-touched_sound : (ticket_of : P → ℕ) (equal : K → K → Bool) (hash : K → ℕ)
@@ -72,7 +72,7 @@ module _ {K V P A T : Type 0} {may_count : ℕ → Type 0} {old mid : Contents K
       → item ≡ takes.touched
   first-touched_item apart' item is =
       IsItemOf-first_cold mid.lists apart' (record first.0 { item = takes.touched }) first.1 item
-      (ap (λ (c : Contents K V P A T). c.lists.cold) first-touched)
+      (ap (λ (c : Contents K V W A T P). c.lists.cold) first-touched)
       (subst (λ n. IsItemOf mid.lists n item) (sym first.3) is)
 
   -- it was looked at, and this was found
@@ -86,7 +86,7 @@ module _ {K V P A T : Type 0} {may_count : ℕ → Type 0} {old mid : Contents K
     split = ap items_of first.2;
     takes = took;
     finds = finds;
-    looked = ap (λ (c : Contents K V P A T). items_of c.lists.cold) first-touched;
+    looked = ap (λ (c : Contents K V W A T P). items_of c.lists.cold) first-touched;
   }
 
   -- an item still has the token
@@ -98,7 +98,7 @@ module _ {K V P A T : Type 0} {may_count : ℕ → Type 0} {old mid : Contents K
       stands = record {
         before = [];
         after = first.1;
-        split = ap (λ (c : Contents K V P A T). c.lists.cold) first-touched;
+        split = ap (λ (c : Contents K V W A T P). c.lists.cold) first-touched;
       };
     },
     first.3,

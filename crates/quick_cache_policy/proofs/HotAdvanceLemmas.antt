@@ -35,8 +35,8 @@ PaysFor-advance extra old_hot cold new_hot new_cold visits old new advanced visi
       visited = omega (arith, within);
     }
 
-module _ {K V P A T S : Type 0} (ticket_of : P → ℕ) (steady : Type 0) (rules : Rules K V)
-    (hooks : Hooks K V S) (old now : Contents K V P A T) (advances : ℕ) (met : Bool)
+module _ {K V P W A T S : Type 0} (ticket_of : P → ℕ) (steady : Type 0) (rules : Rules K V)
+    (hooks : Hooks K V S) (old now : Contents K V W A T P) (advances : ℕ) (met : Bool)
     (seeks : VisitsHot (SeekEnds steady rules.pinned rules.may_count met)
     (record old { advances = advances }) now)
     (same : now ≡ record old {
@@ -47,7 +47,7 @@ module _ {K V P A T S : Type 0} (ticket_of : P → ℕ) (steady : Type 0) (rules
   -- the state with the ring that the visits left
   state_of-visited : state_of ticket_of now
       ≡ record (state_of ticket_of old) { hot = items_of now.lists.hot }
-  state_of-visited = ap (λ (c : Contents K V P A T). state_of ticket_of c) same
+  state_of-visited = ap (λ (c : Contents K V W A T P). state_of ticket_of c) same
 
   -- where there was no victim, the visits are the advance
   pub AdvancesHot-gives_up : met ≡ false → (first : S)
@@ -71,7 +71,7 @@ module _ {K V P A T S : Type 0} (ticket_of : P → ℕ) (steady : Type 0) (rules
       }
 
   -- where there was one, it is the first item and is evicted
-  pub AdvancesHot-evicts : met ≡ true → (new : Contents K V P A T) (first last : S)
+  pub AdvancesHot-evicts : met ≡ true → (new : Contents K V W A T P) (first last : S)
       → Calls hooks (λ calls. FirstIsEvicted rules Hot (state_of ticket_of now) calls
       (state_of ticket_of new) × AreEvictions calls) first last
       → Calls hooks (Evicting steady (AdvancesHot rules (state_of ticket_of old) true)

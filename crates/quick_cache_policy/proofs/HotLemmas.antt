@@ -4,7 +4,7 @@ use Rattle.std.proofs.Common.{refl, sym, ap, ap₂, subst, ◌∙◌, arith, if�
 use Rattle.quick_cache_model.specs.CacheState.{Item, InHot, default_mark_cut}
 use Rattle.quick_cache_model.specs.Eviction.{lowered}
 use Rattle.quick_cache_model.specs.Touches.{counted_up}
-use Rattle.quick_cache_lists.specs.Lists.{HeldItem, Lists, HasItemToken, IsItemOf, AreApart, with_change, with_counts}
+use Rattle.quick_cache_lists.specs.Lists.{HeldItem, Lists, HasItemToken, IsItemOf, AreApart, with_change, with_counts, with_mark}
 use Rattle.quick_cache_lists.proofs.CallerLemmas.{change-hot}
 use Rattle.quick_cache_policy.specs.declared.contents.Contents.{Contents}
 use Rattle.quick_cache_policy.specs.declared.hot.Visit.{Visit}
@@ -30,10 +30,10 @@ module _ {K V P : Type 0} (lists : Lists K V P) (apart : AreApart lists) where
       HasItem-one lists apart (record { token = held.token; hash = is.0; item = item }) held is.1
       (record { place = InHot; stands = record { before = []; after = rest; split = split } }) refl
 
-module _ {K V P A T : Type 0} (takes_touches : Bool) (may_count : ℕ → Type 0) where
+module _ {K V P W A T : Type 0} (takes_touches : Bool) (may_count : ℕ → Type 0) where
   -- the first item of the hot ring took the touches that it was to take
   pub record FirstTakes (held : HeldItem K V) (rest : List (HeldItem K V))
-      (old new : Contents K V P A T) : Type 0 where
+      (old new : Contents K V W A T P) : Type 0 where
     pub item : Item K V
     pub takes : MayTake takes_touches default_mark_cut may_count held.item item
     pub same : new ≡ record old {
@@ -54,11 +54,11 @@ module _ {K V : Type 0} where
       go false mark reads e =
           subst (λ (z : Item K V). with_counts z.mark z.reads x ≡ z) (sym e) refl
 
-module _ {K V P A T : Type 0} (may_count : ℕ → Type 0) (held : HeldItem K V)
-    (rest : List (HeldItem K V)) (old : Contents K V P A T) (stands : old.lists.hot ≡ held ∷ rest)
+module _ {K V P W A T : Type 0} (may_count : ℕ → Type 0) (held : HeldItem K V)
+    (rest : List (HeldItem K V)) (old : Contents K V W A T P) (stands : old.lists.hot ≡ held ∷ rest)
   where
     -- its touches are those of its token
-    FirstTakes-true : (new : Contents K V P A T) → AreApart old.lists
+    FirstTakes-true : (new : Contents K V W A T P) → AreApart old.lists
         → HasTakenTouches may_count held.token old new → FirstTakes true may_count held rest old new
     FirstTakes-true new apart taken =
         let is = IsItemOf-first_hot old.lists apart held rest taken.item stands taken.is_of in
@@ -79,7 +79,7 @@ module _ {K V P A T : Type 0} (may_count : ℕ → Type 0) (held : HeldItem K V)
         }
 
     -- where it was to take none nothing changed
-    FirstTakes-false : (new : Contents K V P A T) → new ≡ old
+    FirstTakes-false : (new : Contents K V W A T P) → new ≡ old
         → FirstTakes false may_count held rest old new
     FirstTakes-false new same = record {
       item = held.item;
@@ -88,7 +88,7 @@ module _ {K V P A T : Type 0} (may_count : ℕ → Type 0) (held : HeldItem K V)
     }
 
     -- where it was to take touches, those of its token were taken
-    pub FirstTakes-taken : (takes_touches : Bool) (token : ℕ) (new taken : Contents K V P A T)
+    pub FirstTakes-taken : (takes_touches : Bool) (token : ℕ) (new taken : Contents K V W A T P)
         → takes_touches ≡ true → held.token ≡ token → AreApart old.lists
         → HasTakenTouches may_count token old taken → new ≡ taken
         → FirstTakes takes_touches may_count held rest old new
@@ -96,18 +96,18 @@ module _ {K V P A T : Type 0} (may_count : ℕ → Type 0) (held : HeldItem K V)
         subst (λ b. FirstTakes b may_count held rest old new) (sym is_to)
         (FirstTakes-true new apart
         (subst (λ n. HasTakenTouches may_count n old new) (sym is)
-        (subst (λ (c : Contents K V P A T). HasTakenTouches may_count token old c) (sym same)
+        (subst (λ (c : Contents K V W A T P). HasTakenTouches may_count token old c) (sym same)
         touched)))
 
     -- where it was to take none
-    pub FirstTakes-none : (takes_touches : Bool) (new : Contents K V P A T)
+    pub FirstTakes-none : (takes_touches : Bool) (new : Contents K V W A T P)
         → takes_touches ≡ false → new ≡ old → FirstTakes takes_touches may_count held rest old new
     FirstTakes-none takes_touches new is_to same =
         subst (λ b. FirstTakes b may_count held rest old new) (sym is_to)
         (FirstTakes-false new same)
 
-module _ {K V P A T : Type 0} (takes_touches : Bool) (may_count : ℕ → Type 0)
-    (held : HeldItem K V) (rest : List (HeldItem K V)) (old mid : Contents K V P A T) where
+module _ {K V P W A T : Type 0} (takes_touches : Bool) (may_count : ℕ → Type 0)
+    (held : HeldItem K V) (rest : List (HeldItem K V)) (old mid : Contents K V W A T P) where
   -- then the token has an item
   pub FirstTakes-has : (token : ℕ) → held.token ≡ token
       → FirstTakes takes_touches may_count held rest old mid → HasItemToken mid.lists token
@@ -118,15 +118,15 @@ module _ {K V P A T : Type 0} (takes_touches : Bool) (may_count : ℕ → Type 0
       stands = record {
         before = [];
         after = rest;
-        split = ap (λ (c : Contents K V P A T). c.lists.hot) first.same;
+        split = ap (λ (c : Contents K V W A T P). c.lists.hot) first.same;
       };
     },
     is,
   )
 
-module _ {K V P A T : Type 0} (steady : Type 0) (pinned : K → V → Bool) (takes_touches : Bool)
+module _ {K V P W A T : Type 0} (steady : Type 0) (pinned : K → V → Bool) (takes_touches : Bool)
     (may_count : ℕ → Type 0) (held : HeldItem K V) (rest : List (HeldItem K V))
-    (old mid new : Contents K V P A T) (met : Visit) where
+    (old mid new : Contents K V W A T P) (met : Visit) where
   -- and a visit to it was a visit to the first item
   pub VisitsFirst-visited : (token : ℕ) → held.token ≡ token → old.lists.hot ≡ held ∷ rest
       → FirstTakes takes_touches may_count held rest old mid → AreApart mid.lists
@@ -136,11 +136,11 @@ module _ {K V P A T : Type 0} (steady : Type 0) (pinned : K → V → Bool) (tak
       let visited = subst (λ n. IsVisited steady pinned n mid met new) (sym named) visit in
       let made : HeldItem K V = record held { item = first.item } in
       let here : mid.lists.hot ≡ made ∷ rest =
-      ap (λ (c : Contents K V P A T). c.lists.hot) first.same
+      ap (λ (c : Contents K V W A T P). c.lists.hot) first.same
       in
       let is = IsItemOf-first_hot mid.lists apart made rest visited.item here visited.is_of in
       let change = change-hot mid.lists apart
-      (with_counts (visited.item.mark - 1) visited.item.reads) [] rest made here in
+      (with_mark (visited.item.mark - 1)) [] rest made here in
       record {
         held = held;
         rest = rest;
@@ -155,31 +155,30 @@ module _ {K V P A T : Type 0} (steady : Type 0) (pinned : K → V → Bool) (tak
             }) change
             ∙ ap (λ (x : Item K V). record mid {
               lists = record mid.lists {
-                hot = record made { item = with_counts (x.mark - 1) x.reads first.item } ∷ rest;
+                hot = record made { item = with_mark (x.mark - 1) first.item } ∷ rest;
               };
               visits = counted_up 1 mid.visits;
             }) is
-            ∙ ap (λ (c : Contents K V P A T). record c {
+            ∙ ap (λ (c : Contents K V W A T P). record c {
               lists = record c.lists { hot = record held { item = lowered 1 first.item } ∷ rest };
               visits = counted_up 1 c.visits;
             }) first.same;
       }
 
-module _ {K V P A T : Type 0} (steady : Type 0) (pinned : K → V → Bool) (token : ℕ)
-    (old : Contents K V P A T) (met : Visit) (item : Item K V) (lists : Lists K V P)
-    (mark reads visits : ℕ) where
+module _ {K V P W A T : Type 0} (steady : Type 0) (pinned : K → V → Bool) (token : ℕ)
+    (old : Contents K V W A T P) (met : Visit) (item : Item K V) (lists : Lists K V P)
+    (mark visits : ℕ) where
   -- a visit by its parts
   pub IsVisited-by : IsItemOf old.lists token item → Meets steady pinned item met
-      → lists ≡ with_change token (with_counts mark reads) old.lists
-      → mark ≡ item.mark - 1 → reads ≡ item.reads → visits ≡ counted_up 1 old.visits
+      → lists ≡ with_change token (with_mark mark) old.lists
+      → mark ≡ item.mark - 1 → visits ≡ counted_up 1 old.visits
       → IsVisited steady pinned token old met (record old { lists = lists; visits = visits })
-  IsVisited-by is_of meets changed lower read counted = record {
+  IsVisited-by is_of meets changed lower counted = record {
     item = item;
     is_of = is_of;
     meets = meets;
     same = λ i. record old {
-      lists = (changed
-          ∙ ap₂ (λ m r. with_change token (with_counts m r) old.lists) lower read) i;
+      lists = (changed ∙ ap (λ m. with_change token (with_mark m) old.lists) lower) i;
       visits = counted i;
     };
   }

@@ -24,10 +24,10 @@ use Rattle.quick_cache_model.proofs.EachElement.{all-append}
 use Rattle.quick_cache_policy.proofs.KeptLemmas.{EndsAllPinned-keeps, EndsSomeUnpinned-keeps, EndsAtVictim-keeps}
 use Rattle.quick_cache_policy.proofs.RoundLemmas.{round-begins, Going-length, round-passes_pinned, round-passes_marked, round-stops, round-over_pinned, round-over_unpinned}
 
-module _ {K V P A T : Type 0} (hash : K → ℕ) where
+module _ {K V P W A T : Type 0} (hash : K → ℕ) where
   -- The items of the hot ring stand under their hashes, so many visits were counted, and nothing
   -- else changed.
-  pub record ChangesHot (visits : ℕ) (old new : Contents K V P A T) : Type 0 where
+  pub record ChangesHot (visits : ℕ) (old new : Contents K V W A T P) : Type 0 where
     pub hashed : AllByRecursion (λ held. held.hash ≡ hash held.item.key) new.lists.hot
     pub counted : new.visits ≡ counted_up visits old.visits
     pub same : new ≡ record old {
@@ -36,7 +36,7 @@ module _ {K V P A T : Type 0} (hash : K → ℕ) where
     }
 
   -- nothing changed
-  pub ChangesHot-none : (old : Contents K V P A T)
+  pub ChangesHot-none : (old : Contents K V W A T P)
       → AllByRecursion (λ held. held.hash ≡ hash held.item.key) old.lists.hot
       → old.visits < 2 ^ 64 → ChangesHot 0 old old
   ChangesHot-none old hashed within = record {
@@ -46,12 +46,12 @@ module _ {K V P A T : Type 0} (hash : K → ℕ) where
   }
 
   -- one change after another
-  pub ChangesHot-then : (n k : ℕ) (old mid new : Contents K V P A T) → ChangesHot n old mid
+  pub ChangesHot-then : (n k : ℕ) (old mid new : Contents K V W A T P) → ChangesHot n old mid
       → ChangesHot k mid new → ChangesHot (n + k) old new
   ChangesHot-then n k old mid new a b = record {
     hashed = b.hashed;
     counted = b.counted ∙ ap (counted_up k) a.counted ∙ counted_up-twice n k old.visits;
-    same = b.same ∙ ap (λ (c : Contents K V P A T). record c {
+    same = b.same ∙ ap (λ (c : Contents K V W A T P). record c {
       lists = record c.lists { hot = new.lists.hot };
       visits = new.visits;
     }) a.same;
@@ -59,11 +59,11 @@ module _ {K V P A T : Type 0} (hash : K → ℕ) where
 
   -- what keeps the items keeps the contents sound
   pub ChangesHot-sound : (ticket_of : P → ℕ) (equal : K → K → Bool) (n : ℕ)
-      (old new : Contents K V P A T) → ChangesHot n old new
+      (old new : Contents K V W A T P) → ChangesHot n old new
       → KeepsItems default_mark_cut (items_of old.lists.hot) (items_of new.lists.hot)
       → IsSound ticket_of equal hash old → IsSound ticket_of equal hash new
   ChangesHot-sound ticket_of equal n old new changes keeps sound =
-      subst (λ (c : Contents K V P A T). IsSound ticket_of equal hash c) (sym changes.same)
+      subst (λ (c : Contents K V W A T P). IsSound ticket_of equal hash c) (sym changes.same)
       (record {
         valid = record {
           one_entry_a_key = λ k. omega (
@@ -99,10 +99,10 @@ MayTake-key {K} {V} true may_count x y takes = ap (λ (i : Item K V). i.key) tak
     ∙ with_touches-key default_mark_cut takes.0 x
 MayTake-key {K} {V} false may_count x y takes = ap (λ (i : Item K V). i.key) takes
 
-module _ {K V P A T : Type 0} (hash : K → ℕ) (steady : Type 0) (pinned : K → V → Bool)
+module _ {K V P W A T : Type 0} (hash : K → ℕ) (steady : Type 0) (pinned : K → V → Bool)
     (takes_touches : Bool) (may_count : ℕ → Type 0) where
   -- a visit to the first item changes the hot ring
-  pub VisitsFirst-changes : (old new : Contents K V P A T) (met : Visit)
+  pub VisitsFirst-changes : (old new : Contents K V W A T P) (met : Visit)
       → AllByRecursion (λ held. held.hash ≡ hash held.item.key) old.lists.hot
       → VisitsFirst steady pinned takes_touches may_count old met new → ChangesHot hash 1 old new
   VisitsFirst-changes old new met hashed v =
@@ -110,26 +110,26 @@ module _ {K V P A T : Type 0} (hash : K → ℕ) (steady : Type 0) (pinned : K �
       hashed in
       record {
         hashed = subst (AllByRecursion (λ (h : HeldItem K V). h.hash ≡ hash h.item.key))
-            (sym (ap (λ (c : Contents K V P A T). c.lists.hot) v.same)) (
+            (sym (ap (λ (c : Contents K V W A T P). c.lists.hot) v.same)) (
               under.0 ∙ ap hash (sym (MayTake-key takes_touches may_count v.held.item v.item
                   v.takes)),
               under.1,
             );
-        counted = ap (λ (c : Contents K V P A T). c.visits) v.same;
-        same = ap (λ (c : Contents K V P A T). record c {
+        counted = ap (λ (c : Contents K V W A T P). c.visits) v.same;
+        same = ap (λ (c : Contents K V W A T P). record c {
           lists = record c.lists { hot = new.lists.hot };
           visits = new.visits;
         }) v.same;
       }
 
   -- the ring, once its first item was visited and put last
-  pub record FirstPasses (old new : Contents K V P A T) (rest : List (HeldItem K V))
+  pub record FirstPasses (old new : Contents K V W A T P) (rest : List (HeldItem K V))
       (made : HeldItem K V) : Type 0 where
     pub hot : new.lists.hot ≡ rest ++ made ∷ []
     pub changes : ChangesHot hash 1 old new
 
   -- what a turn leaves
-  pub VisitsFirst-turned : (old mid : Contents K V P A T) (lists : Lists K V P) (met : Visit)
+  pub VisitsFirst-turned : (old mid : Contents K V W A T P) (lists : Lists K V P) (met : Visit)
       → AllByRecursion (λ held. held.hash ≡ hash held.item.key) old.lists.hot
       → (v : VisitsFirst steady pinned takes_touches may_count old met mid)
       → lists ≡ ring_turned Hot mid.lists
@@ -138,7 +138,7 @@ module _ {K V P A T : Type 0} (hash : K → ℕ) (steady : Type 0) (pinned : K �
   VisitsFirst-turned old mid lists met hashed v turns =
       let made : HeldItem K V = record v.held { item = lowered 1 v.item } in
       let before : mid.lists.hot ≡ made ∷ v.rest =
-      ap (λ (c : Contents K V P A T). c.lists.hot) v.same in
+      ap (λ (c : Contents K V W A T P). c.lists.hot) v.same in
       let hot : lists.hot ≡ v.rest ++ made ∷ [] =
       ap (λ (l : Lists K V P). l.hot) turns ∙ ap turned before in
       let first = VisitsFirst-changes old mid met hashed v in
@@ -154,7 +154,7 @@ module _ {K V P A T : Type 0} (hash : K → ℕ) (steady : Type 0) (pinned : K �
           same = ap (λ (l : Lists K V P). record mid { lists = l })
               (turns ∙ ap (λ xs. record mid.lists { hot = xs })
               (sym (ap (λ (l : Lists K V P). l.hot) turns)))
-              ∙ ap (λ (c : Contents K V P A T). record c {
+              ∙ ap (λ (c : Contents K V W A T P). record c {
                 lists = record c.lists { hot = lists.hot };
                 visits = mid.visits;
               }) first.same;
@@ -162,14 +162,15 @@ module _ {K V P A T : Type 0} (hash : K → ℕ) (steady : Type 0) (pinned : K �
       }
 
   -- The middle of a round: so many items were visited, and passed.
-  pub record GoesRound (visited : ℕ) (unpinned : Bool) (old now : Contents K V P A T) : Type 0 where
+  pub record GoesRound (visited : ℕ) (unpinned : Bool)
+      (old now : Contents K V W A T P) : Type 0 where
     pub going : Going steady pinned takes_touches default_mark_cut may_count
         (items_of old.lists.hot) visited unpinned (items_of now.lists.hot)
     pub changes : ChangesHot hash visited old now
 
   -- What a round did, with its end.
   pub record RoundDone (ticket_of : P → ℕ) (equal : K → K → Bool) (end : Round)
-      (old new : Contents K V P A T) : Type 0 where
+      (old new : Contents K V W A T P) : Type 0 where
     pub ends : VisitsHot (RoundEnds steady pinned takes_touches may_count end) old new
     pub sound : IsSound ticket_of equal hash new
     pub count : length new.lists.hot ≡ length old.lists.hot
@@ -179,7 +180,7 @@ module _ {K V P A T : Type 0} (hash : K → ℕ) (steady : Type 0) (pinned : K �
     }
 
   -- nothing was visited yet
-  pub GoesRound-begins : (old : Contents K V P A T)
+  pub GoesRound-begins : (old : Contents K V W A T P)
       → AllByRecursion (λ held. held.hash ≡ hash held.item.key) old.lists.hot
       → old.visits < 2 ^ 64 → GoesRound 0 false old old
   GoesRound-begins old hashed within = record {
@@ -189,7 +190,7 @@ module _ {K V P A T : Type 0} (hash : K → ℕ) (steady : Type 0) (pinned : K �
   }
 
   -- no item comes or goes
-  pub GoesRound-length : (visited : ℕ) (unpinned : Bool) (old now : Contents K V P A T)
+  pub GoesRound-length : (visited : ℕ) (unpinned : Bool) (old now : Contents K V W A T P)
       → GoesRound visited unpinned old now → length now.lists.hot ≡ length old.lists.hot
   GoesRound-length visited unpinned old now goes =
       sym (length_items now.lists.hot)
@@ -199,7 +200,7 @@ module _ {K V P A T : Type 0} (hash : K → ℕ) (steady : Type 0) (pinned : K �
 
   -- a pinned item is passed
   pub GoesRound-passes_pinned : (visited : ℕ) (unpinned next : Bool)
-      (old now mid : Contents K V P A T) (lists : Lists K V P) → next ≡ unpinned
+      (old now mid : Contents K V W A T P) (lists : Lists K V P) → next ≡ unpinned
       → GoesRound visited unpinned old now
       → visited < length old.lists.hot
       → VisitsFirst steady pinned takes_touches may_count now Pinned mid
@@ -225,7 +226,7 @@ module _ {K V P A T : Type 0} (hash : K → ℕ) (steady : Type 0) (pinned : K �
 
   -- and one that is marked
   pub GoesRound-passes_marked : (visited : ℕ) (unpinned next : Bool)
-      (old now mid : Contents K V P A T) (lists : Lists K V P) → next ≡ true
+      (old now mid : Contents K V W A T P) (lists : Lists K V P) → next ≡ true
       → GoesRound visited unpinned old now
       → visited < length old.lists.hot
       → VisitsFirst steady pinned takes_touches may_count now Marked mid
@@ -252,7 +253,7 @@ module _ {K V P A T : Type 0} (hash : K → ℕ) (steady : Type 0) (pinned : K �
 
   -- what keeps the items is all that a round's end must tell
   RoundDone-by : (ticket_of : P → ℕ) (equal : K → K → Bool) (end : Round) (visits : ℕ)
-      (old new : Contents K V P A T)
+      (old new : Contents K V W A T P)
       → RoundEnds steady pinned takes_touches may_count end (items_of old.lists.hot)
       (items_of new.lists.hot) visits
       → KeepsItems default_mark_cut (items_of old.lists.hot) (items_of new.lists.hot)
@@ -268,7 +269,7 @@ module _ {K V P A T : Type 0} (hash : K → ℕ) (steady : Type 0) (pinned : K �
 
   -- a round that met a victim
   pub GoesRound-stops : (ticket_of : P → ℕ) (equal : K → K → Bool) (visited : ℕ) (unpinned : Bool)
-      (old now new : Contents K V P A T) → may_count 0 → IsSound ticket_of equal hash old
+      (old now new : Contents K V W A T P) → may_count 0 → IsSound ticket_of equal hash old
       → GoesRound visited unpinned old now → visited < length old.lists.hot
       → VisitsFirst steady pinned takes_touches may_count now Victim new
       → RoundDone ticket_of equal round_victim old new
@@ -279,7 +280,7 @@ module _ {K V P A T : Type 0} (hash : K → ℕ) (steady : Type 0) (pinned : K �
       let unmarked : lowered 1 v.item ≡ v.item = ap (λ n. record v.item { mark = n })
       (omega (arith, v.meets.0)) in
       let there : items_of new.lists.hot ≡ v.item ∷ items_of v.rest =
-      ap (λ (c : Contents K V P A T). items_of c.lists.hot) v.same
+      ap (λ (c : Contents K V W A T P). items_of c.lists.hot) v.same
       ∙ ap (λ (x : Item K V). x ∷ items_of v.rest) unmarked in
       let ends : RoundEnds steady pinned takes_touches may_count round_victim
       (items_of old.lists.hot) (items_of new.lists.hot) (visited + 1) =
@@ -296,7 +297,7 @@ module _ {K V P A T : Type 0} (hash : K → ℕ) (steady : Type 0) (pinned : K �
 
   -- a round that is over, with no unpinned item
   pub GoesRound-over_pinned : (ticket_of : P → ℕ) (equal : K → K → Bool) (visited : ℕ)
-      (unpinned : Bool) (old now : Contents K V P A T) → unpinned ≡ false
+      (unpinned : Bool) (old now : Contents K V W A T P) → unpinned ≡ false
       → IsSound ticket_of equal hash old → GoesRound visited unpinned old now
       → visited ≡ length old.lists.hot
       → RoundDone ticket_of equal round_all_pinned old now
@@ -315,7 +316,7 @@ module _ {K V P A T : Type 0} (hash : K → ℕ) (steady : Type 0) (pinned : K �
 
   -- a round that is over, with some
   pub GoesRound-over_unpinned : (ticket_of : P → ℕ) (equal : K → K → Bool) (visited : ℕ)
-      (unpinned : Bool) (old now : Contents K V P A T) → unpinned ≡ true
+      (unpinned : Bool) (old now : Contents K V W A T P) → unpinned ≡ true
       → IsSound ticket_of equal hash old → GoesRound visited unpinned old now
       → visited ≡ length old.lists.hot
       → RoundDone ticket_of equal round_some_unpinned old now

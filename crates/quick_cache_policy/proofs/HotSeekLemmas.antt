@@ -15,10 +15,10 @@ use Rattle.quick_cache_policy.proofs.HotRoundLemmas.{ChangesHot, ChangesHot-none
 use Rattle.quick_cache_policy.proofs.KeptLemmas.{HaveAtMost-ring}
 use Rattle.quick_cache_policy.proofs.MarkLemmas.{advance_measure-falls}
 
-module _ {K V P A T : Type 0} (ticket_of : P → ℕ) (equal : K → K → Bool) (hash : K → ℕ)
+module _ {K V P W A T : Type 0} (ticket_of : P → ℕ) (equal : K → K → Bool) (hash : K → ℕ)
     (steady : Type 0) (pinned : K → V → Bool) (may_count : ℕ → Type 0) where
   -- Between two rounds: the touches that are still to be taken, and what the rounds so far did.
-  pub record SeeksVictim (takes_touches : Bool) (old now : Contents K V P A T) : Type 0 where
+  pub record SeeksVictim (takes_touches : Bool) (old now : Contents K V W A T P) : Type 0 where
     pub visits : ℕ
     pub advancing : Advancing steady pinned takes_touches default_mark_cut may_count
         (items_of old.lists.hot) (items_of now.lists.hot) visits
@@ -27,7 +27,7 @@ module _ {K V P A T : Type 0} (ticket_of : P → ℕ) (equal : K → K → Bool)
     pub count : length now.lists.hot ≡ length old.lists.hot
 
   -- what the rounds did, with the answer
-  pub record SeekDone (met : Bool) (old new : Contents K V P A T) : Type 0 where
+  pub record SeekDone (met : Bool) (old new : Contents K V W A T P) : Type 0 where
     pub ends : VisitsHot (SeekEnds steady pinned may_count met) old new
     pub sound : IsSound ticket_of equal hash new
     pub count : length new.lists.hot ≡ length old.lists.hot
@@ -37,7 +37,7 @@ module _ {K V P A T : Type 0} (ticket_of : P → ℕ) (equal : K → K → Bool)
     }
 
   -- no round was made yet
-  pub SeeksVictim-begins : (old : Contents K V P A T) → may_count 0
+  pub SeeksVictim-begins : (old : Contents K V W A T P) → may_count 0
       → IsSound ticket_of equal hash old → old.visits < 2 ^ 64 → SeeksVictim true old old
   SeeksVictim-begins old none_counted sound within = record {
     visits = 0;
@@ -49,13 +49,13 @@ module _ {K V P A T : Type 0} (ticket_of : P → ℕ) (equal : K → K → Bool)
   }
 
   -- the marks of sound contents are at most the greatest
-  HaveAtMost-sound : (old : Contents K V P A T) → IsSound ticket_of equal hash old
+  HaveAtMost-sound : (old : Contents K V W A T P) → IsSound ticket_of equal hash old
       → HaveAtMost default_mark_cut (items_of old.lists.hot)
   HaveAtMost-sound old sound = HaveAtMost-ring default_mark_cut Hot (items_of old.lists.hot)
       sound.valid.in_hot
 
   -- what a round did, as a change
-  ChangesHot-round : (takes_touches : Bool) (end : Round) (old new : Contents K V P A T)
+  ChangesHot-round : (takes_touches : Bool) (end : Round) (old new : Contents K V W A T P)
       → (done : RoundDone hash steady pinned takes_touches may_count ticket_of equal end old new)
       → ChangesHot hash done.ends.visits old new
   ChangesHot-round takes_touches end old new done = record {
@@ -65,7 +65,7 @@ module _ {K V P A T : Type 0} (ticket_of : P → ℕ) (equal : K → K → Bool)
   }
 
   -- a round that met a marked item was not the last
-  pub SeeksVictim-goes_on : (takes_touches : Bool) (old now new : Contents K V P A T)
+  pub SeeksVictim-goes_on : (takes_touches : Bool) (old now new : Contents K V W A T P)
       → IsSound ticket_of equal hash old → SeeksVictim takes_touches old now
       → RoundDone hash steady pinned takes_touches may_count ticket_of equal round_some_unpinned
       now new
@@ -82,7 +82,7 @@ module _ {K V P A T : Type 0} (ticket_of : P → ℕ) (equal : K → K → Bool)
   }
 
   -- and there are not many such rounds
-  pub advance_measure-seeks : (takes_touches : Bool) (old now new : Contents K V P A T)
+  pub advance_measure-seeks : (takes_touches : Bool) (old now new : Contents K V W A T P)
       → SeeksVictim takes_touches old now
       → RoundDone hash steady pinned takes_touches may_count ticket_of equal round_some_unpinned
       now new
@@ -94,7 +94,7 @@ module _ {K V P A T : Type 0} (ticket_of : P → ℕ) (equal : K → K → Bool)
       (HaveAtMost-sound now seeks.sound) done.ends.ends
 
   -- a round that met a victim was the last
-  pub SeeksVictim-stops : (takes_touches : Bool) (old now new : Contents K V P A T)
+  pub SeeksVictim-stops : (takes_touches : Bool) (old now new : Contents K V W A T P)
       → SeeksVictim takes_touches old now
       → RoundDone hash steady pinned takes_touches may_count ticket_of equal round_victim now new
       → SeekDone true old new
@@ -115,7 +115,7 @@ module _ {K V P A T : Type 0} (ticket_of : P → ℕ) (equal : K → K → Bool)
       }
 
   -- and so was one that found all pinned
-  pub SeeksVictim-gives_up : (takes_touches : Bool) (old now new : Contents K V P A T)
+  pub SeeksVictim-gives_up : (takes_touches : Bool) (old now new : Contents K V W A T P)
       → SeeksVictim takes_touches old now
       → RoundDone hash steady pinned takes_touches may_count ticket_of equal round_all_pinned
       now new

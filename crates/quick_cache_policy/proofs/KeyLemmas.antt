@@ -97,9 +97,9 @@ module _ {K V : Type 0} (test : K → Bool) where
         let kept = GivesUp-keeps default_mark_cut steady pinned true may_count old new visits ends in
         kept.same_keys test
 
-module _ {K V P A T : Type 0} (ticket_of : P → ℕ) (test : K → Bool) where
+module _ {K V P W A T : Type 0} (ticket_of : P → ℕ) (test : K → Bool) where
   -- another hot ring with as many keys that pass
-  pub keys_by-hot : (old new : Contents K V P A T) (advances : ℕ)
+  pub keys_by-hot : (old new : Contents K V W A T P) (advances : ℕ)
       → new ≡ record old {
         lists = record old.lists { hot = new.lists.hot };
         advances = advances;
@@ -110,18 +110,18 @@ module _ {K V P A T : Type 0} (ticket_of : P → ℕ) (test : K → Bool) where
   keys_by-hot old new advances same hot =
       omega (
         arith,
-        ap (λ (c : Contents K V P A T). keys_by test (state_of ticket_of c)) same,
+        ap (λ (c : Contents K V W A T P). keys_by test (state_of ticket_of c)) same,
         hot,
       )
 
   -- another cold ring with as many keys that pass
-  pub keys_by-cold : (old new : Contents K V P A T)
+  pub keys_by-cold : (old new : Contents K V W A T P)
       → new ≡ record old { lists = record old.lists { cold = new.lists.cold } }
       → keys test (items_of new.lists.cold) ≡ keys test (items_of old.lists.cold)
       → keys_by test (state_of ticket_of new) ≡ keys_by test (state_of ticket_of old)
   keys_by-cold old new same cold =
       omega (
         arith,
-        ap (λ (c : Contents K V P A T). keys_by test (state_of ticket_of c)) same,
+        ap (λ (c : Contents K V W A T P). keys_by test (state_of ticket_of c)) same,
         cold,
       )

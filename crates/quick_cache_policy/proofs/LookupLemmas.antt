@@ -56,34 +56,34 @@ items_at-with InStill items lists = refl
 -- ---- an item that was looked up
 
 -- the contents once the item of a token was changed so, and a hit was counted
-abbrev pub counted : {K V P A T : Type 0} → Contents K V P A T → (token : ℕ)
-    → (change : Item K V → Item K V) → Contents K V P A T
+abbrev pub counted : {K V P W A T : Type 0} → Contents K V W A T P → (token : ℕ)
+    → (change : Item K V → Item K V) → Contents K V W A T P
 counted contents token change = record contents {
   lists = with_change token change contents.lists;
   hits = counted_up 1 contents.hits;
 }
 
 -- an item of that token was changed as a look-up changes it, and a hit was counted
-pub record IsCounted {K V P A T : Type 0} (contents : Contents K V P A T) (token : ℕ)
-    (item : Item K V) (new : Contents K V P A T) : Type 0 where
+pub record IsCounted {K V P W A T : Type 0} (contents : Contents K V W A T P) (token : ℕ)
+    (item : Item K V) (new : Contents K V W A T P) : Type 0 where
   pub change : Item K V → Item K V
   pub counts : change item ≡ looked_up default_mark_cut item
   pub is : new ≡ counted contents token change
 
 -- the lists were changed so, and then the hits
-pub counted-is : {K V P A T : Type 0} (contents now : Contents K V P A T) (token : ℕ)
+pub counted-is : {K V P W A T : Type 0} (contents now : Contents K V W A T P) (token : ℕ)
     (change : Item K V → Item K V) (lists : Lists K V P) (hits : ℕ)
     → now ≡ record contents { lists = lists } → lists ≡ with_change token change contents.lists
     → hits ≡ counted_up 1 now.hits
     → record now { hits = hits } ≡ counted contents token change
 counted-is contents now token change lists hits now_is lists_are hits_are =
-    ap (λ (c : Contents _ _ _ _ _). record c { hits = hits }) now_is
+    ap (λ (c : Contents _ _ _ _ _ _). record c { hits = hits }) now_is
     ∙ (λ i. record contents {
       lists = lists_are i;
-      hits = (hits_are ∙ ap (λ (c : Contents _ _ _ _ _). counted_up 1 c.hits) now_is) i;
+      hits = (hits_are ∙ ap (λ (c : Contents _ _ _ _ _ _). counted_up 1 c.hits) now_is) i;
     })
 
-module _ {K V P A T : Type 0} (ticket_of : P → ℕ) (contents : Contents K V P A T)
+module _ {K V P W A T : Type 0} (ticket_of : P → ℕ) (contents : Contents K V W A T P)
     (apart : AreApart contents.lists) (token hash : ℕ) (item : Item K V)
     (change : Item K V → Item K V) where
   module _ (counts : change item ≡ looked_up default_mark_cut item)
@@ -183,10 +183,10 @@ module _ {K V P A T : Type 0} (ticket_of : P → ℕ) (contents : Contents K V P
 
 -- ---- what is removed
 
-module _ {K V P A T : Type 0} (ticket_of : P → ℕ) (contents : Contents K V P A T)
+module _ {K V P W A T : Type 0} (ticket_of : P → ℕ) (contents : Contents K V W A T P)
     (apart : AreApart contents.lists) (stands_for : K → Bool) (hash : ℕ) where
   -- the contents without the entry of a token
-  abbrev pub taken : (token : ℕ) → Contents K V P A T
+  abbrev pub taken : (token : ℕ) → Contents K V W A T P
   taken token = record contents { lists = without_entry false token contents.lists }
 
   module _ (equal : K → K → Bool) (answer : Option (K × V)) (lists : Lists K V P)

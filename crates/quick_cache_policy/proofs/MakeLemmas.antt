@@ -13,8 +13,8 @@ use Rattle.quick_cache_model.specs.Touches.{counted_up}
 use Rattle.quick_cache_model.proofs.EachElement.{all-push}
 use Rattle.quick_cache_model.proofs.Valid.Edits.{after_miss-valid, with_placeholder-valid}
 use Rattle.quick_cache_model.proofs.Valid.Orders.{SameButOrder-valid}
-use Rattle.quick_cache_lists.specs.declared.entry.Awaited.{Awaited}
-use Rattle.quick_cache_lists.specs.declared.entry.Entry.TheVariants.{Loading as loading_variant}
+use Rattle.quick_cache_slots.specs.declared.entry.Awaited.{Awaited}
+use Rattle.quick_cache_slots.specs.declared.entry.Entry.TheVariants.{Loading as loading_variant}
 use Rattle.quick_cache_lists.specs.Lists.{HeldLoading, Lists, PutsLast, slots_left}
 use Rattle.quick_cache_lists.specs.Views.{loading_entry, loading_entries}
 use Rattle.quick_cache_policy.specs.declared.contents.Contents.{Contents}
@@ -88,36 +88,36 @@ module _ {K V : Type 0} (stands_for : K → Bool) (gives : K → Type 0) (hash :
   }
 
 -- what is handed on by `?` is the refusal of the call before
-module _ {K V P A X : Type 0} (ticket_of : P → ℕ) (stands_for : K → Bool) (gives : K → Type 0)
-    (hash : ℕ) (old new : Contents K V P A X) (refusal : Refusal) where
-  pub Makes-refused : (answer : Result P Refusal) → IsErr answer
+module _ {K V P W A X : Type 0} (ticket_of : P → ℕ) (own_ticket : W → ℕ) (stands_for : K → Bool)
+    (gives : K → Type 0) (hash : ℕ) (old new : Contents K V W A X P) (refusal : Refusal) where
+  pub Makes-refused : (answer : Result W Refusal) → IsErr answer
       → IsErrAnd answer (λ handed. handed ≡ refusal)
       → MakesNone stands_for gives hash (state_of ticket_of old) refusal (state_of ticket_of new)
-      → Makes ticket_of stands_for gives hash old answer new
+      → Makes ticket_of own_ticket stands_for gives hash old answer new
   Makes-refused (Ok placeholder) is same none = absurd same
   Makes-refused (Err handed) is same none =
       subst (λ r. MakesNone stands_for gives hash (state_of ticket_of old) r
       (state_of ticket_of new)) (sym same) none
 
 -- the slots are full where none is left
-pub full-slots : {K V P A X : Type 0} (ticket_of : P → ℕ) (contents : Contents K V P A X)
+pub full-slots : {K V P W A X : Type 0} (ticket_of : P → ℕ) (contents : Contents K V W A X P)
     → slots_left contents.lists ≡ 0 → slot_count ≤ slots_taken (state_of ticket_of contents)
 full-slots ticket_of contents none = omega (arith, none, entry_count-taken ticket_of contents)
 
-pub free-slot : {K V P A X : Type 0} (ticket_of : P → ℕ) (contents : Contents K V P A X)
+pub free-slot : {K V P W A X : Type 0} (ticket_of : P → ℕ) (contents : Contents K V W A X P)
     → slots_left contents.lists ≢ 0 → slots_taken (state_of ticket_of contents) < slot_count
 free-slot ticket_of contents some = omega (arith, some, entry_count-taken ticket_of contents)
 
 -- ---- one that was put last
 
-module _ {K V P A T X : Type 0} (ticket_of : P → ℕ) (contents : Contents K V P A X)
+module _ {K V P W A T X : Type 0} (ticket_of : P → ℕ) (contents : Contents K V W A X P)
     (mid new : Lists K V P) (token hash : ℕ) (awaited : Awaited K P)
     (puts : PutsLast {T = T} mid token hash (loading_variant awaited) new) (misses next : ℕ)
     (misses_are : misses ≡ counted_up 1 contents.misses)
     (next_is : next ≡ contents.next_ticket + 1)
     (ticket_is : ticket_of awaited.placeholder ≡ contents.next_ticket) where
   -- the contents with it
-  abbrev pub made : Contents K V P A X
+  abbrev pub made : Contents K V W A X P
   made = record contents { lists = new; misses = misses; next_ticket = next }
 
   abbrev waiting : HeldLoading K P

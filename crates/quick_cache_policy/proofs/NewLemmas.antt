@@ -15,7 +15,7 @@ use Rattle.quick_cache_model.proofs.Eviction.Keys.{keys_by-none}
 use Rattle.quick_cache_model.proofs.OrderLaws.{SameButOrder-trans, entered-reordered}
 use Rattle.quick_cache_model.proofs.Valid.Edits.{entered-valid}
 use Rattle.quick_cache_model.proofs.Valid.Orders.{SameButOrder-valid}
-use Rattle.quick_cache_lists.specs.declared.entry.Entry.TheVariants.{Item as item_variant}
+use Rattle.quick_cache_slots.specs.declared.entry.Entry.TheVariants.{Item as item_variant}
 use Rattle.quick_cache_lists.specs.Lists.{HeldItem, Lists, PutsLast, entered}
 use Rattle.quick_cache_policy.specs.declared.contents.Contents.{Contents}
 use Rattle.quick_cache_policy.specs.Contents.{IsSound, state_of}
@@ -40,7 +40,7 @@ module _ {K V : Type 0} (rules : Rules K V) (state : CacheState K V) (key : K) (
 
 -- ---- the item, put last once room was made
 
-module _ {K V P A T X : Type 0} (ticket_of : P → ℕ) (old made : Contents K V P A X)
+module _ {K V P W A T X : Type 0} (ticket_of : P → ℕ) (old made : Contents K V W A X P)
     (equal : K → K → Bool) (laws : IsEquivalence equal) (rules : Rules K V) (key : K) (value : V)
     (nothing : HasNothing (equal key) (rules.hash key) (state_of ticket_of old))
     (keys : (test : K → Bool) → keys_by test (state_of ticket_of made)

@@ -16,8 +16,8 @@ use Rattle.quick_cache_model.proofs.Valid.Edits.{entered-valid, without_ghost-va
 use Rattle.quick_cache_model.proofs.Valid.Orders.{SameButOrder-valid}
 use Rattle.std.specs.List.{AllByRecursion}
 use Rattle.quick_cache_model.proofs.EachElement.{all-without}
-use Rattle.quick_cache_lists.specs.declared.entry.Entry.{Entry}
-use Rattle.quick_cache_lists.specs.declared.entry.Entry.TheVariants.{Item as item_variant}
+use Rattle.quick_cache_slots.specs.declared.entry.Entry.{Entry}
+use Rattle.quick_cache_slots.specs.declared.entry.Entry.TheVariants.{Item as item_variant}
 use Rattle.quick_cache_lists.specs.Lists.{HeldItem, HeldLoading, HeldGhost, Lists, AreApart, StandsIn, Replaces, PutsLast, HasNoKey, FindsLoading, entered, without_entry}
 use Rattle.quick_cache_lists.specs.Views.{hashes_of, loading_entry, loading_entries}
 use Rattle.quick_cache_lists.proofs.StandingLemmas.{ghost-hash, loading-hash}
@@ -41,7 +41,7 @@ module _ {K V : Type 0} (rules : Rules K V) (mid state new : CacheState K V)
 
 -- ---- an item that was put in place of a ghost or a placeholder
 
-module _ {K V P A T X : Type 0} (ticket_of : P → ℕ) (contents : Contents K V P A X)
+module _ {K V P W A T X : Type 0} (ticket_of : P → ℕ) (contents : Contents K V W A X P)
     (token : ℕ) (item : Item K V) (was : Entry K V P T) (new : Lists K V P)
     (replaces : Replaces contents.lists token false (item_variant item) was new)
     (others : Lists K V P) (next room : ℕ)
@@ -87,7 +87,7 @@ module _ {K V P A T X : Type 0} (ticket_of : P → ℕ) (contents : Contents K V
 
 -- ---- over a ghost
 
-module _ {K V P A T X : Type 0} (ticket_of : P → ℕ) (contents : Contents K V P A X)
+module _ {K V P W A T X : Type 0} (ticket_of : P → ℕ) (contents : Contents K V W A X P)
     (apart : AreApart contents.lists) (equal : K → K → Bool) (laws : IsEquivalence equal)
     (rules : Rules K V) (key : K) (value : V) (token : ℕ)
     (under : AreUnder (equal key) (rules.hash key) contents.lists)
@@ -166,7 +166,7 @@ module _ {K V P A T X : Type 0} (ticket_of : P → ℕ) (contents : Contents K V
 
 -- ---- over a placeholder
 
-module _ {K V P A T X : Type 0} (ticket_of : P → ℕ) (contents : Contents K V P A X)
+module _ {K V P W A T X : Type 0} (ticket_of : P → ℕ) (contents : Contents K V W A X P)
     (apart : AreApart contents.lists) (equal : K → K → Bool) (laws : IsEquivalence equal)
     (rules : Rules K V) (key : K) (value : V) (token : ℕ)
     (found : FindsLoading (equal key) (rules.hash key) contents.lists token)

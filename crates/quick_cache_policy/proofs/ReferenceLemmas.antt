@@ -185,7 +185,7 @@ module _ {K V : Type 0} (stands_for : K → Bool) where
         (omega (arith, single, split, keys-split stands_for before item after, ap one_if at.passes)) in
         λ i. record state { hot = hot i; cold = cold i; still = still i }
 
-module _ {K V P A T : Type 0} (ticket_of : P → ℕ) (contents : Contents K V P A T)
+module _ {K V P W A T : Type 0} (ticket_of : P → ℕ) (contents : Contents K V W A T P)
     (apart : AreApart contents.lists) (token : ℕ) (stands_for : K → Bool) (hash : ℕ)
     (found : FindsItem stands_for hash contents.lists token) where
   -- the item that was found
@@ -201,7 +201,7 @@ module _ {K V P A T : Type 0} (ticket_of : P → ℕ) (contents : Contents K V P
 
   module _ (value : V) where
     -- the contents once its value was written
-    abbrev written : Contents K V P A T
+    abbrev written : Contents K V W A T P
     written = record contents { lists = with_change token (with_value value) contents.lists }
 
     changed : with_change token (with_value value) contents.lists

@@ -153,8 +153,8 @@ module _ {K V P : Type 0} (answers : K → V → Bool → Type 0) (lists : Lists
 -- ---- the whole cache
 
 -- the items up to a token were asked, and what was answered no is gone
-pub record IsSifting {K V P A T : Type 0} (answers : K → V → Bool → Type 0) (passed : ℕ)
-    (old now : Contents K V P A T) : Type 0 where
+pub record IsSifting {K V P W A T : Type 0} (answers : K → V → Bool → Type 0) (passed : ℕ)
+    (old now : Contents K V W A T P) : Type 0 where
   pub hot : Sifted answers passed old.lists.hot now.lists.hot
   pub cold : Sifted answers passed old.lists.cold now.lists.cold
   pub still : Sifted answers passed old.lists.still now.lists.still
@@ -163,7 +163,7 @@ pub record IsSifting {K V P A T : Type 0} (answers : K → V → Bool → Type 0
   pub same : now ≡ record old { lists = now.lists }
   pub room : old.lists.room ≤ now.lists.room
 
-module _ {K V P A T : Type 0} (answers : K → V → Bool → Type 0) (old : Contents K V P A T) where
+module _ {K V P W A T : Type 0} (answers : K → V → Bool → Type 0) (old : Contents K V W A T P) where
   -- none has the token 0, so none was asked
   pub IsSifting-start : (HasItemToken old.lists 0 → ⊥) → IsSifting answers 0 old old
   IsSifting-start numbered = record {
@@ -185,7 +185,7 @@ module _ {K V P A T : Type 0} (answers : K → V → Bool → Type 0) (old : Con
             | inr some ↦ omega (arith, some)
           ])
 
-  module _ (now : Contents K V P A T) (apart : AreApart now.lists) (passed : ℕ) (first : Token)
+  module _ (now : Contents K V W A T P) (apart : AreApart now.lists) (passed : ℕ) (first : Token)
       (item : Item K V) (sifting : IsSifting answers passed old now)
       (stood : IsItemOf now.lists (number first) item) (above : passed < number first)
       (least : (other : ℕ) → passed < other → other < number first
@@ -211,11 +211,11 @@ module _ {K V P A T : Type 0} (answers : K → V → Bool → Type 0) (old : Con
         each = all-stepped answers now.lists apart passed first item true said stood above least
 
     -- the next one goes
-    pub IsSifting-go : answers item.key item.value false → (new : Contents K V P A T)
+    pub IsSifting-go : answers item.key item.value false → (new : Contents K V W A T P)
         → new ≡ record now { lists = without_entry false (number first) now.lists }
         → IsSifting answers (number first) old new
     IsSifting-go refused new is =
-        subst (λ (c : Contents K V P A T). IsSifting answers (number first) old c) (sym is)
+        subst (λ (c : Contents K V W A T P). IsSifting answers (number first) old c) (sym is)
         (record {
           hot = sifted-go answers passed (number first) old.lists.hot now.lists.hot sifting.hot
               (each InHot);
@@ -225,7 +225,7 @@ module _ {K V P A T : Type 0} (answers : K → V → Bool → Type 0) (old : Con
               sifting.still (each InStill);
           loading = beside.0 ∙ sifting.loading;
           ghosts = beside.1 ∙ sifting.ghosts;
-          same = ap (λ (c : Contents K V P A T). record c {
+          same = ap (λ (c : Contents K V W A T P). record c {
             lists = without_entry false (number first) now.lists;
           }) sifting.same;
           room = omega (arith, sifting.room);
@@ -241,7 +241,7 @@ module _ {K V P A T : Type 0} (answers : K → V → Bool → Type 0) (old : Con
         beside = without_item-beside now.lists apart (number first) item stood
 
   -- no item is left to be asked
-  pub IsSifting-end : (ticket_of : P → ℕ) (now : Contents K V P A T) (passed : ℕ)
+  pub IsSifting-end : (ticket_of : P → ℕ) (now : Contents K V W A T P) (passed : ℕ)
       → IsSifting answers passed old now
       → ((other : ℕ) → passed < other → HasItemToken now.lists other → ⊥)
       → RetainsAsked answers (state_of ticket_of old) (state_of ticket_of now)

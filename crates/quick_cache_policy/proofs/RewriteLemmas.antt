@@ -87,7 +87,7 @@ module _ {K V P : Type 0} where
         ap (λ (l : List (HeldItem K V)). length l) split,
       )
 
-module _ {K V P A X : Type 0} (ticket_of : P → ℕ) (contents : Contents K V P A X)
+module _ {K V P W A X : Type 0} (ticket_of : P → ℕ) (contents : Contents K V W A X P)
     (apart : AreApart contents.lists) (equal : K → K → Bool) (rules : Rules K V) (key : K)
     (token : ℕ) (found : FindsItem (equal key) (rules.hash key) contents.lists token)
     (item was : Item K V) (new : Lists K V P)

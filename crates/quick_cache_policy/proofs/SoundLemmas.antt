@@ -223,7 +223,7 @@ module _ {K V : Type 0} (equal : K → K → Bool) where
 
 -- ---- a victim, told of lists
 
-module _ {K V P A T : Type 0} (ticket_of : P → ℕ) (contents : Contents K V P A T) where
+module _ {K V P W A T : Type 0} (ticket_of : P → ℕ) (contents : Contents K V W A T P) where
   -- lists that differ in the order of what has none are states that do
   pub state_of-reordered : (old new : Lists K V P) → HeldSame old new
       → SameButOrder (state_of ticket_of (record contents { lists = old }))
@@ -329,7 +329,7 @@ module _ {K V P A T : Type 0} (ticket_of : P → ℕ) (contents : Contents K V P
 
   -- once some ghosts went from the lists without a cold item
   pub without-ghosts : (mid : Lists K V P) (rest : List (HeldItem K V)) (ghosts : List HeldGhost)
-      (new : Contents K V P A T) → mid ≡ record contents.lists { cold = rest; ghosts = ghosts }
+      (new : Contents K V W A T P) → mid ≡ record contents.lists { cold = rest; ghosts = ghosts }
       → new ≡ record contents {
         lists = record mid {
           ghosts = new.lists.ghosts;

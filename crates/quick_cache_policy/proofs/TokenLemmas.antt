@@ -15,7 +15,7 @@ use Rattle.quick_cache_policy.specs.declared.contents.Contents.{Contents}
 use Rattle.quick_cache_policy.proofs.EnterLemmas.{split-state}
 use Rattle.quick_cache_policy.proofs.LookupLemmas.{without-at, without_item-state}
 
-module _ {K V P A T : Type 0} (ticket_of : P → ℕ) (old new : Contents K V P A T)
+module _ {K V P W A T : Type 0} (ticket_of : P → ℕ) (old new : Contents K V W A T P)
     (apart : AreApart old.lists) (token : ℕ) (pair : K × V) where
   -- the item of the token goes from the state
   pub TakesToken-state : TakesToken old token pair new
@@ -79,8 +79,8 @@ stands-there lists token of (Some x) says some = (
 )
 
 -- an item that a query stands for, whose value was answered yes, is taken out by the test
-pub RemovesAsked-takes : {K V P A T : Type 0} (ticket_of : P → ℕ) (stands_for : K → Bool)
-    (answers : V → Bool → Type 0) (old new : Contents K V P A T) → AreApart old.lists
+pub RemovesAsked-takes : {K V P W A T : Type 0} (ticket_of : P → ℕ) (stands_for : K → Bool)
+    (answers : V → Bool → Type 0) (old new : Contents K V W A T P) → AreApart old.lists
     → (token : ℕ) (pair : K × V) (takes : TakesToken old token pair new)
     → stands_for takes.item.key ≡ true → answers takes.item.value true
     → RemovesAsked stands_for (state_of ticket_of old) answers (Some pair)
@@ -112,7 +112,7 @@ RemovesAsked-test stands_for answers passes as_test old _ _ (RemovesAsked.absent
     RemovesIf.absent none
 
 -- where no token has an item there is none
-pub item_count-none : {K V P A T : Type 0} (ticket_of : P → ℕ) (contents : Contents K V P A T)
+pub item_count-none : {K V P W A T : Type 0} (ticket_of : P → ℕ) (contents : Contents K V W A T P)
     → (HasItemToken contents.lists 0 → ⊥)
     → ((token : ℕ) → 0 < token → HasItemToken contents.lists token → ⊥)
     → item_count (state_of ticket_of contents) ≡ 0
@@ -137,7 +137,7 @@ item_count-none {K = K} {V = V} ticket_of contents numbered none =
         absurd (not x (record { before = []; after = xs; split = refl }))
 
 -- the first item above the token 0, or no item at all
-pub IsFirstAbove-all : {K V P A T : Type 0} (ticket_of : P → ℕ) (contents : Contents K V P A T)
+pub IsFirstAbove-all : {K V P W A T : Type 0} (ticket_of : P → ℕ) (contents : Contents K V W A T P)
     → (HasItemToken contents.lists 0 → ⊥) → (first : Option Token)
     → IsFirstAbove contents.lists 0 first
     → MatchOption first (item_count (state_of ticket_of contents) ≡ 0)
@@ -147,7 +147,7 @@ IsFirstAbove-all ticket_of contents numbered None is =
 IsFirstAbove-all ticket_of contents numbered (Some token) is = (is.found token refl).1
 
 -- the item of a token has its value in the state
-pub HasValue-token : {K V P A T : Type 0} (ticket_of : P → ℕ) (contents : Contents K V P A T)
+pub HasValue-token : {K V P W A T : Type 0} (ticket_of : P → ℕ) (contents : Contents K V W A T P)
     (token : ℕ) (item : Item K V) → IsItemOf contents.lists token item
     → HasValue (state_of ticket_of contents) item.value
 HasValue-token ticket_of contents token item stood =

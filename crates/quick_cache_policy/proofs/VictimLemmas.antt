@@ -7,8 +7,8 @@ use Rattle.quick_cache_model.specs.declared.queue.Queue.{Queue}
 use Rattle.quick_cache_model.specs.declared.queue.Queue.TheVariants.{Hot, Cold}
 use Rattle.quick_cache_model.specs.CacheState.{Item, Place, InStill, ring_place}
 use Rattle.quick_cache_model.specs.Eviction.{newest}
-use Rattle.quick_cache_lists.specs.declared.entry.Entry.{Entry}
-use Rattle.quick_cache_lists.specs.declared.entry.Entry.TheVariants.{Item as item_variant, Ghost as ghost_variant}
+use Rattle.quick_cache_slots.specs.declared.entry.Entry.{Entry}
+use Rattle.quick_cache_slots.specs.declared.entry.Entry.TheVariants.{Item as item_variant, Ghost as ghost_variant}
 use Rattle.quick_cache_lists.specs.Lists.{HeldItem, HeldGhost, Lists, HasItem, AreApart, Replaces}
 use Rattle.quick_cache_lists.specs.Lists.{PutsLast, SameButOrder, items_at, with_items, entered}
 use Rattle.quick_cache_lists.specs.Lists.{without_entry, Requeues, requeued}

@@ -7,7 +7,7 @@ use Rattle.quick_cache_model.specs.CacheState.{CacheState, Item, UpToOrder, defa
 use Rattle.quick_cache_model.specs.Eviction.{EvictsVictim}
 use Rattle.quick_cache_model.specs.Hooks.{Rules, Hooks, HookCall, BeforeEvict, evicted}
 use Rattle.quick_cache_model.specs.Touches.{RaisesMarks, TakesTouches, counted_up}
-use Rattle.quick_cache_lists.specs.Lists.{IsItemOf, with_change, with_counts}
+use Rattle.quick_cache_lists.specs.Lists.{IsItemOf, with_change, with_counts, with_mark}
 use Rattle.quick_cache_policy.specs.declared.contents.Contents.{Contents}
 use Rattle.quick_cache_policy.specs.declared.hot.Visit.{Visit}
 use Rattle.quick_cache_policy.specs.declared.hot.Visit.TheVariants.{Pinned, Marked, Victim}
@@ -124,9 +124,9 @@ module _ {K V T S : Type 0} (weight_of : K → V → ℕ) (hooks : Hooks K V S) 
   Decides (fate_leaves key left) last = hooks.before_evict first item.key item.value last left
       × (0 < weight_of item.key left) × (key ≡ item.key)
 
-module _ {K V P A T : Type 0} where
+module _ {K V P W A T : Type 0} where
   -- the item of a token took its touches
-  pub record HasTakenTouches (may_count : ℕ → Type 0) (token : ℕ) (old new : Contents K V P A T)
+  pub record HasTakenTouches (may_count : ℕ → Type 0) (token : ℕ) (old new : Contents K V W A T P)
       : Type 0 where
     pub item : Item K V
     pub touched : Item K V
@@ -138,11 +138,11 @@ module _ {K V P A T : Type 0} where
 
   -- The item of a token was visited: its mark fell by one, not below 0, and the visit was counted.
   pub record IsVisited (steady : Type 0) (pinned : K → V → Bool) (token : ℕ)
-      (old : Contents K V P A T) (met : Visit) (new : Contents K V P A T) : Type 0 where
+      (old : Contents K V W A T P) (met : Visit) (new : Contents K V W A T P) : Type 0 where
     pub item : Item K V
     pub is_of : IsItemOf old.lists token item
     pub meets : Meets steady pinned item met
     pub same : new ≡ record old {
-      lists = with_change token (with_counts (item.mark - 1) item.reads) old.lists;
+      lists = with_change token (with_mark (item.mark - 1)) old.lists;
       visits = counted_up 1 old.visits;
     }

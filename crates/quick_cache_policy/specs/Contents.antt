@@ -21,9 +21,9 @@ pub record AreHashed {K V P : Type 0} (hash : K → ℕ) (lists : Lists K V P) :
   pub still : AllByRecursion (λ held. held.hash ≡ hash held.item.key) lists.still
   pub loading : AllByRecursion (λ waiting. waiting.hash ≡ hash waiting.key) lists.loading
 
-module _ {K V P A T : Type 0} where
+module _ {K V P W A T : Type 0} where
   -- the state that the lists and the numbers are
-  abbrev pub state_of : (ticket_of : P → ℕ) → Contents K V P A T → CacheState K V
+  abbrev pub state_of : (ticket_of : P → ℕ) → Contents K V W A T P → CacheState K V
   state_of ticket_of contents = record {
     hot = items_of contents.lists.hot;
     cold = items_of contents.lists.cold;
@@ -40,16 +40,16 @@ module _ {K V P A T : Type 0} where
   }
 
   -- how many items a ring has
-  abbrev pub ring_count : Queue → Contents K V P A T → ℕ
+  abbrev pub ring_count : Queue → Contents K V W A T P → ℕ
   ring_count queue contents = length (items_at (ring_place queue) contents.lists)
 
   -- the work that was counted
-  abbrev pub work_of : Contents K V P A T → Work
+  abbrev pub work_of : Contents K V W A T P → Work
   work_of contents = record { advances = contents.advances; visits = contents.visits }
 
   -- what always holds: a valid state of a cache, whose keys stand under their hashes
   pub record IsSound (ticket_of : P → ℕ) (equal : K → K → Bool) (hash : K → ℕ)
-      (contents : Contents K V P A T) : Type 0 where
+      (contents : Contents K V W A T P) : Type 0 where
     pub valid : IsValid equal (state_of ticket_of contents)
     pub sized : AreSizes contents.capacity contents.hot_target contents.ghost_limit
     pub hashed : AreHashed hash contents.lists

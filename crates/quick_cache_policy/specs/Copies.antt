@@ -8,10 +8,9 @@ use Rattle.quick_cache_lists.specs.Copies.{IsItemCopy}
 abbrev pub ClonesAreEqual : {K : Type 0} → (K → K → Bool) → (K → K → Type 0) → Type 0
 ClonesAreEqual {K} equal is_clone = (key clone : K) → is_clone key clone → equal key clone ≡ true
 
--- the same placeholder once more
-pub record IsShare {P : Type 0} (idx_of ticket_of : P → ℕ) (placeholder share : P) : Type 0 where
-  pub idx : idx_of share ≡ idx_of placeholder
-  pub ticket : ticket_of share ≡ ticket_of placeholder
+-- what is kept of a placeholder, once more
+abbrev pub IsKeptAgain : {P : Type 0} (ticket_of : P → ℕ) (kept copy : P) → Type 0
+IsKeptAgain ticket_of kept copy = ticket_of copy ≡ ticket_of kept
 
 -- the key that is being loaded, with a clone for the key
 pub record IsLoadingCopy {K : Type 0} (clones_key : K → K → Type 0)

@@ -55,10 +55,10 @@ Provides found strategy taken room (Some SlotsFull) =
 Provides found strategy taken room (Some TicketsSpent) = ⊥
 Provides found strategy taken room (Some Finished) = ⊥
 
-module _ {K V P A T : Type 0} (ticket_of : P → ℕ) (stands_for : K → Bool)
-    (old : Contents K V P A T) where
+module _ {K V P W A T : Type 0} (ticket_of : P → ℕ) (stands_for : K → Bool)
+    (old : Contents K V W A T P) where
   -- the query stands for the key of the item of this token, and it was looked up
-  pub record IsLookedUp (token : Token) (new : Contents K V P A T) : Type 0 where
+  pub record IsLookedUp (token : Token) (new : Contents K V W A T P) : Type 0 where
     pub item : Item K V
     pub now : IsItemOf new.lists (non_zero_u32_get token) (looked_up default_mark_cut item)
     pub value : UpToOrder
@@ -69,7 +69,7 @@ module _ {K V P A T : Type 0} (ticket_of : P → ℕ) (stands_for : K → Bool)
         (state_of ticket_of new)
 
   -- nothing was found, which shows neither a value nor a pair
-  pub record IsMissed (new : Contents K V P A T) : Type 0 where
+  pub record IsMissed (new : Contents K V W A T P) : Type 0 where
     pub value : UpToOrder (LooksUp stands_for (state_of ticket_of old) (λ i. i.value) None)
         (state_of ticket_of new)
     pub pair : UpToOrder (LooksUp stands_for (state_of ticket_of old) pair_of None)

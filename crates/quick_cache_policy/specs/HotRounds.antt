@@ -38,10 +38,10 @@ module _ {K V : Type 0} (steady : Type 0) (pinned : K → V → Bool) where
   SeekEnds may_count met old new visits =
       AfterTouches true default_mark_cut may_count old (λ mid. EndsWith met mid new visits)
 
-module _ {K V P A T : Type 0} where
+module _ {K V P W A T : Type 0} where
   -- The hot ring was visited so often, as told of its items, and each visit was counted.
   pub record VisitsHot (Ends : (old new : List (Item K V)) (visits : ℕ) → Type 0)
-      (old new : Contents K V P A T) : Type 0 where
+      (old new : Contents K V W A T P) : Type 0 where
     pub visits : ℕ
     pub ends : Ends (items_of old.lists.hot) (items_of new.lists.hot) visits
     pub counted : new.visits ≡ counted_up visits old.visits
@@ -49,8 +49,8 @@ module _ {K V P A T : Type 0} where
   -- The first item of the hot ring took its touches, where it was to take them, and was visited:
   -- its mark fell by one, not below 0, and the visit was counted.
   pub record VisitsFirst (steady : Type 0) (pinned : K → V → Bool) (takes_touches : Bool)
-      (may_count : ℕ → Type 0) (old : Contents K V P A T) (met : Visit)
-      (new : Contents K V P A T) : Type 0 where
+      (may_count : ℕ → Type 0) (old : Contents K V W A T P) (met : Visit)
+      (new : Contents K V W A T P) : Type 0 where
     pub held : HeldItem K V
     pub rest : List (HeldItem K V)
     pub stands : old.lists.hot ≡ held ∷ rest

@@ -37,22 +37,23 @@ module _ {K V : Type 0} (stands_for : K → Bool) (gives : K → Type 0) (hash :
     pub cause : MayRefuse (needs_of_placeholder stands_for hash old) old refusal
     pub unchanged : new ≡ old
 
-module _ {K V P A T : Type 0} (ticket_of : P → ℕ) (stands_for : K → Bool) (gives : K → Type 0)
-    (hash : ℕ) (old : Contents K V P A T) where
+-- what stands in slots has tickets, and the placeholder that is the answer has its own
+module _ {K V W P A T : Type 0} (ticket_of : P → ℕ) (own_ticket : W → ℕ) (stands_for : K → Bool)
+    (gives : K → Type 0) (hash : ℕ) (old : Contents K V W A T P) where
   -- what a call made of a query under which no key is found
-  abbrev pub Makes : Result P Refusal → Contents K V P A T → Type 0
+  abbrev pub Makes : Result W Refusal → Contents K V W A T P → Type 0
   Makes (Ok placeholder) new =
-      IsMade stands_for gives hash (state_of ticket_of old) (ticket_of placeholder)
+      IsMade stands_for gives hash (state_of ticket_of old) (own_ticket placeholder)
       (state_of ticket_of new)
   Makes (Err refusal) new =
       MakesNone stands_for gives hash (state_of ticket_of old) refusal (state_of ticket_of new)
 
   -- the answer of a look-up that makes a placeholder where no key is found
-  abbrev pub LooksUpOrMakes : Result (Result Token (P × Bool)) Refusal → Contents K V P A T
+  abbrev pub LooksUpOrMakes : Result (Result Token (W × Bool)) Refusal → Contents K V W A T P
       → Type 0
   LooksUpOrMakes (Ok (Ok token)) new = IsLookedUp ticket_of stands_for old token new
   LooksUpOrMakes (Ok (Err begun)) new =
-      IsMadeOrMet stands_for gives hash (state_of ticket_of old) begun.1 (ticket_of begun.0)
+      IsMadeOrMet stands_for gives hash (state_of ticket_of old) begun.1 (own_ticket begun.0)
       (state_of ticket_of new)
   LooksUpOrMakes (Err refusal) new =
       MakesNone stands_for gives hash (state_of ticket_of old) refusal (state_of ticket_of new)

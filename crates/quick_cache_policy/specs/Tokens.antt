@@ -26,8 +26,8 @@ pub record HasValue {K V : Type 0} (state : CacheState K V) (value : V) : Type 0
   pub shows : value ≡ item.value
 
 -- the item of this token goes and gives its pair
-pub record TakesToken {K V P A T : Type 0} (old : Contents K V P A T) (token : ℕ) (pair : K × V)
-    (new : Contents K V P A T) : Type 0 where
+pub record TakesToken {K V P W A T : Type 0} (old : Contents K V W A T P) (token : ℕ) (pair : K × V)
+    (new : Contents K V W A T P) : Type 0 where
   pub item : Item K V
   pub stood : IsItemOf old.lists token item
   pub gives : pair ≡ pair_of item

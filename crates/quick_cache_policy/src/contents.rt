@@ -20,7 +20,7 @@ pub struct Contents<K: Eq + Hash, V, P: SharedPlaceholder<K>, A: Allocator = Glo
     /// line to each other and not two.
     pub shared_hits: P::Touch,
     pub shared_misses: P::Touch,
-    pub lists: Lists<K, V, P, P::Touch, A>,
+    pub lists: Lists<K, V, P::Kept, P::Touch, A>,
     pub capacity: u64,
     pub hot_target: u64,
     pub ghost_limit: usize,

@@ -3,7 +3,7 @@ ghost use Rattle.std.specs.Prelude.{◌≡◌, ℕ, IfOk, IfErr};
 ghost use Rattle.quick_cache_model.specs.Hashing.{hash_of};
 ghost use Rattle.quick_cache_model.specs.declared.refusal.Refusal.TheVariants.{Memory};
 ghost use Rattle.quick_cache_policy.specs.Contents.{IsSound, state_of, work_of};
-ghost use Rattle.quick_cache_policy.specs.Copies.{ClonesAreEqual, IsCopyOf, IsShare};
+ghost use Rattle.quick_cache_policy.specs.Copies.{ClonesAreEqual, IsCopyOf, IsKeptAgain};
 ghost use Rattle.quick_cache_policy.specs.Work.{no_work};
 
 use crate::contents::Contents;
@@ -12,26 +12,28 @@ use quick_cache_lists::Copying;
 use quick_cache_model::{Refusal, hash_of};
 use std::alloc::Allocator;
 use std::hash::{BuildHasher, Hash};
+use std::marker::PhantomData;
 
-// A copy whose keys are hashed by a builder, and whose placeholders are shared.
+// A copy whose keys are hashed by a builder, and which keeps of placeholders what is kept of them.
 #[derive(Drop)]
-struct HashedAnew<'a, B> {
+struct HashedAnew<'a, P, B> {
     builder: &'a B,
+    placeholders: PhantomData<P>,
 }
 
-impl<'a, K: Eq + Hash, P: SharedPlaceholder<K>, B: BuildHasher> Copying<K, P>
-    for HashedAnew<'a, B> {
+impl<'a, K: Eq + Hash, P: SharedPlaceholder<K>, B: BuildHasher> Copying<K, P::Kept>
+    for HashedAnew<'a, P, B> {
     ghost hash_of = { λ anew key.
         hash_of B.BuildHasher B.Hasher.Hasher anew.builder.now (K.hash_input key) };
 
-    ghost shares = { λ anew. IsShare P.idx_of P.ticket_of };
+    ghost shares = { λ anew. IsKeptAgain P.ticket_of };
 
     fn hash(&self, key: &K) -> u64 {
         hash_of(self.builder, key)
     }
 
-    fn share(&self, placeholder: &P) -> P {
-        placeholder.share()
+    fn share(&self, kept: &P::Kept) -> P::Kept {
+        P::keep_again(kept)
     }
 }
 
@@ -59,8 +61,12 @@ impl<
         let Ok(alloc) = alloc else {
             return Err(Refusal::Memory);
         };
+        let anew = HashedAnew {
+            builder,
+            placeholders: PhantomData::<P>,
+        };
         Ok(Contents {
-            lists: self.lists.try_clone(alloc, &HashedAnew { builder })?,
+            lists: self.lists.try_clone(alloc, &anew)?,
             capacity: self.capacity,
             hot_target: self.hot_target,
             ghost_limit: self.ghost_limit,

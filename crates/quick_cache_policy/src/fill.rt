@@ -27,11 +27,11 @@ struct SameTicket<'a, P> {
     placeholder: &'a P,
 }
 
-impl<'a, K: Eq + Hash, P: SharedPlaceholder<K>> Meaning<K, P> for SameTicket<'a, P> {
-    ghost means = { λ same other. P.ticket_of same.placeholder.now == P.ticket_of other };
+impl<'a, K: Eq + Hash, P: SharedPlaceholder<K>> Meaning<K, P::Kept> for SameTicket<'a, P> {
+    ghost means = { λ same kept. P.own_ticket same.placeholder.now == P.ticket_of kept };
 
-    fn means(&self, placeholder: &P) -> bool {
-        self.placeholder.same_as(placeholder)
+    fn means(&self, kept: &P::Kept) -> bool {
+        self.placeholder.keeps(kept)
     }
 }
 
@@ -58,12 +58,12 @@ impl<K: Eq + Hash + Drop, V: Drop, P: SharedPlaceholder<K>, A: Allocator> Conten
     )
         requires sound { IsSound P.ticket_of K.eq (M.hashed terms.now) self.old }
         requires found { FindsPlaceholder
-            (λ other. P.ticket_of placeholder.now == P.ticket_of other)
+            (λ kept. P.own_ticket placeholder.now == P.ticket_of kept)
             self.old.lists (number token) }
         ensures fills { Calls (M.hooks terms.now)
-            (Fills (M.steady terms.now) (P.ticket_of placeholder.now) (state_of P.ticket_of self.old)
-            (rules_by M.Policy P.Touch.may_count terms.now) marked value
-            (state_of P.ticket_of self.new))
+            (Fills (M.steady terms.now) (P.own_ticket placeholder.now)
+            (state_of P.ticket_of self.old) (rules_by M.Policy P.Touch.may_count terms.now)
+            marked value (state_of P.ticket_of self.new))
             state.old state.new }
         ensures sound { IsSound P.ticket_of K.eq (M.hashed terms.now) self.new }
         ensures room { self.old.lists.room ≤ self.new.lists.room }
@@ -126,7 +126,7 @@ impl<K: Eq + Hash + Drop, V: Drop, P: SharedPlaceholder<K>, A: Allocator> Conten
     ) -> Result<(), V>
         requires sound { IsSound P.ticket_of K.eq (M.hashed terms.now) self.old }
         ensures fills { Calls (M.hooks terms.now)
-            (AnswersFill (M.steady terms.now) (P.ticket_of placeholder.now)
+            (AnswersFill (M.steady terms.now) (P.own_ticket placeholder.now)
             (state_of P.ticket_of self.old) (rules_by M.Policy P.Touch.may_count terms.now)
             marked value result (state_of P.ticket_of self.new))
             state.old state.new }
@@ -159,7 +159,7 @@ impl<K: Eq + Hash + Drop, V: Drop, P: SharedPlaceholder<K>, A: Allocator> Conten
     /// `replace_placeholder`.
     pub fn remove_placeholder(&mut self, placeholder: &P)
         ensures gives_up { UpToOrder
-            (GivesUpPlaceholder (P.ticket_of placeholder.now) (state_of P.ticket_of self.old))
+            (GivesUpPlaceholder (P.own_ticket placeholder.now) (state_of P.ticket_of self.old))
             (state_of P.ticket_of self.new) }
         ensures sound { (hashed : K → ℕ) → IsSound P.ticket_of K.eq hashed self.old
             → IsSound P.ticket_of K.eq hashed self.new }

@@ -67,9 +67,9 @@ impl<K: Eq + Hash + Drop, V: Drop, P: SharedPlaceholder<K>, A: Allocator> Conten
     {
         self.visits = self.visits.saturating_add(1);
         let item = self.lists.item(token);
-        let (mark, reads) = (item.mark(), item.reads());
+        let mark = item.mark();
         let is_pinned = terms.is_pinned(item.key(), item.value());
-        self.lists.set_counts(token, mark.saturating_sub(1), reads);
+        self.lists.set_mark(token, mark.saturating_sub(1));
         if is_pinned {
             return Visit::Pinned;
         }

@@ -17,29 +17,32 @@ use std::alloc::Allocator;
 use std::hash::Hash;
 
 impl<K: Eq + Hash + Drop, V: Drop, P: SharedPlaceholder<K>, A: Allocator> Contents<K, V, P, A> {
-    /// A key of the query's and its placeholder, for the slot of that token. Nothing changes.
+    /// A key of the query's with what is kept of its placeholder, for the slot of that token, and
+    /// the placeholder. Nothing changes.
     fn await_key<Q: ToKey<K>>(
         &self,
         token: Token,
         hash: u64,
         query: &Q,
         queue: Queue,
-    ) -> Result<Awaited<K, P>, Refusal>
-        ensures key { IfOk result (λ awaited. Q.to_key_gives query.now awaited.key) }
-        ensures queue { IfOk result (λ awaited. awaited.queue ≡ queue) }
-        ensures ticket { IfOk result
-            (λ awaited. P.ticket_of awaited.placeholder ≡ self.now.next_ticket) }
-        ensures idx { IfOk result (λ awaited. P.idx_of awaited.placeholder ≡ number token) }
-        ensures hash { IfOk result (λ awaited. P.hash_of awaited.placeholder ≡ hash) }
+    ) -> Result<(Awaited<K, P::Kept>, P), Refusal>
+        ensures key { IfOk result (λ made. Q.to_key_gives query.now made.0.key) }
+        ensures queue { IfOk result (λ made. made.0.queue ≡ queue) }
+        ensures kept { IfOk result
+            (λ made. P.ticket_of made.0.placeholder ≡ self.now.next_ticket) }
+        ensures ticket { IfOk result (λ made. P.own_ticket made.1 ≡ self.now.next_ticket) }
+        ensures idx { IfOk result (λ made. P.idx_of made.1 ≡ number token) }
+        ensures hash { IfOk result (λ made. P.hash_of made.1 ≡ hash) }
         ensures refused { IfErr result (λ refusal. refusal ≡ Memory) }
     {
         let key = query.to_key()?;
         let placeholder = P::new(hash, token, self.next_ticket, query)?;
-        Ok(Awaited {
+        let awaited = Awaited {
             key,
             queue,
-            placeholder,
-        })
+            placeholder: placeholder.keep(),
+        };
+        Ok((awaited, placeholder))
     }
 
     /// Counts a placeholder that was made: the next ticket is one further on.
@@ -61,8 +64,8 @@ impl<K: Eq + Hash + Drop, V: Drop, P: SharedPlaceholder<K>, A: Allocator> Conten
         requires stands { (key : K) → Q.to_key_gives query.now key
             → Q.equivalent query.now key ≡ true }
         requires found { Finds (Q.equivalent query.now) hash self.old.lists Found.Nothing }
-        ensures makes { Makes P.ticket_of (Q.equivalent query.now) (Q.to_key_gives query.now) hash
-            self.old result self.new }
+        ensures makes { Makes P.ticket_of P.own_ticket (Q.equivalent query.now)
+            (Q.to_key_gives query.now) hash self.old result self.new }
         ensures hash { IfOk result (λ made. P.hash_of made ≡ hash) }
         ensures sound { (hashed : K → ℕ)
             → ((key : K) → Q.equivalent query.now key ≡ true → hashed key ≡ hash)
@@ -80,11 +83,10 @@ impl<K: Eq + Hash + Drop, V: Drop, P: SharedPlaceholder<K>, A: Allocator> Conten
         }
         self.lists.make_room()?;
         let token = self.lists.next_token();
-        let awaited = self.await_key(token, hash, query, Queue::Cold)?;
-        let shared = awaited.placeholder.share();
+        let (awaited, placeholder) = self.await_key(token, hash, query, Queue::Cold)?;
         let _ = self.lists.put(hash, Entry::Loading(awaited));
         self.count_made();
-        Ok(shared)
+        Ok(placeholder)
     }
 
     /// Makes a hot placeholder where a ghost is found, in its slot: the ghost goes once there is a
@@ -99,8 +101,8 @@ impl<K: Eq + Hash + Drop, V: Drop, P: SharedPlaceholder<K>, A: Allocator> Conten
         requires stands { (key : K) → Q.to_key_gives query.now key
             → Q.equivalent query.now key ≡ true }
         requires found { Finds (Q.equivalent query.now) hash self.old.lists (Found.Ghost token) }
-        ensures makes { Makes P.ticket_of (Q.equivalent query.now) (Q.to_key_gives query.now) hash
-            self.old result self.new }
+        ensures makes { Makes P.ticket_of P.own_ticket (Q.equivalent query.now)
+            (Q.to_key_gives query.now) hash self.old result self.new }
         ensures hash { IfOk result (λ made. P.hash_of made ≡ hash) }
         ensures sound { (hashed : K → ℕ)
             → ((key : K) → Q.equivalent query.now key ≡ true → hashed key ≡ hash)
@@ -117,11 +119,10 @@ impl<K: Eq + Hash + Drop, V: Drop, P: SharedPlaceholder<K>, A: Allocator> Conten
             return Err(Refusal::TicketsSpent);
         }
         self.lists.apart();
-        let awaited = self.await_key(token, hash, query, Queue::Hot)?;
-        let shared = awaited.placeholder.share();
+        let (awaited, placeholder) = self.await_key(token, hash, query, Queue::Hot)?;
         let _ = self.lists.replace(token, false, Entry::Loading(awaited));
         self.count_made();
-        Ok(shared)
+        Ok(placeholder)
     }
 
     /// The placeholder of a token, which is met: a hit is counted.
@@ -129,14 +130,14 @@ impl<K: Eq + Hash + Drop, V: Drop, P: SharedPlaceholder<K>, A: Allocator> Conten
         requires found { Finds (Q.equivalent query.now) hash self.old.lists (Found.Loading token) }
         ensures meets { UpToOrder
             (MeetsPlaceholder (Q.equivalent query.now) (state_of P.ticket_of self.old)
-            (P.ticket_of result))
+            (P.own_ticket result))
             (state_of P.ticket_of self.new) }
         ensures same { self.new ≡ record self.old { hits = self.new.hits } }
     {
         self.lists.apart();
-        let shared = self.lists.awaited(token).placeholder().share();
+        let placeholder = P::met(self.lists.awaited(token).placeholder(), hash, token);
         self.hits = self.hits.saturating_add(1);
-        shared
+        placeholder
     }
 
     /// Looks the query's key up as `look_up` does, and gives the token of its item. A placeholder
@@ -154,7 +155,7 @@ impl<K: Eq + Hash + Drop, V: Drop, P: SharedPlaceholder<K>, A: Allocator> Conten
         requires under { AreUnder (Q.equivalent query.now) hash self.old.lists }
         requires stands { (key : K) → Q.to_key_gives query.now key
             → Q.equivalent query.now key ≡ true }
-        ensures answers { LooksUpOrMakes P.ticket_of (Q.equivalent query.now)
+        ensures answers { LooksUpOrMakes P.ticket_of P.own_ticket (Q.equivalent query.now)
             (Q.to_key_gives query.now) hash self.old result self.new }
         ensures hash { IsMadeUnder P.hash_of hash result }
         ensures sound { (hashed : K → ℕ)

@@ -79,13 +79,11 @@ impl<K: Eq + Hash, V, P: SharedPlaceholder<K>, A: Allocator> Contents<K, V, P, A
         self.lists.apart();
         let item = self.lists.item(token);
         let mark = item.mark();
-        let reads = item.reads().saturating_add(1);
         // A full mark is not written again: most look-ups meet one, and write one number of a slot.
         if mark == MARK_CUT {
-            self.lists.set_reads(token, reads);
+            self.lists.count_read(token);
         } else {
-            self.lists
-                .set_counts(token, mark.min(MARK_CUT - 1) + 1, reads);
+            self.lists.count_use(token, mark.min(MARK_CUT - 1) + 1);
         }
         self.hits = self.hits.saturating_add(1);
     }

@@ -44,7 +44,7 @@ impl<K: Eq + Hash, V, P: SharedPlaceholder<K>, A: Allocator> Contents<K, V, P, A
     pub fn value_mut(&mut self, token: Token) -> &mut V
         requires { HasItemToken self.old.lists (number token) }
         ensures* writes_back { sem 𝓛 (lends_value_at K.row V.row P.row A.row P.Touch.row
-            A.Allocator self.entry (number token) result) }
+            P.Kept.row A.Allocator self.entry (number token) result) }
         ensures value { IsValueAt self.old.lists (number token) result.now }
     {
         self.lists.value_mut(token)

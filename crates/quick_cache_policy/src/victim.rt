@@ -104,6 +104,7 @@ impl<K: Eq + Hash + Drop, V: Drop, P: SharedPlaceholder<K>, A: Allocator> Conten
     }
 
     /// Lets the first cold item go. Where it leaves, its hash becomes the newest ghost.
+    #[inline(always)]
     fn evict_cold<M: Policy<K, V>>(&mut self, token: Token, terms: &M, state: &mut M::RequestState)
         requires sound { IsSound P.ticket_of K.eq (M.hashed terms.now) self.old }
         requires first { IsFirstOf (λ held. held.token) self.old.lists.cold (Some token) }

@@ -72,7 +72,7 @@ module _ {K V We B L : Type 0} where
   }
 
 -- calls of `next` drain along
-pub Drains_in_all : {K V We B L P A H T : Type 0} (first : Drain K V We B L P A H T)
+pub Drains_in_all : {K V We B L P A H T Kept : Type 0} (first : Drain K V We B L P A H T Kept)
     → DrainsInAll first
 Drains_in_all first [] later run =
     subst (DrainsAlong first []) run (record {

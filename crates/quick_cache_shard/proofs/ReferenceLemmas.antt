@@ -33,7 +33,7 @@ module _ {K V : Type 0} (stands_for : K → Bool) where
     count_under-reordered stands_for looks.ordered new looks.same,
   )
 
-module _ {K V P A T : Type 0} (ticket_of : P → ℕ) (contents : Contents K V P A T)
+module _ {K V P W A T : Type 0} (ticket_of : P → ℕ) (contents : Contents K V W A T P)
     (apart : AreApart contents.lists) (token : ℕ) (stands_for : K → Bool) (hash : ℕ)
     (found : FindsItem stands_for hash contents.lists token) (equal : K → K → Bool)
     (same : (first second : K) → stands_for first ≡ true → stands_for second ≡ true

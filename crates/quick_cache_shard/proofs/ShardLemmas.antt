@@ -7,8 +7,8 @@ use Rattle.quick_cache_shard.specs.Shard.{IsSoundShard}
 use Rattle.quick_cache_policy.specs.declared.contents.Contents.{Contents}
 use Rattle.quick_cache_policy.proofs.AnswerLemmas.{entry_count-taken}
 
-module _ {K V P A T We B L : Type 0} (ticket_of : P → ℕ) (equal : K → K → Bool) (hash : K → ℕ)
-    (contents : Contents K V P A T) where
+module _ {K V P W A T We B L : Type 0} (ticket_of : P → ℕ) (equal : K → K → Bool) (hash : K → ℕ)
+    (contents : Contents K V W A T P) where
   -- a sound cache in its slots is a sound shard
   pub IsSound-shard : IsSound ticket_of equal hash contents
       → entry_count contents.lists ≤ 4294967294 → (weigher : We) (builder : B) (lifecycle : L)

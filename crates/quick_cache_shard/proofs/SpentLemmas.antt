@@ -6,8 +6,8 @@ use Rattle.quick_cache_policy.specs.declared.contents.Contents.{Contents}
 use Rattle.quick_cache_policy.specs.Contents.{IsSound, state_of}
 
 -- where nothing is loading, the next ticket may be any
-pub IsSound-ticket : {K V P A T : Type 0} (ticket_of : P → ℕ) (equal : K → K → Bool) (hash : K → ℕ)
-    (contents : Contents K V P A T) (capacity target limit ticket : ℕ)
+pub IsSound-ticket : {K V P W A T : Type 0} (ticket_of : P → ℕ) (equal : K → K → Bool)
+    (hash : K → ℕ) (contents : Contents K V W A T P) (capacity target limit ticket : ℕ)
     → state_of ticket_of contents ≡ empty_state capacity target limit
     → IsSound ticket_of equal hash contents
     → IsSound ticket_of equal hash (record contents { next_ticket = ticket })

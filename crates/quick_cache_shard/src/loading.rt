@@ -43,7 +43,7 @@ impl<
             (Q.hash_input query.now) }
         requires stands { (key : K) → Q.to_key_gives query.now key
             → Q.equivalent query.now key ≡ true }
-        ensures answers { LooksUpOrMakes P.ticket_of (Q.equivalent query.now)
+        ensures answers { LooksUpOrMakes P.own_ticket (Q.equivalent query.now)
             (Q.to_key_gives query.now) hash self.old.state result self.new.state }
         // A new placeholder has the hash of its key.
         ensures hash { IsMadeUnder P.hash_of hash result }
@@ -80,7 +80,7 @@ impl<
         L: Lifecycle<K, V>,
         // Where pinning is steady, the fill is a step of its definition.
         ensures fills { Calls (hooks_of L.Lifecycle self.old)
-            (AnswersFill (L.steady self.old.lifecycle) (P.ticket_of placeholder.now) self.old.state
+            (AnswersFill (L.steady self.old.lifecycle) (P.own_ticket placeholder.now) self.old.state
             (rules_of P.Touch.may_count K.Hash.hash_input We.Weighter B.BuildHasher
             B.Hasher.Hasher L.Lifecycle self.old)
             referenced value result self.new.state)
@@ -107,7 +107,7 @@ impl<
     /// for as by `replace_placeholder`.
     pub fn remove_placeholder(&mut self, placeholder: &P)
         ensures gives_up { UpToOrder
-            (GivesUpPlaceholder (P.ticket_of placeholder.now) self.old.state) self.new.state }
+            (GivesUpPlaceholder (P.own_ticket placeholder.now) self.old.state) self.new.state }
         ensures room { self.old.room ≤ self.new.room }
         ensures same { self.new ≡ record self.old { state = self.new.state; room = self.new.room } }
         ensures sound { IsSoundShard K.eq self.new }

@@ -82,7 +82,7 @@ impl<K: Eq + Hash, V, We, B: BuildHasher, L, P: SharedPlaceholder<K>, A: Allocat
             (Q.hash_input query.now) }
         requires there { 0 < count_under (Q.equivalent query.now) self.old.state }
         ensures* writes_back { sem 𝓛 (lends_under K.row V.row We.row B.row L.row P.row A.row
-            B.Hasher.row P.Touch.row K.eq K.hash_input B.BuildHasher B.Hasher.Hasher
+            B.Hasher.row P.Touch.row P.Kept.row K.eq K.hash_input B.BuildHasher B.Hasher.Hasher
             P.SharedPlaceholder P.Touch.is_default P.Touch.may_count
             P.Touch.none_counted A.Allocator self.entry (Q.equivalent query.now) result) }
         ensures value { IsValueUnder (Q.equivalent query.now) self.old.state result.now }

@@ -243,7 +243,7 @@ impl<K: Eq + Hash, V, We, B: BuildHasher, L, P: SharedPlaceholder<K>, A: Allocat
         requires hash_is { hash ≡ hash_of B.BuildHasher B.Hasher.Hasher self.old.builder
             (Q.hash_input query.now) }
         ensures* looks_up { sem 𝓛 (ends_so K.row V.row We.row B.row L.row P.row A.row
-            B.Hasher.row P.Touch.row K.eq K.hash_input B.BuildHasher B.Hasher.Hasher
+            B.Hasher.row P.Touch.row P.Kept.row K.eq K.hash_input B.BuildHasher B.Hasher.Hasher
             P.SharedPlaceholder P.Touch.is_default P.Touch.may_count
             P.Touch.none_counted A.Allocator self.entry
             (λ new. UpToOrder (LooksUp (Q.equivalent query.now) self.old.state (λ item. item.value)
@@ -260,7 +260,7 @@ impl<K: Eq + Hash, V, We, B: BuildHasher, L, P: SharedPlaceholder<K>, A: Allocat
         requires hash_is { hash ≡ hash_of B.BuildHasher B.Hasher.Hasher self.old.builder
             (Q.hash_input query.now) }
         ensures* looks_up { sem 𝓛 (ends_so K.row V.row We.row B.row L.row P.row A.row
-            B.Hasher.row P.Touch.row K.eq K.hash_input B.BuildHasher B.Hasher.Hasher
+            B.Hasher.row P.Touch.row P.Kept.row K.eq K.hash_input B.BuildHasher B.Hasher.Hasher
             P.SharedPlaceholder P.Touch.is_default P.Touch.may_count
             P.Touch.none_counted A.Allocator self.entry
             (λ new. UpToOrder (LooksUp (Q.equivalent query.now) self.old.state pair_of

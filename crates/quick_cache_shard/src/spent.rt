@@ -39,14 +39,24 @@ struct Numbers {
     ticket: u64,
 }
 
+/// The ticket of a placeholder: all that its slot keeps of it.
+#[derive(Drop)]
+struct Ticket {
+    number: u64,
+}
+
 impl<K: Eq + Hash> SharedPlaceholder<K> for Numbers {
     type Touch = NoTouches;
+
+    type Kept = Ticket;
 
     ghost hash_of = { λ numbers. numbers.hash };
 
     ghost idx_of = { λ numbers. non_zero_u32_get numbers.idx };
 
-    ghost ticket_of = { λ numbers. numbers.ticket };
+    ghost own_ticket = { λ numbers. numbers.ticket };
+
+    ghost ticket_of = { λ kept. kept.number };
 
     fn new<Q: ToKey<K>>(hash: u64, idx: Token, ticket: u64, _query: &Q) -> Result<Self, Refusal> {
         Ok(Numbers { hash, idx, ticket })
@@ -69,6 +79,30 @@ impl<K: Eq + Hash> SharedPlaceholder<K> for Numbers {
             hash: self.hash,
             idx: self.idx,
             ticket: self.ticket,
+        }
+    }
+
+    fn keep(&self) -> Ticket {
+        Ticket {
+            number: self.ticket,
+        }
+    }
+
+    fn keeps(&self, kept: &Ticket) -> bool {
+        self.ticket == kept.number
+    }
+
+    fn met(kept: &Ticket, hash: u64, idx: Token) -> Self {
+        Numbers {
+            hash,
+            idx,
+            ticket: kept.number,
+        }
+    }
+
+    fn keep_again(kept: &Ticket) -> Ticket {
+        Ticket {
+            number: kept.number,
         }
     }
 }

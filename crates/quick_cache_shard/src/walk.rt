@@ -15,7 +15,7 @@ use std::marker::Model;
 /// first.
 #[derive(Drop)]
 pub struct RingIter<'a, K: Eq + Hash, V, P: SharedPlaceholder<K>, A: Allocator = Global> {
-    pub(crate) items: Ring<'a, K, V, P, P::Touch, A>,
+    pub(crate) items: Ring<'a, K, V, P::Kept, P::Touch, A>,
 }
 
 impl<'a, K: Eq + Hash, V, P: SharedPlaceholder<K>, A: Allocator> Model
@@ -64,7 +64,7 @@ impl<'a, K: Eq + Hash, V, P: SharedPlaceholder<K>, A: Allocator> FusedIterator
 /// The hashes of the ghosts, the oldest first.
 #[derive(Drop)]
 pub struct GhostIter<'a, K: Eq + Hash, V, P: SharedPlaceholder<K>, A: Allocator = Global> {
-    pub(crate) hashes: Ghosts<'a, K, V, P, P::Touch, A>,
+    pub(crate) hashes: Ghosts<'a, K, V, P::Kept, P::Touch, A>,
 }
 
 impl<'a, K: Eq + Hash, V, P: SharedPlaceholder<K>, A: Allocator> Model
@@ -111,7 +111,7 @@ impl<'a, K: Eq + Hash, V, P: SharedPlaceholder<K>, A: Allocator> FusedIterator
 /// All items, those of weight 0 too, each once as its key and its value, in no order that is told.
 #[derive(Drop)]
 pub struct Iter<'a, K: Eq + Hash, V, P: SharedPlaceholder<K>> {
-    pub(crate) items: Items<'a, K, V, P, P::Touch>,
+    pub(crate) items: Items<'a, K, V, P::Kept, P::Touch>,
 }
 
 impl<'a, K: Eq + Hash, V, P: SharedPlaceholder<K>> Model for Iter<'a, K, V, P> {

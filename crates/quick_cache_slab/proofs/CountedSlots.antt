@@ -1,10 +1,10 @@
 -- The slots are those with an item and those that are free.
-use Rattle.std.proofs.Common.{◌≡◌, ◌≢◌, ℕ, zero, suc, ◌+◌, ◌<◌, ◌≤◌, Bool, true, false, cond, eqb, List, [], ◌∷◌, length, take, count_by, get_or, Option, None, is_some, refl, sym, subst, ◌∙◌, inl, inr, arith}
+use Rattle.std.proofs.Common.{◌≡◌, ◌≢◌, ℕ, zero, suc, ◌+◌, ◌<◌, ◌≤◌, true, false, cond, eqb, List, [], ◌∷◌, length, take, count_by, get_or, Option, None, is_some, refl, sym, subst, ◌∙◌, inl, inr, arith}
 use Rattle.std.proofs.lemmas.Bool.{cases_eq, cases_Bool, eq-eqb, ne_eqb}
 use Rattle.std.proofs.lemmas.List.{take_all}
 use Rattle.std.proofs.lemmas.List.Sums.{count_by_more_yes, count_by_more_no}
 use Rattle.quick_cache_slab.specs.LinkedSlab.{times}
-use Rattle.quick_cache_slab.specs.Links.{AreFree, is_taken}
+use Rattle.quick_cache_slab.specs.Links.{AreFree}
 use Rattle.quick_cache_slab.proofs.TokenCounts.{times-here}
 
 -- what a number of each token from 1 to n comes to

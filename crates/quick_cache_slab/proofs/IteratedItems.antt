@@ -1,34 +1,32 @@
 -- The items of a list of slots, as iterators come to them.
-use Rattle.std.proofs.Common.{◌≡◌, ℕ, zero, suc, ◌+◌, ◌-◌, ◌<◌, ◌≤◌, min, List, [], ◌∷◌, length, get_or, set, take, drop, filter_map, Option, Some, None, refl, sym, ap, subst, ◌∙◌, inl, inr, arith}
+use Rattle.std.proofs.Common.{◌≡◌, ℕ, zero, suc, ◌+◌, ◌-◌, ◌<◌, ◌≤◌, min, List, [], ◌∷◌, length, get_or, set, take, drop, map, filter_map, Option, Some, None, refl, sym, ap, subst, ◌∙◌, inl, inr, arith}
 use Rattle.std.proofs.lemmas.Bool.{cases_lt, cases_eq}
 use Rattle.std.proofs.lemmas.List.{take_rest, drop-map, drop_all, get_or_past, length-map}
 use Rattle.quick_cache_slab.specs.LinkedSlab.{at_token, with_token, entries_past}
-use Rattle.quick_cache_slab.specs.Links.{slots_of}
 use Rattle.quick_cache_slab.specs.SlabDrain.{DrainKeeps, DrainKeepsAlong}
-use Rattle.quick_cache_slab.specs.declared.linked_slab.links.Node.{Node}
 use Rattle.quick_cache_slab.specs.declared.linked_slab.drain.Drain.{Drain}
 use Rattle.quick_cache_slab.proofs.AtTokens.{at_token-suc, with_token-suc, at_token-with_same, at_token-with_other}
 
 module _ {T : Type 0} where
   -- the entries past a place beyond the end are none
-  pub entries_rest : (nodes : List (Node T)) (passed at : ℕ) → at ≡ min passed (length nodes)
-      → entries_past at (slots_of (take (length nodes - at) (drop at nodes)))
-      ≡ entries_past passed (drop passed (slots_of nodes))
-  entries_rest nodes passed at is_min =
-      let front : slots_of (take (length nodes - at) (drop at nodes)) ≡ drop at (slots_of nodes) =
-      ap slots_of (take_rest nodes at) ∙ sym (drop-map (λ (n : Node T). n.item) at nodes) in
+  pub entries_rest : {N : Type 0} (item_of : N → Option T) (nodes : List N) (passed at : ℕ) → at ≡ min passed (length nodes)
+      → entries_past at (map item_of (take (length nodes - at) (drop at nodes)))
+      ≡ entries_past passed (drop passed (map item_of nodes))
+  entries_rest item_of nodes passed at is_min =
+      let front : map item_of (take (length nodes - at) (drop at nodes)) ≡ drop at (map item_of nodes) =
+      ap (map item_of) (take_rest nodes at) ∙ sym (drop-map item_of at nodes) in
       ap (entries_past at) front ∙ by_order
     where
-      by_order : entries_past at (drop at (slots_of nodes))
-          ≡ entries_past passed (drop passed (slots_of nodes))
+      by_order : entries_past at (drop at (map item_of nodes))
+          ≡ entries_past passed (drop passed (map item_of nodes))
       by_order =
           elim (cases_lt passed (length nodes)) [
             | inl below ↦ let same : at ≡ passed = omega arith in rw same refl
             | inr above ↦
-                let long = length-map nodes (λ (n : Node T). n.item) in
+                let long = length-map nodes item_of in
                 rw (
-                  drop_all at (slots_of nodes) (omega arith),
-                  drop_all passed (slots_of nodes)
+                  drop_all at (map item_of nodes) (omega arith),
+                  drop_all passed (map item_of nodes)
                       (omega arith),
                 ) refl
           ]
@@ -95,7 +93,7 @@ module _ {T : Type 0} where
       by_other : (t : ℕ) → t ≤ passed + 1 → (t ≡ token → ⊥) → t ≤ passed
       by_other t below differs = omega arith
 
-pub Drain_keeps_along : {T A : Type 0} (first : Drain T A) → DrainKeepsAlong first
+pub Drain_keeps_along : {T A N : Type 0} (first : Drain T A N) → DrainKeepsAlong first
 Drain_keeps_along first [] later run = subst (DrainKeeps first) run (refl, refl)
 Drain_keeps_along first (item ∷ rest) later run =
     let step = run.1.1 in

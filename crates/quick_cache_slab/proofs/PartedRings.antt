@@ -4,9 +4,7 @@ use Rattle.std.proofs.lemmas.Bool.{cases_Bool, eq-eqb}
 use Rattle.std.specs.Int.NonZero.{non_zero_u32_get}
 use Rattle.std.specs.declared.num.NonZeroU32.{NonZeroU32 as Token}
 use Rattle.quick_cache_slab.specs.LinkedSlab.{at_token, first_or, times, before_head, joined, without, ring_from, linked, unlinked, IsParted}
-use Rattle.quick_cache_slab.specs.Links.{Leads, IsRing, link_of, is_taken, ring_at, rings_of, view_of, room_of, AreLinked, IsSound, slots_of, nexts_of, prevs_of}
-use Rattle.quick_cache_slab.specs.declared.linked_slab.links.Node.{Node}
-use Rattle.quick_cache_slab.proofs.NodeFields.{length-slots_of}
+use Rattle.quick_cache_slab.specs.Links.{Leads, IsRing, link_of, is_taken, ring_at, rings_of, view_of, room_of, AreLinked, IsSound}
 use Rattle.quick_cache_slab.proofs.TokenCounts.{times-here, times-append}
 use Rattle.quick_cache_slab.proofs.AtTokens.{at_token-with_same, at_token-with_other, at_token-map}
 use Rattle.quick_cache_slab.proofs.SlotRings.{taken_within, ring_at-is, ring_at-free, length-rings_of, at_token-rings_of}
@@ -177,13 +175,12 @@ module _ {T : Type 0} where
     λ alone. next ∙ alone-to_link slots nexts prevs first room t linked (ap is_some item) alone,
   )
 
-  -- what always holds of a slab, from what always holds of its nodes
-  pub IsParted-nodes : (nodes : List (Node T)) (first capacity len : ℕ) → len ≡ length nodes
-      → IsSound (slots_of nodes) (nexts_of nodes) (prevs_of nodes) first
-      → IsParted (view_of (slots_of nodes) (nexts_of nodes) first (room_of capacity len))
-  IsParted-nodes nodes first capacity len long s =
-      let slots = length-slots_of nodes in
-      let few : length (slots_of nodes) + room_of capacity len ≤ 4294967294 =
-      omega (arith, s.few) in
-      IsParted-of (slots_of nodes) (nexts_of nodes) (prevs_of nodes) first
-      (room_of capacity len) few s
+-- what always holds of a slab, from what always holds of its nodes
+pub IsParted-nodes : {N T : Type 0} {nexts prevs : List ℕ} (item_of : N → Option T) (nodes : List N)
+    (first capacity len : ℕ) → len ≡ length nodes → IsSound (map item_of nodes) nexts prevs first
+    → IsParted (view_of (map item_of nodes) nexts first (room_of capacity len))
+IsParted-nodes {nexts = nexts} {prevs = prevs} item_of nodes first capacity len long s =
+    let slots = length-map nodes item_of in
+    let few : length (map item_of nodes) + room_of capacity len ≤ 4294967294 =
+    omega (arith, s.few) in
+    IsParted-of (map item_of nodes) nexts prevs first (room_of capacity len) few s

@@ -1,5 +1,5 @@
 -- The model of a slab, from its slots and links: before and after each edit.
-use Rattle.std.proofs.Common.{◌≡◌, ◌≢◌, ◌⊎◌, ◌↔◌, ℕ, zero, suc, ◌+◌, ◌<◌, ◌≤◌, Bool, true, false, cond, eqb, List, [], ◌∷◌, ◌++◌, length, map, Option, Some, None, is_some, IfSome, MatchOption, refl, sym, ap, subst, ◌∙◌, inl, inr, arith}
+use Rattle.std.proofs.Common.{◌≡◌, ◌≢◌, ◌⊎◌, ◌↔◌, ℕ, zero, suc, ◌+◌, ◌<◌, ◌≤◌, Bool, true, false, cond, eqb, List, [], ◌∷◌, ◌++◌, length, map, Option, Some, None, is_some, IfSome, MatchOption, true≢false, refl, sym, ap, subst, ◌∙◌, inl, inr, arith}
 use Rattle.std.proofs.lemmas.Bool.{cases_eq, eq-eqb, ne_eqb}
 use Rattle.std.proofs.lemmas.List.{set-set, length_push}
 use Rattle.std.specs.Int.NonZero.{non_zero_u32_get}
@@ -7,6 +7,7 @@ use Rattle.std.specs.declared.num.NonZeroU32.{NonZeroU32 as Token}
 use Rattle.quick_cache_slab.specs.LinkedSlab.{at_token, with_token, first_or, times, without, joined, placed, linked, unlinked, removed, with_item, next_token, IsFull, successor, ring_from, IsNextOf}
 use Rattle.quick_cache_slab.specs.Links.{link_of, free_of, is_taken, ring_at, rings_of, view_of, AreRings, AreLinked, AreFree, IsSound, Unlinks, Links}
 use Rattle.quick_cache_slab.proofs.TokenCounts.{times-here}
+use Rattle.quick_cache_slab.proofs.AllRings.{held-next}
 use Rattle.quick_cache_slab.proofs.OneRing.{IsRing-frame}
 use Rattle.quick_cache_slab.proofs.AtTokens.{length-with_token, at_token-with_same, at_token-with_other, at_token-push_same}
 use Rattle.quick_cache_slab.proofs.SlotRings.{taken_within, rings_of-is, length-rings_of, ring_at-is, at_token-rings_of, successor-is}
@@ -44,6 +45,28 @@ module _ {T : Type 0} where
       → (s : IsSound slots nexts prevs first) → free_of nexts first ≡ s.free
   free_is slots nexts prevs first s =
       free_of-is slots nexts first s.free s.linked.next_each s.are_free
+
+  -- what a free token names before itself says nothing
+  pub IsSound-prev : (slots : List (Option T)) (nexts prevs : List ℕ) (first a prev : ℕ)
+      → is_taken slots a ≡ false → IsSound slots nexts prevs first
+      → IsSound slots nexts (with_token prevs a prev) first
+  IsSound-prev slots nexts prevs first a prev free s = record {
+    few = s.few;
+    linked = record {
+      next_each = s.linked.next_each;
+      prev_each = length-with_token prevs a prev ∙ s.linked.prev_each;
+      rings = record {
+        back = λ t taken.
+            let apart : link_of nexts t ≢ a = λ same. true≢false
+            (sym (held-next (link_of nexts) (link_of prevs) (is_taken slots) s.linked.rings t taken)
+            ∙ ap (is_taken slots) same ∙ free) in
+            at_token-with_other prevs a (link_of nexts t) prev 0 apart ∙ s.linked.rings.back t taken;
+        ring = s.linked.rings.ring;
+      };
+    };
+    free = s.free;
+    are_free = s.are_free;
+  }
 
   pub next_token-is : (slots : List (Option T)) (nexts prevs : List ℕ) (first room : ℕ)
       → IsSound slots nexts prevs first → first ≡ next_token (view_of slots nexts first room)

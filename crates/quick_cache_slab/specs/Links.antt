@@ -2,8 +2,6 @@
 use Rattle.std.specs.Prelude.{◌≡◌, ℕ, zero, suc, ◌+◌, ◌-◌, ◌<◌, ◌≤◌, min, Bool, true, false, cond, eqb, ltb, List, [], ◌∷◌, length, map, Option, None, is_some}
 use Rattle.std.specs.List.{range_with_len}
 use Rattle.quick_cache_slab.specs.LinkedSlab.{LinkedSlab, IsSlotCopy, at_token, with_token, first_or, times, without, joined}
-use Rattle.std.specs.Int.NonZero.{non_zero_u32_get}
-use Rattle.quick_cache_slab.specs.declared.linked_slab.links.Node.{Node}
 
 -- each token of the path leads to the next, and the last to `end`
 abbrev pub Leads : (ℕ → ℕ) → List ℕ → ℕ → Type 0
@@ -120,20 +118,9 @@ module _ {T : Type 0} where
         ≡ with_token (map (joined a head) (rings_of slots nexts)) a (a ∷ ring_at slots nexts head)
     pub free_kept : (t : ℕ) → is_taken slots t ≡ false → link_of nexts' t ≡ link_of nexts t
 
-  -- the items of the nodes
-  abbrev pub slots_of : List (Node T) → List (Option T)
-  slots_of nodes = map (λ node. node.item) nodes
-
-  -- the forward links of the nodes
-  abbrev pub nexts_of : List (Node T) → List ℕ
-  nexts_of nodes = map (λ node. non_zero_u32_get node.next) nodes
-
-  -- the backward links of the nodes
-  abbrev pub prevs_of : List (Node T) → List ℕ
-  prevs_of nodes = map (λ node. non_zero_u32_get node.prev) nodes
-
-  -- a node with the same links, and a copy of the item if it has one
-  pub record IsNodeCopy (is_copy : T → T → Type 0) (node copy : Node T) : Type 0 where
-    pub next : copy.next ≡ node.next
-    pub prev : copy.prev ≡ node.prev
-    pub item : IsSlotCopy is_copy node.item copy.item
+-- a node with the same links, and a copy of the item if it has one
+pub record IsNodeCopy {N T : Type 0} (item_of : N → Option T) (next_of prev_of : N → ℕ)
+    (is_copy : T → T → Type 0) (node copy : N) : Type 0 where
+  pub next : next_of copy ≡ next_of node
+  pub prev : prev_of copy ≡ prev_of node
+  pub item : IsSlotCopy is_copy (item_of node) (item_of copy)

@@ -11,6 +11,7 @@ mod growth;
 mod item;
 mod iter;
 mod links;
+mod node;
 mod unchecked;
 
 pub use copies::CopyItem;
@@ -18,11 +19,12 @@ pub use drain::Drain;
 use growth::make_room;
 pub use item::ItemMut;
 pub use iter::{Iter, IterFrom};
-use links::{Node, fill, is_occupied, link, unlink, vacate};
+use links::{fill, is_occupied, link, unlink};
+pub use node::{Blank, Node, SlotNode, TightNode};
 use quick_cache_model::Refusal;
 pub use quick_cache_model::Token;
 use std::alloc::{Allocator, Global};
-use std::marker::Model;
+use std::marker::{Model, PhantomData};
 
 /// How many slots there may be.
 const MAX_SLOTS: usize = 4294967294;
@@ -31,27 +33,28 @@ const MAX_SLOTS: usize = 4294967294;
 ///
 /// A token keeps its item until that item is removed, and only then can `insert` give it out again.
 #[derive(Drop)]
-pub struct LinkedSlab<T, A: Allocator = Global> {
-    nodes: Vec<Node<T>, A>,
+pub struct LinkedSlab<T, A: Allocator = Global, N: SlotNode<T> = Node<T>> {
+    nodes: Vec<N, A>,
     // The token of the next insert: the last one freed, or else the first past the end.
     next_free: Token,
+    items: PhantomData<T>,
 }
 
-impl<T, A: Allocator> Model for LinkedSlab<T, A> {
-    ghost use Rattle.std.specs.Prelude.{vec_len, vec_capacity};
+impl<T, A: Allocator, N: SlotNode<T>> Model for LinkedSlab<T, A, N> {
+    ghost use Rattle.std.specs.Prelude.{map, vec_len, vec_capacity};
     ghost use Rattle.std.specs.Int.NonZero.{non_zero_u32_get as number};
     ghost use Rattle.quick_cache_slab.specs.LinkedSlab.{LinkedSlab as Slots};
 
     ghost Value = { Slots T };
 
-    ghost use Rattle.quick_cache_slab.specs.Links.{slots_of, nexts_of, prevs_of, room_of, view_of, IsSound};
+    ghost use Rattle.quick_cache_slab.specs.Links.{room_of, view_of, IsSound};
 
     ghost view = { λ s. view_of
-        (slots_of s.nodes.items) (nexts_of s.nodes.items) (number s.next_free)
+        (map N.item_of s.nodes.items) (map N.next_of s.nodes.items) (number s.next_free)
         (room_of (vec_capacity s.nodes) (vec_len s.nodes)) };
 
     ghost invariant = { λ s. IsSound
-        (slots_of s.nodes.items) (nexts_of s.nodes.items) (prevs_of s.nodes.items)
+        (map N.item_of s.nodes.items) (map N.next_of s.nodes.items) (map N.prev_of s.nodes.items)
         (number s.next_free) };
 }
 
@@ -64,10 +67,6 @@ fn past(len: usize) -> Token
 }
 
 impl<T, A: Allocator> LinkedSlab<T, A> {
-    ghost use Rattle.std.specs.Borrow.{sem};
-    ghost use Rattle.quick_cache_slab.specs.SlabLends.{held_lender, held_slab, held_token, lends_item, rests_if_free};
-    ghost use Rattle.quick_cache_slab.specs.SlabDrain.{drain_rest, drain_room, drain_lender, DrainCanStep, DrainKeepsAlong};
-
     /// An empty slab with room for so many items, of the 4294967294 that a slab can have.
     ///
     /// A refusal is for want of memory.
@@ -78,10 +77,30 @@ impl<T, A: Allocator> LinkedSlab<T, A> {
         ensures memory { IfErr result (λ refused. refused ≡ Refusal.Memory) }
         ensures succeeds { capacity ≡ 0 → IsOk result }
     {
+        LinkedSlab::with_nodes(alloc, capacity)
+    }
+}
+
+impl<T, A: Allocator, N: SlotNode<T>> LinkedSlab<T, A, N> {
+    ghost use Rattle.std.specs.Borrow.{sem};
+    ghost use Rattle.quick_cache_slab.specs.SlabLends.{held_lender, held_slab, held_token, lends_item, rests_if_free};
+    ghost use Rattle.quick_cache_slab.specs.SlabDrain.{drain_rest, drain_room, drain_lender, DrainCanStep, DrainKeepsAlong};
+
+    /// An empty slab, as `with_capacity` makes it, whose slots are laid out so.
+    ///
+    /// A refusal is for want of memory.
+    pub fn with_nodes(alloc: A, capacity: usize) -> Result<Self, Refusal>
+        ensures empty { IfOk result (λ slab. slab ≡ emptied slab.room) }
+        ensures room { IfOk result (λ slab. min capacity 4294967294 ≤ slab.room) }
+        ensures parted { IfOk result IsParted }
+        ensures memory { IfErr result (λ refused. refused ≡ Refusal.Memory) }
+        ensures succeeds { capacity ≡ 0 → IsOk result }
+    {
         match Vec::with_capacity(alloc, capacity.min(MAX_SLOTS)) {
             Ok(nodes) => Ok(LinkedSlab {
                 nodes,
                 next_free: Token::MIN,
+                items: PhantomData,
             }),
             Err(_) => Err(Refusal::Memory),
         }
@@ -90,6 +109,7 @@ impl<T, A: Allocator> LinkedSlab<T, A> {
     /// Stores an item, a ring of its own, under the token that was freed last, or under a new one.
     ///
     /// It allocates only where no token is free and there is no room. A refused item comes back.
+    #[inline(always)]
     pub fn insert(&mut self, item: T) -> Result<Token, (T, Refusal)>
         ensures token { IfOk result (λ token. number token ≡ next_token self.old) }
         ensures placed { OnOk result (self.new
@@ -127,11 +147,7 @@ impl<T, A: Allocator> LinkedSlab<T, A> {
         if make_room(&mut self.nodes, 1).is_err() {
             return Err((item, Refusal::Memory));
         }
-        self.nodes.push_reserved(Node {
-            next: token,
-            prev: token,
-            item: Some(item),
-        });
+        self.nodes.push_reserved(N::holding(item, token));
         self.next_free = past(len + 1);
         Ok(token)
     }
@@ -156,8 +172,8 @@ impl<T, A: Allocator> LinkedSlab<T, A> {
     ///
     /// A free or unknown token gives nothing.
     #[inline]
-    pub fn get_mut(&mut self, token: Token) -> Option<ItemMut<'_, T, A>>
-        ensures* unchanged { sem 𝓛 (rests_if_free T.row A.row A.Allocator self.entry result) }
+    pub fn get_mut(&mut self, token: Token) -> Option<ItemMut<'_, T, A, N>>
+        ensures* unchanged { sem 𝓛 (rests_if_free T.row A.row N.row A.Allocator N.SlotNode self.entry result) }
         ensures absent { IfNone result (item_at self.old (number token) ≡ None) }
         ensures occupied { OnSome result (IsOccupied self.old (number token)) }
 
@@ -181,7 +197,7 @@ impl<T, A: Allocator> LinkedSlab<T, A> {
     #[inline]
     fn item_mut(&mut self, token: Token) -> &mut T
         requires { IsOccupied self.old (number token) }
-        ensures* writes_back { sem 𝓛 (lends_item T.row A.row A.Allocator self.entry (number token)
+        ensures* writes_back { sem 𝓛 (lends_item T.row A.row N.row A.Allocator N.SlotNode self.entry (number token)
             result) }
         ensures item { item_at self.old (number token) ≡ Some result.now }
     {
@@ -249,40 +265,32 @@ impl<T, A: Allocator> LinkedSlab<T, A> {
         ensures edit { OnSome result (RemovesItem self.old self.new (number token)) }
         ensures parted { IsParted self.new }
     {
-        let len = self.nodes.len();
-        let nodes = self.nodes.as_mut_slice();
-        if !is_occupied(nodes, token) {
+        if !self.contains(token) {
+            self.validate();
             return None;
         }
-        let next = unlink(nodes, token);
-        let link = if self.next_free.get() as usize <= len {
-            self.next_free
-        } else {
-            token
-        };
-        let item = vacate(nodes, token, link);
-        self.next_free = token;
-        Some((item, next))
+        Some(unsafe { self.remove_unchecked(token) })
     }
 
     /// The items, by ascending token.
-    pub fn iter(&self) -> Iter<'_, T>
+    pub fn iter(&self) -> Iter<'_, T, N>
         ensures { result ≡ items self.now }
     {
         Iter {
             nodes: self.nodes.as_slice(),
+            items: PhantomData,
         }
     }
 
     /// The items, by ascending token, as `iter` gives them.
-    pub fn iter_entries(&self) -> Iter<'_, T>
+    pub fn iter_entries(&self) -> Iter<'_, T, N>
         ensures { result ≡ items self.now }
     {
         self.iter()
     }
 
     /// The tokens and items of greater token than this, or all of them, by ascending token.
-    pub fn iter_from(&self, token: Option<Token>) -> IterFrom<'_, T>
+    pub fn iter_from(&self, token: Option<Token>) -> IterFrom<'_, T, N>
         ensures { MatchOption token (result ≡ entries_after self.now 0)
             (λ token. result ≡ entries_after self.now (number token)) }
     {
@@ -293,7 +301,7 @@ impl<T, A: Allocator> LinkedSlab<T, A> {
     }
 
     // The tokens and items past so many slots.
-    fn after(&self, passed: usize) -> IterFrom<'_, T>
+    fn after(&self, passed: usize) -> IterFrom<'_, T, N>
         ensures { result ≡ entries_after self.now passed }
     {
         let nodes = self.nodes.as_slice();
@@ -301,15 +309,17 @@ impl<T, A: Allocator> LinkedSlab<T, A> {
         IterFrom {
             nodes: &nodes[passed..],
             passed,
+            items: PhantomData,
         }
     }
 
     /// Takes the items out, by ascending token.
     ///
     /// The slab is empty once the iterator is dropped, and keeps its room.
-    pub fn drain(&mut self) -> Drain<'_, T, A>
+    pub fn drain(&mut self) -> Drain<'_, T, A, N>
     where
         T: Drop,
+        N: Drop,
         ensures rest { drain_rest result ≡ items self.old }
         ensures room { drain_room result ≡ self.old.room + length self.old.slots }
         ensures ready { DrainCanStep result }
@@ -326,6 +336,7 @@ impl<T, A: Allocator> LinkedSlab<T, A> {
     fn empty(&mut self)
     where
         T: Drop,
+        N: Drop,
         ensures { self.new ≡ emptied (self.old.room + length self.old.slots) }
     {
         self.nodes.clear();

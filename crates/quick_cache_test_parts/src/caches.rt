@@ -1,7 +1,9 @@
 //! Caches and shards whose values go by their kinds, and what a walk over a ring shows.
+ghost use Rattle.std.specs.Iterator.{IsFinite};
+
 use crate::kinds::{BesideKind, Kinds};
 use crate::placeholder::Placeholder;
-use quick_cache_shard::{GhostIter, RingIter, SharedPlaceholder};
+use quick_cache_shard::{GhostIter, SharedPlaceholder};
 use quick_cache_unsync::{Cache, CacheShard, DefaultHashBuilder, Refusal, UnitWeighter};
 use std::alloc::Global;
 
@@ -36,10 +38,12 @@ pub fn of_weight(alloc: Global, items: usize, weight: u64) -> Result<OfKinds<Bes
 pub type ShardOfKinds = CacheShard<u64, u64, BesideKind, DefaultHashBuilder, Kinds, Placeholder>;
 
 /// Whether a walk over a ring shows exactly these keys, each with this mark.
-pub fn shows<P: SharedPlaceholder<u64>>(
-    walk: RingIter<'_, u64, u64, P>,
+pub fn shows<'a, W: Iterator<Item = (&'a u64, &'a u64, u8)> + Drop>(
+    walk: W,
     want: &[(u64, u8)],
-) -> bool {
+) -> bool
+    requires { W.can_next walk × IsFinite (W.remaining walk) }
+{
     let mut at = 0;
     for (key, _, mark) in walk {
         if at >= want.len() || want[at] != (*key, mark) {

@@ -66,14 +66,24 @@ pub struct Placeholder<T = NoTouches> {
     touch: PhantomData<T>,
 }
 
+/// The ticket of a placeholder: all that its slot keeps of it.
+#[derive(Drop)]
+pub struct Ticket {
+    number: u64,
+}
+
 impl<K: Eq + Hash, T: Touches> SharedPlaceholder<K> for Placeholder<T> {
     type Touch = T;
+
+    type Kept = Ticket;
 
     ghost hash_of = { λ placeholder. placeholder.hash };
 
     ghost idx_of = { λ placeholder. non_zero_u32_get placeholder.idx };
 
-    ghost ticket_of = { λ placeholder. placeholder.ticket };
+    ghost own_ticket = { λ placeholder. placeholder.ticket };
+
+    ghost ticket_of = { λ kept. kept.number };
 
     fn new<Q: ToKey<K>>(hash: u64, idx: Token, ticket: u64, _query: &Q) -> Result<Self, Refusal> {
         Ok(Placeholder {
@@ -102,6 +112,31 @@ impl<K: Eq + Hash, T: Touches> SharedPlaceholder<K> for Placeholder<T> {
             idx: self.idx,
             ticket: self.ticket,
             touch: PhantomData,
+        }
+    }
+
+    fn keep(&self) -> Ticket {
+        Ticket {
+            number: self.ticket,
+        }
+    }
+
+    fn keeps(&self, kept: &Ticket) -> bool {
+        self.ticket == kept.number
+    }
+
+    fn met(kept: &Ticket, hash: u64, idx: Token) -> Self {
+        Placeholder {
+            hash,
+            idx,
+            ticket: kept.number,
+            touch: PhantomData,
+        }
+    }
+
+    fn keep_again(kept: &Ticket) -> Ticket {
+        Ticket {
+            number: kept.number,
         }
     }
 }

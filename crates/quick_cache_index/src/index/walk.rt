@@ -13,7 +13,9 @@ pub(crate) struct Walk<'a> {
     pub(crate) reaches: &'a [u32],
     pub(crate) hash: u64,
     pub(crate) home: usize,
-    // The distance of the group that is being read.
+    // The group that is being read.
+    pub(crate) group: usize,
+    // The distance of that group from the home.
     pub(crate) step: usize,
     // A bit for each place of that group that has the tag and was not looked at.
     pub(crate) lanes: u64,
@@ -45,6 +47,7 @@ impl<'a> Walk<'a> {
             reaches,
             hash,
             home,
+            group: home,
             step: 0,
             lanes: lanes_of(tags, home, tag_of(hash)),
         }
@@ -75,6 +78,7 @@ impl<'a> Walk<'a> {
             reaches,
             hash,
             home: home_of(hash, mask),
+            group: home_of(hash, mask),
             step: 0,
             lanes: 0,
         }
@@ -109,11 +113,12 @@ impl<'a> Walk<'a> {
                 return None;
             }
             self.step += 1;
-            self.lanes = lanes_of(self.tags, self.home ^ self.step, tag_of(self.hash));
+            self.group = self.home ^ self.step;
+            self.lanes = lanes_of(self.tags, self.group, tag_of(self.hash));
         }
         let lane = self.lanes.trailing_zeros() as usize;
         self.lanes &= self.lanes - 1;
-        Some(LANES * (self.home ^ self.step) + lane)
+        Some(LANES * self.group + lane)
     }
 }
 
@@ -130,7 +135,7 @@ pub(crate) fn first_position_of(walk: &Walk<'_>, token: u32) -> Option<usize>
     if walk.lanes == 0 {
         return None;
     }
-    let position = LANES * (walk.home ^ walk.step) + walk.lanes.trailing_zeros() as usize;
+    let position = LANES * walk.group + walk.lanes.trailing_zeros() as usize;
     let tokens = walk.tokens;
     if tokens[position] == token {
         Some(position)

@@ -1,14 +1,13 @@
 //! What changes the lists: an entry comes, goes, moves or is written.
 ghost use Rattle.std.specs.Prelude.{◌≡◌, ◌+◌, ◌<◌, false};
 ghost use Rattle.std.specs.Int.NonZero.{non_zero_u32_get as number};
-ghost use Rattle.quick_cache_lists.specs.Lists.{PutsLast, HasEntry, IsEntry, without_entry, HasGhostToken, HasItemToken, ring_turned, with_change, with_counts, with_reads, HasItemOfQueue, Rewrites, Reweighs};
+ghost use Rattle.quick_cache_lists.specs.Lists.{PutsLast, HasEntry, IsEntry, without_entry, HasGhostToken, HasItemToken, ring_turned, with_change, with_counts, with_mark, read_once, used, HasItemOfQueue, Rewrites, Reweighs};
 
-use crate::entry::{Entry, Slot, Stand};
 use crate::lists::Lists;
-use crate::resident::Resident;
 use crate::ring::turn;
 use crate::store::{displace, place};
 use quick_cache_model::{Queue, Token, Touches};
+use quick_cache_slots::{Entry, Resident, Slot, Stand};
 use std::alloc::Allocator;
 
 impl<K, V, P, T, A: Allocator> Lists<K, V, P, T, A> {
@@ -21,11 +20,11 @@ impl<K, V, P, T, A: Allocator> Lists<K, V, P, T, A> {
         ensures last { PutsLast self.old (number result) hash entry self.new }
         ensures room { self.new.room + 1 ≡ self.old.room }
     {
-        self.slab.validate();
+        self.slots.validate();
         let stand = entry.stand();
         let weight = entry.weight();
-        let token = place(&mut self.slab, &mut self.index, Slot { hash, entry });
-        self.rings.enter(&mut self.slab, token, stand, weight);
+        let token = place(&mut self.slots, &mut self.index, Slot { hash, entry });
+        self.rings.enter(&mut self.slots, token, stand, weight);
         self.loading += stand.loading();
         token
     }
@@ -38,8 +37,8 @@ impl<K, V, P, T, A: Allocator> Lists<K, V, P, T, A> {
         ensures taken { IsEntry self.old (number token) result.hash result.entry }
         ensures rest { self.new ≡ without_entry restarts (number token) self.old }
     {
-        self.slab.validate();
-        let (slot, next) = displace(&mut self.slab, &mut self.index, token);
+        self.slots.validate();
+        let (slot, next) = displace(&mut self.slots, &mut self.index, token);
         let stand = slot.entry.stand();
         let weight = slot.entry.weight();
         self.rings.leave(token, next, stand, restarts, weight);
@@ -58,8 +57,8 @@ impl<K, V, P, T, A: Allocator> Lists<K, V, P, T, A> {
         requires { HasGhostToken self.old (number token) }
         ensures { self.new ≡ without_entry false (number token) self.old }
     {
-        self.slab.validate();
-        let (_, next) = displace(&mut self.slab, &mut self.index, token);
+        self.slots.validate();
+        let (_, next) = displace(&mut self.slots, &mut self.index, token);
         self.rings.leave(token, next, Stand::AmongGhosts, false, 0);
     }
 
@@ -67,10 +66,10 @@ impl<K, V, P, T, A: Allocator> Lists<K, V, P, T, A> {
     pub fn turn(&mut self, queue: Queue)
         ensures { self.new ≡ ring_turned queue self.old }
     {
-        self.slab.validate();
+        self.slots.validate();
         match queue {
-            Queue::Hot => turn(&self.slab, &mut self.rings.hot),
-            Queue::Cold => turn(&self.slab, &mut self.rings.cold),
+            Queue::Hot => turn(&self.slots, &mut self.rings.hot),
+            Queue::Cold => turn(&self.slots, &mut self.rings.cold),
         }
     }
 
@@ -79,17 +78,35 @@ impl<K, V, P, T, A: Allocator> Lists<K, V, P, T, A> {
         requires { HasItemToken self.old (number token) }
         ensures { self.new ≡ with_change (number token) (with_counts mark reads) self.old }
     {
-        let (slot, _) = unsafe { self.slab.get_mut_unchecked(token) };
-        slot.set_counts(mark, reads);
+        self.slots.set_counts(token, mark, reads);
     }
 
-    /// Gives the item of a token another count of reads, and writes nothing else of its slot.
-    pub fn set_reads(&mut self, token: Token, reads: u64)
+    /// Gives the item of a token another mark, and writes nothing else of its slot.
+    #[inline(always)]
+    pub fn set_mark(&mut self, token: Token, mark: u8)
         requires { HasItemToken self.old (number token) }
-        ensures { self.new ≡ with_change (number token) (with_reads reads) self.old }
+        ensures { self.new ≡ with_change (number token) (with_mark mark) self.old }
     {
-        let (slot, _) = unsafe { self.slab.get_mut_unchecked(token) };
-        slot.set_reads(reads);
+        self.slots.set_mark(token, mark);
+    }
+
+    /// Counts a read of the item of a token, up to the greatest count, and writes nothing else of
+    /// its slot.
+    #[inline(always)]
+    pub fn count_read(&mut self, token: Token)
+        requires { HasItemToken self.old (number token) }
+        ensures { self.new ≡ with_change (number token) read_once self.old }
+    {
+        self.slots.count_read(token);
+    }
+
+    /// Counts a read of the item of a token, as `count_read` does, and gives it another mark.
+    #[inline(always)]
+    pub fn count_use(&mut self, token: Token, mark: u8)
+        requires { HasItemToken self.old (number token) }
+        ensures { self.new ≡ with_change (number token) (used mark) self.old }
+    {
+        self.slots.count_use(token, mark);
     }
 
     /// Puts another item of the same ring in the place of the item of a token, and gives the old
@@ -100,7 +117,7 @@ impl<K, V, P, T, A: Allocator> Lists<K, V, P, T, A> {
         requires { HasItemOfQueue self.old (number token) resident.queue }
         ensures { Rewrites self.old (number token) resident result self.new }
     {
-        self.slab.validate();
+        self.slots.validate();
         let item = self.item(token);
         let stand = item.stand();
         let was = item.weight();
@@ -112,8 +129,7 @@ impl<K, V, P, T, A: Allocator> Lists<K, V, P, T, A> {
                 Entry::Ghost => unreachable!(),
             };
         }
-        let (slot, _) = unsafe { self.slab.get_mut_unchecked(token) };
-        let old = slot.rewrite(resident);
+        let old = self.slots.rewrite(token, resident);
         self.rings.reweigh(stand, was, weight);
         old
     }
@@ -123,7 +139,7 @@ impl<K, V, P, T, A: Allocator> Lists<K, V, P, T, A> {
         requires { HasItemToken self.old (number token) }
         ensures { Reweighs self.old (number token) weight self.new }
     {
-        self.slab.validate();
+        self.slots.validate();
         let item = self.item(token);
         let stand = item.stand();
         let was = item.weight();
@@ -133,8 +149,7 @@ impl<K, V, P, T, A: Allocator> Lists<K, V, P, T, A> {
             self.requeue(token, true, queue, mark, weight);
             return;
         }
-        let (slot, _) = unsafe { self.slab.get_mut_unchecked(token) };
-        slot.set_weight(weight);
+        self.slots.set_weight(token, weight);
         self.rings.reweigh(stand, was, weight);
     }
 
@@ -146,7 +161,6 @@ impl<K, V, P, T, A: Allocator> Lists<K, V, P, T, A> {
         ensures counted { T.may_count result }
         ensures same { self.new ≡ self.old }
     {
-        let (slot, _) = unsafe { self.slab.get_mut_unchecked(token) };
-        slot.take_touch()
+        self.slots.take_touch(token)
     }
 }

@@ -12,7 +12,7 @@ impl<K, V, P, T, A: Allocator> Lists<K, V, P, T, A> {
     pub fn count(&self, queue: Queue) -> usize
         ensures { result ≡ length (items_at (ring_place queue) self.now) }
     {
-        self.slab.validate();
+        self.slots.validate();
         match queue {
             Queue::Hot => self.rings.hot.count,
             Queue::Cold => self.rings.cold.count,
@@ -25,7 +25,7 @@ impl<K, V, P, T, A: Allocator> Lists<K, V, P, T, A> {
             (items_at (ring_place queue) self.now) }
         ensures within { result < 2 ^ 96 }
     {
-        self.slab.validate();
+        self.slots.validate();
         match queue {
             Queue::Hot => self.rings.hot.weight,
             Queue::Cold => self.rings.cold.weight,
@@ -36,7 +36,7 @@ impl<K, V, P, T, A: Allocator> Lists<K, V, P, T, A> {
     pub fn item_count(&self) -> usize
         ensures { result ≡ item_count self.now }
     {
-        self.slab.validate();
+        self.slots.validate();
         self.index.len() - self.rings.ghosts.count - self.loading
     }
 
@@ -44,7 +44,7 @@ impl<K, V, P, T, A: Allocator> Lists<K, V, P, T, A> {
     pub fn ghost_count(&self) -> usize
         ensures { result ≡ length self.now.ghosts }
     {
-        self.slab.validate();
+        self.slots.validate();
         self.rings.ghosts.count
     }
 
@@ -57,13 +57,13 @@ impl<K, V, P, T, A: Allocator> Lists<K, V, P, T, A> {
 
     /// The allocator that the slots are from.
     pub fn allocator(&self) -> &A {
-        self.slab.allocator()
+        self.slots.allocator()
     }
 
     /// How many bytes the slots and the index take.
     pub fn memory_used(&self) -> MemoryUsed {
         MemoryUsed {
-            entries: self.slab.memory_used(),
+            entries: self.slots.memory_used(),
             map: self.index.allocation_size(),
         }
     }

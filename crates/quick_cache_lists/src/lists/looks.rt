@@ -8,28 +8,25 @@ ghost use Rattle.quick_cache_lists.specs.Lists.{Finds, FindsByKey, FindsItemOfAn
 
 use crate::found::Found;
 use crate::lists::Lists;
-use crate::refs::{AwaitedRef, ItemRef};
-use crate::stored::Stored;
 use quick_cache_model::{Equivalent, Queue, Token};
-use quick_cache_slab::LinkedSlab;
+use quick_cache_slots::{AwaitedRef, ItemRef, Slots};
 use std::alloc::Allocator;
 use std::hash::Hash;
 
 /// Whether an item for whose key the query stands is in the slot of a token.
 #[inline(always)]
 fn is_item_under<K, V, P, T, A: Allocator, Q: Equivalent<K>>(
-    slab: &LinkedSlab<Stored<K, V, P, T>, A>,
+    slots: &Slots<K, V, P, T, A>,
     token: Token,
     query: &Q,
 ) -> bool
 where
     K: Eq + Hash,
-    requires { IsOccupied slab.now (number token) }
+    requires { IsOccupied slots.now (number token) }
     ensures { result ≡ is_item_under_at (Q.equivalent query.now)
-        (item_at slab.now (number token)) }
+        (item_at slots.now (number token)) }
 {
-    let (slot, _) = unsafe { slab.get_unchecked(token) };
-    slot.is_item_under(query)
+    slots.slot(token).is_item_under(query)
 }
 
 impl<K, V, P, T, A: Allocator> Lists<K, V, P, T, A> {
@@ -56,7 +53,7 @@ impl<K, V, P, T, A: Allocator> Lists<K, V, P, T, A> {
     {
         let mut shade = None;
         for token in self.index.candidates(hash) {
-            let (slot, _) = unsafe { self.slab.get_unchecked(token) };
+            let slot = self.slots.slot(token);
             if !slot.is_of(hash) {
                 continue;
             }
@@ -93,11 +90,11 @@ impl<K, V, P, T, A: Allocator> Lists<K, V, P, T, A> {
         let Some(first) = tokens.next() else {
             return None;
         };
-        if is_item_under(&self.slab, first, query) {
+        if is_item_under(&self.slots, first, query) {
             return Some(first);
         }
         for token in tokens {
-            if is_item_under(&self.slab, token, query) {
+            if is_item_under(&self.slots, token, query) {
                 return Some(token);
             }
         }
@@ -117,7 +114,7 @@ impl<K, V, P, T, A: Allocator> Lists<K, V, P, T, A> {
             return Found::Nothing;
         };
         // The first is nearly always the item, if there is one.
-        if is_item_under(&self.slab, first, query) {
+        if is_item_under(&self.slots, first, query) {
             return Found::Item(first);
         }
         self.find_on_walk(hash, query)
@@ -127,7 +124,7 @@ impl<K, V, P, T, A: Allocator> Lists<K, V, P, T, A> {
     pub fn first(&self, queue: Queue) -> Option<Token>
         ensures { IsFirstOf (λ held. held.token) (items_at (ring_place queue) self.now) result }
     {
-        self.slab.validate();
+        self.slots.validate();
         match queue {
             Queue::Hot => self.rings.hot.head,
             Queue::Cold => self.rings.cold.head,
@@ -138,7 +135,7 @@ impl<K, V, P, T, A: Allocator> Lists<K, V, P, T, A> {
     pub fn oldest_ghost(&self) -> Option<Token>
         ensures { IsFirstOf (λ shade. shade.token) self.now.ghosts result }
     {
-        self.slab.validate();
+        self.slots.validate();
         self.rings.ghosts.head
     }
 
@@ -147,8 +144,7 @@ impl<K, V, P, T, A: Allocator> Lists<K, V, P, T, A> {
         requires { HasItemToken self.now (number token) }
         ensures { IsItemOf self.now (number token) result }
     {
-        let (slot, _) = unsafe { self.slab.get_unchecked(token) };
-        slot.item()
+        self.slots.slot(token).item()
     }
 
     /// The token behind an item of a ring, which is the item's own where no other stands there.
@@ -156,9 +152,8 @@ impl<K, V, P, T, A: Allocator> Lists<K, V, P, T, A> {
         requires { HasRingToken queue self.now (number token) }
         ensures { number result ≡ next_in_ring queue self.now (number token) }
     {
-        self.slab.validate();
-        let (_, next) = unsafe { self.slab.get_unchecked(token) };
-        next
+        self.slots.validate();
+        self.slots.next(token)
     }
 
     /// The key that is being loaded under a token.
@@ -166,8 +161,7 @@ impl<K, V, P, T, A: Allocator> Lists<K, V, P, T, A> {
         requires { HasLoadingToken self.now (number token) }
         ensures { IsAwaitedOf self.now (number token) result }
     {
-        let (found, _) = unsafe { self.slab.get_unchecked(token) };
-        match found.as_awaited() {
+        match self.slots.slot(token).as_awaited() {
             Some(awaited) => awaited,
             None => unreachable!(),
         }
@@ -179,7 +173,7 @@ impl<K, V, P, T, A: Allocator> Lists<K, V, P, T, A> {
     pub fn first_above(&self, token: Option<Token>) -> Option<Token>
         ensures { IsFirstAbove self.now (number_or_zero token) result }
     {
-        for (next, slot) in self.slab.iter_from(token) {
+        for (next, slot) in self.slots.iter_from(token) {
             if slot.is_item() {
                 return Some(next);
             }
@@ -191,6 +185,6 @@ impl<K, V, P, T, A: Allocator> Lists<K, V, P, T, A> {
     pub fn next_token(&self) -> Token
         ensures { number result ≡ self.now.next }
     {
-        self.slab.next_free()
+        self.slots.next_free()
     }
 }

@@ -3,10 +3,9 @@ ghost use Rattle.std.specs.Prelude.{◌≡◌, false, Some};
 ghost use Rattle.std.specs.Int.NonZero.{non_zero_u32_get as number};
 ghost use Rattle.quick_cache_lists.specs.Lists.{HasEntry, HasItemToken, IsFirstOf, Replaces, Requeues, requeued};
 
-use crate::entry::{Entry, Stand};
 use crate::lists::Lists;
-use crate::resident::Resident;
 use quick_cache_model::{Queue, Token};
+use quick_cache_slots::{Entry, Resident, Stand};
 use std::alloc::Allocator;
 
 impl<K, V, P, T, A: Allocator> Lists<K, V, P, T, A> {
@@ -22,16 +21,15 @@ impl<K, V, P, T, A: Allocator> Lists<K, V, P, T, A> {
         requires { HasEntry self.old (number token) }
         ensures { Replaces self.old (number token) restarts entry result self.new }
     {
-        self.slab.validate();
+        self.slots.validate();
         let to = entry.stand();
         let weight = entry.weight();
-        let next = self.slab.unlink(token);
-        let (slot, _) = unsafe { self.slab.get_mut_unchecked(token) };
-        let was = slot.replace(entry);
+        let next = self.slots.unlink(token);
+        let was = self.slots.replace(token, entry);
         let from = was.stand();
         let weighed = was.weight();
         self.rings.leave(token, next, from, restarts, weighed);
-        self.rings.enter(&mut self.slab, token, to, weight);
+        self.rings.enter(&mut self.slots, token, to, weight);
         self.loading = self.loading - from.loading() + to.loading();
         was
     }
@@ -44,15 +42,14 @@ impl<K, V, P, T, A: Allocator> Lists<K, V, P, T, A> {
         ensures { Replaces {T = T} self.old (number token) false Entry.Ghost (Entry.Item result)
             self.new }
     {
-        self.slab.validate();
-        let next = self.slab.unlink(token);
-        let (slot, _) = unsafe { self.slab.get_mut_unchecked(token) };
-        let item = slot.bury();
+        self.slots.validate();
+        let next = self.slots.unlink(token);
+        let item = self.slots.bury(token);
         let weight = item.weight();
         self.rings
             .leave(token, next, Stand::AmongCold, false, weight);
         self.rings
-            .enter(&mut self.slab, token, Stand::AmongGhosts, 0);
+            .enter(&mut self.slots, token, Stand::AmongGhosts, 0);
         item
     }
 
@@ -63,14 +60,14 @@ impl<K, V, P, T, A: Allocator> Lists<K, V, P, T, A> {
         requires { HasItemToken self.old (number token) }
         ensures { Requeues self.old (number token) restarts (requeued queue mark weight) self.new }
     {
-        self.slab.validate();
-        let next = self.slab.unlink(token);
-        let (slot, _) = unsafe { self.slab.get_mut_unchecked(token) };
+        self.slots.validate();
+        let next = self.slots.unlink(token);
+        let slot = self.slots.slot(token);
         let from = slot.stand();
         let weighed = slot.weight();
-        slot.requeue(queue, mark, weight);
-        let to = slot.stand();
+        self.slots.requeue(token, queue, mark, weight);
+        let to = Stand::of_item(weight, queue);
         self.rings.leave(token, next, from, restarts, weighed);
-        self.rings.enter(&mut self.slab, token, to, weight);
+        self.rings.enter(&mut self.slots, token, to, weight);
     }
 }

@@ -5,8 +5,8 @@ ghost use Rattle.std.specs.Int.NonZero.{non_zero_u32_get as number};
 ghost use Rattle.quick_cache_lists.specs.Placeholders.{HasNoPlaceholder, FindsPlaceholder, is_meant};
 
 use crate::lists::Lists;
-use crate::stored::{Stored, StoredEntry};
 use quick_cache_model::Token;
+use quick_cache_slots::SlotRef;
 use std::alloc::Allocator;
 
 /// Which placeholder of a cache of such keys is meant.
@@ -18,16 +18,13 @@ pub trait Meaning<K, P> {
         ensures { result ≡ means self.now placeholder.now };
 }
 
-impl<K, V, P, T> Stored<K, V, P, T> {
-    /// Whether it has a placeholder that is meant.
-    fn is_meant<M: Meaning<K, P>>(&self, by: &M) -> bool
-        ensures { result ≡ is_meant (M.means by.now) self.now }
-    {
-        match &self.entry {
-            StoredEntry::Item(_, _, _) => false,
-            StoredEntry::Loading(_, _, placeholder) => by.means(placeholder),
-            StoredEntry::Ghost => false,
-        }
+/// Whether a slot has a placeholder that is meant.
+fn is_meant<K, V, P, T, M: Meaning<K, P>>(slot: &SlotRef<'_, K, V, P, T>, by: &M) -> bool
+    ensures { result ≡ is_meant (M.means by.now) slot.now }
+{
+    match slot.as_awaited() {
+        Some(awaited) => by.means(awaited.placeholder()),
+        None => false,
     }
 }
 
@@ -54,8 +51,8 @@ impl<K, V, P, T, A: Allocator> Lists<K, V, P, T, A> {
     fn has_placeholder<M: Meaning<K, P>>(&self, token: Token, by: &M) -> bool
         ensures { OnTrue result (FindsPlaceholder (M.means by.now) self.now (number token)) }
     {
-        match self.slab.get(token) {
-            Some((slot, _)) => slot.is_meant(by),
+        match self.slots.get(token) {
+            Some(slot) => is_meant(&slot, by),
             None => false,
         }
     }
@@ -66,8 +63,8 @@ impl<K, V, P, T, A: Allocator> Lists<K, V, P, T, A> {
             (HasNoPlaceholder (M.means by.now) self.now)
             (λ token. FindsPlaceholder (M.means by.now) self.now (number token)) }
     {
-        for (token, slot) in self.slab.iter_from(None) {
-            if slot.is_meant(by) {
+        for (token, slot) in self.slots.iter_from(None) {
+            if is_meant(&slot, by) {
                 return Some(token);
             }
         }

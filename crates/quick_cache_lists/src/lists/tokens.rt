@@ -4,8 +4,8 @@ ghost use Rattle.std.specs.Int.NonZero.{non_zero_u32_get as number};
 ghost use Rattle.quick_cache_lists.specs.Lists.{HasItemToken, IsItemOf};
 
 use crate::lists::Lists;
-use crate::refs::ItemRef;
 use quick_cache_model::Token;
+use quick_cache_slots::ItemRef;
 use std::alloc::Allocator;
 
 impl<K, V, P, T, A: Allocator> Lists<K, V, P, T, A> {
@@ -15,14 +15,13 @@ impl<K, V, P, T, A: Allocator> Lists<K, V, P, T, A> {
             (¬ HasItemToken self.now (number token))
             (λ item. IsItemOf self.now (number token) item) }
     {
-        let (slot, _) = self.slab.get(token)?;
-        slot.as_item()
+        self.slots.get(token)?.as_item()
     }
 
     /// No item has the number 0 for its token.
     pub fn numbered(&self)
         ensures { ¬ HasItemToken self.now 0 }
     {
-        self.slab.validate();
+        self.slots.validate();
     }
 }

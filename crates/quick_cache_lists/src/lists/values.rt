@@ -18,7 +18,6 @@ impl<K, V, P, T, A: Allocator> Lists<K, V, P, T, A> {
             self.entry (number token) result) }
         ensures value { IsValueAt self.old (number token) result.now }
     {
-        let (slot, _) = unsafe { self.slab.get_mut_unchecked(token) };
-        slot.value_mut()
+        self.slots.value_mut(token)
     }
 }

@@ -19,10 +19,10 @@ impl<K, V, P, T, A: Allocator> Lists<K, V, P, T, A> {
             Queue::Hot => self.rings.hot,
             Queue::Cold => self.rings.cold,
         };
-        self.slab.validate();
+        self.slots.validate();
         RingIter {
             walk: Walk {
-                slab: &self.slab,
+                slots: &self.slots,
                 at: ring.head,
                 left: ring.count,
             },
@@ -33,10 +33,10 @@ impl<K, V, P, T, A: Allocator> Lists<K, V, P, T, A> {
     pub fn iter_ghosts(&self) -> GhostIter<'_, K, V, P, T, A>
         ensures { result ≡ hashes_of self.now.ghosts }
     {
-        self.slab.validate();
+        self.slots.validate();
         GhostIter {
             walk: Walk {
-                slab: &self.slab,
+                slots: &self.slots,
                 at: self.rings.ghosts.head,
                 left: self.rings.ghosts.count,
             },
@@ -47,9 +47,9 @@ impl<K, V, P, T, A: Allocator> Lists<K, V, P, T, A> {
     pub fn iter_items(&self) -> ItemIter<'_, K, V, P, T>
         ensures { IsPermutation (residents self.now) result }
     {
-        self.slab.validate();
+        self.slots.validate();
         ItemIter {
-            slots: self.slab.iter(),
+            slots: self.slots.iter(),
             left: self.item_count(),
         }
     }

@@ -4,10 +4,10 @@ ghost use Rattle.std.specs.List.{AllZip};
 ghost use Rattle.quick_cache_slab.specs.LinkedSlab.{AreItemCopies, IsParted};
 ghost use Rattle.quick_cache_slab.specs.Links.{IsNodeCopy};
 
-use crate::linked_slab::LinkedSlab;
-use crate::linked_slab::links::Node;
+use crate::linked_slab::{LinkedSlab, SlotNode};
 use quick_cache_model::Refusal;
 use std::alloc::Allocator;
+use std::marker::PhantomData;
 
 /// How the items of a slab are copied.
 pub trait CopyItem<T> {
@@ -21,29 +21,25 @@ pub trait CopyItem<T> {
 }
 
 // A slot with the same links and a copy of the item, if it has one.
-fn copy_node<T, C: CopyItem<T>>(node: &Node<T>, copier: &C) -> Result<Node<T>, Refusal>
-    ensures copies { IfOk result (IsNodeCopy (C.is_copy copier.now) node.now) }
+fn copy_node<T, N: SlotNode<T>, C: CopyItem<T>>(node: &N, copier: &C) -> Result<N, Refusal>
+    ensures copies { IfOk result (IsNodeCopy N.item_of N.next_of N.prev_of (C.is_copy copier.now)
+        node.now) }
     ensures refused { OnErr result (result ≡ Err Refusal.Memory) }
 {
-    let item = match &node.item {
-        Some(item) => Some(copier.copy(item)?),
-        None => None,
-    };
-    Ok(Node {
-        next: node.next,
-        prev: node.prev,
-        item,
-    })
+    match node.get() {
+        Some(item) => Ok(node.copy_with(copier.copy(item)?)),
+        None => Ok(node.copy_free()),
+    }
 }
 
 // Copies of the slots, in their order.
-fn copy_nodes<T: Drop, A: Allocator, C: CopyItem<T>>(
-    nodes: &[Node<T>],
+fn copy_nodes<T: Drop, A: Allocator, N: SlotNode<T> + Drop, C: CopyItem<T>>(
+    nodes: &[N],
     alloc: A,
     copier: &C,
-) -> Result<Vec<Node<T>, A>, Refusal>
+) -> Result<Vec<N, A>, Refusal>
     ensures copies { IfOk result (λ copies.
-        AllZip (IsNodeCopy (C.is_copy copier.now)) nodes.now copies.items) }
+        AllZip (IsNodeCopy N.item_of N.next_of N.prev_of (C.is_copy copier.now)) nodes.now copies.items) }
     ensures refused { OnErr result (result ≡ Err Refusal.Memory) }
 {
     let Ok(mut copies) = Vec::with_capacity(alloc, nodes.len()) else {
@@ -55,7 +51,7 @@ fn copy_nodes<T: Drop, A: Allocator, C: CopyItem<T>>(
     Ok(copies)
 }
 
-impl<T: Drop, A: Allocator> LinkedSlab<T, A> {
+impl<T: Drop, A: Allocator, N: SlotNode<T> + Drop> LinkedSlab<T, A, N> {
     /// A slab with a copy of each item under the token that the item has here, in the same rings.
     /// The same tokens are free, and are given out in the same order.
     ///
@@ -68,6 +64,7 @@ impl<T: Drop, A: Allocator> LinkedSlab<T, A> {
         Ok(LinkedSlab {
             nodes: copy_nodes(self.nodes.as_slice(), alloc, copier)?,
             next_free: self.next_free,
+            items: PhantomData,
         })
     }
 }

@@ -2,14 +2,14 @@
 ghost use Rattle.std.specs.Prelude.{◌≡◌, ◌+◌, ◌≤◌, min, length, IsOk, IfErr, OnOk, OnErr, vec_len, vec_capacity};
 ghost use Rattle.quick_cache_slab.specs.LinkedSlab.{spare, left, IsParted};
 
-use crate::linked_slab::links::{Node, next_of};
-use crate::linked_slab::{LinkedSlab, MAX_SLOTS};
+use crate::linked_slab::links::next_of;
+use crate::linked_slab::{LinkedSlab, MAX_SLOTS, SlotNode};
 use quick_cache_model::Refusal;
 use std::alloc::{AllocError, Allocator};
 
 // Makes room for so many more slots where there is less.
-pub(super) fn make_room<T, A: Allocator>(
-    nodes: &mut Vec<Node<T>, A>,
+pub(super) fn make_room<N, A: Allocator>(
+    nodes: &mut Vec<N, A>,
     additional: usize,
 ) -> Result<(), AllocError>
     ensures items { nodes.new.items ≡ nodes.old.items }
@@ -26,7 +26,7 @@ pub(super) fn make_room<T, A: Allocator>(
     nodes.reserve(additional)
 }
 
-impl<T, A: Allocator> LinkedSlab<T, A> {
+impl<T, A: Allocator, N: SlotNode<T>> LinkedSlab<T, A, N> {
     /// Makes room for so many more items, or for all that a slab can still have.
     ///
     /// Free slots count, so where these and the room suffice it asks for no memory. It reads at
@@ -51,8 +51,8 @@ impl<T, A: Allocator> LinkedSlab<T, A> {
         }
     }
 
-    // How many slots are free, of so many that are looked for.
-    fn free_up_to(&self, most: usize) -> usize
+    /// How many slots are free, of so many that are looked for. It reads as many as it finds.
+    pub fn free_up_to(&self, most: usize) -> usize
         ensures { result ≡ min most (length self.now.free) }
     {
         let nodes = self.nodes.as_slice();

@@ -5,5 +5,5 @@ pub returns-in-Some : goal.returns-in-Some
 returns-in-Some g c = record {
   counted = refl;
   weighed = refl;
-  head = rw c.in-Some.is (c.get_unchecked.result.1, refl, c.get_unchecked.ensures.next);
+  head = rw c.in-Some.is (c.next.result, refl, c.next.ensures);
 }

@@ -1,7 +1,7 @@
 use Rattle.std.proofs.Common.{length, ap, subst, refl, arith}
 use Rattle.std.specs.Int.NonZero.{non_zero_u32_get as number}
 use Rattle.quick_cache_index.specs.Index.{Leads}
-use Rattle.quick_cache_lists.specs.declared.entry.Slot.{Slot}
+use Rattle.quick_cache_slots.specs.declared.entry.Slot.{Slot}
 use Rattle.quick_cache_lists.specs.Sound.{AddsToken}
 use Rattle.quick_cache_lists.proofs.CopyLemmas.{first-times, rest-times, rest-apart}
 use Rattle.quick_cache_lists.proofs.store.key_all.Goals as goal
@@ -21,7 +21,7 @@ insert_reserved-requires-clause-is_new g c =
     let t = number c.in-Some.token in
     λ has. omega (
       arith,
-      first-times t c.in-Some.slot.now c.loop-token.token-iterator c.next.new.self
+      first-times t c.in-Some.slot c.loop-token.token-iterator c.next.new.self
           c.in-Some.ensures.steps,
       c.loop-token.invariant.apart t has,
     )
@@ -29,13 +29,13 @@ insert_reserved-requires-clause-is_new g c =
 pub loop-token-preserved : goal.loop-token-preserved
 loop-token-preserved g c =
     let t = number c.in-Some.token in
-    let slot = c.in-Some.slot.now in
+    let slot = c.in-Some.slot in
     let all = c.loop-token.token-iterator in
     let rest = c.next.new.self in
     let old = c.loop-token.index in
     let new = c.insert_reserved.new.self in
     let cut = c.in-Some.ensures.steps in
-    let hash = ap (λ (s : Slot _ _ _ _). s.hash) c.slot.view_is in
+    let hash = c.hash.ensures in
     let adds : AddsToken old new slot.hash t = record {
       leads = subst (λ h. Leads new h t) hash c.insert_reserved.ensures.leads;
       kept = c.insert_reserved.ensures.kept;

@@ -1,18 +1,24 @@
 use Rattle.std.proofs.Common.{arith}
+use Rattle.std.specs.Int.NonZero.{non_zero_u32_get as number}
 use Rattle.quick_cache_lists.proofs.SlabFrames.{IsPlaced-from}
 use Rattle.quick_cache_lists.proofs.SoundLemmas.{IsKeyed-placed, room-placed}
 use Rattle.quick_cache_lists.proofs.store.place.Goals as goal
 
+pub insert_reserved-token-requires : goal.insert_reserved-token-requires
+insert_reserved-token-requires g c = omega (arith, c.requires.room)
+
 pub returns-clause-placed : goal.returns-clause-placed
 returns-clause-placed g c =
-    let at = c.in-Ok.ensures.token in
-    rw at (IsPlaced-from c.args.slab.now c.insert.new.self c.args.slot c.validate.ensures
-    (rw c.new.ensures at c.in-Ok.ensures.placed) (rw at at c.in-Ok.ensures.alone))
+    let at = c.insert_reserved-token.ensures.token in
+    rw at (IsPlaced-from c.args.slots.now c.insert_reserved-token.new.self c.args.slot
+    c.validate.ensures c.insert_reserved-token.ensures.placed
+    (rw at at c.insert_reserved-token.ensures.edit.alone))
 
 pub returns-clause-keyed : goal.returns-clause-keyed
 returns-clause-keyed g c =
-    IsKeyed-placed c.args.slab.now c.insert.new.self c.in-Ok.token.value c.args.slot
-    (returns-clause-placed g c) c.args.index.now c.insert_reserved.new.self c.requires.keyed
+    IsKeyed-placed c.args.slots.now c.insert_reserved-token.new.self
+    (number c.insert_reserved-token.result) c.args.slot (returns-clause-placed g c)
+    c.args.index.now c.insert_reserved.new.self c.requires.keyed
     (record {
       leads = c.insert_reserved.ensures.leads;
       kept = c.insert_reserved.ensures.kept;
@@ -22,6 +28,7 @@ returns-clause-keyed g c =
 
 pub returns-clause-room : goal.returns-clause-room
 returns-clause-room g c =
-    room-placed c.args.slab.now c.insert.new.self c.in-Ok.token.value c.args.slot
-    (returns-clause-placed g c) c.args.index.now c.insert_reserved.new.self
-    c.in-Ok.ensures.spare c.insert_reserved.ensures.room c.requires.room
+    room-placed c.args.slots.now c.insert_reserved-token.new.self
+    (number c.insert_reserved-token.result) c.args.slot (returns-clause-placed g c)
+    c.args.index.now c.insert_reserved.new.self (λ _. c.insert_reserved-token.ensures.spare)
+    c.insert_reserved.ensures.room c.requires.room

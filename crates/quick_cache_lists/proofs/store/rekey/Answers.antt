@@ -8,7 +8,7 @@ pub key_all-requires-clause-room : goal.key_all-requires-clause-room
 key_all-requires-clause-room g c =
     rw c.iter_from.ensures (omega (
       arith,
-      length-past 0 c.args.slab.now.slots,
+      length-past 0 c.args.slots.now.slots,
       c.len.ensures.items,
       c.len.ensures.free,
       c.validate.ensures.few,
@@ -18,7 +18,7 @@ key_all-requires-clause-room g c =
 
 pub key_all-requires-clause-once : goal.key_all-requires-clause-once
 key_all-requires-clause-once g c =
-    λ token. rw c.iter_from.ensures (past-once 0 token c.args.slab.now.slots)
+    λ token. rw c.iter_from.ensures (past-once 0 token c.args.slots.now.slots)
 
 -- no token is left in it
 pub key_all-requires-clause-apart : goal.key_all-requires-clause-apart
@@ -27,7 +27,7 @@ key_all-requires-clause-apart g c =
 
 pub returns-clause-keyed : goal.returns-clause-keyed
 returns-clause-keyed g c =
-    let slab = c.args.slab.now in
+    let slab = c.args.slots.now in
     let few : length slab.slots ≤ 4294967295 = omega (arith, c.validate.ensures.few) in
     let counted : count_by is_some slab.slots + length slab.free ≡ length slab.slots =
     omega (arith, c.len.ensures.items, c.len.ensures.free) in
@@ -43,7 +43,7 @@ returns-clause-room g c =
       arith,
       keyed.counted,
       ap length c.iter_from.ensures,
-      length-past 0 c.args.slab.now.slots,
+      length-past 0 c.args.slots.now.slots,
       c.len.ensures.items,
       c.len.ensures.free,
       c.saturating_add.ensures,
@@ -58,7 +58,7 @@ returns-clause-more g c =
       arith,
       keyed.counted,
       ap length c.iter_from.ensures,
-      length-past 0 c.args.slab.now.slots,
+      length-past 0 c.args.slots.now.slots,
       c.len.ensures.items,
       c.len.ensures.free,
       c.in_ok-clear_for.ensures.more,

@@ -15,7 +15,7 @@ take_place-requires-clause-room g c =
     sym (ap (λ i. i.room) c.self.view_is) in
     rw c.as_mut_slice-2.ensures.value
     (free-from_room inside.tags.items inside.tokens.items inside.distances.items
-    inside.reaches.items inside.mask inside.len c.self.invariant (omega (arith, room, c.requires.room, c.self.invariant.counted)))
+    inside.reaches.items inside.mask inside.room c.self.invariant (omega (arith, room, c.requires.room, c.self.invariant.counted)))
 
 pub invariant_of-self : goal.invariant_of-self
 invariant_of-self g c =
@@ -43,7 +43,7 @@ invariant_of-self g c =
     )
     (IsSound-take inside.tags.items c.take_place.new.tags inside.tokens.items
     c.take_place.new.tokens inside.distances.items c.take_place.new.distances
-    inside.reaches.items c.take_place.new.reaches inside.mask inside.len
+    inside.reaches.items c.take_place.new.reaches inside.mask inside.room
     c.args.hash token c.self.invariant c.take_place.ensures.sized takes c.args.token.ok absent
     (omega (arith, room, c.requires.room, c.self.invariant.counted)))
 

@@ -1,4 +1,4 @@
-use Rattle.std.proofs.Common.{refl, ◌≡◌, ◌≤◌, ◌-◌, ◌∙◌, ap, sym, subst, ℕ, arith, count_by, get_or, set}
+use Rattle.std.proofs.Common.{refl, ◌≡◌, ◌≤◌, ◌+◌, ◌∙◌, ap, sym, subst, ℕ, arith, count_by, get_or, set}
 use Rattle.std.proofs.lemmas.List.{with_items_is}
 use Rattle.std.specs.Int.NonZero.{non_zero_u32_get}
 use Rattle.quick_cache_index.specs.Index.{Index, home_of, holds}
@@ -38,7 +38,7 @@ invariant_of-self g c =
     )
     (IsSound-leave inside.tags.items c.free_place.new.tags inside.tokens.items
     c.free_place.new.tokens inside.distances.items inside.distances.items inside.reaches.items
-    inside.reaches.items inside.mask inside.len (inside.len - 1) token position c.self.invariant
+    inside.reaches.items inside.mask inside.room (inside.room + 1) token position c.self.invariant
     (IsGrouped-as_long inside.tags.items c.free_place.new.tags inside.tokens.items
     c.free_place.new.tokens inside.reaches.items inside.mask c.self.invariant.sized
     (omega arith) (omega arith))

@@ -1,4 +1,4 @@
-use Rattle.std.proofs.Common.{refl, ◌≡◌, ◌≤◌, ◌-◌, ◌==◌, ◌∙◌, ap, subst, ℕ, arith, length, count_by}
+use Rattle.std.proofs.Common.{refl, ◌≡◌, ◌≤◌, ◌+◌, ◌==◌, ◌∙◌, ap, subst, ℕ, arith, length, count_by}
 use Rattle.std.proofs.lemmas.List.{with_items_is}
 use Rattle.std.specs.Int.NonZero.{non_zero_u32_get}
 use Rattle.quick_cache_index.specs.Index.{Index, holds}
@@ -48,7 +48,7 @@ invariant_of-self g c =
     )
     (IsSound-leave inside.tags.items c.leave_place.new.tags inside.tokens.items
     c.leave_place.new.tokens inside.distances.items c.leave_place.new.distances
-    inside.reaches.items c.leave_place.new.reaches inside.mask inside.len (inside.len - 1) token c.in-Some.position c.self.invariant c.leave_place.ensures.sized leaves
+    inside.reaches.items c.leave_place.new.reaches inside.mask inside.room (inside.room + 1) token c.in-Some.position c.self.invariant c.leave_place.ensures.sized leaves
     (omega arith) refl)
 
 pub returns-clause-tokens : goal.returns-clause-tokens
@@ -159,5 +159,4 @@ returns-clause-room g c =
           inside.reaches.items c.leave_place.new.reaches token c.in-Some.position leaves,
       ap (λ i. i.room) c.self.view_is,
       c.self.invariant.counted,
-      c.self.invariant.load,
     ))

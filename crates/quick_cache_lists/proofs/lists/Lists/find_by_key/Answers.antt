@@ -7,9 +7,9 @@ use Rattle.quick_cache_lists.proofs.lists.Lists.find_by_key.Goals as goal
 pub returns-in_default : goal.returns-in_default
 returns-in_default g c =
     let i = c.self.inside in
-    let none = none_of_hash i.slab i.index c.self.invariant.keyed c.args.hash _ c.candidates.ensures
+    let none = none_of_hash i.slots i.index c.self.invariant.keyed c.args.hash _ c.candidates.ensures
     c.in_default.ensures.steps.0 in
-    rw (← c.self.view_is) (HasNothing-from i.slab i.index i.rings.hot i.rings.cold i.rings.ghosts
+    rw (← c.self.view_is) (HasNothing-from i.slots i.index i.rings.hot i.rings.cold i.rings.ghosts
     c.self.invariant.standing c.self.invariant.keyed _ c.args.hash
     (λ t has. absurd (none t has)) (λ t has. absurd (none t has)))
 
@@ -17,22 +17,22 @@ pub is_item_under-requires : goal.is_item_under-requires
 is_item_under-requires g c =
     let i = c.self.inside in
     let stands_for = g.Q.Equivalent.equivalent c.args.query.now in
-    let has = PassesNoItem-has i.slab i.index c.args.hash stands_for _ _ c.in-Some.first
+    let has = PassesNoItem-has i.slots i.index c.args.hash stands_for _ _ c.in-Some.first
     c.in-Some.ensures.steps
-    (PassesNoItem-start i.slab i.index c.args.hash stands_for _ c.self.invariant.keyed
+    (PassesNoItem-start i.slots i.index c.args.hash stands_for _ c.self.invariant.keyed
     c.candidates.ensures) in
-    occupied_by_token i.slab i.index c.self.invariant.keyed (number c.in-Some.first) has
+    occupied_by_token i.slots i.index c.self.invariant.keyed (number c.in-Some.first) has
 
 -- the first candidate is the item
 pub returns-then-is_item_under : goal.returns-then-is_item_under
 returns-then-is_item_under g c =
     let i = c.self.inside in
     let stands_for = g.Q.Equivalent.equivalent c.args.query.now in
-    let has = PassesNoItem-has i.slab i.index c.args.hash stands_for _ _ c.in-Some.first
+    let has = PassesNoItem-has i.slots i.index c.args.hash stands_for _ _ c.in-Some.first
     c.in-Some.ensures.steps
-    (PassesNoItem-start i.slab i.index c.args.hash stands_for _ c.self.invariant.keyed
+    (PassesNoItem-start i.slots i.index c.args.hash stands_for _ c.self.invariant.keyed
     c.candidates.ensures) in
-    rw (← c.self.view_is) (FindsItemOfAnyHash-from i.slab i.index i.rings.hot i.rings.cold
+    rw (← c.self.view_is) (FindsItemOfAnyHash-from i.slots i.index i.rings.hot i.rings.cold
     i.rings.ghosts c.self.invariant.standing c.self.invariant.keyed stands_for
     (number c.in-Some.first) (sym c.is_item_under.ensures ∙ c.if-is_item_under.true))
 

@@ -4,4 +4,4 @@ use Rattle.quick_cache_lists.proofs.lists.Lists.ghost_count.Goals as goal
 pub returns : goal.returns
 returns g c =
     let i = c.self.inside in
-    rw (← c.self.view_is) (count_ghosts i.slab i.rings.ghosts c.self.invariant.standing.ghost_ring)
+    rw (← c.self.view_is) (count_ghosts i.slots i.rings.ghosts c.self.invariant.standing.ghost_ring)

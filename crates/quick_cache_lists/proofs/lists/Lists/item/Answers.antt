@@ -4,30 +4,30 @@ use Rattle.quick_cache_lists.proofs.StandLemmas.{HasItem-from}
 use Rattle.quick_cache_lists.proofs.ItemLemmas.{item_by_token, item_is}
 use Rattle.quick_cache_lists.proofs.lists.Lists.item.Goals as goal
 
-pub get_unchecked-requires : goal.get_unchecked-requires
-get_unchecked-requires g c =
+pub slot-requires : goal.slot-requires
+slot-requires g c =
     let i = c.self.inside in
-    let has = item_by_token i.slab i.index i.rings.hot i.rings.cold i.rings.ghosts
+    let has = item_by_token i.slots i.index i.rings.hot i.rings.cold i.rings.ghosts
     (number c.args.token) (rw (← c.self.view_is) at c.requires) in
     rw has.2 refl
 
 pub item-requires : goal.item-requires
 item-requires g c =
     let i = c.self.inside in
-    let has = item_by_token i.slab i.index i.rings.hot i.rings.cold i.rings.ghosts
+    let has = item_by_token i.slots i.index i.rings.hot i.rings.cold i.rings.ghosts
     (number c.args.token) (rw (← c.self.view_is) at c.requires) in
-    let is = item_is _ c.get_unchecked.result.0.now has.0 has.1 has.2 c.get_unchecked.ensures.item
+    let is = item_is _ c.slot.result has.0 has.1 has.2 c.slot.ensures
     in
     rw is refl
 
 pub returns : goal.returns
 returns g c =
     let i = c.self.inside in
-    let at = c.get_unchecked.ensures.item
-    ∙ ap (λ entry. Some (record c.get_unchecked.result.0.now { entry = entry })) c.item.ensures in (
-      c.get_unchecked.result.0.now.hash,
+    let at = c.slot.ensures
+    ∙ ap (λ entry. Some (record c.slot.result { entry = entry })) c.item.ensures in (
+      c.slot.result.hash,
       rw (← c.self.view_is)
-          (HasItem-from i.slab i.index i.rings.hot i.rings.cold i.rings.ghosts
-          c.self.invariant.standing (number c.args.token) c.get_unchecked.result.0.now.hash
+          (HasItem-from i.slots i.index i.rings.hot i.rings.cold i.rings.ghosts
+          c.self.invariant.standing (number c.args.token) c.slot.result.hash
           c.item.result at),
     )

@@ -4,17 +4,17 @@ use Rattle.quick_cache_lists.proofs.ItemLemmas.{item_by_token}
 use Rattle.quick_cache_lists.proofs.lists.Lists.item_at.Goals as goal
 
 -- a slot that is empty has no item
-pub returns-in_err-slot : goal.returns-in_err-slot
-returns-in_err-slot g c =
+pub returns-in_err-get : goal.returns-in_err-get
+returns-in_err-get g c =
     let i = c.self.inside in
     rw c.from_residual.ensures (λ has.
-    let at = item_by_token i.slab i.index i.rings.hot i.rings.cold i.rings.ghosts
+    let at = item_by_token i.slots i.index i.rings.hot i.rings.cold i.rings.ghosts
     (number c.args.token) (rw (← c.self.view_is) at has) in
-    absurd (cc (at.2, c.in_err-slot.ensures.absent)))
+    absurd (cc (at.2, c.in_err-get.ensures.absent)))
 
 pub returns : goal.returns
 returns g c =
     let i = c.self.inside in
-    rw (← c.self.view_is) (IsItemOf-shown i.slab i.index i.rings.hot i.rings.cold i.rings.ghosts
-    c.self.invariant.standing (number c.args.token) c.in_ok-slot.slot.now
-    c.in_ok-slot.ensures.item c.as_item.result c.as_item.ensures)
+    rw (← c.self.view_is) (IsItemOf-shown i.slots i.index i.rings.hot i.rings.cold i.rings.ghosts
+    c.self.invariant.standing (number c.args.token) c.in_ok-get.field-0
+    c.in_ok-get.ensures.item c.as_item.result c.as_item.ensures)

@@ -5,7 +5,7 @@ use Rattle.quick_cache_lists.proofs.lists.Lists.item_count.Goals as goal
 pub overflow_sub-result : goal.overflow_sub-result
 overflow_sub-result g c =
     let i = c.self.inside in
-    let ghosts = count_ghosts i.slab i.rings.ghosts c.self.invariant.standing.ghost_ring in
+    let ghosts = count_ghosts i.slots i.rings.ghosts c.self.invariant.standing.ghost_ring in
     omega (
       arith,
       c.self.invariant.all_counted,
@@ -17,7 +17,7 @@ overflow_sub-result g c =
 pub overflow_sub-result-2 : goal.overflow_sub-result-2
 overflow_sub-result-2 g c =
     let i = c.self.inside in
-    let ghosts = count_ghosts i.slab i.rings.ghosts c.self.invariant.standing.ghost_ring in
+    let ghosts = count_ghosts i.slots i.rings.ghosts c.self.invariant.standing.ghost_ring in
     omega (
       arith,
       c.self.invariant.all_counted,
@@ -29,7 +29,7 @@ overflow_sub-result-2 g c =
 pub returns : goal.returns
 returns g c =
     let i = c.self.inside in
-    let ghosts = count_ghosts i.slab i.rings.ghosts c.self.invariant.standing.ghost_ring in
+    let ghosts = count_ghosts i.slots i.rings.ghosts c.self.invariant.standing.ghost_ring in
     rw (← c.self.view_is) (omega (
       arith,
       c.self.invariant.all_counted,

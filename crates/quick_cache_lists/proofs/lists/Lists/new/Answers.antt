@@ -5,12 +5,12 @@ use Rattle.quick_cache_lists.proofs.lists.Lists.new.Goals as goal
 
 pub invariant_of-result : goal.invariant_of-result
 invariant_of-result g c =
-    let slots = ap (λ (s : LinkedSlab _). s.slots) c.in_ok-slab.ensures.empty in
-    let free = ap (λ (s : LinkedSlab _). s.free) c.in_ok-slab.ensures.empty in
+    let slots = ap (λ (s : LinkedSlab _). s.slots) c.in_ok-slots.ensures.empty in
+    let free = ap (λ (s : LinkedSlab _). s.free) c.in_ok-slots.ensures.empty in
     let count = c.in_ok-index.ensures.count in
     rw c.empty.ensures (record {
-      standing = IsStanding-empty c.in_ok-slab.slab slots;
-      keyed = IsKeyed-empty c.in_ok-slab.slab c.in_ok-index.index slots free
+      standing = IsStanding-empty c.in_ok-slots.slots slots;
+      keyed = IsKeyed-empty c.in_ok-slots.slots c.in_ok-index.index slots free
           c.in_ok-index.ensures.empty count;
       loading_counted = rw slots refl;
       all_counted = rw (slots, count) refl;

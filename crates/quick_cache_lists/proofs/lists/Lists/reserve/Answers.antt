@@ -4,18 +4,32 @@ use Rattle.quick_cache_lists.proofs.lists.Lists.reserve.Goals as goal
 -- the index has the tokens of all slots, however much room these have
 pub grow_index-requires : goal.grow_index-requires
 grow_index-requires g c = record {
-  keyed = IsKeyed-grown c.self.inside.slab c.reserve.new.self c.self.inside.index
+  keyed = IsKeyed-grown c.self.inside.slots c.reserve.new.self c.self.inside.index
       c.reserve.ensures.kept c.self.invariant.keyed;
 }
 
 pub invariant_of-self-2 : goal.invariant_of-self-2
 invariant_of-self-2 g c =
     let i = c.self.inside in
-    IsSound-grown i.slab c.reserve.new.self i.index c.grow_index.new.index i.rings i.loading
+    IsSound-grown i.slots c.reserve.new.self i.index c.grow_index.new.index i.rings i.loading
     c.reserve.ensures.kept c.grow_index.ensures.keyed c.self.invariant
 
 pub returns-clause-lists : goal.returns-clause-lists
 returns-clause-lists g c =
     let i = c.self.inside in
-    rw (← c.self.view_is) (lists-reserved i.slab c.reserve.new.self i.index c.grow_index.new.index
+    rw (← c.self.view_is) (lists-reserved i.slots c.reserve.new.self i.index c.grow_index.new.index
+    i.rings.hot i.rings.cold i.rings.ghosts c.reserve.ensures.kept)
+
+-- a refusal may leave room beside the slots
+pub invariant_of-self : goal.invariant_of-self
+invariant_of-self g c =
+    let i = c.self.inside in
+    IsSound-grown i.slots c.reserve.new.self i.index i.index i.rings i.loading
+    c.reserve.ensures.kept (IsKeyed-grown i.slots c.reserve.new.self i.index
+    c.reserve.ensures.kept c.self.invariant.keyed) c.self.invariant
+
+pub returns-in_err-reserve-clause-lists : goal.returns-in_err-reserve-clause-lists
+returns-in_err-reserve-clause-lists g c =
+    let i = c.self.inside in
+    rw (← c.self.view_is) (lists-reserved i.slots c.reserve.new.self i.index i.index
     i.rings.hot i.rings.cold i.rings.ghosts c.reserve.ensures.kept)

@@ -1,43 +1,34 @@
-use Rattle.std.proofs.Common.{◌∙◌, refl, arith}
+use Rattle.std.proofs.Common.{refl, arith}
 use Rattle.std.specs.Int.NonZero.{non_zero_u32_get as number}
-use Rattle.quick_cache_slab.specs.LinkedSlab.{item_at}
 use Rattle.quick_cache_lists.specs.Lists.{with_weight}
-use Rattle.quick_cache_lists.proofs.ChangeLemmas.{changed_slot}
+use Rattle.quick_cache_lists.proofs.ChangeLemmas.{written-by}
 use Rattle.quick_cache_lists.proofs.RewriteLemmas.{item_at-token, Reweighs-requeued, can_reweigh-seen, IsSound-written, Rewrites-written}
 use Rattle.quick_cache_lists.proofs.lists.Lists.reweigh.Goals as goal
 
 pub returns-then-was-weight : goal.returns-then-was-weight
 returns-then-was-weight g c =
     let i = c.self.inside in
-    rw (← c.self.view_is) (Reweighs-requeued i.slab i.index i.rings.hot i.rings.cold i.rings.ghosts
+    rw (← c.self.view_is) (Reweighs-requeued i.slots i.index i.rings.hot i.rings.cold i.rings.ghosts
     c.validate.ensures c.self.invariant.standing (number c.args.token) c.item-item.result
     (rw (← c.self.view_is) at c.item-item.ensures) c.requeue.new.self c.weight-was.result
     c.args.weight c.weight-was.ensures c.queue-queue.result c.mark-mark.result
     c.queue-queue.ensures c.mark-mark.ensures (rw (← c.self.view_is) at c.requeue.ensures)
     c.if-was-weight.true)
 
-pub get_mut_unchecked-requires : goal.get_mut_unchecked-requires
-get_mut_unchecked-requires g c =
-    let i = c.self.inside in
-    let at = item_at-token i.slab i.index i.rings.hot i.rings.cold i.rings.ghosts
-    (number c.args.token) c.item-item.result
-    (rw (← c.self.view_is) at c.item-item.ensures) in
-    rw at refl
-
 pub set_weight-requires : goal.set_weight-requires
 set_weight-requires g c =
     let i = c.self.inside in
-    let has = rw (← c.self.view_is) at c.item-item.ensures in
-    let at = item_at-token i.slab i.index i.rings.hot i.rings.cold i.rings.ghosts
-    (number c.args.token) c.item-item.result
-    has in
-    (changed_slot (item_at i.slab (number c.args.token)) c.get_mut_unchecked.result.0.now has.0
-    c.item-item.result (with_weight c.args.weight) at c.get_mut_unchecked.ensures.item).0
+    let has = rw (← c.self.view_is) at c.item-item.ensures in (
+      has.0,
+      c.item-item.result,
+      item_at-token i.slots i.index i.rings.hot i.rings.cold i.rings.ghosts
+          (number c.args.token) c.item-item.result has,
+    )
 
 pub reweigh-requires : goal.reweigh-requires
 reweigh-requires g c =
     let i = c.self.inside in
-    can_reweigh-seen i.slab i.index i.rings i.loading c.self.invariant c.validate.ensures
+    can_reweigh-seen i.slots i.index i.rings i.loading c.self.invariant c.validate.ensures
     (number c.args.token) c.item-item.result (rw (← c.self.view_is) at c.item-item.ensures)
     c.weight-was.result c.args.weight c.stand-stand.result c.weight-was.ensures
     c.stand-stand.ensures (omega arith)
@@ -47,12 +38,11 @@ invariant_of-self g c =
     let i = c.self.inside in
     let t = number c.args.token in
     let has = rw (← c.self.view_is) at c.item-item.ensures in
-    let at = item_at-token i.slab i.index i.rings.hot i.rings.cold i.rings.ghosts t
+    let at = item_at-token i.slots i.index i.rings.hot i.rings.cold i.rings.ghosts t
     c.item-item.result has in
-    let now = c.set_weight.ensures
-    ∙ (changed_slot (item_at i.slab t) c.get_mut_unchecked.result.0.now has.0
-    c.item-item.result (with_weight c.args.weight) at c.get_mut_unchecked.ensures.item).1 in
-    rw now (IsSound-written i.slab i.index i.rings i.loading c.self.invariant c.validate.ensures t
+    let now = written-by i.slots c.set_weight.new.self t has.0 c.item-item.result
+    (with_weight c.args.weight) c.set_weight.ensures at in
+    rw now (IsSound-written i.slots i.index i.rings i.loading c.self.invariant c.validate.ensures t
     c.item-item.result has c.weight-was.result c.args.weight c.stand-stand.result
     c.weight-was.ensures c.stand-stand.ensures (omega arith)
     (with_weight c.args.weight c.item-item.result) c.reweigh.new.self c.reweigh.ensures refl
@@ -63,14 +53,13 @@ returns g c =
     let i = c.self.inside in
     let t = number c.args.token in
     let has = rw (← c.self.view_is) at c.item-item.ensures in
-    let at = item_at-token i.slab i.index i.rings.hot i.rings.cold i.rings.ghosts t
+    let at = item_at-token i.slots i.index i.rings.hot i.rings.cold i.rings.ghosts t
     c.item-item.result has in
-    let now = c.set_weight.ensures
-    ∙ (changed_slot (item_at i.slab t) c.get_mut_unchecked.result.0.now has.0
-    c.item-item.result (with_weight c.args.weight) at c.get_mut_unchecked.ensures.item).1 in
+    let now = written-by i.slots c.set_weight.new.self t has.0 c.item-item.result
+    (with_weight c.args.weight) c.set_weight.ensures at in
     rw (← c.self.view_is, now) (
       c.item-item.result,
-      Rewrites-written i.slab i.index i.rings
+      Rewrites-written i.slots i.index i.rings
           i.loading c.self.invariant c.validate.ensures t c.item-item.result has
           c.weight-was.result c.args.weight c.stand-stand.result c.weight-was.ensures
           c.stand-stand.ensures (omega arith) (with_weight c.args.weight c.item-item.result)

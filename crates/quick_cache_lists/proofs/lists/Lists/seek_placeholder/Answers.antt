@@ -10,23 +10,23 @@ loop-token-init g c = PassesNoneMeant-start (g.M.Meaning.means c.args.by.now) _
 pub returns-then-is_meant : goal.returns-then-is_meant
 returns-then-is_meant g c =
     let i = c.self.inside in
-    rw (← c.self.view_is) (FindsPlaceholder-walk i.slab i.index i.rings.hot i.rings.cold
+    rw (← c.self.view_is) (FindsPlaceholder-walk i.slots i.index i.rings.hot i.rings.cold
     i.rings.ghosts c.self.invariant.standing (g.M.Meaning.means c.args.by.now) _ _ _
-    (number c.in-Some.token) c.in-Some.slot.now
+    (number c.in-Some.token) c.in-Some.slot
     (c.into_iter-token-iterator.ensures.into_iter_gives ∙ c.iter_from-token-items.ensures)
     c.in-Some.ensures.steps c.loop-token.invariant (sym c.is_meant.ensures ∙ c.if-is_meant.true))
 
 pub loop-token-preserved : goal.loop-token-preserved
 loop-token-preserved g c =
     PassesNoneMeant-past (g.M.Meaning.means c.args.by.now) _ _ _ (number c.in-Some.token)
-    c.in-Some.slot.now c.in-Some.ensures.steps (sym c.is_meant.ensures ∙ c.if-is_meant.false)
+    c.in-Some.slot c.in-Some.ensures.steps (sym c.is_meant.ensures ∙ c.if-is_meant.false)
     c.loop-token.invariant
 
 -- none is left
 pub returns : goal.returns
 returns g c =
     let i = c.self.inside in
-    rw (← c.self.view_is) (HasNoPlaceholder-walk i.slab i.index i.rings.hot i.rings.cold
+    rw (← c.self.view_is) (HasNoPlaceholder-walk i.slots i.index i.rings.hot i.rings.cold
     i.rings.ghosts c.self.invariant.standing (g.M.Meaning.means c.args.by.now) _ _
     (c.into_iter-token-iterator.ensures.into_iter_gives ∙ c.iter_from-token-items.ensures)
     c.in-None.ensures.steps.0 c.loop-token.invariant)

@@ -10,19 +10,19 @@ use Rattle.quick_cache_lists.proofs.lists.Lists.take.Goals as goal
 pub displace-slot-requires-clause-occupied : goal.displace-slot-requires-clause-occupied
 displace-slot-requires-clause-occupied g c =
     let i = c.self.inside in
-    occupied_by_entry i.slab i.index i.rings.hot i.rings.cold i.rings.ghosts (number c.args.token)
+    occupied_by_entry i.slots i.index i.rings.hot i.rings.cold i.rings.ghosts (number c.args.token)
     (rw (← c.self.view_is) at c.requires)
 
 pub leave-requires : goal.leave-requires
 leave-requires g c =
     let i = c.self.inside in
     let u = c.displace-slot.ensures in
-    let stands : stand_of (item_at i.slab (number c.args.token)) ≡ Some c.stand-stand.result =
+    let stands : stand_of (item_at i.slots (number c.args.token)) ≡ Some c.stand-stand.result =
     ap stand_of u.item ∙ ap (λ (s : Stand). Some s) (sym c.stand-stand.ensures) in
-    let weighs : weight_at (item_at i.slab (number c.args.token)) ≡ c.weight-weight.result =
+    let weighs : weight_at (item_at i.slots (number c.args.token)) ≡ c.weight-weight.result =
     ap weight_at u.item ∙ sym c.weight-weight.ensures in
     subst (λ (w : ℕ). CanLeaveRing i.rings w c.stand-stand.result) weighs
-    (can_leave i.slab i.rings c.self.invariant.standing
+    (can_leave i.slots i.rings c.self.invariant.standing
     (number c.args.token) c.stand-stand.result stands)
 
 pub overflow_sub-self : goal.overflow_sub-self
@@ -31,7 +31,7 @@ overflow_sub-self g c =
     let u = c.displace-slot.ensures in
     omega (
       arith,
-      loading-enough i.slab c.displace-slot.new.slab i.index c.displace-slot.new.index
+      loading-enough i.slots c.displace-slot.new.slots i.index c.displace-slot.new.index
           c.args.token c.displace-slot.result.1 c.args.restarts i.rings c.leave.new.self i.loading
           c.self.invariant c.validate.ensures u.removed u.next u.room u.keyed u.count
           c.displace-slot.result.0 u.item c.stand-stand.result c.weight-weight.result
@@ -43,7 +43,7 @@ pub invariant_of-self : goal.invariant_of-self
 invariant_of-self g c =
     let i = c.self.inside in
     let u = c.displace-slot.ensures in
-    IsSound-left i.slab c.displace-slot.new.slab i.index c.displace-slot.new.index c.args.token
+    IsSound-left i.slots c.displace-slot.new.slots i.index c.displace-slot.new.index c.args.token
     c.displace-slot.result.1 c.args.restarts i.rings c.leave.new.self i.loading c.self.invariant
     c.validate.ensures u.removed u.next u.room u.keyed u.count c.displace-slot.result.0 u.item
     c.stand-stand.result c.weight-weight.result c.stand-stand.ensures c.weight-weight.ensures
@@ -52,7 +52,7 @@ invariant_of-self g c =
 pub returns-clause-taken : goal.returns-clause-taken
 returns-clause-taken g c =
     let i = c.self.inside in
-    rw (← c.self.view_is) (IsEntry-from i.slab i.index i.rings.hot i.rings.cold i.rings.ghosts
+    rw (← c.self.view_is) (IsEntry-from i.slots i.index i.rings.hot i.rings.cold i.rings.ghosts
     c.self.invariant.standing (number c.args.token) c.displace-slot.result.0
     c.displace-slot.ensures.item)
 
@@ -60,7 +60,7 @@ pub returns-clause-rest : goal.returns-clause-rest
 returns-clause-rest g c =
     let i = c.self.inside in
     let u = c.displace-slot.ensures in
-    rw (← c.self.view_is) (IsGone-left i.slab c.displace-slot.new.slab i.index
+    rw (← c.self.view_is) (IsGone-left i.slots c.displace-slot.new.slots i.index
     c.displace-slot.new.index c.args.token c.displace-slot.result.1 c.args.restarts i.rings
     c.leave.new.self i.loading c.self.invariant c.validate.ensures u.removed u.next u.room
     u.keyed u.count c.displace-slot.result.0 u.item c.stand-stand.result c.weight-weight.result

@@ -12,7 +12,7 @@ use Rattle.quick_cache_lists.proofs.lists.Lists.take_ghost.Goals as goal
 pub displace-next-requires-clause-occupied : goal.displace-next-requires-clause-occupied
 displace-next-requires-clause-occupied g c =
     let i = c.self.inside in
-    occupied_by_entry i.slab i.index i.rings.hot i.rings.cold i.rings.ghosts (number c.args.token)
+    occupied_by_entry i.slots i.index i.rings.hot i.rings.cold i.rings.ghosts (number c.args.token)
     (inr (inr (rw (← c.self.view_is) at c.requires)))
 
 -- a ghost weighs nothing, and stands among the ghosts
@@ -20,24 +20,24 @@ pub leave-requires : goal.leave-requires
 leave-requires g c =
     let i = c.self.inside in
     let u = c.displace-next.ensures in
-    let is = ghost_by_token i.slab i.index i.rings.hot i.rings.cold i.rings.ghosts
+    let is = ghost_by_token i.slots i.index i.rings.hot i.rings.cold i.rings.ghosts
     (number c.args.token) (rw (← c.self.view_is) at c.requires) c.displace-next.result.0 u.item in
-    let stands : stand_of (item_at i.slab (number c.args.token)) ≡ Some AmongGhosts =
+    let stands : stand_of (item_at i.slots (number c.args.token)) ≡ Some AmongGhosts =
     ap stand_of u.item ∙ ap (λ e. Some (stand_in e)) is in
-    let weighs : weight_at (item_at i.slab (number c.args.token)) ≡ 0 =
+    let weighs : weight_at (item_at i.slots (number c.args.token)) ≡ 0 =
     ap weight_at u.item ∙ ap weight_in is in
     subst (λ (w : ℕ). CanLeaveRing i.rings w AmongGhosts) weighs
-    (can_leave i.slab i.rings c.self.invariant.standing (number c.args.token) AmongGhosts stands)
+    (can_leave i.slots i.rings c.self.invariant.standing (number c.args.token) AmongGhosts stands)
 
 pub invariant_of-self : goal.invariant_of-self
 invariant_of-self g c =
     let i = c.self.inside in
     let u = c.displace-next.ensures in
-    let is = ghost_by_token i.slab i.index i.rings.hot i.rings.cold i.rings.ghosts
+    let is = ghost_by_token i.slots i.index i.rings.hot i.rings.cold i.rings.ghosts
     (number c.args.token) (rw (← c.self.view_is) at c.requires) c.displace-next.result.0 u.item in
     let none : i.loading - 0 ≡ i.loading = omega arith in
-    subst (IsSound c.displace-next.new.slab c.displace-next.new.index c.leave.new.self) none
-    (IsSound-left i.slab c.displace-next.new.slab i.index c.displace-next.new.index c.args.token
+    subst (IsSound c.displace-next.new.slots c.displace-next.new.index c.leave.new.self) none
+    (IsSound-left i.slots c.displace-next.new.slots i.index c.displace-next.new.index c.args.token
     c.displace-next.result.1 false i.rings c.leave.new.self i.loading c.self.invariant
     c.validate.ensures u.removed u.next u.room u.keyed u.count c.displace-next.result.0 u.item
     AmongGhosts 0 (sym (ap stand_in is)) (sym (ap weight_in is)) c.leave.ensures 0 refl)
@@ -46,9 +46,9 @@ pub returns : goal.returns
 returns g c =
     let i = c.self.inside in
     let u = c.displace-next.ensures in
-    let is = ghost_by_token i.slab i.index i.rings.hot i.rings.cold i.rings.ghosts
+    let is = ghost_by_token i.slots i.index i.rings.hot i.rings.cold i.rings.ghosts
     (number c.args.token) (rw (← c.self.view_is) at c.requires) c.displace-next.result.0 u.item in
-    rw (← c.self.view_is) (IsGone-left i.slab c.displace-next.new.slab i.index
+    rw (← c.self.view_is) (IsGone-left i.slots c.displace-next.new.slots i.index
     c.displace-next.new.index c.args.token c.displace-next.result.1 false i.rings
     c.leave.new.self i.loading c.self.invariant c.validate.ensures u.removed u.next u.room
     u.keyed u.count c.displace-next.result.0 u.item AmongGhosts 0 (sym (ap stand_in is))

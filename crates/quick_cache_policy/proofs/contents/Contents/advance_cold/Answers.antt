@@ -21,7 +21,7 @@ returns-in-Marked-clause-advances g c =
     let rules = rules_by g.M.Policy g.P.Touch.Touches.may_count c.args.terms.now in
     let old = state_of g.P.SharedPlaceholder.ticket_of c.args.self.now in
     let cold = items_of c.search_cold.new.self.lists.cold in
-    let is = ap (λ (r : Contents _ _ _ _ _). state_of g.P.SharedPlaceholder.ticket_of r)
+    let is = ap (λ (r : Contents _ _ _ _ _ _). state_of g.P.SharedPlaceholder.ticket_of r)
     c.search_cold.ensures.same in
     let mid = state_of g.P.SharedPlaceholder.ticket_of c.promote_first.new.self in
     let new = state_of g.P.SharedPlaceholder.ticket_of c.evict_to_target.new.self in
@@ -39,7 +39,7 @@ returns-in-Victim-clause-advances g c =
     let rules = rules_by g.M.Policy g.P.Touch.Touches.may_count c.args.terms.now in
     let old = state_of g.P.SharedPlaceholder.ticket_of c.args.self.now in
     let cold = items_of c.search_cold.new.self.lists.cold in
-    let is = ap (λ (r : Contents _ _ _ _ _). state_of g.P.SharedPlaceholder.ticket_of r)
+    let is = ap (λ (r : Contents _ _ _ _ _ _). state_of g.P.SharedPlaceholder.ticket_of r)
     c.search_cold.ensures.same in
     let new = state_of g.P.SharedPlaceholder.ticket_of c.evict_first.new.self in
     let steady = g.M.Policy.steady c.args.terms.now in
@@ -59,7 +59,7 @@ returns-in-Victim-clause-falls g c = omega (
   c.evict_first.ensures.falls,
   c.evict_first.ensures.others Hot (λ e. absurd (cc)),
   c.search_cold.ensures.count,
-  ap (λ (r : Contents _ _ _ _ _). length r.lists.hot) c.search_cold.ensures.same,
+  ap (λ (r : Contents _ _ _ _ _ _). length r.lists.hot) c.search_cold.ensures.same,
 )
 
 pub returns-in-Victim-clause-work : goal.returns-in-Victim-clause-work
@@ -68,10 +68,10 @@ returns-in-Victim-clause-work g c =
     (length c.evict_first.new.self.lists.hot) (length c.evict_first.new.self.lists.cold)
     (work_of c.args.self.now) (work_of c.evict_first.new.self)
     (c.evict_first.ensures.others Hot (λ e. absurd (cc))
-    ∙ ap (λ (r : Contents _ _ _ _ _). length r.lists.hot) c.search_cold.ensures.same)
+    ∙ ap (λ (r : Contents _ _ _ _ _ _). length r.lists.hot) c.search_cold.ensures.same)
     (omega (arith, c.evict_first.ensures.falls, c.search_cold.ensures.count))
-    (ap (λ (r : Contents _ _ _ _ _). work_of r) c.evict_first.ensures.same
-    ∙ ap (λ (r : Contents _ _ _ _ _). work_of r) c.search_cold.ensures.same)
+    (ap (λ (r : Contents _ _ _ _ _ _). work_of r) c.evict_first.ensures.same
+    ∙ ap (λ (r : Contents _ _ _ _ _ _). work_of r) c.search_cold.ensures.same)
     c.counts_fit.ensures.advances c.counts_fit.ensures.visits
 
 pub returns-in-AllPassed-clause-advances : goal.returns-in-AllPassed-clause-advances
@@ -79,7 +79,7 @@ returns-in-AllPassed-clause-advances g c =
     let rules = rules_by g.M.Policy g.P.Touch.Touches.may_count c.args.terms.now in
     let old = state_of g.P.SharedPlaceholder.ticket_of c.args.self.now in
     let cold = items_of c.search_cold.new.self.lists.cold in
-    let is = ap (λ (r : Contents _ _ _ _ _). state_of g.P.SharedPlaceholder.ticket_of r)
+    let is = ap (λ (r : Contents _ _ _ _ _ _). state_of g.P.SharedPlaceholder.ticket_of r)
     c.search_cold.ensures.same in
     let new = state_of g.P.SharedPlaceholder.ticket_of c.advance_hot.new.self in
     let steady = g.M.Policy.steady c.args.terms.now in

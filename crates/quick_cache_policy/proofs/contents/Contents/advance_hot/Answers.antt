@@ -27,7 +27,7 @@ returns-clause-advances g c =
 pub returns-clause-cold : goal.returns-clause-cold
 returns-clause-cold g c =
     c.evict_first.ensures.others Cold cold≢hot
-    ∙ ap (λ (s : Contents _ _ _ _ _). ring_count Cold s) c.seek_victim.ensures.same
+    ∙ ap (λ (s : Contents _ _ _ _ _ _). ring_count Cold s) c.seek_victim.ensures.same
 
 pub returns-clause-work : goal.returns-clause-work
 returns-clause-work g c =
@@ -37,14 +37,14 @@ returns-clause-work g c =
     (g.M.Policy.hooks c.args.terms.now) c.args.self.now c.seek_victim.new.self
     c.saturating_add-self.result c.seek_victim.result s.ends s.same in
     PaysFor-advance 0 _ _ _ _ s.ends.visits _ _
-    (ap (λ (x : Contents _ _ _ _ _). x.advances) c.evict_first.ensures.same
-    ∙ ap (λ (x : Contents _ _ _ _ _). x.advances) s.same ∙ c.saturating_add-self.ensures)
-    (ap (λ (x : Contents _ _ _ _ _). x.visits) c.evict_first.ensures.same ∙ s.ends.counted)
+    (ap (λ (x : Contents _ _ _ _ _ _). x.advances) c.evict_first.ensures.same
+    ∙ ap (λ (x : Contents _ _ _ _ _ _). x.advances) s.same ∙ c.saturating_add-self.ensures)
+    (ap (λ (x : Contents _ _ _ _ _ _). x.visits) c.evict_first.ensures.same ∙ s.ends.counted)
     within
     (omega (arith, c.evict_first.ensures.falls, s.count))
     (omega (arith, c.evict_first.ensures.falls, s.count))
     (c.evict_first.ensures.others Cold cold≢hot
-    ∙ ap (λ (x : Contents _ _ _ _ _). ring_count Cold x) s.same)
+    ∙ ap (λ (x : Contents _ _ _ _ _ _). ring_count Cold x) s.same)
 
 -- the visits lower marks
 pub returns-then-not-seek_victim-clause-keys : goal.returns-then-not-seek_victim-clause-keys

@@ -3,7 +3,7 @@ use Rattle.std.specs.Int.NonZero.{non_zero_u32_get as number}
 use Rattle.quick_cache_model.specs.CacheState.{default_mark_cut}
 use Rattle.quick_cache_model.specs.Removal.{pair_of}
 use Rattle.quick_cache_model.specs.Touches.{counted_up, raised_by}
-use Rattle.quick_cache_lists.specs.Lists.{HeldItem, with_counts, with_reads}
+use Rattle.quick_cache_lists.specs.Lists.{HeldItem, read_once, used}
 use Rattle.quick_cache_lists.proofs.StandingLemmas.{found-same}
 use Rattle.quick_cache_policy.specs.Contents.{IsSound}
 use Rattle.quick_cache_policy.specs.Finding.{IsLookedUp}
@@ -29,9 +29,6 @@ returns-clause-looks_up g c =
     ∙ c.requires.found.passes in
     let now = c.if-mark-eq-MARK_CUT.self in
     let hits = c.saturating_add-self.result in
-    let reads = c.saturating_add-reads.result in
-    let reads_are : reads ≡ counted_up 1 item.reads =
-    omega (arith, c.reads.ensures, c.saturating_add-reads.ensures) in
     let hits_are : hits ≡ counted_up 1 now.hits = omega (arith, c.saturating_add-self.ensures) in
     let done : IsCounted contents t item (record now { hits = hits }) =
     elim c.if-mark-eq-MARK_CUT.branch [
@@ -39,19 +36,19 @@ returns-clause-looks_up g c =
           let mark_is : item.mark ≡ raised_by default_mark_cut 1 item.mark =
           omega (arith, c.mark-mark.ensures, w.if-mark-eq-MARK_CUT.true) in
           record {
-            change = with_reads reads;
-            counts = λ i. record item { mark = mark_is i; reads = reads_are i };
-            is = counted-is contents now t (with_reads reads) w.set_reads.new.self hits w.self-is
-                w.set_reads.ensures hits_are;
+            change = read_once;
+            counts = λ i. record item { mark = mark_is i; reads = counted_up 1 item.reads };
+            is = counted-is contents now t read_once w.count_read.new.self hits w.self-is
+                w.count_read.ensures hits_are;
           }
       | else-mark-eq-MARK_CUT w ↦
           let mark_is : w.min.result + 1 ≡ raised_by default_mark_cut 1 item.mark =
           omega (arith, c.mark-mark.ensures, w.min.ensures) in
           record {
-            change = with_counts (w.min.result + 1) reads;
-            counts = λ i. record item { mark = mark_is i; reads = reads_are i };
-            is = counted-is contents now t (with_counts (w.min.result + 1) reads)
-                w.set_counts.new.self hits w.self-is w.set_counts.ensures hits_are;
+            change = used (w.min.result + 1);
+            counts = λ i. record item { mark = mark_is i; reads = counted_up 1 item.reads };
+            is = counted-is contents now t (used (w.min.result + 1)) w.count_use.new.self hits
+                w.self-is w.count_use.ensures hits_are;
           }
     ] in
     subst (λ s. IsLookedUp ticket_of stands_for contents c.args.token s) (sym done.is)
@@ -81,9 +78,6 @@ returns-clause-sound g c = λ hashed sound.
     ∙ c.requires.found.passes in
     let now = c.if-mark-eq-MARK_CUT.self in
     let hits = c.saturating_add-self.result in
-    let reads = c.saturating_add-reads.result in
-    let reads_are : reads ≡ counted_up 1 item.reads =
-    omega (arith, c.reads.ensures, c.saturating_add-reads.ensures) in
     let hits_are : hits ≡ counted_up 1 now.hits = omega (arith, c.saturating_add-self.ensures) in
     let done : IsCounted contents t item (record now { hits = hits }) =
     elim c.if-mark-eq-MARK_CUT.branch [
@@ -91,19 +85,19 @@ returns-clause-sound g c = λ hashed sound.
           let mark_is : item.mark ≡ raised_by default_mark_cut 1 item.mark =
           omega (arith, c.mark-mark.ensures, w.if-mark-eq-MARK_CUT.true) in
           record {
-            change = with_reads reads;
-            counts = λ i. record item { mark = mark_is i; reads = reads_are i };
-            is = counted-is contents now t (with_reads reads) w.set_reads.new.self hits w.self-is
-                w.set_reads.ensures hits_are;
+            change = read_once;
+            counts = λ i. record item { mark = mark_is i; reads = counted_up 1 item.reads };
+            is = counted-is contents now t read_once w.count_read.new.self hits w.self-is
+                w.count_read.ensures hits_are;
           }
       | else-mark-eq-MARK_CUT w ↦
           let mark_is : w.min.result + 1 ≡ raised_by default_mark_cut 1 item.mark =
           omega (arith, c.mark-mark.ensures, w.min.ensures) in
           record {
-            change = with_counts (w.min.result + 1) reads;
-            counts = λ i. record item { mark = mark_is i; reads = reads_are i };
-            is = counted-is contents now t (with_counts (w.min.result + 1) reads)
-                w.set_counts.new.self hits w.self-is w.set_counts.ensures hits_are;
+            change = used (w.min.result + 1);
+            counts = λ i. record item { mark = mark_is i; reads = counted_up 1 item.reads };
+            is = counted-is contents now t (used (w.min.result + 1)) w.count_use.new.self hits
+                w.self-is w.count_use.ensures hits_are;
           }
     ] in
     subst (λ s. IsSound ticket_of g.K.PartialEq.eq hashed s) (sym done.is)

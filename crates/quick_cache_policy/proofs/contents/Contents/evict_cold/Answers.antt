@@ -120,7 +120,7 @@ returns-in-Leaves-clause-evicts g c =
     record {
       calls = BeforeEvict item.key item.value left ∷ EvictCold item.key left ∷ [];
       holds = (
-        subst (λ (s : Contents _ _ _ _ _). FirstIsEvicted rules Cold
+        subst (λ (s : Contents _ _ _ _ _ _). FirstIsEvicted rules Cold
             (state_of g.P.SharedPlaceholder.ticket_of contents)
             (BeforeEvict item.key item.value left ∷ EvictCold item.key left ∷ [])
             (state_of g.P.SharedPlaceholder.ticket_of s))
@@ -158,11 +158,11 @@ returns-in-Leaves-clause-sound g c =
     c.bury.new.self c.bury.ensures first.2 first.3)
     c.forget_oldest.ensures.same in
     let evicts = returns-in-Leaves-clause-evicts g c in
-    subst (λ (s : Contents _ _ _ _ _). IsSound g.P.SharedPlaceholder.ticket_of g.K.PartialEq.eq hash
-    s) (sym same)
+    subst (λ (s : Contents _ _ _ _ _ _). IsSound g.P.SharedPlaceholder.ticket_of g.K.PartialEq.eq
+    hash s) (sym same)
     (IsSound-evicted g.P.SharedPlaceholder.ticket_of contents rules g.K.PartialEq.eq hash Cold
     evicts.calls _
-    (subst (λ (s : Contents _ _ _ _ _). FirstIsEvicted rules Cold
+    (subst (λ (s : Contents _ _ _ _ _ _). FirstIsEvicted rules Cold
     (state_of g.P.SharedPlaceholder.ticket_of contents) evicts.calls
     (state_of g.P.SharedPlaceholder.ticket_of s)) same evicts.holds.0) c.requires.sound
     (AreHashed-ghosts hash new.lists.ghosts _
@@ -178,13 +178,13 @@ returns-in-Leaves-clause-falls g c =
     (Replaces-ghost contents.lists c.apart.ensures.apart first.0 first.1 (number c.args.token) _
     c.bury.new.self c.bury.ensures first.2 first.3)
     c.forget_oldest.ensures.same in
-    omega (arith, ap (λ (s : Contents _ _ _ _ _). ring_count Cold s) same, ap length first.2)
+    omega (arith, ap (λ (s : Contents _ _ _ _ _ _). ring_count Cold s) same, ap length first.2)
 
 pub returns-in-Leaves-clause-hot : goal.returns-in-Leaves-clause-hot
 returns-in-Leaves-clause-hot g c =
     let first = c.requires.first in
     let contents = c.args.self.now in
-    ap (λ (s : Contents _ _ _ _ _). ring_count Hot s)
+    ap (λ (s : Contents _ _ _ _ _ _). ring_count Hot s)
     (without-ghosts g.P.SharedPlaceholder.ticket_of contents c.bury.new.self first.1 _
     c.forget_oldest.new.self
     (Replaces-ghost contents.lists c.apart.ensures.apart first.0 first.1 (number c.args.token) _

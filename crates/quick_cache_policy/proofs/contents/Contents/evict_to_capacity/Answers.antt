@@ -92,7 +92,7 @@ loop-self-preserved g c =
           (length c.loop-self.self.lists.cold) (length c.advance_cold.new.self.lists.hot)
           (length c.advance_cold.new.self.lists.cold) (work_of c.args.self.now)
           (work_of c.loop-self.self) (work_of c.advance_cold.new.self) i.work e.work;
-      same = e.same ∙ ap (λ (r : Contents _ _ _ _ _). record r {
+      same = e.same ∙ ap (λ (r : Contents _ _ _ _ _ _). record r {
         lists = c.advance_cold.new.self.lists;
         advances = c.advance_cold.new.self.advances;
         visits = c.advance_cold.new.self.visits;

@@ -7,7 +7,7 @@ use Rattle.quick_cache_model.specs.Placeholders.{MakesRoomFor}
 use Rattle.quick_cache_model.specs.Writes.{new_item, queue_for}
 use Rattle.quick_cache_lists.proofs.CallerLemmas.{weight_of-items}
 use Rattle.quick_cache_lists.proofs.StandingLemmas.{loading-not_item, loading-not_ghost}
-use Rattle.quick_cache_lists.specs.declared.entry.Awaited.{Awaited}
+use Rattle.quick_cache_slots.specs.declared.entry.Awaited.{Awaited}
 use Rattle.quick_cache_lists.specs.Fills.{filled}
 use Rattle.quick_cache_lists.specs.Lists.{HeldLoading, Lists, StandsIn, without_entry}
 use Rattle.quick_cache_lists.specs.Views.{loading_entry, loading_entries}
@@ -98,7 +98,7 @@ returns-then-weight-gt0-clause-fills g c =
       placeholder = awaited.placeholder;
     } in
     let stands : StandsIn contents.lists.loading waiting = c.awaited-awaited.ensures.1 in
-    let ticket = ticket_of c.args.placeholder.now in
+    let ticket = g.P.SharedPlaceholder.own_ticket c.args.placeholder.now in
     let is_it : (ticket == ticket_of awaited.placeholder) ≡ true =
     ap (λ (w : HeldLoading _ _). ticket == ticket_of w.placeholder)
     (awaited-is_loading contents.lists apart t c.awaited-awaited.ensures.0 awaited stands
@@ -196,7 +196,7 @@ returns-else-weight-gt0-clause-fills g c =
       placeholder = awaited.placeholder;
     } in
     let stands : StandsIn contents.lists.loading waiting = c.awaited-awaited.ensures.1 in
-    let ticket = ticket_of c.args.placeholder.now in
+    let ticket = g.P.SharedPlaceholder.own_ticket c.args.placeholder.now in
     let is_it : (ticket == ticket_of awaited.placeholder) ≡ true =
     ap (λ (w : HeldLoading _ _). ticket == ticket_of w.placeholder)
     (awaited-is_loading contents.lists apart t c.awaited-awaited.ensures.0 awaited stands
@@ -349,7 +349,7 @@ returns-in-Loading-clause-fills g c =
       placeholder = awaited.placeholder;
     } in
     let stands : StandsIn contents.lists.loading waiting = c.awaited-awaited.ensures.1 in
-    let ticket = ticket_of c.args.placeholder.now in
+    let ticket = g.P.SharedPlaceholder.own_ticket c.args.placeholder.now in
     let is_it : (ticket == ticket_of awaited.placeholder) ≡ true =
     ap (λ (w : HeldLoading _ _). ticket == ticket_of w.placeholder)
     (awaited-is_loading contents.lists apart t c.awaited-awaited.ensures.0 awaited stands

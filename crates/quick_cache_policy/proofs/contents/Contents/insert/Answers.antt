@@ -52,7 +52,7 @@ pub write-requires-clause-found : goal.write-requires-clause-found
 write-requires-clause-found g c =
     let stands_for = g.K.PartialEq.eq c.args.key in
     let old = c.args.self.now in
-    subst (λ (lists : Lists g.row.K.Denot g.row.V.Denot g.row.P.Denot).
+    subst (λ (lists : Lists g.row.K.Denot g.row.V.Denot g.row.P-Kept.Denot).
     Finds stands_for c.args.hash lists c.find-found.result)
     (sym (ap (λ s. s.lists) c.provide.ensures.lists))
     (Finds-room stands_for c.args.hash old.lists c.provide.new.self.lists.room

@@ -4,7 +4,7 @@ use Rattle.quick_cache_model.specs.declared.queue.Queue.TheVariants.{Cold}
 use Rattle.quick_cache_model.specs.CacheState.{Item, UpToOrder}
 use Rattle.quick_cache_model.specs.Eviction.{EvictsToCapacity}
 use Rattle.quick_cache_model.specs.Writes.{queue_for}
-use Rattle.quick_cache_lists.specs.declared.entry.Entry.TheVariants.{Item as item_variant}
+use Rattle.quick_cache_slots.specs.declared.entry.Entry.TheVariants.{Item as item_variant}
 use Rattle.quick_cache_lists.specs.declared.found.Found.TheVariants.{Nothing as found_nothing}
 use Rattle.quick_cache_lists.specs.Lists.{Finds, PutsLast}
 use Rattle.quick_cache_lists.proofs.CallerLemmas.{weight_of-items}

@@ -5,7 +5,7 @@ use Rattle.quick_cache_model.specs.Placeholders.{MakesPlaceholder, with_placehol
 use Rattle.quick_cache_model.specs.Lookups.{after_miss}
 use Rattle.quick_cache_model.proofs.EqualKeys.{keys_by-absent}
 use Rattle.quick_cache_model.specs.Touches.{counted_up}
-use Rattle.quick_cache_lists.specs.declared.entry.Entry.TheVariants.{Loading as loading_variant}
+use Rattle.quick_cache_slots.specs.declared.entry.Entry.TheVariants.{Loading as loading_variant}
 use Rattle.std.proofs.lemmas.List.{map-append}
 use Rattle.quick_cache_model.proofs.Valid.Edits.{without_ghost-valid}
 use Rattle.quick_cache_lists.specs.declared.found.Found.{Found}
@@ -47,8 +47,8 @@ returns-in_err-awaited-clause-makes g c =
     let state = state_of ticket_of contents in
     let there = c.requires.found in
     let none = HasNoKey-state ticket_of stands_for c.args.hash contents c.requires.under there.0 in
-    Makes-refused ticket_of stands_for gives c.args.hash contents contents
-    c.in_err-awaited.field-0.0 c.from_residual.result c.from_residual.ensures.0
+    Makes-refused ticket_of g.P.SharedPlaceholder.own_ticket stands_for gives c.args.hash contents
+    contents c.in_err-awaited.field-0.0 c.from_residual.result c.from_residual.ensures.0
     c.from_residual.ensures.1
     (subst (λ r. MakesNone stands_for gives c.args.hash state r state)
     (sym c.in_err-awaited.ensures.refused)
@@ -85,34 +85,35 @@ returns-clause-makes g c =
     (subst (λ (l : Lists _ _ _). PutsLast {T = g.row.P-Touch.Denot} l t c.replace.ensures.hash
     (loading_variant awaited) c.replace.new.self) gone c.replace.ensures.last) in
     let misses : c.count_made.new.self.misses ≡ counted_up 1 contents.misses =
-    omega (arith, ap (λ (s : Contents _ _ _ _ _). s.misses) c.count_made.ensures) in
+    omega (arith, ap (λ (s : Contents _ _ _ _ _ _). s.misses) c.count_made.ensures) in
     let next : c.count_made.new.self.next_ticket ≡ contents.next_ticket + 1 =
-    ap (λ (s : Contents _ _ _ _ _). s.next_ticket) c.count_made.ensures in
+    ap (λ (s : Contents _ _ _ _ _ _). s.next_ticket) c.count_made.ensures in
     let made_is : c.count_made.new.self ≡ record contents {
       lists = c.replace.new.self;
       misses = c.count_made.new.self.misses;
       next_ticket = c.count_made.new.self.next_ticket;
-    } = c.count_made.ensures ∙ ap (λ (s : Contents _ _ _ _ _). record contents {
+    } = c.count_made.ensures ∙ ap (λ (s : Contents _ _ _ _ _ _). record contents {
       lists = c.replace.new.self;
       misses = s.misses;
       next_ticket = s.next_ticket;
     }) (sym c.count_made.ensures) in
-    let ticket = c.in_ok-awaited.ensures.ticket in
+    let ticket = c.in_ok-awaited.ensures.kept in
     let shades = map-append (λ (s : HeldGhost). s.hash) there.1.before there.1.after in
     let at = IsGhostAt-stands ticket_of stands_for c.args.hash contents c.requires.under there.0
     there.1.before t there.1.after there.1.split in
     let left : CacheState _ _ = record state {
       ghosts = hashes_of there.1.before ++ hashes_of there.1.after;
     } in
-    subst (λ (s : Contents _ _ _ _ _). IsMade stands_for gives c.args.hash state
-    (ticket_of c.share-shared.result) (state_of ticket_of s)) (sym made_is)
+    subst (λ (s : Contents _ _ _ _ _ _). IsMade stands_for gives c.args.hash state
+    (g.P.SharedPlaceholder.own_ticket c.in_ok-awaited.placeholder) (state_of ticket_of s))
+    (sym made_is)
     (record {
       provided = provided-on_ghost stands_for gives c.args.hash state
           (omega (arith, c.if-self.false))
           (λ nothing. is-something c.args.token
           (Finds-nothing ticket_of stands_for c.args.hash contents (found_ghost c.args.token) there
           nothing));
-      next = c.share-shared.ensures.ticket ∙ ticket;
+      next = c.in_ok-awaited.ensures.ticket;
       key = awaited.key;
       given = c.in_ok-awaited.ensures.key;
       step = record {
@@ -161,19 +162,19 @@ returns-clause-sound g c = λ hashed under sound.
     (subst (λ (l : Lists _ _ _). PutsLast {T = g.row.P-Touch.Denot} l t c.replace.ensures.hash
     (loading_variant awaited) c.replace.new.self) gone c.replace.ensures.last) in
     let misses : c.count_made.new.self.misses ≡ counted_up 1 contents.misses =
-    omega (arith, ap (λ (s : Contents _ _ _ _ _). s.misses) c.count_made.ensures) in
+    omega (arith, ap (λ (s : Contents _ _ _ _ _ _). s.misses) c.count_made.ensures) in
     let next : c.count_made.new.self.next_ticket ≡ contents.next_ticket + 1 =
-    ap (λ (s : Contents _ _ _ _ _). s.next_ticket) c.count_made.ensures in
+    ap (λ (s : Contents _ _ _ _ _ _). s.next_ticket) c.count_made.ensures in
     let made_is : c.count_made.new.self ≡ record contents {
       lists = c.replace.new.self;
       misses = c.count_made.new.self.misses;
       next_ticket = c.count_made.new.self.next_ticket;
-    } = c.count_made.ensures ∙ ap (λ (s : Contents _ _ _ _ _). record contents {
+    } = c.count_made.ensures ∙ ap (λ (s : Contents _ _ _ _ _ _). record contents {
       lists = c.replace.new.self;
       misses = s.misses;
       next_ticket = s.next_ticket;
     }) (sym c.count_made.ensures) in
-    let ticket = c.in_ok-awaited.ensures.ticket in
+    let ticket = c.in_ok-awaited.ensures.kept in
     let shades = map-append (λ (s : HeldGhost). s.hash) there.1.before there.1.after in
     let at = IsGhostAt-stands ticket_of stands_for c.args.hash contents c.requires.under there.0
     there.1.before t there.1.after there.1.split in
@@ -183,7 +184,7 @@ returns-clause-sound g c = λ hashed under sound.
     (λ other same. g.met.Q.ToKey.same_given c.args.query.now awaited.key other
     c.in_ok-awaited.ensures.key stands same) in
     let left : CacheState _ _ = record state { ghosts = hashes_of ghosts } in
-    subst (λ (s : Contents _ _ _ _ _). IsSound ticket_of g.K.PartialEq.eq hashed s) (sym made_is)
+    subst (λ (s : Contents _ _ _ _ _ _). IsSound ticket_of g.K.PartialEq.eq hashed s) (sym made_is)
     (made-sound ticket_of contents mid c.replace.new.self t c.args.hash awaited puts
     c.count_made.new.self.misses c.count_made.new.self.next_ticket misses next ticket
     g.K.PartialEq.eq g.met.K.Eq.laws hashed

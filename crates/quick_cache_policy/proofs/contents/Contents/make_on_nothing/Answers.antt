@@ -5,7 +5,7 @@ use Rattle.quick_cache_model.specs.Lookups.{after_miss}
 use Rattle.quick_cache_model.specs.declared.refusal.Refusal.TheVariants.{Memory, SlotsFull}
 use Rattle.quick_cache_model.proofs.EqualKeys.{keys_by-absent}
 use Rattle.quick_cache_model.specs.Touches.{counted_up}
-use Rattle.quick_cache_lists.specs.declared.entry.Entry.TheVariants.{Loading as loading_variant}
+use Rattle.quick_cache_slots.specs.declared.entry.Entry.TheVariants.{Loading as loading_variant}
 use Rattle.quick_cache_lists.specs.Lists.{Lists, PutsLast}
 use Rattle.quick_cache_policy.specs.declared.contents.Contents.{Contents}
 use Rattle.quick_cache_policy.specs.Contents.{IsSound, state_of}
@@ -52,7 +52,7 @@ returns-in_err-make_room-clause-makes g c =
     let full = c.in_err-make_room.ensures.full in
     let ticket : contents.next_ticket < 18446744073709551615 = omega (arith, c.if-self.false) in
     let same = ap (state_with ticket_of contents) c.make_room.ensures.lists in
-    Makes-refused ticket_of stands_for gives c.args.hash contents
+    Makes-refused ticket_of g.P.SharedPlaceholder.own_ticket stands_for gives c.args.hash contents
     (record contents { lists = c.make_room.new.self }) refused c.from_residual.result
     c.from_residual.ensures.0 c.from_residual.ensures.1
     (elim c.in_err-make_room.ensures.refusals [
@@ -84,7 +84,7 @@ returns-in_err-awaited-clause-makes g c =
     let refused = c.in_err-awaited.field-0.0 in
     let full = c.in_ok-make_room.ensures.full in
     let ticket : contents.next_ticket < 18446744073709551615 = omega (arith, c.if-self.false) in
-    Makes-refused ticket_of stands_for gives c.args.hash contents
+    Makes-refused ticket_of g.P.SharedPlaceholder.own_ticket stands_for gives c.args.hash contents
     (record contents { lists = c.make_room.new.self }) refused
     c.from_residual-in_err-awaited.result c.from_residual-in_err-awaited.ensures.0
     c.from_residual-in_err-awaited.ensures.1
@@ -115,27 +115,28 @@ returns-clause-makes g c =
     c.make_room.ensures.lists c.put.ensures.last in
     let now = record contents { lists = c.put.new.self } in
     let misses : c.count_made.new.self.misses ≡ counted_up 1 contents.misses =
-    omega (arith, ap (λ (s : Contents _ _ _ _ _). s.misses) c.count_made.ensures) in
+    omega (arith, ap (λ (s : Contents _ _ _ _ _ _). s.misses) c.count_made.ensures) in
     let next : c.count_made.new.self.next_ticket ≡ contents.next_ticket + 1 =
-    ap (λ (s : Contents _ _ _ _ _). s.next_ticket) c.count_made.ensures in
+    ap (λ (s : Contents _ _ _ _ _ _). s.next_ticket) c.count_made.ensures in
     let made_is : c.count_made.new.self ≡ record contents {
       lists = c.put.new.self;
       misses = c.count_made.new.self.misses;
       next_ticket = c.count_made.new.self.next_ticket;
-    } = c.count_made.ensures ∙ ap (λ (s : Contents _ _ _ _ _). record contents {
+    } = c.count_made.ensures ∙ ap (λ (s : Contents _ _ _ _ _ _). record contents {
       lists = c.put.new.self;
       misses = s.misses;
       next_ticket = s.next_ticket;
     }) (sym c.count_made.ensures) in
-    let ticket = c.in_ok-awaited.ensures.ticket in
+    let ticket = c.in_ok-awaited.ensures.kept in
     let full = c.in_ok-make_room.ensures.full in
-    subst (λ (s : Contents _ _ _ _ _). IsMade stands_for gives c.args.hash state
-    (ticket_of c.share-shared.result) (state_of ticket_of s)) (sym made_is)
+    subst (λ (s : Contents _ _ _ _ _ _). IsMade stands_for gives c.args.hash state
+    (g.P.SharedPlaceholder.own_ticket c.in_ok-awaited.placeholder) (state_of ticket_of s))
+    (sym made_is)
     (record {
       provided = provided-on_nothing stands_for gives c.args.hash state
           (omega (arith, c.if-self.false))
           (free-slot ticket_of contents (λ none. was-made _ _ (full.1 none)));
-      next = c.share-shared.ensures.ticket ∙ ticket;
+      next = c.in_ok-awaited.ensures.ticket;
       key = awaited.key;
       given = c.in_ok-awaited.ensures.key;
       step = record {
@@ -169,25 +170,25 @@ returns-clause-sound g c = λ hashed under sound.
     c.make_room.ensures.lists c.put.ensures.last in
     let now = record contents { lists = c.put.new.self } in
     let misses : c.count_made.new.self.misses ≡ counted_up 1 contents.misses =
-    omega (arith, ap (λ (s : Contents _ _ _ _ _). s.misses) c.count_made.ensures) in
+    omega (arith, ap (λ (s : Contents _ _ _ _ _ _). s.misses) c.count_made.ensures) in
     let next : c.count_made.new.self.next_ticket ≡ contents.next_ticket + 1 =
-    ap (λ (s : Contents _ _ _ _ _). s.next_ticket) c.count_made.ensures in
+    ap (λ (s : Contents _ _ _ _ _ _). s.next_ticket) c.count_made.ensures in
     let made_is : c.count_made.new.self ≡ record contents {
       lists = c.put.new.self;
       misses = c.count_made.new.self.misses;
       next_ticket = c.count_made.new.self.next_ticket;
-    } = c.count_made.ensures ∙ ap (λ (s : Contents _ _ _ _ _). record contents {
+    } = c.count_made.ensures ∙ ap (λ (s : Contents _ _ _ _ _ _). record contents {
       lists = c.put.new.self;
       misses = s.misses;
       next_ticket = s.next_ticket;
     }) (sym c.count_made.ensures) in
-    let ticket = c.in_ok-awaited.ensures.ticket in
+    let ticket = c.in_ok-awaited.ensures.kept in
     let stands = c.requires.stands awaited.key c.in_ok-awaited.ensures.key in
     let exact = stands-exactly g.K.PartialEq.eq stands_for awaited.key stands
     (g.met.Q.Equivalent.same_key c.args.query.now)
     (λ other same. g.met.Q.ToKey.same_given c.args.query.now awaited.key other
     c.in_ok-awaited.ensures.key stands same) in
-    subst (λ (s : Contents _ _ _ _ _). IsSound ticket_of g.K.PartialEq.eq hashed s) (sym made_is)
+    subst (λ (s : Contents _ _ _ _ _ _). IsSound ticket_of g.K.PartialEq.eq hashed s) (sym made_is)
     (made-sound ticket_of contents mid c.put.new.self (number c.put.result) c.args.hash
     awaited puts c.count_made.new.self.misses c.count_made.new.self.next_ticket misses next
     ticket g.K.PartialEq.eq g.met.K.Eq.laws hashed

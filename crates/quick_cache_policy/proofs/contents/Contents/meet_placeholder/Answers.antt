@@ -24,8 +24,9 @@ returns-clause-meets g c =
     let is = awaited-is_loading contents.lists c.apart.ensures.apart (number c.args.token)
     c.awaited.ensures.0 c.awaited.result c.awaited.ensures.1 found.waiting found.stands found.named
     in
-    let ticket : ticket_of found.waiting.placeholder ≡ ticket_of c.share-shared.result =
-    sym (c.share-shared.ensures.ticket ∙ ap ticket_of c.placeholder.ensures
+    let ticket : ticket_of found.waiting.placeholder
+    ≡ g.P.SharedPlaceholder.own_ticket c.met-placeholder.result =
+    sym (c.met-placeholder.ensures.ticket ∙ ap ticket_of c.placeholder.ensures
     ∙ ap (λ (w : HeldLoading _ _). ticket_of w.placeholder) is) in
     let hits : counted_up 1 contents.hits ≡ c.saturating_add-self.result =
     omega (arith, c.saturating_add-self.ensures) in

@@ -7,7 +7,7 @@ use Rattle.quick_cache_policy.proofs.contents.Contents.new.Goals as goal
 -- nothing stands in the lists, and what holds of each entry holds of none
 pub returns-clause-sound : goal.returns-clause-sound
 returns-clause-sound g c = λ hashed.
-    subst (λ (lists : Lists g.row.K.Denot g.row.V.Denot g.row.P.Denot).
+    subst (λ (lists : Lists g.row.K.Denot g.row.V.Denot g.row.P-Kept.Denot).
     IsSound g.P.SharedPlaceholder.ticket_of g.K.PartialEq.eq hashed (record {
       lists = lists;
       capacity = c.args.capacity;

@@ -14,7 +14,8 @@ pub returns-in_default-clause-gives_up : goal.returns-in_default-clause-gives_up
 returns-in_default-clause-gives_up g c =
     let ticket_of = g.P.SharedPlaceholder.ticket_of in
     UpToOrder-exact _ _ (GivesUpPlaceholder.was_gone
-    (HasNoTicket-state ticket_of c.args.self.now (ticket_of c.args.placeholder.now)
+    (HasNoTicket-state ticket_of c.args.self.now
+    (g.P.SharedPlaceholder.own_ticket c.args.placeholder.now)
     (none-found _ _ c.in_default.not-Some c.find_placeholder.ensures)))
 
 pub take-requires : goal.take-requires
@@ -27,7 +28,7 @@ returns-clause-gives_up g c =
     let ticket_of = g.P.SharedPlaceholder.ticket_of in
     let contents = c.args.self.now in
     let found = c.in-Some.ensures in
-    let ticket = ticket_of c.args.placeholder.now in
+    let ticket = g.P.SharedPlaceholder.own_ticket c.args.placeholder.now in
     UpToOrder-exact _ _
     (subst (λ (l : Lists _ _ _). GivesUpPlaceholder ticket (state_of ticket_of contents)
     (state_with ticket_of contents l)) (sym c.take.ensures.rest)

@@ -12,7 +12,8 @@ returns-in_default-clause-fills g c =
     record {
       calls = [];
       holds = record {
-        gone = HasNoTicket-state ticket_of c.args.self.now (ticket_of c.args.placeholder.now)
+        gone = HasNoTicket-state ticket_of c.args.self.now
+            (g.P.SharedPlaceholder.own_ticket c.args.placeholder.now)
             (none-found _ _ c.in_default.not-Some c.find_placeholder.ensures);
         value_back = refl;
         no_hook = refl;

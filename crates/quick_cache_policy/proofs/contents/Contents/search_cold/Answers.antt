@@ -44,7 +44,7 @@ returns-in_default g c =
         items_of-length c.look_cold.new.self.lists.cold,
       );
       same = looks.same
-          ∙ ap (λ (r : Contents _ _ _ _ _). record r
+          ∙ ap (λ (r : Contents _ _ _ _ _ _). record r
           { lists = record r.lists { cold = c.look_cold.new.self.lists.cold } }) i.same;
     }
 
@@ -86,9 +86,9 @@ loop-preserved g c =
         ap (λ (l : Lists _ _ _). length l.cold) c.turn.ensures,
       );
       same = ap (λ (l : Lists _ _ _). record seen { lists = l }) c.turn.ensures
-          ∙ ap (λ (r : Contents _ _ _ _ _). record r
+          ∙ ap (λ (r : Contents _ _ _ _ _ _). record r
           { lists = record r.lists { cold = turned seen.lists.cold } })
-          (looks.same ∙ ap (λ (r : Contents _ _ _ _ _). record r
+          (looks.same ∙ ap (λ (r : Contents _ _ _ _ _ _). record r
           { lists = record r.lists { cold = seen.lists.cold } }) i.same)
           ∙ ap (λ xs. record c.args.self.now { lists = record c.args.self.now.lists { cold = xs } })
           (sym (ap (λ (l : Lists _ _ _). l.cold) c.turn.ensures));

@@ -17,7 +17,7 @@ pub evict_to_capacity-requires : goal.evict_to_capacity-requires
 evict_to_capacity-requires g c =
     let ready = c.forget_ghosts.new.self in
     record {
-      sound = subst (λ (s : Contents _ _ _ _ _). IsSound g.P.SharedPlaceholder.ticket_of
+      sound = subst (λ (s : Contents _ _ _ _ _ _). IsSound g.P.SharedPlaceholder.ticket_of
           g.K.PartialEq.eq (g.M.Policy.hashed c.args.terms.now) s)
           (sym c.forget_ghosts.ensures.same)
           (refitted-sound g.P.SharedPlaceholder.ticket_of c.args.self.now c.args.capacity
@@ -33,7 +33,7 @@ returns-clause-sets g c =
     let rules = rules_by g.M.Policy g.P.Touch.Touches.may_count c.args.terms.now in
     let ready = c.forget_ghosts.new.self in
     let new = state_of ticket c.evict_to_capacity.new.self in
-    let begins = ap (λ (s : Contents _ _ _ _ _). state_of ticket s) c.forget_ghosts.ensures.same
+    let begins = ap (λ (s : Contents _ _ _ _ _ _). state_of ticket s) c.forget_ghosts.ensures.same
     ∙ refitted-state ticket c.args.self.now c.args.capacity c.args.hot_target c.args.ghost_limit
     c.requires.target_is c.requires.limit_is ready.lists.ghosts ready.lists.next ready.lists.room
     c.forget_ghosts.ensures.ghosts rules in
@@ -59,11 +59,11 @@ returns-clause-work g c =
     let same = c.forget_ghosts.ensures.same in
     let n = ring_count Hot old + ring_count Cold old + 1 in
     subst (λ w. WorksWithin n w (work_of c.evict_to_capacity.new.self))
-    (ap (λ (s : Contents _ _ _ _ _). work_of s) same)
+    (ap (λ (s : Contents _ _ _ _ _ _). work_of s) same)
     (PaysFor-within n (ring_count Hot ready) (ring_count Cold ready) _ _ _ _
     (omega (
       arith,
-      ap (λ (s : Contents _ _ _ _ _). ring_count Hot s) same,
-      ap (λ (s : Contents _ _ _ _ _). ring_count Cold s) same,
+      ap (λ (s : Contents _ _ _ _ _ _). ring_count Hot s) same,
+      ap (λ (s : Contents _ _ _ _ _ _). ring_count Cold s) same,
     ))
     c.evict_to_capacity.ensures.work)

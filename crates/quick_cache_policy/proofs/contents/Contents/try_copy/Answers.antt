@@ -7,7 +7,7 @@ pub returns-clause-copies : goal.returns-clause-copies
 returns-clause-copies g c =
     state_of-copied g.K.Clone.is_clone g.V.Clone.is_clone
     (λ key. hash_of g.B.BuildHasher g.B.Hasher.Hasher c.args.builder.now (g.K.Hash.hash_input key))
-    g.P.SharedPlaceholder.idx_of g.P.SharedPlaceholder.ticket_of
+    g.P.SharedPlaceholder.ticket_of
     c.args.self.now c.in_ok-try_clone.field-0 c.in_ok-try_clone.ensures.copies
 
 -- what holds of the keys holds of their clones
@@ -15,6 +15,6 @@ pub returns-clause-sound : goal.returns-clause-sound
 returns-clause-sound g c =
     IsSound-copied g.K.Clone.is_clone g.V.Clone.is_clone
     (λ key. hash_of g.B.BuildHasher g.B.Hasher.Hasher c.args.builder.now (g.K.Hash.hash_input key))
-    g.P.SharedPlaceholder.idx_of g.P.SharedPlaceholder.ticket_of
+    g.P.SharedPlaceholder.ticket_of
     c.args.self.now c.in_ok-try_clone.field-0 c.in_ok-try_clone.ensures.copies g.K.PartialEq.eq
     g.met.K.Eq.laws c.requires.keys c.default.result c.default-2.result

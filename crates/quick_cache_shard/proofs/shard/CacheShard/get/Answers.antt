@@ -22,7 +22,7 @@ returns g c =
     let value = c.value.ensures ∙ ap (λ (item : Item g.row.K.Denot g.row.V.Denot). item.value) shown
     in
     let work = ap (λ (now : Contents g.row.K.Denot g.row.V.Denot g.row.P.Denot g.row.A.Denot
-    g.row.P-Touch.Denot). work_of now) c.look_up.ensures.same in (
+    g.row.P-Touch.Denot g.row.P-Kept.Denot). work_of now) c.look_up.ensures.same in (
       (
         refl,
         (λ shard. tt),

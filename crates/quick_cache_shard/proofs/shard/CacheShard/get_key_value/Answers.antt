@@ -18,7 +18,7 @@ pub returns-in_err-token : goal.returns-in_err-token
 returns-in_err-token g c =
     let looks = c.in_err-token.ensures.looks_up in
     let work = ap (λ (now : Contents g.row.K.Denot g.row.V.Denot g.row.P.Denot g.row.A.Denot
-    g.row.P-Touch.Denot). work_of now) c.look_up.ensures.same in (
+    g.row.P-Touch.Denot g.row.P-Kept.Denot). work_of now) c.look_up.ensures.same in (
       (
         refl,
         (λ shard. tt),
@@ -50,7 +50,7 @@ returns g c =
     (λ i. (c.pair.ensures.key i, c.pair.ensures.value i))
     ∙ ap (λ (item : Item g.row.K.Denot g.row.V.Denot). pair_of item) shown in
     let work = ap (λ (now : Contents g.row.K.Denot g.row.V.Denot g.row.P.Denot g.row.A.Denot
-    g.row.P-Touch.Denot). work_of now) c.look_up.ensures.same in (
+    g.row.P-Touch.Denot g.row.P-Kept.Denot). work_of now) c.look_up.ensures.same in (
       (
         refl,
         (λ shard. tt),

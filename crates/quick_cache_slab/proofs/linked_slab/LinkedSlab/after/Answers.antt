@@ -5,4 +5,4 @@ pub returns : goal.returns
 returns g c =
     let least = rw c.as_slice-nodes.ensures.value at c.min-passed.ensures in
     rw (← c.self.view_is, c.as_slice-nodes.ensures.value)
-    (entries_rest c.self.inside.nodes.items c.args.passed c.min-passed.result least)
+    (entries_rest g.N.SlotNode.item_of c.self.inside.nodes.items c.args.passed c.min-passed.result least)

@@ -25,5 +25,5 @@ returns-clause-alone g c =
 pub returns-clause-parted : goal.returns-clause-parted
 returns-clause-parted g c =
     let nodes = c.self.inside.nodes in
-    rw (← c.self.view_is) (IsParted-nodes nodes.items c.self.inside.next_free.value
+    rw (← c.self.view_is) (IsParted-nodes g.N.SlotNode.item_of nodes.items c.self.inside.next_free.value
     (vec_capacity nodes) (vec_len nodes) (omega arith) c.self.invariant)

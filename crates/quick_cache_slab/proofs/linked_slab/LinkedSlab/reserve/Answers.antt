@@ -8,4 +8,4 @@ invariant_of-self g c = rw c.make_room.ensures.items c.self.invariant
 pub returns-clause-parted : goal.returns-clause-parted
 returns-clause-parted g c =
     let items = ap length c.make_room.ensures.items in
-    IsParted-nodes _ _ _ _ (omega arith) (invariant_of-self g c)
+    IsParted-nodes g.N.SlotNode.item_of _ _ _ _ (omega arith) (invariant_of-self g c)

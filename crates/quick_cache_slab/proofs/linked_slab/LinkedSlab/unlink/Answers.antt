@@ -54,7 +54,7 @@ pub returns-clause-edit : goal.returns-clause-edit
 returns-clause-edit g c =
     let nodes = c.self.inside.nodes in
     let parted : IsParted c.args.self.now =
-    rw (← c.self.view_is) (IsParted-nodes nodes.items c.self.inside.next_free.value
+    rw (← c.self.view_is) (IsParted-nodes g.N.SlotNode.item_of nodes.items c.self.inside.next_free.value
     (vec_capacity nodes) (vec_len nodes) (omega arith) c.self.invariant) in
     UnlinksToken-from c.args.self.now _ c.args.token.value parted c.requires
     (returns-clause-unlinked g c)
@@ -62,4 +62,4 @@ returns-clause-edit g c =
 pub returns-clause-parted : goal.returns-clause-parted
 returns-clause-parted g c =
     let items = with_items_is c.self.inside.nodes c.unlink.new.nodes (omega arith) in
-    IsParted-nodes _ _ _ _ (omega (arith, ap length items)) (invariant_of-self g c)
+    IsParted-nodes g.N.SlotNode.item_of _ _ _ _ (omega (arith, ap length items)) (invariant_of-self g c)

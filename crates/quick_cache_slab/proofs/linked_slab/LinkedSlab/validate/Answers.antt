@@ -5,5 +5,5 @@ use Rattle.quick_cache_slab.proofs.linked_slab.LinkedSlab.validate.Goals as goal
 pub returns : goal.returns
 returns g c =
     let nodes = c.self.inside.nodes in
-    rw (← c.self.view_is) (IsParted-nodes nodes.items c.self.inside.next_free.value
+    rw (← c.self.view_is) (IsParted-nodes g.N.SlotNode.item_of nodes.items c.self.inside.next_free.value
     (vec_capacity nodes) (vec_len nodes) (omega arith) c.self.invariant)

@@ -1,15 +1,16 @@
 use Rattle.std.proofs.Common.{arith}
-use Rattle.quick_cache_slab.proofs.NodeFields.{taken_in_nodes, prev_in_nodes}
+use Rattle.quick_cache_slab.proofs.NodeFields.{taken_in_nodes, prev_taken}
 use Rattle.quick_cache_slab.proofs.RingEditsOfSlots.{Links-written}
 use Rattle.quick_cache_slab.proofs.linked_slab.links.link.Goals as goal
 
 pub prev_of-last-requires : goal.prev_of-last-requires
-prev_of-last-requires g c = taken_in_nodes c.args.nodes.now c.args.head.value c.requires.head
+prev_of-last-requires g c = c.requires.head
 
 pub set_next-requires : goal.set_next-requires
 set_next-requires g c =
-    let within = prev_in_nodes c.args.nodes.now c.args.head.value c.requires.linked c.requires.head
-    in
+    let prev = prev_taken g.N.SlotNode.item_of c.args.nodes.now c.args.head.value _ _
+    c.requires.linked c.requires.head in
+    let within = taken_in_nodes g.N.SlotNode.item_of c.args.nodes.now _ prev in
     omega arith
 
 pub returns-clause-links : goal.returns-clause-links

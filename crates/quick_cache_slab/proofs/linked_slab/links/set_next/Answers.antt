@@ -1,15 +1,18 @@
-use Rattle.std.proofs.Common.{refl}
-use Rattle.quick_cache_slab.proofs.NodeFields.{slots_of-set, nexts_of-with, prevs_of-set_kept}
+use Rattle.std.proofs.Common.{map, ap, ◌∙◌}
+use Rattle.quick_cache_slab.specs.LinkedSlab.{with_token}
+use Rattle.quick_cache_slab.proofs.NodeFields.{map-set_kept, map-with}
 use Rattle.quick_cache_slab.proofs.linked_slab.links.set_next.Goals as goal
 
 pub returns-clause-slots : goal.returns-clause-slots
-returns-clause-slots g c = slots_of-set c.args.nodes.now c.place.result _ c.index-nodes-place.result
-    refl
+returns-clause-slots g c = map-set_kept g.N.SlotNode.item_of c.args.nodes.now c.place.result _
+    c.index-nodes-place.result c.set_next.ensures.item
 
 pub returns-clause-nexts : goal.returns-clause-nexts
-returns-clause-nexts g c = nexts_of-with c.args.nodes.now c.args.token.value c.place.result _
-    c.place.ensures
+returns-clause-nexts g c =
+    let nexts = map g.N.SlotNode.next_of c.args.nodes.now in
+    map-with g.N.SlotNode.next_of c.args.nodes.now c.args.token.value c.place.result _ c.place.ensures
+    ∙ ap (with_token nexts c.args.token.value) c.set_next.ensures.next
 
 pub returns-clause-prevs : goal.returns-clause-prevs
-returns-clause-prevs g c = prevs_of-set_kept c.args.nodes.now c.place.result _
-    c.index-nodes-place.result refl
+returns-clause-prevs g c = map-set_kept g.N.SlotNode.prev_of c.args.nodes.now c.place.result _
+    c.index-nodes-place.result c.set_next.ensures.prev

@@ -1,30 +1,29 @@
-use Rattle.std.proofs.Common.{◌≡◌, ◌≢◌, sym, ◌∙◌, arith}
-use Rattle.quick_cache_slab.specs.Links.{link_of, nexts_of}
-use Rattle.quick_cache_slab.proofs.NodeFields.{taken_in_nodes, prev_in_nodes}
+use Rattle.std.proofs.Common.{map, ◌≡◌, ◌≢◌, sym, ◌∙◌, arith}
+use Rattle.quick_cache_slab.specs.Links.{link_of}
+use Rattle.quick_cache_slab.proofs.NodeFields.{taken_in_nodes, prev_taken}
 use Rattle.quick_cache_slab.proofs.RingEditsOfSlots.{Unlinks-alone, Unlinks-written}
 use Rattle.quick_cache_slab.proofs.linked_slab.links.unlink.Goals as goal
 
 pub next_of-next-requires : goal.next_of-next-requires
-next_of-next-requires g c = taken_in_nodes c.args.nodes.now c.args.token.value c.requires.taken
+next_of-next-requires g c = taken_in_nodes g.N.SlotNode.item_of c.args.nodes.now c.args.token.value c.requires.taken
 
 pub returns-then-get-clause-unlinks : goal.returns-then-get-clause-unlinks
 returns-then-get-clause-unlinks g c =
-    let own : link_of (nexts_of c.args.nodes.now) c.args.token.value ≡ c.args.token.value =
+    let own : link_of (map g.N.SlotNode.next_of c.args.nodes.now) c.args.token.value ≡ c.args.token.value =
     sym c.next_of-next.ensures ∙ omega arith in
     Unlinks-alone _ _ _ c.args.token.value c.requires.linked c.requires.taken own
 
 pub prev_of-prev-requires : goal.prev_of-prev-requires
-prev_of-prev-requires g c = taken_in_nodes c.args.nodes.now c.args.token.value c.requires.taken
+prev_of-prev-requires g c = c.requires.taken
 
 pub set_prev-requires : goal.set_prev-requires
-set_prev-requires g c =
-    let within = taken_in_nodes c.args.nodes.now c.args.token.value c.requires.taken in
-    omega arith
+set_prev-requires g c = rw c.set_next.ensures.slots c.requires.taken
 
 pub set_next-requires-2 : goal.set_next-requires-2
 set_next-requires-2 g c =
-    let within = prev_in_nodes c.args.nodes.now c.args.token.value c.requires.linked
-    c.requires.taken in
+    let prev = prev_taken g.N.SlotNode.item_of c.args.nodes.now c.args.token.value _ _
+    c.requires.linked c.requires.taken in
+    let within = taken_in_nodes g.N.SlotNode.item_of c.args.nodes.now _ prev in
     omega arith
 
 pub returns-clause-unlinks : goal.returns-clause-unlinks

@@ -1,32 +1,38 @@
-use Rattle.std.proofs.Common.{is_some, true≢false, refl, sym, ap, ◌∙◌}
+use Rattle.std.proofs.Common.{map, None, is_some, sym, ap, ◌∙◌}
 use Rattle.quick_cache_slab.specs.LinkedSlab.{with_token}
-use Rattle.quick_cache_slab.specs.Links.{slots_of}
-use Rattle.quick_cache_slab.proofs.NodeFields.{slots_of-with, nexts_of-with, prevs_of-set_kept, item_read, taken_in_nodes}
+use Rattle.quick_cache_slab.proofs.NodeFields.{map-with, field_read, taken_in_nodes, written_field}
 use Rattle.quick_cache_slab.proofs.linked_slab.links.vacate.Goals as goal
 
-pub unreachable-requires : goal.unreachable-requires
-unreachable-requires g c =
-    let within = taken_in_nodes c.args.nodes.now c.args.token.value c.requires in
-    let read = item_read c.args.nodes.now c.args.token.value c.place.result
-    c.index-nodes-place.result c.place.ensures within in
-    true≢false (sym c.requires ∙ ap is_some (read ∙ sym c.take.ensures.value ∙ c.in-None.is))
+pub vacate-requires : goal.vacate-requires
+vacate-requires g c =
+    let item_of = g.N.SlotNode.item_of in
+    let within = taken_in_nodes item_of c.args.nodes.now c.args.token.value c.requires in
+    ap is_some (field_read item_of c.args.nodes.now c.args.token.value c.place.result
+    c.index-nodes-place.result None c.place.ensures within)
+    ∙ c.requires
 
 pub returns-clause-item : goal.returns-clause-item
 returns-clause-item g c =
-    let within = taken_in_nodes c.args.nodes.now c.args.token.value c.requires in
-    let read = item_read c.args.nodes.now c.args.token.value c.place.result
-    c.index-nodes-place.result c.place.ensures within in
-    read ∙ sym c.take.ensures.value ∙ c.in-Some.is
+    let item_of = g.N.SlotNode.item_of in
+    let within = taken_in_nodes item_of c.args.nodes.now c.args.token.value c.requires in
+    sym (field_read item_of c.args.nodes.now c.args.token.value c.place.result
+    c.index-nodes-place.result None c.place.ensures within)
+    ∙ c.vacate.ensures.item
 
 pub returns-clause-slots : goal.returns-clause-slots
 returns-clause-slots g c =
-    slots_of-with c.args.nodes.now c.args.token.value c.place.result _ c.place.ensures
-    ∙ ap (with_token (slots_of c.args.nodes.now) c.args.token.value) c.take.ensures.after
+    let slots = map g.N.SlotNode.item_of c.args.nodes.now in
+    map-with g.N.SlotNode.item_of c.args.nodes.now c.args.token.value c.place.result _ c.place.ensures
+    ∙ ap (with_token slots c.args.token.value) c.vacate.ensures.free
 
 pub returns-clause-nexts : goal.returns-clause-nexts
-returns-clause-nexts g c = nexts_of-with c.args.nodes.now c.args.token.value c.place.result _
-    c.place.ensures
+returns-clause-nexts g c =
+    let nexts = map g.N.SlotNode.next_of c.args.nodes.now in
+    map-with g.N.SlotNode.next_of c.args.nodes.now c.args.token.value c.place.result _ c.place.ensures
+    ∙ ap (with_token nexts c.args.token.value) c.vacate.ensures.next
 
 pub returns-clause-prevs : goal.returns-clause-prevs
-returns-clause-prevs g c = prevs_of-set_kept c.args.nodes.now c.place.result _
-    c.index-nodes-place.result refl
+returns-clause-prevs g c =
+    let within = taken_in_nodes g.N.SlotNode.item_of c.args.nodes.now c.args.token.value c.requires in
+    written_field g.N.SlotNode.prev_of c.args.nodes.now c.args.token.value c.place.result _
+    c.place.ensures within

@@ -12,6 +12,7 @@ returns-clause-walk c =
       reaches =
           c.args.reaches;
       home = 0;
+      group = 0;
       step = 0;
       lanes = 0;
     } in
@@ -30,6 +31,7 @@ returns-clause-all c =
       reaches =
           c.args.reaches;
       home = 0;
+      group = 0;
       step = 0;
       lanes = 0;
     } in

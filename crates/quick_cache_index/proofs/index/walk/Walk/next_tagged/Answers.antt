@@ -1,4 +1,4 @@
-use Rattle.std.proofs.Common.{◌≡◌, ◌+◌, ◌<◌, ℕ, List, ◌∷◌, length, get_or, arith, subst, sym, ap, ◌∙◌}
+use Rattle.std.proofs.Common.{◌≡◌, ◌+◌, ◌<◌, ℕ, List, ◌∷◌, length, get_or, bit_xor, arith, subst, sym, ap, ◌∙◌}
 use Rattle.quick_cache_index.specs.declared.index.walk.Walk.{Walk}
 use Rattle.quick_cache_index.specs.IndexGroups.{candidates_left}
 use Rattle.quick_cache_index.proofs.WalkedTokens.{looks_at_lane, behind_lane, lane_position, reads_next_group}
@@ -14,7 +14,11 @@ loop-self-preserved c =
     record {
       walk = reads.still;
       stays =
-          ap (λ (w : Walk). record w { step = walk.step + 1; lanes = c.lanes_of-self.result })
+          ap (λ (w : Walk). record w {
+            group = bit_xor walk.home (walk.step + 1);
+            step = walk.step + 1;
+            lanes = c.lanes_of-self.result;
+          })
           c.loop-self.invariant.stays;
       left = sym reads.candidates ∙ c.loop-self.invariant.left;
     }

@@ -6,7 +6,11 @@ use Rattle.quick_cache_index.proofs.index.walk.Walk.next_tagged.Given as goal
 abbrev pub invariant-loop-self : goal.invariant-loop-self
 invariant-loop-self l = record {
   walk : IsWalk l.self;
-  stays : l.self ≡ record l.fn.self { step = l.self.step; lanes = l.self.lanes };
+  stays : l.self ≡ record l.fn.self {
+    group = l.self.group;
+    step = l.self.step;
+    lanes = l.self.lanes;
+  };
   left : candidates_left l.self ≡ candidates_left l.fn.self;
 }
 

@@ -1,0 +1,82 @@
+-- The entry that a slot and what stands beside it store. No public clause cites this module.
+use Rattle.std.specs.Prelude.{ℕ, ◌+◌, min, Bool, false, if◌then◌else◌, ◌==◌}
+use Rattle.quick_cache_model.specs.CacheState.{Item}
+use Rattle.quick_cache_slots.specs.declared.aside.Aside.{Aside}
+use Rattle.quick_cache_slots.specs.declared.entry.Entry.{Entry}
+use Rattle.quick_cache_slots.specs.declared.entry.Entry.TheVariants.{Item as item_variant, Loading as loading_variant, Ghost as ghost_variant}
+use Rattle.quick_cache_slots.specs.declared.entry.Slot.{Slot}
+use Rattle.quick_cache_slots.specs.declared.stored.Body.{Body}
+use Rattle.quick_cache_slots.specs.declared.stored.Head.{Head}
+use Rattle.quick_cache_slots.specs.declared.stored.StoredEntry.{StoredEntry}
+use Rattle.quick_cache_slots.specs.declared.stored.StoredEntry.TheVariants.{Item as stored_item, Loading as stored_loading, Ghost as stored_ghost}
+
+-- the weight that stands so in a slot: the greatest number that fits there stands for the weight
+-- beside it
+abbrev pub weight_by : (small : ℕ) → Aside → ℕ
+weight_by small aside = if small == 65535 then aside.weight else small
+
+-- all reads, where the slot counts so many of them
+abbrev pub reads_by : (late : ℕ) → Aside → ℕ
+reads_by late aside = min (aside.reads + late) 18446744073709551615
+
+-- the item that is stored so
+abbrev pub item_of_body : {K V T : Type 0} → Head → Body K V T → Aside → Item K V
+item_of_body head body aside = record {
+  key = body.key;
+  value = body.value;
+  weight = weight_by head.weight aside;
+  mark = head.mark;
+  reads = reads_by head.late aside;
+  queue = head.queue;
+}
+
+-- the entry that is stored so
+abbrev pub entry_of : {K V P T : Type 0} → StoredEntry K V P T → Aside → Entry K V P T
+entry_of (stored_item head body) aside = item_variant (item_of_body head body aside)
+entry_of (stored_loading queue key placeholder) aside =
+    loading_variant (record { key = key; queue = queue; placeholder = placeholder })
+entry_of stored_ghost aside = ghost_variant
+
+-- the slot that is stored so
+abbrev pub slot_of : {K V P T : Type 0} → StoredEntry K V P T → Aside → Slot K V P T
+slot_of stored aside = record { entry = entry_of stored aside; hash = aside.hash }
+
+-- the stored entry with another value, if it is an item
+abbrev pub entry_with_value : {K V P T : Type 0} → (value : V) → StoredEntry K V P T
+    → StoredEntry K V P T
+entry_with_value value (stored_item head body) = stored_item head (record body { value = value })
+entry_with_value value (stored_loading queue key placeholder) =
+    stored_loading queue key placeholder
+entry_with_value value stored_ghost = stored_ghost
+
+-- an item is stored whose slot can count no more reads
+abbrev pub is_counted_out : {K V P T : Type 0} → StoredEntry K V P T → Bool
+is_counted_out (stored_item head body) = head.late == 65535
+is_counted_out (stored_loading queue key placeholder) = false
+is_counted_out stored_ghost = false
+
+-- an item is stored
+abbrev pub IsItem : {K V P T : Type 0} → StoredEntry K V P T → Type 0
+IsItem (stored_item head body) = Unit {0}
+IsItem (stored_loading queue key placeholder) = ⊥
+IsItem stored_ghost = ⊥
+
+-- a ghost is stored, of which the slot itself has nothing
+abbrev pub IsBare : {K V P T : Type 0} → StoredEntry K V P T → Type 0
+IsBare (stored_item head body) = ⊥
+IsBare (stored_loading queue key placeholder) = ⊥
+IsBare stored_ghost = Unit {0}
+
+-- a key that is being loaded is stored
+abbrev pub IsAwaited : {K V P T : Type 0} → StoredEntry K V P T → Type 0
+IsAwaited (stored_item head body) = ⊥
+IsAwaited (stored_loading queue key placeholder) = Unit {0}
+IsAwaited stored_ghost = ⊥
+
+-- the stored entry, or the item of its key if it is a key that is being loaded
+abbrev pub entry_filled_by : {K V P T : Type 0} → Head → V → T → StoredEntry K V P T
+    → StoredEntry K V P T
+entry_filled_by head value touch (stored_item old body) = stored_item old body
+entry_filled_by head value touch (stored_loading queue key placeholder) =
+    stored_item head (record { touch = touch; key = key; value = value })
+entry_filled_by head value touch stored_ghost = stored_ghost

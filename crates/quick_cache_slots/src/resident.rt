@@ -1,0 +1,130 @@
+//! An item, as it comes in and goes out.
+ghost use Rattle.std.specs.Prelude.{◌≡◌};
+ghost use Rattle.quick_cache_slots.specs.Slots.{stand_of_item};
+
+use crate::entry::Stand;
+use crate::stored::Body;
+use quick_cache_model::Queue;
+use std::marker::Model;
+
+/// An item: its pair, the weight that it counts for, how often it was used lately and read, and its
+/// ring.
+#[derive(Drop)]
+pub struct Resident<K, V, T> {
+    pub(crate) mark: u8,
+    pub(crate) queue: Queue,
+    pub(crate) weight: u64,
+    pub(crate) reads: u64,
+    pub(crate) body: Body<K, V, T>,
+}
+
+impl<K, V, T> Model for Resident<K, V, T> {
+    ghost use Rattle.quick_cache_model.specs.CacheState.{Item};
+
+    ghost Value = { Item K V };
+
+    ghost view = { λ r. record {
+      key = r.body.key;
+      value = r.body.value;
+      weight = r.weight;
+      mark = r.mark;
+      reads = r.reads;
+      queue = r.queue;
+    } };
+}
+
+impl<K, V, T> Resident<K, V, T> {
+    /// An item that was never read.
+    pub fn new(key: K, value: V, weight: u64, mark: u8, queue: Queue, touch: T) -> Self
+        ensures { result ≡ record {
+          key = key;
+          value = value;
+          weight = weight;
+          mark = mark;
+          reads = 0;
+          queue = queue;
+        } }
+    {
+        let body = Body { touch, key, value };
+        Resident {
+            mark,
+            queue,
+            weight,
+            reads: 0,
+            body,
+        }
+    }
+
+    /// The same item with another count of reads.
+    pub fn with_reads(self, reads: u64) -> Self
+        ensures { result ≡ record self { reads = reads } }
+    {
+        Resident { reads, ..self }
+    }
+
+    pub fn queue(&self) -> Queue
+        ensures { result ≡ self.now.queue }
+    {
+        self.queue
+    }
+
+    pub fn weight(&self) -> u64
+        ensures { result ≡ self.now.weight }
+    {
+        self.weight
+    }
+
+    pub fn mark(&self) -> u8
+        ensures { result ≡ self.now.mark }
+    {
+        self.mark
+    }
+
+    pub fn key(&self) -> &K
+        ensures { result.now ≡ self.now.key }
+    {
+        &self.body.key
+    }
+
+    pub fn value(&self) -> &V
+        ensures { result.now ≡ self.now.value }
+    {
+        &self.body.value
+    }
+
+    /// The key and the value.
+    pub fn pair(&self) -> (&K, &V)
+        ensures key { result.0.now ≡ self.now.key }
+        ensures value { result.1.now ≡ self.now.value }
+    {
+        (&self.body.key, &self.body.value)
+    }
+
+    /// The list that it stands in.
+    #[inline(always)]
+    pub fn stand(&self) -> Stand
+        ensures { result ≡ stand_of_item self.now }
+    {
+        Stand::of_item(self.weight, self.queue)
+    }
+
+    pub fn reads(&self) -> u64
+        ensures { result ≡ self.now.reads }
+    {
+        self.reads
+    }
+
+    /// The pair, taken apart.
+    pub fn into_pair(self) -> (K, V)
+    where
+        T: Drop,
+        ensures { result ≡ (self.key, self.value) }
+    {
+        let Body {
+            touch: _touch,
+            key,
+            value,
+        } = self.body;
+        (key, value)
+    }
+}

@@ -1,0 +1,106 @@
+//! Walks over the slots, by ascending token.
+ghost use Rattle.std.specs.Prelude.{◌≡◌, MatchOption, IfSome};
+ghost use Rattle.std.specs.Int.NonZero.{non_zero_u32_get as number};
+ghost use Rattle.std.specs.Iterator.{YieldsFirst, YieldsFirstBy, item_count, at_most, UpTo};
+ghost use Rattle.quick_cache_slab.specs.LinkedSlab.{items, entries_after};
+
+use crate::aside::Aside;
+use crate::refs::SlotRef;
+use crate::slots::{Slots, place};
+use crate::stored::StoredEntry;
+use quick_cache_model::Token;
+use quick_cache_slab::linked_slab::{IterFrom, TightNode};
+use std::alloc::Allocator;
+use std::iter::FusedIterator;
+use std::marker::Model;
+
+/// The occupied slots that are left, each under its token.
+#[derive(Drop)]
+pub struct SlotsFrom<'a, K, V, P, T> {
+    entries: IterFrom<'a, StoredEntry<K, V, P, T>, TightNode<StoredEntry<K, V, P, T>>>,
+    asides: &'a [Aside],
+}
+
+impl<'a, K, V, P, T> Model for SlotsFrom<'a, K, V, P, T> {
+    ghost use Rattle.std.specs.Prelude.{ℕ, List};
+    ghost use Rattle.quick_cache_slots.specs.declared.entry.Slot.{Slot};
+
+    ghost Value = { List (ℕ × Slot K V P T) };
+
+    ghost use Rattle.quick_cache_slots.specs.Walks.{entries_beside, AreCovered};
+
+    ghost view = { λ it. entries_beside it.asides.now it.entries };
+
+    ghost invariant = { λ it. AreCovered it.asides.now it.entries };
+}
+
+impl<'a, K, V, P, T> Iterator for SlotsFrom<'a, K, V, P, T> {
+    type Item = (Token, SlotRef<'a, K, V, P, T>);
+
+    ghost use Rattle.std.specs.Int.NonZero.{non_zero_u32_get as number};
+
+    ghost next_gives = { YieldsFirstBy (λ entry. (number entry.0, entry.1)) (λ rest. rest) };
+
+    ghost remaining = { item_count (λ rest. rest) };
+
+    fn next(&mut self) -> Option<(Token, SlotRef<'a, K, V, P, T>)> {
+        let (token, entry) = self.entries.next()?;
+        let aside = &self.asides[place(token)];
+        Some((token, SlotRef { entry, aside }))
+    }
+}
+
+impl<'a, K, V, P, T> FusedIterator for SlotsFrom<'a, K, V, P, T> {}
+
+/// The occupied slots that are left.
+#[derive(Drop)]
+pub struct SlotIter<'a, K, V, P, T> {
+    slots: SlotsFrom<'a, K, V, P, T>,
+}
+
+impl<'a, K, V, P, T> Model for SlotIter<'a, K, V, P, T> {
+    ghost use Rattle.std.specs.Prelude.{List, map};
+    ghost use Rattle.quick_cache_slots.specs.declared.entry.Slot.{Slot};
+
+    ghost Value = { List (Slot K V P T) };
+
+    ghost view = { λ it. map (λ entry. entry.1) it.slots };
+}
+
+impl<'a, K, V, P, T> Iterator for SlotIter<'a, K, V, P, T> {
+    type Item = SlotRef<'a, K, V, P, T>;
+
+    ghost next_gives = { YieldsFirst (λ rest. rest) };
+
+    ghost remaining = { item_count (λ rest. rest) };
+
+    fn next(&mut self) -> Option<SlotRef<'a, K, V, P, T>> {
+        let (_, slot) = self.slots.next()?;
+        Some(slot)
+    }
+}
+
+impl<'a, K, V, P, T> FusedIterator for SlotIter<'a, K, V, P, T> {}
+
+impl<K, V, P, T, A: Allocator> Slots<K, V, P, T, A> {
+    /// The occupied slots, by ascending token.
+    pub fn iter(&self) -> SlotIter<'_, K, V, P, T>
+        ensures { result ≡ items self.now }
+    {
+        SlotIter {
+            slots: self.iter_from(None),
+        }
+    }
+
+    /// The occupied slots of greater token than this, or all of them, by ascending token, each under
+    /// its token.
+    pub fn iter_from(&self, token: Option<Token>) -> SlotsFrom<'_, K, V, P, T>
+        ensures { MatchOption token (result ≡ entries_after self.now 0)
+            (λ token. result ≡ entries_after self.now (number token)) }
+    {
+        SlotsFrom {
+            entries: self.slab.iter_from(token),
+            asides: self.asides.as_slice(),
+        }
+    }
+}

@@ -1,0 +1,25 @@
+//! A value that is written where it stands.
+ghost use Rattle.std.specs.Prelude.{◌≡◌, true};
+ghost use Rattle.std.specs.Borrow.{sem};
+ghost use Rattle.std.specs.Int.NonZero.{non_zero_u32_get as number};
+ghost use Rattle.quick_cache_slots.specs.Slots.{HasItem, HasValue};
+
+use crate::slots::Slots;
+use quick_cache_model::Token;
+use std::alloc::Allocator;
+
+impl<K, V, P, T, A: Allocator> Slots<K, V, P, T, A> {
+    ghost use Rattle.quick_cache_slots.specs.Lent.{lends_slot_value};
+
+    /// The value of the item of a token, to write. The item keeps its place and its weight.
+    #[inline]
+    pub fn value_mut(&mut self, token: Token) -> &mut V
+        requires { HasItem self.old (number token) }
+        ensures* writes_back { sem 𝓛 (lends_slot_value K.row V.row P.row T.row A.row A.Allocator
+            self.entry (number token) result) }
+        ensures value { HasValue self.old (number token) result.now }
+    {
+        let (entry, _) = unsafe { self.slab.get_mut_unchecked(token) };
+        entry.value_mut()
+    }
+}

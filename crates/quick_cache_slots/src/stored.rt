@@ -1,0 +1,504 @@
+//! An entry as its slot stores it. What is small stands beside the tag of the entry, so that an item
+//! takes 32 bytes with its links where a key and a value take 8 each.
+ghost use Rattle.std.specs.Prelude.{◌≡◌, false};
+ghost use Rattle.std.specs.Borrow.{sem};
+ghost use Rattle.quick_cache_model.specs.Touches.{counted_up};
+ghost use Rattle.quick_cache_slots.specs.Items.{filled, read_once, requeued, used, with_counts, with_mark, with_weight};
+ghost use Rattle.quick_cache_slots.specs.Slots.{slot_changed, slot_filled, with_entry};
+ghost use Rattle.quick_cache_slots.specs.Stored.{entry_of, slot_of, reads_by, entry_filled_by, is_counted_out, IsItem, IsAwaited};
+
+use crate::aside::Aside;
+use crate::entry::{Awaited, Entry, Slot};
+use crate::resident::Resident;
+use core::mem::replace_with;
+use quick_cache_model::{Queue, Touches};
+use quick_cache_slab::linked_slab::Blank;
+use std::mem::{replace, swap};
+
+/// What of an item is small.
+#[derive(Clone, Copy)]
+pub(crate) struct Head {
+    pub(crate) mark: u8,
+    pub(crate) queue: Queue,
+    // What the item weighs, or that this stands beside the slot.
+    pub(crate) weight: u16,
+    // The reads that were not counted beside the slot yet.
+    pub(crate) late: u16,
+}
+
+/// The rest of an item.
+#[derive(Drop)]
+pub(crate) struct Body<K, V, T> {
+    // What readers counted since the cache last took it in.
+    pub(crate) touch: T,
+    pub(crate) key: K,
+    pub(crate) value: V,
+}
+
+/// An entry: an item, a key that is being loaded by its queue, the key and the placeholder, or a
+/// ghost.
+#[derive(Drop)]
+pub(crate) enum StoredEntry<K, V, P, T> {
+    Item(Head, Body<K, V, T>),
+    Loading(Queue, K, P),
+    Ghost,
+}
+
+impl<K, V, P, T> Blank for StoredEntry<K, V, P, T> {
+    ghost use Rattle.quick_cache_slots.specs.Stored.{IsBare};
+
+    ghost is_blank = { IsBare };
+
+    #[inline(always)]
+    fn blank() -> Self {
+        StoredEntry::Ghost
+    }
+
+    // It does not look, as `bury` does not.
+    #[inline(always)]
+    fn discard(self) {
+        match self {
+            StoredEntry::Ghost => (),
+            _ => {
+                let too_far = usize::BITS;
+                let mut none = [0u8; 0];
+                none[1 << too_far] = 0;
+                unreachable!()
+            }
+        }
+    }
+}
+
+/// The item of a key that is being loaded, but for its key.
+#[derive(Drop)]
+struct Filling<V, T> {
+    head: Head,
+    value: V,
+    touch: T,
+}
+
+impl Head {
+    /// Of an item of no reads, whose weight is yet to be set.
+    #[inline(always)]
+    pub(crate) fn new(mark: u8, queue: Queue) -> Self
+        ensures { result ≡ record { mark = mark; queue = queue; weight = 0; late = 0 } }
+    {
+        Head {
+            mark,
+            queue,
+            weight: 0,
+            late: 0,
+        }
+    }
+}
+
+impl Head {
+    /// Counts a read beside the slot, and those that the slot counted.
+    #[cold]
+    fn settle(&mut self, aside: &mut Aside)
+        ensures reads { reads_by self.new.late aside.new
+            ≡ counted_up 1 (reads_by self.old.late aside.old) }
+        ensures head { self.new ≡ record self.old { late = self.new.late } }
+        ensures aside { aside.new ≡ record aside.old { reads = aside.new.reads } }
+    {
+        aside.reads = aside.reads_by(self.late).saturating_add(1);
+        self.late = 0;
+    }
+}
+
+impl<K, V, T> Body<K, V, T> {
+    ghost use Rattle.quick_cache_slots.specs.Lent.{lends_body_value};
+
+    /// The value, to write.
+    fn value_mut(&mut self) -> &mut V
+        ensures* writes_back { sem 𝓛 (lends_body_value K.row V.row T.row self.entry result) }
+        ensures value { result.now ≡ self.old.value }
+    {
+        &mut self.value
+    }
+}
+
+/// An entry as a slot stores it, and what stands beside it.
+#[inline(always)]
+pub(crate) fn store<K, V, P, T>(slot: Slot<K, V, P, T>) -> (StoredEntry<K, V, P, T>, Aside)
+    ensures { slot_of result.0 result.1 ≡ slot }
+{
+    let mut aside = Aside::new(slot.hash);
+    let stored = StoredEntry::new(slot.entry, &mut aside);
+    (stored, aside)
+}
+
+/// The entry and its hash.
+#[inline(always)]
+pub(crate) fn unstore<K, V, P, T>(
+    stored: StoredEntry<K, V, P, T>,
+    aside: &Aside,
+) -> Slot<K, V, P, T>
+    ensures { result ≡ slot_of stored aside.now }
+{
+    Slot {
+        entry: stored.into_entry(aside),
+        hash: aside.hash,
+    }
+}
+
+/// The item that a key that is being loaded becomes. It does not look, as `bury` does not.
+#[inline(always)]
+fn filled_by<K, V, P, T>(
+    entry: StoredEntry<K, V, P, T>,
+    by: Filling<V, T>,
+) -> (StoredEntry<K, V, P, T>, ())
+where
+    K: Drop,
+    V: Drop,
+    P: Drop,
+    T: Drop,
+    requires { IsAwaited entry }
+    ensures { result.0 ≡ entry_filled_by by.head by.value by.touch entry }
+{
+    match entry {
+        StoredEntry::Loading(_, key, _) => {
+            let body = Body {
+                touch: by.touch,
+                key,
+                value: by.value,
+            };
+            (StoredEntry::Item(by.head, body), ())
+        }
+        _ => {
+            let too_far = usize::BITS;
+            let mut none = [0u8; 0];
+            none[1 << too_far] = 0;
+            unreachable!()
+        }
+    }
+}
+
+impl<K, V, P, T> StoredEntry<K, V, P, T> {
+    ghost use Rattle.quick_cache_slots.specs.Lent.{lends_entry_value, IsStoredValue};
+
+    /// As a slot stores that entry, where the weight of an item and its reads are kept beside it.
+    #[inline(always)]
+    fn new(entry: Entry<K, V, P, T>, aside: &mut Aside) -> Self
+        ensures entry { entry_of result aside.new ≡ entry }
+        ensures hash { aside.new.hash ≡ aside.old.hash }
+    {
+        match entry {
+            Entry::Item(resident) => {
+                aside.reads = resident.reads;
+                let weight = aside.keep_weight(resident.weight);
+                let head = Head {
+                    mark: resident.mark,
+                    queue: resident.queue,
+                    weight,
+                    late: 0,
+                };
+                StoredEntry::Item(head, resident.body)
+            }
+            Entry::Loading(awaited) => {
+                StoredEntry::Loading(awaited.queue, awaited.key, awaited.placeholder)
+            }
+            Entry::Ghost => StoredEntry::Ghost,
+        }
+    }
+
+    /// The entry that is stored.
+    #[inline(always)]
+    fn into_entry(self, aside: &Aside) -> Entry<K, V, P, T>
+        ensures { result ≡ entry_of self aside.now }
+    {
+        match self {
+            StoredEntry::Item(head, body) => Entry::Item(Resident {
+                mark: head.mark,
+                queue: head.queue,
+                weight: aside.weight_by(head.weight),
+                reads: aside.reads_by(head.late),
+                body,
+            }),
+            StoredEntry::Loading(queue, key, placeholder) => Entry::Loading(Awaited {
+                key,
+                queue,
+                placeholder,
+            }),
+            StoredEntry::Ghost => Entry::Ghost,
+        }
+    }
+
+    /// The value of an item, to write.
+    pub(crate) fn value_mut(&mut self) -> &mut V
+        requires { IsItem self.old }
+        ensures* writes_back { sem 𝓛 (lends_entry_value K.row V.row P.row T.row self.entry
+            result) }
+        ensures value { IsStoredValue self.old result.now }
+    {
+        match self {
+            StoredEntry::Item(_, body) => body.value_mut(),
+            StoredEntry::Loading(_, _, _) => unreachable!(),
+            StoredEntry::Ghost => unreachable!(),
+        }
+    }
+
+    /// Gives an item another mark.
+    #[inline(always)]
+    pub(crate) fn set_mark(&mut self, mark: u8)
+        requires { IsItem self.old }
+        ensures { (aside : Aside) → slot_of self.new aside
+            ≡ slot_changed (with_mark mark) (slot_of self.old aside) }
+    {
+        match self {
+            StoredEntry::Item(head, _) => head.mark = mark,
+            StoredEntry::Loading(_, _, _) => unreachable!(),
+            StoredEntry::Ghost => unreachable!(),
+        }
+    }
+
+    /// Whether an item is stored whose slot can count no more reads.
+    #[inline(always)]
+    pub(crate) fn is_counted_out(&self) -> bool
+        ensures { result ≡ is_counted_out self.now }
+    {
+        match self {
+            StoredEntry::Item(head, _) => head.late == u16::MAX,
+            StoredEntry::Loading(_, _, _) => false,
+            StoredEntry::Ghost => false,
+        }
+    }
+
+    /// Counts a read of an item in its slot alone.
+    #[inline(always)]
+    pub(crate) fn count_late(&mut self)
+        requires item { IsItem self.old }
+        requires room { is_counted_out self.old ≡ false }
+        ensures { (aside : Aside) → slot_of self.new aside
+            ≡ slot_changed read_once (slot_of self.old aside) }
+    {
+        match self {
+            StoredEntry::Item(head, _) => head.late += 1,
+            StoredEntry::Loading(_, _, _) => unreachable!(),
+            StoredEntry::Ghost => unreachable!(),
+        }
+    }
+
+    /// Counts a read of an item in its slot alone, and gives it another mark.
+    #[inline(always)]
+    pub(crate) fn use_late(&mut self, mark: u8)
+        requires item { IsItem self.old }
+        requires room { is_counted_out self.old ≡ false }
+        ensures { (aside : Aside) → slot_of self.new aside
+            ≡ slot_changed (used mark) (slot_of self.old aside) }
+    {
+        match self {
+            StoredEntry::Item(head, _) => {
+                head.mark = mark;
+                head.late += 1;
+            }
+            StoredEntry::Loading(_, _, _) => unreachable!(),
+            StoredEntry::Ghost => unreachable!(),
+        }
+    }
+
+    /// Counts a read of an item beside its slot, and those that the slot counted.
+    pub(crate) fn settle_read(&mut self, aside: &mut Aside)
+        requires { IsItem self.old }
+        ensures { slot_of self.new aside.new
+            ≡ slot_changed read_once (slot_of self.old aside.old) }
+    {
+        match self {
+            StoredEntry::Item(head, _) => head.settle(aside),
+            StoredEntry::Loading(_, _, _) => unreachable!(),
+            StoredEntry::Ghost => unreachable!(),
+        }
+    }
+
+    /// Counts a read of an item, as `settle_read` does, and gives it another mark.
+    pub(crate) fn settle_use(&mut self, aside: &mut Aside, mark: u8)
+        requires { IsItem self.old }
+        ensures { slot_of self.new aside.new
+            ≡ slot_changed (used mark) (slot_of self.old aside.old) }
+    {
+        match self {
+            StoredEntry::Item(head, _) => {
+                head.mark = mark;
+                head.settle(aside);
+            }
+            StoredEntry::Loading(_, _, _) => unreachable!(),
+            StoredEntry::Ghost => unreachable!(),
+        }
+    }
+
+    /// Gives an item another mark and another count of reads.
+    pub(crate) fn set_counts(&mut self, aside: &mut Aside, mark: u8, reads: u64)
+        requires { IsItem self.old }
+        ensures { slot_of self.new aside.new
+            ≡ slot_changed (with_counts mark reads) (slot_of self.old aside.old) }
+    {
+        match self {
+            StoredEntry::Item(head, _) => {
+                head.mark = mark;
+                head.late = 0;
+                aside.reads = reads;
+            }
+            StoredEntry::Loading(_, _, _) => unreachable!(),
+            StoredEntry::Ghost => unreachable!(),
+        }
+    }
+
+    /// Gives an item another weight.
+    pub(crate) fn set_weight(&mut self, aside: &mut Aside, weight: u64)
+        requires { IsItem self.old }
+        ensures { slot_of self.new aside.new
+            ≡ slot_changed (with_weight weight) (slot_of self.old aside.old) }
+    {
+        match self {
+            StoredEntry::Item(head, _) => head.weight = aside.keep_weight(weight),
+            StoredEntry::Loading(_, _, _) => unreachable!(),
+            StoredEntry::Ghost => unreachable!(),
+        }
+    }
+
+    /// Gives an item another queue, mark and weight.
+    pub(crate) fn requeue(&mut self, aside: &mut Aside, queue: Queue, mark: u8, weight: u64)
+        requires { IsItem self.old }
+        ensures { slot_of self.new aside.new
+            ≡ slot_changed (requeued queue mark weight) (slot_of self.old aside.old) }
+    {
+        match self {
+            StoredEntry::Item(head, _) => {
+                head.mark = mark;
+                head.queue = queue;
+                head.weight = aside.keep_weight(weight);
+            }
+            StoredEntry::Loading(_, _, _) => unreachable!(),
+            StoredEntry::Ghost => unreachable!(),
+        }
+    }
+
+    /// Takes another entry, and gives the old one back. An item in the place of an item goes on
+    /// with its counter of touches.
+    #[inline(always)]
+    pub(crate) fn replace(
+        &mut self,
+        aside: &mut Aside,
+        entry: Entry<K, V, P, T>,
+    ) -> Entry<K, V, P, T>
+        ensures new { slot_of self.new aside.new
+            ≡ with_entry entry (slot_of self.old aside.old) }
+        ensures old { result ≡ entry_of self.old aside.old }
+    {
+        let before = *aside;
+        let mut stored = StoredEntry::new(entry, aside);
+        if let StoredEntry::Item(_, body) = self {
+            if let StoredEntry::Item(_, other) = &mut stored {
+                swap(&mut body.touch, &mut other.touch);
+            }
+        }
+        replace(self, stored).into_entry(&before)
+    }
+
+    /// Leaves a ghost in the place of the item that it has, and gives the item. It does not look
+    /// whether it has one, as `SlotRef::item` does not.
+    #[inline(always)]
+    pub(crate) fn bury(&mut self, aside: &Aside) -> Resident<K, V, T>
+        requires { IsItem self.old }
+        ensures new { (beside : Aside) → slot_of self.new beside
+            ≡ with_entry Entry.Ghost (slot_of self.old beside) }
+        ensures old { entry_of self.old aside.now ≡ Entry.Item result }
+    {
+        match replace(self, StoredEntry::Ghost) {
+            StoredEntry::Item(head, body) => Resident {
+                mark: head.mark,
+                queue: head.queue,
+                weight: aside.weight_by(head.weight),
+                reads: aside.reads_by(head.late),
+                body,
+            },
+            _ => {
+                let too_far = usize::BITS;
+                let mut none = [0u8; 0];
+                none[1 << too_far] = 0;
+                unreachable!()
+            }
+        }
+    }
+
+    /// Takes another item for the one that it has, and gives the old one back. The other goes on
+    /// with the counter of touches.
+    pub(crate) fn rewrite(
+        &mut self,
+        aside: &mut Aside,
+        resident: Resident<K, V, T>,
+    ) -> Resident<K, V, T>
+        requires { IsItem self.old }
+        ensures new { slot_of self.new aside.new
+            ≡ slot_changed (λ _. resident) (slot_of self.old aside.old) }
+        ensures old { entry_of self.old aside.old ≡ Entry.Item result }
+    {
+        let mut resident = resident;
+        match self {
+            StoredEntry::Item(head, body) => {
+                swap(&mut body.touch, &mut resident.body.touch);
+                let weight = aside.weight_by(head.weight);
+                let reads = aside.reads_by(head.late);
+                aside.reads = resident.reads;
+                let now = Head {
+                    mark: resident.mark,
+                    queue: resident.queue,
+                    weight: aside.keep_weight(resident.weight),
+                    late: 0,
+                };
+                let was = replace(head, now);
+                Resident {
+                    mark: was.mark,
+                    queue: was.queue,
+                    weight,
+                    reads,
+                    body: replace(body, resident.body),
+                }
+            }
+            StoredEntry::Loading(_, _, _) => unreachable!(),
+            StoredEntry::Ghost => unreachable!(),
+        }
+    }
+
+    /// Takes the count of touches of an item, which begins anew.
+    pub(crate) fn take_touch(&mut self) -> u64
+    where
+        T: Touches,
+        requires { IsItem self.old }
+        ensures counted { T.may_count result }
+        ensures same { (aside : Aside) → slot_of self.new aside ≡ slot_of self.old aside }
+    {
+        match self {
+            StoredEntry::Item(_, body) => body.touch.take(),
+            StoredEntry::Loading(_, _, _) => unreachable!(),
+            StoredEntry::Ghost => unreachable!(),
+        }
+    }
+
+    /// Makes an item of a key that is being loaded.
+    #[inline(always)]
+    pub(crate) fn fill(
+        &mut self,
+        aside: &mut Aside,
+        queue: Queue,
+        mark: u8,
+        weight: u64,
+        value: V,
+        touch: T,
+    )
+    where
+        K: Drop,
+        V: Drop,
+        P: Drop,
+        T: Drop,
+        requires { IsAwaited self.old }
+        ensures { slot_of self.new aside.new
+            ≡ slot_filled (filled queue mark weight value) (slot_of self.old aside.old) }
+    {
+        aside.reads = 0;
+        let mut head = Head::new(mark, queue);
+        head.weight = aside.keep_weight(weight);
+        // The entry is written once, and nothing stands in its place before.
+        replace_with(self, Filling { head, value, touch }, filled_by)
+    }
+}
