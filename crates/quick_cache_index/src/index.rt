@@ -8,9 +8,10 @@ pub(crate) mod groups;
 pub(crate) mod walk;
 
 pub use candidates::Candidates;
-use groups::{MOST_TOKENS, capacity, groups_for};
+use groups::{LANES, MOST_TOKENS, capacity, groups_for, home_of};
 use quick_cache_model::{Refusal, Token};
 use std::alloc::{Allocator, Global};
+use std::hint::spin_loop;
 use std::marker::Model;
 use walk::{Walk, first_position_of, position_on_walk};
 
@@ -286,6 +287,20 @@ impl<A: Allocator> Index<A> {
             hash,
         );
         Candidates { walk }
+    }
+
+    /// Reads where a token of that hash most likely stands, so that its removal finds these lines
+    /// near. It changes nothing, and decides nothing by what it reads.
+    #[inline(always)]
+    pub fn bring_near(&self, hash: u64) {
+        let place = LANES * home_of(hash, self.mask);
+        if let (Some(tag), Some(token)) = (self.tags.get(place), self.tokens.get(place)) {
+            // A load that nothing came of would be left out. No token that there is memory for is
+            // so high, and a pause does no harm.
+            if *token == u32::MAX - u32::from(*tag) {
+                spin_loop();
+            }
+        }
     }
 
     /// Removes every token. The room and the memory stay.

@@ -154,7 +154,8 @@ impl<K: Eq + Hash + Drop, V: Drop, P: SharedPlaceholder<K>, A: Allocator> Conten
         self.forget_ghost();
     }
 
-    /// Forgets the oldest ghost.
+    /// Forgets the oldest ghost, and brings near the one that is the oldest then: mostly it goes at
+    /// the next eviction, and would be waited for there.
     #[inline(always)]
     pub(crate) fn forget_ghost(&mut self)
         requires some { 0 < length self.old.lists.ghosts }
@@ -174,6 +175,9 @@ impl<K: Eq + Hash + Drop, V: Drop, P: SharedPlaceholder<K>, A: Allocator> Conten
         };
         self.lists.apart();
         self.lists.take_ghost(oldest);
+        if let Some(next) = self.lists.oldest_ghost() {
+            self.lists.bring_near(next);
+        }
     }
 
     /// Makes the first cold item the last hot one: it pays a mark.

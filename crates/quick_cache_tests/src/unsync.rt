@@ -1,7 +1,5 @@
-//! The cache for one thread: first examples, lists of calls, and refused growths.
-mod large;
+//! The cache for one thread: first examples, and refused growths.
 mod memory;
-mod runs;
 
 use quick_cache_base::{DefaultHashBuilder, Refusal, UnitWeighter};
 use quick_cache_unsync::{Cache, DefaultLifecycle};
@@ -39,9 +37,6 @@ fn the_counts_and_the_clone_tell_what_is_there(rt: HostRuntime) -> Result<(), Fa
     assert_eq!(rt; text.as_str(), "Cache { .. }, DefaultLifecycle");
     Ok(())
 }
-
-/// A predicate that a call of a list may ask.
-type Predicate = fn(&u64, &u64) -> bool;
 
 /// A cache whose growths can be refused.
 type RationedCache<'a> = Cache<

@@ -2,7 +2,7 @@
 ghost use Rattle.std.specs.Prelude.{All, IfOk};
 ghost use Rattle.quick_cache_runs.specs.Asked.{IfAsks};
 
-use super::Predicate;
+use crate::Predicate;
 use quick_cache_runs::{Call, Reply, run};
 use quick_cache_unsync::Cache;
 use std::alloc::{AllocError, Global};

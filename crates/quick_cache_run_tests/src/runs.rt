@@ -1,5 +1,5 @@
 //! Lists of calls: one of each kind, and calls that come back.
-use super::Predicate;
+use crate::Predicate;
 use quick_cache_base::Refusal;
 use quick_cache_runs::{Call, Reply, run};
 use quick_cache_unsync::Cache;

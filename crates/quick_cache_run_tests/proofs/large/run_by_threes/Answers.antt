@@ -1,5 +1,5 @@
 use Rattle.quick_cache_runs.proofs.CallerLemmas.{none_asked}
-use Rattle.quick_cache_tests.proofs.unsync.large.run_by_threes.Goals as goal
+use Rattle.quick_cache_run_tests.proofs.large.run_by_threes.Goals as goal
 
 -- none asks a predicate
 pub run-requires-clause-callable : goal.run-requires-clause-callable
