@@ -293,13 +293,24 @@ impl<A: Allocator> Index<A> {
     /// near. It changes nothing, and decides nothing by what it reads.
     #[inline(always)]
     pub fn bring_near(&self, hash: u64) {
-        let place = LANES * home_of(hash, self.mask);
-        if let (Some(tag), Some(token)) = (self.tags.get(place), self.tokens.get(place)) {
-            // A load that nothing came of would be left out. No token that there is memory for is
-            // so high, and a pause does no harm.
-            if *token == u32::MAX - u32::from(*tag) {
-                spin_loop();
-            }
+        let home = home_of(hash, self.mask);
+        // A load that nothing came of would be left out. Hardly a token is so high, and a pause
+        // does no harm.
+        if home < self.reaches.len()
+            && self.tokens[LANES * home] == u32::MAX - u32::from(self.tags[LANES * home])
+        {
+            spin_loop();
+        }
+    }
+
+    /// The same of the tokens alone, for a look-up: it reads the tags itself, and waits for a token
+    /// once it knows them.
+    #[inline(always)]
+    pub fn bring_tokens_near(&self, hash: u64) {
+        let home = home_of(hash, self.mask);
+        // No token is so high, and a pause does no harm.
+        if home < self.reaches.len() && self.tokens[LANES * home] == u32::MAX {
+            spin_loop();
         }
     }
 

@@ -51,6 +51,7 @@ impl<K: Eq + Hash, V, P: SharedPlaceholder<K>, A: Allocator> Contents<K, V, P, A
             (HasNoItem (Q.equivalent query.now) hash self.now.lists)
             (λ token. FindsItem (Q.equivalent query.now) hash self.now.lists (number token)) }
     {
+        self.lists.bring_tokens_near(hash);
         self.lists.find_item(hash, query)
     }
 
@@ -60,6 +61,7 @@ impl<K: Eq + Hash, V, P: SharedPlaceholder<K>, A: Allocator> Contents<K, V, P, A
         requires under { AreUnder (Q.equivalent query.now) hash self.now.lists }
         ensures { Finds (Q.equivalent query.now) hash self.now.lists result }
     {
+        self.lists.bring_tokens_near(hash);
         self.lists.find_by_key(hash, query)
     }
 

@@ -175,9 +175,7 @@ impl<K: Eq + Hash + Drop, V: Drop, P: SharedPlaceholder<K>, A: Allocator> Conten
         };
         self.lists.apart();
         self.lists.take_ghost(oldest);
-        if let Some(next) = self.lists.oldest_ghost() {
-            self.lists.bring_near(next);
-        }
+        self.lists.bring_oldest_ghost_near();
     }
 
     /// Makes the first cold item the last hot one: it pays a mark.

@@ -56,7 +56,14 @@ impl<K: Eq + Hash + Drop, V: Drop, We, B: BuildHasher, L: Lifecycle<K, V>, A: Al
         let lock = self.shard_of(query);
         match lock.try_read() {
             Some(guard) => guard,
-            None => lock.read(rt),
+            None => wait_to_read(lock, rt),
         }
     }
+}
+
+/// The read lock, waited for. Apart from the try it leaves its registers to the look-up.
+#[cold]
+#[inline(never)]
+fn wait_to_read<'a, T, R: Wait>(lock: &'a RwLock<T>, rt: &R) -> RwLockReadGuard<'a, T> {
+    lock.read(rt)
 }

@@ -139,12 +139,21 @@ impl<K, V, P, T, A: Allocator> Lists<K, V, P, T, A> {
         self.rings.ghosts.head
     }
 
-    /// Reads what taking out the entry of a token reads first, so that it is near by then: its slot,
-    /// its hash, and the places of that in the index. It changes nothing.
+    /// Reads of the index where the token of an entry of that hash most likely stands, for a look-up
+    /// that follows: it then waits for tags and tokens at once, and not for one after the other. It
+    /// changes nothing.
     #[inline(always)]
-    pub fn bring_near(&self, token: Token) {
-        if let Some(slot) = self.slots.get(token) {
-            self.index.bring_near(slot.hash());
+    pub fn bring_tokens_near(&self, hash: u64) {
+        self.index.bring_tokens_near(hash);
+    }
+
+    /// Reads what taking out the oldest ghost, if there is one, reads first, so that it is near by
+    /// then: its slot, its hash, and the places of that in the index. It changes nothing.
+    #[inline(always)]
+    pub fn bring_oldest_ghost_near(&self) {
+        self.slots.validate();
+        if let Some(oldest) = self.rings.ghosts.head {
+            self.index.bring_near(self.slots.slot(oldest).hash());
         }
     }
 

@@ -14,9 +14,9 @@ take_ghost-requires g c = (
   c.in-Some.ensures.3,
 )
 
--- it alone goes, whether another ghost is left or not
-pub returns-in-Some-oldest_ghost-clause-ghosts : goal.returns-in-Some-oldest_ghost-clause-ghosts
-returns-in-Some-oldest_ghost-clause-ghosts g c =
+-- it alone goes
+pub returns-clause-ghosts : goal.returns-clause-ghosts
+returns-clause-ghosts g c =
     let lists = c.args.self.now.lists in
     let rest = c.in-Some.ensures.1 in
     ap (λ (l : Lists _ _ _). hashes_of l.ghosts)
@@ -24,28 +24,8 @@ returns-in-Some-oldest_ghost-clause-ghosts g c =
     (number c.in-Some.oldest) c.in-Some.ensures.2 c.in-Some.ensures.3)
     ∙ hashes_of-drop 1 lists.ghosts rest c.in-Some.ensures.0 c.in-Some.ensures.2 refl
 
-pub returns-in-Some-oldest_ghost-clause-same : goal.returns-in-Some-oldest_ghost-clause-same
-returns-in-Some-oldest_ghost-clause-same g c =
-    let contents = c.args.self.now in
-    let lists = contents.lists in
-    let is = c.take_ghost.ensures ∙ without-first_ghost lists c.apart.ensures.apart
-    c.in-Some.ensures.0 c.in-Some.ensures.1 (number c.in-Some.oldest) c.in-Some.ensures.2
-    c.in-Some.ensures.3 in
-    ap (λ (l : Lists _ _ _). record contents { lists = l })
-    (is ∙ sym (ap (λ (l : Lists _ _ _). record lists
-    { ghosts = l.ghosts; next = l.next; room = l.room }) is))
-
-pub returns-in_default-oldest_ghost-clause-ghosts : goal.returns-in_default-oldest_ghost-clause-ghosts
-returns-in_default-oldest_ghost-clause-ghosts g c =
-    let lists = c.args.self.now.lists in
-    let rest = c.in-Some.ensures.1 in
-    ap (λ (l : Lists _ _ _). hashes_of l.ghosts)
-    (c.take_ghost.ensures ∙ without-first_ghost lists c.apart.ensures.apart c.in-Some.ensures.0 rest
-    (number c.in-Some.oldest) c.in-Some.ensures.2 c.in-Some.ensures.3)
-    ∙ hashes_of-drop 1 lists.ghosts rest c.in-Some.ensures.0 c.in-Some.ensures.2 refl
-
-pub returns-in_default-oldest_ghost-clause-same : goal.returns-in_default-oldest_ghost-clause-same
-returns-in_default-oldest_ghost-clause-same g c =
+pub returns-clause-same : goal.returns-clause-same
+returns-clause-same g c =
     let contents = c.args.self.now in
     let lists = contents.lists in
     let is = c.take_ghost.ensures ∙ without-first_ghost lists c.apart.ensures.apart
