@@ -1,19 +1,20 @@
 //! The hasher that a cache takes by default, and the hash of a key.
 ghost use Rattle.std.specs.Prelude.{◌≡◌, Some, codes};
+ghost use Rattle.std.specs.Hash.FoldHasher.{initial};
 ghost use Rattle.quick_cache_model.specs.Hashing.{hash_of};
 
 use std::fmt::{Debug, Formatter, Write};
-use std::hash::{BuildHasher, BuildHasherDefault, FoldHasher, Hash, Hasher};
+use std::hash::{BuildHasher, FoldHasher, Hash, Hasher};
 
 /// Builds the kit's fast folding hasher, always with the same seed, so that equal programs see
 /// equal hashes.
 ///
 /// Who chooses the keys can choose such as collide: where keys come from a stranger, hand a cache a
 /// builder with a seed drawn at random, as std's `RandomState`.
+///
+/// It takes no memory, since the seed is a constant.
 #[derive(Clone, Drop)]
-pub struct DefaultHashBuilder {
-    inner: BuildHasherDefault<FoldHasher>,
-}
+pub struct DefaultHashBuilder(());
 
 impl DefaultHashBuilder {
     /// The builder; each one is like any other.
@@ -21,9 +22,7 @@ impl DefaultHashBuilder {
         ensures seed { ⟦<FoldHasher as Default>⟧.is_default
             (⟦<DefaultHashBuilder as BuildHasher>⟧.build_hasher result) }
     {
-        DefaultHashBuilder {
-            inner: BuildHasherDefault::new(),
-        }
+        DefaultHashBuilder(())
     }
 }
 
@@ -38,10 +37,10 @@ impl Default for DefaultHashBuilder {
 impl BuildHasher for DefaultHashBuilder {
     type Hasher = FoldHasher;
 
-    ghost build_hasher = { λ builder. ⟦<BuildHasherDefault<FoldHasher> as BuildHasher>⟧.build_hasher builder.inner };
+    ghost build_hasher = { λ _. initial };
 
     fn build_hasher(&self) -> FoldHasher {
-        self.inner.build_hasher()
+        FoldHasher::default()
     }
 }
 
