@@ -1,9 +1,3 @@
-pub mod Answers
-pub mod Events
-pub mod Kinds
 pub mod Printed
-pub mod Remainder
 pub mod Runs
-pub mod Served
 pub mod Sessions
-pub mod Still

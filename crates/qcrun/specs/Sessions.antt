@@ -10,15 +10,15 @@ use Rattle.quick_cache_shard.specs.Shard.{Shard}
 use Rattle.quick_cache_calls.specs.declared.reply.Reply.{Reply}
 use Rattle.qcrun_commands.specs.declared.command.Command.{Command}
 use Rattle.qcrun_commands.specs.declared.command.Command.TheVariants.{Cache, CacheWithShares, Show}
-use Rattle.qcrun.specs.declared.reply.Answer.{Answer}
-use Rattle.qcrun.specs.declared.reply.Answer.TheVariants.{Done, Refused, Fault}
+use Rattle.qcrun_calls.specs.declared.reply.Answer.{Answer}
+use Rattle.qcrun_calls.specs.declared.reply.Answer.TheVariants.{Done, Refused, Fault}
 use Rattle.qcrun.specs.declared.session.Outcome.{Outcome}
 use Rattle.qcrun.specs.declared.session.Outcome.TheVariants.{Answered, Shows, NoCache}
-use Rattle.qcrun.specs.declared.events.Event.{Event}
-use Rattle.qcrun.specs.Answers.{answer_of}
-use Rattle.qcrun.specs.Events.{LeavesByKind, TellsOf}
-use Rattle.qcrun.specs.Served.{ServesAsked}
-use Rattle.qcrun.specs.Still.{AreStill}
+use Rattle.qcrun_cache.specs.declared.events.Event.{Event}
+use Rattle.qcrun_calls.specs.Answers.{answer_of}
+use Rattle.qcrun_cache.specs.Events.{LeavesByKind, TellsOf}
+use Rattle.qcrun_calls.specs.Served.{ServesAsked}
+use Rattle.qcrun_cache.specs.Still.{AreStill}
 
 -- the numbers that the cache of a command is to be made with, if it asks for a new one; shares that
 -- it does not tell are not set

@@ -1,18 +1,12 @@
 //! Reads commands for a cache, one a line, and prints their replies.
 #![tactic(auto)]
 
-mod calls;
-mod events;
-mod hash;
-mod kinds;
 #[cfg(test)]
 mod option_tests;
 mod options;
 mod print;
-mod reply;
 mod serve;
 mod session;
-mod still;
 #[cfg(test)]
 mod tests;
 

@@ -6,10 +6,9 @@ ghost use Rattle.quick_cache_shard.specs.Shard.{rules_of};
 ghost use Rattle.quick_cache_unsync.specs.Touches.{no_touches};
 ghost use Rattle.qcrun.specs.Runs.{PrintsLine, ServesKnown, ServesLine, bad_line, status_of};
 
-use crate::hash::{RemainderBuilder, RemainderHasher};
-use crate::kinds::{ByKind, LastDigits};
 use crate::print::print;
 use crate::session::{Outcome, Session};
+use qcrun_cache::{ByKind, LastDigits, RemainderBuilder, RemainderHasher};
 use qcrun_commands::{Line, command_of, read_line};
 use quick_cache_model::{Lifecycle, Weighter};
 use std::alloc::Allocator;

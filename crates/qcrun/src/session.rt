@@ -4,22 +4,16 @@ ghost use Rattle.quick_cache_shard.specs.Shard.{rules_of};
 ghost use Rattle.quick_cache_unsync.specs.Touches.{no_touches};
 ghost use Rattle.qcrun.specs.Sessions.{MakesCache, ServesCommand, ShowsCache};
 
-use crate::calls::make_call;
-use crate::events::Events;
-use crate::hash::{RemainderBuilder, RemainderHasher};
-use crate::kinds::{ByKind, LastDigits};
 use crate::options::options_of;
-use crate::reply::Answer;
-use crate::still::still;
+use qcrun_cache::still::still;
+use qcrun_cache::{ByKind, Events, LastDigits, NumberCache, RemainderBuilder, RemainderHasher};
+use qcrun_calls::{Answer, make_call};
 use qcrun_commands::Command;
 use quick_cache_base::options::OptionsBuilder;
 use quick_cache_model::{Lifecycle, Refusal, Weighter};
 use quick_cache_unsync::Cache;
 use std::alloc::Allocator;
 use std::hash::{BuildHasher, Hash, Hasher};
-
-/// A cache of numbers.
-pub type NumberCache<A> = Cache<u64, u64, LastDigits, RemainderBuilder, ByKind<A>, A>;
 
 /// What became of a command.
 #[derive(Drop)]

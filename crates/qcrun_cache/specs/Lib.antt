@@ -1,0 +1,4 @@
+pub mod Events
+pub mod Kinds
+pub mod Remainder
+pub mod Still
