@@ -1,6 +1,7 @@
 //! What threads over sixteen locks cost, where a lock is one word and where it is divided among its readers in eight.
 //! To read, a turn draws a lock and a slot, takes the thread's word of the lock by one atomic step, reads the slot,
-//! counts or does not, and lets the word go by another. To write, it takes all words of the lock. It prints the wall
+//! counts or does not, and lets the word go by another. The least that can count does so at the slot and by the step
+//! that lets go, and takes the lock with no look at it. To write, a turn takes all words of the lock. It prints the wall
 //! time of all turns by their number, in nanoseconds, and before that what two to four atomic additions take, one after
 //! the other, to words that no other core wants.
 use std::hint::{black_box, spin_loop};
@@ -57,6 +58,23 @@ fn reads(words: &[Word], slots: &[Slot], thread: u64, turns: u64, counts: bool) 
     sum
 }
 
+/// The least that a look-up can do which counts: the word has the readers in its low half and the hits in its high one.
+fn least_reads(words: &[Word], slots: &[Slot], thread: u64, turns: u64) -> u64 {
+    let mut state = (thread + 1).wrapping_mul(0x9e37_79b9_7f4a_7c15) | 1;
+    let parts = words.len() / LOCKS;
+    let mut sum = 0u64;
+    for _ in 0..turns {
+        let number = drawn(&mut state);
+        let word = &words[(number >> 60) as usize * parts + thread as usize % parts];
+        let slot = &slots[(number >> 20) as usize % slots.len()];
+        word.readers.fetch_add(1, SeqCst);
+        sum = sum.wrapping_add(slot.value);
+        slot.reads.fetch_add(1, SeqCst);
+        word.readers.fetch_add((1 << 32) - 1, SeqCst);
+    }
+    sum
+}
+
 fn writes(words: &[Word], thread: u64, turns: u64) -> u64 {
     let mut state = (thread + 1).wrapping_mul(0x9e37_79b9_7f4a_7c15) | 1;
     let parts = words.len() / LOCKS;
@@ -107,12 +125,13 @@ fn main() {
     }
     let slots: Vec<Slot> = (0..16_384).map(|_| Slot::default()).collect();
     for parts in [1, 8] {
-        let words: Vec<Word> = (0..LOCKS * parts).map(|_| Word::default()).collect();
+        let [words, counting] = [(); 2].map(|()| (0..LOCKS * parts).map(|_| Word::default()).collect::<Vec<_>>());
         for threads in [1, 2, 4] {
             println!(
-                "{parts} words a lock, {threads} threads: reads {:.1}, with two counts {:.1}; writes {:.1}",
+                "{parts} words a lock, {threads} threads: reads {:.1}, with two counts {:.1}, the least {:.1}; writes {:.1}",
                 least(threads, &|thread, turns| reads(&words, &slots, thread, turns, false)),
                 least(threads, &|thread, turns| reads(&words, &slots, thread, turns, true)),
+                least(threads, &|thread, turns| least_reads(&counting, &slots, thread, turns)),
                 least(threads, &|thread, turns| writes(&words, thread, turns))
             );
         }
