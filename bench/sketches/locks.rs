@@ -36,43 +36,44 @@ fn drawn(state: &mut u64) -> u64 {
     *state
 }
 
-fn reads(words: &[Word], slots: &[Slot], thread: u64, turns: u64, counts: bool) -> u64 {
+/// So many turns, each a look at a slot under a word of a lock.
+fn turns_over(words: &[Word], slots: &[Slot], thread: u64, turns: u64, look: impl Fn(&Word, &Slot) -> u64) -> u64 {
     let mut state = (thread + 1).wrapping_mul(0x9e37_79b9_7f4a_7c15) | 1;
     let parts = words.len() / LOCKS;
     let mut sum = 0u64;
     for _ in 0..turns {
         let number = drawn(&mut state);
         let word = &words[(number >> 60) as usize * parts + thread as usize % parts];
-        let slot = &slots[(number >> 20) as usize % slots.len()];
+        sum = sum.wrapping_add(look(word, &slots[(number >> 20) as usize % slots.len()]));
+    }
+    sum
+}
+
+fn reads(words: &[Word], slots: &[Slot], thread: u64, turns: u64, counts: bool) -> u64 {
+    turns_over(words, slots, thread, turns, |word, slot| {
         let mut seen = word.readers.load(SeqCst);
         while let Err(now) = word.readers.compare_exchange(seen, seen + 1, SeqCst, SeqCst) {
             seen = now;
         }
-        sum = sum.wrapping_add(slot.value);
+        let value = slot.value;
         if counts {
             slot.reads.fetch_add(1, SeqCst);
             word.hits.fetch_add(1, SeqCst);
         }
         word.readers.fetch_sub(1, SeqCst);
-    }
-    sum
+        value
+    })
 }
 
 /// The least that a look-up can do which counts: the word has the readers in its low half and the hits in its high one.
 fn least_reads(words: &[Word], slots: &[Slot], thread: u64, turns: u64) -> u64 {
-    let mut state = (thread + 1).wrapping_mul(0x9e37_79b9_7f4a_7c15) | 1;
-    let parts = words.len() / LOCKS;
-    let mut sum = 0u64;
-    for _ in 0..turns {
-        let number = drawn(&mut state);
-        let word = &words[(number >> 60) as usize * parts + thread as usize % parts];
-        let slot = &slots[(number >> 20) as usize % slots.len()];
+    turns_over(words, slots, thread, turns, |word, slot| {
         word.readers.fetch_add(1, SeqCst);
-        sum = sum.wrapping_add(slot.value);
+        let value = slot.value;
         slot.reads.fetch_add(1, SeqCst);
         word.readers.fetch_add((1 << 32) - 1, SeqCst);
-    }
-    sum
+        value
+    })
 }
 
 fn writes(words: &[Word], thread: u64, turns: u64) -> u64 {
