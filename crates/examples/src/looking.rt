@@ -100,7 +100,7 @@ fn iter(rt: HostRuntime) -> Result<(), Fail> {
 fn memory_used(rt: HostRuntime) -> Result<(), Fail> {
     let mut cache: Cache<u64, u64> = Cache::new(rt.alloc(), 5)?;
     cache.insert(1, 10)?;
-    // In bytes: the slots, and the table that finds them.
+    // In bytes: the slots, and the index that finds them.
     assert!(rt; cache.memory_used().entries > 0);
     assert!(rt; cache.memory_used().map > 0);
     Ok(())

@@ -19,7 +19,7 @@ module _ {We B L A : Type 0} (rules : Shard ℕ ℕ We B L → Rules ℕ ℕ) wh
       (cache new : Shard ℕ ℕ We B L) (reply : Reply ℕ ℕ Global)
       (hook_calls : List (HookCall ℕ ℕ)) (events : Option (Vec Event A))
       → old ≡ Some cache → answer ≡ answer_of reply
-      → new ≡ record cache { state = new.state; room = new.room; work = new.work }
+      → new ≡ record cache { state = new.state; places = new.places; room = new.room; work = new.work }
       → ServesAsked (rules cache) cache.state command reply hook_calls new.state
       → LeavesByKind hook_calls × TellsOf hook_calls events
       → ServesCommand rules old command (Answered events answer) (Some new)

@@ -5,7 +5,7 @@ use Rattle.quick_cache_model.specs.declared.refusal.Refusal.TheVariants.{Memory}
 use Rattle.quick_cache_model.specs.CacheState.{CacheState, empty_state}
 use Rattle.quick_cache_model.specs.Hooks.{Rules, HookCall}
 use Rattle.quick_cache_model.specs.Sizes.{hot_target_of, ghost_limit_of}
-use Rattle.quick_cache_base.specs.Options.{Choices, Settings, no_choices, settings_of, first_error}
+use Rattle.quick_cache_options.specs.Options.{Choices, Settings, no_choices, settings_of, first_error}
 use Rattle.quick_cache_shard.specs.Shard.{Shard}
 use Rattle.quick_cache_calls.specs.declared.reply.Reply.{Reply}
 use Rattle.qcrun_commands.specs.declared.command.Command.{Command}
@@ -72,7 +72,7 @@ module _ {We B L A : Type 0} where
         → ServesCommand rules old command (Answered events answer) new
     makes_call : (cache new : Shard ℕ ℕ We B L) (command : Command)
         (reply : Reply ℕ ℕ Global) (hook_calls : List (HookCall ℕ ℕ)) (events : Option (Vec Event A))
-        → new ≡ record cache { state = new.state; room = new.room; work = new.work }
+        → new ≡ record cache { state = new.state; places = new.places; room = new.room; work = new.work }
         → ServesAsked (rules cache) cache.state command reply hook_calls new.state
         → LeavesByKind hook_calls → TellsOf hook_calls events
         → ServesCommand rules (Some cache) command (Answered events (answer_of reply)) (Some new)

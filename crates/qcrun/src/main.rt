@@ -2,6 +2,8 @@
 #![tactic(auto)]
 
 #[cfg(test)]
+mod eviction_tests;
+#[cfg(test)]
 mod option_tests;
 mod options;
 mod print;

@@ -3,7 +3,7 @@ ghost use Rattle.std.specs.Prelude.{◌≡◌};
 ghost use Rattle.qcrun.specs.Sessions.{choices_of};
 
 use qcrun_commands::Command;
-use quick_cache_base::options::OptionsBuilder;
+use quick_cache_options::options::OptionsBuilder;
 
 /// The options of the cache that a command asks for, if it asks for one.
 pub fn options_of(command: Command) -> Option<OptionsBuilder>

@@ -31,6 +31,7 @@ fn insert<A: Allocator>(
         events.old events.new }
     ensures same { cache.new ≡ record cache.old {
       state = cache.new.state;
+      places = cache.new.places;
       room = cache.new.room;
       work = cache.new.work;
     } }
@@ -58,6 +59,7 @@ fn replace<A: Allocator>(
         events.old events.new }
     ensures same { cache.new ≡ record cache.old {
       state = cache.new.state;
+      places = cache.new.places;
       room = cache.new.room;
       work = cache.new.work;
     } }
@@ -78,6 +80,7 @@ fn remove_value<A: Allocator>(
         (RemovesIf (nat_eq key) cache.old.state (is_wanted wanted key) result) cache.new.state }
     ensures same { cache.new ≡ record cache.old {
       state = cache.new.state;
+      places = cache.new.places;
       room = cache.new.room;
     } }
 {
@@ -101,6 +104,7 @@ fn guarded<A: Allocator>(
         events.old events.new }
     ensures same { cache.new ≡ record cache.old {
       state = cache.new.state;
+      places = cache.new.places;
       room = cache.new.room;
       work = cache.new.work;
     } }
@@ -134,6 +138,7 @@ fn load<A: Allocator>(
         events.old events.new }
     ensures same { cache.new ≡ record cache.old {
       state = cache.new.state;
+      places = cache.new.places;
       room = cache.new.room;
       work = cache.new.work;
     } }
@@ -182,6 +187,7 @@ pub fn make_call<A: Allocator>(
         events.old events.new }
     ensures same { cache.new ≡ record cache.old {
       state = cache.new.state;
+      places = cache.new.places;
       room = cache.new.room;
       work = cache.new.work;
     } }

@@ -2,9 +2,9 @@
 ghost use Rattle.std.specs.Prelude.{◌≡◌, Some};
 ghost use Rattle.qcrun_calls.specs.Answers.{answer_of, text_of};
 
-use quick_cache_base::options::Error;
 use quick_cache_calls::Reply;
 use quick_cache_model::Refusal;
+use quick_cache_options::options::Error;
 use std::fmt::{self, Display, Formatter, Write};
 
 /// The printed answer to a command.

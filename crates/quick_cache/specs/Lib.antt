@@ -1,23 +1,35 @@
-pub mod FirstPairs
-pub mod Answers
-pub mod Shards
-pub mod Sums
-pub mod Tries
+pub use Rattle.quick_cache_sync.specs.FirstPairs
+pub use Rattle.quick_cache_sync.specs.Answers
+pub use Rattle.quick_cache_sync.specs.Shards
+pub use Rattle.quick_cache_sync.specs.Sums
+pub use Rattle.quick_cache_sync.specs.Tries
 pub use Rattle.quick_cache_locked.specs.Touches
 pub use Rattle.quick_cache_locked.specs.Counts
 pub use Rattle.quick_cache_locked.specs.Fitting
 pub use Rattle.quick_cache_locked.specs.Locked
 pub use Rattle.quick_cache_locked.specs.Peeks
 pub use Rattle.quick_cache_calls.specs.Shown
-pub use Rattle.quick_cache_unsync.specs.Alone
-pub use Rattle.quick_cache_unsync.specs.Replaces
-pub use Rattle.quick_cache_unsync.specs.SetsCapacity
+pub use Rattle.quick_cache_calls.specs.Kinds
+pub use Rattle.quick_cache_calls.specs.Loads as CallLoads
+pub use Rattle.quick_cache_calls.specs.References as CallReferences
+pub use Rattle.quick_cache_shard.specs.Alone
+pub use Rattle.quick_cache_shard.specs.Replaces
+pub use Rattle.quick_cache_shard.specs.SetsCapacity
 pub use Rattle.quick_cache_runs.specs.Answered
-pub use Rattle.quick_cache_unsync.specs.Inserts
+pub use Rattle.quick_cache_shard.specs.Inserts
 pub use Rattle.quick_cache_runs.specs.CacheStep
 pub use Rattle.quick_cache_runs.specs.CacheRun
 pub use Rattle.quick_cache_runs.specs.Asked
 pub use Rattle.quick_cache_runs.specs.Conservation
+pub use Rattle.quick_cache_runs.specs.Made
+pub use Rattle.quick_cache_unsync.specs.CacheDrain
+pub use Rattle.quick_cache_unsync.specs.Lent
+pub use Rattle.quick_cache_unsync.specs.LentGuards
+pub use Rattle.quick_cache_unsync.specs.LentReads
+pub use Rattle.quick_cache_unsync.specs.LentValues
+pub use Rattle.quick_cache_unsync.specs.Loads
+pub use Rattle.quick_cache_unsync.specs.References
+pub use Rattle.quick_cache_unsync.specs.Touches as NoTouches
 pub use Rattle.quick_cache_shard.specs.Shard
 pub use Rattle.quick_cache_shard.specs.Copies
 pub use Rattle.quick_cache_shard.specs.Lifecycles
@@ -25,6 +37,14 @@ pub use Rattle.quick_cache_shard.specs.Work
 pub use Rattle.quick_cache_shard.specs.Predicates
 pub use Rattle.quick_cache_shard.specs.Stats
 pub use Rattle.quick_cache_shard.specs.Writing
+pub use Rattle.quick_cache_shard.specs.Advances
+pub use Rattle.quick_cache_shard.specs.Filling
+pub use Rattle.quick_cache_shard.specs.Lent as ShardLent
+pub use Rattle.quick_cache_shard.specs.Loading
+pub use Rattle.quick_cache_shard.specs.References as ShardReferences
+pub use Rattle.quick_cache_shard.specs.ShardDrain
+pub use Rattle.quick_cache_shard.specs.Shared
+pub use Rattle.quick_cache_shard.specs.Tokens
 pub use Rattle.quick_cache_base.specs.Options
 pub use Rattle.quick_cache_base.specs.Hashing
 pub use Rattle.quick_cache_base.specs.CacheState
@@ -37,3 +57,17 @@ pub use Rattle.quick_cache_base.specs.Lookups
 pub use Rattle.quick_cache_base.specs.Removal
 pub use Rattle.quick_cache_base.specs.Sizes
 pub use Rattle.quick_cache_base.specs.Refusals
+pub use Rattle.quick_cache_base.specs.Placeholders
+pub use Rattle.quick_cache_base.specs.Entries
+pub use Rattle.quick_cache_base.specs.Capacity
+pub use Rattle.quick_cache_base.specs.Touches as CountedTouches
+pub use Rattle.quick_cache_base.specs.LinkedSlab
+pub use Rattle.quick_cache_base.specs.SlabEdits
+pub use Rattle.quick_cache_base.specs.SlabLends
+pub use Rattle.quick_cache_base.specs.Table
+pub use Rattle.quick_cache_base.specs.Core
+pub use Rattle.quick_cache_base.specs.Waiting
+pub use Rattle.quick_cache_base.specs.LoadingStep
+pub use Rattle.quick_cache_base.specs.LoadingRow
+pub use Rattle.quick_cache_base.specs.LoadingLaws
+pub use Rattle.quick_cache_base.specs.LoadingRun

@@ -4,6 +4,7 @@
 
 pub mod shard;
 pub mod sync;
+pub mod sync_placeholder;
 pub mod unsync;
 
 pub use quick_cache_base::{

@@ -1,14 +1,4 @@
-//! The cache that threads share.
+//! The shared cache.
 
-mod cache;
-mod error;
-mod lifecycle;
-mod reads;
-mod shards;
-mod sizes;
-mod tries;
-mod writes;
-
-pub use cache::Cache;
-pub use error::{LockContention, TryError};
-pub use lifecycle::DefaultLifecycle;
+pub use quick_cache_futures::{GetOrInsert, ValueOrGuard};
+pub use quick_cache_sync::{Cache, DefaultLifecycle, Drain, Iter, LockContention, TryError};

@@ -1,4 +1,6 @@
 //! The cache for one thread.
 
 pub use quick_cache_runs::{Call, Reply, run};
-pub use quick_cache_unsync::{Cache, DefaultLifecycle};
+pub use quick_cache_unsync::{
+    Cache, DefaultLifecycle, Drain, Guard, Iter, NotLoaded, Placeholder, Ref, RefMut,
+};

@@ -1,4 +1,4 @@
-pub mod Options
+pub use Rattle.quick_cache_options.specs.Options
 pub use Rattle.quick_cache_model.specs.Hashing
 pub use Rattle.quick_cache_model.specs.CacheState
 pub use Rattle.quick_cache_model.specs.Hooks

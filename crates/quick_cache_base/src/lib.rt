@@ -1,10 +1,7 @@
-//! Options and sizes of a cache, beside all that it is made of, under one name.
+//! What a cache is made of, under one name: the model with its laws, options and sizes, the slab,
+//! the table and the loading core.
 #![tactic(auto)]
 
-pub mod options;
-pub mod sizes;
-
-pub use options::{Options, OptionsBuilder};
 pub use quick_cache_laws::laws;
 pub use quick_cache_loading::protocol;
 pub use quick_cache_model::{
@@ -12,5 +9,6 @@ pub use quick_cache_model::{
     UnitWeighter, Weighter, equivalent, hash_builder, hash_of, lifecycle, queue, refusal, stats,
     weighter,
 };
+pub use quick_cache_options::{Options, OptionsBuilder, options, sizes};
 pub use quick_cache_slab::{LinkedSlab, linked_slab};
 pub use quick_cache_table::{Table, table};

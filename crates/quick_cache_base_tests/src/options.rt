@@ -1,6 +1,4 @@
 //! The options: each default, each error, and each boundary of the sizes.
-ghost use Rattle.std.specs.Prelude.{◌≡◌, IsOk, IfOk};
-
 use quick_cache_base::options::{DEFAULT_GHOST_ALLOCATION, DEFAULT_HOT_ALLOCATION, Error, Options};
 use quick_cache_base::sizes::{
     ghost_limit, hot_target, rescaled_limit, rescaled_target, shard_sizes,
@@ -37,21 +35,6 @@ fn build(
     builder.build()
 }
 
-/// Options by a chain of setters, whose outcome is known before it runs.
-fn build_by_a_chain() -> Result<Options, Error>
-    ensures succeeds { IsOk result }
-    ensures shards { IfOk result (λ options. options.shards ≡ 3) }
-    ensures share { IfOk result (λ options. options.hot_allocation ≡ 7) }
-{
-    let mut builder = OptionsBuilder::new();
-    builder
-        .weight_capacity(2)
-        .estimated_items_capacity(1)
-        .shards(3)
-        .hot_allocation(7)
-        .build()
-}
-
 #[test]
 fn a_number_is_the_one_set_last_or_its_default(rt: HostRuntime) -> Result<(), Fail> {
     let mut builder = OptionsBuilder::default();
@@ -75,7 +58,6 @@ fn a_number_is_the_one_set_last_or_its_default(rt: HostRuntime) -> Result<(), Fa
     assert_eq!(rt; options.shards(), 3);
     assert_eq!(rt; options.hot_allocation(), 0);
     assert_eq!(rt; options.ghost_allocation(), 1000000);
-    assert_eq!(rt; build_by_a_chain()?.hot_allocation(), 7);
     Ok(())
 }
 

@@ -2,194 +2,150 @@
 use bumpalo::Bump;
 use quick_cache_base::Refusal;
 use quick_cache_base::protocol::{Answer, Core, Event, abandon, cancel, run, step};
-use std::alloc::Global;
-use std::process::Abort;
 use std::test::Fail;
 
-/// Runs the events on a new core and compares their answers.
-fn expect_answers(
-    rt: &impl Abort,
-    alloc: Global,
-    events: Vec<Event<u64>>,
-    wanted: &[Answer<u64>],
-) -> Result<(), Fail> {
-    let mut core = Core::new(alloc);
-    let answers = run(&mut core, events)?;
-    assert_eq!(rt; answers.as_slice(), wanted);
-    Ok(())
+/// An event of these schedules, which can be written down in a table.
+#[derive(Clone, Copy)]
+enum Happens {
+    Create,
+    Join(u64),
+    Fill(u64),
+    Abandon,
+    Take(u64),
+    TimeOut(u64),
+    Cancel(u64),
+    Leave,
 }
 
-#[test]
-fn no_event_has_no_answer(rt: HostRuntime) -> Result<(), Fail> {
-    expect_answers(&rt, rt.alloc(), Vec::new(rt.alloc()), &[])
+impl Happens {
+    fn of_core(self) -> Event<u64> {
+        match self {
+            Happens::Create => Event::Create,
+            Happens::Join(waiter) => Event::Join(waiter),
+            Happens::Fill(value) => Event::Fill(value),
+            Happens::Abandon => Event::Abandon,
+            Happens::Take(waiter) => Event::Take(waiter),
+            Happens::TimeOut(waiter) => Event::TimeOut(waiter),
+            Happens::Cancel(waiter) => Event::Cancel(waiter),
+            Happens::Leave => Event::Leave,
+        }
+    }
 }
 
-#[test]
-fn an_abandoned_guard_goes_to_the_last_waiter(rt: HostRuntime) -> Result<(), Fail> {
-    let events = vec![in rt.alloc();
-        Event::Create,
-        Event::Join(1),
-        Event::Join(2),
-        Event::Abandon,
-        Event::Fill(7),
-        Event::Join(2),
-    ]?;
-    let wanted = [
-        Answer::Created,
-        Answer::Joined,
-        Answer::Joined,
-        Answer::HandedTo(2),
-        Answer::NotNow,
-        Answer::NotNow,
-    ];
-    expect_answers(&rt, rt.alloc(), events, &wanted)
-}
+/// A schedule: what it shows, and each event with its answer.
+type Schedule = (&'static str, &'static [(Happens, Answer<u64>)]);
+
+/// Whole schedules, each of a new core.
+const SCHEDULES: [Schedule; 10] = [
+    ("no event has no answer", &[]),
+    (
+        "an abandoned guard goes to the last waiter",
+        &[
+            (Happens::Create, Answer::Created),
+            (Happens::Join(1), Answer::Joined),
+            (Happens::Join(2), Answer::Joined),
+            (Happens::Abandon, Answer::HandedTo(2)),
+            (Happens::Fill(7), Answer::NotNow),
+            (Happens::Join(2), Answer::NotNow),
+        ],
+    ),
+    (
+        "a waiter joins once, and a filled life shows its value",
+        &[
+            (Happens::Create, Answer::Created),
+            (Happens::Join(1), Answer::Joined),
+            (Happens::Join(1), Answer::NotNow),
+            (Happens::Fill(7), Answer::Done),
+            (Happens::Join(2), Answer::Value(7)),
+            (Happens::Abandon, Answer::NotNow),
+        ],
+    ),
+    (
+        "a life that was given up can begin anew",
+        &[
+            (Happens::Join(1), Answer::NotNow),
+            (Happens::Create, Answer::Created),
+            (Happens::Abandon, Answer::GivenUp),
+            (Happens::Create, Answer::Created),
+            (Happens::Fill(5), Answer::Done),
+            (Happens::Join(1), Answer::Value(5)),
+            (Happens::Join(1), Answer::Value(5)),
+        ],
+    ),
+    (
+        "who timed out waits no more",
+        &[
+            (Happens::Create, Answer::Created),
+            (Happens::Join(1), Answer::Joined),
+            (Happens::Take(1), Answer::Waiting),
+            (Happens::TimeOut(1), Answer::TimedOut),
+            (Happens::Abandon, Answer::GivenUp),
+        ],
+    ),
+    (
+        "who times out takes the guard that was handed to it",
+        &[
+            (Happens::Create, Answer::Created),
+            (Happens::Join(1), Answer::Joined),
+            (Happens::Abandon, Answer::HandedTo(1)),
+            (Happens::TimeOut(1), Answer::Guard),
+            (Happens::Fill(7), Answer::Done),
+            (Happens::Leave, Answer::Done),
+            (Happens::Join(2), Answer::NotNow),
+        ],
+    ),
+    (
+        "outside the shard none joins, and a fill still shows",
+        &[
+            (Happens::Create, Answer::Created),
+            (Happens::Leave, Answer::Done),
+            (Happens::Join(1), Answer::NotNow),
+            (Happens::Fill(3), Answer::Done),
+            (Happens::Take(1), Answer::Value(3)),
+        ],
+    ),
+    (
+        "who cancels hands its guard on",
+        &[
+            (Happens::Create, Answer::Created),
+            (Happens::Join(1), Answer::Joined),
+            (Happens::Join(2), Answer::Joined),
+            (Happens::Abandon, Answer::HandedTo(2)),
+            (Happens::Cancel(2), Answer::HandedTo(1)),
+            (Happens::Take(1), Answer::Guard),
+            (Happens::Fill(9), Answer::Done),
+        ],
+    ),
+    (
+        "the last one to cancel gives up",
+        &[
+            (Happens::Create, Answer::Created),
+            (Happens::Join(1), Answer::Joined),
+            (Happens::Abandon, Answer::HandedTo(1)),
+            (Happens::Cancel(1), Answer::GivenUp),
+            (Happens::Join(3), Answer::NotNow),
+        ],
+    ),
+    (
+        "a held guard is handed on and withdrawn",
+        &[
+            (Happens::Create, Answer::Created),
+            (Happens::Join(4), Answer::Joined),
+            (Happens::Abandon, Answer::HandedTo(4)),
+            (Happens::Cancel(4), Answer::GivenUp),
+        ],
+    ),
+];
 
 #[test]
-fn a_waiter_joins_once_and_a_filled_life_shows_its_value(rt: HostRuntime) -> Result<(), Fail> {
-    let events = vec![in rt.alloc();
-        Event::Create,
-        Event::Join(1),
-        Event::Join(1),
-        Event::Fill(7),
-        Event::Join(2),
-        Event::Abandon,
-    ]?;
-    let wanted = [
-        Answer::Created,
-        Answer::Joined,
-        Answer::NotNow,
-        Answer::Done,
-        Answer::Value(7),
-        Answer::NotNow,
-    ];
-    expect_answers(&rt, rt.alloc(), events, &wanted)
-}
-
-#[test]
-fn a_life_given_up_can_begin_anew(rt: HostRuntime) -> Result<(), Fail> {
-    let events = vec![in rt.alloc();
-        Event::Join(1),
-        Event::Create,
-        Event::Abandon,
-        Event::Create,
-        Event::Fill(5),
-        Event::Join(1),
-        Event::Join(1),
-    ]?;
-    let wanted = [
-        Answer::NotNow,
-        Answer::Created,
-        Answer::GivenUp,
-        Answer::Created,
-        Answer::Done,
-        Answer::Value(5),
-        Answer::Value(5),
-    ];
-    expect_answers(&rt, rt.alloc(), events, &wanted)
-}
-
-#[test]
-fn who_timed_out_waits_no_more(rt: HostRuntime) -> Result<(), Fail> {
-    let events = vec![in rt.alloc();
-        Event::Create,
-        Event::Join(1),
-        Event::Take(1),
-        Event::TimeOut(1),
-        Event::Abandon,
-    ]?;
-    let wanted = [
-        Answer::Created,
-        Answer::Joined,
-        Answer::Waiting,
-        Answer::TimedOut,
-        Answer::GivenUp,
-    ];
-    expect_answers(&rt, rt.alloc(), events, &wanted)
-}
-
-#[test]
-fn who_times_out_takes_the_guard_that_was_handed_to_it(rt: HostRuntime) -> Result<(), Fail> {
-    let events = vec![in rt.alloc();
-        Event::Create,
-        Event::Join(1),
-        Event::Abandon,
-        Event::TimeOut(1),
-        Event::Fill(7),
-        Event::Leave,
-        Event::Join(2),
-    ]?;
-    let wanted = [
-        Answer::Created,
-        Answer::Joined,
-        Answer::HandedTo(1),
-        Answer::Guard,
-        Answer::Done,
-        Answer::Done,
-        Answer::NotNow,
-    ];
-    expect_answers(&rt, rt.alloc(), events, &wanted)
-}
-
-#[test]
-fn outside_the_shard_none_joins_and_a_fill_still_shows(rt: HostRuntime) -> Result<(), Fail> {
-    let events = vec![in rt.alloc();
-        Event::Create,
-        Event::Leave,
-        Event::Join(1),
-        Event::Fill(3),
-        Event::Take(1),
-    ]?;
-    let wanted = [
-        Answer::Created,
-        Answer::Done,
-        Answer::NotNow,
-        Answer::Done,
-        Answer::Value(3),
-    ];
-    expect_answers(&rt, rt.alloc(), events, &wanted)
-}
-
-#[test]
-fn who_cancels_hands_its_guard_on(rt: HostRuntime) -> Result<(), Fail> {
-    let events = vec![in rt.alloc();
-        Event::Create,
-        Event::Join(1),
-        Event::Join(2),
-        Event::Abandon,
-        Event::Cancel(2),
-        Event::Take(1),
-        Event::Fill(9),
-    ]?;
-    let wanted = [
-        Answer::Created,
-        Answer::Joined,
-        Answer::Joined,
-        Answer::HandedTo(2),
-        Answer::HandedTo(1),
-        Answer::Guard,
-        Answer::Done,
-    ];
-    expect_answers(&rt, rt.alloc(), events, &wanted)
-}
-
-#[test]
-fn the_last_one_to_cancel_gives_up(rt: HostRuntime) -> Result<(), Fail> {
-    let events = vec![in rt.alloc();
-        Event::Create,
-        Event::Join(1),
-        Event::Abandon,
-        Event::Cancel(1),
-        Event::Join(3),
-    ]?;
-    let wanted = [
-        Answer::Created,
-        Answer::Joined,
-        Answer::HandedTo(1),
-        Answer::GivenUp,
-        Answer::NotNow,
-    ];
-    expect_answers(&rt, rt.alloc(), events, &wanted)
+fn schedules_have_their_answers(rt: HostRuntime) {
+    for (shown, events) in SCHEDULES {
+        let mut core: Core<u64> = Core::new(rt.alloc());
+        for (event, wanted) in events {
+            let answer = step(&mut core, event.of_core());
+            assert_eq!(rt; answer, *wanted, "{shown}");
+        }
+    }
 }
 
 /// A value that cannot be cloned: a drop abandons and cancels without a clone.
@@ -203,20 +159,6 @@ fn abandon_and_cancel_need_no_clone(rt: HostRuntime) {
     assert!(rt; !core.has_waiters());
     assert_eq!(rt; abandon(&mut core), Answer::NotNow);
     assert_eq!(rt; cancel(&mut core, 1), Answer::NotNow);
-}
-
-#[test]
-fn a_held_guard_is_seen_and_so_are_waiters(rt: HostRuntime) {
-    let mut core: Core<u64> = Core::new(rt.alloc());
-    assert_eq!(rt; step(&mut core, Event::Create), Answer::Created);
-    assert!(rt; core.is_held());
-    assert!(rt; !core.has_waiters());
-    assert_eq!(rt; step(&mut core, Event::Join(4)), Answer::Joined);
-    assert!(rt; core.has_waiters());
-    assert_eq!(rt; abandon(&mut core), Answer::HandedTo(4));
-    assert!(rt; !core.is_held());
-    assert_eq!(rt; cancel(&mut core, 4), Answer::GivenUp);
-    assert!(rt; !core.has_waiters());
 }
 
 /// An arena whose limit is 0 refuses all memory.
@@ -289,25 +231,4 @@ fn a_hundred_waiters_get_the_guard_from_the_last_to_the_first(rt: HostRuntime) {
     }
     assert!(rt; !core.has_waiters());
     assert_eq!(rt; abandon(&mut core), Answer::GivenUp);
-}
-
-#[test]
-fn a_hundred_waiters_are_shown_the_value(rt: HostRuntime) {
-    let mut core: Core<u64> = Core::new(rt.alloc());
-    assert_eq!(rt; step(&mut core, Event::Create), Answer::Created);
-    for waiter in 1..=100 {
-        assert_eq!(rt; step(&mut core, Event::Join(waiter)), Answer::Joined);
-    }
-    assert_eq!(rt; step(&mut core, Event::Fill(7)), Answer::Done);
-    for waiter in 1..=100 {
-        assert_eq!(rt; step(&mut core, Event::Take(waiter)), Answer::Value(7));
-    }
-}
-
-#[test]
-fn a_run_of_no_event_takes_no_memory(rt: HostRuntime) {
-    let arena = Bump::new(rt.alloc());
-    arena.set_allocation_limit(Some(0));
-    let mut core: Core<u64, &Bump> = Core::new(&arena);
-    assert!(rt; run(&mut core, Vec::new(&arena)).is_ok());
 }

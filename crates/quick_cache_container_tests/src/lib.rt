@@ -1,10 +1,8 @@
-//! Tests of the slab, the table and the index.
+//! Tests of the slab and the table.
 #![tactic(auto)]
 
 #[cfg(test)]
 mod asked_memory;
-#[cfg(test)]
-mod index;
 #[cfg(test)]
 mod linked_slab;
 #[cfg(test)]

@@ -45,25 +45,6 @@ fn a_table_that_cannot_grow_keeps_its_pairs(rt: HostRuntime) -> Result<(), Fail>
 }
 
 #[test]
-fn a_table_with_room_asks_for_no_memory(rt: HostRuntime) -> Result<(), Fail> {
-    let ration = Rationed::new(rt.alloc(), 4);
-    let Ok(mut table) = Table::new(&ration) else {
-        panic!(rt; "an empty table takes no memory");
-    };
-    assert!(rt; table.reserve(100).is_ok());
-    assert_eq!(rt; ration.left(), 0);
-    for number in 1..=100 {
-        let token = Token::new(number).expect(&rt, "a token is not 0");
-        assert!(rt; put(&mut table, 7, token).is_ok());
-    }
-    assert_eq!(rt; table.len(), 100);
-    assert!(rt; table.reserve(1000) == Err(Refusal::Memory));
-    table.clear();
-    assert!(rt; table.reserve(100).is_ok());
-    Ok(())
-}
-
-#[test]
 fn a_table_asks_for_no_more_room_than_there_are_tokens(rt: HostRuntime) -> Result<(), Fail> {
     let ration = Rationed::new(rt.alloc(), 0);
     let Ok(mut table) = Table::new(&ration) else {

@@ -4,6 +4,5 @@ pub mod Distances
 pub mod FreedPlaces
 pub mod GroupLanes
 pub mod NearestFreePlace
-pub mod PowersOfTwo
 pub mod ShownTokens
 pub mod WalkedTokens

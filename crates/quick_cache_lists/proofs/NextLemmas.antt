@@ -1,51 +1,19 @@
--- The token behind another in a ring, and the first item above a token.
-use Rattle.std.proofs.Common.{◌≡◌, ℕ, zero, suc, ◌+◌, ◌-◌, ◌<◌, Bool, true, false, true≢false, List, [], ◌∷◌, drop, get_or, Option, Some, None, MatchOption, refl, sym, ap, subst, ◌∙◌, inl, arith}
+-- The first item above a token.
+use Rattle.std.proofs.Common.{◌≡◌, ℕ, zero, suc, ◌+◌, ◌-◌, ◌<◌, Bool, true, false, true≢false, List, [], ◌∷◌, drop, get_or, Option, Some, None, MatchOption, refl, sym, ap, subst, ◌∙◌, arith}
 use Rattle.std.specs.Int.NonZero.{non_zero_u32_get}
 use Rattle.std.specs.declared.num.NonZeroU32.{NonZeroU32 as Token}
 use Rattle.std.proofs.lemmas.List.{get_or-drop}
-use Rattle.quick_cache_model.specs.declared.queue.Queue.{Queue}
-use Rattle.quick_cache_model.specs.declared.queue.Queue.TheVariants.{Hot, Cold}
-use Rattle.quick_cache_model.specs.CacheState.{ring_place}
-use Rattle.quick_cache_slab.specs.LinkedSlab.{LinkedSlab, times, entries_past, entries_after, item_at, successor, IsOccupied, IsParted}
+use Rattle.quick_cache_slab.specs.LinkedSlab.{LinkedSlab, entries_past, entries_after, item_at}
 use Rattle.quick_cache_index.specs.Index.{Index}
 use Rattle.quick_cache_slots.specs.declared.entry.Entry.{Entry}
 use Rattle.quick_cache_slots.specs.declared.entry.Entry.TheVariants.{Item as item_variant, Loading as loading_variant, Ghost as ghost_variant}
 use Rattle.quick_cache_slots.specs.declared.entry.Slot.{Slot}
 use Rattle.quick_cache_lists.specs.declared.ring.Ring.{Ring}
-use Rattle.quick_cache_lists.specs.Lists.{HasItemToken, HasRingToken, next_in_ring, number_or_zero, IsFirstAbove}
-use Rattle.quick_cache_lists.specs.Slots.{AmongHot, AmongCold, item_of, is_item, first_item}
-use Rattle.quick_cache_lists.specs.Sound.{tokens_of, lists_of, IsStanding}
-use Rattle.quick_cache_lists.proofs.GatherLemmas.{gather-from}
+use Rattle.quick_cache_lists.specs.Lists.{HasItemToken, number_or_zero, IsFirstAbove}
+use Rattle.quick_cache_lists.specs.Slots.{is_item, first_item}
+use Rattle.quick_cache_lists.specs.Sound.{lists_of, IsStanding}
 use Rattle.quick_cache_lists.proofs.ItemLemmas.{item_by_token}
 use Rattle.quick_cache_lists.proofs.StandLemmas.{HasItem-from}
-use Rattle.quick_cache_lists.proofs.TakeLemmas.{named_item, occupied_by_entry}
-use Rattle.quick_cache_lists.proofs.TurnLemmas.{next-in_ring}
-
-module _ {K V P T : Type 0} (slab : LinkedSlab (Slot K V P T)) (index : Index)
-    (hot cold ghosts : Ring) where
-  pub occupied_by_ring : (t : ℕ) (queue : Queue)
-      → HasRingToken queue (lists_of slab index hot cold ghosts) t → IsOccupied slab t
-  occupied_by_ring t queue has =
-      occupied_by_entry slab index hot cold ghosts t
-      (inl (has.0, record { place = ring_place queue; stands = has.1 }, has.2))
-
-  pub next_by_queue : IsParted slab → IsStanding slab hot cold ghosts → (t : ℕ) (queue : Queue)
-      → HasRingToken queue (lists_of slab index hot cold ghosts) t
-      → successor slab t ≡ next_in_ring queue (lists_of slab index hot cold ghosts) t
-  next_by_queue parted standing t Hot has =
-      let from = gather-from (λ u. item_of u (item_at slab u))
-      (tokens_of slab hot.head) has.0 has.1 in
-      let is : from.0 ≡ t = sym (named_item from.0 (item_at slab from.0) has.0 from.2) ∙ has.2 in
-      next-in_ring slab parted hot AmongHot (λ e. cc) (λ e. cc) standing.hot_ring t
-      (subst (λ (u : ℕ). 0 < times u (tokens_of slab hot.head)) is from.1)
-  next_by_queue parted standing t Cold has =
-      let from = gather-from (λ u. item_of u (item_at slab u))
-      (tokens_of slab cold.head) has.0 has.1 in
-      let is : from.0 ≡ t = sym (named_item from.0 (item_at slab from.0) has.0 from.2) ∙ has.2 in
-      next-in_ring slab parted cold AmongCold (λ e. cc) (λ e. cc) standing.cold_ring t
-      (subst (λ (u : ℕ). 0 < times u (tokens_of slab cold.head)) is from.1)
-
--- ---- the first item above a token
 
 some_number : (m n : ℕ) → Some m ≡ Some n → m ≡ n
 some_number m n e = cc

@@ -1,10 +1,10 @@
 -- A ring that begins one further on.
-use Rattle.std.proofs.Common.{◌≡◌, ◌≢◌, map, ◌≤◌, ◌==◌, if◌then◌else◌, ℕ, ◌<◌, List, [], ◌∷◌, ◌++◌, sum_by, length, Option, Some, None, IfSome, MatchOption, refl, sym, ap, ◌∙◌, arith}
+use Rattle.std.proofs.Common.{◌≡◌, ◌≢◌, ℕ, ◌<◌, List, [], ◌∷◌, ◌++◌, sum_by, length, Option, Some, None, IfSome, MatchOption, refl, sym, ap, ◌∙◌, arith}
 use Rattle.std.specs.Int.NonZero.{non_zero_u32_get}
 use Rattle.std.specs.declared.num.NonZeroU32.{NonZeroU32 as Token}
-use Rattle.std.proofs.lemmas.Bool.{eq-eqb, ne_eqb}
+use Rattle.std.proofs.lemmas.Bool.{eq-eqb}
 use Rattle.std.proofs.lemmas.List.{length_push}
-use Rattle.quick_cache_slab.specs.LinkedSlab.{LinkedSlab, first_or, without, times, item_at, ring_from, successor, IsParted}
+use Rattle.quick_cache_slab.specs.LinkedSlab.{LinkedSlab, first_or, times, item_at, ring_from, successor, IsParted}
 use Rattle.quick_cache_slab.proofs.TokenCounts.{times-here, times-append, without_none}
 use Rattle.quick_cache_slots.specs.declared.entry.Entry.{Entry}
 use Rattle.quick_cache_slots.specs.declared.entry.Entry.TheVariants.{Item as item_variant, Loading as loading_variant, Ghost as ghost_variant}
@@ -14,11 +14,10 @@ use Rattle.quick_cache_lists.specs.declared.rings.Rings.{Rings}
 use Rattle.quick_cache_model.specs.declared.queue.Queue.TheVariants.{Hot, Cold}
 use Rattle.quick_cache_index.specs.Index.{Index}
 use Rattle.quick_cache_lists.specs.Frames.{IsTurned}
-use Rattle.quick_cache_lists.specs.Lists.{HeldItem, Lists, IsFirstOf, turned, ring_turned, restarted}
+use Rattle.quick_cache_lists.specs.Lists.{HeldItem, Lists, IsFirstOf, turned, ring_turned}
 use Rattle.quick_cache_lists.specs.Slots.{Stand, AmongHot, AmongCold, AmongLoading, AmongGhosts, stand_of, weight_at, item_of, ghost_of}
 use Rattle.quick_cache_lists.specs.Sound.{weigh, gather, tokens_of, lists_of, IsRingOf, IsSound}
-use Rattle.quick_cache_lists.proofs.GatherLemmas.{gather-append, gather-other, gather-restarted, length-gather, weigh-append, weigh-gather}
-use Rattle.quick_cache_lists.proofs.SlabFrames.{times-split}
+use Rattle.quick_cache_lists.proofs.GatherLemmas.{gather-append, length-gather, weigh-append, weigh-gather}
 use Rattle.quick_cache_lists.proofs.SoundLemmas.{stand-some}
 use Rattle.quick_cache_lists.proofs.TakeLemmas.{is_held, is_ghost_entry, named_item}
 
@@ -287,88 +286,3 @@ module _ {K V P T : Type 0} (slab : LinkedSlab (Slot K V P T)) where
   count_ghosts ring is =
       is.counted ∙ sym (length-gather (λ u. ghost_of u (item_at slab u)) (tokens_of slab ring.head)
       (λ u some. is_ghost_entry u (item_at slab u) (is.members u some)))
-
--- ---- the next of a ring
-
-map-gather : {Y : Type 0} (f : ℕ → Option Y) (name : Y → ℕ) (xs : List ℕ)
-    → ((t : ℕ) → 0 < times t xs → (y : Y) × (f t ≡ Some y) × (name y ≡ t))
-    → map name (gather f xs) ≡ xs
-map-gather f name [] each = refl
-map-gather f name (x ∷ xs) each =
-    let here = each x (omega (arith, times-here x xs)) in
-    rw here.1 (ap (λ n. n ∷ map name (gather f xs)) here.2
-    ∙ ap (λ ys. x ∷ ys) (map-gather f name xs (λ t some. each t (omega arith))))
-
-module _ {K V P T : Type 0} (slab : LinkedSlab (Slot K V P T)) (parted : IsParted slab)
-    (ring : Ring) (s : Stand) (off : s ≢ AmongLoading) (off' : s ≢ AmongGhosts)
-    (is : IsRingOf slab ring s) (t : ℕ) (some : 0 < times t (tokens_of slab ring.head)) where
-  abbrev shown : ℕ → Option (HeldItem K V)
-  shown u = item_of u (item_at slab u)
-
-  members_held : (u : ℕ) → 0 < times u (tokens_of slab ring.head) → (y : HeldItem K V)
-      × (shown u ≡ Some y) × (y.token ≡ u)
-  members_held u there =
-      let held = is_held u (item_at slab u) s off off' (is.members u there) in
-      (held.0, held.1, named_item u (item_at slab u) held.0 held.1)
-
-  pub next-in_ring : successor slab t
-      ≡ first_or t (map (λ held. held.token)
-      (restarted (λ held. held.token) t
-      (gather (λ u. item_of u (item_at slab u)) (tokens_of slab ring.head))))
-  next-in_ring = by_head ring.head refl (times-split t (tokens_of slab ring.head) some)
-    where
-      by_head : (o : Option Token) → ring.head ≡ o
-          → ((pre : List ℕ) × (post : List ℕ) × (tokens_of slab ring.head ≡ pre ++ t ∷ post))
-          → successor slab t ≡ first_or t
-          (map (λ held. held.token) (restarted (λ held. held.token) t
-          (gather (λ u. item_of u (item_at slab u)) (tokens_of slab ring.head))))
-      by_head None none (pre, post, was) =
-          absurd (omega (arith, some, ap (times t) (ap (tokens_of slab) none)))
-      by_head (Some h) at (pre, post, was) =
-          let ring_h : ring_from slab (non_zero_u32_get h) ≡ pre ++ t ∷ post =
-          sym (ap (tokens_of slab) at) ∙ was in
-          let once = parted.once (non_zero_u32_get h) t in
-          let here = times-here t post in
-          let split = times-append t pre (t ∷ post) in
-          let single : times t (pre ++ t ∷ post) ≤ 1 = omega (arith, once, ap (times t) ring_h) in
-          let out_pre : times t pre ≡ 0 = omega (arith, single, split, here) in
-          let out_post : times t post ≡ 0 = omega (arith, single, split, here) in
-          let own : ring_from slab t ≡ t ∷ (post ++ pre) =
-          parted.turned (non_zero_u32_get h) t pre post ring_h in
-          let out : times t (post ++ pre) ≡ 0 =
-          omega (arith, times-append t post pre, out_pre, out_post) in
-          let behind : successor slab t ≡ first_or t (post ++ pre) =
-          ap (λ xs. first_or t (without t xs)) own
-          ∙ rw (eq-eqb t t refl) (ap (first_or t) (without_none t (post ++ pre) out)) in
-          let mine = members_held t some in
-          let cut : gather cleared (post ++ pre)
-          ≡ restarted (λ held. held.token) t (gather shown (pre ++ t ∷ post)) =
-          gather-restarted (λ held. held.token) shown cleared t
-          (λ u y e. named_item u (item_at slab u) y e)
-          (λ u differs. cleared-other u differs) cleared-here pre post mine.0 mine.1 single in
-          let same : gather cleared (post ++ pre) ≡ gather shown (post ++ pre) =
-          gather-other shown cleared t (post ++ pre)
-          (λ u differs. cleared-other u differs) out in
-          let names : map (λ (held : HeldItem K V). held.token) (gather shown (post ++ pre)) ≡ post
-          ++ pre = map-gather shown (λ held. held.token) (post ++ pre)
-          (λ u there. members_held u (omega (
-            arith,
-            there,
-            times-append u post pre,
-            times-append u pre (t ∷ post),
-            ap
-                (times u) was,
-          ))) in
-          behind ∙ ap (first_or t) (sym names
-          ∙ ap (map (λ (held : HeldItem K V). held.token))
-          (sym same ∙ cut ∙ ap (λ xs. restarted (λ held. held.token) t (gather shown xs))
-          (sym was)))
-        where
-          cleared : ℕ → Option (HeldItem K V)
-          cleared u = if u == t then None else shown u
-
-          cleared-here : cleared t ≡ None
-          cleared-here = rw (eq-eqb t t refl) refl
-
-          cleared-other : (u : ℕ) → u ≢ t → cleared u ≡ shown u
-          cleared-other u differs = rw (ne_eqb u t differs) refl

@@ -1,7 +1,6 @@
 -- Copies of what the lists have: clones stand in for keys and values.
 use Rattle.std.specs.Prelude.{◌≡◌, ℕ}
 use Rattle.std.specs.List.{AllZip}
-use Rattle.quick_cache_model.specs.CacheState.{Item}
 pub use Rattle.quick_cache_slots.specs.Copies.{IsItemCopy, IsAwaitedCopy, IsEntryCopy, IsSlotCopy}
 use Rattle.quick_cache_lists.specs.Lists.{HeldItem, HeldLoading, Lists}
 

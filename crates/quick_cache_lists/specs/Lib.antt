@@ -8,3 +8,4 @@ pub mod Copies
 pub mod Lent
 pub mod Placeholders
 pub mod Fills
+pub mod Shown

@@ -1,6 +1,6 @@
 -- What a contract sees of `Lists`: plain lists, whose entries have tokens.
 use Rattle.std.specs.Prelude.{◌≡◌, ◌≢◌, ◌⊎◌, ℕ, ◌+◌, ◌-◌, Bool, true, false, cond, eqb, if◌then◌else◌, ◌==◌, List, [], ◌∷◌, ◌++◌, length, map, Option, Some, None, MatchOption, ◌<◌, ◌≤◌}
-use Rattle.quick_cache_slab.specs.LinkedSlab.{times, first_or}
+use Rattle.quick_cache_slab.specs.LinkedSlab.{times}
 use Rattle.std.specs.List.{AllByRecursion}
 use Rattle.std.specs.List.Sorted.{IsPermutation}
 use Rattle.std.specs.Int.NonZero.{non_zero_u32_get}
@@ -14,7 +14,7 @@ use Rattle.quick_cache_lists.specs.declared.found.Found.{Found}
 use Rattle.quick_cache_lists.specs.declared.found.Found.TheVariants.{Item as found_item, Loading as found_loading, Ghost as found_ghost, Nothing as found_nothing}
 pub use Rattle.quick_cache_slots.specs.Items.{with_counts, with_mark, read_once, used, with_weight, with_value, requeued}
 pub use Rattle.quick_cache_slots.specs.Slots.{is_placeholder}
-use Rattle.quick_cache_model.specs.CacheState.{Item, Place, InHot, InCold, InStill, place_of_item, ring_place}
+use Rattle.quick_cache_model.specs.CacheState.{Item, Place, InHot, InCold, InStill, place_of_item}
 
 -- an item under its token and its hash
 pub record HeldItem (K V : Type 0) : Type 0 where
@@ -318,20 +318,6 @@ module _ {K V P : Type 0} where
   -- an item has the token
   abbrev pub HasItemToken : Lists K V P → ℕ → Type 0
   HasItemToken lists token = (held : HeldItem K V) × HasItem lists held × (held.token ≡ token)
-
-  -- an item of that ring has the token
-  abbrev pub HasRingToken : Queue → Lists K V P → ℕ → Type 0
-  HasRingToken queue lists token =
-      (held : HeldItem K V)
-      × StandsIn (items_at (ring_place queue) lists) held
-      × (held.token ≡ token)
-
-  -- the token behind this one in that ring: itself, where no other item stands there
-  abbrev pub next_in_ring : Queue → Lists K V P → ℕ → ℕ
-  next_in_ring queue lists token =
-      first_or token
-      (map (λ held. held.token)
-      (restarted (λ held. held.token) token (items_at (ring_place queue) lists)))
 
   -- the result is the least token of an item above that token, or nothing where there is none
   pub record IsFirstAbove (lists : Lists K V P) (token : ℕ) (result : Option Token) : Type 0 where

@@ -1,7 +1,5 @@
 -- What stands in a slot, as the lists see it. No public clause cites this module.
-use Rattle.std.specs.Prelude.{List, [], ◌∷◌, ℕ, Bool, true, false, Option, Some, None, if◌then◌else◌, ◌==◌, eqb}
-use Rattle.quick_cache_model.specs.CacheState.{Item}
-use Rattle.quick_cache_slots.specs.declared.entry.Awaited.{Awaited}
+use Rattle.std.specs.Prelude.{List, [], ◌∷◌, ℕ, Bool, false, Option, Some, None, if◌then◌else◌, ◌==◌}
 use Rattle.quick_cache_slots.specs.declared.entry.Entry.{Entry}
 use Rattle.quick_cache_slots.specs.declared.entry.Entry.TheVariants.{Item as item_variant, Loading as loading_variant, Ghost as ghost_variant}
 use Rattle.quick_cache_slots.specs.declared.entry.Slot.{Slot}

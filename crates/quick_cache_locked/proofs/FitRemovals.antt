@@ -11,7 +11,7 @@ use Rattle.quick_cache_model.specs.Removal.{Removes, cleared}
 use Rattle.quick_cache_model.proofs.EachElement.{all-without}
 use Rattle.quick_cache_shard.specs.Predicates.{RemovesAsked, RetainsAsked, StayAsAnswered}
 use Rattle.quick_cache_shard.specs.Shard.{Shard, hooks_of}
-use Rattle.quick_cache_unsync.specs.SetsCapacity.{SetsCapacityTo}
+use Rattle.quick_cache_shard.specs.SetsCapacity.{SetsCapacityTo}
 use Rattle.quick_cache_locked.specs.Fitting.{FitsIn, AllFit, FitsQuery}
 use Rattle.quick_cache_locked.specs.Locked.{StaysFit}
 use Rattle.quick_cache_locked.proofs.FitLemmas.{AllFit-at, AllFit-with, KeepFits, RunsHooks-fits, EvictsToCapacity-fits, SameButOrder-fits}

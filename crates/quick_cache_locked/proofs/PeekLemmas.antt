@@ -1,9 +1,12 @@
 -- Looks and shared look-ups, which clone what they find.
-use Rattle.std.proofs.Common.{◌≡◌, Bool, true≢false, Option, Some, None, Result, Ok, Err, sym, subst}
+use Rattle.std.proofs.Common.{◌≡◌, Bool, false, true≢false, List, ◌∙◌, Option, Some, None, Result, Ok, Err, sym, subst}
+use Rattle.std.specs.List.{AllByRecursion}
 use Rattle.std.specs.Prelude.{IsSome, IfSome, IfOk, IfErr}
 use Rattle.quick_cache_model.specs.declared.refusal.Refusal.{Refusal}
 use Rattle.quick_cache_model.specs.declared.refusal.Refusal.TheVariants.{Memory}
-use Rattle.quick_cache_model.specs.CacheState.{CacheState}
+use Rattle.quick_cache_model.specs.CacheState.{CacheState, Item, Place, InHot, InCold, InStill, items_at}
+use Rattle.quick_cache_model.proofs.EachElement.{all-middle}
+use Rattle.quick_cache_model.specs.Finding.{HasNoItem, IsItemAt}
 use Rattle.quick_cache_model.specs.Lookups.{Sees}
 use Rattle.quick_cache_calls.specs.Shown.{IsShown}
 use Rattle.quick_cache_shard.specs.Shard.{HasItem}
@@ -11,6 +14,22 @@ use Rattle.quick_cache_shard.specs.Shared.{ShowsClone}
 use Rattle.quick_cache_locked.specs.Peeks.{Peeks}
 use Rattle.quick_cache_locked.specs.Fitting.{AllFit, ClonesFit, FitsQuery}
 use Rattle.quick_cache_locked.proofs.FitWrites.{IsItemAt-fits}
+
+-- an item that is there is found
+pub absent-item : {K V : Type 0} (stands_for : K → Bool) (old : CacheState K V) (place : Place)
+    (before : List (Item K V)) (item : Item K V) (after : List (Item K V))
+    → IsItemAt stands_for old place before item after → HasNoItem stands_for old → ⊥
+absent-item {K} {V} stands_for old place before item after there none =
+    true≢false (sym there.passes ∙ all-middle IsOther before item after
+    (subst (λ (xs : List (Item K V)). AllByRecursion IsOther xs) there.split (others place)))
+  where
+    IsOther : Item K V → Type 0
+    IsOther x = stands_for x.key ≡ false
+
+    others : (at : Place) → AllByRecursion IsOther (items_at at old)
+    others InHot = none.hot
+    others InCold = none.cold
+    others InStill = none.still
 
 module _ {K V : Type 0} (stands_for : K → Bool) (is_clone : V → V → Type 0)
     (old : CacheState K V) where
@@ -52,3 +71,23 @@ module _ {K V : Type 0} (stands_for : K → Bool) (is_clone : V → V → Type 0
             (IsItemAt-fits fits stands_for old place before item after there fit);
       }
       go _ (Some value) (Sees.is_absent none) shows = absurd shows
+
+  -- a look that shows nothing saw nothing
+  pub Peeks-nothing : Peeks stands_for is_clone old (Ok None) → HasNoItem stands_for old
+  Peeks-nothing (Peeks.peeks found _ sees is) = go found sees is
+    where
+      go : (was : Option V) → Sees stands_for old (λ item. item.value) was
+          → IsShown is_clone was None → HasNoItem stands_for old
+      go _ (Sees.is_there place before item after there) shows = absurd shows
+      go _ (Sees.is_absent none) shows = none
+
+  -- and one that shows a clone saw an item
+  pub Peeks-something : (clone : V) → Peeks stands_for is_clone old (Ok (Some clone))
+      → HasNoItem stands_for old → ⊥
+  Peeks-something clone (Peeks.peeks found _ sees is) none = go found sees is
+    where
+      go : (was : Option V) → Sees stands_for old (λ item. item.value) was
+          → IsShown is_clone was (Some clone) → ⊥
+      go _ (Sees.is_there place before item after there) shows =
+          absent-item stands_for old place before item after there none
+      go _ (Sees.is_absent nothing) shows = absurd shows

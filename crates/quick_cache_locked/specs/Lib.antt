@@ -1,5 +1,7 @@
-pub mod Touches
+pub use Rattle.quick_cache_sharing.specs.Touches
 pub mod Counts
 pub mod Fitting
+pub mod Loads
 pub mod Locked
 pub mod Peeks
+pub mod Walks

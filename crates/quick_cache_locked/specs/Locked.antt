@@ -3,6 +3,7 @@ use Rattle.std.specs.Prelude.{Bool}
 use Rattle.quick_cache_model.specs.declared.lifecycle.Lifecycle as lifecycle
 use Rattle.quick_cache_shard.specs.Shard.{Shard, IsSoundShard}
 use Rattle.quick_cache_locked.specs.Fitting.{AllFit}
+pub use Rattle.quick_cache_waiting.specs.Fitting.{AlwaysSteady}
 
 module _ {K V We B L S : Type 0} (life : lifecycle.Ghosts L K V S) where
   -- where pinning is steady, the value of each item fits its key
@@ -21,7 +22,3 @@ module _ {K V We B L S : Type 0} (life : lifecycle.Ghosts L K V S) where
       pub shard : Shard K V We B L
       pub kept : IsKept shard
       pub holds : P shard
-
--- every lifecycle of the type has steady pins
-abbrev pub AlwaysSteady : {L : Type 0} → (L → Type 0) → Type 0
-AlwaysSteady {L} steady = (lifecycle : L) → steady lifecycle

@@ -4,10 +4,7 @@
 
 mod count;
 mod locked;
-mod placeholder;
-mod touches;
 
 pub use count::Count;
 pub use locked::LockedShard;
-pub use placeholder::Placeholder;
-pub use touches::SharedTouches;
+pub use quick_cache_sharing::{SharedPlaceholder, SharedTouches};

@@ -1,23 +1,26 @@
 //! A shard as its lock keeps it: each call is one step of it.
-ghost use Rattle.std.specs.Prelude.{◌≡◌, IfOk, IfErr, IsOk};
+ghost use Rattle.std.specs.Prelude.{[], ◌≡◌, IfOk, IfErr, IsOk};
 ghost use Rattle.quick_cache_model.specs.declared.refusal.Refusal.TheVariants.{Memory};
 ghost use Rattle.quick_cache_model.specs.CacheState.{empty_state};
 ghost use Rattle.quick_cache_model.specs.Sizes.{hot_target_of, ghost_limit_of};
-ghost use Rattle.quick_cache_shard.specs.Shard.{no_work, rules_of, hooks_of};
-ghost use Rattle.quick_cache_unsync.specs.Inserts.{Inserts};
+ghost use Rattle.quick_cache_shard.specs.Shard.{no_work, KeepsPlaces, rules_of, hooks_of};
+ghost use Rattle.quick_cache_shard.specs.Inserts.{Inserts};
 ghost use Rattle.quick_cache_locked.specs.Locked.{IsKept};
 ghost use Rattle.quick_cache_locked.specs.Touches.{any_touches};
 
+mod acting;
+mod loading;
 mod reads;
 mod removal;
 mod sizes;
+mod walks;
 mod writes;
 
-use crate::placeholder::Placeholder;
-use quick_cache_base::options::Options;
-use quick_cache_base::sizes::ShardSizes;
-use quick_cache_base::{Lifecycle, Refusal, Weighter};
+use quick_cache_model::{Lifecycle, Refusal, Weighter};
+use quick_cache_options::options::Options;
+use quick_cache_options::sizes::ShardSizes;
 use quick_cache_shard::{CacheShard, InsertStrategy};
+use quick_cache_sharing::{Maker, SharedPlaceholder};
 use std::alloc::{Allocator, Global};
 use std::hash::{BuildHasher, Hash};
 use std::marker::Model;
@@ -32,7 +35,9 @@ pub struct LockedShard<
     L: Lifecycle<K, V>,
     A: Allocator = Global,
 > {
-    shard: CacheShard<K, V, We, B, L, Placeholder, A>,
+    shard: CacheShard<K, V, We, B, L, SharedPlaceholder<K, V, L, A>, A>,
+    // What it makes placeholders with: an allocator.
+    maker: Maker<A>,
 }
 
 impl<K: Eq + Hash + Drop, V: Drop, We, B: BuildHasher, L: Lifecycle<K, V>, A: Allocator> Model
@@ -75,12 +80,17 @@ impl<
           weigher = weigher;
           builder = builder;
           lifecycle = lifecycle;
+          places = [];
           room = 0;
           work = no_work;
         }) }
         ensures succeeds { A.is_infallible alloc → IsOk result }
         ensures refused { IfErr result (λ refusal. refusal ≡ Memory) }
     {
+        let own: Result<_, _> = alloc.clone();
+        let Ok(own) = own else {
+            return Err(Refusal::Memory);
+        };
         let shard = CacheShard::new(
             alloc,
             options.hot_allocation(),
@@ -91,7 +101,10 @@ impl<
             builder,
             lifecycle,
         )?;
-        Ok(LockedShard { shard })
+        Ok(LockedShard {
+            shard,
+            maker: Maker::new(own),
+        })
     }
 
     /// Tells what always holds of it.
@@ -117,8 +130,11 @@ impl<
             (rules_of any_touches K.Hash.hash_input We.Weighter B.BuildHasher B.Hasher.Hasher
             L.Lifecycle self.old)
             K.eq self.old.state state.old key value result self.new.state state.new }
+        // No item moves that stays.
+        ensures places { KeepsPlaces K.eq self.old.places self.new.places }
         ensures same { self.new ≡ record self.old {
           state = self.new.state;
+          places = self.new.places;
           room = self.new.room;
           work = self.new.work;
         } }

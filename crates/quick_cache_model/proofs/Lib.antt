@@ -7,5 +7,6 @@ pub mod KeptSizes
 pub mod KeyCounts
 pub mod LookupLaws
 pub mod OrderLaws
+pub mod PowersOfTwo
 pub mod TouchLaws
 pub mod Valid

@@ -6,7 +6,7 @@ ghost use Rattle.std.specs.Prelude.{◌≡◌, ◌+◌, ◌-◌, ◌^◌, min};
 pub struct MemoryUsed {
     /// The bytes of the slots that hold the entries, what the keys and values own apart.
     pub entries: usize,
-    /// The bytes of the table that finds a slot by its hash.
+    /// The bytes of the index that finds a slot by its hash.
     pub map: usize,
 }
 

@@ -28,7 +28,7 @@ use Rattle.quick_cache_policy.specs.declared.admission.Admission.TheVariants.{Ad
 use Rattle.quick_cache_policy.specs.declared.contents.Contents.{Contents}
 use Rattle.quick_cache_policy.specs.Advances.{Evicting}
 use Rattle.quick_cache_policy.specs.Contents.{AreHashed, IsSound, state_of}
-use Rattle.quick_cache_policy.specs.Filling.{AreFillCalls, Fills}
+use Rattle.quick_cache_policy.specs.Filling.{AreFillCalls, AwaitsKey, Fills}
 use Rattle.quick_cache_policy.specs.Writing.{Checks}
 use Rattle.quick_cache_policy.proofs.EnterLemmas.{state_with, entered-state, AreHashed-entered, AreHashed-room, entered-count}
 use Rattle.quick_cache_policy.proofs.FindLemmas.{each-image}
@@ -141,6 +141,17 @@ module _ {K V P W A X : Type 0} (ticket_of : P → ℕ) (contents : Contents K V
     split = ap (loading_entries ticket_of) stands.split
         ∙ map-append (loading_entry ticket_of) stands.before (waiting ∷ stands.after);
     is_of_ticket = same-ticket ticket (ticket_of waiting.placeholder) is;
+  }
+
+  -- and for its key
+  pub left-awaits : (ticket : ℕ) → (ticket == ticket_of waiting.placeholder) ≡ true → (key : K)
+      → key ≡ waiting.key → AwaitsKey ticket (state_of ticket_of contents) key
+  left-awaits ticket is key same = record {
+    before = loading_entries ticket_of stands.before;
+    entry = loading_entry ticket_of waiting;
+    after = loading_entries ticket_of stands.after;
+    there = left-there ticket is;
+    of_key = sym same;
   }
 
   pub left-gives_up : (ticket : ℕ) → (ticket == ticket_of waiting.placeholder) ≡ true

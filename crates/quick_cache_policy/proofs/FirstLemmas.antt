@@ -9,6 +9,9 @@ use Rattle.quick_cache_policy.specs.declared.contents.Contents.{Contents}
 use Rattle.quick_cache_policy.specs.Advances.{HasTakenTouches, IsFound, LooksAt}
 use Rattle.quick_cache_policy.specs.declared.cold.Search.{Search}
 use Rattle.quick_cache_policy.specs.Contents.{IsSound}
+use Rattle.quick_cache_policy.specs.Places.{places_in, LosesOnly}
+use Rattle.quick_cache_policy.proofs.PlaceLemmas.{LosesOnly-same}
+use Rattle.quick_cache_policy.proofs.HotRoundLemmas.{MayTake-key}
 use Rattle.quick_cache_policy.proofs.ItemLemmas.{IsItemOf-first_cold}
 use Rattle.quick_cache_policy.proofs.ColdSoundLemmas.{IsSound-cold_touched}
 
@@ -58,6 +61,14 @@ module _ {K V P W A T : Type 0} {may_count : ℕ → Type 0} {old mid : Contents
   first-touched_same = first-touched
       ∙ ap (λ (xs : List (HeldItem K V)). record old { lists = record old.lists { cold = xs } })
       (sym (ap (λ (c : Contents K V W A T P). c.lists.cold) first-touched))
+
+  -- it stays where it stands
+  pub first-touched_places : LosesOnly (places_in old.lists.cold) (places_in mid.lists.cold)
+  first-touched_places = LosesOnly-same _ _
+      (ap (λ (c : Contents K V W A T P). places_in c.lists.cold) first-touched
+      ∙ ap (λ (k : K). (first.0.token, k) ∷ places_in first.1)
+      (MayTake-key true may_count first.0.item takes.touched took)
+      ∙ sym (ap (λ (l : List (HeldItem K V)). places_in l) first.2))
 
   -- it is sound
   pub first-touched_sound : (ticket_of : P → ℕ) (equal : K → K → Bool) (hash : K → ℕ)

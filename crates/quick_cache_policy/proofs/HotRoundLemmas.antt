@@ -19,6 +19,8 @@ use Rattle.quick_cache_policy.specs.declared.hot.Visit.TheVariants.{Pinned, Mark
 use Rattle.quick_cache_policy.specs.Contents.{IsSound}
 use Rattle.quick_cache_policy.specs.HotRounds.{VisitsHot, VisitsFirst, RoundEnds}
 use Rattle.quick_cache_policy.specs.Rounds.{MayTake, Going, KeepsItems}
+use Rattle.quick_cache_policy.specs.Places.{places_in, LosesOnly}
+use Rattle.quick_cache_policy.proofs.PlaceLemmas.{LosesOnly-same, LosesOnly-ring_turned}
 use Rattle.quick_cache_policy.proofs.HotLemmas.{counted_up-zero, counted_up-twice}
 use Rattle.quick_cache_model.proofs.EachElement.{all-append}
 use Rattle.quick_cache_policy.proofs.KeptLemmas.{EndsAllPinned-keeps, EndsSomeUnpinned-keeps, EndsAtVictim-keeps}
@@ -30,6 +32,7 @@ module _ {K V P W A T : Type 0} (hash : K → ℕ) where
   pub record ChangesHot (visits : ℕ) (old new : Contents K V W A T P) : Type 0 where
     pub hashed : AllByRecursion (λ held. held.hash ≡ hash held.item.key) new.lists.hot
     pub counted : new.visits ≡ counted_up visits old.visits
+    pub places : LosesOnly (places_in old.lists.hot) (places_in new.lists.hot)
     pub same : new ≡ record old {
       lists = record old.lists { hot = new.lists.hot };
       visits = new.visits;
@@ -42,6 +45,7 @@ module _ {K V P W A T : Type 0} (hash : K → ℕ) where
   ChangesHot-none old hashed within = record {
     hashed = hashed;
     counted = counted_up-zero old.visits within;
+    places = λ place there. there;
     same = refl;
   }
 
@@ -51,6 +55,7 @@ module _ {K V P W A T : Type 0} (hash : K → ℕ) where
   ChangesHot-then n k old mid new a b = record {
     hashed = b.hashed;
     counted = b.counted ∙ ap (counted_up k) a.counted ∙ counted_up-twice n k old.visits;
+    places = λ place there. a.places place (b.places place there);
     same = b.same ∙ ap (λ (c : Contents K V W A T P). record c {
       lists = record c.lists { hot = new.lists.hot };
       visits = new.visits;
@@ -93,7 +98,7 @@ length_items : {K V : Type 0} (entries : List (HeldItem K V))
 length_items {K} {V} entries = length-map entries (λ (h : HeldItem K V). h.item)
 
 -- touches change no key
-MayTake-key : {K V : Type 0} (takes_touches : Bool) (may_count : ℕ → Type 0) (x y : Item K V)
+pub MayTake-key : {K V : Type 0} (takes_touches : Bool) (may_count : ℕ → Type 0) (x y : Item K V)
     → MayTake takes_touches default_mark_cut may_count x y → y.key ≡ x.key
 MayTake-key {K} {V} true may_count x y takes = ap (λ (i : Item K V). i.key) takes.2
     ∙ with_touches-key default_mark_cut takes.0 x
@@ -116,6 +121,11 @@ module _ {K V P W A T : Type 0} (hash : K → ℕ) (steady : Type 0) (pinned : K
               under.1,
             );
         counted = ap (λ (c : Contents K V W A T P). c.visits) v.same;
+        places = LosesOnly-same _ _
+            (ap (λ (c : Contents K V W A T P). places_in c.lists.hot) v.same
+            ∙ ap (λ (k : K). (v.held.token, k) ∷ places_in v.rest)
+            (MayTake-key takes_touches may_count v.held.item v.item v.takes)
+            ∙ sym (ap (λ (l : List (HeldItem K V)). places_in l) v.stands));
         same = ap (λ (c : Contents K V W A T P). record c {
           lists = record c.lists { hot = new.lists.hot };
           visits = new.visits;
@@ -151,6 +161,10 @@ module _ {K V P W A T : Type 0} (hash : K → ℕ) (steady : Type 0) (pinned : K
               (all-append (λ (h : HeldItem K V). h.hash ≡ hash h.item.key) v.rest (made ∷ [])
               under.1 (under.0, tt));
           counted = first.counted;
+          places = λ place there. first.places place
+              (subst (λ (l : List (HeldItem K V)). LosesOnly (places_in mid.lists.hot) (places_in l))
+              (sym (ap (λ (l : Lists K V P). l.hot) turns))
+              (LosesOnly-ring_turned mid.lists.hot) place there);
           same = ap (λ (l : Lists K V P). record mid { lists = l })
               (turns ∙ ap (λ xs. record mid.lists { hot = xs })
               (sym (ap (λ (l : Lists K V P). l.hot) turns)))
@@ -174,6 +188,7 @@ module _ {K V P W A T : Type 0} (hash : K → ℕ) (steady : Type 0) (pinned : K
     pub ends : VisitsHot (RoundEnds steady pinned takes_touches may_count end) old new
     pub sound : IsSound ticket_of equal hash new
     pub count : length new.lists.hot ≡ length old.lists.hot
+    pub places : LosesOnly (places_in old.lists.hot) (places_in new.lists.hot)
     pub same : new ≡ record old {
       lists = record old.lists { hot = new.lists.hot };
       visits = new.visits;
@@ -264,6 +279,7 @@ module _ {K V P W A T : Type 0} (hash : K → ℕ) (steady : Type 0) (pinned : K
     sound = ChangesHot-sound hash ticket_of equal visits old new changes keeps sound;
     count = sym (length_items new.lists.hot) ∙ keeps.same_length
         ∙ length_items old.lists.hot;
+    places = changes.places;
     same = changes.same;
   }
 

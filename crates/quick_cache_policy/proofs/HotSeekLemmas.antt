@@ -9,6 +9,7 @@ use Rattle.quick_cache_policy.specs.declared.hot.Round.{Round}
 use Rattle.quick_cache_policy.specs.declared.hot.Round.TheVariants.{AllPinned as round_all_pinned, SomeUnpinned as round_some_unpinned, Victim as round_victim}
 use Rattle.quick_cache_policy.specs.Contents.{IsSound}
 use Rattle.quick_cache_policy.specs.HotRounds.{VisitsHot, SeekEnds}
+use Rattle.quick_cache_policy.specs.Places.{places_in, LosesOnly}
 use Rattle.quick_cache_policy.specs.Rounds.{Advancing, HaveAtMost, advance_measure}
 use Rattle.quick_cache_policy.proofs.AdvanceLemmas.{advance-begins, advance-goes_on, advance-stops, advance-gives_up}
 use Rattle.quick_cache_policy.proofs.HotRoundLemmas.{ChangesHot, ChangesHot-none, ChangesHot-then, RoundDone}
@@ -31,6 +32,7 @@ module _ {K V P W A T : Type 0} (ticket_of : P → ℕ) (equal : K → K → Boo
     pub ends : VisitsHot (SeekEnds steady pinned may_count met) old new
     pub sound : IsSound ticket_of equal hash new
     pub count : length new.lists.hot ≡ length old.lists.hot
+    pub places : LosesOnly (places_in old.lists.hot) (places_in new.lists.hot)
     pub same : new ≡ record old {
       lists = record old.lists { hot = new.lists.hot };
       visits = new.visits;
@@ -61,6 +63,7 @@ module _ {K V P W A T : Type 0} (ticket_of : P → ℕ) (equal : K → K → Boo
   ChangesHot-round takes_touches end old new done = record {
     hashed = done.sound.hashed.hot;
     counted = done.ends.counted;
+    places = done.places;
     same = done.same;
   }
 
@@ -111,6 +114,7 @@ module _ {K V P W A T : Type 0} (ticket_of : P → ℕ) (equal : K → K → Boo
         };
         sound = done.sound;
         count = done.count ∙ seeks.count;
+        places = changes.places;
         same = changes.same;
       }
 
@@ -133,5 +137,6 @@ module _ {K V P W A T : Type 0} (ticket_of : P → ℕ) (equal : K → K → Boo
         };
         sound = done.sound;
         count = done.count ∙ seeks.count;
+        places = changes.places;
         same = changes.same;
       }

@@ -5,6 +5,8 @@ pub mod RoundLemmas
 pub mod AdvanceLemmas
 pub mod KeptLemmas
 pub mod ItemLemmas
+pub mod PlaceLemmas
+pub mod WrittenPlaces
 pub mod HotLemmas
 pub mod HotRoundLemmas
 pub mod HotSeekLemmas
@@ -35,3 +37,6 @@ pub mod MakeLemmas
 pub mod FillLemmas
 pub mod GhostLemmas
 pub mod CapacityLemmas
+pub mod EntryLemmas
+pub mod WrittenLemmas
+pub mod KeptPlaces

@@ -10,11 +10,12 @@ use Rattle.quick_cache_model.specs.Touches.{counted_up}
 use Rattle.quick_cache_model.proofs.EachElement.{all-without}
 use Rattle.quick_cache_model.proofs.OrderLaws.{UpToOrder-exact}
 use Rattle.quick_cache_model.proofs.Valid.Lookups.{LooksUp-valid, Removes-valid}
-use Rattle.quick_cache_lists.specs.Lists.{HeldItem, HeldLoading, HeldGhost, Lists, AreApart, StandsIn, HasItem, HasNoKey, IsItemOf, items_at, with_items, with_change, without_entry}
+use Rattle.quick_cache_lists.specs.Lists.{HeldItem, HeldLoading, HeldGhost, Lists, AreApart, StandsIn, HasItem, HasNoKey, IsItemOf, FindsItem, items_at, with_items, with_change, without_entry}
 use Rattle.quick_cache_lists.specs.Views.{items_of, hashes_of, loading_entry, loading_entries}
 use Rattle.quick_cache_lists.proofs.CallerLemmas.{change-hot, change-cold, change-still, without-hot, without-cold, without-still, without-loading, without-ghost}
 use Rattle.quick_cache_policy.specs.declared.contents.Contents.{Contents}
 use Rattle.quick_cache_policy.specs.Contents.{AreHashed, IsSound, state_of}
+use Rattle.quick_cache_policy.specs.Entering.{CountsHit}
 use Rattle.quick_cache_policy.specs.Finding.{AreUnder}
 use Rattle.quick_cache_policy.proofs.FindLemmas.{HasNoKey-state}
 use Rattle.quick_cache_policy.proofs.EnterLemmas.{state_with, with_items-state, split-state, AreHashed-without, AreHashed-instead, AreHashed-room, held-under}
@@ -68,6 +69,7 @@ pub record IsCounted {K V P W A T : Type 0} (contents : Contents K V W A T P) (t
     (item : Item K V) (new : Contents K V W A T P) : Type 0 where
   pub change : Item K V → Item K V
   pub counts : change item ≡ looked_up default_mark_cut item
+  pub keeps : (i : Item K V) → (change i).key ≡ i.key
   pub is : new ≡ counted contents token change
 
 -- the lists were changed so, and then the hits
@@ -143,6 +145,36 @@ module _ {K V P W A T : Type 0} (ticket_of : P → ℕ) (contents : Contents K V
               has.stands.split;
           passes = passes;
         })))
+
+    -- a hit was counted at it
+    pub counted-hit : (stands_for : K → Bool) → stands_for item.key ≡ true
+        → CountsHit stands_for (state_of ticket_of contents)
+        (state_of ticket_of (counted contents token change))
+    counted-hit stands_for passes = record {
+      place = has.place;
+      before = items_of has.stands.before;
+      item = item;
+      after = items_of has.stands.after;
+      at = record {
+        split = split-state ticket_of contents has.place has.stands.before
+            (record { token = token; hash = hash; item = item }) has.stands.after contents.lists
+            has.stands.split;
+        passes = passes;
+      };
+      rest = counted-state;
+    }
+
+    -- and a query still finds it
+    pub counted-found : (stands_for : K → Bool) → stands_for item.key ≡ true → (known : ℕ)
+        → hash ≡ known → FindsItem stands_for known (counted contents token change).lists token
+    unfolding counted-item
+    counted-found stands_for passes known is =
+        subst (λ (h : ℕ). FindsItem stands_for h (counted contents token change).lists token) is
+        (record {
+          item = looked_up default_mark_cut item;
+          stands = counted-item.1;
+          passes = passes;
+        })
 
     -- each key stays under its hash
     pub counted-hashed : (hashed : K → ℕ) → AreHashed hashed contents.lists

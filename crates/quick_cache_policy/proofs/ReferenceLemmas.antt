@@ -204,14 +204,14 @@ module _ {K V P W A T : Type 0} (ticket_of : P → ℕ) (contents : Contents K V
     abbrev written : Contents K V W A T P
     written = record contents { lists = with_change token (with_value value) contents.lists }
 
-    changed : with_change token (with_value value) contents.lists
+    pub changed : with_change token (with_value value) contents.lists
         ≡ with_items found.stands.place (found.stands.stands.before
         ++ record held { item = with_value value found.item } ∷ found.stands.stands.after)
         contents.lists
     changed = change-at contents.lists apart (with_value value) found.stands.place
         found.stands.stands.before found.stands.stands.after held found.stands.stands.split
 
-    in_place : state_of ticket_of written
+    pub in_place : state_of ticket_of written
         ≡ model_with_items found.stands.place (items_of found.stands.stands.before
         ++ with_value value found.item ∷ items_of found.stands.stands.after)
         (state_of ticket_of contents)

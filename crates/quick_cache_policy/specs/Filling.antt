@@ -38,3 +38,11 @@ module _ {K V : Type 0} (steady : Type 0) (ticket : ℕ) (old : CacheState K V) 
   abbrev pub AnswersFill : Result (Unit {0}) V → CacheState K V → List (HookCall K V) → Type 0
   AnswersFill (Ok done) new calls = Fills new calls
   AnswersFill (Err back) new calls = IsGone back new calls
+
+-- the placeholder of the ticket is there, and is for this key
+pub record AwaitsKey {K V : Type 0} (ticket : ℕ) (state : CacheState K V) (key : K) : Type 0 where
+  pub before : List (LoadingEntry K)
+  pub entry : LoadingEntry K
+  pub after : List (LoadingEntry K)
+  pub there : IsLoadingTicket ticket state before entry after
+  pub of_key : entry.key ≡ key

@@ -14,4 +14,6 @@ pub mod Filling
 pub mod Loading
 pub mod Predicates
 pub mod Tokens
+pub mod Places
 pub mod Stats
+pub mod Entering

@@ -4,15 +4,16 @@ ghost use Rattle.quick_cache_lists.specs.Lists.{Finds};
 ghost use Rattle.quick_cache_model.specs.Hooks.{Calls, RunsHooks, evicted};
 ghost use Rattle.quick_cache_model.specs.Writes.{TakesOutItem};
 ghost use Rattle.quick_cache_policy.specs.Contents.{IsSound, state_of};
+ghost use Rattle.quick_cache_policy.specs.Places.{places_of, LosesOnly};
 ghost use Rattle.quick_cache_policy.specs.Policies.{rules_by};
 ghost use Rattle.quick_cache_policy.specs.Writing.{strategy_of, is_insert, Checks, IsReplacement, Rejecting};
 
 use crate::contents::Contents;
-use crate::placeholder::SharedPlaceholder;
 use crate::policy::Policy;
 use crate::strategy::InsertStrategy;
 use quick_cache_lists::{Entry, Found};
 use quick_cache_model::Queue;
+use quick_cache_placeholder::SharedPlaceholder;
 use std::alloc::Allocator;
 use std::hash::Hash;
 
@@ -93,6 +94,7 @@ impl<K: Eq + Hash + Drop, V: Drop, P: SharedPlaceholder<K>, A: Allocator> Conten
             (state_of P.ticket_of self.new) × IsReplacement calls)
             state.old state.new }
         ensures sound { IsSound P.ticket_of K.eq (M.hashed terms.now) self.new }
+        ensures places { LosesOnly (places_of self.old.lists) (places_of self.new.lists) }
         ensures room { self.old.lists.room ≤ self.new.lists.room }
         ensures same { self.new ≡ record self.old { lists = self.new.lists } }
     {
@@ -134,6 +136,7 @@ impl<K: Eq + Hash + Drop, V: Drop, P: SharedPlaceholder<K>, A: Allocator> Conten
         // An insert takes the pair.
         ensures taken { is_insert (strategy_of strategy) ≡ true → result ≡ None }
         ensures sound { IsSound P.ticket_of K.eq (M.hashed terms.now) self.new }
+        ensures places { LosesOnly (places_of self.old.lists) (places_of self.new.lists) }
         ensures room { self.old.lists.room ≤ self.new.lists.room }
         ensures same { self.new ≡ record self.old { lists = self.new.lists } }
     {

@@ -6,13 +6,14 @@ ghost use Rattle.quick_cache_model.specs.Hooks.{Calls};
 ghost use Rattle.quick_cache_model.specs.Sizes.{rescaled_target, rescaled_limit};
 ghost use Rattle.quick_cache_policy.specs.Advances.{Evicting};
 ghost use Rattle.quick_cache_policy.specs.Contents.{IsSound, state_of, ring_count, work_of};
+ghost use Rattle.quick_cache_policy.specs.Places.{places_of, LosesOnly};
 ghost use Rattle.quick_cache_policy.specs.Policies.{rules_by};
 ghost use Rattle.quick_cache_policy.specs.Work.{WorksWithin};
 
 use crate::contents::Contents;
-use crate::placeholder::SharedPlaceholder;
 use crate::policy::Policy;
 use quick_cache_model::Queue;
+use quick_cache_placeholder::SharedPlaceholder;
 use std::alloc::Allocator;
 use std::hash::Hash;
 
@@ -39,6 +40,7 @@ impl<K: Eq + Hash + Drop, V: Drop, P: SharedPlaceholder<K>, A: Allocator> Conten
             (state_of P.ticket_of self.new))
             state.old state.new }
         ensures sound { IsSound P.ticket_of K.eq (M.hashed terms.now) self.new }
+        ensures places { LosesOnly (places_of self.old.lists) (places_of self.new.lists) }
         ensures room { self.old.lists.room ≤ self.new.lists.room }
         ensures work { WorksWithin
             (ring_count Queue.Hot self.old + ring_count Queue.Cold self.old + 1)

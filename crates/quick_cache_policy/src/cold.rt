@@ -3,11 +3,12 @@ ghost use Rattle.std.specs.Prelude.{◌≡◌, ◌<◌};
 ghost use Rattle.quick_cache_lists.specs.Views.{items_of};
 ghost use Rattle.quick_cache_policy.specs.Advances.{Searches, LooksAt};
 ghost use Rattle.quick_cache_policy.specs.Contents.{IsSound, ring_count};
+ghost use Rattle.quick_cache_policy.specs.Places.{places_in, LosesOnly};
 
 use crate::contents::Contents;
-use crate::placeholder::SharedPlaceholder;
 use crate::policy::Policy;
 use quick_cache_model::Queue;
+use quick_cache_placeholder::SharedPlaceholder;
 use std::alloc::Allocator;
 use std::hash::Hash;
 
@@ -27,6 +28,7 @@ impl<K: Eq + Hash + Drop, V: Drop, P: SharedPlaceholder<K>, A: Allocator> Conten
             (items_of self.old.lists.cold) result (items_of self.new.lists.cold) }
         ensures sound { IsSound P.ticket_of K.eq (M.hashed terms.now) self.new }
         ensures count { ring_count Queue.Cold self.new ≡ ring_count Queue.Cold self.old }
+        ensures places { LosesOnly (places_in self.old.lists.cold) (places_in self.new.lists.cold) }
         ensures same { self.new ≡ record self.old {
           lists = record self.old.lists { cold = self.new.lists.cold };
         } }
@@ -47,6 +49,7 @@ impl<K: Eq + Hash + Drop, V: Drop, P: SharedPlaceholder<K>, A: Allocator> Conten
         ensures looks { LooksAt (M.steady terms.now) (M.pinned terms.now) P.Touch.may_count
             (items_of self.old.lists.cold) result (items_of self.new.lists.cold) }
         ensures sound { IsSound P.ticket_of K.eq (M.hashed terms.now) self.new }
+        ensures places { LosesOnly (places_in self.old.lists.cold) (places_in self.new.lists.cold) }
         ensures same { self.new ≡ record self.old {
           lists = record self.old.lists { cold = self.new.lists.cold };
         } }

@@ -6,9 +6,9 @@ ghost use Rattle.quick_cache_model.specs.declared.refusal.Refusal.TheVariants.{M
 ghost use Rattle.quick_cache_policy.specs.Contents.{AreSizes, IsSound, state_of, work_of};
 ghost use Rattle.quick_cache_policy.specs.Work.{no_work};
 
-use crate::placeholder::SharedPlaceholder;
 use quick_cache_lists::Lists;
 use quick_cache_model::Refusal;
+use quick_cache_placeholder::SharedPlaceholder;
 use std::alloc::{Allocator, Global};
 use std::hash::Hash;
 

@@ -5,14 +5,15 @@ ghost use Rattle.quick_cache_model.specs.Eviction.{EvictsToTarget, AdvancesCold,
 ghost use Rattle.quick_cache_model.specs.Hooks.{Calls};
 ghost use Rattle.quick_cache_policy.specs.Advances.{Evicting};
 ghost use Rattle.quick_cache_policy.specs.Contents.{IsSound, state_of, ring_count, work_of};
+ghost use Rattle.quick_cache_policy.specs.Places.{places_of, LosesOnly};
 ghost use Rattle.quick_cache_policy.specs.Policies.{rules_by};
 ghost use Rattle.quick_cache_policy.specs.Work.{PaysFor};
 
 use crate::cold::Search;
 use crate::contents::Contents;
-use crate::placeholder::SharedPlaceholder;
 use crate::policy::Policy;
 use quick_cache_model::Queue;
+use quick_cache_placeholder::SharedPlaceholder;
 use std::alloc::Allocator;
 use std::hash::Hash;
 
@@ -42,6 +43,8 @@ impl<K: Eq + Hash + Drop, V: Drop, P: SharedPlaceholder<K>, A: Allocator> Conten
         // What makes room brings no key.
         ensures keys { (test : K → Bool) → keys_by test (state_of P.ticket_of self.new)
             ≤ keys_by test (state_of P.ticket_of self.old) }
+        // And none moves.
+        ensures places { LosesOnly (places_of self.old.lists) (places_of self.new.lists) }
         ensures fewer { ring_count Queue.Hot self.new ≤ ring_count Queue.Hot self.old }
         ensures cold { ring_count Queue.Cold self.new ≡ ring_count Queue.Cold self.old }
         ensures work { PaysFor 1
@@ -83,6 +86,8 @@ impl<K: Eq + Hash + Drop, V: Drop, P: SharedPlaceholder<K>, A: Allocator> Conten
         // What makes room brings no key.
         ensures keys { (test : K → Bool) → keys_by test (state_of P.ticket_of self.new)
             ≤ keys_by test (state_of P.ticket_of self.old) }
+        // And none moves.
+        ensures places { LosesOnly (places_of self.old.lists) (places_of self.new.lists) }
         ensures falls { ring_count Queue.Hot self.new + 2 * ring_count Queue.Cold self.new
             + (if result then 1 else 0)
             ≤ ring_count Queue.Hot self.old + 2 * ring_count Queue.Cold self.old }
@@ -114,7 +119,7 @@ impl<K: Eq + Hash + Drop, V: Drop, P: SharedPlaceholder<K>, A: Allocator> Conten
     /// Makes cold advances while all items and what is needed weigh more than the capacity, up to
     /// one that answers no.
     #[inline(always)]
-    pub fn evict_to_capacity<M: Policy<K, V>>(
+    pub(crate) fn evict_to_capacity<M: Policy<K, V>>(
         &mut self,
         need: u64,
         terms: &M,
@@ -132,6 +137,8 @@ impl<K: Eq + Hash + Drop, V: Drop, P: SharedPlaceholder<K>, A: Allocator> Conten
         // What makes room brings no key.
         ensures keys { (test : K → Bool) → keys_by test (state_of P.ticket_of self.new)
             ≤ keys_by test (state_of P.ticket_of self.old) }
+        // And none moves.
+        ensures places { LosesOnly (places_of self.old.lists) (places_of self.new.lists) }
         ensures work { PaysFor 1
             (ring_count Queue.Hot self.old) (ring_count Queue.Cold self.old)
             (ring_count Queue.Hot self.new) (ring_count Queue.Cold self.new)

@@ -4,20 +4,21 @@ ghost use Rattle.std.specs.Int.NonZero.{non_zero_u32_get as number};
 ghost use Rattle.quick_cache_lists.specs.Placeholders.{FindsPlaceholder, HasNoPlaceholder};
 ghost use Rattle.quick_cache_model.specs.CacheState.{UpToOrder, entered, keys_by};
 ghost use Rattle.quick_cache_model.specs.Hooks.{Calls};
-ghost use Rattle.quick_cache_model.specs.Placeholders.{GivesUpPlaceholder, MakesRoomFor};
+ghost use Rattle.quick_cache_model.specs.Placeholders.{GivesUpPlaceholder, HasNoTicket, MakesRoomFor};
 ghost use Rattle.quick_cache_model.specs.Writes.{new_item, queue_for};
+ghost use Rattle.quick_cache_policy.specs.Places.{places_of, KeepsPlaces, LosesOnly};
 ghost use Rattle.quick_cache_policy.specs.Advances.{Evicting};
 ghost use Rattle.quick_cache_policy.specs.Contents.{IsSound, state_of, ring_count, work_of};
-ghost use Rattle.quick_cache_policy.specs.Filling.{AnswersFill, Fills};
+ghost use Rattle.quick_cache_policy.specs.Filling.{AnswersFill, AwaitsKey, Fills};
 ghost use Rattle.quick_cache_policy.specs.Policies.{rules_by};
 ghost use Rattle.quick_cache_policy.specs.Work.{WorksWithin};
 
 use crate::admission::{Admission, Weighed};
 use crate::contents::Contents;
-use crate::placeholder::SharedPlaceholder;
 use crate::policy::Policy;
 use quick_cache_lists::{Entry, Meaning};
 use quick_cache_model::{Queue, Token};
+use quick_cache_placeholder::SharedPlaceholder;
 use std::alloc::Allocator;
 use std::hash::Hash;
 
@@ -66,6 +67,7 @@ impl<K: Eq + Hash + Drop, V: Drop, P: SharedPlaceholder<K>, A: Allocator> Conten
             marked value (state_of P.ticket_of self.new))
             state.old state.new }
         ensures sound { IsSound P.ticket_of K.eq (M.hashed terms.now) self.new }
+        ensures places { KeepsPlaces K.eq (places_of self.old.lists) (places_of self.new.lists) }
         ensures room { self.old.lists.room ≤ self.new.lists.room }
         ensures work { WorksWithin
             (ring_count Queue.Hot self.old + ring_count Queue.Cold self.old + 1)
@@ -131,6 +133,7 @@ impl<K: Eq + Hash + Drop, V: Drop, P: SharedPlaceholder<K>, A: Allocator> Conten
             marked value result (state_of P.ticket_of self.new))
             state.old state.new }
         ensures sound { IsSound P.ticket_of K.eq (M.hashed terms.now) self.new }
+        ensures places { KeepsPlaces K.eq (places_of self.old.lists) (places_of self.new.lists) }
         ensures room { self.old.lists.room ≤ self.new.lists.room }
         ensures work { WorksWithin
             (ring_count Queue.Hot self.old + ring_count Queue.Cold self.old + 1)
@@ -155,6 +158,26 @@ impl<K: Eq + Hash + Drop, V: Drop, P: SharedPlaceholder<K>, A: Allocator> Conten
         Ok(())
     }
 
+    /// The key of the placeholder of that ticket, if it is there. It is looked for as by
+    /// `replace_placeholder`, and nothing changes.
+    pub fn awaited_key(&self, placeholder: &P) -> Option<&K>
+        ensures { MatchOption result
+            (HasNoTicket (P.own_ticket placeholder.now) (state_of P.ticket_of self.now))
+            (λ key. AwaitsKey (P.own_ticket placeholder.now) (state_of P.ticket_of self.now)
+            key.now) }
+    {
+        self.lists.apart();
+        let named = placeholder.idx();
+        let Some(token) = self
+            .lists
+            .find_placeholder(named, &SameTicket { placeholder })
+        else {
+            return None;
+        };
+        let awaited = self.lists.awaited(token);
+        Some(awaited.key())
+    }
+
     /// Takes the placeholder of that ticket out, if it is there. It is looked for as by
     /// `replace_placeholder`.
     pub fn remove_placeholder(&mut self, placeholder: &P)
@@ -163,6 +186,7 @@ impl<K: Eq + Hash + Drop, V: Drop, P: SharedPlaceholder<K>, A: Allocator> Conten
             (state_of P.ticket_of self.new) }
         ensures sound { (hashed : K → ℕ) → IsSound P.ticket_of K.eq hashed self.old
             → IsSound P.ticket_of K.eq hashed self.new }
+        ensures places { LosesOnly (places_of self.old.lists) (places_of self.new.lists) }
         ensures room { self.old.lists.room ≤ self.new.lists.room }
         ensures same { self.new ≡ record self.old { lists = self.new.lists } }
     {

@@ -9,13 +9,14 @@ ghost use Rattle.quick_cache_model.specs.Hooks.{Calls};
 ghost use Rattle.quick_cache_policy.specs.Advances.{Evicting, HasTakenTouches, IsVisited};
 ghost use Rattle.quick_cache_policy.specs.Contents.{IsSound, state_of, ring_count, work_of};
 ghost use Rattle.quick_cache_policy.specs.HotRounds.{VisitsHot, VisitsFirst, RoundEnds, SeekEnds};
+ghost use Rattle.quick_cache_policy.specs.Places.{places_in, places_of, LosesOnly};
 ghost use Rattle.quick_cache_policy.specs.Policies.{rules_by};
 ghost use Rattle.quick_cache_policy.specs.Work.{PaysFor};
 
 use crate::contents::Contents;
-use crate::placeholder::SharedPlaceholder;
 use crate::policy::Policy;
 use quick_cache_model::{Queue, Token};
+use quick_cache_placeholder::SharedPlaceholder;
 use std::alloc::Allocator;
 use std::hash::Hash;
 
@@ -104,6 +105,7 @@ impl<K: Eq + Hash + Drop, V: Drop, P: SharedPlaceholder<K>, A: Allocator> Conten
             P.Touch.may_count result) self.old self.new }
         ensures sound { IsSound P.ticket_of K.eq (M.hashed terms.now) self.new }
         ensures count { ring_count Queue.Hot self.new ≡ ring_count Queue.Hot self.old }
+        ensures places { LosesOnly (places_in self.old.lists.hot) (places_in self.new.lists.hot) }
         ensures same { self.new ≡ record self.old {
           lists = record self.old.lists { hot = self.new.lists.hot };
           visits = self.new.visits;
@@ -138,6 +140,7 @@ impl<K: Eq + Hash + Drop, V: Drop, P: SharedPlaceholder<K>, A: Allocator> Conten
             P.Touch.may_count result) self.old self.new }
         ensures sound { IsSound P.ticket_of K.eq (M.hashed terms.now) self.new }
         ensures count { ring_count Queue.Hot self.new ≡ ring_count Queue.Hot self.old }
+        ensures places { LosesOnly (places_in self.old.lists.hot) (places_in self.new.lists.hot) }
         ensures same { self.new ≡ record self.old {
           lists = record self.old.lists { hot = self.new.lists.hot };
           visits = self.new.visits;
@@ -179,6 +182,7 @@ impl<K: Eq + Hash + Drop, V: Drop, P: SharedPlaceholder<K>, A: Allocator> Conten
         // What makes room brings no key.
         ensures keys { (test : K → Bool) → keys_by test (state_of P.ticket_of self.new)
             ≤ keys_by test (state_of P.ticket_of self.old) }
+        ensures places { LosesOnly (places_of self.old.lists) (places_of self.new.lists) }
         ensures falls { ring_count Queue.Hot self.new + (if result then 1 else 0)
             ≡ ring_count Queue.Hot self.old }
         ensures cold { ring_count Queue.Cold self.new ≡ ring_count Queue.Cold self.old }

@@ -6,17 +6,18 @@ ghost use Rattle.quick_cache_model.specs.Writes.{WritesAdmitted, Writes, Insert}
 ghost use Rattle.quick_cache_model.specs.declared.refusal.Refusal.TheVariants.{Memory};
 ghost use Rattle.quick_cache_policy.specs.Contents.{IsSound, state_of, ring_count, work_of};
 ghost use Rattle.quick_cache_policy.specs.Finding.{TakesSlot, Provides};
+ghost use Rattle.quick_cache_policy.specs.Places.{places_of, KeepsPlaces, WritesPlace};
 ghost use Rattle.quick_cache_policy.specs.Policies.{rules_by};
 ghost use Rattle.quick_cache_policy.specs.Work.{WorksWithin};
 ghost use Rattle.quick_cache_policy.specs.Writing.{strategy_of, is_insert, Writing, WritingAdmitted, AnswersWrite};
 
 use crate::admission::{Admission, Weighed};
 use crate::contents::Contents;
-use crate::placeholder::SharedPlaceholder;
 use crate::policy::Policy;
 use crate::strategy::InsertStrategy;
 use quick_cache_lists::{Entry, Found, Resident};
 use quick_cache_model::{Queue, Refusal};
+use quick_cache_placeholder::SharedPlaceholder;
 use std::alloc::Allocator;
 use std::hash::Hash;
 
@@ -65,6 +66,8 @@ impl<K: Eq + Hash + Drop, V: Drop, P: SharedPlaceholder<K>, A: Allocator> Conten
             (state_of P.ticket_of self.new))
             state.old state.new }
         ensures sound { IsSound P.ticket_of K.eq (M.hashed terms.now) self.new }
+        // No other item moves.
+        ensures places { WritesPlace K.eq key (places_of self.old.lists) (places_of self.new.lists) }
         ensures room { self.old.lists.room ≤ self.new.lists.room + 1 }
         ensures work { WorksWithin
             (ring_count Queue.Hot self.old + ring_count Queue.Cold self.old + 1)
@@ -114,6 +117,8 @@ impl<K: Eq + Hash + Drop, V: Drop, P: SharedPlaceholder<K>, A: Allocator> Conten
         // An insert takes the pair.
         ensures taken { is_insert (strategy_of strategy) ≡ true → result ≡ None }
         ensures sound { IsSound P.ticket_of K.eq (M.hashed terms.now) self.new }
+        // No other item moves.
+        ensures places { WritesPlace K.eq key (places_of self.old.lists) (places_of self.new.lists) }
         ensures room { self.old.lists.room ≤ self.new.lists.room + 1 }
         // A replace takes none.
         ensures keeps_room { is_insert (strategy_of strategy) ≡ false
@@ -185,6 +190,8 @@ impl<K: Eq + Hash + Drop, V: Drop, P: SharedPlaceholder<K>, A: Allocator> Conten
         // An insert takes the pair.
         ensures taken { is_insert (strategy_of strategy) ≡ true → result ≡ None }
         ensures sound { IsSound P.ticket_of K.eq (M.hashed terms.now) self.new }
+        // No other item moves.
+        ensures places { WritesPlace K.eq key (places_of self.old.lists) (places_of self.new.lists) }
         ensures room { self.old.lists.room ≤ self.new.lists.room + 1 }
         // A replace takes none.
         ensures keeps_room { is_insert (strategy_of strategy) ≡ false
@@ -234,6 +241,8 @@ impl<K: Eq + Hash + Drop, V: Drop, P: SharedPlaceholder<K>, A: Allocator> Conten
         ensures unrefused { is_insert (strategy_of strategy) ≡ false
             → IfErr result (λ back. back.2 ≡ None) }
         ensures sound { IsSound P.ticket_of K.eq (M.hashed terms.now) self.new }
+        // No item that stays moves.
+        ensures places { KeepsPlaces K.eq (places_of self.old.lists) (places_of self.new.lists) }
         // It takes room for one entry at most, and asks for memory only where there is no room.
         ensures room { self.old.lists.room ≤ self.new.lists.room + 1 }
         // A replace takes none.

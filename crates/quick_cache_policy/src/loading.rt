@@ -8,19 +8,21 @@ ghost use Rattle.quick_cache_model.specs.declared.refusal.Refusal.TheVariants.{M
 ghost use Rattle.quick_cache_policy.specs.Contents.{IsSound, state_of};
 ghost use Rattle.quick_cache_policy.specs.Finding.{AreUnder};
 ghost use Rattle.quick_cache_policy.specs.Loading.{IsMadeUnder, Makes, LooksUpOrMakes};
+ghost use Rattle.quick_cache_policy.specs.Places.{places_of};
 
 use crate::contents::Contents;
-use crate::placeholder::SharedPlaceholder;
 use quick_cache_lists::{Awaited, Entry, Found};
 use quick_cache_model::{Queue, Refusal, ToKey, Token};
+use quick_cache_placeholder::{MakesPlaceholders, SharedPlaceholder};
 use std::alloc::Allocator;
 use std::hash::Hash;
 
 impl<K: Eq + Hash + Drop, V: Drop, P: SharedPlaceholder<K>, A: Allocator> Contents<K, V, P, A> {
     /// A key of the query's with what is kept of its placeholder, for the slot of that token, and
     /// the placeholder. Nothing changes.
-    fn await_key<Q: ToKey<K>>(
+    fn await_key<Q: ToKey<K>, M: MakesPlaceholders<K, P>>(
         &self,
+        maker: &M,
         token: Token,
         hash: u64,
         query: &Q,
@@ -36,7 +38,7 @@ impl<K: Eq + Hash + Drop, V: Drop, P: SharedPlaceholder<K>, A: Allocator> Conten
         ensures refused { IfErr result (λ refusal. refusal ≡ Memory) }
     {
         let key = query.to_key()?;
-        let placeholder = P::new(hash, token, self.next_ticket, query)?;
+        let placeholder = maker.make(hash, token, self.next_ticket, query)?;
         let awaited = Awaited {
             key,
             queue,
@@ -59,7 +61,12 @@ impl<K: Eq + Hash + Drop, V: Drop, P: SharedPlaceholder<K>, A: Allocator> Conten
 
     /// Makes a cold placeholder where nothing is found. Room and the key come first.
     #[inline(always)]
-    fn make_on_nothing<Q: ToKey<K>>(&mut self, hash: u64, query: &Q) -> Result<P, Refusal>
+    pub(crate) fn make_on_nothing<Q: ToKey<K>, M: MakesPlaceholders<K, P>>(
+        &mut self,
+        maker: &M,
+        hash: u64,
+        query: &Q,
+    ) -> Result<P, Refusal>
         requires under { AreUnder (Q.equivalent query.now) hash self.old.lists }
         requires stands { (key : K) → Q.to_key_gives query.now key
             → Q.equivalent query.now key ≡ true }
@@ -71,6 +78,8 @@ impl<K: Eq + Hash + Drop, V: Drop, P: SharedPlaceholder<K>, A: Allocator> Conten
             → ((key : K) → Q.equivalent query.now key ≡ true → hashed key ≡ hash)
             → IsSound P.ticket_of K.eq hashed self.old
             → IsSound P.ticket_of K.eq hashed self.new }
+        // No item moves.
+        ensures places { places_of self.new.lists ≡ places_of self.old.lists }
         ensures room { self.old.lists.room ≤ self.new.lists.room + 1 }
         ensures same { self.new ≡ record self.old {
           lists = self.new.lists;
@@ -83,7 +92,7 @@ impl<K: Eq + Hash + Drop, V: Drop, P: SharedPlaceholder<K>, A: Allocator> Conten
         }
         self.lists.make_room()?;
         let token = self.lists.next_token();
-        let (awaited, placeholder) = self.await_key(token, hash, query, Queue::Cold)?;
+        let (awaited, placeholder) = self.await_key(maker, token, hash, query, Queue::Cold)?;
         let _ = self.lists.put(hash, Entry::Loading(awaited));
         self.count_made();
         Ok(placeholder)
@@ -91,8 +100,9 @@ impl<K: Eq + Hash + Drop, V: Drop, P: SharedPlaceholder<K>, A: Allocator> Conten
 
     /// Makes a hot placeholder where a ghost is found, in its slot: the ghost goes once there is a
     /// key.
-    fn make_on_ghost<Q: ToKey<K>>(
+    pub(crate) fn make_on_ghost<Q: ToKey<K>, M: MakesPlaceholders<K, P>>(
         &mut self,
+        maker: &M,
         token: Token,
         hash: u64,
         query: &Q,
@@ -108,6 +118,8 @@ impl<K: Eq + Hash + Drop, V: Drop, P: SharedPlaceholder<K>, A: Allocator> Conten
             → ((key : K) → Q.equivalent query.now key ≡ true → hashed key ≡ hash)
             → IsSound P.ticket_of K.eq hashed self.old
             → IsSound P.ticket_of K.eq hashed self.new }
+        // No item moves.
+        ensures places { places_of self.new.lists ≡ places_of self.old.lists }
         ensures room { self.old.lists.room ≤ self.new.lists.room }
         ensures same { self.new ≡ record self.old {
           lists = self.new.lists;
@@ -119,14 +131,14 @@ impl<K: Eq + Hash + Drop, V: Drop, P: SharedPlaceholder<K>, A: Allocator> Conten
             return Err(Refusal::TicketsSpent);
         }
         self.lists.apart();
-        let (awaited, placeholder) = self.await_key(token, hash, query, Queue::Hot)?;
+        let (awaited, placeholder) = self.await_key(maker, token, hash, query, Queue::Hot)?;
         let _ = self.lists.replace(token, false, Entry::Loading(awaited));
         self.count_made();
         Ok(placeholder)
     }
 
     /// The placeholder of a token, which is met: a hit is counted.
-    fn meet_placeholder<Q: ToKey<K>>(&mut self, token: Token, hash: u64, query: &Q) -> P
+    pub(crate) fn meet_placeholder<Q: ToKey<K>>(&mut self, token: Token, hash: u64, query: &Q) -> P
         requires found { Finds (Q.equivalent query.now) hash self.old.lists (Found.Loading token) }
         ensures meets { UpToOrder
             (MeetsPlaceholder (Q.equivalent query.now) (state_of P.ticket_of self.old)
@@ -147,8 +159,9 @@ impl<K: Eq + Hash + Drop, V: Drop, P: SharedPlaceholder<K>, A: Allocator> Conten
     /// The flag says that the placeholder is new. Only a new one takes memory: tickets are looked
     /// at first, then slots, and memory is asked for last, all before anything changes.
     #[inline(always)]
-    pub fn get_or_placeholder<Q: ToKey<K>>(
+    pub fn get_or_placeholder<Q: ToKey<K>, M: MakesPlaceholders<K, P>>(
         &mut self,
+        maker: &M,
         hash: u64,
         query: &Q,
     ) -> Result<Result<Token, (P, bool)>, Refusal>
@@ -162,6 +175,8 @@ impl<K: Eq + Hash + Drop, V: Drop, P: SharedPlaceholder<K>, A: Allocator> Conten
             → ((key : K) → Q.equivalent query.now key ≡ true → hashed key ≡ hash)
             → IsSound P.ticket_of K.eq hashed self.old
             → IsSound P.ticket_of K.eq hashed self.new }
+        // No item moves.
+        ensures places { places_of self.new.lists ≡ places_of self.old.lists }
         ensures room { self.old.lists.room ≤ self.new.lists.room + 1 }
         ensures same { self.new ≡ record self.old {
           lists = self.new.lists;
@@ -176,8 +191,8 @@ impl<K: Eq + Hash + Drop, V: Drop, P: SharedPlaceholder<K>, A: Allocator> Conten
                 Ok(Ok(token))
             }
             Found::Loading(token) => Ok(Err((self.meet_placeholder(token, hash, query), false))),
-            Found::Ghost(token) => Ok(Err((self.make_on_ghost(token, hash, query)?, true))),
-            Found::Nothing => Ok(Err((self.make_on_nothing(hash, query)?, true))),
+            Found::Ghost(token) => Ok(Err((self.make_on_ghost(maker, token, hash, query)?, true))),
+            Found::Nothing => Ok(Err((self.make_on_nothing(maker, hash, query)?, true))),
         }
     }
 }

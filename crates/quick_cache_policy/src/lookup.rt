@@ -5,13 +5,15 @@ ghost use Rattle.quick_cache_lists.specs.Lists.{Finds, FindsItem, HasNoItem};
 ghost use Rattle.quick_cache_model.specs.Removal.{Removes};
 ghost use Rattle.quick_cache_model.specs.CacheState.{UpToOrder};
 ghost use Rattle.quick_cache_policy.specs.Contents.{IsSound, state_of};
+ghost use Rattle.quick_cache_policy.specs.Entering.{CountsHit};
 ghost use Rattle.quick_cache_policy.specs.Finding.{AreUnder, IsLookedUp, IsMissed};
+ghost use Rattle.quick_cache_policy.specs.Places.{places_of, LosesOnly};
 
 use crate::contents::Contents;
 use crate::hot::MARK_CUT;
-use crate::placeholder::SharedPlaceholder;
 use quick_cache_lists::{Entry, Found};
 use quick_cache_model::{Equivalent, Token};
+use quick_cache_placeholder::SharedPlaceholder;
 use std::alloc::Allocator;
 use std::hash::Hash;
 
@@ -25,6 +27,8 @@ impl<K: Eq + Hash, V, P: SharedPlaceholder<K>, A: Allocator> Contents<K, V, P, A
             (λ token. IsLookedUp P.ticket_of (Q.equivalent query.now) self.old token self.new) }
         ensures sound { (hashed : K → ℕ) → IsSound P.ticket_of K.eq hashed self.old
             → IsSound P.ticket_of K.eq hashed self.new }
+        // No item moves.
+        ensures places { places_of self.new.lists ≡ places_of self.old.lists }
         ensures room { self.new.lists.room ≡ self.old.lists.room }
         ensures same { self.new ≡ record self.old {
           lists = self.new.lists;
@@ -70,8 +74,13 @@ impl<K: Eq + Hash, V, P: SharedPlaceholder<K>, A: Allocator> Contents<K, V, P, A
     pub(crate) fn count_hit<Q: Equivalent<K>>(&mut self, token: Token, hash: u64, _query: &Q)
         requires found { FindsItem (Q.equivalent _query.now) hash self.old.lists (number token) }
         ensures looks_up { IsLookedUp P.ticket_of (Q.equivalent _query.now) self.old token self.new }
+        ensures counts { CountsHit (Q.equivalent _query.now) (state_of P.ticket_of self.old)
+            (state_of P.ticket_of self.new) }
+        ensures found { FindsItem (Q.equivalent _query.now) hash self.new.lists (number token) }
         ensures sound { (hashed : K → ℕ) → IsSound P.ticket_of K.eq hashed self.old
             → IsSound P.ticket_of K.eq hashed self.new }
+        // No item moves.
+        ensures places { places_of self.new.lists ≡ places_of self.old.lists }
         ensures room { self.new.lists.room ≡ self.old.lists.room }
         ensures same { self.new ≡ record self.old {
           lists = self.new.lists;
@@ -102,6 +111,7 @@ impl<K: Eq + Hash, V, P: SharedPlaceholder<K>, A: Allocator> Contents<K, V, P, A
             (state_of P.ticket_of self.new) }
         ensures sound { (hashed : K → ℕ) → IsSound P.ticket_of K.eq hashed self.old
             → IsSound P.ticket_of K.eq hashed self.new }
+        ensures places { LosesOnly (places_of self.old.lists) (places_of self.new.lists) }
         ensures room { self.old.lists.room ≤ self.new.lists.room }
         ensures same { self.new ≡ record self.old { lists = self.new.lists } }
     {

@@ -4,6 +4,7 @@ ghost use Rattle.quick_cache_lists.specs.Lists.{Finds};
 ghost use Rattle.quick_cache_model.specs.Hooks.{Calls};
 ghost use Rattle.quick_cache_model.specs.Writes.{WritesAdmitted, Insert};
 ghost use Rattle.quick_cache_policy.specs.Contents.{IsSound, state_of, ring_count, work_of};
+ghost use Rattle.quick_cache_policy.specs.Places.{places_of, WritesPlace};
 ghost use Rattle.quick_cache_policy.specs.Policies.{rules_by};
 ghost use Rattle.quick_cache_policy.specs.Work.{WorksWithin};
 ghost use Rattle.quick_cache_policy.specs.Writing.{strategy_of, WritingAdmitted};
@@ -11,11 +12,11 @@ ghost use Rattle.quick_cache_policy.specs.Writing.{strategy_of, WritingAdmitted}
 use crate::admission::{Weighed, report};
 use crate::contents::Contents;
 use crate::hot::MARK_CUT;
-use crate::placeholder::SharedPlaceholder;
 use crate::policy::Policy;
 use crate::strategy::InsertStrategy;
 use quick_cache_lists::{Entry, Found, Resident};
 use quick_cache_model::{Queue, Token};
+use quick_cache_placeholder::SharedPlaceholder;
 use std::alloc::Allocator;
 use std::hash::Hash;
 
@@ -44,6 +45,8 @@ impl<K: Eq + Hash + Drop, V: Drop, P: SharedPlaceholder<K>, A: Allocator> Conten
             (state_of P.ticket_of self.new))
             state.old state.new }
         ensures sound { IsSound P.ticket_of K.eq (M.hashed terms.now) self.new }
+        // No other item moves.
+        ensures places { WritesPlace K.eq key (places_of self.old.lists) (places_of self.new.lists) }
         ensures room { self.old.lists.room ≤ self.new.lists.room }
         ensures work { WorksWithin
             (ring_count Queue.Hot self.old + ring_count Queue.Cold self.old + 1)
@@ -91,6 +94,8 @@ impl<K: Eq + Hash + Drop, V: Drop, P: SharedPlaceholder<K>, A: Allocator> Conten
             (state_of P.ticket_of self.new))
             state.old state.new }
         ensures sound { IsSound P.ticket_of K.eq (M.hashed terms.now) self.new }
+        // No other item moves.
+        ensures places { WritesPlace K.eq key (places_of self.old.lists) (places_of self.new.lists) }
         ensures room { self.old.lists.room ≤ self.new.lists.room }
         ensures work { WorksWithin
             (ring_count Queue.Hot self.old + ring_count Queue.Cold self.old + 1)
@@ -130,6 +135,8 @@ impl<K: Eq + Hash + Drop, V: Drop, P: SharedPlaceholder<K>, A: Allocator> Conten
             (state_of P.ticket_of self.new))
             state.old state.new }
         ensures sound { IsSound P.ticket_of K.eq (M.hashed terms.now) self.new }
+        // No other item moves.
+        ensures places { WritesPlace K.eq key (places_of self.old.lists) (places_of self.new.lists) }
         ensures room { self.old.lists.room ≤ self.new.lists.room }
         ensures work { WorksWithin
             (ring_count Queue.Hot self.old + ring_count Queue.Cold self.old + 1)

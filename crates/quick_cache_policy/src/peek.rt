@@ -8,9 +8,9 @@ ghost use Rattle.quick_cache_policy.specs.Finding.{AreUnder, IsThere};
 ghost use Rattle.quick_cache_policy.specs.References.{count_under};
 
 use crate::contents::Contents;
-use crate::placeholder::SharedPlaceholder;
 use quick_cache_lists::ItemRef;
 use quick_cache_model::{Equivalent, Token};
+use quick_cache_placeholder::SharedPlaceholder;
 use std::alloc::Allocator;
 use std::hash::Hash;
 

@@ -5,13 +5,14 @@ ghost use Rattle.std.specs.Int.NonZero.{non_zero_u32_get as number};
 ghost use Rattle.quick_cache_lists.specs.Lists.{FindsItem, HasItemToken, IsValueAt};
 ghost use Rattle.quick_cache_policy.specs.Contents.{IsSound, state_of};
 ghost use Rattle.quick_cache_policy.specs.Finding.{AreUnder};
+ghost use Rattle.quick_cache_policy.specs.Places.{places_of, LosesOnly};
 ghost use Rattle.quick_cache_policy.specs.Policies.{rules_by};
 ghost use Rattle.quick_cache_policy.specs.References.{count_under, ReweighsUnder};
 
 use crate::contents::Contents;
-use crate::placeholder::SharedPlaceholder;
 use crate::policy::Policy;
 use quick_cache_model::{Equivalent, Token};
+use quick_cache_placeholder::SharedPlaceholder;
 use std::alloc::Allocator;
 use std::hash::Hash;
 
@@ -69,11 +70,34 @@ impl<K: Eq + Hash, V, P: SharedPlaceholder<K>, A: Allocator> Contents<K, V, P, A
             (state_of P.ticket_of self.new) }
         ensures there { 0 < count_under (Q.equivalent query.now) (state_of P.ticket_of self.new) }
         ensures sound { IsSound P.ticket_of K.eq (M.hashed terms.now) self.new }
+        ensures places { LosesOnly (places_of self.old.lists) (places_of self.new.lists) }
+        ensures room { self.new.lists.room ≡ self.old.lists.room }
+        ensures same { self.new ≡ record self.old { lists = self.new.lists } }
+    {
+        let token = self.token_under(thought, hash, query);
+        self.weigh_item(token, hash, query, terms);
+    }
+
+    /// Weighs the item of a token anew, as `reweigh` says.
+    pub(crate) fn weigh_item<M: Policy<K, V>, Q: Equivalent<K>>(
+        &mut self,
+        token: Token,
+        hash: u64,
+        _query: &Q,
+        terms: &M,
+    )
+        requires found { FindsItem (Q.equivalent _query.now) hash self.old.lists (number token) }
+        requires sound { IsSound P.ticket_of K.eq (M.hashed terms.now) self.old }
+        ensures reweighs { ReweighsUnder (Q.equivalent _query.now)
+            (rules_by M.Policy P.Touch.may_count terms.now) (state_of P.ticket_of self.old)
+            (state_of P.ticket_of self.new) }
+        ensures sound { IsSound P.ticket_of K.eq (M.hashed terms.now) self.new }
+        ensures there { 0 < count_under (Q.equivalent _query.now) (state_of P.ticket_of self.new) }
+        ensures places { LosesOnly (places_of self.old.lists) (places_of self.new.lists) }
         ensures room { self.new.lists.room ≡ self.old.lists.room }
         ensures same { self.new ≡ record self.old { lists = self.new.lists } }
     {
         self.lists.apart();
-        let token = self.token_under(thought, hash, query);
         let item = self.lists.item(token);
         let weight = terms.weigh(item.key(), item.value());
         self.lists.reweigh(token, weight);

@@ -6,11 +6,12 @@ ghost use Rattle.quick_cache_model.specs.Removal.{cleared};
 ghost use Rattle.quick_cache_lists.specs.Lists.{entry_count};
 ghost use Rattle.quick_cache_policy.specs.Contents.{IsSound, state_of};
 ghost use Rattle.quick_cache_policy.specs.Finding.{AreUnder};
+ghost use Rattle.quick_cache_policy.specs.Places.{places_of, LosesOnly};
 ghost use Rattle.quick_cache_policy.specs.Predicates.{Answers, RemovesAsked, RetainsAsked};
 
 use crate::contents::Contents;
-use crate::placeholder::SharedPlaceholder;
 use quick_cache_model::Equivalent;
+use quick_cache_placeholder::SharedPlaceholder;
 use std::alloc::Allocator;
 use std::hash::Hash;
 
@@ -30,6 +31,7 @@ impl<K: Eq + Hash, V, P: SharedPlaceholder<K>, A: Allocator> Contents<K, V, P, A
             (state_of P.ticket_of self.new) }
         ensures sound { (hashed : K → ℕ) → IsSound P.ticket_of K.eq hashed self.old
             → IsSound P.ticket_of K.eq hashed self.new }
+        ensures places { LosesOnly (places_of self.old.lists) (places_of self.new.lists) }
         ensures room { self.old.lists.room ≤ self.new.lists.room }
         ensures same { self.new ≡ record self.old { lists = self.new.lists } }
     {
@@ -54,6 +56,7 @@ impl<K: Eq + Hash, V, P: SharedPlaceholder<K>, A: Allocator> Contents<K, V, P, A
             (state_of P.ticket_of self.old)) (state_of P.ticket_of self.new) }
         ensures sound { (hashed : K → ℕ) → IsSound P.ticket_of K.eq hashed self.old
             → IsSound P.ticket_of K.eq hashed self.new }
+        ensures places { LosesOnly (places_of self.old.lists) (places_of self.new.lists) }
         ensures room { self.old.lists.room ≤ self.new.lists.room }
         ensures same { self.new ≡ record self.old { lists = self.new.lists } }
     {

@@ -5,9 +5,9 @@ ghost use Rattle.quick_cache_policy.specs.Contents.{state_of};
 ghost use Rattle.quick_cache_policy.specs.Finding.{AreUnder, IsThere};
 
 use crate::contents::Contents;
-use crate::placeholder::{SharedPlaceholder, Touches};
 use quick_cache_lists::ItemRef;
 use quick_cache_model::Equivalent;
+use quick_cache_placeholder::{SharedPlaceholder, Touches};
 use std::alloc::Allocator;
 use std::hash::Hash;
 

@@ -6,8 +6,8 @@ ghost use Rattle.quick_cache_policy.specs.Finding.{AreUnder};
 ghost use Rattle.quick_cache_policy.specs.Stats.{ShowsReads};
 
 use crate::contents::Contents;
-use crate::placeholder::{SharedPlaceholder, Touches};
 use quick_cache_model::Equivalent;
+use quick_cache_placeholder::{SharedPlaceholder, Touches};
 use std::alloc::Allocator;
 use std::hash::Hash;
 

@@ -1,15 +1,16 @@
 //! Items by their tokens.
-ghost use Rattle.std.specs.Prelude.{◌≡◌, ℕ, ◌≤◌, MatchOption};
+ghost use Rattle.std.specs.Prelude.{◌≡◌, ℕ, ◌≤◌, IfSome, MatchOption};
 ghost use Rattle.std.specs.Int.NonZero.{non_zero_u32_get as number};
-ghost use Rattle.quick_cache_lists.specs.Lists.{HasItemToken, IsItemOf};
+ghost use Rattle.std.specs.Option.{option_map};
+ghost use Rattle.quick_cache_lists.specs.Lists.{HasItemToken, IsFirstAbove, IsItemOf, number_or_zero};
 ghost use Rattle.quick_cache_model.specs.CacheState.{item_count};
 ghost use Rattle.quick_cache_policy.specs.Contents.{IsSound, state_of};
 ghost use Rattle.quick_cache_policy.specs.Tokens.{TakesItem, TakesToken};
 
 use crate::contents::Contents;
-use crate::placeholder::SharedPlaceholder;
 use quick_cache_lists::{Entry, ItemRef};
 use quick_cache_model::Token;
+use quick_cache_placeholder::SharedPlaceholder;
 use std::alloc::Allocator;
 use std::hash::Hash;
 
@@ -44,6 +45,30 @@ impl<K: Eq + Hash, V, P: SharedPlaceholder<K>, A: Allocator> Contents<K, V, P, A
         None
     }
 
+    /// Takes out the item of the least token above this one, or of the least token of all where none
+    /// is given, and gives its token, its key and its value. It looks at the slots between.
+    pub fn remove_next(&mut self, after: Option<Token>) -> Option<(Token, K, V)>
+        ensures first { IsFirstAbove self.old.lists (number_or_zero after)
+            (option_map (λ taken. taken.0) result) }
+        ensures token { MatchOption result
+            (self.new ≡ self.old)
+            (λ taken. TakesToken self.old (number taken.0) (taken.1, taken.2) self.new) }
+        ensures takes { IfSome result
+            (λ taken. TakesItem (state_of P.ticket_of self.old) (taken.1, taken.2)
+            (state_of P.ticket_of self.new)) }
+        ensures sound { (hashed : K → ℕ) → IsSound P.ticket_of K.eq hashed self.old
+            → IsSound P.ticket_of K.eq hashed self.new }
+        ensures room { self.old.lists.room ≤ self.new.lists.room }
+        ensures same { self.new ≡ record self.old { lists = self.new.lists } }
+    {
+        self.lists.apart();
+        let Some(token) = self.lists.first_above(after) else {
+            return None;
+        };
+        let (key, value) = self.take_item(token);
+        Some((token, key, value))
+    }
+
     /// Takes out the item of the least token above this one, or of the least token of all where no
     /// item stands above it, and gives its token and its pair.
     pub fn take_next(&mut self, after: Option<Token>) -> Option<(Token, (K, V))>
@@ -51,6 +76,8 @@ impl<K: Eq + Hash, V, P: SharedPlaceholder<K>, A: Allocator> Contents<K, V, P, A
             ((item_count (state_of P.ticket_of self.old) ≡ 0) × (self.new ≡ self.old))
             (λ taken. TakesItem (state_of P.ticket_of self.old) taken.1
             (state_of P.ticket_of self.new)) }
+        ensures token { IfSome result
+            (λ taken. TakesToken self.old (number taken.0) taken.1 self.new) }
         ensures sound { (hashed : K → ℕ) → IsSound P.ticket_of K.eq hashed self.old
             → IsSound P.ticket_of K.eq hashed self.new }
         ensures room { self.old.lists.room ≤ self.new.lists.room }

@@ -5,13 +5,14 @@ ghost use Rattle.quick_cache_lists.specs.Views.{hashes_of};
 ghost use Rattle.quick_cache_model.specs.Hooks.{Calls};
 ghost use Rattle.quick_cache_policy.specs.Advances.{AreEvictions, Decides, FirstIsEvicted, FirstIsPromoted};
 ghost use Rattle.quick_cache_policy.specs.Contents.{IsSound, state_of, ring_count};
+ghost use Rattle.quick_cache_policy.specs.Places.{places_of, LosesOnly};
 ghost use Rattle.quick_cache_policy.specs.Policies.{rules_by};
 
 use crate::contents::Contents;
-use crate::placeholder::{SharedPlaceholder, Touches};
 use crate::policy::Policy;
 use quick_cache_lists::{Entry, Resident};
 use quick_cache_model::{Queue, Token};
+use quick_cache_placeholder::{SharedPlaceholder, Touches};
 use std::alloc::Allocator;
 use std::hash::Hash;
 
@@ -60,6 +61,7 @@ impl<K: Eq + Hash + Drop, V: Drop, P: SharedPlaceholder<K>, A: Allocator> Conten
         ensures sound { IsSound P.ticket_of K.eq (M.hashed terms.now) self.new }
         ensures room { self.old.lists.room ≤ self.new.lists.room }
         ensures falls { ring_count queue self.new + 1 ≡ ring_count queue self.old }
+        ensures places { LosesOnly (places_of self.old.lists) (places_of self.new.lists) }
         ensures others { (other : Queue) → other ≢ queue
             → ring_count other self.new ≡ ring_count other self.old }
         ensures same { self.new ≡ record self.old { lists = self.new.lists } }
@@ -85,6 +87,7 @@ impl<K: Eq + Hash + Drop, V: Drop, P: SharedPlaceholder<K>, A: Allocator> Conten
         ensures sound { IsSound P.ticket_of K.eq (M.hashed terms.now) self.new }
         ensures room { self.old.lists.room ≤ self.new.lists.room }
         ensures falls { ring_count Queue.Hot self.new + 1 ≡ ring_count Queue.Hot self.old }
+        ensures places { LosesOnly (places_of self.old.lists) (places_of self.new.lists) }
         ensures cold { ring_count Queue.Cold self.new ≡ ring_count Queue.Cold self.old }
         ensures same { self.new ≡ record self.old { lists = self.new.lists } }
     {
@@ -116,6 +119,7 @@ impl<K: Eq + Hash + Drop, V: Drop, P: SharedPlaceholder<K>, A: Allocator> Conten
         ensures sound { IsSound P.ticket_of K.eq (M.hashed terms.now) self.new }
         ensures room { self.old.lists.room ≤ self.new.lists.room }
         ensures falls { ring_count Queue.Cold self.new + 1 ≡ ring_count Queue.Cold self.old }
+        ensures places { LosesOnly (places_of self.old.lists) (places_of self.new.lists) }
         ensures hot { ring_count Queue.Hot self.new ≡ ring_count Queue.Hot self.old }
         ensures same { self.new ≡ record self.old { lists = self.new.lists } }
     {
@@ -186,6 +190,7 @@ impl<K: Eq + Hash + Drop, V: Drop, P: SharedPlaceholder<K>, A: Allocator> Conten
             (state_of P.ticket_of self.new) }
         ensures sound { IsSound P.ticket_of K.eq (M.hashed terms.now) self.new }
         ensures room { self.new.lists.room ≡ self.old.lists.room }
+        ensures places { LosesOnly (places_of self.old.lists) (places_of self.new.lists) }
         ensures same { self.new ≡ record self.old { lists = self.new.lists } }
     {
         let Some(token) = self.lists.first(Queue::Cold) else {

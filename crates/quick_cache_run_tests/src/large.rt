@@ -5,7 +5,8 @@ ghost use Rattle.quick_cache_runs.specs.Asked.{IfAsks};
 use crate::Predicate;
 use quick_cache_runs::{Call, Reply, run};
 use quick_cache_unsync::Cache;
-use std::alloc::{AllocError, Global};
+use rationed::Rationed;
+use std::alloc::{AllocError, Allocator, Global};
 use std::process::Abort;
 use std::test::Fail;
 
@@ -50,7 +51,10 @@ fn a_clone_has_ten_thousand_entries(rt: HostRuntime) -> Result<(), Fail> {
 
 /// So many calls, by threes: an insert, a look-up of what it inserted, and its removal. None asks a
 /// predicate.
-fn threes(alloc: Global, count: u64) -> Result<Vec<Call<u64, u64, Predicate>>, AllocError>
+fn threes<M: Allocator>(
+    alloc: M,
+    count: u64,
+) -> Result<Vec<Call<u64, u64, Predicate>, M>, AllocError>
     ensures { IfOk result (λ calls. All (IfAsks (λ asked. ⊥)) calls.items) }
 {
     let mut calls = Vec::new(alloc);
@@ -90,4 +94,51 @@ fn run_by_threes(rt: &impl Abort, alloc: Global, count: u64) -> Result<(), Fail>
 fn twenty_and_ten_thousand_calls_are_made(rt: HostRuntime) -> Result<(), Fail> {
     run_by_threes(&rt, rt.alloc(), 20)?;
     run_by_threes(&rt, rt.alloc(), MANY)
+}
+
+#[test]
+fn a_list_of_replies_asks_for_memory_once(rt: HostRuntime) -> Result<(), Fail> {
+    let ration = Rationed::new(rt.alloc(), 100);
+    let mut cache: Cache<u64, u64> = Cache::new(rt.alloc(), 3)?;
+    let calls = threes(&ration, MANY)?;
+    ration.allow(1);
+    let Ok(replies) = run(&ration, &mut cache, calls, &mut ()) else {
+        panic!(rt; "there is room for the replies");
+    };
+    assert_eq!(rt; (replies.len() as u64, ration.left()), (MANY, 0));
+    Ok(())
+}
+
+/// How many pairs a reply shows, each a number and its double, and the sum of the numbers.
+fn doubles_in<M: Allocator>(reply: &Reply<u64, u64, M>) -> Option<(u64, u64)> {
+    let Reply::Pairs(pairs) = reply else {
+        return None;
+    };
+    let (mut count, mut sum) = (0u64, 0u64);
+    for (key, value) in pairs {
+        if *value == key.saturating_mul(2) {
+            count = count.saturating_add(1);
+            sum = sum.saturating_add(*key);
+        }
+    }
+    Some((count, sum))
+}
+
+#[test]
+fn a_walk_and_a_drain_give_ten_thousand_pairs(rt: HostRuntime) -> Result<(), Fail> {
+    let alloc = rt.alloc();
+    let mut cache = doubles(alloc, MANY)?;
+    let calls: Vec<Call<u64, u64, Predicate>> = vec![in alloc;
+        Call::Iter,
+        Call::Drain,
+        Call::Iter,
+    ]?;
+    let Ok(replies) = run(alloc, &mut cache, calls, &mut ()) else {
+        panic!(rt; "there is memory");
+    };
+    let wanted = [(MANY, 49995000), (MANY, 49995000), (0, 0)];
+    for (reply, wanted) in replies.iter().zip(wanted) {
+        assert_eq!(rt; doubles_in(reply), Some(wanted));
+    }
+    Ok(())
 }

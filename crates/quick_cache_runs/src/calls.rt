@@ -44,6 +44,7 @@ pub(crate) fn act<
         state.old call result cache.new.state state.new }
     ensures same { cache.new ≡ record cache.old {
       state = cache.new.state;
+      places = cache.new.places;
       room = cache.new.room;
       work = cache.new.work;
     } }

@@ -39,6 +39,7 @@ pub(crate) fn guarded<
         state.old (Call.Guarded key.now given) result cache.new.state state.new }
     ensures same { cache.new ≡ record cache.old {
       state = cache.new.state;
+      places = cache.new.places;
       room = cache.new.room;
       work = cache.new.work;
     } }
@@ -110,6 +111,7 @@ pub(crate) fn guarded_mut<
         state.old (Call.GuardedMut key.now given left) result cache.new.state state.new }
     ensures same { cache.new ≡ record cache.old {
       state = cache.new.state;
+      places = cache.new.places;
       room = cache.new.room;
       work = cache.new.work;
     } }
@@ -166,6 +168,7 @@ pub(crate) fn load<
         state.old (Call.Load key.now given) result cache.new.state state.new }
     ensures same { cache.new ≡ record cache.old {
       state = cache.new.state;
+      places = cache.new.places;
       room = cache.new.room;
       work = cache.new.work;
     } }
@@ -203,6 +206,7 @@ pub(crate) fn load_mut<
         state.old (Call.LoadMut key.now given left) result cache.new.state state.new }
     ensures same { cache.new ≡ record cache.old {
       state = cache.new.state;
+      places = cache.new.places;
       room = cache.new.room;
       work = cache.new.work;
     } }

@@ -27,7 +27,7 @@ pub(crate) fn remove<
         L.Lifecycle cache.old)
         K.eq K.is_clone V.is_clone answers cache.old.state (Call.Remove key) result []
         cache.new.state }
-    ensures same { cache.new ≡ record cache.old { state = cache.new.state; room = cache.new.room } }
+    ensures same { cache.new ≡ record cache.old { state = cache.new.state; places = cache.new.places; room = cache.new.room } }
 {
     Reply::Pair(cache.remove(&key))
 }
@@ -52,7 +52,7 @@ pub(crate) fn remove_if<
         L.Lifecycle cache.old)
         K.eq K.is_clone V.is_clone answers cache.old.state (Call.RemoveIf key wanted) result []
         cache.new.state }
-    ensures same { cache.new ≡ record cache.old { state = cache.new.state; room = cache.new.room } }
+    ensures same { cache.new ≡ record cache.old { state = cache.new.state; places = cache.new.places; room = cache.new.room } }
 {
     let is_wanted = |value: &V| -> bool
         requires { F.IsAlwaysCallable wanted }
@@ -81,7 +81,7 @@ pub(crate) fn retain<
         L.Lifecycle cache.old)
         K.eq K.is_clone V.is_clone answers cache.old.state (Call.Retain keep) result []
         cache.new.state }
-    ensures same { cache.new ≡ record cache.old { state = cache.new.state; room = cache.new.room } }
+    ensures same { cache.new ≡ record cache.old { state = cache.new.state; places = cache.new.places; room = cache.new.room } }
 {
     cache.retain(keep);
     Reply::Done
@@ -103,7 +103,7 @@ pub(crate) fn clear<
         L.Lifecycle cache.old)
         K.eq K.is_clone V.is_clone answers cache.old.state (Call.Clear) result []
         cache.new.state }
-    ensures same { cache.new ≡ record cache.old { state = cache.new.state; room = cache.new.room } }
+    ensures same { cache.new ≡ record cache.old { state = cache.new.state; places = cache.new.places; room = cache.new.room } }
 {
     cache.clear();
     Reply::Done

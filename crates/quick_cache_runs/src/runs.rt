@@ -56,6 +56,7 @@ fn make<
         × (AlwaysClones V.is_infallible → IsAnswered call reply) }
     ensures same { cache.new ≡ record cache.old {
       state = cache.new.state;
+      places = cache.new.places;
       room = cache.new.room;
       work = cache.new.work;
     } }
@@ -95,6 +96,7 @@ fn make_all<
         cache.old.state state.old calls.items result.items cache.new.state state.new }
     ensures same { cache.new ≡ record cache.old {
       state = cache.new.state;
+      places = cache.new.places;
       room = cache.new.room;
       work = cache.new.work;
     } }
@@ -151,6 +153,7 @@ pub fn run<
         cache.old.state state.old calls.items result cache.new.state state.new }
     ensures same { cache.new ≡ record cache.old {
       state = cache.new.state;
+      places = cache.new.places;
       room = cache.new.room;
       work = cache.new.work;
     } }

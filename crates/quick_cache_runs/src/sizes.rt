@@ -61,6 +61,7 @@ pub(crate) fn set_capacity<
         state.old (Call.SetCapacity capacity) result cache.new.state state.new }
     ensures same { cache.new ≡ record cache.old {
       state = cache.new.state;
+      places = cache.new.places;
       room = cache.new.room;
       work = cache.new.work;
     } }

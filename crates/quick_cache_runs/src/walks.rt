@@ -82,7 +82,7 @@ fn given_out<M: Allocator, K: Eq + Hash + Drop, V: Drop, We, B: BuildHasher, L, 
     requires none { pairs.items ≡ [] }
     requires room { item_count cache.old.state ≤ vec_capacity pairs }
     ensures drains { Drains cache.old.state result.items cache.new.state }
-    ensures same { cache.new ≡ record cache.old { state = cache.new.state; room = cache.new.room } }
+    ensures same { cache.new ≡ record cache.old { state = cache.new.state; places = cache.new.places; room = cache.new.room } }
 {
     for pair in cache.drain() {
         pairs.push_reserved(pair);
@@ -105,7 +105,7 @@ pub(crate) fn drain<
         (rules_of no_touches K.Hash.hash_input We.Weighter B.BuildHasher B.Hasher.Hasher
         L.Lifecycle cache.old)
         K.eq K.is_clone V.is_clone answers cache.old.state (Call.Drain) result [] cache.new.state }
-    ensures same { cache.new ≡ record cache.old { state = cache.new.state; room = cache.new.room } }
+    ensures same { cache.new ≡ record cache.old { state = cache.new.state; places = cache.new.places; room = cache.new.room } }
 {
     let Ok(alloc) = alloc.clone() else {
         return Reply::Refused(Refusal::Memory);

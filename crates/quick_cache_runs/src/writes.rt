@@ -36,6 +36,7 @@ pub(crate) fn insert<
         state.old (Call.Insert key value) result cache.new.state state.new }
     ensures same { cache.new ≡ record cache.old {
       state = cache.new.state;
+      places = cache.new.places;
       room = cache.new.room;
       work = cache.new.work;
     } }
@@ -72,6 +73,7 @@ pub(crate) fn replace<
         state.old (Call.Replace key value soft) result cache.new.state state.new }
     ensures same { cache.new ≡ record cache.old {
       state = cache.new.state;
+      places = cache.new.places;
       room = cache.new.room;
       work = cache.new.work;
     } }
@@ -98,7 +100,7 @@ pub(crate) fn set<
         L.Lifecycle cache.old)
         K.eq K.is_clone V.is_clone answers cache.old.state (Call.GetMut key value) result []
         cache.new.state }
-    ensures same { cache.new ≡ record cache.old { state = cache.new.state } }
+    ensures same { cache.new ≡ record cache.old { state = cache.new.state; places = cache.new.places } }
 {
     Reply::Flag(write_to_found(cache, &key, value))
 }
@@ -119,7 +121,7 @@ pub(crate) fn poke<
         L.Lifecycle cache.old)
         K.eq K.is_clone V.is_clone answers cache.old.state (Call.PeekMut key value) result []
         cache.new.state }
-    ensures same { cache.new ≡ record cache.old { state = cache.new.state } }
+    ensures same { cache.new ≡ record cache.old { state = cache.new.state; places = cache.new.places } }
 {
     Reply::Flag(write_to_peeked(cache, &key, value))
 }

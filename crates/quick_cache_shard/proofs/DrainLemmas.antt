@@ -49,7 +49,7 @@ module _ {K V We B L : Type 0} where
     cleared = second.cleared ∙ first.cleared;
     room = omega (arith, first.room, second.room);
     same = second.same
-        ∙ ap (λ (s : Shard K V We B L). record s { state = new.state; room = new.room }) first.same;
+        ∙ ap (λ (s : Shard K V We B L). record s { state = new.state; places = new.places; room = new.room }) first.same;
   }
 
   -- one step of a drain: what it gives, and what stays
@@ -63,7 +63,7 @@ module _ {K V We B L : Type 0} where
 
   pub TakesItem-keeps : (old new : Shard K V We B L) (pair : K × V)
       → TakesItem old.state pair new.state → old.room ≤ new.room
-      → new ≡ record old { state = new.state; room = new.room } → KeepsBesideItems old new
+      → new ≡ record old { state = new.state; places = new.places; room = new.room } → KeepsBesideItems old new
   TakesItem-keeps old new pair takes room same = record {
     cleared = ap cleared takes.rest
         ∙ with_items-cleared takes.place (takes.before ++ takes.after) old.state;

@@ -17,6 +17,7 @@ GivesOne rest (Some pair) left = IsPermutation rest (pair ∷ left)
 abbrev pub emptied : {K V We B L : Type 0} → Shard K V We B L → Shard K V We B L
 emptied shard = record shard {
   state = cleared shard.state;
+  places = [];
   room = shard.room + slots_taken shard.state;
 }
 
@@ -25,7 +26,7 @@ emptied shard = record shard {
 pub record KeepsBesideItems {K V We B L : Type 0} (old new : Shard K V We B L) : Type 0 where
   pub cleared : cleared new.state ≡ cleared old.state
   pub room : old.room ≤ new.room
-  pub same : new ≡ record old { state = new.state; room = new.room }
+  pub same : new ≡ record old { state = new.state; places = new.places; room = new.room }
 
 -- the pairs of all items
 abbrev pub pairs_in : {K V We B L : Type 0} → Shard K V We B L → List (K × V)

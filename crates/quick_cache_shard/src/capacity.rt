@@ -5,11 +5,11 @@ ghost use Rattle.quick_cache_model.specs.Hooks.{Calls};
 ghost use Rattle.quick_cache_model.specs.Sizes.{rescaled_target, rescaled_limit};
 ghost use Rattle.quick_cache_policy.specs.Advances.{Evicting};
 ghost use Rattle.quick_cache_policy.specs.Work.{WorksWithin};
-ghost use Rattle.quick_cache_shard.specs.Shard.{rules_of, hooks_of, IsSoundShard};
+ghost use Rattle.quick_cache_shard.specs.Shard.{LosesOnly, rules_of, hooks_of, IsSoundShard};
 
 use crate::shard::CacheShard;
-use quick_cache_base::sizes::{rescaled_limit, rescaled_target};
 use quick_cache_model::{Lifecycle, Weighter};
+use quick_cache_options::sizes::{rescaled_limit, rescaled_target};
 use quick_cache_policy::SharedPlaceholder;
 use std::alloc::Allocator;
 use std::hash::{BuildHasher, Hash};
@@ -46,12 +46,14 @@ impl<
         ensures present { capacity ≡ self.old.state.capacity
             → (self.new.state.hot_target ≡ self.old.state.hot_target)
             × (self.new.state.ghost_limit ≡ self.old.state.ghost_limit) }
+        ensures places { LosesOnly self.old.places self.new.places }
         ensures room { self.old.room ≤ self.new.room }
         // How much work it takes, whatever is pinned.
         ensures work { WorksWithin (length self.old.state.hot + length self.old.state.cold + 1)
             self.old.work self.new.work }
         ensures same { self.new ≡ record self.old {
           state = self.new.state;
+          places = self.new.places;
           room = self.new.room;
           work = self.new.work;
         } }

@@ -1,9 +1,10 @@
 //! Takes all items out of a shard, one after another.
 ghost use Rattle.std.specs.Prelude.{◌≡◌, ◌≤◌, length, MatchOption, IfSome, Some};
+ghost use Rattle.std.specs.Int.NonZero.{non_zero_u32_get as number};
 ghost use Rattle.std.specs.Iterator.{at_most, UpTo};
 ghost use Rattle.std.specs.Iterator.SizeHint.{IsWithinCount};
 ghost use Rattle.quick_cache_policy.specs.Tokens.{TakesItem};
-ghost use Rattle.quick_cache_shard.specs.Shard.{IsSoundShard};
+ghost use Rattle.quick_cache_shard.specs.Shard.{IsSoundShard, LeavesPlace};
 ghost use Rattle.quick_cache_shard.specs.ShardDrain.{drained, drain_lender, DrainsInAll};
 
 use crate::shard::CacheShard;
@@ -130,10 +131,17 @@ impl<K: Eq + Hash, V, We, B: BuildHasher, L, P: SharedPlaceholder<K>, A: Allocat
         ensures takes { MatchOption result
             ((item_count self.old.state ≡ 0) × (self.new ≡ self.old))
             (λ taken. TakesItem self.old.state taken.1 self.new.state) }
+        ensures leaves { IfSome result
+            (λ taken. LeavesPlace self.old (number taken.0) taken.1.0 self.new) }
         ensures room { self.old.room ≤ self.new.room }
-        ensures same { self.new ≡ record self.old { state = self.new.state; room = self.new.room } }
+        ensures same { self.new ≡ record self.old {
+          state = self.new.state;
+          places = self.new.places;
+          room = self.new.room;
+        } }
         ensures sound { IsSoundShard K.eq self.new }
     {
+        self.contents.lists.apart();
         let taken = self.contents.take_next(after);
         self.contents.lists.apart();
         taken

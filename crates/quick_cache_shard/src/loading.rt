@@ -1,16 +1,16 @@
 //! Placeholders: made or met by a look-up, filled, or given up.
-ghost use Rattle.std.specs.Prelude.{◌≡◌, ◌≤◌, ◌+◌, length, true};
+ghost use Rattle.std.specs.Prelude.{◌≡◌, ◌≤◌, ◌+◌, length, true, MatchOption};
 ghost use Rattle.quick_cache_model.specs.Hashing.{hash_of};
 ghost use Rattle.quick_cache_model.specs.Hooks.{Calls};
-ghost use Rattle.quick_cache_model.specs.Placeholders.{GivesUpPlaceholder};
-ghost use Rattle.quick_cache_policy.specs.Filling.{AnswersFill};
+ghost use Rattle.quick_cache_model.specs.Placeholders.{GivesUpPlaceholder, HasNoTicket};
+ghost use Rattle.quick_cache_policy.specs.Filling.{AnswersFill, AwaitsKey};
 ghost use Rattle.quick_cache_policy.specs.Work.{WorksWithin};
-ghost use Rattle.quick_cache_shard.specs.Loading.{IsMadeUnder, LooksUpOrMakes};
-ghost use Rattle.quick_cache_shard.specs.Shard.{rules_of, hooks_of, UpToOrder, IsSoundShard};
+ghost use Rattle.quick_cache_shard.specs.Loading.{FindsToken, IsMadeUnder, LooksUpOrMakes};
+ghost use Rattle.quick_cache_shard.specs.Shard.{KeepsPlaces, LosesOnly, rules_of, hooks_of, UpToOrder, IsSoundShard};
 
 use crate::shard::CacheShard;
 use quick_cache_model::{Lifecycle, Refusal, ToKey, Token, Weighter};
-use quick_cache_policy::SharedPlaceholder;
+use quick_cache_policy::{MakesPlaceholders, SharedPlaceholder};
 use std::alloc::Allocator;
 use std::hash::{BuildHasher, Hash};
 
@@ -34,8 +34,9 @@ impl<
     /// Only where one would be made: `TicketsSpent`, `SlotsFull` where there is no ghost either, or
     /// `Memory`, of which the key, the placeholder and a slot may ask. Nothing has changed then.
     #[inline(always)]
-    pub fn get_or_placeholder<Q: ToKey<K>>(
+    pub fn get_or_placeholder<Q: ToKey<K>, M: MakesPlaceholders<K, P>>(
         &mut self,
+        maker: &M,
         hash: u64,
         query: &Q,
     ) -> Result<Result<Token, (P, bool)>, Refusal>
@@ -47,12 +48,17 @@ impl<
             (Q.to_key_gives query.now) hash self.old.state result self.new.state }
         // A new placeholder has the hash of its key.
         ensures hash { IsMadeUnder P.hash_of hash result }
+        // The token of an item that was found is where it stands. No item moves.
+        ensures token { FindsToken (Q.equivalent query.now) self.new result }
         // It takes room for one entry at most.
         ensures room { self.old.room ≤ self.new.room + 1 }
-        ensures same { self.new ≡ record self.old { state = self.new.state; room = self.new.room } }
+        ensures same { self.new ≡ record self.old {
+          state = self.new.state;
+          room = self.new.room;
+        } }
         ensures sound { IsSoundShard K.eq self.new }
     {
-        let answer = self.contents.get_or_placeholder(hash, query);
+        let answer = self.contents.get_or_placeholder(maker, hash, query);
         self.contents.lists.apart();
         answer
     }
@@ -85,12 +91,14 @@ impl<
             B.Hasher.Hasher L.Lifecycle self.old)
             referenced value result self.new.state)
             state.old state.new }
+        ensures places { KeepsPlaces K.eq self.old.places self.new.places }
         ensures room { self.old.room ≤ self.new.room }
         // How much work it takes, whatever is pinned.
         ensures work { WorksWithin (length self.old.state.hot + length self.old.state.cold + 1)
             self.old.work self.new.work }
         ensures same { self.new ≡ record self.old {
           state = self.new.state;
+          places = self.new.places;
           room = self.new.room;
           work = self.new.work;
         } }
@@ -103,13 +111,30 @@ impl<
         answer
     }
 
+    /// The key of the placeholder of that ticket, if it is there. It is looked for as by
+    /// `replace_placeholder`, and nothing changes.
+    pub fn loading_key(&self, placeholder: &P) -> Option<&K>
+        ensures key { MatchOption result
+            (HasNoTicket (P.own_ticket placeholder.now) self.now.state)
+            (λ key. AwaitsKey (P.own_ticket placeholder.now) self.now.state key.now) }
+        ensures sound { IsSoundShard K.eq self.now }
+    {
+        self.contents.lists.apart();
+        self.contents.awaited_key(placeholder)
+    }
+
     /// Takes the placeholder of that ticket out, if it is there, and calls no hook. It is looked
     /// for as by `replace_placeholder`.
     pub fn remove_placeholder(&mut self, placeholder: &P)
         ensures gives_up { UpToOrder
             (GivesUpPlaceholder (P.own_ticket placeholder.now) self.old.state) self.new.state }
+        ensures places { LosesOnly self.old.places self.new.places }
         ensures room { self.old.room ≤ self.new.room }
-        ensures same { self.new ≡ record self.old { state = self.new.state; room = self.new.room } }
+        ensures same { self.new ≡ record self.old {
+          state = self.new.state;
+          places = self.new.places;
+          room = self.new.room;
+        } }
         ensures sound { IsSoundShard K.eq self.new }
     {
         self.contents.remove_placeholder(placeholder);

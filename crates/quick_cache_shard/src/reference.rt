@@ -1,10 +1,11 @@
 //! A value that is written where it stands.
 ghost use Rattle.std.specs.Prelude.{◌≡◌, ◌<◌, IfNone, IfSome, MatchOption, true, false};
 ghost use Rattle.std.specs.Borrow.{sem};
+ghost use Rattle.std.specs.Int.NonZero.{non_zero_u32_get as number};
 ghost use Rattle.quick_cache_model.specs.Finding.{HasNoItem};
 ghost use Rattle.quick_cache_model.specs.Hashing.{hash_of};
 ghost use Rattle.quick_cache_policy.specs.References.{count_under, IsValueUnder, ReweighsUnder, NotesLookUp};
-ghost use Rattle.quick_cache_shard.specs.Shard.{rules_of, IsSoundShard};
+ghost use Rattle.quick_cache_shard.specs.Shard.{LosesOnly, rules_of, IsSoundShard, HasTokenUnder};
 
 use crate::shard::CacheShard;
 use quick_cache_model::{Equivalent, Lifecycle, Token, Weighter};
@@ -33,6 +34,8 @@ impl<K: Eq + Hash, V, We, B: BuildHasher, L, P: SharedPlaceholder<K>, A: Allocat
             (λ _. NotesLookUp (Q.equivalent query.now) self.old.state true self.new.state) }
         ensures there { IfSome result
             (λ _. 0 < count_under (Q.equivalent query.now) self.new.state) }
+        ensures token { IfSome result
+            (λ token. HasTokenUnder (Q.equivalent query.now) self.new (number token)) }
         ensures same { self.new ≡ record self.old { state = self.new.state } }
         ensures sound { IsSoundShard K.eq self.new }
     {
@@ -48,6 +51,8 @@ impl<K: Eq + Hash, V, We, B: BuildHasher, L, P: SharedPlaceholder<K>, A: Allocat
             (Q.hash_input query.now) }
         ensures there { IfSome result
             (λ _. 0 < count_under (Q.equivalent query.now) self.now.state) }
+        ensures token { IfSome result
+            (λ token. HasTokenUnder (Q.equivalent query.now) self.now (number token)) }
         ensures absent { IfNone result (HasNoItem (Q.equivalent query.now) self.now.state) }
         ensures sound { IsSoundShard K.eq self.now }
     {
@@ -109,8 +114,12 @@ impl<K: Eq + Hash, V, We, B: BuildHasher, L, P: SharedPlaceholder<K>, A: Allocat
             (rules_of P.Touch.may_count K.Hash.hash_input We.Weighter B.BuildHasher
             B.Hasher.Hasher L.Lifecycle self.old)
             self.old.state self.new.state }
+        ensures places { LosesOnly self.old.places self.new.places }
         ensures there { 0 < count_under (Q.equivalent query.now) self.new.state }
-        ensures same { self.new ≡ record self.old { state = self.new.state } }
+        ensures same { self.new ≡ record self.old {
+          state = self.new.state;
+          places = self.new.places;
+        } }
     {
         self.contents.reweigh(thought, hash, query, &self.terms);
     }

@@ -1,11 +1,11 @@
 //! Removals by a predicate of the caller, and of all that there is.
-ghost use Rattle.std.specs.Prelude.{◌≡◌, ◌≤◌, ◌+◌, Bool};
+ghost use Rattle.std.specs.Prelude.{◌≡◌, ◌≤◌, ◌+◌, [], Bool};
 ghost use Rattle.std.specs.Fn.{FnOnceReturnsAt};
 ghost use Rattle.quick_cache_model.specs.Hashing.{hash_of};
 ghost use Rattle.quick_cache_model.specs.Refusals.{slots_taken};
 ghost use Rattle.quick_cache_model.specs.Removal.{RemovesIf, Retains, cleared};
 ghost use Rattle.quick_cache_policy.specs.Predicates.{Answers, IsAnsweredAs, IsTestedAs, RemovesAsked, RetainsAsked};
-ghost use Rattle.quick_cache_shard.specs.Shard.{UpToOrder, IsSoundShard};
+ghost use Rattle.quick_cache_shard.specs.Shard.{LosesOnly, UpToOrder, IsSoundShard};
 
 use crate::shard::CacheShard;
 use quick_cache_model::Equivalent;
@@ -43,8 +43,13 @@ impl<K: Eq + Hash, V, We, B: BuildHasher, L, P: SharedPlaceholder<K>, A: Allocat
         // Whatever it answers, the item goes or stays by that.
         ensures asks { UpToOrder (RemovesAsked (Q.equivalent query.now) self.old.state
             (FnOnceReturnsAt F.FnOnce wanted) result) self.new.state }
+        ensures places { LosesOnly self.old.places self.new.places }
         ensures room { self.old.room ≤ self.new.room }
-        ensures same { self.new ≡ record self.old { state = self.new.state; room = self.new.room } }
+        ensures same { self.new ≡ record self.old {
+          state = self.new.state;
+          places = self.new.places;
+          room = self.new.room;
+        } }
         ensures sound { IsSoundShard K.eq self.new }
     {
         let taken = self.contents.remove_if(hash, query, wanted);
@@ -67,8 +72,13 @@ impl<K: Eq + Hash, V, We, B: BuildHasher, L, P: SharedPlaceholder<K>, A: Allocat
 
         // Whatever it answers, each item goes or stays by that.
         ensures asks { UpToOrder (RetainsAsked (Answers F.Fn keep) self.old.state) self.new.state }
+        ensures places { LosesOnly self.old.places self.new.places }
         ensures room { self.old.room ≤ self.new.room }
-        ensures same { self.new ≡ record self.old { state = self.new.state; room = self.new.room } }
+        ensures same { self.new ≡ record self.old {
+          state = self.new.state;
+          places = self.new.places;
+          room = self.new.room;
+        } }
         ensures sound { IsSoundShard K.eq self.new }
     {
         self.contents.retain(keep);
@@ -83,6 +93,7 @@ impl<K: Eq + Hash, V, We, B: BuildHasher, L, P: SharedPlaceholder<K>, A: Allocat
         V: Drop,
         ensures clears { self.new ≡ record self.old {
           state = cleared self.old.state;
+          places = [];
           room = self.old.room + slots_taken self.old.state;
         } }
         ensures sound { IsSoundShard K.eq self.new }

@@ -1,5 +1,5 @@
 //! The shard: its calls, and what a contract sees of it.
-ghost use Rattle.std.specs.Prelude.{◌≡◌, IfOk, IfErr, IsOk, MatchOption, option_copied, ◌≤◌, ◌+◌, OnErr, Some, min, ◌-◌, OnOk, length, IsSome, true, false, None};
+ghost use Rattle.std.specs.Prelude.{◌≡◌, IfOk, IfErr, IsOk, MatchOption, option_copied, ◌≤◌, ◌+◌, OnErr, Some, [], min, ◌-◌, OnOk, length, IsSome, true, false, None};
 ghost use Rattle.std.specs.Bool.{OnTrue, OnFalse};
 ghost use Rattle.std.specs.Borrow.{sem};
 ghost use Rattle.std.specs.Option.{option_map};
@@ -16,11 +16,11 @@ ghost use Rattle.quick_cache_model.specs.Sizes.{hot_target_of, ghost_limit_of};
 ghost use Rattle.quick_cache_policy.specs.Work.{no_work, WorksWithin};
 ghost use Rattle.quick_cache_policy.specs.Writing.{strategy_of, is_insert, AnswersWrite};
 ghost use Rattle.quick_cache_policy.specs.Copies.{ClonesAreEqual, IsCopyOf};
-ghost use Rattle.quick_cache_shard.specs.Shard.{rules_of, hooks_of, UpToOrder, IsSoundShard, HasItem};
+ghost use Rattle.quick_cache_shard.specs.Shard.{KeepsPlaces, LosesOnly, rules_of, hooks_of, UpToOrder, IsSoundShard, HasItem};
 ghost use Rattle.quick_cache_model.specs.Refusals.{slots_taken, slot_count};
 
-use quick_cache_base::sizes::{ghost_limit, hot_target};
 use quick_cache_model::{Equivalent, Lifecycle, Refusal, Token, Weighter, hash_of};
+use quick_cache_options::sizes::{ghost_limit, hot_target};
 use quick_cache_policy::{Contents, InsertStrategy, SharedPlaceholder, Terms};
 use std::alloc::{Allocator, Global};
 use std::hash::{BuildHasher, Hash};
@@ -47,11 +47,13 @@ impl<K: Eq + Hash, V, We, B: BuildHasher, L, P: SharedPlaceholder<K>, A: Allocat
     ghost use Rattle.quick_cache_shard.specs.Shard.{Shard};
     ghost use Rattle.quick_cache_model.specs.Hashing.{hash_of};
     ghost use Rattle.quick_cache_policy.specs.Contents.{IsSound, state_of, work_of};
+    ghost use Rattle.quick_cache_policy.specs.Places.{places_of};
 
     ghost Value = { Shard K V We B L };
 
     ghost view = { λ s. record {
       state = state_of P.ticket_of s.contents;
+      places = places_of s.contents.lists;
       weigher = s.terms.weigher;
       builder = s.terms.builder;
       lifecycle = s.terms.lifecycle;
@@ -96,6 +98,7 @@ impl<K: Eq + Hash, V, We, B: BuildHasher, L, P: SharedPlaceholder<K>, A: Allocat
         L: Drop,
         ensures makes { IfOk result (λ shard. shard ≡ record {
           state = empty_state weight (hot_target_of weight hot) (ghost_limit_of items ghosts);
+          places = [];
           weigher = weigher;
           builder = builder;
           lifecycle = lifecycle;
@@ -208,6 +211,8 @@ impl<K: Eq + Hash, V, We, B: BuildHasher, L, P: SharedPlaceholder<K>, A: Allocat
             B.Hasher.Hasher L.Lifecycle self.old)
             K.eq (strategy_of strategy) self.old.state state.old key value result
             self.new.state state.new }
+        // No item that stays moves.
+        ensures places { KeepsPlaces K.eq self.old.places self.new.places }
         // Only a replace gives a pair back with no refusal, and it is never refused.
         ensures taken { is_insert (strategy_of strategy) ≡ true
             → IfErr result (λ back. IsSome back.2) }
@@ -224,6 +229,7 @@ impl<K: Eq + Hash, V, We, B: BuildHasher, L, P: SharedPlaceholder<K>, A: Allocat
             self.old.work self.new.work }
         ensures same { self.new ≡ record self.old {
           state = self.new.state;
+          places = self.new.places;
           room = self.new.room;
           work = self.new.work;
         } }
@@ -322,8 +328,13 @@ impl<K: Eq + Hash, V, We, B: BuildHasher, L, P: SharedPlaceholder<K>, A: Allocat
             (Q.hash_input query.now) }
         ensures removes { UpToOrder (Removes (Q.equivalent query.now) self.old.state hash result)
             self.new.state }
+        ensures places { LosesOnly self.old.places self.new.places }
         ensures room { self.old.room ≤ self.new.room }
-        ensures same { self.new ≡ record self.old { state = self.new.state; room = self.new.room } }
+        ensures same { self.new ≡ record self.old {
+          state = self.new.state;
+          places = self.new.places;
+          room = self.new.room;
+        } }
         ensures sound { IsSoundShard K.eq self.new }
     {
         let taken = self.contents.remove(hash, query);

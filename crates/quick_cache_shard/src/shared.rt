@@ -1,5 +1,5 @@
 //! Look-ups beside other readers, which add to counts alone.
-ghost use Rattle.std.specs.Prelude.{◌≡◌, IfOk, IfErr, option_copied};
+ghost use Rattle.std.specs.Prelude.{◌≡◌, IsOk, IfOk, IfErr, option_copied};
 ghost use Rattle.quick_cache_model.specs.declared.refusal.Refusal.TheVariants.{Memory};
 ghost use Rattle.quick_cache_model.specs.Hashing.{hash_of};
 ghost use Rattle.quick_cache_model.specs.Lookups.{Sees};
@@ -37,6 +37,37 @@ impl<K: Eq + Hash, V, We, B: BuildHasher, L, P: SharedPlaceholder<K>, A: Allocat
         Some(item.value())
     }
 
+    /// A clone of the value under the query, as readers beside each other look it up. A find counts
+    /// a hit and a touch of the item, once the clone is made; no miss is counted.
+    ///
+    /// # Errors
+    ///
+    /// `Memory` where the clone failed. Nothing was counted then.
+    pub fn find_clone<Q: Equivalent<K>>(&self, hash: u64, query: &Q) -> Result<Option<V>, Refusal>
+    where
+        V: Clone,
+        requires hash_is { hash ≡ hash_of B.BuildHasher B.Hasher.Hasher self.now.builder
+            (Q.hash_input query.now) }
+        ensures shows { IfOk result
+            (ShowsClone (Q.equivalent query.now) V.is_clone self.now.state) }
+        ensures refused { IfErr result (λ refusal. refusal ≡ Memory) }
+        ensures there { IfErr result (λ _. HasItem (Q.equivalent query.now) self.now.state) }
+        ensures succeeds { ((value : V) → V.is_infallible value) → IsOk result }
+        ensures sound { IsSoundShard K.eq self.now }
+    {
+        self.contents.lists.apart();
+        let Some(item) = self.contents.peek(hash, query) else {
+            return Ok(None);
+        };
+        match item.value().clone() {
+            Ok(copy) => {
+                self.contents.count_shared_hit(&item);
+                Ok(Some(copy))
+            }
+            Err(_) => Err(Refusal::Memory),
+        }
+    }
+
     /// A clone of the value that `get_shared` finds. It is made before anything is counted.
     ///
     /// # Errors
@@ -51,19 +82,16 @@ impl<K: Eq + Hash, V, We, B: BuildHasher, L, P: SharedPlaceholder<K>, A: Allocat
             (ShowsClone (Q.equivalent query.now) V.is_clone self.now.state) }
         ensures refused { IfErr result (λ refusal. refusal ≡ Memory) }
         ensures there { IfErr result (λ _. HasItem (Q.equivalent query.now) self.now.state) }
+        ensures succeeds { ((value : V) → V.is_infallible value) → IsOk result }
         ensures sound { IsSoundShard K.eq self.now }
     {
-        self.contents.lists.apart();
-        let Some(item) = self.contents.peek(hash, query) else {
-            self.contents.count_shared_miss();
-            return Ok(None);
-        };
-        match item.value().clone() {
-            Ok(copy) => {
-                self.contents.count_shared_hit(&item);
-                Ok(Some(copy))
+        match self.find_clone(hash, query) {
+            Ok(Some(copy)) => Ok(Some(copy)),
+            Ok(None) => {
+                self.contents.count_shared_miss();
+                Ok(None)
             }
-            Err(_) => Err(Refusal::Memory),
+            Err(refusal) => Err(refusal),
         }
     }
 }

@@ -1,7 +1,10 @@
 //! Items by their tokens.
-ghost use Rattle.std.specs.Prelude.{◌≡◌, ◌≤◌, MatchOption, IfSome};
-ghost use Rattle.quick_cache_policy.specs.Tokens.{HasValue, TakesItem};
-ghost use Rattle.quick_cache_shard.specs.Shard.{IsSoundShard};
+ghost use Rattle.std.specs.Prelude.{◌≡◌, ◌≤◌, IfSome, MatchOption};
+ghost use Rattle.std.specs.Int.NonZero.{non_zero_u32_get as number};
+ghost use Rattle.quick_cache_lists.specs.Lists.{number_or_zero};
+ghost use Rattle.quick_cache_policy.specs.Tokens.{TakesItem};
+ghost use Rattle.quick_cache_shard.specs.PlaceWalks.{EndsAt, GivesOnce, IsNextPlace};
+ghost use Rattle.quick_cache_shard.specs.Shard.{IsSoundShard, IsFree, StandsAt, LeavesPlace};
 
 use crate::shard::CacheShard;
 use quick_cache_model::Token;
@@ -21,7 +24,10 @@ impl<K: Eq + Hash, V, We, B: BuildHasher, L, P: SharedPlaceholder<K>, A: Allocat
     /// The value of the item that stands at the token, if one does. Nothing changes: it is no use
     /// of the item.
     pub fn peek_token(&self, token: Token) -> Option<&V>
-        ensures shown { IfSome result (λ value. HasValue self.now.state value.now) }
+        ensures shown { MatchOption result
+            (IsFree self.now (number token))
+            (λ value. (item : _) × StandsAt self.now (number token) item
+            × (value.now ≡ item.value)) }
         ensures sound { IsSoundShard K.eq self.now }
     {
         self.contents.lists.apart();
@@ -35,12 +41,51 @@ impl<K: Eq + Hash, V, We, B: BuildHasher, L, P: SharedPlaceholder<K>, A: Allocat
         ensures takes { MatchOption result
             (self.new.state ≡ self.old.state)
             (λ pair. TakesItem self.old.state pair self.new.state) }
+        ensures leaves { MatchOption result
+            (IsFree self.old (number token) × (self.new ≡ self.old))
+            (λ pair. LeavesPlace self.old (number token) pair.0 self.new) }
         ensures room { self.old.room ≤ self.new.room }
-        ensures same { self.new ≡ record self.old { state = self.new.state; room = self.new.room } }
+        ensures same { self.new ≡ record self.old {
+          state = self.new.state;
+          places = self.new.places;
+          room = self.new.room;
+        } }
         ensures sound { IsSoundShard K.eq self.new }
     {
+        self.contents.lists.apart();
         let taken = self.contents.remove_token(token);
         self.contents.lists.apart();
         taken
     }
+
+    /// Takes out the item of the least token above this one, or of the least token of all where none
+    /// is given, and gives its token and its pair. So a walk takes out one item after another, and
+    /// any steps may come between. No hook is called, and no memory is asked for.
+    pub fn remove_next(&mut self, after: Option<Token>) -> Option<(Token, K, V)>
+        ensures next { MatchOption result
+            (EndsAt self.old.places (number_or_zero after) × (self.new ≡ self.old))
+            (λ taken. IsNextPlace self.old.places (number_or_zero after)
+            (number taken.0, taken.1)
+            × LeavesPlace self.old (number taken.0) taken.1 self.new) }
+        ensures takes { IfSome result
+            (λ taken. TakesItem self.old.state (taken.1, taken.2) self.new.state) }
+        ensures room { self.old.room ≤ self.new.room }
+        ensures same { self.new ≡ record self.old {
+          state = self.new.state;
+          places = self.new.places;
+          room = self.new.room;
+        } }
+        ensures sound { IsSoundShard K.eq self.new }
+    {
+        self.contents.lists.apart();
+        let taken = self.contents.remove_next(after);
+        self.contents.lists.apart();
+        taken
+    }
 }
+
+/// A walk by tokens gives each key that stays exactly once, whatever steps come between that move
+/// no item that stays.
+pub fn gives_each_once<K: Eq>()
+    ensures { (key : K) → GivesOnce K.eq key }
+{}

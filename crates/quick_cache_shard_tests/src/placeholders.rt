@@ -4,13 +4,13 @@ ghost use Rattle.std.proofs.Common.{rules};
 
 use crate::rows::{Tested, empty, put, seen};
 use quick_cache_test_parts::counting::Told;
-use quick_cache_test_parts::placeholder::Placeholder;
+use quick_cache_test_parts::placeholder::{Placeholder, Plainly};
 use std::test::Fail;
 
 /// Begins to load a key under which no item stands. The flag says that the placeholder is new.
 fn begins(shard: &mut Tested<u64, u64>, key: u64) -> Option<(Placeholder, bool)> {
     let hash = shard.hash(&key);
-    match shard.get_or_placeholder(hash, &key) {
+    match shard.get_or_placeholder(&Plainly, hash, &key) {
         Ok(Ok(_)) => None,
         Ok(Err(begun)) => Some(begun),
         Err(_) => None,

@@ -1,9 +1,9 @@
 //! Touches that readers left at an item become marks of it, each one.
 use crate::rows::{Tested, empty, put, replaced};
 use quick_cache_shard::Touches;
-use quick_cache_test_parts::caches::{shows, shows_ghosts};
 use quick_cache_test_parts::counting::Told;
 use quick_cache_test_parts::placeholder::Touched;
+use quick_cache_test_parts::walks::{shows, shows_ghosts};
 use std::alloc::Global;
 use std::process::Abort;
 use std::test::Fail;

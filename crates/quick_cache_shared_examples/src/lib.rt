@@ -6,8 +6,11 @@ pub mod divisors;
 mod looking;
 #[cfg(test)]
 mod making;
+pub mod memoised;
 #[cfg(test)]
 mod removing;
+pub mod saved;
+pub mod sessions;
 #[cfg(test)]
 mod telling;
 #[cfg(test)]

@@ -40,7 +40,7 @@ fn num_shards_shard_index_and_shard_capacity(rt: HostRuntime) -> Result<(), Fail
 fn memory_used(rt: HostRuntime) -> Result<(), Fail> {
     let cache: Cache<u64, u64> = Cache::new(rt.alloc(), 100)?;
     assert_eq!(rt; cache.insert(&rt, 1, 10), Ok(()));
-    // In bytes: the slots, and the tables that find them.
+    // In bytes: the slots, and the indexes that find them.
     assert!(rt; cache.memory_used(&rt).entries > 0);
     assert!(rt; cache.memory_used(&rt).map > 0);
     Ok(())

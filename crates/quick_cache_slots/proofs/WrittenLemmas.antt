@@ -14,6 +14,9 @@ use Rattle.quick_cache_slots.specs.Joined.{joined_slot, joined_slots, joined, Ar
 use Rattle.quick_cache_slots.specs.Items.{with_value}
 use Rattle.quick_cache_slots.specs.Slots.{HasItem, HasLoading, HasEntry, HasValue, slot_changed}
 use Rattle.quick_cache_slots.specs.Lent.{IsStoredValue}
+use Rattle.quick_cache_slots.specs.Shown.{HoldsOfItem, Leaves, ShowsStored, ShowsSlot}
+use denote.Ref.{Bor, MutBor}
+use denote.Param.Members.{Mut}
 use Rattle.quick_cache_slots.specs.Stored.{slot_of, entry_of, item_of_body, entry_with_value, IsItem, IsAwaited}
 use Rattle.quick_cache_slots.specs.Walks.{no_aside}
 use Rattle.quick_cache_slots.specs.Writes.{Writes, changed_at, changed_to}
@@ -243,6 +246,41 @@ module _ {K V P T : Type 0} where
         let write = Writes-entry slab asides left t stored beside at change
         (entry_with_value value stored) (slot_of-with_value value stored) in
         write.is ∙ ap (λ (o : Option (Slot K V P T)). changed_to change t o whole) (sym write.was)
+
+    -- an item that is shown where it is stored is shown in its slot
+    module _ {F R : Type 0}
+        (calls : Mut F (Bor K × (MutBor V × Unit {0})) (R × (MutBor V × Unit {0})))
+        (callback : F) (answer : R) (next : F) where
+      shown-in : (entry : StoredEntry K V P T) (aside : Aside) (value : V)
+          (new : LinkedSlab (Slot K V P T))
+          → HoldsOfItem entry (λ k v. Leaves calls callback k v answer next value)
+          → item_at (joined slab asides left) t ≡ Some (slot_of entry aside)
+          → Writes (joined slab asides left) new t (slot_changed (with_value value))
+          → ShowsSlot calls callback (joined slab asides left) t answer next new
+      shown-in (stored_item head body) aside value new called has writes = record {
+        hash = aside.hash;
+        item = item_of_body head body aside;
+        at = has;
+        left = value;
+        called = called;
+        writes = writes;
+      }
+      shown-in (stored_loading queue key placeholder) aside value new called has writes =
+          absurd called
+      shown-in stored_ghost aside value new called has writes = absurd called
+
+      pub shown-joined : (new : StoredEntry K V P T)
+          → ShowsStored calls callback stored answer next new
+          → ShowsSlot calls callback (joined slab asides left) t answer next
+          (joined (with_item slab t new) asides left)
+      shown-joined new shows =
+          let aside = at_token asides t no_aside in
+          shown-in stored aside shows.left (joined (with_item slab t new) asides left) shows.called
+          (slot-joined slab asides left t stored aside beside at refl)
+          (Writes-entry slab asides left t stored beside at
+          (slot_changed {P = P} {T = T} (with_value {K = K} shows.left)) new
+          (λ a. ap (λ (e : StoredEntry K V P T). slot_of e a) shows.rest
+          ∙ slot_of-with_value shows.left stored a))
 
     -- the value of a stored entry is that of its slot
     has-value : (entry : StoredEntry K V P T) (aside : Aside) (value : V)

@@ -6,3 +6,4 @@ pub mod Joined
 pub mod Lent
 pub mod Copies
 pub mod Walks
+pub mod Shown

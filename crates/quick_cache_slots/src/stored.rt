@@ -1,5 +1,6 @@
 //! An entry as its slot stores it. What is small stands beside the tag of the entry, so that an item
 //! takes 32 bytes with its links where a key and a value take 8 each.
+ghost use Rattle.quick_cache_slots.specs.Shown.{ShowsStored};
 ghost use Rattle.std.specs.Prelude.{◌≡◌, false};
 ghost use Rattle.std.specs.Borrow.{sem};
 ghost use Rattle.quick_cache_model.specs.Touches.{counted_up};
@@ -233,6 +234,20 @@ impl<K, V, P, T> StoredEntry<K, V, P, T> {
     {
         match self {
             StoredEntry::Item(_, body) => body.value_mut(),
+            StoredEntry::Loading(_, _, _) => unreachable!(),
+            StoredEntry::Ghost => unreachable!(),
+        }
+    }
+
+    /// Shows the key of an item, and its value to write.
+    #[inline]
+    pub(crate) fn show<R, F: FnMut(&K, &mut V) -> R>(&mut self, callback: &mut F) -> R
+        requires item { IsItem self.old }
+        requires callable { F.IsAlwaysCallable callback.old }
+        ensures { ShowsStored F.FnMut callback.old self.old result callback.new self.new }
+    {
+        match self {
+            StoredEntry::Item(_, body) => callback(&body.key, &mut body.value),
             StoredEntry::Loading(_, _, _) => unreachable!(),
             StoredEntry::Ghost => unreachable!(),
         }

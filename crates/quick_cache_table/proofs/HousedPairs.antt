@@ -11,7 +11,7 @@ use Rattle.std.proofs.lemmas.List.Sorted.{IsPermutation-swap, sum_by-IsPermutati
 use Rattle.std.proofs.lemmas.List.Sums.{sum_by-append}
 use Rattle.quick_cache_table.specs.Places.{Place}
 use Rattle.quick_cache_table.specs.TableGroups.{hash_at, is_free, tag_of, holds_pair, place_at, empty_place, IsReached, IsHoused, IsHousedAt, IsBareBelow, HasSamePairs, ReachesGrow}
-use Rattle.quick_cache_table.proofs.PowersOfTwo.{IsPowerOfTwo-pos}
+use Rattle.quick_cache_model.proofs.PowersOfTwo.{IsPowerOfTwo-pos}
 use Rattle.quick_cache_table.proofs.CountedPlaces.{bit, equal_or_not, length-pairs_of}
 
 -- a bound of each number stays where one within it is written

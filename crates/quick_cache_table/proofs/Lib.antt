@@ -1,4 +1,3 @@
-pub mod Candidates
 pub mod CountedPlaces
 pub mod Distances
 pub mod FreedPlaces
@@ -9,7 +8,6 @@ pub mod NearestFreePlace
 pub mod OnlyTokens
 pub mod PairOrder
 pub mod PairedLists
-pub mod PowersOfTwo
 pub mod SearchAlongTokens
 pub mod ShownPairs
 pub mod WalkedTokens

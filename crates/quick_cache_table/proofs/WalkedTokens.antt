@@ -12,7 +12,7 @@ use Rattle.std.proofs.lemmas.List.Elements.{filter_map-append}
 use Rattle.std.proofs.lemmas.List.Sums.{sum_by-cons}
 use Rattle.quick_cache_table.specs.Places.{Place}
 use Rattle.quick_cache_table.specs.declared.table.walk.Walk.{Walk}
-use Rattle.quick_cache_table.specs.TableGroups.{hash_at, is_free, holds_pair, place_at, empty_place, tag_of, home_of, IsHousedAt, IsWhole, token_of, tokens_at, group_positions, lane_positions, positions_along, reach_of, positions_left, tokens_left, tagged_token, candidates_left, IsWalk, AreTokensOf}
+use Rattle.quick_cache_table.specs.TableGroups.{hash_at, is_free, holds_pair, place_at, empty_place, tag_of, home_of, IsHousedAt, IsWhole, token_of, tokens_at, group_positions, lane_positions, positions_along, reach_of, positions_left, tokens_left, IsWalk, AreTokensOf}
 use Rattle.quick_cache_table.proofs.CountedPlaces.{bool_tells, equal_or_not, bit, weigh, count_by-tokens_at, holds_pair-hash, and_right}
 use Rattle.quick_cache_table.proofs.GroupLanes.{lane_positions-first, lane_positions-none, lanes-few, lit-tag, given-lanes, tokens_at-lanes, trailing_zeros-lt, trailing_zeros-IsLowestBit, bit_at-rest, some_none}
 use Rattle.quick_cache_table.proofs.Distances.{xor-back}
@@ -166,8 +166,6 @@ pub record LooksAtLane (walk next : Walk) (position : ℕ) : Type 0 where
       → tokens_left walk ≡ (place_at walk.places position).token ∷ tokens_left next
   pub skip : hash_at (place_at walk.places position) ≢ walk.hash
       → tokens_left walk ≡ tokens_left next
-  pub candidate : candidates_left walk
-      ≡ (place_at walk.places position).token ∷ candidates_left next
   pub fewer : next.lanes < walk.lanes
 
 -- the walk behind the lowest lane
@@ -178,34 +176,10 @@ behind_lane walk = record walk { lanes = bit_and walk.lanes (walk.lanes - 1) }
 abbrev pub lane_position : Walk → ℕ
 lane_position walk = 16 * bit_xor walk.home walk.step + trailing_zeros w64 walk.lanes
 
--- a position that has the tag of the hash
-tagged_token-take : (tags : List ℕ) (places : List Place) (hash p : ℕ) (rest : List ℕ)
-    → get_or tags p 0 ≡ tag_of hash → filter_map (tagged_token tags places hash) (p ∷ rest)
-    ≡ (place_at places p).token ∷ filter_map (tagged_token tags places hash) rest
-tagged_token-take tags places hash p rest tagged =
-    ap (λ b. cons_option (cond b (Some (place_at places p).token) None)
-    (filter_map (tagged_token tags places hash) rest)) (eq-eqb (get_or tags p 0) (tag_of hash) tagged)
-
 -- the number that is there, or 0
 abbrev number_in : Option ℕ → ℕ
 number_in None = 0
 number_in (Some number) = number
-
--- what has a token there has the tag
-pub tagged_token-some : (tags : List ℕ) (places : List Place) (hash position token : ℕ)
-    → tagged_token tags places hash position ≡ Some token
-    → (get_or tags position 0 ≡ tag_of hash) × ((place_at places position).token ≡ token)
-tagged_token-some tags places hash position token has =
-    let some : Option ℕ = Some (place_at places position).token in
-    elim (bool_tells (eqb (get_or tags position 0) (tag_of hash))) [
-      | inl holds ↦ (
-        eqb-true (get_or tags position 0) (tag_of hash) holds,
-        ap number_in (sym (ap (λ b. cond b some None) holds) ∙ has),
-      )
-      | inr fails ↦
-          let none : None ≡ Some token = sym (ap (λ b. cond b some None) fails) ∙ has in
-          absurd (cc)
-    ]
 
 -- a tag is not 0
 pub tag_of-some : (hash : ℕ) → 0 < tag_of hash
@@ -251,12 +225,6 @@ looks_at_lane walk is some =
       skip =
           λ other. first ∙ tokens_at-skip walk.places walk.hash (lane_position walk)
           (lane_positions group lanes ++ behind) (λ same. absurd (other same));
-      candidate =
-          ap (λ ps. filter_map (tagged_token walk.tags.now walk.places walk.hash) (ps ++ behind))
-          (lane_positions-first group walk.lanes some few)
-          ∙ tagged_token-take walk.tags.now walk.places walk.hash (lane_position walk)
-          (lane_positions group lanes ++ behind)
-          (is.lit (trailing_zeros w64 walk.lanes) lowest.set);
       fewer = omega arith;
     }
 
@@ -278,11 +246,6 @@ pub tokens_left-end : (walk : Walk) → walk.lanes ≡ 0 → reach_of walk ≤ w
 tokens_left-end walk none last =
     given_left-end (token_of walk.places walk.hash) walk none last
 
-pub candidates_left-end : (walk : Walk) → walk.lanes ≡ 0 → reach_of walk ≤ walk.step
-    → candidates_left walk ≡ []
-candidates_left-end walk none last =
-    given_left-end (tagged_token walk.tags.now walk.places walk.hash) walk none last
-
 -- the walk that reads the next group, with these lanes to look at
 abbrev pub at_next_group : Walk → ℕ → Walk
 at_next_group walk lanes = record walk { step = walk.step + 1; lanes = lanes }
@@ -297,7 +260,6 @@ group-inside walk is more =
 pub record ReadsNextGroup (walk : Walk) (lanes : ℕ) : Type 0 where
   pub still : IsWalk (at_next_group walk lanes)
   pub left : tokens_left walk ≡ tokens_left (at_next_group walk lanes)
-  pub candidates : candidates_left walk ≡ candidates_left (at_next_group walk lanes)
   pub few : lanes < 65536
 
 -- what only places of the tag give, where the lanes are those of the tag
@@ -353,9 +315,6 @@ reads_next_group-tag walk is none more =
         tags = is.tags;
       };
       left = given_left-next (token_of walk.places walk.hash) walk is more none is.tags;
-      candidates = given_left-next (tagged_token walk.tags.now walk.places walk.hash) walk is more
-          none (λ position token has.
-          (tagged_token-some walk.tags.now walk.places walk.hash position token has).0);
       few = omega (arith, few);
     }
 

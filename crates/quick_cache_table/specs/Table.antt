@@ -1,5 +1,5 @@
 -- What a contract sees of a `Table`: a set of pairs of a hash and a token.
-use Rattle.std.specs.Prelude.{◌≡◌, ℕ, ◌+◌, ◌-◌, ◌<◌, min, Bool, true, false, ◌&&◌, ◌||◌, ◌==◌, nat_lt, if◌then◌else◌, IsTrue, List, [], ◌∷◌, length, count_by, Option, Some, None, refl}
+use Rattle.std.specs.Prelude.{◌≡◌, ℕ, ◌+◌, ◌-◌, min, Bool, true, false, ◌&&◌, ◌||◌, ◌==◌, nat_lt, if◌then◌else◌, IsTrue, List, [], ◌∷◌, length, count_by, Option, Some, None, refl}
 use Rattle.std.specs.Bool.{MatchBool}
 use Rattle.std.specs.Option.{MatchOption}
 use Rattle.std.specs.List.{list_any}
@@ -85,11 +85,6 @@ IsTokensOf table hash tokens =
 -- the table has a pair of that token
 abbrev pub HasToken : Table → ℕ → Type 0
 HasToken table token = (hash : ℕ) × HasPair table hash token
-
--- these are tokens of the table, in any order, and each token of that hash is among them
-pub record CoversTokensOf (table : Table) (hash : ℕ) (tokens : List ℕ) : Type 0 where
-  pub all : (token : ℕ) → HasPair table hash token → 0 < count_by (λ k. k == token) tokens
-  pub only : (token : ℕ) → 0 < count_by (λ k. k == token) tokens → HasToken table token
 
 module _ {F : Type 0} (step : F → NonZeroU32 → Bool → F → Type 0) where
   -- f was shown these tokens in turn until it answered true, and the result is the token of that

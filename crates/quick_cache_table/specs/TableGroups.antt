@@ -168,18 +168,6 @@ positions_left walk =
 abbrev pub tokens_left : Walk → List ℕ
 tokens_left walk = tokens_at walk.places walk.hash (positions_left walk)
 
--- the token at a place, where that place has the tag of the hash
-abbrev pub tagged_token : List ℕ → List Place → ℕ → ℕ → Option ℕ
-tagged_token tags places hash position =
-    if slice_index tags position == tag_of hash
-    then Some (place_at places position).token
-    else None
-
--- the tokens of such places that a walk has not met
-abbrev pub candidates_left : Walk → List ℕ
-candidates_left walk =
-    filter_map (tagged_token walk.tags.now walk.places walk.hash) (positions_left walk)
-
 -- a walk looks at places that there are and have pairs, and passes none of its hash by
 pub record IsWalk (walk : Walk) : Type 0 where
   pub here : 0 < walk.lanes → 16 * bit_xor walk.home walk.step + 16 ≤ length walk.places

@@ -2,22 +2,20 @@
 ghost use Rattle.std.specs.Prelude.{◌≡◌, ℕ, Bool, ◌+◌, ◌-◌, ◌^◌, ◌<◌, ◌≤◌, ◌↔◌, [], min, IsTrue, IsOk, IfOk, IfErr, OnOk, OnErr, IfSome};
 ghost use Rattle.std.specs.Bool.{OnTrue, OnFalse};
 ghost use Rattle.std.specs.Int.NonZero.{non_zero_u32_get};
-ghost use Rattle.quick_cache_table.specs.Table.{HasPair, pair_count, AddsPair, RemovesPair, IsTokensOf, CoversTokensOf, SearchesHash, CallsKeep, FindsByAnswer, ComputesTest, FindsPassing, wanted_room};
+ghost use Rattle.quick_cache_table.specs.Table.{HasPair, pair_count, AddsPair, RemovesPair, IsTokensOf, SearchesHash, CallsKeep, FindsByAnswer, ComputesTest, FindsPassing, wanted_room};
 
-pub(crate) mod candidates;
 pub(crate) mod groups;
 pub(crate) mod places;
 pub(crate) mod tokens;
 pub(crate) mod walk;
 
-pub use candidates::Candidates;
 use groups::{MOST_PAIRS, capacity, groups_for};
 use places::Places;
 use quick_cache_model::{Refusal, Token};
 use std::alloc::{Allocator, Global};
 use std::marker::Model;
 pub use tokens::Tokens;
-use walk::{Walk, first_position_of, position_of, tagged_position_of};
+use walk::{Walk, position_of};
 
 /// A set of pairs of a hash and a token.
 ///
@@ -209,68 +207,6 @@ impl<A: Allocator> Table<A> {
         true
     }
 
-    /// Takes the pair of a token out of the table, which has no other of that token.
-    ///
-    /// It goes by the tag and the token alone, so that it touches none of the hashes. It shortens
-    /// the way of later look-ups as `remove` does.
-    pub fn remove_only(&mut self, hash: u64, token: Token)
-        requires has { HasPair self.old hash (non_zero_u32_get token) }
-        requires only { (other : ℕ) → HasPair self.old other (non_zero_u32_get token)
-            → other ≡ hash }
-        ensures removes { RemovesPair self.old self.new hash (non_zero_u32_get token) }
-        ensures room { self.new.room ≡ self.old.room + 1 }
-        ensures allocated { self.new.allocated ≡ self.old.allocated }
-    {
-        let walk = Walk::begin(
-            self.tags.as_slice(),
-            self.places.seen(),
-            self.reaches.as_slice(),
-            self.mask,
-            hash,
-        );
-        // The first place of the home group is nearly always the one, and no reach ends there, so
-        // that a look at it alone takes half of the instructions.
-        match first_position_of(&walk, token.get()) {
-            Some(position) => {
-                groups::free_place(self.tags.as_mut_slice(), &mut self.places, position);
-                self.len -= 1;
-            }
-            None => self.remove_on_walk(hash, token),
-        }
-    }
-
-    /// The same by a walk over all places that may have the pair.
-    #[cold]
-    #[inline(never)]
-    fn remove_on_walk(&mut self, hash: u64, token: Token)
-        requires has { HasPair self.old hash (non_zero_u32_get token) }
-        requires only { (other : ℕ) → HasPair self.old other (non_zero_u32_get token)
-            → other ≡ hash }
-        ensures removes { RemovesPair self.old self.new hash (non_zero_u32_get token) }
-        ensures room { self.new.room ≡ self.old.room + 1 }
-        ensures allocated { self.new.allocated ≡ self.old.allocated }
-    {
-        let walk = Walk::new(
-            self.tags.as_slice(),
-            self.places.seen(),
-            self.reaches.as_slice(),
-            self.mask,
-            hash,
-        );
-        let Some(position) = tagged_position_of(walk, token.get()) else {
-            unreachable!()
-        };
-        groups::leave_place(
-            self.tags.as_mut_slice(),
-            &mut self.places,
-            self.reaches.as_mut_slice(),
-            self.mask,
-            hash,
-            position,
-        );
-        self.len -= 1
-    }
-
     /// The tokens of that hash, each once, in no order that counts.
     pub fn iter_hash(&self, hash: u64) -> Tokens<'_>
         ensures { IsTokensOf self.now hash result }
@@ -283,25 +219,6 @@ impl<A: Allocator> Table<A> {
             hash,
         );
         Tokens { walk }
-    }
-
-    /// Tokens of the table, among them each of that hash, in no order that counts.
-    ///
-    /// These are the tokens of all places on the hash's way that have its tag, so that of 255
-    /// others about one is among them. It reads no hash. A caller who knows a token's owner when he
-    /// sees it, as one who compares keys, needs none.
-    #[inline(always)]
-    pub fn candidates(&self, hash: u64) -> Candidates<'_>
-        ensures { CoversTokensOf self.now hash result }
-    {
-        let walk = Walk::new(
-            self.tags.as_slice(),
-            self.places.seen(),
-            self.reaches.as_slice(),
-            self.mask,
-            hash,
-        );
-        Candidates { walk }
     }
 
     /// A token of that hash for which `is_it` answers true. The tokens are shown to it in no order

@@ -1,8 +1,7 @@
-//! What caches of the tests are made of: hashes, lifecycles, weighers and placeholders.
+//! What shards of the tests are made of: hashes, a lifecycle, placeholders; and what walks show.
 #![tactic(auto)]
 
-pub mod caches;
 pub mod counting;
-pub mod kinds;
 pub mod placeholder;
 pub mod thousand;
+pub mod walks;

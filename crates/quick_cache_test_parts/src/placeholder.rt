@@ -4,7 +4,7 @@ ghost use Rattle.std.specs.Int.NonZero.{non_zero_u32_get};
 ghost use Rattle.std.proofs.Common.{refl};
 
 use quick_cache_base::{Refusal, ToKey};
-use quick_cache_shard::{SharedPlaceholder, Token, Touches};
+use quick_cache_shard::{MakesPlaceholders, SharedPlaceholder, Token, Touches};
 use std::hash::Hash;
 use std::marker::PhantomData;
 use std::mem::replace;
@@ -85,15 +85,6 @@ impl<K: Eq + Hash, T: Touches> SharedPlaceholder<K> for Placeholder<T> {
 
     ghost ticket_of = { λ kept. kept.number };
 
-    fn new<Q: ToKey<K>>(hash: u64, idx: Token, ticket: u64, _query: &Q) -> Result<Self, Refusal> {
-        Ok(Placeholder {
-            hash,
-            idx,
-            ticket,
-            touch: PhantomData,
-        })
-    }
-
     fn same_as(&self, other: &Self) -> bool {
         self.ticket == other.ticket
     }
@@ -138,5 +129,25 @@ impl<K: Eq + Hash, T: Touches> SharedPlaceholder<K> for Placeholder<T> {
         Ticket {
             number: kept.number,
         }
+    }
+}
+
+/// Makes placeholders of three numbers.
+pub struct Plainly;
+
+impl<K: Eq + Hash, T: Touches> MakesPlaceholders<K, Placeholder<T>> for Plainly {
+    fn make<Q: ToKey<K>>(
+        &self,
+        hash: u64,
+        idx: Token,
+        ticket: u64,
+        _query: &Q,
+    ) -> Result<Placeholder<T>, Refusal> {
+        Ok(Placeholder {
+            hash,
+            idx,
+            ticket,
+            touch: PhantomData,
+        })
     }
 }

@@ -3,6 +3,7 @@ use crate::halves::{Halves, Shape};
 use quick_cache_base::{
     DefaultHashBuilder, Equivalent, Refusal, ToKey, UnitWeighter, Weighter, hash_of,
 };
+use quick_cache_unsync::Cache;
 use std::test::Fail;
 
 #[test]
@@ -25,6 +26,27 @@ fn borrowed_halves_stand_for_a_pair(rt: HostRuntime) -> Result<(), Fail> {
         }
         .equivalent(&square)
     );
+    Ok(())
+}
+
+#[test]
+fn two_pairs_of_one_name_are_two_keys(rt: HostRuntime) -> Result<(), Fail> {
+    let alloc = rt.alloc();
+    let mut cache: Cache<Shape, &str> = Cache::new(alloc, 5)?;
+    for (year, colour) in [(2022, "blue"), (2023, "black")] {
+        let name = String::from_str(alloc, "square")?;
+        cache.insert(Shape { name, year }, colour)?;
+    }
+    let rows = [
+        ("square", 2022, Some("blue")),
+        ("square", 2023, Some("black")),
+        ("square", 2024, None),
+        ("circle", 2022, None),
+    ];
+    for (name, year, colour) in rows {
+        let found = cache.get(&Halves { name, year }).copied();
+        assert_eq!(rt; found, colour, "{name} of {year}");
+    }
     Ok(())
 }
 

@@ -1,4 +1,5 @@
-//! The cache for one thread: first examples, and refused growths.
+//! The cache for one thread: first examples, texts, a scan, and refused growths.
+mod great;
 mod memory;
 
 use quick_cache_base::{DefaultHashBuilder, Refusal, UnitWeighter};
@@ -35,6 +36,43 @@ fn the_counts_and_the_clone_tell_what_is_there(rt: HostRuntime) -> Result<(), Fa
     assert_eq!(rt; cache.shard().hot_target(), 4);
     let text = format!(in rt.alloc(); "{cache:?}, {:?}", DefaultLifecycle::<u64, u64>::new())?;
     assert_eq!(rt; text.as_str(), "Cache { .. }, DefaultLifecycle");
+    Ok(())
+}
+
+#[test]
+fn walks_print_their_names_and_memory_is_told(rt: HostRuntime) -> Result<(), Fail> {
+    let mut cache: Cache<u64, u64> = Cache::new(rt.alloc(), 100)?;
+    assert_eq!(rt; cache.memory_used().total(), 0);
+    cache.insert(1, 10)?;
+    assert!(rt; cache.memory_used().entries > 0 && cache.memory_used().map > 0);
+    let text = format!(in rt.alloc(); "{:?}", cache.iter())?;
+    assert_eq!(rt; text.as_str(), "Iter { .. }");
+    let text = format!(in rt.alloc(); "{:?}", cache.drain())?;
+    assert_eq!(rt; text.as_str(), "Drain { .. }");
+    Ok(())
+}
+
+#[test]
+fn a_thousand_new_keys_leave_the_hot_items_alone(rt: HostRuntime) -> Result<(), Fail> {
+    let mut cache = Cache::new(rt.alloc(), 100)?;
+    for key in 0..97 {
+        cache.insert(key, key)?;
+    }
+    for key in 1000..2000 {
+        cache.insert(key, key)?;
+    }
+    for key in 0..97u64 {
+        assert!(rt; cache.contains_key(&key), "key {key}");
+    }
+    let shard = cache.shard();
+    assert_eq!(rt;
+        (
+            shard.iter_hot().len(),
+            shard.iter_cold().len(),
+            shard.iter_ghosts().len()
+        ),
+        (97, 3, 50)
+    );
     Ok(())
 }
 

@@ -5,6 +5,10 @@
 #[cfg(test)]
 mod calls;
 #[cfg(test)]
+mod drops;
+#[cfg(test)]
+mod names;
+#[cfg(test)]
 mod readers;
 #[cfg(test)]
 mod refused;
@@ -14,3 +18,5 @@ mod shards;
 mod shared;
 pub mod twice;
 pub mod upper;
+#[cfg(test)]
+mod walks;

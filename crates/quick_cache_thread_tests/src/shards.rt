@@ -64,7 +64,7 @@ fn too_many_shards_are_refused(rt: HostRuntime) -> Result<(), Fail> {
 type UpperCache = Cache<u64, u64, UnitWeighter, Upper, DefaultLifecycle<u64, u64>, Global>;
 
 #[test]
-fn the_upper_half_of_a_hash_tells_the_shard(rt: HostRuntime) -> Result<(), Fail> {
+fn calls_reach_the_shard_that_the_hash_tells(rt: HostRuntime) -> Result<(), Fail> {
     let Some(options) = options(Some(4), 1000, 1000) else {
         panic!(rt; "the options are in range");
     };
@@ -76,13 +76,25 @@ fn the_upper_half_of_a_hash_tells_the_shard(rt: HostRuntime) -> Result<(), Fail>
         DefaultLifecycle::new(),
     )?;
     assert_eq!(rt; cache.num_shards(), 4);
-    assert_eq!(rt; cache.shard_index(&5), 1);
-    assert_eq!(rt; cache.shard_index(&7), 3);
     for key in 0..8 {
+        assert_eq!(rt; cache.shard_index(&key), key as usize % 4);
         assert_eq!(rt; cache.insert(&rt, key, key + 1), Ok(()));
     }
     for key in 0..8 {
         assert_eq!(rt; cache.get(&rt, &key), Ok(Some(key + 1)));
+    }
+    // Of the keys below 4 one lies in each shard, and of those above too.
+    cache.retain(&rt, |key, _| *key < 4);
+    for key in 0..8 {
+        assert_eq!(rt;
+            cache.contains_key(&rt, &key),
+            key < 4,
+            "after retain, {key}"
+        );
+    }
+    cache.clear(&rt);
+    for key in 0..8 {
+        assert!(rt; !cache.contains_key(&rt, &key), "after clear, {key}");
     }
     Ok(())
 }

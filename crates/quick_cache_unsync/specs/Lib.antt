@@ -1,8 +1,8 @@
 pub mod Touches
-pub mod Alone
-pub mod Inserts
-pub mod Replaces
-pub mod SetsCapacity
+pub use Rattle.quick_cache_shard.specs.Alone
+pub use Rattle.quick_cache_shard.specs.Inserts
+pub use Rattle.quick_cache_shard.specs.Replaces
+pub use Rattle.quick_cache_shard.specs.SetsCapacity
 pub mod Lent
 pub mod CacheDrain
 pub mod References

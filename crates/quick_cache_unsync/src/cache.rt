@@ -1,5 +1,5 @@
 //! The cache for one thread.
-ghost use Rattle.std.specs.Prelude.{◌≡◌, ◌≤◌, ◌+◌, ◌^◌, ◌-◌, ◌↔◌, min, IsTrue, IfOk, IfErr, IsOk, Some, codes, option_copied, OnOk, length};
+ghost use Rattle.std.specs.Prelude.{[], ◌≡◌, ◌≤◌, ◌+◌, ◌^◌, ◌-◌, ◌↔◌, min, IsTrue, IfOk, IfErr, IsOk, Some, codes, option_copied, OnOk, length};
 ghost use Rattle.std.specs.Borrow.{sem};
 ghost use Rattle.quick_cache_model.specs.declared.refusal.Refusal.TheVariants.{Memory};
 ghost use Rattle.quick_cache_model.specs.CacheState.{empty_state, item_count, total_weight};
@@ -11,16 +11,16 @@ ghost use Rattle.quick_cache_model.specs.Removal.{Removes};
 ghost use Rattle.quick_cache_model.specs.Sizes.{hot_target_of, ghost_limit_of, default_hot_share, default_ghost_share};
 ghost use Rattle.quick_cache_shard.specs.Copies.{ClonesAreEqual, IsCopyOf};
 ghost use Rattle.quick_cache_shard.specs.Shard.{no_work, rules_of, hooks_of, HasItem, IsSoundShard, WorksWithin, UpToOrder};
-ghost use Rattle.quick_cache_unsync.specs.Inserts.{Inserts, InsertsAlone};
+ghost use Rattle.quick_cache_shard.specs.Inserts.{Inserts, InsertsAlone};
 ghost use Rattle.quick_cache_unsync.specs.Touches.{no_touches};
 ghost use Rattle.quick_cache_model.specs.Refusals.{slots_taken, slot_count};
 
 use crate::lifecycle::DefaultLifecycle;
 use crate::placeholder::Placeholder;
-use quick_cache_base::options::{DEFAULT_GHOST_ALLOCATION, DEFAULT_HOT_ALLOCATION};
 use quick_cache_model::{
     DefaultHashBuilder, Equivalent, Lifecycle, Refusal, UnitWeighter, Weighter,
 };
+use quick_cache_options::options::{DEFAULT_GHOST_ALLOCATION, DEFAULT_HOT_ALLOCATION};
 use quick_cache_shard::{CacheShard, InsertStrategy};
 use std::alloc::{Allocator, Global};
 use std::fmt::{Debug, Formatter, Write};
@@ -104,6 +104,7 @@ impl<K: Eq + Hash, V, We, A: Allocator> Cache<
           weigher = weigher;
           builder = cache.builder;
           lifecycle = cache.lifecycle;
+          places = [];
           room = 0;
           work = no_work;
         }) }
@@ -143,6 +144,7 @@ impl<K: Eq + Hash, V, We, B: BuildHasher, L, A: Allocator> Cache<K, V, We, B, L,
           weigher = weigher;
           builder = builder;
           lifecycle = lifecycle;
+          places = [];
           room = 0;
           work = no_work;
         }) }
@@ -261,7 +263,7 @@ impl<K: Eq + Hash, V, We, B: BuildHasher, L, A: Allocator> Cache<K, V, We, B, L,
             (Q.hash_input query.now) in
             UpToOrder (Removes (Q.equivalent query.now) self.old.state hash result) self.new.state }
         ensures room { self.old.room ≤ self.new.room }
-        ensures same { self.new ≡ record self.old { state = self.new.state; room = self.new.room } }
+        ensures same { self.new ≡ record self.old { state = self.new.state; places = self.new.places; room = self.new.room } }
     {
         let hash = self.shard.hash(query);
         self.shard.remove(hash, query)
@@ -291,6 +293,7 @@ impl<K: Eq + Hash, V, We, B: BuildHasher, L, A: Allocator> Cache<K, V, We, B, L,
             self.old.work self.new.work }
         ensures same { self.new ≡ record self.old {
           state = self.new.state;
+          places = self.new.places;
           room = self.new.room;
           work = self.new.work;
         } }
@@ -331,6 +334,7 @@ impl<K: Eq + Hash, V, We, B: BuildHasher, L, A: Allocator> Cache<K, V, We, B, L,
             self.old.work self.new.work }
         ensures same { self.new ≡ record self.old {
           state = self.new.state;
+          places = self.new.places;
           room = self.new.room;
           work = self.new.work;
         } }

@@ -2,8 +2,8 @@
 ghost use Rattle.std.specs.Prelude.{◌≡◌, ◌+◌, ◌≤◌, length};
 ghost use Rattle.quick_cache_model.specs.Sizes.{rescaled_target, rescaled_limit};
 ghost use Rattle.quick_cache_shard.specs.Shard.{rules_of, hooks_of, WorksWithin};
-ghost use Rattle.quick_cache_unsync.specs.Alone.{IsDoneAlone};
-ghost use Rattle.quick_cache_unsync.specs.SetsCapacity.{SetsCapacityTo};
+ghost use Rattle.quick_cache_shard.specs.Alone.{IsDoneAlone};
+ghost use Rattle.quick_cache_shard.specs.SetsCapacity.{SetsCapacityTo};
 ghost use Rattle.quick_cache_unsync.specs.Touches.{no_touches};
 
 use crate::cache::Cache;
@@ -46,6 +46,7 @@ impl<
             self.old.work self.new.work }
         ensures same { self.new ≡ record self.old {
           state = self.new.state;
+          places = self.new.places;
           room = self.new.room;
           work = self.new.work;
         } }
@@ -73,6 +74,7 @@ impl<
             self.old.work self.new.work }
         ensures same { self.new ≡ record self.old {
           state = self.new.state;
+          places = self.new.places;
           room = self.new.room;
           work = self.new.work;
         } }

@@ -91,7 +91,7 @@ impl<K: Eq + Hash, V, We, B: BuildHasher, L, A: Allocator> Cache<K, V, We, B, L,
             ((item_count self.old.state ≡ 0) × (self.new ≡ self.old))
             (λ taken. TakesItem self.old.state taken.1 self.new.state) }
         ensures room { self.old.room ≤ self.new.room }
-        ensures same { self.new ≡ record self.old { state = self.new.state; room = self.new.room } }
+        ensures same { self.new ≡ record self.old { state = self.new.state; places = self.new.places; room = self.new.room } }
     {
         self.shard.take_next(after)
     }

@@ -36,6 +36,7 @@ impl<
             self.old.work self.new.work }
         ensures same { self.new ≡ record self.old {
           state = self.new.state;
+          places = self.new.places;
           room = self.new.room;
           work = self.new.work;
         } }
@@ -62,6 +63,7 @@ impl<
             self.old.work self.new.work }
         ensures same { self.new ≡ record self.old {
           state = self.new.state;
+          places = self.new.places;
           room = self.new.room;
           work = self.new.work;
         } }
@@ -77,7 +79,7 @@ impl<
         ensures gives_up { UpToOrder
             (GivesUpPlaceholder placeholder.now.ticket self.old.state) self.new.state }
         ensures room { self.old.room ≤ self.new.room }
-        ensures same { self.new ≡ record self.old { state = self.new.state; room = self.new.room } }
+        ensures same { self.new ≡ record self.old { state = self.new.state; places = self.new.places; room = self.new.room } }
         ensures sound { IsSoundShard K.eq self.new }
     {
         self.shard.remove_placeholder(placeholder);

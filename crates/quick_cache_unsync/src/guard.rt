@@ -2,7 +2,7 @@
 ghost use Rattle.std.specs.Prelude.{◌≡◌, ◌≤◌, ◌+◌, length};
 ghost use Rattle.quick_cache_model.specs.Placeholders.{GivesUpPlaceholder};
 ghost use Rattle.quick_cache_shard.specs.Shard.{rules_of, hooks_of, UpToOrder, IsSoundShard, WorksWithin};
-ghost use Rattle.quick_cache_unsync.specs.Alone.{IsDoneAlone};
+ghost use Rattle.quick_cache_shard.specs.Alone.{IsDoneAlone};
 ghost use Rattle.quick_cache_unsync.specs.Loads.{FillsIfThere};
 ghost use Rattle.quick_cache_unsync.specs.Touches.{no_touches};
 
@@ -46,6 +46,7 @@ impl<
         ensures room { self.entry.cache.now.room ≤ self.exit.0.now.room }
         ensures same { self.exit.0.now ≡ record self.entry.cache.now {
           state = self.exit.0.now.state;
+          places = self.exit.0.now.places;
           room = self.exit.0.now.room;
         } }
         ensures sound { IsSoundShard K.eq self.exit.0.now }
@@ -89,6 +90,7 @@ impl<
             self.entry.cache.now.work self.exit.0.now.work }
         ensures same { self.exit.0.now ≡ record self.entry.cache.now {
           state = self.exit.0.now.state;
+          places = self.exit.0.now.places;
           room = self.exit.0.now.room;
           work = self.exit.0.now.work;
         } }
@@ -123,6 +125,7 @@ impl<
             self.entry.cache.now.work self.exit.0.now.work }
         ensures same { self.exit.0.now ≡ record self.entry.cache.now {
           state = self.exit.0.now.state;
+          places = self.exit.0.now.places;
           room = self.exit.0.now.room;
           work = self.exit.0.now.work;
         } }

@@ -45,7 +45,7 @@ impl<
             (hash_of B.BuildHasher B.Hasher.Hasher self.old.builder (Q.hash_input query.now))
             self.old.state refusal new.state)
             × (self.old.room ≤ new.room + 1)
-            × (new ≡ record self.old { state = new.state; room = new.room }))) }
+            × (new ≡ record self.old { state = new.state; places = new.places; room = new.room }))) }
         ensures answers { IfOk result (λ given. ReadsOrTakes (Q.equivalent query.now)
             (Q.to_key_gives query.now)
             (hash_of B.BuildHasher B.Hasher.Hasher self.old.builder (Q.hash_input query.now))
@@ -55,6 +55,7 @@ impl<
         ensures room { IfOk result (λ given. self.old.room ≤ (read_or_guarded given).room + 1) }
         ensures same { IfOk result (λ given. read_or_guarded given ≡ record self.old {
           state = (read_or_guarded given).state;
+          places = (read_or_guarded given).places;
           room = (read_or_guarded given).room;
         }) }
         ensures sound { IfOk result (λ given. IsSoundShard K.eq (read_or_guarded given)) }
@@ -99,7 +100,7 @@ impl<
             (hash_of B.BuildHasher B.Hasher.Hasher self.old.builder (Q.hash_input query.now))
             self.old.state refusal new.state)
             × (self.old.room ≤ new.room + 1)
-            × (new ≡ record self.old { state = new.state; room = new.room }))) }
+            × (new ≡ record self.old { state = new.state; places = new.places; room = new.room }))) }
         ensures answers { IfOk result (λ given. WritesOrTakes (Q.equivalent query.now)
             (Q.to_key_gives query.now)
             (hash_of B.BuildHasher B.Hasher.Hasher self.old.builder (Q.hash_input query.now))
@@ -109,6 +110,7 @@ impl<
         ensures room { IfOk result (λ given. self.old.room ≤ (lent_or_guarded given).room + 1) }
         ensures same { IfOk result (λ given. lent_or_guarded given ≡ record self.old {
           state = (lent_or_guarded given).state;
+          places = (lent_or_guarded given).places;
           room = (lent_or_guarded given).room;
         }) }
         ensures sound { IfOk result (λ given. IsSoundShard K.eq (lent_or_guarded given)) }

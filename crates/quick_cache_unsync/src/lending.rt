@@ -56,7 +56,7 @@ impl<
             (hash_of B.BuildHasher B.Hasher.Hasher self.old.builder (Q.hash_input query.now))
             (F.post loader) self.old.state (answer_of error) new.state)
             × (self.old.room ≤ new.room + 1)
-            × (new ≡ record self.old { state = new.state; room = new.room; work = new.work }))) }
+            × (new ≡ record self.old { state = new.state; places = new.places; room = new.room; work = new.work }))) }
         ensures loads { IfOk result (λ r. AnswersLoad (L.steady self.old.lifecycle)
             (hooks_of L.Lifecycle self.old)
             (rules_of no_touches K.Hash.hash_input We.Weighter B.BuildHasher B.Hasher.Hasher
@@ -69,6 +69,7 @@ impl<
         ensures room { IfOk result (λ r. self.old.room ≤ (read_from r).room + 1) }
         ensures same { IfOk result (λ r. read_from r ≡ record self.old {
           state = (read_from r).state;
+          places = (read_from r).places;
           room = (read_from r).room;
           work = (read_from r).work;
         }) }
@@ -119,7 +120,7 @@ impl<
             (hash_of B.BuildHasher B.Hasher.Hasher self.old.builder (Q.hash_input query.now))
             (F.post loader) self.old.state (answer_of error) new.state)
             × (self.old.room ≤ new.room + 1)
-            × (new ≡ record self.old { state = new.state; room = new.room; work = new.work }))) }
+            × (new ≡ record self.old { state = new.state; places = new.places; room = new.room; work = new.work }))) }
         ensures loads { IfOk result (λ r. AnswersLoad (L.steady self.old.lifecycle)
             (hooks_of L.Lifecycle self.old)
             (rules_of no_touches K.Hash.hash_input We.Weighter B.BuildHasher B.Hasher.Hasher
@@ -132,6 +133,7 @@ impl<
         ensures room { IfOk result (λ r. self.old.room ≤ (lent r).room + 1) }
         ensures same { IfOk result (λ r. lent r ≡ record self.old {
           state = (lent r).state;
+          places = (lent r).places;
           room = (lent r).room;
           work = (lent r).work;
         }) }

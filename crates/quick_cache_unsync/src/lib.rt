@@ -28,11 +28,11 @@ pub use iter::Iter;
 pub use lifecycle::DefaultLifecycle;
 pub use not_loaded::NotLoaded;
 pub use placeholder::Placeholder;
-pub use quick_cache_base::options::{Options, OptionsBuilder};
 pub use quick_cache_model::{
     DefaultHashBuilder, Equivalent, ItemStats, Lifecycle, MemoryUsed, Refusal, ToKey, UnitWeighter,
     Weighter, hash_of,
 };
+pub use quick_cache_options::options::{Options, OptionsBuilder};
 pub use quick_cache_shard::CacheShard;
 pub use reading::Ref;
 pub use reference::RefMut;

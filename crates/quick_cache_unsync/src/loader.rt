@@ -8,7 +8,7 @@ ghost use Rattle.quick_cache_calls.specs.References.{TellsItem};
 ghost use Rattle.quick_cache_unsync.specs.Touches.{no_touches};
 
 use crate::cache::Cache;
-use crate::placeholder::Placeholder;
+use crate::placeholder::{Placeholder, Plainly};
 use quick_cache_model::{Equivalent, Lifecycle, Refusal, ToKey, Weighter};
 use quick_cache_shard::Token;
 use std::alloc::Allocator;
@@ -56,10 +56,10 @@ impl<
         ensures takes { LooksUpOrTakes (Q.equivalent query.now) (Q.to_key_gives query.now) hash
             self.old.state (λ placeholder. placeholder.ticket) result self.new.state }
         ensures room { self.old.room ≤ self.new.room + 1 }
-        ensures same { self.new ≡ record self.old { state = self.new.state; room = self.new.room } }
+        ensures same { self.new ≡ record self.old { state = self.new.state; places = self.new.places; room = self.new.room } }
         ensures sound { IsSoundShard K.eq self.new }
     {
-        match self.shard.get_or_placeholder(hash, query) {
+        match self.shard.get_or_placeholder(&Plainly, hash, query) {
             Ok(Ok(token)) => Ok(Ok(token)),
             Ok(Err((placeholder, _))) => Ok(Err(placeholder)),
             Err(refusal) => Err(refusal),
@@ -86,6 +86,7 @@ impl<
         ensures room { self.old.room ≤ self.new.room }
         ensures same { self.new ≡ record self.old {
           state = self.new.state;
+          places = self.new.places;
           room = self.new.room;
           work = self.new.work;
         } }
@@ -128,6 +129,7 @@ impl<
         ensures room { self.old.room ≤ self.new.room + 1 }
         ensures same { self.new ≡ record self.old {
           state = self.new.state;
+          places = self.new.places;
           room = self.new.room;
           work = self.new.work;
         } }
@@ -171,6 +173,7 @@ impl<
         ensures room { self.old.room ≤ self.new.room + 1 }
         ensures same { self.new ≡ record self.old {
           state = self.new.state;
+          places = self.new.places;
           room = self.new.room;
           work = self.new.work;
         } }

@@ -1,13 +1,13 @@
 //! A cache that is made by options.
-ghost use Rattle.std.specs.Prelude.{◌≡◌, IfOk, IfErr, IsOk};
+ghost use Rattle.std.specs.Prelude.{[], ◌≡◌, IfOk, IfErr, IsOk};
 ghost use Rattle.quick_cache_model.specs.declared.refusal.Refusal.TheVariants.{Memory};
 ghost use Rattle.quick_cache_model.specs.CacheState.{empty_state};
 ghost use Rattle.quick_cache_model.specs.Sizes.{hot_target_of, ghost_limit_of};
 ghost use Rattle.quick_cache_shard.specs.Shard.{no_work};
 
 use crate::cache::Cache;
-use quick_cache_base::options::Options;
 use quick_cache_model::Refusal;
+use quick_cache_options::options::Options;
 use quick_cache_shard::CacheShard;
 use std::alloc::Allocator;
 use std::hash::{BuildHasher, Hash};
@@ -38,6 +38,7 @@ impl<K: Eq + Hash, V, We, B: BuildHasher, L, A: Allocator> Cache<K, V, We, B, L,
           weigher = weigher;
           builder = builder;
           lifecycle = lifecycle;
+          places = [];
           room = 0;
           work = no_work;
         }) }

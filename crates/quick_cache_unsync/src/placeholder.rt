@@ -5,7 +5,7 @@ ghost use Rattle.std.specs.Int.NonZero.{non_zero_u32_get};
 ghost use Rattle.quick_cache_unsync.specs.Touches.{no_touches};
 
 use quick_cache_model::{Refusal, ToKey};
-use quick_cache_shard::{SharedPlaceholder, Token, Touches};
+use quick_cache_shard::{MakesPlaceholders, SharedPlaceholder, Token, Touches};
 use std::hash::Hash;
 
 /// Counts nothing: no reader stands beside the one thread.
@@ -76,16 +76,6 @@ impl<K: Eq + Hash> SharedPlaceholder<K> for Placeholder {
 
     ghost ticket_of = { λ kept. kept.number };
 
-    fn new<Q: ToKey<K>>(hash: u64, idx: Token, ticket: u64, _query: &Q) -> Result<Self, Refusal>
-        // It holds no key, so it takes no memory.
-        ensures succeeds { IsOk result }
-        ensures hash { IfOk result (λ made. made.hash ≡ hash) }
-        ensures idx { IfOk result (λ made. made.idx ≡ idx) }
-        ensures ticket { IfOk result (λ made. made.ticket ≡ ticket) }
-    {
-        Ok(Placeholder { hash, idx, ticket })
-    }
-
     fn same_as(&self, other: &Self) -> bool {
         self.ticket == other.ticket
     }
@@ -128,5 +118,26 @@ impl<K: Eq + Hash> SharedPlaceholder<K> for Placeholder {
         Ticket {
             number: kept.number,
         }
+    }
+}
+
+/// Makes placeholders of three numbers, which takes no memory.
+pub struct Plainly;
+
+impl<K: Eq + Hash> MakesPlaceholders<K, Placeholder> for Plainly {
+    fn make<Q: ToKey<K>>(
+        &self,
+        hash: u64,
+        idx: Token,
+        ticket: u64,
+        _query: &Q,
+    ) -> Result<Placeholder, Refusal>
+        // It holds no key, so it takes no memory.
+        ensures succeeds { IsOk result }
+        ensures hash { IfOk result (λ made. made.hash ≡ hash) }
+        ensures idx { IfOk result (λ made. made.idx ≡ idx) }
+        ensures ticket { IfOk result (λ made. made.ticket ≡ ticket) }
+    {
+        Ok(Placeholder { hash, idx, ticket })
     }
 }

@@ -53,7 +53,7 @@ impl<
             L.Lifecycle self.entry.cache.now)
             self.entry.cache.now.state self.exit.0.now.state }
         ensures same { self.exit.0.now
-            ≡ record self.entry.cache.now { state = self.exit.0.now.state } }
+            ≡ record self.entry.cache.now { state = self.exit.0.now.state; places = self.exit.0.now.places } }
     {
         let RefMut {
             cache,
@@ -164,7 +164,7 @@ impl<K: Eq + Hash, V, We, B: BuildHasher, L, A: Allocator> Cache<K, V, We, B, L,
             L.Lifecycle self.old)
             self.old.state self.new.state }
         ensures there { 0 < count_under (Q.equivalent query.now) self.new.state }
-        ensures same { self.new ≡ record self.old { state = self.new.state } }
+        ensures same { self.new ≡ record self.old { state = self.new.state; places = self.new.places } }
     {
         self.shard.reweigh(thought, hash, query);
     }

@@ -1,5 +1,5 @@
 //! Removals by a predicate, and of all that there is.
-ghost use Rattle.std.specs.Prelude.{◌≡◌, ◌≤◌, ◌+◌, Bool};
+ghost use Rattle.std.specs.Prelude.{[], ◌≡◌, ◌≤◌, ◌+◌, Bool};
 ghost use Rattle.std.specs.Fn.{FnOnceReturnsAt};
 ghost use Rattle.quick_cache_model.specs.Refusals.{slots_taken};
 ghost use Rattle.quick_cache_model.specs.Removal.{RemovesIf, Retains, cleared};
@@ -31,7 +31,7 @@ impl<K: Eq + Hash, V, We, B: BuildHasher, L, A: Allocator> Cache<K, V, We, B, L,
         ensures asks { UpToOrder (RemovesAsked (Q.equivalent query.now) self.old.state
             (FnOnceReturnsAt F.FnOnce wanted) result) self.new.state }
         ensures room { self.old.room ≤ self.new.room }
-        ensures same { self.new ≡ record self.old { state = self.new.state; room = self.new.room } }
+        ensures same { self.new ≡ record self.old { state = self.new.state; places = self.new.places; room = self.new.room } }
         ensures sound { IsSoundShard K.eq self.new }
     {
         let hash = self.shard.hash(query);
@@ -54,7 +54,7 @@ impl<K: Eq + Hash, V, We, B: BuildHasher, L, A: Allocator> Cache<K, V, We, B, L,
         // Whatever it answers, each item goes or stays by that.
         ensures asks { UpToOrder (RetainsAsked (Answers F.Fn keep) self.old.state) self.new.state }
         ensures room { self.old.room ≤ self.new.room }
-        ensures same { self.new ≡ record self.old { state = self.new.state; room = self.new.room } }
+        ensures same { self.new ≡ record self.old { state = self.new.state; places = self.new.places; room = self.new.room } }
         ensures sound { IsSoundShard K.eq self.new }
     {
         self.shard.retain(keep);
@@ -68,6 +68,7 @@ impl<K: Eq + Hash, V, We, B: BuildHasher, L, A: Allocator> Cache<K, V, We, B, L,
         V: Drop,
         ensures clears { self.new ≡ record self.old {
           state = cleared self.old.state;
+          places = [];
           room = self.old.room + slots_taken self.old.state;
         } }
         ensures sound { IsSoundShard K.eq self.new }

@@ -1,8 +1,8 @@
 //! Pairs in the place of others.
 ghost use Rattle.std.specs.Prelude.{◌≡◌, ◌+◌, ◌≤◌, length};
 ghost use Rattle.quick_cache_shard.specs.Shard.{rules_of, hooks_of, WorksWithin};
-ghost use Rattle.quick_cache_unsync.specs.Alone.{IsDoneAlone};
-ghost use Rattle.quick_cache_unsync.specs.Replaces.{Replaces};
+ghost use Rattle.quick_cache_shard.specs.Alone.{IsDoneAlone};
+ghost use Rattle.quick_cache_shard.specs.Replaces.{Replaces};
 ghost use Rattle.quick_cache_unsync.specs.Touches.{no_touches};
 
 use crate::cache::Cache;
@@ -39,6 +39,7 @@ impl<
             self.old.work self.new.work }
         ensures same { self.new ≡ record self.old {
           state = self.new.state;
+          places = self.new.places;
           room = self.new.room;
           work = self.new.work;
         } }
@@ -74,6 +75,7 @@ impl<
             self.old.work self.new.work }
         ensures same { self.new ≡ record self.old {
           state = self.new.state;
+          places = self.new.places;
           room = self.new.room;
           work = self.new.work;
         } }

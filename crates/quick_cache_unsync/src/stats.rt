@@ -20,7 +20,7 @@ impl<K: Eq + Hash, V, We, B: BuildHasher, L, A: Allocator> Cache<K, V, We, B, L,
         self.shard.item_stats(hash, query)
     }
 
-    /// How many bytes the entries and the table that finds them take. What the keys and the values
+    /// How many bytes the entries and the index that finds them take. What the keys and the values
     /// own comes apart.
     pub fn memory_used(&self) -> MemoryUsed {
         self.shard.memory_used()

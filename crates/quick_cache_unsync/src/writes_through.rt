@@ -23,7 +23,7 @@ pub fn set<
         (rules_of no_touches K.Hash.hash_input We.Weighter B.BuildHasher B.Hasher.Hasher
         L.Lifecycle cache.old)
         cache.old.state value result cache.new.state }
-    ensures same { cache.new ≡ record cache.old { state = cache.new.state } }
+    ensures same { cache.new ≡ record cache.old { state = cache.new.state; places = cache.new.places } }
 {
     match cache.get_mut(key) {
         Some(mut reference) => {
@@ -47,7 +47,7 @@ pub fn poke<
         (rules_of no_touches K.Hash.hash_input We.Weighter B.BuildHasher B.Hasher.Hasher
         L.Lifecycle cache.old)
         (K.eq key.now) cache.old.state value result) cache.new.state }
-    ensures same { cache.new ≡ record cache.old { state = cache.new.state } }
+    ensures same { cache.new ≡ record cache.old { state = cache.new.state; places = cache.new.places } }
 {
     match cache.peek_mut(key) {
         Some(mut reference) => {

@@ -1,12 +1,13 @@
-//! An eviction listener: a lifecycle that keeps what it is told of.
+//! An eviction listener: it keeps what it is told of.
 ghost use Rattle.std.specs.Prelude.{◌≡◌, Some};
 
-use quick_cache_unsync::{Cache, DefaultHashBuilder, Lifecycle, Refusal, UnitWeighter};
+use quick_cache_listeners::{Listener, OnLeave};
+use quick_cache_unsync::{Cache, DefaultHashBuilder, Refusal, UnitWeighter};
 use std::alloc::Global;
 
 /// Keeps the pair that left last, and how many left.
 #[derive(Clone, Drop)]
-pub struct Listener;
+pub struct Last;
 
 /// What a call told the listener.
 #[derive(Debug, Default, PartialEq, Eq, Drop)]
@@ -15,43 +16,19 @@ pub struct Left {
     pub count: u64,
 }
 
-impl Lifecycle<u64, u64> for Listener {
-    type RequestState = Left;
+impl Listener<u64, u64> for Last {
+    type State = Left;
 
-    ghost before_evict_gives = { λ _ old _ value new left. (new ≡ old) × (left ≡ value) };
+    ghost tells = { λ _ _ key value new. new.last ≡ Some (key, value) };
 
-    ghost on_evict_gives = { λ _ _ key value new. new.last ≡ Some (key, value) };
-
-    ghost on_evict_cold_gives = { λ _ _ key value new. new.last ≡ Some (key, value) };
-
-    ghost on_evict_hot_gives = { λ _ _ key value new. new.last ≡ Some (key, value) };
-
-    ghost keeps_fits = { λ _ _ _ _ _ _ _ fits. fits };
-
-    ghost same_fits = { λ _ _ _ _ fits. fits };
-
-    fn is_pinned(&self, _key: &u64, _val: &u64) -> bool {
-        false
-    }
-
-    fn before_evict(&self, _state: &mut Left, _key: &u64, _val: &mut u64) {}
-
-    fn on_evict(&self, state: &mut Left, key: u64, val: u64) {
-        state.last = Some((key, val));
-        state.count = state.count.saturating_add(1);
-    }
-
-    fn on_evict_cold(&self, state: &mut Left, key: u64, val: u64) {
-        self.on_evict(state, key, val);
-    }
-
-    fn on_evict_hot(&self, state: &mut Left, key: u64, val: u64) {
-        self.on_evict(state, key, val);
+    fn tell(&self, left: &mut Left, key: u64, val: u64) {
+        left.last = Some((key, val));
+        left.count = left.count.saturating_add(1);
     }
 }
 
 /// A cache that tells a listener what leaves.
-pub type ToldCache = Cache<u64, u64, UnitWeighter, DefaultHashBuilder, Listener>;
+pub type ToldCache = Cache<u64, u64, UnitWeighter, DefaultHashBuilder, OnLeave<Last>>;
 
 /// A cache for two items, whose listener is told of each that leaves.
 pub fn two_items(alloc: Global) -> Result<ToldCache, Refusal> {
@@ -61,7 +38,7 @@ pub fn two_items(alloc: Global) -> Result<ToldCache, Refusal> {
         2,
         UnitWeighter,
         DefaultHashBuilder::new(),
-        Listener,
+        OnLeave(Last),
     )
 }
 

@@ -48,13 +48,6 @@ impl<K, V, P, T, A: Allocator> Lists<K, V, P, T, A> {
         self.rings.ghosts.count
     }
 
-    /// How many keys are being loaded.
-    pub fn loading_count(&self) -> usize
-        ensures { result ≡ length self.now.loading }
-    {
-        self.loading
-    }
-
     /// The allocator that the slots are from.
     pub fn allocator(&self) -> &A {
         self.slots.allocator()

@@ -4,7 +4,7 @@ ghost use Rattle.std.specs.Int.NonZero.{non_zero_u32_get as number};
 ghost use Rattle.quick_cache_model.specs.CacheState.{ring_place};
 ghost use Rattle.quick_cache_slab.specs.LinkedSlab.{IsOccupied, item_at};
 ghost use Rattle.quick_cache_lists.specs.Slots.{is_item_under_at};
-ghost use Rattle.quick_cache_lists.specs.Lists.{Finds, FindsByKey, FindsItemOfAnyHash, HasNoItem, HasItemToken, IsItemOf, HasLoadingToken, IsAwaitedOf, HasRingToken, next_in_ring, IsFirstAbove, number_or_zero, IsFirstOf, items_at};
+ghost use Rattle.quick_cache_lists.specs.Lists.{Finds, FindsByKey, FindsItemOfAnyHash, HasNoItem, HasItemToken, IsItemOf, HasLoadingToken, IsAwaitedOf, IsFirstAbove, number_or_zero, IsFirstOf, items_at};
 
 use crate::found::Found;
 use crate::lists::Lists;
@@ -163,15 +163,6 @@ impl<K, V, P, T, A: Allocator> Lists<K, V, P, T, A> {
         ensures { IsItemOf self.now (number token) result }
     {
         self.slots.slot(token).item()
-    }
-
-    /// The token behind an item of a ring, which is the item's own where no other stands there.
-    pub fn next_in_ring(&self, queue: Queue, token: Token) -> Token
-        requires { HasRingToken queue self.now (number token) }
-        ensures { number result ≡ next_in_ring queue self.now (number token) }
-    {
-        self.slots.validate();
-        self.slots.next(token)
     }
 
     /// The key that is being loaded under a token.

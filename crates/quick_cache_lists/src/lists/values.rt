@@ -2,6 +2,7 @@
 ghost use Rattle.std.specs.Borrow.{sem};
 ghost use Rattle.std.specs.Int.NonZero.{non_zero_u32_get as number};
 ghost use Rattle.quick_cache_lists.specs.Lists.{HasItemToken, IsValueAt};
+ghost use Rattle.quick_cache_lists.specs.Shown.{ShowsItem};
 
 use crate::lists::Lists;
 use quick_cache_model::Token;
@@ -19,5 +20,17 @@ impl<K, V, P, T, A: Allocator> Lists<K, V, P, T, A> {
         ensures value { IsValueAt self.old (number token) result.now }
     {
         self.slots.value_mut(token)
+    }
+
+    /// Shows the key of the item of a token, and its value to write. The item keeps its place and
+    /// its weight.
+    #[inline]
+    pub fn show<R, F: FnMut(&K, &mut V) -> R>(&mut self, token: Token, callback: &mut F) -> R
+        requires token { HasItemToken self.old (number token) }
+        requires callable { F.IsAlwaysCallable callback.old }
+        ensures { ShowsItem F.FnMut callback.old self.old (number token) result callback.new
+            self.new }
+    {
+        self.slots.show(token, callback)
     }
 }

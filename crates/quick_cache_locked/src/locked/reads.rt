@@ -1,5 +1,5 @@
 //! Reads of a shard behind its lock, which change neither its lists nor its marks.
-ghost use Rattle.std.specs.Prelude.{IfOk, IfSome, MatchOption};
+ghost use Rattle.std.specs.Prelude.{IsOk, IfOk, IfSome, MatchOption};
 ghost use Rattle.std.specs.Bool.{OnTrue, OnFalse};
 ghost use Rattle.quick_cache_model.specs.Finding.{HasNoItem};
 ghost use Rattle.quick_cache_shard.specs.Stats.{ShowsReads};
@@ -12,7 +12,7 @@ ghost use Rattle.quick_cache_locked.specs.Touches.{any_touches};
 
 use crate::count::Count;
 use crate::locked::LockedShard;
-use quick_cache_base::{Equivalent, ItemStats, Lifecycle, MemoryUsed, Refusal};
+use quick_cache_model::{Equivalent, ItemStats, Lifecycle, MemoryUsed, Refusal};
 use std::alloc::Allocator;
 use std::hash::{BuildHasher, Hash};
 
@@ -33,11 +33,28 @@ impl<
         ensures gets { Peeks (Q.equivalent query.now) V.is_clone self.now.state result }
         ensures fits { L.steady self.now.lifecycle → ClonesFit L.fits V.is_clone → IfOk result
             (λ found. IfSome found (λ v. FitsQuery L.fits (Q.equivalent query.now) v)) }
+        ensures succeeds { ((value : V) → V.is_infallible value) → IsOk result }
         ensures kept { IsKept L.Lifecycle K.eq self.now }
     {
         self.is_kept();
         let hash = self.shard.hash(query);
         self.shard.get_clone(hash, query)
+    }
+
+    /// As `get`, but where nothing is found no miss is counted: it is for a call that goes on to
+    /// begin a load.
+    pub fn find<Q: Equivalent<K>>(&self, query: &Q) -> Result<Option<V>, Refusal>
+    where
+        V: Clone,
+        ensures finds { Peeks (Q.equivalent query.now) V.is_clone self.now.state result }
+        ensures fits { L.steady self.now.lifecycle → ClonesFit L.fits V.is_clone → IfOk result
+            (λ found. IfSome found (λ v. FitsQuery L.fits (Q.equivalent query.now) v)) }
+        ensures succeeds { ((value : V) → V.is_infallible value) → IsOk result }
+        ensures kept { IsKept L.Lifecycle K.eq self.now }
+    {
+        self.is_kept();
+        let hash = self.shard.hash(query);
+        self.shard.find_clone(hash, query)
     }
 
     /// Clones the value under the query's key. It is no use of the item. What it gives fits as what
@@ -48,6 +65,7 @@ impl<
         ensures peeks { Peeks (Q.equivalent query.now) V.is_clone self.now.state result }
         ensures fits { L.steady self.now.lifecycle → ClonesFit L.fits V.is_clone → IfOk result
             (λ found. IfSome found (λ v. FitsQuery L.fits (Q.equivalent query.now) v)) }
+        ensures succeeds { ((value : V) → V.is_infallible value) → IsOk result }
         ensures kept { IsKept L.Lifecycle K.eq self.now }
     {
         self.is_kept();
@@ -99,7 +117,7 @@ impl<
         }
     }
 
-    /// How many bytes the entries and the table that finds them take.
+    /// How many bytes the entries and the index that finds them take.
     pub fn memory_used(&self) -> MemoryUsed {
         self.shard.memory_used()
     }

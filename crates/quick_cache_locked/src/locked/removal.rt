@@ -1,15 +1,15 @@
 //! Removals from a shard behind its lock.
-ghost use Rattle.std.specs.Prelude.{◌≡◌, IfSome};
+ghost use Rattle.std.specs.Prelude.{[], ◌≡◌, IfSome};
 ghost use Rattle.std.specs.Fn.{FnOnceReturnsAt};
 ghost use Rattle.quick_cache_model.specs.Hashing.{hash_of};
 ghost use Rattle.quick_cache_model.specs.Removal.{Removes, cleared};
 ghost use Rattle.quick_cache_shard.specs.Predicates.{Answers, RemovesAsked, RetainsAsked};
-ghost use Rattle.quick_cache_shard.specs.Shard.{UpToOrder};
+ghost use Rattle.quick_cache_shard.specs.Shard.{LosesOnly, UpToOrder};
 ghost use Rattle.quick_cache_locked.specs.Fitting.{FitsQuery};
 ghost use Rattle.quick_cache_locked.specs.Locked.{IsKept};
 
 use crate::locked::LockedShard;
-use quick_cache_base::{Equivalent, Lifecycle};
+use quick_cache_model::{Equivalent, Lifecycle};
 use std::alloc::Allocator;
 use std::hash::{BuildHasher, Hash};
 
@@ -29,7 +29,8 @@ impl<
             UpToOrder (Removes (Q.equivalent query.now) self.old.state hash result) self.new.state }
         ensures fits { L.steady self.old.lifecycle → IfSome result
             (λ pair. FitsQuery L.fits (Q.equivalent query.now) pair.1) }
-        ensures same { self.new ≡ record self.old { state = self.new.state; room = self.new.room } }
+        ensures places { LosesOnly self.old.places self.new.places }
+        ensures same { self.new ≡ record self.old { state = self.new.state; places = self.new.places; room = self.new.room } }
         ensures kept { IsKept L.Lifecycle K.eq self.old }
     {
         self.is_kept();
@@ -49,7 +50,8 @@ impl<
             (FnOnceReturnsAt F.FnOnce wanted) result) self.new.state }
         ensures fits { L.steady self.old.lifecycle → IfSome result
             (λ pair. FitsQuery L.fits (Q.equivalent query.now) pair.1) }
-        ensures same { self.new ≡ record self.old { state = self.new.state; room = self.new.room } }
+        ensures places { LosesOnly self.old.places self.new.places }
+        ensures same { self.new ≡ record self.old { state = self.new.state; places = self.new.places; room = self.new.room } }
         ensures kept { IsKept L.Lifecycle K.eq self.old }
     {
         self.is_kept();
@@ -61,7 +63,8 @@ impl<
     pub fn retain<F: Fn(&K, &V) -> bool>(&mut self, keep: F)
         requires callable { F.IsAlwaysCallable keep }
         ensures asks { UpToOrder (RetainsAsked (Answers F.Fn keep) self.old.state) self.new.state }
-        ensures same { self.new ≡ record self.old { state = self.new.state; room = self.new.room } }
+        ensures places { LosesOnly self.old.places self.new.places }
+        ensures same { self.new ≡ record self.old { state = self.new.state; places = self.new.places; room = self.new.room } }
         ensures kept { IsKept L.Lifecycle K.eq self.old }
     {
         self.is_kept();
@@ -71,7 +74,8 @@ impl<
     /// Drops all items, and forgets those that left.
     pub fn clear(&mut self)
         ensures clears { self.new.state ≡ cleared self.old.state }
-        ensures same { self.new ≡ record self.old { state = self.new.state; room = self.new.room } }
+        ensures places { self.new.places ≡ [] }
+        ensures same { self.new ≡ record self.old { state = self.new.state; places = self.new.places; room = self.new.room } }
         ensures kept { IsKept L.Lifecycle K.eq self.old }
     {
         self.is_kept();

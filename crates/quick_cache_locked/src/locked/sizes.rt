@@ -2,13 +2,13 @@
 ghost use Rattle.std.specs.Prelude.{◌≡◌, ◌-◌, ◌≤◌, IfErr, OnOk, min};
 ghost use Rattle.quick_cache_model.specs.declared.refusal.Refusal.TheVariants.{Memory};
 ghost use Rattle.quick_cache_model.specs.Refusals.{slots_taken, slot_count};
-ghost use Rattle.quick_cache_shard.specs.Shard.{rules_of, hooks_of};
-ghost use Rattle.quick_cache_unsync.specs.SetsCapacity.{SetsCapacityTo};
+ghost use Rattle.quick_cache_shard.specs.Shard.{LosesOnly, rules_of, hooks_of};
+ghost use Rattle.quick_cache_shard.specs.SetsCapacity.{SetsCapacityTo};
 ghost use Rattle.quick_cache_locked.specs.Locked.{IsKept};
 ghost use Rattle.quick_cache_locked.specs.Touches.{any_touches};
 
 use crate::locked::LockedShard;
-use quick_cache_base::{Lifecycle, Refusal, Weighter};
+use quick_cache_model::{Lifecycle, Refusal, Weighter};
 use std::alloc::Allocator;
 use std::hash::{BuildHasher, Hash};
 
@@ -29,8 +29,10 @@ impl<
             (rules_of any_touches K.Hash.hash_input We.Weighter B.BuildHasher B.Hasher.Hasher
             L.Lifecycle self.old) capacity self.old.state state.old self.new.state state.new }
         ensures capacity { self.new.state.capacity ≡ capacity }
+        ensures places { LosesOnly self.old.places self.new.places }
         ensures same { self.new ≡ record self.old {
           state = self.new.state;
+          places = self.new.places;
           room = self.new.room;
           work = self.new.work;
         } }

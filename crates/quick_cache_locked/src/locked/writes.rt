@@ -1,12 +1,12 @@
 //! Pairs in the place of others, behind the lock of a shard.
 ghost use Rattle.std.specs.Prelude.{◌≡◌};
-ghost use Rattle.quick_cache_shard.specs.Shard.{rules_of, hooks_of};
-ghost use Rattle.quick_cache_unsync.specs.Replaces.{Replaces};
+ghost use Rattle.quick_cache_shard.specs.Shard.{KeepsPlaces, rules_of, hooks_of};
+ghost use Rattle.quick_cache_shard.specs.Replaces.{Replaces};
 ghost use Rattle.quick_cache_locked.specs.Locked.{IsKept};
 ghost use Rattle.quick_cache_locked.specs.Touches.{any_touches};
 
 use crate::locked::LockedShard;
-use quick_cache_base::{Lifecycle, Weighter};
+use quick_cache_model::{Lifecycle, Weighter};
 use quick_cache_shard::InsertStrategy;
 use std::alloc::Allocator;
 use std::hash::{BuildHasher, Hash};
@@ -34,8 +34,11 @@ impl<
             (rules_of any_touches K.Hash.hash_input We.Weighter B.BuildHasher B.Hasher.Hasher
             L.Lifecycle self.old)
             K.eq self.old.state soft state.old key value result self.new.state state.new }
+        // No item moves that stays.
+        ensures places { KeepsPlaces K.eq self.old.places self.new.places }
         ensures same { self.new ≡ record self.old {
           state = self.new.state;
+          places = self.new.places;
           room = self.new.room;
           work = self.new.work;
         } }

@@ -2,6 +2,7 @@
 ghost use Rattle.std.specs.Prelude.{◌≡◌, true};
 ghost use Rattle.std.specs.Borrow.{sem};
 ghost use Rattle.std.specs.Int.NonZero.{non_zero_u32_get as number};
+ghost use Rattle.quick_cache_slots.specs.Shown.{ShowsSlot};
 ghost use Rattle.quick_cache_slots.specs.Slots.{HasItem, HasValue};
 
 use crate::slots::Slots;
@@ -21,5 +22,18 @@ impl<K, V, P, T, A: Allocator> Slots<K, V, P, T, A> {
     {
         let (entry, _) = unsafe { self.slab.get_mut_unchecked(token) };
         entry.value_mut()
+    }
+
+    /// Shows the key of the item of a token, and its value to write. The item keeps its place and
+    /// its weight.
+    #[inline]
+    pub fn show<R, F: FnMut(&K, &mut V) -> R>(&mut self, token: Token, callback: &mut F) -> R
+        requires item { HasItem self.old (number token) }
+        requires callable { F.IsAlwaysCallable callback.old }
+        ensures { ShowsSlot F.FnMut callback.old self.old (number token) result callback.new
+            self.new }
+    {
+        let (entry, _) = unsafe { self.slab.get_mut_unchecked(token) };
+        entry.show(callback)
     }
 }

@@ -1,6 +1,6 @@
 //! A walk over the places of one hash.
 ghost use Rattle.std.specs.Prelude.{◌≡◌, ◌<◌, ◌==◌, ◌∷◌, [], length, count_by, IfSome, IfNone, IsTrue};
-ghost use Rattle.quick_cache_table.specs.TableGroups.{hash_at, holds_pair, place_at, reach_of, IsWhole, IsWalk, tokens_left, candidates_left, AreTokensOf};
+ghost use Rattle.quick_cache_table.specs.TableGroups.{hash_at, holds_pair, place_at, reach_of, IsWhole, IsWalk, tokens_left, AreTokensOf};
 
 use super::groups::{LANES, home_of, lanes_of, tag_of};
 use super::places::Seen;
@@ -145,32 +145,6 @@ impl<'a> Walk<'a> {
         None
     }
 
-    /// The position of the next place that has the tag of the hash.
-    #[inline(always)]
-    pub(crate) fn next_tagged(&mut self) -> Option<usize>
-        requires { IsWalk self.old }
-        ensures walk { IsWalk self.new }
-        ensures places { self.new.places ≡ self.old.places }
-        ensures none { IfNone result (candidates_left self.old ≡ []) }
-        ensures ended { IfNone result (candidates_left self.new ≡ []) }
-        ensures within { IfSome result (λ position. position < length self.old.places) }
-        ensures some { IfSome result (λ position.
-            let place = place_at self.old.places position in
-            (0 < place.token)
-            × (candidates_left self.old ≡ place.token ∷ candidates_left self.new)) }
-    {
-        while self.lanes == 0 {
-            if self.step >= self.reach() {
-                return None;
-            }
-            self.step += 1;
-            self.lanes = lanes_of(self.tags, self.home ^ self.step, tag_of(self.hash));
-        }
-        let lane = self.lanes.trailing_zeros() as usize;
-        self.lanes &= self.lanes - 1;
-        Some(LANES * (self.home ^ self.step) + lane)
-    }
-
     /// The position of the next pair of the hash.
     #[inline(always)]
     pub(crate) fn next_position(&mut self) -> Option<usize>
@@ -204,44 +178,6 @@ pub(crate) fn position_of(mut walk: Walk<'_>, token: u32) -> Option<usize>
         (count_by (holds_pair walk.entry.hash token) walk.entry.places ≡ 0) }
 {
     while let Some(position) = walk.next_position() {
-        if walk.places.token(position) == token {
-            return Some(position);
-        }
-    }
-    None
-}
-
-// The position of that token, where the next place of the group that is being read has it.
-#[inline(always)]
-pub(crate) fn first_position_of(walk: &Walk<'_>, token: u32) -> Option<usize>
-    requires { IsWalk walk.now }
-    ensures within { IfSome result (λ position. position < length walk.now.places) }
-    ensures found { IfSome result (λ position.
-        let place = place_at walk.now.places position in
-        (0 < place.token) × (place.token ≡ token)) }
-{
-    if walk.lanes == 0 {
-        return None;
-    }
-    let position = LANES * (walk.home ^ walk.step) + walk.lanes.trailing_zeros() as usize;
-    if walk.places.token(position) == token {
-        Some(position)
-    } else {
-        None
-    }
-}
-
-// The position of that token, where a place has it that has the tag of the hash.
-pub(crate) fn tagged_position_of(mut walk: Walk<'_>, token: u32) -> Option<usize>
-    requires { IsWalk walk }
-    ensures within { IfSome result (λ position. position < length walk.entry.places) }
-    ensures found { IfSome result (λ position.
-        let place = place_at walk.entry.places position in
-        (0 < place.token) × (place.token ≡ token)) }
-    ensures none { IfNone result
-        (count_by (λ t. t == token) (candidates_left walk.entry) ≡ 0) }
-{
-    while let Some(position) = walk.next_tagged() {
         if walk.places.token(position) == token {
             return Some(position);
         }

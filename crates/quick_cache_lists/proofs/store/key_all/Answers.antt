@@ -1,7 +1,6 @@
 use Rattle.std.proofs.Common.{length, ap, subst, refl, arith}
 use Rattle.std.specs.Int.NonZero.{non_zero_u32_get as number}
 use Rattle.quick_cache_index.specs.Index.{Leads}
-use Rattle.quick_cache_slots.specs.declared.entry.Slot.{Slot}
 use Rattle.quick_cache_lists.specs.Sound.{AddsToken}
 use Rattle.quick_cache_lists.proofs.CopyLemmas.{first-times, rest-times, rest-apart}
 use Rattle.quick_cache_lists.proofs.store.key_all.Goals as goal

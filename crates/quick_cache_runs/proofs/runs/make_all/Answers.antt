@@ -84,6 +84,7 @@ loop-call-preserved g c =
       same = c.make.ensures.same ∙ ap
           (λ (x : X). record x {
             state = c.make.new.cache.state;
+            places = c.make.new.cache.places;
             room = c.make.new.cache.room;
             work = c.make.new.cache.work;
           }) i.same;

@@ -22,7 +22,7 @@ invariant-loop-call g l = record {
       (hooks_of g.L.Lifecycle l.fn.cache) l.fn.cache.state l.fn.state l.yielded l.replies.items
       l.cache.state l.state;
   same : l.cache ≡ record l.fn.cache
-      { state = l.cache.state; room = l.cache.room; work = l.cache.work };
+      { state = l.cache.state; places = l.cache.places; room = l.cache.room; work = l.cache.work };
   left : into_iter_len l.call-iterator ≡ length (into_iter_items l.call-iterator);
   as_many : length l.yielded ≡ length l.replies.items;
   answered : AlwaysClones g.V.Clone.is_infallible → AreAnswered l.yielded l.replies.items;

@@ -1,9 +1,8 @@
-use Rattle.std.proofs.Common.{◌∙◌, Some, refl, sym, subst, ap}
+use Rattle.std.proofs.Common.{◌∙◌, refl, sym, subst, ap}
 use Rattle.std.specs.Int.NonZero.{non_zero_u32_get as number}
 use Rattle.quick_cache_slab.specs.LinkedSlab.{LinkedSlab}
 use Rattle.quick_cache_slots.specs.declared.entry.Slot.{Slot}
 use Rattle.quick_cache_lists.specs.Lists.{with_value}
-use Rattle.quick_cache_lists.specs.Slots.{slot_changed}
 use Rattle.quick_cache_lists.specs.Sound.{IsSound, lists_of}
 use Rattle.quick_cache_lists.proofs.ItemLemmas.{item_by_token}
 use Rattle.quick_cache_lists.proofs.StandLemmas.{HasItem-from}

@@ -13,3 +13,6 @@ invariant_of-self g c = StaysFit-written g.L.Lifecycle
     g.L.Lifecycle c.self.inside.shard)
     g.K.PartialEq.eq _ _ c.args.key c.args.value _ _ c.insert.ensures.answers
     (ap (λ s. s.lifecycle) c.insert.ensures.same) c.requires.fits c.self.invariant
+
+pub returns-clause-places : goal.returns-clause-places
+returns-clause-places g c = rw (← c.self.view_is) c.insert.ensures.places

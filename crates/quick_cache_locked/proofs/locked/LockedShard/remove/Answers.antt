@@ -16,3 +16,6 @@ returns-clause-fits g c =
     rw (← c.self.view_is)
     (λ steady. Removes-gives g.L.Lifecycle.fits (g.Q.Equivalent.equivalent c.args.query.now) _ _
     c.remove.result _ c.remove.ensures.removes.holds (c.self.invariant steady))
+
+pub returns-clause-places : goal.returns-clause-places
+returns-clause-places g c = rw (← c.self.view_is) c.remove.ensures.places

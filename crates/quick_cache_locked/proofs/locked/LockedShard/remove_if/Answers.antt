@@ -17,3 +17,6 @@ returns-clause-fits g c =
     (λ steady. RemovesAsked-gives g.L.Lifecycle.fits
     (g.Q.Equivalent.equivalent c.args.query.now) _ _ c.remove_if.result _
     c.remove_if.ensures.asks.holds (c.self.invariant steady))
+
+pub returns-clause-places : goal.returns-clause-places
+returns-clause-places g c = rw (← c.self.view_is) c.remove_if.ensures.places

@@ -8,3 +8,6 @@ invariant_of-self g c = StaysFit-stepped g.L.Lifecycle c.self.inside.shard c.ret
     (ap (λ s. s.lifecycle) c.retain.ensures.same) c.retain.ensures.asks
     (λ next step. RetainsAsked-fits g.L.Lifecycle.fits _ c.self.inside.shard.state next step)
     c.self.invariant
+
+pub returns-clause-places : goal.returns-clause-places
+returns-clause-places g c = rw (← c.self.view_is) c.retain.ensures.places

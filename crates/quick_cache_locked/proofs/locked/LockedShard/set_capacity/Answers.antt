@@ -12,3 +12,6 @@ invariant_of-self g c = StaysFit-resized g.L.Lifecycle c.self.inside.shard c.set
     (rules_of any_touches g.K.Hash.hash_input g.We.Weighter g.B.BuildHasher g.B.Hasher.Hasher
     g.L.Lifecycle c.self.inside.shard)
     c.args.capacity _ _ c.set_capacity.ensures.sets c.self.invariant
+
+pub returns-clause-places : goal.returns-clause-places
+returns-clause-places g c = rw (← c.self.view_is) c.set_capacity.ensures.places

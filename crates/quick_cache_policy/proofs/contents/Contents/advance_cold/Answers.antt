@@ -13,6 +13,7 @@ use Rattle.quick_cache_policy.proofs.ColdAdvances.{AdvancesCold-promoted, Advanc
 use Rattle.quick_cache_policy.proofs.ColdAdvances.{AdvancesCold-passed}
 use Rattle.quick_cache_policy.proofs.KeyLemmas.{FirstIsEvicted-keys, FirstIsPromoted-keys, Searches-keys, keys_by-cold}
 use Rattle.quick_cache_policy.proofs.LoopLemmas.{Calls-map}
+use Rattle.quick_cache_policy.proofs.PlaceLemmas.{LosesOnly-cold}
 use Rattle.quick_cache_policy.proofs.WorkLemmas.{PaysFor-evicted}
 use Rattle.quick_cache_policy.proofs.contents.Contents.advance_cold.Goals as goal
 
@@ -139,3 +140,24 @@ returns-in-AllPassed-clause-keys g c test =
           c.search_cold.result c.search_cold.ensures.searches),
       c.advance_hot.ensures.keys test,
     )
+
+pub returns-in-Marked-clause-places : goal.returns-in-Marked-clause-places
+returns-in-Marked-clause-places g c = λ place there.
+    LosesOnly-cold c.args.self.now.lists c.search_cold.new.self.lists
+    (ap (λ (r : Contents _ _ _ _ _ _). r.lists) c.search_cold.ensures.same)
+    c.search_cold.ensures.places place
+    (c.promote_first.ensures.places place (c.evict_to_target.ensures.places place there))
+
+pub returns-in-Victim-clause-places : goal.returns-in-Victim-clause-places
+returns-in-Victim-clause-places g c = λ place there.
+    LosesOnly-cold c.args.self.now.lists c.search_cold.new.self.lists
+    (ap (λ (r : Contents _ _ _ _ _ _). r.lists) c.search_cold.ensures.same)
+    c.search_cold.ensures.places place
+    (c.evict_first.ensures.places place there)
+
+pub returns-in-AllPassed-clause-places : goal.returns-in-AllPassed-clause-places
+returns-in-AllPassed-clause-places g c = λ place there.
+    LosesOnly-cold c.args.self.now.lists c.search_cold.new.self.lists
+    (ap (λ (r : Contents _ _ _ _ _ _). r.lists) c.search_cold.ensures.same)
+    c.search_cold.ensures.places place
+    (c.advance_hot.ensures.places place there)

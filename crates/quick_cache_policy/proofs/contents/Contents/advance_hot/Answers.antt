@@ -4,6 +4,7 @@ use Rattle.quick_cache_policy.specs.declared.contents.Contents.{Contents}
 use Rattle.quick_cache_policy.specs.Contents.{state_of, ring_count}
 use Rattle.quick_cache_policy.specs.Policies.{rules_by}
 use Rattle.quick_cache_policy.proofs.KeyLemmas.{FirstIsEvicted-keys, SeekEnds-keys, keys_by-hot}
+use Rattle.quick_cache_policy.proofs.PlaceLemmas.{LosesOnly-hot}
 use Rattle.quick_cache_policy.proofs.HotAdvanceLemmas.{cold≢hot, PaysFor-advance, AdvancesHot-gives_up, AdvancesHot-evicts, visits-three}
 use Rattle.quick_cache_policy.proofs.contents.Contents.advance_hot.Goals as goal
 
@@ -76,3 +77,17 @@ returns-clause-keys g c test =
           (state_of g.P.SharedPlaceholder.ticket_of c.seek_victim.new.self)
           (state_of g.P.SharedPlaceholder.ticket_of c.evict_first.new.self) e.calls e.holds.0,
     )
+
+-- the visits move none
+pub returns-then-not-seek_victim-clause-places : goal.returns-then-not-seek_victim-clause-places
+returns-then-not-seek_victim-clause-places g c =
+    let s = c.seek_victim.ensures in
+    LosesOnly-hot c.args.self.now.lists c.seek_victim.new.self.lists
+    (ap (λ (r : Contents _ _ _ _ _ _). r.lists) s.same) s.places
+
+pub returns-clause-places : goal.returns-clause-places
+returns-clause-places g c = λ place there.
+    let s = c.seek_victim.ensures in
+    LosesOnly-hot c.args.self.now.lists c.seek_victim.new.self.lists
+    (ap (λ (r : Contents _ _ _ _ _ _). r.lists) s.same) s.places place
+    (c.evict_first.ensures.places place there)

@@ -3,11 +3,15 @@ use Rattle.std.specs.Int.NonZero.{non_zero_u32_get as number}
 use Rattle.quick_cache_model.specs.CacheState.{default_mark_cut}
 use Rattle.quick_cache_model.specs.Removal.{pair_of}
 use Rattle.quick_cache_model.specs.Touches.{counted_up, raised_by}
-use Rattle.quick_cache_lists.specs.Lists.{HeldItem, read_once, used}
+use Rattle.quick_cache_lists.specs.Lists.{HeldItem, FindsItem, read_once, used}
 use Rattle.quick_cache_lists.proofs.StandingLemmas.{found-same}
-use Rattle.quick_cache_policy.specs.Contents.{IsSound}
+use Rattle.quick_cache_policy.specs.Contents.{IsSound, state_of}
+use Rattle.quick_cache_policy.specs.Entering.{CountsHit}
+use Rattle.quick_cache_policy.specs.declared.contents.Contents.{Contents}
 use Rattle.quick_cache_policy.specs.Finding.{IsLookedUp}
-use Rattle.quick_cache_policy.proofs.LookupLemmas.{IsCounted, counted-is, looks_up-hit, counted-item, counted-sound}
+use Rattle.quick_cache_policy.proofs.LookupLemmas.{IsCounted, counted-is, looks_up-hit, counted-hit, counted-found, counted-item, counted-sound}
+use Rattle.quick_cache_policy.specs.Places.{places_of}
+use Rattle.quick_cache_policy.proofs.PlaceLemmas.{places_of-change}
 use Rattle.quick_cache_policy.proofs.contents.Contents.count_hit.Goals as goal
 use Rattle.quick_cache_policy.proofs.contents.Contents.count_hit.Goals.{then-mark-eq-MARK_CUT, else-mark-eq-MARK_CUT}
 
@@ -38,6 +42,7 @@ returns-clause-looks_up g c =
           record {
             change = read_once;
             counts = λ i. record item { mark = mark_is i; reads = counted_up 1 item.reads };
+            keeps = λ i. refl;
             is = counted-is contents now t read_once w.count_read.new.self hits w.self-is
                 w.count_read.ensures hits_are;
           }
@@ -47,6 +52,7 @@ returns-clause-looks_up g c =
           record {
             change = used (w.min.result + 1);
             counts = λ i. record item { mark = mark_is i; reads = counted_up 1 item.reads };
+            keeps = λ i. refl;
             is = counted-is contents now t (used (w.min.result + 1)) w.count_use.new.self hits
                 w.self-is w.count_use.ensures hits_are;
           }
@@ -54,12 +60,108 @@ returns-clause-looks_up g c =
     subst (λ s. IsLookedUp ticket_of stands_for contents c.args.token s) (sym done.is)
     (record {
       item = item;
+      passes = passes;
       now = counted-item ticket_of contents apart t hash item done.change done.counts has;
       value = looks_up-hit ticket_of contents apart t hash item done.change done.counts has
           stands_for passes (λ i. i.value);
       pair = looks_up-hit ticket_of contents apart t hash item done.change done.counts has
           stands_for passes pair_of;
     })
+
+-- a hit is counted at it
+pub returns-clause-counts : goal.returns-clause-counts
+returns-clause-counts g c =
+    let ticket_of = g.P.SharedPlaceholder.ticket_of in
+    let contents = c.args.self.now in
+    let stands_for = g.Q.Equivalent.equivalent c.args._query.now in
+    let t = number c.args.token in
+    let apart = c.apart.ensures.apart in
+    let item = c.item-item.result in
+    let hash = c.item-item.ensures.0 in
+    let has = c.item-item.ensures.1 in
+    let passes = ap (λ (h : HeldItem _ _). stands_for h.item.key)
+    (found-same contents.lists apart t
+    (record { token = t; hash = c.args.hash; item = c.requires.found.item })
+    (record { token = t; hash = hash; item = item }) c.requires.found.stands has refl refl)
+    ∙ c.requires.found.passes in
+    let now = c.if-mark-eq-MARK_CUT.self in
+    let hits = c.saturating_add-self.result in
+    let hits_are : hits ≡ counted_up 1 now.hits = omega (arith, c.saturating_add-self.ensures) in
+    let done : IsCounted contents t item (record now { hits = hits }) =
+    elim c.if-mark-eq-MARK_CUT.branch [
+      | then-mark-eq-MARK_CUT w ↦
+          let mark_is : item.mark ≡ raised_by default_mark_cut 1 item.mark =
+          omega (arith, c.mark-mark.ensures, w.if-mark-eq-MARK_CUT.true) in
+          record {
+            change = read_once;
+            counts = λ i. record item { mark = mark_is i; reads = counted_up 1 item.reads };
+            keeps = λ i. refl;
+            is = counted-is contents now t read_once w.count_read.new.self hits w.self-is
+                w.count_read.ensures hits_are;
+          }
+      | else-mark-eq-MARK_CUT w ↦
+          let mark_is : w.min.result + 1 ≡ raised_by default_mark_cut 1 item.mark =
+          omega (arith, c.mark-mark.ensures, w.min.ensures) in
+          record {
+            change = used (w.min.result + 1);
+            counts = λ i. record item { mark = mark_is i; reads = counted_up 1 item.reads };
+            keeps = λ i. refl;
+            is = counted-is contents now t (used (w.min.result + 1)) w.count_use.new.self hits
+                w.self-is w.count_use.ensures hits_are;
+          }
+    ] in
+    subst (λ s. CountsHit stands_for (state_of ticket_of contents) (state_of ticket_of s))
+    (sym done.is)
+    (counted-hit ticket_of contents apart t hash item done.change done.counts has stands_for passes)
+
+-- and it is still found
+pub returns-clause-found : goal.returns-clause-found
+returns-clause-found g c =
+    let ticket_of = g.P.SharedPlaceholder.ticket_of in
+    let contents = c.args.self.now in
+    let stands_for = g.Q.Equivalent.equivalent c.args._query.now in
+    let t = number c.args.token in
+    let apart = c.apart.ensures.apart in
+    let item = c.item-item.result in
+    let hash = c.item-item.ensures.0 in
+    let has = c.item-item.ensures.1 in
+    let passes = ap (λ (h : HeldItem _ _). stands_for h.item.key)
+    (found-same contents.lists apart t
+    (record { token = t; hash = c.args.hash; item = c.requires.found.item })
+    (record { token = t; hash = hash; item = item }) c.requires.found.stands has refl refl)
+    ∙ c.requires.found.passes in
+    let now = c.if-mark-eq-MARK_CUT.self in
+    let hits = c.saturating_add-self.result in
+    let hits_are : hits ≡ counted_up 1 now.hits = omega (arith, c.saturating_add-self.ensures) in
+    let done : IsCounted contents t item (record now { hits = hits }) =
+    elim c.if-mark-eq-MARK_CUT.branch [
+      | then-mark-eq-MARK_CUT w ↦
+          let mark_is : item.mark ≡ raised_by default_mark_cut 1 item.mark =
+          omega (arith, c.mark-mark.ensures, w.if-mark-eq-MARK_CUT.true) in
+          record {
+            change = read_once;
+            counts = λ i. record item { mark = mark_is i; reads = counted_up 1 item.reads };
+            keeps = λ i. refl;
+            is = counted-is contents now t read_once w.count_read.new.self hits w.self-is
+                w.count_read.ensures hits_are;
+          }
+      | else-mark-eq-MARK_CUT w ↦
+          let mark_is : w.min.result + 1 ≡ raised_by default_mark_cut 1 item.mark =
+          omega (arith, c.mark-mark.ensures, w.min.ensures) in
+          record {
+            change = used (w.min.result + 1);
+            counts = λ i. record item { mark = mark_is i; reads = counted_up 1 item.reads };
+            keeps = λ i. refl;
+            is = counted-is contents now t (used (w.min.result + 1)) w.count_use.new.self hits
+                w.self-is w.count_use.ensures hits_are;
+          }
+    ] in
+    subst (λ (s : Contents _ _ _ _ _ _). FindsItem stands_for c.args.hash s.lists t) (sym done.is)
+    (counted-found ticket_of contents apart t hash item done.change done.counts has stands_for
+    passes c.args.hash (ap (λ (h : HeldItem _ _). h.hash)
+    (found-same contents.lists apart t
+    (record { token = t; hash = c.args.hash; item = c.requires.found.item })
+    (record { token = t; hash = hash; item = item }) c.requires.found.stands has refl refl)))
 
 pub returns-clause-sound : goal.returns-clause-sound
 returns-clause-sound g c = λ hashed sound.
@@ -87,6 +189,7 @@ returns-clause-sound g c = λ hashed sound.
           record {
             change = read_once;
             counts = λ i. record item { mark = mark_is i; reads = counted_up 1 item.reads };
+            keeps = λ i. refl;
             is = counted-is contents now t read_once w.count_read.new.self hits w.self-is
                 w.count_read.ensures hits_are;
           }
@@ -96,6 +199,7 @@ returns-clause-sound g c = λ hashed sound.
           record {
             change = used (w.min.result + 1);
             counts = λ i. record item { mark = mark_is i; reads = counted_up 1 item.reads };
+            keeps = λ i. refl;
             is = counted-is contents now t (used (w.min.result + 1)) w.count_use.new.self hits
                 w.self-is w.count_use.ensures hits_are;
           }
@@ -103,3 +207,48 @@ returns-clause-sound g c = λ hashed sound.
     subst (λ s. IsSound ticket_of g.K.PartialEq.eq hashed s) (sym done.is)
     (counted-sound ticket_of contents apart t hash item done.change done.counts has
     g.K.PartialEq.eq hashed stands_for passes sound)
+
+-- it moves nothing
+pub returns-clause-places : goal.returns-clause-places
+returns-clause-places g c =
+    let ticket_of = g.P.SharedPlaceholder.ticket_of in
+    let contents = c.args.self.now in
+    let stands_for = g.Q.Equivalent.equivalent c.args._query.now in
+    let t = number c.args.token in
+    let apart = c.apart.ensures.apart in
+    let item = c.item-item.result in
+    let hash = c.item-item.ensures.0 in
+    let has = c.item-item.ensures.1 in
+    let passes = ap (λ (h : HeldItem _ _). stands_for h.item.key)
+    (found-same contents.lists apart t
+    (record { token = t; hash = c.args.hash; item = c.requires.found.item })
+    (record { token = t; hash = hash; item = item }) c.requires.found.stands has refl refl)
+    ∙ c.requires.found.passes in
+    let now = c.if-mark-eq-MARK_CUT.self in
+    let hits = c.saturating_add-self.result in
+    let hits_are : hits ≡ counted_up 1 now.hits = omega (arith, c.saturating_add-self.ensures) in
+    let done : IsCounted contents t item (record now { hits = hits }) =
+    elim c.if-mark-eq-MARK_CUT.branch [
+      | then-mark-eq-MARK_CUT w ↦
+          let mark_is : item.mark ≡ raised_by default_mark_cut 1 item.mark =
+          omega (arith, c.mark-mark.ensures, w.if-mark-eq-MARK_CUT.true) in
+          record {
+            change = read_once;
+            counts = λ i. record item { mark = mark_is i; reads = counted_up 1 item.reads };
+            keeps = λ i. refl;
+            is = counted-is contents now t read_once w.count_read.new.self hits w.self-is
+                w.count_read.ensures hits_are;
+          }
+      | else-mark-eq-MARK_CUT w ↦
+          let mark_is : w.min.result + 1 ≡ raised_by default_mark_cut 1 item.mark =
+          omega (arith, c.mark-mark.ensures, w.min.ensures) in
+          record {
+            change = used (w.min.result + 1);
+            counts = λ i. record item { mark = mark_is i; reads = counted_up 1 item.reads };
+            keeps = λ i. refl;
+            is = counted-is contents now t (used (w.min.result + 1)) w.count_use.new.self hits
+                w.self-is w.count_use.ensures hits_are;
+          }
+    ] in
+    ap (λ (r : Contents _ _ _ _ _ _). places_of r.lists) done.is
+    ∙ places_of-change t done.change done.keeps contents.lists

@@ -7,6 +7,9 @@ use Rattle.quick_cache_policy.specs.declared.contents.Contents.{Contents}
 use Rattle.quick_cache_policy.specs.Advances.{AreEvictions, FirstIsEvicted}
 use Rattle.quick_cache_policy.specs.Contents.{IsSound, state_of, ring_count}
 use Rattle.quick_cache_policy.specs.Policies.{rules_by}
+use Rattle.std.specs.List.{Contains}
+use Rattle.quick_cache_policy.specs.Places.{places_of}
+use Rattle.quick_cache_policy.proofs.PlaceLemmas.{LosesOnly-gone, LosesOnly-stays}
 use Rattle.quick_cache_policy.proofs.VictimLemmas.{ring-first, Replaces-ghost, Replaces-stays}
 use Rattle.quick_cache_policy.proofs.VictimLemmas.{hashes_of-last, newest-hashes, ghosts-one_more}
 use Rattle.quick_cache_policy.proofs.SoundLemmas.{FirstIsEvicted-stays, FirstIsEvicted-cold}
@@ -190,3 +193,37 @@ returns-in-Leaves-clause-hot g c =
     (Replaces-ghost contents.lists c.apart.ensures.apart first.0 first.1 (number c.args.token) _
     c.bury.new.self c.bury.ensures first.2 first.3)
     c.forget_oldest.ensures.same)
+
+-- it comes back under its token
+pub returns-in-Stays-clause-places : goal.returns-in-Stays-clause-places
+returns-in-Stays-clause-places g c =
+    let first = c.requires.first in
+    let lists = c.args.self.now.lists in
+    let apart = c.apart.ensures.apart in
+    let t = number c.args.token in
+    let hash = c.bury.ensures.hash in
+    let item = c.bury.result in
+    let kept = c.in-Stays.item in
+    let new = c.replace.new.self in
+    let split = ring-first lists apart Cold first.0 first.1 t hash item first.2 first.3
+    c.bury.ensures.taken in
+    let is = Replaces-ghost lists apart first.0 first.1 t _ c.bury.new.self c.bury.ensures first.2
+    first.3 in
+    let order = Replaces-stays lists c.bury.new.self c.apart-in-Stays.ensures.apart first.1 t
+    hash item kept kept.value c.replace.result new is c.in-Stays.ensures.2 c.replace.ensures in
+    LosesOnly-stays Cold (record { token = t; hash = hash; item = item }) first.1 lists new new.next
+    new.room t hash kept.value split refl order
+
+pub returns-in-Leaves-clause-places : goal.returns-in-Leaves-clause-places
+returns-in-Leaves-clause-places g c = λ place there.
+    let first = c.requires.first in
+    let contents = c.args.self.now in
+    let lists = contents.lists in
+    LosesOnly-gone Cold first.0 first.1 lists (record lists { cold = first.1 }) lists.next lists.room
+    first.2 refl place
+    (subst (λ (r : Contents _ _ _ _ _ _). Contains (places_of r.lists) place)
+    (without-ghosts g.P.SharedPlaceholder.ticket_of contents c.bury.new.self first.1 _
+    c.forget_oldest.new.self
+    (Replaces-ghost lists c.apart.ensures.apart first.0 first.1 (number c.args.token) _
+    c.bury.new.self c.bury.ensures first.2 first.3)
+    c.forget_oldest.ensures.same) there)

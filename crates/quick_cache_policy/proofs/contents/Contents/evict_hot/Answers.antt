@@ -1,4 +1,4 @@
-use Rattle.std.proofs.Common.{◌+◌, [], ◌∷◌, refl, sym, subst, ◌∙◌, inl}
+use Rattle.std.proofs.Common.{◌+◌, [], ◌∷◌, refl, sym, ap, subst, ◌∙◌, inl}
 use Rattle.std.specs.Int.NonZero.{non_zero_u32_get as number}
 use Rattle.quick_cache_model.specs.declared.queue.Queue.TheVariants.{Hot}
 use Rattle.quick_cache_model.specs.CacheState.{Item, ring_place}
@@ -9,6 +9,7 @@ use Rattle.quick_cache_policy.specs.Advances.{AreEvictions, Decides}
 use Rattle.quick_cache_policy.specs.declared.victim.Fate.TheVariants.{Stays as fate_stays, Leaves as fate_leaves}
 use Rattle.quick_cache_policy.specs.Contents.{AreHashed}
 use Rattle.quick_cache_policy.specs.Policies.{rules_by}
+use Rattle.quick_cache_policy.proofs.PlaceLemmas.{LosesOnly-gone, LosesOnly-stays}
 use Rattle.quick_cache_policy.proofs.VictimLemmas.{ring-first, PutsLast-stays}
 use Rattle.quick_cache_policy.proofs.SoundLemmas.{FirstIsEvicted-stays, FirstIsEvicted-hot}
 use Rattle.quick_cache_policy.proofs.SoundLemmas.{IsSound-evicted, AreHashed-rest, AreHashed-stays}
@@ -187,3 +188,37 @@ returns-in-Leaves-clause-cold g c =
     cold_count-stays g.P.SharedPlaceholder.ticket_of c.args.self.now
     (rules_by g.M.Policy g.P.Touch.Touches.may_count c.args.terms.now) _ c.take-slot.new.self
     (returns-in-Leaves-clause-evicts g c).holds.0
+
+-- it comes back under its token
+pub returns-in-Stays-clause-places : goal.returns-in-Stays-clause-places
+returns-in-Stays-clause-places g c =
+    let first = c.requires.first in
+    let lists = c.args.self.now.lists in
+    let apart = c.apart.ensures.apart in
+    let t = number c.args.token in
+    let item = c.in-Item.item in
+    let rules = rules_by g.M.Policy g.P.Touch.Touches.may_count c.args.terms.now in
+    let split = ring-first lists apart Hot first.0 first.1 t c.take-slot.result.hash item first.2
+    first.3 (subst (λ e. IsEntry lists t c.take-slot.result.hash e) c.in-Item.is
+    c.take-slot.ensures.taken) in
+    let taken = c.take-slot.ensures.rest
+    ∙ without-first lists apart first.0 first.1 Hot t first.2 first.3 in
+    let told = subst (λ (i : Item _ _). Decides {T = g.row.P-Touch.Denot} rules.weight
+    (g.M.Policy.hooks c.args.terms.now) i c.args.state.now (fate_stays c.in-Stays.item)
+    c.decide.new.state) c.in-Item.item-is c.in-Stays.ensures in
+    let order = PutsLast-stays c.take-slot.new.self (record lists { hot = first.1 }) c.put.new.self
+    t (lists.room + 1) (number c.put.result) c.take-slot.result.hash item c.in-Stays.item
+    c.in-Stays.item.value taken told.2 c.put.ensures.last in
+    LosesOnly-stays Hot (record { token = t; hash = c.take-slot.result.hash; item = item }) first.1
+    lists c.put.new.self c.put.new.self.next c.put.new.self.room (number c.put.result)
+    c.take-slot.result.hash c.in-Stays.item.value split
+    (c.put.ensures.token ∙ ap (λ (l : Lists _ _ _). l.next) c.take-slot.ensures.rest) order
+
+pub returns-in-Leaves-clause-places : goal.returns-in-Leaves-clause-places
+returns-in-Leaves-clause-places g c =
+    let first = c.requires.first in
+    let lists = c.args.self.now.lists in
+    let t = number c.args.token in
+    LosesOnly-gone Hot first.0 first.1 lists c.take-slot.new.self t (lists.room + 1) first.2
+    (c.take-slot.ensures.rest
+    ∙ without-first lists c.apart.ensures.apart first.0 first.1 Hot t first.2 first.3)

@@ -20,6 +20,7 @@ loop-self-init g c = record {
   sound = c.requires.sound;
   room = omega arith;
   keys = λ test. omega arith;
+  places = λ place there. there;
   work = PaysFor-none (length c.args.self.now.lists.hot) (length c.args.self.now.lists.cold)
       (work_of c.args.self.now) c.counts_fit.ensures.advances c.counts_fit.ensures.visits;
   same = refl;
@@ -87,6 +88,7 @@ loop-self-preserved g c =
       sound = e.sound;
       room = omega (arith, i.room, e.room);
       keys = λ test. omega (arith, i.keys test, e.keys test);
+      places = λ place there. i.places place (e.places place there);
       work = PaysFor-then 0 0 (length c.args.self.now.lists.hot)
           (length c.args.self.now.lists.cold) (length c.loop-self.self.lists.hot)
           (length c.loop-self.self.lists.cold) (length c.advance_cold.new.self.lists.hot)
@@ -124,3 +126,7 @@ returns-clause-evicts g c =
 pub returns-then-not-advance_cold-clause-keys : goal.returns-then-not-advance_cold-clause-keys
 returns-then-not-advance_cold-clause-keys g c test =
     omega (arith, c.loop-self.invariant.keys test, c.if-not-advance_cold.ensures.keys test)
+
+pub returns-then-not-advance_cold-clause-places : goal.returns-then-not-advance_cold-clause-places
+returns-then-not-advance_cold-clause-places g c = λ place there.
+    c.loop-self.invariant.places place (c.if-not-advance_cold.ensures.places place there)

@@ -19,6 +19,7 @@ loop-self-init g c = record {
   sound = c.requires.sound;
   room = omega arith;
   keys = λ test. omega arith;
+  places = λ place there. there;
   fewer = omega arith;
   cold = refl;
   work = PaysFor-none (length c.args.self.now.lists.hot) (length c.args.self.now.lists.cold)
@@ -80,6 +81,7 @@ loop-self-preserved g c =
       sound = e.sound;
       room = omega (arith, i.room, e.room);
       keys = λ test. omega (arith, i.keys test, e.keys test);
+      places = λ place there. i.places place (e.places place there);
       fewer = omega (arith, i.fewer, e.falls);
       cold = e.cold ∙ i.cold;
       work = PaysFor-then 0 0 (length c.args.self.now.lists.hot)
@@ -115,3 +117,7 @@ returns-clause-evicts g c =
 pub returns-then-not-advance_hot-clause-keys : goal.returns-then-not-advance_hot-clause-keys
 returns-then-not-advance_hot-clause-keys g c test =
     omega (arith, c.loop-self.invariant.keys test, c.if-not-advance_hot.ensures.keys test)
+
+pub returns-then-not-advance_hot-clause-places : goal.returns-then-not-advance_hot-clause-places
+returns-then-not-advance_hot-clause-places g c = λ place there.
+    c.loop-self.invariant.places place (c.if-not-advance_hot.ensures.places place there)

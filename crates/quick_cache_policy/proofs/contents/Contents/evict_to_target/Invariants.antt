@@ -3,6 +3,7 @@ use Rattle.quick_cache_model.specs.CacheState.{keys_by}
 use Rattle.quick_cache_model.specs.Eviction.{EvictsToTarget}
 use Rattle.quick_cache_model.specs.Hooks.{Calls}
 use Rattle.quick_cache_policy.specs.Contents.{IsSound, state_of, work_of}
+use Rattle.quick_cache_policy.specs.Places.{places_of, LosesOnly}
 use Rattle.quick_cache_policy.specs.Policies.{rules_by}
 use Rattle.quick_cache_policy.specs.Work.{PaysFor}
 use Rattle.quick_cache_policy.proofs.LoopLemmas.{GoesOn}
@@ -15,6 +16,7 @@ invariant-loop-self g l = record {
       (EvictsToTarget (rules_by g.M.Policy g.P.Touch.Touches.may_count l.terms))
       (state_of g.P.SharedPlaceholder.ticket_of l.initial.self)
       (state_of g.P.SharedPlaceholder.ticket_of l.self)) l.initial.state l.state;
+  places : LosesOnly (places_of l.initial.self.lists) (places_of l.self.lists);
   sound : IsSound g.P.SharedPlaceholder.ticket_of g.K.PartialEq.eq (g.M.Policy.hashed l.terms)
       l.self;
   room : l.initial.self.lists.room ≤ l.self.lists.room;

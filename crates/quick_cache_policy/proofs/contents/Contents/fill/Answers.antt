@@ -24,6 +24,9 @@ use Rattle.quick_cache_policy.proofs.FillLemmas.{entry-is_loading, awaited-is_lo
 use Rattle.quick_cache_policy.proofs.LoopLemmas.{Calls-then}
 use Rattle.quick_cache_policy.proofs.NewLemmas.{queue_for-hot, queue_for-otherwise}
 use Rattle.quick_cache_policy.proofs.contents.Contents.fill.Goals.{then-hot_weight-from, else-hot_weight-from}
+use Rattle.quick_cache_policy.proofs.KeptPlaces.{filled-keeps}
+use Rattle.quick_cache_policy.specs.Places.{places_of, LosesOnly}
+use Rattle.quick_cache_policy.proofs.WrittenPlaces.{without-places, LosesOnly-keeps}
 use Rattle.quick_cache_policy.proofs.contents.Contents.fill.Goals as goal
 
 few : (b : Bool) (mark : ℕ) → mark ≡ (if b then 1 else 0) → mark ≤ 2
@@ -398,3 +401,32 @@ pub returns-in-Loading-clause-work : goal.returns-in-Loading-clause-work
 returns-in-Loading-clause-work g c =
     WorksWithin-none (ring_count Hot c.args.self.now + ring_count Cold c.args.self.now + 1)
     (work_of c.args.self.now) (omega arith) (omega arith)
+
+-- the key of the placeholder stood nowhere
+pub returns-then-weight-gt0-clause-places : goal.returns-then-weight-gt0-clause-places
+returns-then-weight-gt0-clause-places g c =
+    let found = c.requires.found in
+    filled-keeps g.P.SharedPlaceholder.ticket_of c.args.self.now c.apart.ensures.apart
+    (number c.args.token) found.waiting found.stands found.named g.K.PartialEq.eq g.met.K.Eq.laws
+    (g.M.Policy.hashed c.args.terms.now) c.requires.sound
+    (filled c.if-hot_weight-from.queue c.mark_if-mark.result c.in-Admitted.weighed.weight
+    c.in-Admitted.weighed.value) (λ key. refl) c.fill.new.self c.fill.ensures
+    (places_of c.evict_to_capacity.new.self.lists) c.evict_to_capacity.ensures.places
+
+pub returns-else-weight-gt0-clause-places : goal.returns-else-weight-gt0-clause-places
+returns-else-weight-gt0-clause-places g c =
+    let found = c.requires.found in
+    filled-keeps g.P.SharedPlaceholder.ticket_of c.args.self.now c.apart.ensures.apart
+    (number c.args.token) found.waiting found.stands found.named g.K.PartialEq.eq g.met.K.Eq.laws
+    (g.M.Policy.hashed c.args.terms.now) c.requires.sound
+    (filled c.if-hot_weight-from.queue c.mark_if-mark.result c.in-Admitted.weighed.weight
+    c.in-Admitted.weighed.value) (λ key. refl) c.fill.new.self c.fill.ensures
+    (places_of c.fill.new.self) (λ place there. there)
+
+-- the placeholder alone left
+pub returns-in-Loading-clause-places : goal.returns-in-Loading-clause-places
+returns-in-Loading-clause-places g c =
+    LosesOnly-keeps g.P.SharedPlaceholder.ticket_of c.args.self.now g.K.PartialEq.eq
+    g.met.K.Eq.laws c.requires.sound.valid (places_of c.take-slot.new.self)
+    (subst (λ (l : Lists _ _ _). LosesOnly (places_of c.args.self.now.lists) (places_of l))
+    (sym c.take-slot.ensures.rest) (without-places (number c.args.token) c.args.self.now.lists))

@@ -1,8 +1,10 @@
-use Rattle.std.proofs.Common.{sym, subst}
+use Rattle.std.proofs.Common.{sym, subst, ap}
 use Rattle.quick_cache_model.specs.CacheState.{IsValid}
 use Rattle.quick_cache_model.proofs.Valid.Orders.{SameButOrder-valid}
 use Rattle.quick_cache_model.proofs.Valid.Placeholders.{MeetsPlaceholder-valid}
 use Rattle.quick_cache_policy.specs.Contents.{IsSound, state_of}
+use Rattle.quick_cache_policy.specs.declared.contents.Contents.{Contents}
+use Rattle.quick_cache_policy.specs.Places.{places_of}
 use Rattle.quick_cache_policy.proofs.contents.Contents.get_or_placeholder.Goals as goal
 
 pub returns-in-Item-clause-sound : goal.returns-in-Item-clause-sound
@@ -26,3 +28,7 @@ returns-in-Loading-clause-sound g c = λ hashed under sound.
       sized = sound.sized;
       hashed = sound.hashed;
     })
+
+pub returns-in-Loading-clause-places : goal.returns-in-Loading-clause-places
+returns-in-Loading-clause-places g c =
+    ap (λ (s : Contents _ _ _ _ _ _). places_of s.lists) c.meet_placeholder.ensures.same

@@ -70,3 +70,15 @@ returns-clause-sound g c =
 
 pub returns-clause-count : goal.returns-clause-count
 returns-clause-count g c = GoesRound-length _ _ _ _ _ _ _ _ _ c.loop.invariant
+
+pub returns-in-Victim-clause-places : goal.returns-in-Victim-clause-places
+returns-in-Victim-clause-places g c =
+    (GoesRound-stops _ _ _ _ _ g.P.SharedPlaceholder.ticket_of g.K.PartialEq.eq _ _ _ _ _
+    g.P.Touch.Touches.none_counted c.requires.sound c.loop.invariant
+    (omega (arith, c.count-end.ensures)) c.in-Victim.ensures).places
+
+pub returns-then-is_unpinned-clause-places : goal.returns-then-is_unpinned-clause-places
+returns-then-is_unpinned-clause-places g c = c.loop.invariant.changes.places
+
+pub returns-clause-places : goal.returns-clause-places
+returns-clause-places g c = c.loop.invariant.changes.places

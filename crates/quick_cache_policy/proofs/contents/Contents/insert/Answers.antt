@@ -8,6 +8,10 @@ use Rattle.quick_cache_policy.specs.Work.{WorksWithin}
 use Rattle.quick_cache_policy.specs.Writing.{strategy_of}
 use Rattle.quick_cache_policy.proofs.FindLemmas.{AreHashed-under, HasNothing-state, Finds-nothing, Finds-room}
 use Rattle.quick_cache_policy.proofs.AnswerLemmas.{WorksWithin-none, Wrote-provided, Provides-refused, entry_count-taken}
+use Rattle.quick_cache_policy.specs.declared.contents.Contents.{Contents}
+use Rattle.quick_cache_policy.specs.Places.{places_of, WritesPlace}
+use Rattle.quick_cache_policy.proofs.PlaceLemmas.{LosesOnly-same}
+use Rattle.quick_cache_policy.proofs.WrittenPlaces.{LosesOnly-keeps, WritesPlace-keeps}
 use Rattle.quick_cache_policy.proofs.contents.Contents.insert.Goals as goal
 
 -- where there was no room, nothing changed
@@ -85,3 +89,25 @@ returns-in-Some-write-clause-answers g c =
     (subst (λ (h : ℕ). Finds (g.K.PartialEq.eq c.args.key) h old.lists c.find-found.result)
     c.requires.hash_is c.find-found.ensures)
     c.in_default.ensures.provides c.provide.ensures.lists c.in-Some-write.ensures.writes
+
+-- nothing moved
+pub returns-in-Some-clause-places : goal.returns-in-Some-clause-places
+returns-in-Some-clause-places g c =
+    LosesOnly-keeps g.P.SharedPlaceholder.ticket_of c.args.self.now g.K.PartialEq.eq g.met.K.Eq.laws
+    c.requires.sound.valid _ (LosesOnly-same _ _ (ap (λ (r : Contents _ _ _ _ _ _). places_of r.lists) c.provide.ensures.lists))
+
+pub returns-in-None-clause-places : goal.returns-in-None-clause-places
+returns-in-None-clause-places g c =
+    WritesPlace-keeps g.P.SharedPlaceholder.ticket_of c.args.self.now g.K.PartialEq.eq
+    g.met.K.Eq.laws c.requires.sound.valid c.args.key _
+    (subst (λ l. WritesPlace g.K.PartialEq.eq c.args.key l (places_of c.write.new.self.lists))
+    (ap (λ (r : Contents _ _ _ _ _ _). places_of r.lists) c.provide.ensures.lists)
+    c.in-None.ensures.places)
+
+pub returns-in-Some-write-clause-places : goal.returns-in-Some-write-clause-places
+returns-in-Some-write-clause-places g c =
+    WritesPlace-keeps g.P.SharedPlaceholder.ticket_of c.args.self.now g.K.PartialEq.eq
+    g.met.K.Eq.laws c.requires.sound.valid c.args.key _
+    (subst (λ l. WritesPlace g.K.PartialEq.eq c.args.key l (places_of c.write.new.self.lists))
+    (ap (λ (r : Contents _ _ _ _ _ _). places_of r.lists) c.provide.ensures.lists)
+    c.in-Some-write.ensures.places)

@@ -14,6 +14,9 @@ use Rattle.quick_cache_policy.specs.Writing.{AreAdmittedCalls, IsReplacement}
 use Rattle.quick_cache_policy.proofs.FindLemmas.{AreHashed-under, HasNothing-state}
 use Rattle.quick_cache_policy.proofs.NewLemmas.{new-writes, new-sound, queue_for-hot, queue_for-otherwise}
 use Rattle.quick_cache_policy.proofs.contents.Contents.insert_new.Goals.{then-hot_weight-from, else-hot_weight-from}
+use Rattle.std.proofs.Common.{inl, inr}
+use Rattle.quick_cache_policy.proofs.AdmissionLemmas.{Finds-no_item}
+use Rattle.quick_cache_policy.proofs.WrittenPlaces.{no-place, put-places}
 use Rattle.quick_cache_policy.proofs.contents.Contents.insert_new.Goals as goal
 
 pub returns-clause-writes : goal.returns-clause-writes
@@ -99,3 +102,23 @@ returns-clause-sound g c =
     (item_variant c.new-item.result) c.put.new.self) c.requires.hash_is c.put.ensures.last)
     (ap (λ (i : Item _ _). i.key) c.new-item.ensures)
     (ap (λ (i : Item _ _). i.mark) c.new-item.ensures) c.evict_to_capacity.ensures.sound
+
+-- the key stood nowhere
+pub returns-clause-places : goal.returns-clause-places
+returns-clause-places g c = λ place there.
+    let key = c.args.key in
+    let none = Finds-no_item g.P.SharedPlaceholder.ticket_of g.K.PartialEq.eq key c.args.hash
+    c.args.self.now c.requires.sound.valid
+    (AreHashed-under (g.K.PartialEq.eq key) c.args.hash c.args.self.now.lists
+    (g.M.Policy.hashed c.args.terms.now)
+    (λ k same. sym (c.requires.hash_is ∙ g.met.M.Policy.same_hash c.args.terms.now key k same))
+    c.requires.sound.hashed) found_nothing c.requires.found (λ token e. absurd (cc)) in
+    elim (put-places {T = g.row.P-Touch.Denot} c.evict_to_capacity.new.self.lists c.put.new.self
+    (number c.put.result) c.args.hash c.new-item.result c.put.ensures.last place there) [
+      | inl stood ↦ inl (c.evict_to_capacity.ensures.places place stood)
+      | inr made ↦ inr (
+        ap (λ p. p.1) made ∙ ap (λ (i : Item _ _). i.key) c.new-item.ensures,
+        λ other there same. absurd (no-place g.P.SharedPlaceholder.ticket_of c.args.self.now
+            (g.K.PartialEq.eq key) none other there same),
+      )
+    ]

@@ -9,6 +9,9 @@ use Rattle.quick_cache_policy.specs.Writing.{AreAdmittedCalls, IsReplacement}
 use Rattle.quick_cache_policy.proofs.OverwriteLemmas.{over_ghost-writes, over_ghost-sound, over_ghost-count}
 use Rattle.quick_cache_policy.proofs.FindLemmas.{AreHashed-under}
 use Rattle.quick_cache_policy.proofs.BoundLemmas.{PaysFor-within}
+use Rattle.std.proofs.Common.{inl}
+use Rattle.quick_cache_policy.proofs.AdmissionLemmas.{Finds-no_item}
+use Rattle.quick_cache_policy.proofs.WrittenPlaces.{no-place, replaced-places}
 use Rattle.quick_cache_policy.proofs.contents.Contents.insert_over_ghost.Goals as goal
 
 pub replace-requires : goal.replace-requires
@@ -79,3 +82,24 @@ returns-clause-work g c =
     c.apart.ensures.apart g.K.PartialEq.eq g.met.K.Eq.laws rules key c.args.weighed.value
     (number c.args.token) under found.0 found.1 c.new-item.result c.replace.result
     c.replace.new.self c.replace.ensures) c.evict_to_capacity.ensures.work
+
+-- the key stood nowhere
+pub returns-clause-places : goal.returns-clause-places
+returns-clause-places g c = λ place there.
+    let key = c.args.key in
+    let none = Finds-no_item g.P.SharedPlaceholder.ticket_of g.K.PartialEq.eq key c.args.hash
+    c.args.self.now c.requires.sound.valid
+    (AreHashed-under (g.K.PartialEq.eq key) c.args.hash c.args.self.now.lists
+    (g.M.Policy.hashed c.args.terms.now)
+    (λ k same. sym (c.requires.hash_is ∙ g.met.M.Policy.same_hash c.args.terms.now key k same))
+    c.requires.sound.hashed) (found_ghost c.args.token) c.requires.found (λ token e. absurd (cc)) in
+    elim (replaced-places {T = g.row.P-Touch.Denot} c.args.self.now.lists c.replace.new.self
+    (number c.args.token) c.new-item.result c.replace.result c.replace.ensures place
+    (c.evict_to_capacity.ensures.places place there)) [
+      | inl stood ↦ inl stood
+      | inr made ↦ inr (
+        ap (λ p. p.1) made ∙ ap (λ (i : Item _ _). i.key) c.new-item.ensures,
+        λ other there same. absurd (no-place g.P.SharedPlaceholder.ticket_of c.args.self.now
+            (g.K.PartialEq.eq key) none other there same),
+      )
+    ]

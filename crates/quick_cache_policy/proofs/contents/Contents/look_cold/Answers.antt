@@ -1,7 +1,7 @@
 use Rattle.std.proofs.Common.{◌∙◌, ap, sym, arith, [], ap₂}
 use Rattle.quick_cache_model.specs.CacheState.{Item, InCold}
 use Rattle.quick_cache_policy.specs.declared.cold.Search.TheVariants.{Marked, Victim, AllPassed}
-use Rattle.quick_cache_policy.proofs.FirstLemmas.{first-touched_same}
+use Rattle.quick_cache_policy.proofs.FirstLemmas.{first-touched_same, first-touched_places}
 use Rattle.quick_cache_policy.proofs.FirstLemmas.{first-touched_sound, first-touched_item}
 use Rattle.quick_cache_policy.proofs.FirstLemmas.{first-touched_there, first-looked}
 use Rattle.quick_cache_policy.proofs.contents.Contents.look_cold.Goals as goal
@@ -86,3 +86,15 @@ returns-clause-sound g c =
 pub returns-clause-same : goal.returns-clause-same
 returns-clause-same g c =
     first-touched_same c.apart.ensures.apart c.in-Some.ensures c.take_touches.ensures
+
+pub returns-then-mark-gt0-clause-places : goal.returns-then-mark-gt0-clause-places
+returns-then-mark-gt0-clause-places g c =
+    first-touched_places c.apart.ensures.apart c.in-Some.ensures c.take_touches.ensures
+
+pub returns-then-not-is_pinned-clause-places : goal.returns-then-not-is_pinned-clause-places
+returns-then-not-is_pinned-clause-places g c =
+    first-touched_places c.apart.ensures.apart c.in-Some.ensures c.take_touches.ensures
+
+pub returns-clause-places : goal.returns-clause-places
+returns-clause-places g c =
+    first-touched_places c.apart.ensures.apart c.in-Some.ensures c.take_touches.ensures

@@ -35,6 +35,7 @@ returns-in_default g c =
         sized = sound.sized;
         hashed = sound.hashed;
       };
+      places = refl;
       room = refl;
       same = refl;
     }

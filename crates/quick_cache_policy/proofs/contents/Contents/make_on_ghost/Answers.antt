@@ -19,6 +19,8 @@ use Rattle.quick_cache_policy.specs.Loading.{IsMade, MakesNone}
 use Rattle.quick_cache_policy.proofs.FindLemmas.{HasNoKey-state, Finds-nothing, IsGhostAt-stands}
 use Rattle.quick_cache_policy.proofs.LookupLemmas.{without_ghost}
 use Rattle.quick_cache_policy.proofs.MakeLemmas.{none-tickets, none-memory, provided-on_ghost, Makes-refused, made-state, made-sound, stands-exactly}
+use Rattle.quick_cache_policy.proofs.KeptPlaces.{haunted-places}
+use Rattle.quick_cache_policy.specs.Places.{places_of}
 use Rattle.quick_cache_policy.proofs.contents.Contents.make_on_ghost.Goals as goal
 
 -- a ghost is something
@@ -207,3 +209,11 @@ returns-clause-sound g c = λ hashed under sound.
         loading = sound.hashed.loading;
       };
     }))
+
+-- the placeholder stands beside the items
+pub returns-clause-places : goal.returns-clause-places
+returns-clause-places g c =
+    ap (λ (s : Contents _ _ _ _ _ _). places_of s.lists) c.count_made.ensures
+    ∙ haunted-places {T = g.row.P-Touch.Denot} c.args.self.now.lists c.replace.new.self
+    c.apart.ensures.apart (record { token = number c.args.token; hash = c.args.hash })
+    c.requires.found.1 c.replace.ensures.hash c.in_ok-awaited.awaited c.replace.ensures.last

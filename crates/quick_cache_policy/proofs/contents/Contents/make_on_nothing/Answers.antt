@@ -13,6 +13,8 @@ use Rattle.quick_cache_policy.specs.Loading.{IsMade, MakesNone}
 use Rattle.quick_cache_policy.proofs.EnterLemmas.{state_with}
 use Rattle.quick_cache_policy.proofs.FindLemmas.{HasNothing-state}
 use Rattle.quick_cache_policy.proofs.MakeLemmas.{none-tickets, none-slots, none-memory, provided-on_nothing, Makes-refused, full-slots, free-slot, made-state, made-sound, stands-exactly}
+use Rattle.quick_cache_policy.proofs.KeptPlaces.{awaited-places}
+use Rattle.quick_cache_policy.specs.Places.{places_of}
 use Rattle.quick_cache_policy.proofs.contents.Contents.make_on_nothing.Goals as goal
 
 -- a refusal for memory is none for slots, and what succeeded was not refused
@@ -205,3 +207,20 @@ returns-clause-sound g c = λ hashed under sound.
         loading = sound.hashed.loading;
       };
     }))
+
+-- room was made, and no more
+pub returns-in_err-make_room-clause-places : goal.returns-in_err-make_room-clause-places
+returns-in_err-make_room-clause-places g c =
+    ap (λ (l : Lists _ _ _). places_of l) c.make_room.ensures.lists
+
+pub returns-in_err-awaited-clause-places : goal.returns-in_err-awaited-clause-places
+returns-in_err-awaited-clause-places g c =
+    ap (λ (l : Lists _ _ _). places_of l) c.make_room.ensures.lists
+
+-- the placeholder stands beside the items
+pub returns-clause-places : goal.returns-clause-places
+returns-clause-places g c =
+    ap (λ (s : Contents _ _ _ _ _ _). places_of s.lists) c.count_made.ensures
+    ∙ awaited-places {T = g.row.P-Touch.Denot} c.make_room.new.self c.put.new.self
+    (number c.put.result) c.args.hash c.in_ok-awaited.awaited c.put.ensures.last
+    ∙ ap (λ (l : Lists _ _ _). places_of l) c.make_room.ensures.lists

@@ -13,6 +13,8 @@ use Rattle.quick_cache_policy.specs.Policies.{rules_by}
 use Rattle.quick_cache_policy.specs.Writing.{AreAdmittedCalls, IsReplacement, strategy_of}
 use Rattle.quick_cache_policy.proofs.RewriteLemmas.{over_item-same, over_item-writes, over_item-sound, over_item-count}
 use Rattle.quick_cache_policy.proofs.BoundLemmas.{PaysFor-within}
+use Rattle.std.proofs.Common.{inl, inr}
+use Rattle.quick_cache_policy.proofs.WrittenPlaces.{rewritten-places, one-place, HasItem-place}
 use Rattle.quick_cache_policy.proofs.contents.Contents.overwrite.Goals as goal
 
 -- the touches are taken from the item that was found
@@ -141,3 +143,27 @@ returns-clause-work g c =
     (over_item-count g.P.SharedPlaceholder.ticket_of c.args.self.now c.apart.ensures.apart
     g.K.PartialEq.eq rules key token found c.new-item.result was c.rewrite.new.self rewrites)
     c.evict_to_capacity.ensures.work
+
+-- the item under the key stood at the token
+pub returns-clause-places : goal.returns-clause-places
+returns-clause-places g c = λ place there.
+    let key = c.args.key in
+    let lists = c.args.self.now.lists in
+    let token = number c.args.token in
+    let found = c.requires.found in
+    let rewrites = subst (λ l. Rewrites l token c.new-item.result c.rewrite.result
+    c.rewrite.new.self) c.take_touch-touches.ensures.same c.rewrite.ensures in
+    elim (rewritten-places lists c.rewrite.new.self token c.new-item.result c.rewrite.result rewrites
+    place (c.evict_to_capacity.ensures.places place there)) [
+      | inl stood ↦ inl stood
+      | inr made ↦ inr (
+        ap (λ p. p.1) made ∙ ap (λ (i : Item _ _). i.key) c.new-item.ensures,
+        λ other also same. ap (λ p. p.0)
+            (one-place g.P.SharedPlaceholder.ticket_of c.args.self.now g.K.PartialEq.eq
+            c.requires.sound.valid key other (token, found.item.key) also
+            (HasItem-place lists
+            (record { token = token; hash = c.args.hash; item = found.item }) found.stands)
+            same found.passes)
+            ∙ sym (ap (λ p. p.0) made),
+      )
+    ]

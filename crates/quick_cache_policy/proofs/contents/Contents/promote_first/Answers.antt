@@ -1,9 +1,10 @@
-use Rattle.std.proofs.Common.{[], sym, ap, ◌∙◌, arith}
+use Rattle.std.proofs.Common.{◌-◌, [], refl, sym, ap, ◌∙◌, arith}
 use Rattle.std.specs.Int.NonZero.{non_zero_u32_get as number}
-use Rattle.quick_cache_model.specs.declared.queue.Queue.TheVariants.{Cold}
+use Rattle.quick_cache_model.specs.declared.queue.Queue.TheVariants.{Hot, Cold}
 use Rattle.quick_cache_model.specs.CacheState.{ring_place}
 use Rattle.quick_cache_lists.specs.Lists.{HeldItem}
 use Rattle.quick_cache_lists.proofs.OneEntryLemmas.{first-item}
+use Rattle.quick_cache_policy.proofs.PlaceLemmas.{LosesOnly-promoted}
 use Rattle.quick_cache_policy.proofs.VictimLemmas.{Requeues-promotes}
 use Rattle.quick_cache_policy.proofs.SoundLemmas.{FirstIsPromoted-from, IsSound-promoted}
 use Rattle.quick_cache_policy.proofs.SoundLemmas.{first_cold-weighs}
@@ -59,3 +60,24 @@ returns-clause-sound g c =
     (omega (arith, c.saturating_sub-mark.ensures, c.mark.ensures, ap (λ i. i.mark) seen))
     c.requeue.ensures)
     c.requires.sound
+
+-- it takes its token along
+pub returns-clause-places : goal.returns-clause-places
+returns-clause-places g c =
+    let first = c.in-Some.ensures in
+    let contents = c.args.self.now in
+    let lists = contents.lists in
+    let t = number c.in-Some.token in
+    let seen = ap (λ (h : HeldItem _ _). h.item)
+    (first-item lists c.apart.ensures.apart first.0 first.1 Cold _ first.2 c.item-item.ensures.1
+    (sym first.3)) in
+    LosesOnly-promoted first.0
+    (record first.0 { item = record first.0.item { mark = first.0.item.mark - 1; queue = Hot } })
+    first.1 lists c.requeue.new.self first.2 refl
+    (Requeues-promotes lists c.requeue.new.self c.apart.ensures.apart first.0 first.1 t
+    c.saturating_sub-mark.result c.weight-weight.result first.2 first.3
+    (first_cold-weighs g.P.SharedPlaceholder.ticket_of contents first.0 first.1 g.K.PartialEq.eq
+    (g.M.Policy.hashed c.args.terms.now) first.2 c.requires.sound)
+    (c.weight-weight.ensures ∙ ap (λ i. i.weight) seen)
+    (omega (arith, c.saturating_sub-mark.ensures, c.mark.ensures, ap (λ i. i.mark) seen))
+    c.requeue.ensures)

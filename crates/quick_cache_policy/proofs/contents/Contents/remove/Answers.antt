@@ -10,6 +10,9 @@ use Rattle.quick_cache_policy.proofs.EnterLemmas.{state_with}
 use Rattle.quick_cache_policy.proofs.FindLemmas.{HasNothing-state}
 use Rattle.quick_cache_policy.proofs.LookupLemmas.{removes-item, item-sound}
 use Rattle.quick_cache_policy.proofs.LookupLemmas.{removes-loading, loading-sound, removes-ghost, ghost-sound}
+use Rattle.std.specs.List.{Contains}
+use Rattle.quick_cache_policy.specs.Places.{places_of}
+use Rattle.quick_cache_policy.proofs.WrittenPlaces.{without-places}
 use Rattle.quick_cache_policy.proofs.contents.Contents.remove.Goals as goal
 
 pub take-slot-requires : goal.take-slot-requires
@@ -121,3 +124,21 @@ returns-in-Nothing-clause-removes g c =
     UpToOrder-exact _ _ (Removes.of_nothing (HasNothing-state g.P.SharedPlaceholder.ticket_of
     (g.Q.Equivalent.equivalent c.args.query.now) c.args.hash c.args.self.now c.requires.under
     c.in-Nothing.ensures))
+
+pub returns-in-Item-entry-clause-places : goal.returns-in-Item-entry-clause-places
+returns-in-Item-entry-clause-places g c = λ place there.
+    without-places (number c.in-Item.token) c.args.self.now.lists place
+    (subst (λ l. Contains (places_of l) place) c.take-slot.ensures.rest there)
+
+pub returns-in-Loading-clause-places : goal.returns-in-Loading-clause-places
+returns-in-Loading-clause-places g c = λ place there.
+    without-places (number c.in-Loading.token) c.args.self.now.lists place
+    (subst (λ l. Contains (places_of l) place) c.take.ensures.rest there)
+
+pub returns-in-Ghost-clause-places : goal.returns-in-Ghost-clause-places
+returns-in-Ghost-clause-places g c = λ place there.
+    without-places (number c.in-Ghost.token) c.args.self.now.lists place
+    (subst (λ l. Contains (places_of l) place) c.take-in-Ghost.ensures.rest there)
+
+pub returns-in-Nothing-clause-places : goal.returns-in-Nothing-clause-places
+returns-in-Nothing-clause-places g c = λ place there. there

@@ -9,6 +9,10 @@ use Rattle.quick_cache_lists.proofs.StandingLemmas.{found-same}
 use Rattle.quick_cache_policy.specs.Predicates.{RemovesAsked}
 use Rattle.quick_cache_policy.proofs.FindLemmas.{none-found, HasNoItem-state, IsItemAt-stands}
 use Rattle.quick_cache_policy.proofs.TokenLemmas.{RemovesAsked-takes}
+use Rattle.std.specs.List.{Contains}
+use Rattle.quick_cache_policy.specs.Places.{places_of}
+use Rattle.quick_cache_policy.proofs.WrittenPlaces.{without-places}
+use Rattle.quick_cache_policy.specs.declared.contents.Contents.{Contents}
 use Rattle.quick_cache_policy.proofs.contents.Contents.remove_if.Goals as goal
 
 -- no item was found
@@ -62,3 +66,15 @@ returns-clause-removes g c =
     c.apart.ensures.apart t c.take_item.result takes passes
     (subst (λ value. FnOnceReturnsAt g.F.FnOnce c.args.wanted value true) (c.value.ensures ∙ shown)
     (gave_at g.F.FnOnce c.wanted.ensures c.if-not-wanted.false)))
+
+pub returns-in_default-clause-places : goal.returns-in_default-clause-places
+returns-in_default-clause-places g c = λ place there. there
+
+pub returns-then-not-wanted-clause-places : goal.returns-then-not-wanted-clause-places
+returns-then-not-wanted-clause-places g c = λ place there. there
+
+pub returns-clause-places : goal.returns-clause-places
+returns-clause-places g c = λ place there.
+    without-places (number c.in-Some.token) c.args.self.now.lists place
+    (subst (λ (r : Contents _ _ _ _ _ _). Contains (places_of r.lists) place)
+    c.take_item.ensures.takes.rest there)

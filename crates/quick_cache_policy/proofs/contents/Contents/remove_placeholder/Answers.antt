@@ -7,6 +7,9 @@ use Rattle.quick_cache_policy.specs.Contents.{IsSound, state_of}
 use Rattle.quick_cache_policy.proofs.EnterLemmas.{state_with}
 use Rattle.quick_cache_policy.proofs.FillLemmas.{HasNoTicket-state, left-gives_up, left-sound}
 use Rattle.quick_cache_policy.proofs.FindLemmas.{none-found}
+use Rattle.std.specs.List.{Contains}
+use Rattle.quick_cache_policy.specs.Places.{places_of}
+use Rattle.quick_cache_policy.proofs.WrittenPlaces.{without-places}
 use Rattle.quick_cache_policy.proofs.contents.Contents.remove_placeholder.Goals as goal
 
 -- it is gone
@@ -44,3 +47,11 @@ returns-clause-sound g c = λ hashed sound.
     (record contents { lists = l })) (sym c.take.ensures.rest)
     (left-sound ticket_of contents c.apart.ensures.apart (number c.in-Some.token) found.waiting
     found.stands found.named g.K.PartialEq.eq hashed sound)
+
+pub returns-in_default-clause-places : goal.returns-in_default-clause-places
+returns-in_default-clause-places g c = λ place there. there
+
+pub returns-clause-places : goal.returns-clause-places
+returns-clause-places g c = λ place there.
+    without-places (number c.in-Some.token) c.args.self.now.lists place
+    (subst (λ l. Contains (places_of l) place) c.take.ensures.rest there)

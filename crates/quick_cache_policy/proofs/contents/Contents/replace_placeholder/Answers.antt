@@ -3,6 +3,8 @@ use Rattle.quick_cache_policy.proofs.FillLemmas.{HasNoTicket-state}
 use Rattle.quick_cache_policy.proofs.FindLemmas.{none-found}
 use Rattle.quick_cache_policy.specs.Contents.{work_of}
 use Rattle.quick_cache_policy.proofs.WorkLemmas.{DoesMore-none}
+use Rattle.quick_cache_policy.specs.Places.{places_of}
+use Rattle.quick_cache_policy.proofs.WrittenPlaces.{LosesOnly-keeps}
 use Rattle.quick_cache_policy.proofs.contents.Contents.replace_placeholder.Goals as goal
 
 -- it is gone
@@ -31,3 +33,9 @@ returns-in_default-clause-work g c = record {
   few_advances = omega arith;
   few_visits = omega arith;
 }
+
+pub returns-in_default-clause-places : goal.returns-in_default-clause-places
+returns-in_default-clause-places g c =
+    LosesOnly-keeps g.P.SharedPlaceholder.ticket_of c.args.self.now g.K.PartialEq.eq
+    g.met.K.Eq.laws c.requires.sound.valid (places_of c.args.self.now.lists)
+    (λ place there. there)

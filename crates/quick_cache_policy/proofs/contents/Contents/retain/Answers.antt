@@ -4,6 +4,7 @@ use Rattle.quick_cache_model.proofs.OrderLaws.{UpToOrder-exact}
 use Rattle.quick_cache_lists.specs.Lists.{number_or_zero}
 use Rattle.quick_cache_policy.specs.Predicates.{Answers}
 use Rattle.quick_cache_policy.proofs.RetainLemmas.{IsSifting-start, IsSifting-stay, IsSifting-go, IsSifting-end}
+use Rattle.quick_cache_policy.proofs.KeptPlaces.{sifting-places}
 use Rattle.quick_cache_policy.proofs.contents.Contents.retain.Goals as goal
 
 pub loop-token-init : goal.loop-token-init
@@ -74,3 +75,9 @@ returns-clause-room g c = c.loop-token.invariant.0.room
 
 pub returns-clause-same : goal.returns-clause-same
 returns-clause-same g c = c.loop-token.invariant.0.same
+
+-- what stays was there
+pub returns-clause-places : goal.returns-clause-places
+returns-clause-places g c =
+    sifting-places (Answers g.F.Fn c.args.keep) (number_or_zero c.loop-token.at) c.args.self.now
+    c.loop-token.self c.loop-token.invariant.0

@@ -6,6 +6,9 @@ use Rattle.quick_cache_policy.specs.Contents.{IsSound}
 use Rattle.quick_cache_policy.proofs.ColdLemmas.{HasPassed, HasPassed-none, HasPassed-more}
 use Rattle.quick_cache_policy.proofs.ColdLemmas.{HasPassed-found, LooksAt-length}
 use Rattle.quick_cache_policy.proofs.ColdSoundLemmas.{IsSound-cold_turned, items_of-turned, items_of-length, length-turned}
+use Rattle.std.specs.List.{Contains}
+use Rattle.quick_cache_policy.specs.Places.{places_in}
+use Rattle.quick_cache_policy.proofs.PlaceLemmas.{LosesOnly-ring_turned}
 use Rattle.quick_cache_policy.proofs.contents.Contents.search_cold.Goals as goal
 
 pub loop-init : goal.loop-init
@@ -14,6 +17,7 @@ loop-init g c = record {
       g.P.Touch.Touches.may_count (items_of c.args.self.now.lists.cold);
   sound = c.requires.sound;
   count = refl;
+  places = λ place there. there;
   same = refl;
 }
 
@@ -43,6 +47,7 @@ returns-in_default g c =
         items_of-length cold,
         items_of-length c.look_cold.new.self.lists.cold,
       );
+      places = λ place there. i.places place (looks.places place there);
       same = looks.same
           ∙ ap (λ (r : Contents _ _ _ _ _ _). record r
           { lists = record r.lists { cold = c.look_cold.new.self.lists.cold } }) i.same;
@@ -85,6 +90,9 @@ loop-preserved g c =
         length-turned seen.lists.cold,
         ap (λ (l : Lists _ _ _). length l.cold) c.turn.ensures,
       );
+      places = λ place there. i.places place (looks.places place
+          (LosesOnly-ring_turned seen.lists.cold place
+          (subst (λ (l : Lists _ _ _). Contains (places_in l.cold) place) c.turn.ensures there)));
       same = ap (λ (l : Lists _ _ _). record seen { lists = l }) c.turn.ensures
           ∙ ap (λ (r : Contents _ _ _ _ _ _). record r
           { lists = record r.lists { cold = turned seen.lists.cold } })

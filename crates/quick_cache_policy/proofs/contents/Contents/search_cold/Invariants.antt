@@ -1,6 +1,7 @@
 use Rattle.std.proofs.Common.{◌≡◌, length}
 use Rattle.quick_cache_lists.specs.Views.{items_of}
 use Rattle.quick_cache_policy.specs.Contents.{IsSound}
+use Rattle.quick_cache_policy.specs.Places.{places_in, LosesOnly}
 use Rattle.quick_cache_policy.proofs.ColdLemmas.{HasPassed}
 use Rattle.quick_cache_policy.proofs.contents.Contents.search_cold.Given as goal
 
@@ -12,6 +13,7 @@ invariant-loop g l = record {
   sound : IsSound g.P.SharedPlaceholder.ticket_of g.K.PartialEq.eq (g.M.Policy.hashed l.terms)
       l.self;
   count : length l.self.lists.cold ≡ length l.initial.self.lists.cold;
+  places : LosesOnly (places_in l.initial.self.lists.cold) (places_in l.self.lists.cold);
   same : l.self ≡ record l.initial.self {
     lists = record l.initial.self.lists { cold = l.self.lists.cold };
   };

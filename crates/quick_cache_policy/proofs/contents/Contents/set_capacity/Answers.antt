@@ -10,6 +10,8 @@ use Rattle.quick_cache_policy.specs.Work.{WorksWithin}
 use Rattle.quick_cache_policy.proofs.BoundLemmas.{PaysFor-within}
 use Rattle.quick_cache_policy.proofs.CapacityLemmas.{refitted-state, refitted-sound}
 use Rattle.quick_cache_policy.proofs.GhostLemmas.{SetsCapacity-cut}
+use Rattle.std.specs.List.{Contains}
+use Rattle.quick_cache_policy.specs.Places.{places_of}
 use Rattle.quick_cache_policy.proofs.contents.Contents.set_capacity.Goals as goal
 
 -- with the new sizes, and with the ghosts that are left, the contents are sound
@@ -67,3 +69,8 @@ returns-clause-work g c =
       ap (λ (s : Contents _ _ _ _ _ _). ring_count Cold s) same,
     ))
     c.evict_to_capacity.ensures.work)
+
+pub returns-clause-places : goal.returns-clause-places
+returns-clause-places g c = λ place there.
+    subst (λ (r : Contents _ _ _ _ _ _). Contains (places_of r.lists) place)
+    c.forget_ghosts.ensures.same (c.evict_to_capacity.ensures.places place there)

@@ -9,6 +9,9 @@ use Rattle.quick_cache_policy.specs.Contents.{IsSound, state_of}
 use Rattle.quick_cache_policy.specs.Writing.{none, one}
 use Rattle.quick_cache_policy.proofs.FindLemmas.{AreHashed-under}
 use Rattle.quick_cache_policy.proofs.AdmissionLemmas.{Finds-no_item, FindsItem-leaves, FindsItem-item, FindsItem-loading, FindsItem-ghost, LeavesItem-takes, LeavesItem-sound}
+use Rattle.std.specs.List.{Contains}
+use Rattle.quick_cache_policy.specs.Places.{places_of}
+use Rattle.quick_cache_policy.proofs.WrittenPlaces.{without-places}
 use Rattle.quick_cache_policy.proofs.contents.Contents.take_out_item.Goals as goal
 
 -- where no item was found, no hook is told
@@ -31,6 +34,7 @@ returns-in_default g c =
         runs = refl;
       };
       sound = c.requires.sound;
+      places = λ place there. there;
       room = omega arith;
       same = refl;
     }
@@ -113,3 +117,8 @@ returns-clause-sound g c =
     (record old { lists = lists })) (sym c.take-slot.ensures.rest)
     (LeavesItem-sound ticket equal c.args.key.now c.args.hash old c.requires.sound t finds.item
     (FindsItem-leaves ticket (equal c.args.key.now) c.args.hash old c.apart.ensures.apart t finds))
+
+pub returns-clause-places : goal.returns-clause-places
+returns-clause-places g c = λ place there.
+    without-places (number c.in-Item.token) c.args.self.now.lists place
+    (subst (λ l. Contains (places_of l) place) c.take-slot.ensures.rest there)

@@ -1,4 +1,4 @@
-use Rattle.std.proofs.Common.{◌+◌, sym, ap, subst, arith}
+use Rattle.std.proofs.Common.{◌+◌, sym, ap, subst, arith, inl}
 use Rattle.quick_cache_model.specs.declared.queue.Queue.TheVariants.{Hot, Cold}
 use Rattle.quick_cache_policy.specs.Work.{WorksWithin}
 use Rattle.quick_cache_policy.specs.Contents.{state_of, ring_count, work_of}
@@ -42,3 +42,7 @@ returns-in-TooHeavy-clause-work g c =
     (sym (ap work_of c.reject_too_heavy.ensures.same))
     (WorksWithin-none (ring_count Hot old + ring_count Cold old + 1) (work_of old) (omega arith)
     (omega arith))
+
+pub returns-in-TooHeavy-clause-places : goal.returns-in-TooHeavy-clause-places
+returns-in-TooHeavy-clause-places g c = λ place there.
+    inl (c.reject_too_heavy.ensures.places place there)

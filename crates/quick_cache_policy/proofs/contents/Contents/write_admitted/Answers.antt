@@ -1,4 +1,4 @@
-use Rattle.std.proofs.Common.{◌+◌, sym, ◌∙◌, arith}
+use Rattle.std.proofs.Common.{◌+◌, sym, ◌∙◌, arith, inl}
 use Rattle.quick_cache_model.specs.declared.queue.Queue.TheVariants.{Hot, Cold}
 use Rattle.quick_cache_policy.specs.Contents.{state_of, ring_count, work_of}
 use Rattle.quick_cache_policy.specs.Policies.{rules_by}
@@ -38,3 +38,7 @@ returns-then-not-makes_items-clause-work g c =
     let old = c.args.self.now in
     WorksWithin-none (ring_count Hot old + ring_count Cold old + 1) (work_of old) (omega arith)
     (omega arith)
+
+-- and moves nothing
+pub returns-then-not-makes_items-clause-places : goal.returns-then-not-makes_items-clause-places
+returns-then-not-makes_items-clause-places g c = λ place there. inl there

@@ -34,6 +34,7 @@ returns g c =
               looks.item.value c.value.result.now value looks.value),
           (λ i. record {
             state = state_of g.P.SharedPlaceholder.ticket_of c.look_up.new.self;
+            places = c.look_up.ensures.places i;
             weigher = c.self.inside.terms.weigher;
             builder = c.self.inside.terms.builder;
             lifecycle = c.self.inside.terms.lifecycle;

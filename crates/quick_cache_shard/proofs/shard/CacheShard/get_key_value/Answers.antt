@@ -26,6 +26,7 @@ returns-in_err-token g c =
           (rw (← c.self.view_is, c.from_residual.ensures) looks.pair),
           (λ i. record {
             state = state_of g.P.SharedPlaceholder.ticket_of c.look_up.new.self;
+            places = c.look_up.ensures.places i;
             weigher = c.self.inside.terms.weigher;
             builder = c.self.inside.terms.builder;
             lifecycle = c.self.inside.terms.lifecycle;
@@ -62,6 +63,7 @@ returns g c =
               (pair_of looks.item) (c.pair.result.0.now, c.pair.result.1.now) pair looks.pair),
           (λ i. record {
             state = state_of g.P.SharedPlaceholder.ticket_of c.look_up.new.self;
+            places = c.look_up.ensures.places i;
             weigher = c.self.inside.terms.weigher;
             builder = c.self.inside.terms.builder;
             lifecycle = c.self.inside.terms.lifecycle;

@@ -12,7 +12,7 @@ pub returns-in_err-item-clause-sound : goal.returns-in_err-item-clause-sound
 returns-in_err-item-clause-sound g c =
     rw (← c.self.view_is)
     (IsSound-shard g.P.SharedPlaceholder.ticket_of g.K.PartialEq.eq _ c.self.inside.contents
-    c.self.invariant c.apart.ensures.within _ _ _)
+    c.self.invariant c.apart.ensures.within c.apart.ensures.apart g.met.K.Eq.laws _ _ _)
 
 -- the value that is shown is that of the item that is there
 pub returns-clause-sees : goal.returns-clause-sees
@@ -28,4 +28,4 @@ pub returns-clause-sound : goal.returns-clause-sound
 returns-clause-sound g c =
     rw (← c.self.view_is)
     (IsSound-shard g.P.SharedPlaceholder.ticket_of g.K.PartialEq.eq _ c.self.inside.contents
-    c.self.invariant c.apart.ensures.within _ _ _)
+    c.self.invariant c.apart.ensures.within c.apart.ensures.apart g.met.K.Eq.laws _ _ _)

@@ -17,4 +17,7 @@ returns-clause-retains g c = λ keeps as_test.
 pub returns-clause-sound : goal.returns-clause-sound
 returns-clause-sound g c =
     IsSound-shard g.P.SharedPlaceholder.ticket_of g.K.PartialEq.eq _ c.retain.new.self
-    (c.retain.ensures.sound _ c.self.invariant) c.apart.ensures.within _ _ _
+    (c.retain.ensures.sound _ c.self.invariant) c.apart.ensures.within c.apart.ensures.apart g.met.K.Eq.laws _ _ _
+
+pub returns-clause-places : goal.returns-clause-places
+returns-clause-places g c = rw (← c.self.view_is) c.retain.ensures.places

@@ -2,6 +2,8 @@ use Rattle.std.proofs.Common.{◌∙◌, refl, sym, ap}
 use Rattle.std.specs.Int.NonZero.{non_zero_u32_get as number}
 use Rattle.quick_cache_model.specs.Hashing.{hash_of}
 use Rattle.quick_cache_policy.proofs.FindLemmas.{AreHashed-under}
+use Rattle.quick_cache_lists.specs.Lists.{with_value}
+use Rattle.quick_cache_policy.proofs.PlaceLemmas.{places_of-change}
 use Rattle.quick_cache_policy.proofs.ReferenceLemmas.{written-state, written-sound}
 use Rattle.quick_cache_shard.proofs.ReferenceLemmas.{found-single, found-shown}
 use Rattle.quick_cache_shard.proofs.shard.CacheShard.value_mut.Goals as goal
@@ -36,6 +38,8 @@ returns g c =
             (λ i. record {
               state = written-state ticket_of c.self.inside.contents c.apart.ensures.apart token
                   stands_for c.args.hash c.token_under-token.ensures w single i;
+              places = places_of-change token (with_value w) (λ i. refl)
+                  c.self.inside.contents.lists i;
               weigher = c.self.inside.terms.weigher;
               builder = c.self.inside.terms.builder;
               lifecycle = c.self.inside.terms.lifecycle;

@@ -1,7 +1,7 @@
 -- A power of two above 2 ^ 29 has a half of at least 2 ^ 29, more than there are groups to be full.
 use Rattle.std.proofs.Common.{◌<◌, refl, arith, inl, inr}
 use Rattle.std.proofs.lemmas.Bool.Decides.{leb_tells}
-use Rattle.quick_cache_table.proofs.PowersOfTwo.{IsPowerOfTwo-double}
+use Rattle.quick_cache_model.proofs.PowersOfTwo.{IsPowerOfTwo-double}
 use Rattle.quick_cache_table.proofs.table.groups.groups_for.Goals as goal
 
 pub returns-clause-few : goal.returns-clause-few

@@ -1,0 +1,2 @@
+mod OneThreadLemmas
+mod SharedLemmas

@@ -1,0 +1,11 @@
+//! Promises to users, each the contract of a small caller of the cache's public calls.
+//!
+//! A caller is proved by the contracts of the calls that it makes, so that a contract that says too
+//! little stops it. None of them is meant to be called.
+#![tactic(auto)]
+
+pub mod containers;
+pub mod keys;
+pub mod one_thread;
+pub mod options;
+pub mod shared;

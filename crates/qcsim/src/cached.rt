@@ -1,0 +1,66 @@
+//! How many keys of a trace this project's cache has when they are asked for.
+ghost use Rattle.std.specs.Prelude.{◌≡◌, ◌∷◌, [], IfOk};
+ghost use Rattle.quick_cache_shard.specs.Shard.{rules_of};
+ghost use Rattle.quick_cache_unsync.specs.Touches.{no_touches};
+ghost use Rattle.qcsim.specs.Simulation.{Simulates, HasHits, counted};
+
+use quick_cache_unsync::{Cache, Lifecycle, Refusal, Weighter};
+use std::alloc::Global;
+use std::hash::{BuildHasher, Hash};
+
+/// Looks a key up, and puts it in where it is not found. It tells whether it was found.
+fn ask_for<K: Eq + Hash + Copy + Drop, We: Weighter<K, ()>, B: BuildHasher, L: Lifecycle<K, ()>>(
+    cache: &mut Cache<K, (), We, B, L>,
+    key: K,
+) -> Result<bool, Refusal>
+    ensures asks { L.steady cache.old.lifecycle → IfOk result (λ found. Simulates
+        (rules_of no_touches K.Hash.hash_input We.Weighter B.BuildHasher B.Hasher.Hasher L.Lifecycle
+        cache.old) K.eq cache.old.state (key ∷ []) (counted found) cache.new.state) }
+    ensures same_weigher { cache.new.weigher ≡ cache.old.weigher }
+    ensures same_builder { cache.new.builder ≡ cache.old.builder }
+    ensures same_lifecycle { cache.new.lifecycle ≡ cache.old.lifecycle }
+{
+    if cache.get(&key).is_some() {
+        return Ok(true);
+    }
+    match cache.insert(key, ()) {
+        Ok(()) => Ok(false),
+        Err((_, _, refusal)) => Err(refusal),
+    }
+}
+
+/// How many keys of a trace a cache has when they are asked for. A key that it does not have is put
+/// in.
+fn ask_for_all<
+    K: Eq + Hash + Copy + Drop,
+    We: Weighter<K, ()>,
+    B: BuildHasher,
+    L: Lifecycle<K, ()>,
+>(cache: &mut Cache<K, (), We, B, L>, keys: &[K]) -> Result<u64, Refusal>
+    ensures asks { L.steady cache.old.lifecycle → IfOk result (λ hits. Simulates
+        (rules_of no_touches K.Hash.hash_input We.Weighter B.BuildHasher B.Hasher.Hasher L.Lifecycle
+        cache.old) K.eq cache.old.state keys.now hits cache.new.state) }
+{
+    let mut hits = 0;
+    let mut rest = keys;
+    while let Some((key, tail)) = rest.split_first() {
+        if ask_for(cache, *key)? {
+            hits += 1;
+        }
+        rest = tail;
+    }
+    Ok(hits)
+}
+
+/// How many keys of a trace a cache of so many items has when they are asked for, where it is empty
+/// at first.
+///
+/// # Errors
+///
+/// `Memory` or `SlotsFull`, where a key could not be put in.
+pub fn cache_hits(alloc: Global, keys: &[u64], capacity: u32) -> Result<u64, Refusal>
+    ensures hits { IfOk result (HasHits capacity keys.now) }
+{
+    let mut cache = Cache::new(alloc, capacity as usize)?;
+    ask_for_all(&mut cache, keys)
+}

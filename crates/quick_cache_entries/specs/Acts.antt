@@ -1,0 +1,57 @@
+-- What a callback leaves of a value, and what an entry call on a shard gives.
+use Rattle.std.specs.Prelude.{◌≡◌, ⊤, Bool, true, Result, Ok, Err}
+use denote.Ref.{Bor, MutBor}
+use denote.Param.Members.{Mut}
+use Rattle.quick_cache_model.specs.declared.refusal.Refusal.{Refusal}
+use Rattle.quick_cache_policy.specs.declared.entry.EntryAction.{EntryAction}
+use Rattle.quick_cache_policy.specs.declared.entry.EntryAction.TheVariants.{Retain as retain}
+use Rattle.quick_cache_policy.specs.declared.entry.EntryOrPlaceholder.{EntryOrPlaceholder}
+use Rattle.quick_cache_policy.specs.declared.entry.EntryOrPlaceholder.TheVariants.{Kept as kept, Removed as removed, Replaced as replaced, ExistingPlaceholder as existing, NewPlaceholder as new_one}
+use Rattle.quick_cache_policy.specs.Entering.{Leaves}
+
+module _ {F K V T : Type 0}
+    (calls : Mut F (Bor K × (MutBor V × Unit {0})) (EntryAction T × (MutBor V × Unit {0}))) where
+  -- where a value fitted its key, so does what a call of this callback may leave of it
+  abbrev pub LeavesFit : (fits : K → V → Type 0) → F → Type 0
+  LeavesFit fits callback = (key : K) (value : V) (action : EntryAction T) (next : F) (left : V)
+      → Leaves calls callback key value action next left → fits key value → fits key left
+
+  -- A call of this callback may keep an item and tell this. The query stands for the key that it
+  -- was shown, and where pinning is steady the value that it was shown fits that key.
+  pub record MayTell (fits : K → V → Type 0) (steady : Type 0) (stands_for : K → Bool)
+      (callback : F) (told : T) : Type 0 where
+    pub key : K
+    pub value : V
+    pub next : F
+    pub left : V
+    pub called : Leaves calls callback key value (retain told) next left
+    pub stands : stands_for key ≡ true
+    pub fits_key : steady → fits key value
+
+module _ {K V W T : Type 0} where
+  -- of a value that is given back this is true
+  abbrev pub IfGone : Result (EntryOrPlaceholder K V W T) Refusal → (V → Type 0) → Type 0
+  IfGone (Ok (kept told)) P = ⊤
+  IfGone (Ok (removed key value)) P = P value
+  IfGone (Ok (replaced placeholder value)) P = P value
+  IfGone (Ok (existing placeholder)) P = ⊤
+  IfGone (Ok (new_one placeholder)) P = ⊤
+  IfGone (Err refusal) P = ⊤
+
+  -- of what is told this is true
+  abbrev pub IfKept : Result (EntryOrPlaceholder K V W T) Refusal → (T → Type 0) → Type 0
+  IfKept (Ok (kept told)) P = P told
+  IfKept (Ok (removed key value)) P = ⊤
+  IfKept (Ok (replaced placeholder value)) P = ⊤
+  IfKept (Ok (existing placeholder)) P = ⊤
+  IfKept (Ok (new_one placeholder)) P = ⊤
+  IfKept (Err refusal) P = ⊤
+
+  -- where a placeholder is the answer, and no item gave its place to it, this is true
+  abbrev pub IfAbsent : Result (EntryOrPlaceholder K V W T) Refusal → Type 0 → Type 0
+  IfAbsent (Ok (kept told)) P = ⊤
+  IfAbsent (Ok (removed key value)) P = ⊤
+  IfAbsent (Ok (replaced placeholder value)) P = ⊤
+  IfAbsent (Ok (existing placeholder)) P = P
+  IfAbsent (Ok (new_one placeholder)) P = P
+  IfAbsent (Err refusal) P = ⊤

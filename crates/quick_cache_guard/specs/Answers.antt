@@ -1,0 +1,41 @@
+-- What one who asks for a value is answered.
+use Rattle.std.specs.Prelude.{⊤, Option, Some, None, Result, Ok, Err}
+use Rattle.quick_cache_model.specs.declared.refusal.Refusal.{Refusal}
+use Rattle.quick_cache_waiting.specs.declared.waited.Waited.{Waited}
+use Rattle.quick_cache_waiting.specs.declared.waited.Waited.TheVariants as waited
+use Rattle.quick_cache_guard.specs.declared.results.GuardResult.{GuardResult}
+use Rattle.quick_cache_guard.specs.declared.results.GuardResult.TheVariants as guard_result
+
+-- where the answer is a value, this is true of it
+abbrev pub IfValue : {V G : Type 0} → GuardResult V G → (V → Type 0) → Type 0
+IfValue (guard_result.Value value) P = P value
+IfValue _ P = ⊤
+
+-- where it is a guard, which is seen as its key, this is true of it
+abbrev pub IfGuard : {V G : Type 0} → GuardResult V G → (G → Type 0) → Type 0
+IfGuard (guard_result.Guard guard) P = P guard
+IfGuard _ P = ⊤
+
+-- what one answers who has a copy of the key and is told this; nothing where it has to look again
+abbrev pub answer_of : {K V : Type 0} → K → Waited V → Option (GuardResult V K)
+answer_of key (waited.Value value) = Some (guard_result.Value value)
+answer_of key (waited.Guard share) = Some (guard_result.Guard key)
+answer_of key (waited.Refused refusal) = Some (guard_result.Refused refusal)
+answer_of key waited.Timeout = Some guard_result.Timeout
+answer_of key waited.Again = None
+
+-- what a future that waits with no limit gives, unless it has to look again
+abbrev pub output_of : {V G : Type 0} → Option (GuardResult V G)
+    → Option (Result (Result V G) Refusal)
+output_of (Some (guard_result.Value value)) = Some (Ok (Ok value))
+output_of (Some (guard_result.Guard guard)) = Some (Ok (Err guard))
+output_of (Some (guard_result.Refused refusal)) = Some (Err refusal)
+output_of (Some guard_result.Timeout) = None
+output_of None = None
+
+-- where a future gives a value, the one is true of it; where it gives a guard, the other
+abbrev pub IfGiven : {V G : Type 0} → (V → Type 0) → (G → Type 0)
+    → Result (Result V G) Refusal → Type 0
+IfGiven P R (Ok (Ok value)) = P value
+IfGiven P R (Ok (Err guard)) = R guard
+IfGiven P R (Err refusal) = ⊤

@@ -1,0 +1,9 @@
+-- What a load begins with.
+use Rattle.std.specs.Prelude.{⊤}
+use Rattle.quick_cache_guard.specs.declared.shard.Begun.{Begun}
+use Rattle.quick_cache_guard.specs.declared.shard.Begun.TheVariants as begun
+
+-- where a value was found, this is true of it
+abbrev pub IfFound : {V P : Type 0} → Begun V P → (V → Type 0) → Type 0
+IfFound (begun.Found value) P = P value
+IfFound (begun.Loading placeholder) P = ⊤

@@ -1,0 +1,4 @@
+pub mod Begins
+pub mod Fills
+pub mod Answers
+pub mod Futures

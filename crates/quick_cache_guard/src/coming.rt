@@ -1,0 +1,209 @@
+//! One who comes to a shard for the value of a key: it waits, or is told at once.
+ghost use Rattle.std.specs.Prelude.{◌≡◌, true, IfOk, IfErr, IfSome};
+ghost use Rattle.std.specs.Arc.{arc_value};
+ghost use Rattle.quick_cache_waiting.specs.Waiting.{IfGuard as IfShare};
+ghost use Rattle.quick_cache_waiting.specs.Fitting.{AlwaysSteady, ClonesFit, FitsQuery};
+ghost use Rattle.quick_cache_guard.specs.Answers.{IfValue, IfGuard, answer_of, output_of};
+
+use crate::guard::PlaceholderGuard;
+use crate::results::GuardResult;
+use crate::shard::{Begun, LoadingShard};
+use quick_cache_model::{Lifecycle, Refusal, ToKey};
+use quick_cache_sharing::{Placeholder, Turns};
+use quick_cache_waiting::Waited;
+use std::alloc::Allocator;
+use std::hash::Hash;
+use std::sync::{Arc, RwLock, Wait};
+use std::time::Clock;
+
+/// One who waits at a placeholder, with a copy of the key for the guard that it may get.
+#[derive(Drop)]
+pub struct Waiting<K: Eq + Drop, V: Drop, L: Lifecycle<K, V>, A: Allocator> {
+    /// Where it waits.
+    pub placeholder: Arc<Placeholder<K, V, L, A>, A>,
+    /// Its number there.
+    pub waiter: u64,
+    /// The copy of the key.
+    pub key: K,
+}
+
+/// What one answers who is told this. Nothing is answered where it has to look again.
+pub fn answer<
+    'a,
+    K: Eq + Hash + Drop,
+    V: Clone,
+    L: Lifecycle<K, V>,
+    S: LoadingShard<K, V, L, A>,
+    R: Wait,
+    A: Allocator,
+>(
+    rt: &'a R,
+    shard: &'a RwLock<S>,
+    placeholder: Arc<Placeholder<K, V, L, A>, A>,
+    key: K,
+    told: Waited<V>,
+) -> Option<GuardResult<V, PlaceholderGuard<'a, K, V, L, S, R, A>>>
+    requires share { IfShare told (λ share. share ≡ (arc_value placeholder).ticket) }
+    ensures { result ≡ answer_of key told }
+{
+    match told {
+        Waited::Value(value) => Some(GuardResult::Value(value)),
+        Waited::Guard(share) => Some(GuardResult::Guard(PlaceholderGuard::start_loading(
+            rt,
+            shard,
+            placeholder,
+            key,
+            share,
+        ))),
+        Waited::Refused(refusal) => Some(GuardResult::Refused(refusal)),
+        Waited::Timeout => Some(GuardResult::Timeout),
+        Waited::Again => None,
+    }
+}
+
+/// Comes to the shard, under its write lock. The copy of the key is made before the shard changes.
+///
+/// # Errors
+///
+/// What one answers who does not wait, or nothing where it has to look again.
+pub fn come<
+    'a,
+    K: Eq + Hash + Drop,
+    V: Clone,
+    L: Lifecycle<K, V>,
+    S: LoadingShard<K, V, L, A>,
+    R: Wait,
+    A: Allocator,
+    Q: ToKey<K>,
+>(
+    rt: &'a R,
+    shard: &'a RwLock<S>,
+    query: &Q,
+    is_task: bool,
+    is_over: bool,
+) -> Result<Waiting<K, V, L, A>, Option<GuardResult<V, PlaceholderGuard<'a, K, V, L, S, R, A>>>>
+    requires stands { (key : K) → Q.to_key_gives query.now key
+        → Q.equivalent query.now key ≡ true }
+    ensures keyed { IfOk result (λ waiting. Q.to_key_gives query.now waiting.key) }
+    ensures fits { AlwaysSteady L.steady → ClonesFit L.fits V.is_clone → IfErr result
+        (λ told. IfSome told (λ answer. IfValue answer
+        (λ value. FitsQuery L.fits (Q.equivalent query.now) value))) }
+    ensures key { IfErr result (λ told. IfSome told (λ answer. IfGuard answer
+        (λ key. Q.to_key_gives query.now key))) }
+{
+    let key = match query.to_key() {
+        Ok(key) => key,
+        Err(refusal) => return Err(Some(GuardResult::Refused(refusal))),
+    };
+    let mut locked = shard.write(rt);
+    let shared = match locked.begin(query) {
+        Ok(Begun::Found(value)) => return Err(Some(GuardResult::Value(value))),
+        Ok(Begun::Loading(shared)) => shared,
+        Err(refusal) => return Err(Some(GuardResult::Refused(refusal))),
+    };
+    let Some(placeholder) = shared.placeholder() else {
+        return Err(Some(GuardResult::Refused(Refusal::Memory)));
+    };
+    let entered = placeholder.enter(rt, query, is_task, is_over);
+    drop(locked);
+    match entered {
+        Ok(waiter) => Ok(Waiting {
+            placeholder,
+            waiter,
+            key,
+        }),
+        Err(told) => Err(answer(rt, shard, placeholder, key, told)),
+    }
+}
+
+/// Comes to the shard and waits with no limit. Nothing is answered where one has to look again.
+pub fn come_and_wait<
+    'a,
+    K: Eq + Hash + Drop,
+    V: Clone,
+    L: Lifecycle<K, V>,
+    S: LoadingShard<K, V, L, A>,
+    R: Wait,
+    A: Allocator,
+    Q: ToKey<K>,
+>(
+    rt: &'a R,
+    shard: &'a RwLock<S>,
+    query: &Q,
+) -> Option<GuardResult<V, PlaceholderGuard<'a, K, V, L, S, R, A>>>
+    requires stands { (key : K) → Q.to_key_gives query.now key
+        → Q.equivalent query.now key ≡ true }
+    ensures fits { AlwaysSteady L.steady → ClonesFit L.fits V.is_clone → IfSome result
+        (λ answer. IfValue answer
+        (λ value. FitsQuery L.fits (Q.equivalent query.now) value)) }
+    ensures key { IfSome result (λ answer. IfGuard answer
+        (λ key. Q.to_key_gives query.now key)) }
+{
+    match come(rt, shard, query, false, false) {
+        Ok(
+            Waiting {
+                placeholder,
+                waiter,
+                key,
+            },
+        ) => {
+            let told = placeholder.wait(rt, waiter, query);
+            answer(rt, shard, placeholder, key, told)
+        }
+        Err(told) => told,
+    }
+}
+
+/// As `come_and_wait`, for so many turns at most.
+pub fn come_and_wait_within<
+    'a,
+    K: Eq + Hash + Drop,
+    V: Clone,
+    L: Lifecycle<K, V>,
+    S: LoadingShard<K, V, L, A>,
+    R: Wait + Clock,
+    A: Allocator,
+    Q: ToKey<K>,
+>(
+    rt: &'a R,
+    shard: &'a RwLock<S>,
+    query: &Q,
+    turns: &mut Turns,
+) -> Option<GuardResult<V, PlaceholderGuard<'a, K, V, L, S, R, A>>>
+    requires stands { (key : K) → Q.to_key_gives query.now key
+        → Q.equivalent query.now key ≡ true }
+    ensures fits { AlwaysSteady L.steady → ClonesFit L.fits V.is_clone → IfSome result
+        (λ answer. IfValue answer
+        (λ value. FitsQuery L.fits (Q.equivalent query.now) value)) }
+    ensures key { IfSome result (λ answer. IfGuard answer
+        (λ key. Q.to_key_gives query.now key)) }
+{
+    match come(rt, shard, query, false, turns.is_over()) {
+        Ok(
+            Waiting {
+                placeholder,
+                waiter,
+                key,
+            },
+        ) => {
+            let told = placeholder.wait_within(rt, waiter, query, turns);
+            answer(rt, shard, placeholder, key, told)
+        }
+        Err(told) => told,
+    }
+}
+
+/// What one who waits with no limit gets, unless it has to look again.
+pub fn output<V: Drop, G: Drop>(
+    told: Option<GuardResult<V, G>>,
+) -> Option<Result<Result<V, G>, Refusal>>
+    ensures { result ≡ output_of told }
+{
+    match told {
+        Some(GuardResult::Value(value)) => Some(Ok(Ok(value))),
+        Some(GuardResult::Guard(guard)) => Some(Ok(Err(guard))),
+        Some(GuardResult::Refused(refusal)) => Some(Err(refusal)),
+        Some(GuardResult::Timeout) => None,
+        None => None,
+    }
+}

@@ -1,0 +1,190 @@
+//! The right to load a key.
+ghost use Rattle.std.specs.Prelude.{◌≡◌, IfErr, Some, codes};
+ghost use Rattle.std.specs.Arc.{arc_value};
+ghost use Rattle.quick_cache_waiting.specs.Fitting.{ClonesFit};
+ghost use Rattle.quick_cache_guard.specs.Fills.{back_of};
+
+use crate::shard::LoadingShard;
+use quick_cache_model::Lifecycle;
+use quick_cache_sharing::{Placeholder, SharedPlaceholder};
+use quick_cache_waiting::Share;
+use std::alloc::{Allocator, Global};
+use std::fmt::{Debug, Formatter, Write};
+use std::hash::Hash;
+use std::marker::Model;
+use std::sync::{Arc, RwLock, Wait};
+
+/// The right to fill the placeholder of a key. Dropped, it goes to the one who came last of those
+/// who wait, or the placeholder is given up. Contracts see it as its own copy of the key.
+pub struct PlaceholderGuard<
+    'a,
+    K: Eq + Hash + Drop,
+    V: Clone,
+    L: Lifecycle<K, V>,
+    S: LoadingShard<K, V, L, A>,
+    R: Wait,
+    A: Allocator = Global,
+> {
+    rt: &'a R,
+    shard: &'a RwLock<S>,
+    placeholder: Arc<Placeholder<K, V, L, A>, A>,
+    key: K,
+    share: Share,
+}
+
+impl<
+    'a,
+    K: Eq + Hash + Drop,
+    V: Clone,
+    L: Lifecycle<K, V>,
+    S: LoadingShard<K, V, L, A>,
+    R: Wait,
+    A: Allocator,
+> Model for PlaceholderGuard<'a, K, V, L, S, R, A> {
+    ghost use Rattle.std.specs.Prelude.{◌≡◌};
+
+    ghost Value = { K };
+
+    ghost view = { λ guard. guard.key };
+}
+
+/// Why a value did not stay, where `G` is the guard that was to put it in.
+#[derive(Debug, Drop)]
+pub enum FillError<V, G> {
+    /// The placeholder had left its shard, which is unchanged. Who waited has a clone of the value.
+    Gone(V),
+    /// Memory was refused for the clone, and the guard stands.
+    Memory(G, V),
+}
+
+impl<
+    K: Eq + Hash + Drop,
+    V: Clone,
+    L: Lifecycle<K, V>,
+    S: LoadingShard<K, V, L, A>,
+    R: Wait,
+    A: Allocator,
+> Drop for PlaceholderGuard<'_, K, V, L, S, R, A> {
+    fn drop(self) {
+        let PlaceholderGuard {
+            rt,
+            shard,
+            placeholder,
+            key: _key,
+            share,
+        } = self;
+        if let Err(share) = placeholder.hand_on(rt, share) {
+            let mut locked = shard.write(rt);
+            if placeholder.give_up(rt, share) {
+                locked.give_up(&SharedPlaceholder::named(&placeholder));
+            }
+        }
+    }
+}
+
+impl<
+    'a,
+    K: Eq + Hash + Drop,
+    V: Clone,
+    L: Lifecycle<K, V>,
+    S: LoadingShard<K, V, L, A>,
+    R: Wait,
+    A: Allocator,
+> PlaceholderGuard<'a, K, V, L, S, R, A> {
+    /// The guard of a placeholder, by its share. It takes no lock.
+    pub fn start_loading(
+        rt: &'a R,
+        shard: &'a RwLock<S>,
+        placeholder: Arc<Placeholder<K, V, L, A>, A>,
+        key: K,
+        share: Share,
+    ) -> Self
+        requires share { share ≡ (arc_value placeholder).ticket }
+        ensures key { result ≡ key }
+    {
+        PlaceholderGuard {
+            rt,
+            shard,
+            placeholder,
+            key,
+            share,
+        }
+    }
+
+    /// Gives the value to those who wait, and then puts it in, with a request state of its own. One
+    /// that is too heavy is told to the cold hook, and the answer is `Ok`.
+    ///
+    /// # Errors
+    ///
+    /// As `insert_with_lifecycle`.
+    pub fn insert(self, value: V) -> Result<(), FillError<V, Self>>
+        requires fits { L.fits self value }
+        requires clones { ClonesFit L.fits V.is_clone }
+        ensures back { IfErr result (λ error. back_of error ≡ value) }
+    {
+        let mut state = L::RequestState::default();
+        self.insert_with_lifecycle(value, &mut state)
+    }
+
+    /// Makes a clone of the value and gives it to those who wait, under the lock of the placeholder's
+    /// state. Then it takes the write lock of the shard and puts the value in, with this request
+    /// state.
+    ///
+    /// # Errors
+    ///
+    /// The value, and why. Where the clone was refused nothing happened, and the guard comes back.
+    /// Where the placeholder had left the shard, the shard is unchanged.
+    pub fn insert_with_lifecycle(
+        self,
+        value: V,
+        state: &mut L::RequestState,
+    ) -> Result<(), FillError<V, Self>>
+        requires fits { L.fits self value }
+        requires clones { ClonesFit L.fits V.is_clone }
+        ensures back { IfErr result (λ error. back_of error ≡ value) }
+    {
+        let copy = match value.clone() {
+            Ok(copy) => copy,
+            Err(_) => return Err(FillError::Memory(self, value)),
+        };
+        let PlaceholderGuard {
+            rt,
+            shard,
+            placeholder,
+            key,
+            share,
+        } = self;
+        let waited = match placeholder.fill(rt, &key, share, copy) {
+            Ok(waited) => waited,
+            Err(_) => return Err(FillError::Gone(value)),
+        };
+        let named = SharedPlaceholder::named(&placeholder);
+        let filled = shard.write(rt).fill(&named, &key, waited, value, state);
+        match filled {
+            Ok(()) => Ok(()),
+            Err(value) => Err(FillError::Gone(value)),
+        }
+    }
+
+    /// Gives the guard to the one who came last of those who wait. Where nobody waits, it takes the
+    /// shard's lock, looks again whether anyone waits, and takes the placeholder out if not. What it
+    /// does to the placeholder is said on `State::abandon`. A dropped guard does the same.
+    pub fn abandon(self) {
+        drop(self);
+    }
+}
+
+impl<
+    K: Eq + Hash + Drop,
+    V: Clone,
+    L: Lifecycle<K, V>,
+    S: LoadingShard<K, V, L, A>,
+    R: Wait,
+    A: Allocator,
+> Debug for PlaceholderGuard<'_, K, V, L, S, R, A> {
+    ghost debug_output = { λ _. Some (codes "PlaceholderGuard { .. }") };
+
+    fn fmt<W: Write>(&self, f: &mut Formatter<W>) -> std::fmt::Result {
+        f.write_str("PlaceholderGuard { .. }")
+    }
+}

@@ -1,0 +1,77 @@
+//! A value, or the guard of a key that is absent, for a thread that waits where another loads it.
+ghost use Rattle.std.specs.Prelude.{◌≡◌, true};
+ghost use Rattle.quick_cache_waiting.specs.Fitting.{AlwaysSteady, ClonesFit, FitsQuery};
+ghost use Rattle.quick_cache_guard.specs.Answers.{IfGiven, IfGuard, IfValue};
+
+use crate::coming::{come_and_wait, come_and_wait_within, output};
+use crate::guard::PlaceholderGuard;
+use crate::results::GuardResult;
+use crate::shard::LoadingShard;
+use quick_cache_model::{Lifecycle, Refusal, ToKey};
+use quick_cache_sharing::Turns;
+use std::alloc::Allocator;
+use std::hash::Hash;
+use std::sync::{RwLock, Wait};
+use std::time::{Clock, Duration};
+
+impl<
+    'a,
+    K: Eq + Hash + Drop,
+    V: Clone,
+    L: Lifecycle<K, V>,
+    S: LoadingShard<K, V, L, A>,
+    R: Wait,
+    A: Allocator,
+> PlaceholderGuard<'a, K, V, L, S, R, A> {
+    /// The value under the query's key, or the right to load it. Who finds it loading waits, for so
+    /// many turns of a millisecond as the limit has, rounded up. With a limit of zero nobody waits.
+    /// It takes the write lock of the shard, and lets it go before it waits.
+    pub fn join<Q: ToKey<K>>(
+        rt: &'a R,
+        shard: &'a RwLock<S>,
+        query: &Q,
+        limit: Option<Duration>,
+    ) -> GuardResult<V, Self>
+    where
+        R: Clock,
+        requires stands { (key : K) → Q.to_key_gives query.now key
+            → Q.equivalent query.now key ≡ true }
+        // Whatever other threads do, the value fits a key that the query stands for.
+        ensures fits { AlwaysSteady L.steady → ClonesFit L.fits V.is_clone
+            → IfValue result (λ value. FitsQuery L.fits (Q.equivalent query.now) value) }
+        // The guard is for a key that the query becomes.
+        ensures key { IfGuard result (λ key. Q.to_key_gives query.now key) }
+    {
+        let mut turns = Turns::within(limit);
+        for _ in rt.forever() {
+            if let Some(answer) = come_and_wait_within(rt, shard, query, &mut turns) {
+                return answer;
+            }
+        }
+        unreachable!()
+    }
+
+    /// As `join` with no limit, where no clock is at hand: the value, or the guard.
+    pub fn join_for_good<Q: ToKey<K>>(
+        rt: &'a R,
+        shard: &'a RwLock<S>,
+        query: &Q,
+    ) -> Result<Result<V, Self>, Refusal>
+        requires stands { (key : K) → Q.to_key_gives query.now key
+            → Q.equivalent query.now key ≡ true }
+        // Whatever other threads do, the value fits a key that the query stands for, and the guard
+        // is for a key that the query becomes.
+        ensures gives { IfGiven
+            (λ value. AlwaysSteady L.steady → ClonesFit L.fits V.is_clone
+            → FitsQuery L.fits (Q.equivalent query.now) value)
+            (λ key. Q.to_key_gives query.now key) result }
+    {
+        for _ in rt.forever() {
+            let answer = come_and_wait(rt, shard, query);
+            if let Some(output) = output(answer) {
+                return output;
+            }
+        }
+        unreachable!()
+    }
+}

@@ -1,0 +1,14 @@
+//! Those who load a key, and those who wait for it, in a cache that threads share.
+#![tactic(auto)]
+
+mod coming;
+mod future;
+mod guard;
+mod joining;
+mod results;
+mod shard;
+
+pub use future::JoinFuture;
+pub use guard::{FillError, PlaceholderGuard};
+pub use results::{EntryResult, GuardResult};
+pub use shard::{Begun, LoadingShard};

@@ -1,0 +1,43 @@
+use Rattle.std.proofs.Common.{◌≡◌, ap, subst}
+use Rattle.quick_cache_locked.proofs.EntryFits.{AnswersEntry-fits, AnswersEntry-gives, AnswersEntry-tells, AnswersEntry-uncalled}
+use Rattle.quick_cache_locked.proofs.locked.LockedShard.act_on.Goals as goal
+
+-- what the callback leaves fits, and the other values stay as they were
+pub invariant_of-self : goal.invariant_of-self
+invariant_of-self g c steady =
+    let was = subst (λ l. g.L.Lifecycle.steady l)
+    (ap (λ s. s.lifecycle) c.entry_or_placeholder.ensures.same) steady in
+    AnswersEntry-fits g.L.Lifecycle.fits g.F.FnMut _ (g.Q.Equivalent.equivalent c.args.query.now)
+    c.args.callback.now c.self.inside.shard.state c.requires.leaves _ _ _
+    c.entry_or_placeholder.result _ _ c.entry_or_placeholder.ensures.answers (c.self.invariant was)
+
+pub returns-clause-fits : goal.returns-clause-fits
+returns-clause-fits g c =
+    rw (← c.self.view_is)
+    (λ steady. AnswersEntry-gives g.L.Lifecycle.fits g.F.FnMut _
+    (g.Q.Equivalent.equivalent c.args.query.now) c.args.callback.now c.self.inside.shard.state
+    c.requires.leaves _ _ _ c.entry_or_placeholder.result _ _ c.entry_or_placeholder.ensures.answers
+    (c.self.invariant steady))
+
+pub returns-clause-tells : goal.returns-clause-tells
+returns-clause-tells g c =
+    rw (← c.self.view_is)
+    (AnswersEntry-tells g.F.FnMut _ (g.Q.Equivalent.equivalent c.args.query.now)
+    c.args.callback.now c.self.inside.shard.state _ _ _ g.L.Lifecycle.fits
+    (g.L.Lifecycle.steady c.self.inside.shard.lifecycle) c.entry_or_placeholder.result _ _
+    c.entry_or_placeholder.ensures.answers c.self.invariant)
+
+pub returns-clause-uncalled : goal.returns-clause-uncalled
+returns-clause-uncalled g c =
+    AnswersEntry-uncalled g.F.FnMut _ (g.Q.Equivalent.equivalent c.args.query.now)
+    c.args.callback.now c.self.inside.shard.state _ _ _ c.entry_or_placeholder.result _ _
+    c.entry_or_placeholder.ensures.answers
+
+-- the call is the shard's own
+pub returns-clause-acts : goal.returns-clause-acts
+returns-clause-acts g c =
+    rw (← c.self.view_is)
+    (rw c.hash-hash.ensures at c.entry_or_placeholder.ensures.answers)
+
+pub returns-clause-places : goal.returns-clause-places
+returns-clause-places g c = rw (← c.self.view_is) c.entry_or_placeholder.ensures.places

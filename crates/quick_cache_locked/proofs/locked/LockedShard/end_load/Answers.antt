@@ -1,0 +1,57 @@
+use Rattle.std.proofs.Common.{◌≡◌, false, refl, ap, rules}
+use Rattle.std.specs.Prelude.{IsTrue}
+use Rattle.quick_cache_shard.specs.Shard.{rules_of}
+use Rattle.quick_cache_locked.specs.Touches.{any_touches}
+use Rattle.quick_cache_locked.proofs.FitLoads.{EndsLoad-filled, StaysFit-filled}
+use Rattle.quick_cache_locked.proofs.TicketLemmas.{awaits_none, awaits_other, of_ticket}
+use Rattle.quick_cache_locked.proofs.locked.LockedShard.end_load.Goals as goal
+
+-- the key that is awaited is another
+pub returns-then-ne-clause-ends : goal.returns-then-ne-clause-ends
+returns-then-ne-clause-ends g c =
+    let other : g.K.PartialEq.eq c.args.key.now c.in-Some.own.now ≡ false = search rules in
+    rw (← c.self.view_is) (
+      awaits_other g.K.PartialEq.eq c.args.placeholder.now.ticket c.args.key.now
+          c.self.inside.shard.state c.loading_key.ensures.sound.valid c.in-Some.own.now
+          c.in-Some.ensures.key other,
+      refl,
+      refl,
+      refl,
+    )
+
+-- no key is awaited
+pub returns-in-None-clause-ends : goal.returns-in-None-clause-ends
+returns-in-None-clause-ends g c = rw (← c.self.view_is) (
+  awaits_none g.K.PartialEq.eq c.args.placeholder.now.ticket c.args.key.now
+      c.self.inside.shard.state c.in-None.ensures.key,
+  refl,
+  refl,
+  refl,
+)
+
+-- the value fits an equal key, so it fits that of the placeholder
+pub invariant_of-self : goal.invariant_of-self
+invariant_of-self g c =
+    let equal : IsTrue (g.K.PartialEq.eq c.args.key.now c.in-Some.own.now) = search rules in
+    StaysFit-filled g.L.Lifecycle c.self.inside.shard c.replace_placeholder.new.self
+    (ap (λ s. s.lifecycle) c.replace_placeholder.ensures.same)
+    (λ l was k v now left. g.met.L.Lifecycle.keeps_fits l was k v now left)
+    (rules_of any_touches g.K.Hash.hash_input g.We.Weighter g.B.BuildHasher g.B.Hasher.Hasher
+    g.L.Lifecycle c.self.inside.shard)
+    c.args.placeholder.now.ticket c.args.waited c.args.value c.replace_placeholder.result _ _
+    c.replace_placeholder.ensures.fills
+    (of_ticket c.args.placeholder.now.ticket (λ k. g.L.Lifecycle.fits k c.args.value)
+    g.K.PartialEq.eq c.self.inside.shard.state c.loading_key.ensures.sound.valid
+    c.in-Some.own.now c.in-Some.ensures.key
+    (g.met.L.Lifecycle.same_fits c.args.key.now c.in-Some.own.now c.args.value equal
+    c.requires.fits))
+    c.self.invariant
+
+-- the load ends as the fill does
+pub returns-clause-ends : goal.returns-clause-ends
+returns-clause-ends g c =
+    rw (← c.self.view_is)
+    (EndsLoad-filled _ _ _ g.K.PartialEq.eq c.args.placeholder.now.ticket
+    c.self.inside.shard.state c.args.waited c.args.key.now c.args.value _ _
+    c.replace_placeholder.result c.replace_placeholder.new.self.state
+    c.replace_placeholder.ensures.fills)

@@ -1,0 +1,17 @@
+use Rattle.quick_cache_locked.proofs.PeekLemmas.{Peeks-cloned, Peeks-fits}
+use Rattle.quick_cache_locked.proofs.locked.LockedShard.find.Goals as goal
+
+-- the shard's look-up gives a clone of what is there
+pub returns-clause-finds : goal.returns-clause-finds
+returns-clause-finds g c =
+    rw (← c.self.view_is)
+    (Peeks-cloned (g.Q.Equivalent.equivalent c.args.query.now) g.V.Clone.is_clone
+    c.self.inside.shard.state c.find_clone.result c.find_clone.ensures.shows
+    c.find_clone.ensures.refused c.find_clone.ensures.there)
+
+-- the shard has values that fit, and the answer is a clone of one
+pub returns-clause-fits : goal.returns-clause-fits
+returns-clause-fits g c steady clones =
+    Peeks-fits (g.Q.Equivalent.equivalent c.args.query.now) g.V.Clone.is_clone _
+    g.L.Lifecycle.fits c.find_clone.result (returns-clause-finds g c)
+    (c.is_kept.ensures.fit steady) clones

@@ -1,0 +1,45 @@
+-- Loads in a shard behind its lock: how they begin, and how they end.
+use Rattle.std.specs.Prelude.{◌≡◌, ℕ, Bool, false, Some, Result, Ok, Err}
+use Rattle.quick_cache_model.specs.declared.refusal.Refusal.{Refusal}
+use Rattle.quick_cache_model.specs.CacheState.{CacheState, UpToOrder}
+use Rattle.quick_cache_model.specs.Hooks.{Rules, Hooks, Calls}
+use Rattle.quick_cache_model.specs.Lookups.{LooksUp}
+use Rattle.quick_cache_shard.specs.Filling.{AnswersFill, AwaitsKey}
+use Rattle.quick_cache_shard.specs.Loading.{IsMadeOrMet, MakesNone}
+use Rattle.quick_cache_guard.specs.declared.shard.Begun.{Begun}
+use Rattle.quick_cache_guard.specs.declared.shard.Begun.TheVariants.{Found, Loading}
+use Rattle.quick_cache_locked.specs.Peeks.{Peeks}
+
+module _ {K V P : Type 0} (own_ticket : P → ℕ) (stands_for : K → Bool) (gives : K → Type 0)
+    (hash : ℕ) (is_clone : V → V → Type 0) (old : CacheState K V) where
+  -- A load begins. An item was looked up, and a clone of its value is the answer; or the clone
+  -- failed, and nothing changed. Else a placeholder is the answer, which was made or met; or none
+  -- was made, and nothing changed.
+  pub data BeginsLoad : Result (Begun V P) Refusal → CacheState K V → Type 0 where
+    finds : (clone value : V) (new : CacheState K V)
+        → Peeks stands_for is_clone old (Ok (Some clone))
+        → UpToOrder (LooksUp stands_for old (λ item. item.value) (Some value)) new
+        → BeginsLoad (Ok (Found clone)) new
+    lacks_a_clone : (refusal : Refusal) → Peeks stands_for is_clone old (Err refusal)
+        → BeginsLoad (Err refusal) old
+    makes_or_meets : (made : Bool) (placeholder : P) (new : CacheState K V)
+        → IsMadeOrMet stands_for gives hash old made (own_ticket placeholder) new
+        → BeginsLoad (Ok (Loading placeholder)) new
+    makes_none : (refusal : Refusal) (new : CacheState K V)
+        → MakesNone stands_for gives hash old refusal new → BeginsLoad (Err refusal) new
+
+-- no placeholder of the ticket is there for an equal key
+abbrev pub AwaitsNoEqual : {K V : Type 0} → (K → K → Bool) → ℕ → K → CacheState K V → Type 0
+AwaitsNoEqual {K} equal ticket key old = (own : K) → AwaitsKey ticket old own
+    → equal key own ≡ false
+
+module _ {K V S : Type 0} (steady : Type 0) (hooks : Hooks K V S) (rules : Rules K V)
+    (equal : K → K → Bool) (ticket : ℕ) (old : CacheState K V) (marked : Bool) (key : K)
+    (value : V) where
+  -- A load ends with a value: the placeholder is filled, where pinning is steady as its definition
+  -- says. Or it was not there for the key, and nothing changed.
+  abbrev pub EndsLoad : S → Result (Unit {0}) V → CacheState K V → S → Type 0
+  EndsLoad first (Ok done) new last =
+      Calls hooks (AnswersFill steady ticket old rules marked value (Ok done) new) first last
+  EndsLoad first (Err back) new last =
+      AwaitsNoEqual equal ticket key old × (back ≡ value) × (new ≡ old) × (last ≡ first)

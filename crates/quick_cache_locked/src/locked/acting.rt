@@ -1,0 +1,82 @@
+//! Entry calls on a shard behind its lock.
+ghost use Rattle.std.specs.Prelude.{◌≡◌, true};
+ghost use Rattle.quick_cache_model.specs.Hashing.{hash_of};
+ghost use Rattle.quick_cache_entries.specs.Acts.{IfAbsent, IfGone, IfKept, LeavesFit, MayTell};
+ghost use Rattle.quick_cache_shard.specs.Entering.{AnswersEntry};
+ghost use Rattle.quick_cache_shard.specs.Shard.{LosesOnly, rules_of};
+ghost use Rattle.quick_cache_locked.specs.Fitting.{FitsQuery};
+ghost use Rattle.quick_cache_locked.specs.Locked.{IsKept};
+ghost use Rattle.quick_cache_locked.specs.Touches.{any_touches};
+
+use crate::locked::LockedShard;
+use quick_cache_entries::EntryShard;
+use quick_cache_model::{Lifecycle, Refusal, ToKey, Weighter};
+use quick_cache_shard::{EntryAction, EntryOrPlaceholder};
+use quick_cache_sharing::SharedPlaceholder;
+use std::alloc::Allocator;
+use std::hash::{BuildHasher, Hash};
+
+impl<
+    K: Eq + Hash + Drop,
+    V: Drop,
+    We: Weighter<K, V>,
+    B: BuildHasher,
+    L: Lifecycle<K, V>,
+    A: Allocator + Clone,
+> LockedShard<K, V, We, B, L, A> {
+    /// Shows the item under the query to the callback, which may write its value and chooses what
+    /// happens. Where there is none a placeholder is made or met. What the callback leaves fits.
+    pub fn act_on<Q: ToKey<K>, T, F: FnMut(&K, &mut V) -> EntryAction<T>>(
+        &mut self,
+        query: &Q,
+        callback: &mut F,
+    ) -> Result<EntryOrPlaceholder<K, V, SharedPlaceholder<K, V, L, A>, T>, Refusal>
+        requires stands { (key : K) → Q.to_key_gives query.now key
+            → Q.equivalent query.now key ≡ true }
+        requires callable { F.IsAlwaysCallable callback.old }
+        requires leaves { LeavesFit F.FnMut L.fits callback.old }
+        ensures acts { let hash = hash_of B.BuildHasher B.Hasher.Hasher self.old.builder
+            (Q.hash_input query.now) in
+            AnswersEntry F.FnMut
+            (rules_of any_touches K.Hash.hash_input We.Weighter B.BuildHasher B.Hasher.Hasher
+            L.Lifecycle self.old)
+            (Q.equivalent query.now) callback.old self.old.state
+            (λ placeholder. placeholder.ticket) (Q.to_key_gives query.now) hash result callback.new
+            self.new.state }
+        ensures fits { L.steady self.old.lifecycle
+            → IfGone result (λ value. FitsQuery L.fits (Q.equivalent query.now) value) }
+        ensures tells { IfKept result (λ told. MayTell F.FnMut L.fits
+            (L.steady self.old.lifecycle) (Q.equivalent query.now) callback.old told) }
+        ensures uncalled { IfAbsent result (callback.new ≡ callback.old) }
+        // No item moves that stays.
+        ensures places { LosesOnly self.old.places self.new.places }
+        ensures same { self.new ≡ record self.old {
+          state = self.new.state;
+          places = self.new.places;
+          room = self.new.room;
+        } }
+        ensures kept { IsKept L.Lifecycle K.eq self.old }
+    {
+        self.is_kept();
+        let hash = self.shard.hash(query);
+        self.shard
+            .entry_or_placeholder(&self.maker, hash, query, callback)
+    }
+}
+
+impl<
+    K: Eq + Hash + Drop,
+    V: Clone,
+    We: Weighter<K, V>,
+    B: BuildHasher,
+    L: Lifecycle<K, V>,
+    A: Allocator + Clone,
+> EntryShard<K, V, L, A> for LockedShard<K, V, We, B, L, A> {
+    fn act<Q: ToKey<K>, T, F: FnMut(&K, &mut V) -> EntryAction<T>>(
+        &mut self,
+        query: &Q,
+        callback: &mut F,
+    ) -> Result<EntryOrPlaceholder<K, V, SharedPlaceholder<K, V, L, A>, T>, Refusal> {
+        self.act_on(query, callback)
+    }
+}

@@ -1,0 +1,149 @@
+//! Keys that are being loaded in a shard behind its lock.
+ghost use Rattle.std.specs.Prelude.{◌≡◌, true, IfOk, IfErr, IfSome};
+ghost use Rattle.quick_cache_model.specs.Hashing.{hash_of};
+ghost use Rattle.quick_cache_model.specs.Placeholders.{GivesUpPlaceholder};
+ghost use Rattle.quick_cache_shard.specs.Shard.{hooks_of, rules_of, UpToOrder};
+ghost use Rattle.quick_cache_guard.specs.Begins.{IfFound};
+ghost use Rattle.quick_cache_locked.specs.Fitting.{ClonesFit, FitsQuery};
+ghost use Rattle.quick_cache_locked.specs.Loads.{BeginsLoad, EndsLoad};
+ghost use Rattle.quick_cache_locked.specs.Locked.{AlwaysSteady, IsKept};
+ghost use Rattle.quick_cache_locked.specs.Touches.{any_touches};
+
+use crate::locked::LockedShard;
+use quick_cache_guard::{Begun, LoadingShard};
+use quick_cache_model::{Equivalent, Lifecycle, Refusal, ToKey, Weighter};
+use quick_cache_sharing::SharedPlaceholder;
+use std::alloc::Allocator;
+use std::hash::{BuildHasher, Hash};
+
+impl<
+    K: Eq + Hash + Drop,
+    V: Clone,
+    We,
+    B: BuildHasher,
+    L: Lifecycle<K, V>,
+    A: Allocator + Clone,
+> LockedShard<K, V, We, B, L, A> {
+    /// Looks the query's key up, and gives a clone of its value. Where no item stands under it a
+    /// placeholder is made or met. The clone is made first, so that a refused one counts nothing.
+    pub fn begin_load<Q: ToKey<K>>(
+        &mut self,
+        query: &Q,
+    ) -> Result<Begun<V, SharedPlaceholder<K, V, L, A>>, Refusal>
+        requires stands { (key : K) → Q.to_key_gives query.now key
+            → Q.equivalent query.now key ≡ true }
+        ensures begins { let hash = hash_of B.BuildHasher B.Hasher.Hasher self.old.builder
+            (Q.hash_input query.now) in
+            BeginsLoad (λ placeholder. placeholder.ticket) (Q.equivalent query.now)
+            (Q.to_key_gives query.now) hash V.is_clone self.old.state result self.new.state }
+        ensures fits { L.steady self.old.lifecycle → ClonesFit L.fits V.is_clone → IfOk result
+            (λ begun. IfFound begun (λ value. FitsQuery L.fits (Q.equivalent query.now) value)) }
+        ensures same { self.new ≡ record self.old { state = self.new.state; room = self.new.room } }
+        ensures kept { IsKept L.Lifecycle K.eq self.old }
+    {
+        self.is_kept();
+        let hash = self.shard.hash(query);
+        match self.peek(query) {
+            Ok(Some(copy)) => {
+                self.shard.look_up(hash, query);
+                Ok(Begun::Found(copy))
+            }
+            Ok(None) => match self.shard.get_or_placeholder(&self.maker, hash, query) {
+                Ok(Ok(_)) => unreachable!(),
+                Ok(Err((placeholder, _))) => Ok(Begun::Loading(placeholder)),
+                Err(refusal) => Err(refusal),
+            },
+            Err(refusal) => Err(refusal),
+        }
+    }
+}
+
+impl<
+    K: Eq + Hash + Drop,
+    V: Drop,
+    We: Weighter<K, V>,
+    B: BuildHasher,
+    L: Lifecycle<K, V>,
+    A: Allocator,
+> LockedShard<K, V, We, B, L, A> {
+    /// Fills the placeholder with a value that fits the key, if it is there and is for that key,
+    /// with this request state. The flag tells whether anyone waited for it.
+    ///
+    /// # Errors
+    ///
+    /// The value, where it is not there.
+    pub fn end_load(
+        &mut self,
+        placeholder: &SharedPlaceholder<K, V, L, A>,
+        key: &K,
+        waited: bool,
+        value: V,
+        state: &mut L::RequestState,
+    ) -> Result<(), V>
+        requires fits { L.fits key.now value }
+        ensures ends { EndsLoad (L.steady self.old.lifecycle) (hooks_of L.Lifecycle self.old)
+            (rules_of any_touches K.Hash.hash_input We.Weighter B.BuildHasher B.Hasher.Hasher
+            L.Lifecycle self.old)
+            K.eq placeholder.now.ticket self.old.state waited key.now value state.old result
+            self.new.state state.new }
+        ensures kept { IsKept L.Lifecycle K.eq self.old }
+    {
+        self.is_kept();
+        // No fact crosses two locks, so the keys are compared again.
+        match self.shard.loading_key(placeholder) {
+            Some(own) => {
+                if *key != *own {
+                    return Err(value);
+                }
+            }
+            None => return Err(value),
+        }
+        self.shard
+            .replace_placeholder(state, placeholder, waited, value)
+    }
+
+    /// Takes the placeholder out, if it is there.
+    pub fn give_up_load(&mut self, placeholder: &SharedPlaceholder<K, V, L, A>)
+        ensures gives_up { UpToOrder
+            (GivesUpPlaceholder placeholder.now.ticket self.old.state) self.new.state }
+        ensures kept { IsKept L.Lifecycle K.eq self.old }
+    {
+        self.is_kept();
+        self.shard.remove_placeholder(placeholder);
+    }
+}
+
+impl<
+    K: Eq + Hash + Drop,
+    V: Clone,
+    We: Weighter<K, V>,
+    B: BuildHasher,
+    L: Lifecycle<K, V>,
+    A: Allocator + Clone,
+> LoadingShard<K, V, L, A> for LockedShard<K, V, We, B, L, A> {
+    fn find<Q: Equivalent<K>>(&self, query: &Q) -> Result<Option<V>, Refusal> {
+        self.find(query)
+    }
+
+    fn begin<Q: ToKey<K>>(
+        &mut self,
+        query: &Q,
+    ) -> Result<Begun<V, SharedPlaceholder<K, V, L, A>>, Refusal> {
+        self.begin_load(query)
+    }
+
+    fn fill(
+        &mut self,
+        placeholder: &SharedPlaceholder<K, V, L, A>,
+        key: &K,
+        waited: bool,
+        value: V,
+        state: &mut L::RequestState,
+    ) -> Result<(), V> {
+        self.end_load(placeholder, key, waited, value, state)
+    }
+
+    fn give_up(&mut self, placeholder: &SharedPlaceholder<K, V, L, A>) {
+        self.give_up_load(placeholder);
+    }
+}

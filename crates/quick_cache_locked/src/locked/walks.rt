@@ -1,0 +1,68 @@
+//! Walks over a shard behind its lock, one step at a time.
+ghost use Rattle.std.specs.Prelude.{◌≡◌, IfOk, IfSome, IsOk};
+ghost use Rattle.quick_cache_shard.specs.WalksFrom.{number_or_zero};
+ghost use Rattle.quick_cache_shard.specs.Copies.{ClonesAreEqual};
+ghost use Rattle.quick_cache_locked.specs.Fitting.{ClonesFit};
+ghost use Rattle.quick_cache_locked.specs.Locked.{IsKept};
+ghost use Rattle.quick_cache_locked.specs.Walks.{ShowsNext, TakesNext};
+
+use crate::locked::LockedShard;
+use quick_cache_model::{Lifecycle, Refusal};
+use quick_cache_shard::Token;
+use std::alloc::Allocator;
+use std::hash::{BuildHasher, Hash};
+
+impl<
+    K: Eq + Hash + Drop,
+    V: Drop,
+    We,
+    B: BuildHasher,
+    L: Lifecycle<K, V>,
+    A: Allocator,
+> LockedShard<K, V, We, B, L, A> {
+    /// Clones the item of the least token above this one, or of the least token of all where none
+    /// is given. It is no use of the item. Where pinning is steady, and clones are as their keys and
+    /// values are, what it gives fits its key.
+    pub fn show_next(&self, after: Option<Token>) -> Result<Option<(Token, K, V)>, Refusal>
+    where
+        K: Clone,
+        V: Clone,
+        ensures shows { ShowsNext self.now (number_or_zero after) K.is_clone V.is_clone result }
+        ensures fits { L.steady self.now.lifecycle → ClonesAreEqual K.eq K.is_clone
+            → ClonesFit L.fits V.is_clone → IfOk result
+            (λ found. IfSome found (λ shown. L.fits shown.1 shown.2)) }
+        ensures kept { IsKept L.Lifecycle K.eq self.now }
+    {
+        self.is_kept();
+        let mut walk = self.shard.iter_from(after);
+        match walk.next() {
+            None => Ok(None),
+            Some((token, key, value)) => {
+                let Ok(own) = key.clone() else {
+                    return Err(Refusal::Memory);
+                };
+                let Ok(copy) = value.clone() else {
+                    return Err(Refusal::Memory);
+                };
+                Ok(Some((token, own, copy)))
+            }
+        }
+    }
+
+    /// Takes out the item of the least token above this one, or of the least token of all where
+    /// none is given. Where pinning is steady, its value fits its key.
+    pub fn take_next(&mut self, after: Option<Token>) -> Option<(Token, K, V)>
+        ensures takes { TakesNext self.old (number_or_zero after) result self.new }
+        ensures fits { L.steady self.old.lifecycle → IfSome result
+            (λ taken. L.fits taken.1 taken.2) }
+        ensures same { self.new ≡ record self.old {
+          state = self.new.state;
+          places = self.new.places;
+          room = self.new.room;
+        } }
+        ensures kept { IsKept L.Lifecycle K.eq self.old }
+    {
+        self.is_kept();
+        self.shard.remove_next(after)
+    }
+}

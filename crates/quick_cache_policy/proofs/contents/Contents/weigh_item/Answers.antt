@@ -1,0 +1,60 @@
+use Rattle.std.proofs.Common.{◌≡◌, ◌∙◌, ap}
+use Rattle.std.specs.Int.NonZero.{non_zero_u32_get as number}
+use Rattle.quick_cache_model.specs.CacheState.{Item}
+use Rattle.quick_cache_policy.specs.Policies.{rules_by}
+use Rattle.quick_cache_policy.proofs.ReferenceLemmas.{found-value, reweighed-under, reweighed-there, reweighed-sound}
+use Rattle.quick_cache_policy.proofs.KeptPlaces.{reweighed-places}
+use Rattle.quick_cache_policy.proofs.contents.Contents.weigh_item.Goals as goal
+
+pub returns-clause-reweighs : goal.returns-clause-reweighs
+returns-clause-reweighs g c =
+    let rules = rules_by g.M.Policy g.P.Touch.Touches.may_count c.args.terms.now in
+    let found = c.requires.found in
+    let stands_for = g.Q.Equivalent.equivalent c.args._query.now in
+    let t = number c.args.token in
+    let same = found-value g.P.SharedPlaceholder.ticket_of c.args.self.now c.apart.ensures.apart t
+    stands_for c.args.hash found c.item-item.result c.item-item.ensures in
+    let weight : c.weigh-weight.result ≡ rules.weight found.item.key found.item.value =
+    c.weigh-weight.ensures
+    ∙ (λ i. rules.weight (c.key.ensures i) (c.value.ensures i))
+    ∙ ap (λ (item : Item g.row.K.Denot g.row.V.Denot). rules.weight item.key item.value) same in
+    reweighed-under g.P.SharedPlaceholder.ticket_of c.args.self.now c.apart.ensures.apart t
+    stands_for c.args.hash found g.K.PartialEq.eq g.met.K.Eq.laws rules c.requires.sound
+    c.reweigh.new.self c.weigh-weight.result weight c.reweigh.ensures
+
+pub returns-clause-there : goal.returns-clause-there
+returns-clause-there g c =
+    let rules = rules_by g.M.Policy g.P.Touch.Touches.may_count c.args.terms.now in
+    let found = c.requires.found in
+    let stands_for = g.Q.Equivalent.equivalent c.args._query.now in
+    let t = number c.args.token in
+    let same = found-value g.P.SharedPlaceholder.ticket_of c.args.self.now c.apart.ensures.apart t
+    stands_for c.args.hash found c.item-item.result c.item-item.ensures in
+    let weight : c.weigh-weight.result ≡ rules.weight found.item.key found.item.value =
+    c.weigh-weight.ensures
+    ∙ (λ i. rules.weight (c.key.ensures i) (c.value.ensures i))
+    ∙ ap (λ (item : Item g.row.K.Denot g.row.V.Denot). rules.weight item.key item.value) same in
+    reweighed-there g.P.SharedPlaceholder.ticket_of c.args.self.now c.apart.ensures.apart t
+    stands_for c.args.hash found g.K.PartialEq.eq g.met.K.Eq.laws rules c.requires.sound
+    c.reweigh.new.self c.weigh-weight.result weight c.reweigh.ensures
+
+pub returns-clause-sound : goal.returns-clause-sound
+returns-clause-sound g c =
+    let rules = rules_by g.M.Policy g.P.Touch.Touches.may_count c.args.terms.now in
+    let found = c.requires.found in
+    let stands_for = g.Q.Equivalent.equivalent c.args._query.now in
+    let t = number c.args.token in
+    let same = found-value g.P.SharedPlaceholder.ticket_of c.args.self.now c.apart.ensures.apart t
+    stands_for c.args.hash found c.item-item.result c.item-item.ensures in
+    let weight : c.weigh-weight.result ≡ rules.weight found.item.key found.item.value =
+    c.weigh-weight.ensures
+    ∙ (λ i. rules.weight (c.key.ensures i) (c.value.ensures i))
+    ∙ ap (λ (item : Item g.row.K.Denot g.row.V.Denot). rules.weight item.key item.value) same in
+    reweighed-sound g.P.SharedPlaceholder.ticket_of c.args.self.now c.apart.ensures.apart t
+    stands_for c.args.hash found g.K.PartialEq.eq g.met.K.Eq.laws rules c.requires.sound
+    c.reweigh.new.self c.weigh-weight.result weight c.reweigh.ensures
+
+pub returns-clause-places : goal.returns-clause-places
+returns-clause-places g c =
+    reweighed-places c.args.self.now.lists c.reweigh.new.self (number c.args.token)
+    c.weigh-weight.result c.reweigh.ensures

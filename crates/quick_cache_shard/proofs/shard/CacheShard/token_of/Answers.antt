@@ -1,0 +1,30 @@
+use Rattle.std.specs.Int.NonZero.{non_zero_u32_get as number}
+use Rattle.quick_cache_lists.specs.Lists.{HeldItem, FindsItem}
+use Rattle.quick_cache_shard.proofs.PlaceLemmas.{IfSome-map, HasItem-place, HasItem-resident}
+use Rattle.quick_cache_shard.proofs.ShardLemmas.{IsSound-shard}
+use Rattle.quick_cache_shard.proofs.shard.CacheShard.token_of.Goals as goal
+
+-- the item that was found stands at the token
+pub returns-clause-token : goal.returns-clause-token
+returns-clause-token g c =
+    let stands_for = g.Q.Equivalent.equivalent c.args.query.now in
+    let lists = c.self.inside.contents.lists in
+    rw (← c.self.view_is)
+    (IfSome-map (λ token. FindsItem stands_for c.args.hash lists (number token)) _ c.token_of.result
+    (λ token finds.
+    let held : HeldItem g.row.K.Denot g.row.V.Denot =
+    record { token = number token; hash = c.args.hash; item = finds.item } in
+    record {
+      item = finds.item;
+      stands = record {
+        place = HasItem-place lists held finds.stands;
+        there = HasItem-resident lists held finds.stands;
+      };
+      passes = finds.passes;
+    }) c.token_of.ensures.finds)
+
+pub returns-clause-sound : goal.returns-clause-sound
+returns-clause-sound g c =
+    rw (← c.self.view_is)
+    (IsSound-shard g.P.SharedPlaceholder.ticket_of g.K.PartialEq.eq _ c.self.inside.contents
+    c.self.invariant c.apart.ensures.within c.apart.ensures.apart g.met.K.Eq.laws _ _ _)

@@ -1,0 +1,80 @@
+//! A call that shows an item to a callback of the caller's, and does what that chooses.
+ghost use Rattle.std.specs.Prelude.{◌≡◌, ◌≤◌, ◌+◌, true};
+ghost use Rattle.quick_cache_model.specs.Hashing.{hash_of};
+ghost use Rattle.quick_cache_policy.specs.Entering.{AnswersEntry, IsNewUnder};
+ghost use Rattle.quick_cache_shard.specs.Shard.{LosesOnly, rules_of, IsSoundShard};
+
+use crate::shard::CacheShard;
+use quick_cache_model::{Lifecycle, Refusal, ToKey, Weighter};
+use quick_cache_policy::{EntryAction, EntryOrPlaceholder, MakesPlaceholders, SharedPlaceholder};
+use std::alloc::Allocator;
+use std::hash::{BuildHasher, Hash};
+
+impl<
+    K: Eq + Hash + Drop,
+    V: Drop,
+    We,
+    B: BuildHasher,
+    L,
+    P: SharedPlaceholder<K>,
+    A: Allocator,
+> CacheShard<K, V, We, B, L, P, A> {
+    /// Shows the item under the query to the callback, which may write its value and chooses what
+    /// happens. The query is handed in with its hash. The value is weighed anew, and nothing is
+    /// evicted. A kept item was looked up, a removed one gives its pair, and one that is replaced
+    /// gives its value and leaves a placeholder with its key and its queue, for which no miss is
+    /// counted.
+    ///
+    /// Where there is no item the callback is not called: a placeholder that stands there is met,
+    /// and else one is made, as by `get_or_placeholder`.
+    ///
+    /// # Errors
+    ///
+    /// Only where a placeholder would be made: `TicketsSpent`, `SlotsFull` where it would take a new
+    /// slot, or `Memory`. An item that was to be replaced stays as the callback wrote it; else
+    /// nothing has changed.
+    pub fn entry_or_placeholder<
+        Q: ToKey<K>,
+        N: MakesPlaceholders<K, P>,
+        T,
+        F: FnMut(&K, &mut V) -> EntryAction<T>,
+    >(
+        &mut self,
+        maker: &N,
+        hash: u64,
+        query: &Q,
+        callback: &mut F,
+    ) -> Result<EntryOrPlaceholder<K, V, P, T>, Refusal>
+    where
+        We: Weighter<K, V>,
+        L: Lifecycle<K, V>,
+        requires hash_is { hash ≡ hash_of B.BuildHasher B.Hasher.Hasher self.old.builder
+            (Q.hash_input query.now) }
+        requires stands { (key : K) → Q.to_key_gives query.now key
+            → Q.equivalent query.now key ≡ true }
+        requires callable { F.IsAlwaysCallable callback.old }
+        ensures answers { AnswersEntry F.FnMut
+            (rules_of P.Touch.may_count K.Hash.hash_input We.Weighter B.BuildHasher
+            B.Hasher.Hasher L.Lifecycle self.old)
+            (Q.equivalent query.now) callback.old self.old.state P.own_ticket
+            (Q.to_key_gives query.now) hash result callback.new self.new.state }
+        // A new placeholder has the hash of its key.
+        ensures hash { IsNewUnder P.hash_of hash result }
+        // No item moves that stays.
+        ensures places { LosesOnly self.old.places self.new.places }
+        // It takes room for one entry at most.
+        ensures room { self.old.room ≤ self.new.room + 1 }
+        ensures same { self.new ≡ record self.old {
+          state = self.new.state;
+          places = self.new.places;
+          room = self.new.room;
+        } }
+        ensures sound { IsSoundShard K.eq self.new }
+    {
+        let answer = self
+            .contents
+            .entry_or_placeholder(maker, hash, query, &self.terms, callback);
+        self.contents.lists.apart();
+        answer
+    }
+}

@@ -1,0 +1,50 @@
+-- The answers of calls whose state before nobody knows.
+use Rattle.std.specs.Prelude.{ℕ, Bool, Option, Result}
+use Rattle.quick_cache_model.specs.declared.refusal.Refusal.{Refusal}
+use Rattle.quick_cache_model.specs.CacheState.{CacheState, UpToOrder}
+use Rattle.quick_cache_model.specs.Hooks.{Rules, Hooks}
+use Rattle.quick_cache_model.specs.Removal.{Removes}
+use Rattle.quick_cache_shard.specs.Predicates.{RemovesAsked}
+use Rattle.quick_cache_shard.specs.Alone.{IsDoneAlone}
+use Rattle.quick_cache_shard.specs.Inserts.{Inserts, InsertsAlone}
+use Rattle.quick_cache_shard.specs.Replaces.{Replaces}
+
+module _ {K V : Type 0} (stands_for : K → Bool) (old : CacheState K V) where
+  -- a removal answers so, and some state comes of it
+  pub record RemovesSo (hash : ℕ) (answer : Option (K × V)) : Type 0 where
+    pub new : CacheState K V
+    pub step : UpToOrder (Removes stands_for old hash answer) new
+
+  -- the same of a removal by a test that answers once
+  pub record RemovesAskedSo (answers : V → Bool → Type 0) (answer : Option (K × V)) : Type 0 where
+    pub new : CacheState K V
+    pub step : UpToOrder (RemovesAsked stands_for old answers answer) new
+
+module _ {K V S : Type 0} (steady : Type 0) (hooks : Hooks K V S) (rules : Rules K V)
+    (equal : K → K → Bool) (old : CacheState K V) where
+  -- an insert answers so and leads the request state from the first to the last, and some state
+  -- comes of it
+  pub record InsertsSo (first : S) (key : K) (value : V)
+      (answer : Result (Unit {0}) (K × V × Refusal)) (last : S) : Type 0 where
+    pub new : CacheState K V
+    pub step : Inserts steady hooks rules equal old first key value answer new last
+
+  -- the same with a request state of the call's own, a default one at first
+  pub record InsertsAloneSo (is_default : S → Type 0) (key : K) (value : V)
+      (answer : Result (Unit {0}) (K × V × Refusal)) : Type 0 where
+    pub new : CacheState K V
+    pub step : InsertsAlone steady hooks rules equal old is_default key value answer new
+
+  -- a replace answers so and leads the request state from the first to the last, and some state
+  -- comes of it
+  pub record ReplacesSo (soft : Bool) (first : S) (key : K) (value : V)
+      (answer : Result (Unit {0}) (K × V)) (last : S) : Type 0 where
+    pub new : CacheState K V
+    pub step : Replaces steady hooks rules equal old soft first key value answer new last
+
+  -- the same with a request state of the call's own, a default one at first
+  pub record ReplacesAloneSo (is_default : S → Type 0) (soft : Bool) (key : K) (value : V)
+      (answer : Result (Unit {0}) (K × V)) : Type 0 where
+    pub new : CacheState K V
+    pub step : IsDoneAlone is_default
+        (λ first last. Replaces steady hooks rules equal old soft first key value answer new last)

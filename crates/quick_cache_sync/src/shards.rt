@@ -1,0 +1,69 @@
+//! The shards of a cache, and which one a key has.
+ghost use Rattle.std.specs.Prelude.{◌≡◌, ◌<◌};
+ghost use Rattle.quick_cache_model.specs.Hashing.{hash_of};
+ghost use Rattle.quick_cache_sync.specs.Shards.{shard_of_hash};
+
+use crate::cache::Cache;
+use quick_cache_locked::LockedShard;
+use quick_cache_model::{Equivalent, Lifecycle, hash_of};
+use std::alloc::Allocator;
+use std::hash::{BuildHasher, Hash};
+use std::sync::{RwLock, RwLockReadGuard, Wait};
+
+impl<K: Eq + Hash + Drop, V: Drop, We, B: BuildHasher, L: Lifecycle<K, V>, A: Allocator> Cache<
+    K,
+    V,
+    We,
+    B,
+    L,
+    A,
+> {
+    /// How many shards there are, a power of two. It takes no lock.
+    pub fn num_shards(&self) -> usize
+        ensures value { result ≡ self.now.shards }
+        ensures some { 0 < result }
+    {
+        self.shards.len()
+    }
+
+    /// Which shard the query's key has: the last bits of its hash, by the cache's builder, once it
+    /// is rotated right by 32. It takes no lock.
+    pub fn shard_index<Q: Equivalent<K>>(&self, query: &Q) -> usize
+        ensures index { result ≡ shard_of_hash self.now.shards
+            (hash_of B.BuildHasher B.Hasher.Hasher self.now.builder (Q.hash_input query.now)) }
+        ensures below { result < self.now.shards }
+    {
+        let hash = hash_of(&self.builder, query);
+        (hash.rotate_right(32) & (self.num_shards() as u64 - 1)) as usize
+    }
+
+    /// The shard of the query's key, behind its lock.
+    pub(crate) fn shard_of<Q: Equivalent<K>>(
+        &self,
+        query: &Q,
+    ) -> &RwLock<LockedShard<K, V, We, B, L, A>> {
+        &self.shards[self.shard_index(query)]
+    }
+
+    /// The read lock of the query's shard. It is tried once before the call waits for it, since a
+    /// try that succeeds takes a third of the steps.
+    #[inline(always)]
+    pub(crate) fn reading<R: Wait, Q: Equivalent<K>>(
+        &self,
+        rt: &R,
+        query: &Q,
+    ) -> RwLockReadGuard<'_, LockedShard<K, V, We, B, L, A>> {
+        let lock = self.shard_of(query);
+        match lock.try_read() {
+            Some(guard) => guard,
+            None => wait_to_read(lock, rt),
+        }
+    }
+}
+
+/// The read lock, waited for. Apart from the try it leaves its registers to the look-up.
+#[cold]
+#[inline(never)]
+fn wait_to_read<'a, T, R: Wait>(lock: &'a RwLock<T>, rt: &R) -> RwLockReadGuard<'a, T> {
+    lock.read(rt)
+}

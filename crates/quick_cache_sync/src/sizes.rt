@@ -1,0 +1,140 @@
+//! The numbers of a cache, which it asks of one shard after the other, and its sizes.
+ghost use Rattle.std.specs.Prelude.{◌≡◌, ℕ, ◌↔◌, IfErr, IsTrue};
+ghost use Rattle.quick_cache_model.specs.declared.refusal.Refusal.TheVariants.{Memory};
+ghost use Rattle.quick_cache_shard.specs.Shard.{Shard};
+ghost use Rattle.quick_cache_locked.specs.Locked.{FromSome};
+ghost use Rattle.quick_cache_locked.specs.Counts.{Shows};
+ghost use Rattle.quick_cache_sync.specs.Sums.{AddsUp};
+ghost use Rattle.quick_cache_locked.specs.declared.count.Count.TheVariants.{Items, Weight, Capacity, Hits, Misses};
+
+use crate::cache::Cache;
+use quick_cache_locked::Count;
+use quick_cache_model::{Lifecycle, MemoryUsed, Refusal, Weighter};
+use quick_cache_options::sizes::{shard_items, shard_weight};
+use std::alloc::Allocator;
+use std::hash::{BuildHasher, Hash};
+use std::sync::Wait;
+
+impl<K: Eq + Hash + Drop, V: Drop, We, B: BuildHasher, L: Lifecycle<K, V>, A: Allocator> Cache<
+    K,
+    V,
+    We,
+    B,
+    L,
+    A,
+> {
+    /// How many items there are, those of weight 0 too, up to the greatest `usize`. It takes the
+    /// read lock of each shard in turn.
+    pub fn len<R: Wait>(&self, rt: &R) -> usize
+        ensures answers { AddsUp L.Lifecycle K.eq (λ (shard : Shard K V We B L) shown.
+            Shows Items shard.state shown) self.now.shards result }
+    {
+        self.added_up(rt, Count::Items) as usize
+    }
+
+    /// Whether no shard has an item. It takes the read lock of each shard in turn.
+    pub fn is_empty<R: Wait>(&self, rt: &R) -> bool
+        ensures answers { (items : ℕ) × AddsUp L.Lifecycle K.eq (λ (shard : Shard K V We B L) shown.
+            Shows Items shard.state shown) self.now.shards items × (IsTrue result ↔ (items ≡ 0)) }
+    {
+        self.len(rt) == 0
+    }
+
+    /// What all items weigh, up to the greatest `u64`. It takes the read lock of each shard in turn.
+    pub fn weight<R: Wait>(&self, rt: &R) -> u64
+        ensures answers { AddsUp L.Lifecycle K.eq (λ (shard : Shard K V We B L) shown.
+            Shows Weight shard.state shown) self.now.shards result }
+    {
+        self.added_up(rt, Count::Weight)
+    }
+
+    /// The weight that the cache may hold, up to the greatest `u64`: that of all shards. It takes
+    /// the read lock of each shard in turn.
+    pub fn capacity<R: Wait>(&self, rt: &R) -> u64
+        ensures answers { AddsUp L.Lifecycle K.eq (λ (shard : Shard K V We B L) shown.
+            Shows Capacity shard.state shown) self.now.shards result }
+    {
+        self.added_up(rt, Count::Capacity)
+    }
+
+    /// The weight that a shard may hold, read off the first. It takes the read lock of that shard.
+    pub fn shard_capacity<R: Wait>(&self, rt: &R) -> u64
+        ensures answers { FromSome L.Lifecycle K.eq (λ (shard : Shard K V We B L).
+            result ≡ shard.state.capacity) }
+    {
+        self.shards[0].read(rt).count(Count::Capacity)
+    }
+
+    /// How many look-ups found an item, up to the greatest `u64`. It takes the read lock of each
+    /// shard in turn.
+    pub fn hits<R: Wait>(&self, rt: &R) -> u64
+        ensures answers { AddsUp L.Lifecycle K.eq (λ (shard : Shard K V We B L) shown.
+            Shows Hits shard.state shown) self.now.shards result }
+    {
+        self.added_up(rt, Count::Hits)
+    }
+
+    /// How many look-ups found none, up to the greatest `u64`. It takes the read lock of each shard
+    /// in turn.
+    pub fn misses<R: Wait>(&self, rt: &R) -> u64
+        ensures answers { AddsUp L.Lifecycle K.eq (λ (shard : Shard K V We B L) shown.
+            Shows Misses shard.state shown) self.now.shards result }
+    {
+        self.added_up(rt, Count::Misses)
+    }
+
+    /// How many bytes the entries and the indexes that find them take. What the keys and the values
+    /// own comes apart, and so does the list of the shards. It takes the read lock of each shard in
+    /// turn.
+    pub fn memory_used<R: Wait>(&self, rt: &R) -> MemoryUsed {
+        let mut used = MemoryUsed { entries: 0, map: 0 };
+        for shard in &self.shards {
+            let more = shard.read(rt).memory_used();
+            used.entries = used.entries.saturating_add(more.entries);
+            used.map = used.map.saturating_add(more.map);
+        }
+        used
+    }
+
+    /// Sets the weight that the cache may hold: each shard gets its part, rounded up, and evicts
+    /// what is too much, with a request state of its own. It takes the write lock of each shard in
+    /// turn, drops the request state once that is released, and takes no memory.
+    pub fn set_capacity<R: Wait>(&self, rt: &R, capacity: u64)
+    where
+        We: Weighter<K, V>,
+    {
+        let part = shard_weight(capacity, self.num_shards());
+        for shard in &self.shards {
+            let mut state = L::RequestState::default();
+            shard.write(rt).set_capacity(part, &mut state);
+        }
+    }
+
+    /// Makes room for so many more entries, of which each shard gets its part, rounded up, and for
+    /// the ghosts that as many inserts can leave. It takes the write lock of each shard in turn.
+    ///
+    /// # Errors
+    ///
+    /// `Memory` where there is not enough. Room that was already made may stay.
+    pub fn reserve<R: Wait>(&self, rt: &R, additional: usize) -> Result<(), Refusal>
+        ensures refused { IfErr result (λ refusal. refusal ≡ Memory) }
+    {
+        let part = shard_items(additional, self.num_shards());
+        for shard in &self.shards {
+            shard.write(rt).reserve(part)?;
+        }
+        Ok(())
+    }
+
+    /// Asks each shard for a number, one after the other, and adds them up.
+    fn added_up<R: Wait>(&self, rt: &R, count: Count) -> u64
+        ensures { AddsUp L.Lifecycle K.eq (λ (shard : Shard K V We B L) shown.
+            Shows count shard.state shown) self.now.shards result }
+    {
+        let mut total: u64 = 0;
+        for index in 0..self.shards.len() {
+            total = total.saturating_add(self.shards[index].read(rt).count(count));
+        }
+        total
+    }
+}

@@ -1,0 +1,128 @@
+//! Replaces and removals.
+ghost use Rattle.std.specs.Prelude.{IfSome};
+ghost use Rattle.std.specs.Fn.{FnOnceReturnsAt};
+ghost use Rattle.quick_cache_model.specs.Hashing.{hash_of};
+ghost use Rattle.quick_cache_shard.specs.Shard.{Shard, rules_of, hooks_of};
+ghost use Rattle.quick_cache_sync.specs.Answers.{RemovesSo, RemovesAskedSo, ReplacesSo, ReplacesAloneSo};
+ghost use Rattle.quick_cache_locked.specs.Fitting.{FitsQuery};
+ghost use Rattle.quick_cache_locked.specs.Locked.{FromSome, AlwaysSteady};
+ghost use Rattle.quick_cache_locked.specs.Touches.{any_touches};
+
+use crate::cache::Cache;
+use quick_cache_model::{Equivalent, Lifecycle, Weighter};
+use std::alloc::Allocator;
+use std::hash::{BuildHasher, Hash};
+use std::sync::Wait;
+
+impl<K: Eq + Hash + Drop, V: Drop, We, B: BuildHasher, L: Lifecycle<K, V>, A: Allocator> Cache<
+    K,
+    V,
+    We,
+    B,
+    L,
+    A,
+> {
+    /// Replaces the item under the key by the pair, and hands what leaves to the lifecycle, with a
+    /// request state of its own, which is made before the lock is taken and dropped once it is
+    /// released.
+    ///
+    /// # Errors
+    ///
+    /// As `replace_with_lifecycle`.
+    pub fn replace<R: Wait>(&self, rt: &R, key: K, value: V, soft: bool) -> Result<(), (K, V)>
+    where
+        We: Weighter<K, V>,
+        requires fits { L.fits key value }
+        ensures answers { FromSome L.Lifecycle K.eq (λ shard.
+            ReplacesAloneSo (L.steady shard.lifecycle) (hooks_of L.Lifecycle shard)
+            (rules_of any_touches K.Hash.hash_input We.Weighter B.BuildHasher B.Hasher.Hasher
+            L.Lifecycle shard)
+            K.eq shard.state L.RequestState.is_default soft key value result) }
+    {
+        let mut state = L::RequestState::default();
+        self.replace_with_lifecycle(rt, key, value, soft, &mut state)
+    }
+
+    /// Replaces the item under the key by the pair, and hands what leaves to the lifecycle, with
+    /// this request state. The pair takes the item's place, and its mark rises by one, unless the
+    /// replace is soft. It takes the write lock of the key's shard, and no memory.
+    ///
+    /// # Errors
+    ///
+    /// The pair where it was not admitted, as the admission check left it: no item stood under its
+    /// key, or it is too heavy, and then the item under its key has left.
+    pub fn replace_with_lifecycle<R: Wait>(
+        &self,
+        rt: &R,
+        key: K,
+        value: V,
+        soft: bool,
+        state: &mut L::RequestState,
+    ) -> Result<(), (K, V)>
+    where
+        We: Weighter<K, V>,
+        requires fits { L.fits key value }
+        ensures answers { FromSome L.Lifecycle K.eq (λ shard.
+            ReplacesSo (L.steady shard.lifecycle) (hooks_of L.Lifecycle shard)
+            (rules_of any_touches K.Hash.hash_input We.Weighter B.BuildHasher B.Hasher.Hasher
+            L.Lifecycle shard)
+            K.eq shard.state soft state.old key value result state.new) }
+    {
+        self.shard_of(&key)
+            .write(rt)
+            .replace(key, value, soft, state)
+    }
+
+    /// Takes the item under the query's key out, or a ghost of its hash. No hook is called. It takes
+    /// the write lock of the key's shard, and no memory.
+    pub fn remove<Q: Equivalent<K>, R: Wait>(&self, rt: &R, query: &Q) -> Option<(K, V)>
+        ensures answers { FromSome L.Lifecycle K.eq (λ (shard : Shard K V We B L).
+            RemovesSo (Q.equivalent query.now) shard.state
+            (hash_of B.BuildHasher B.Hasher.Hasher shard.builder (Q.hash_input query.now)) result) }
+        // Whatever other threads do, the value fits a key that the query stands for.
+        ensures fits { AlwaysSteady L.steady → IfSome result
+            (λ pair. FitsQuery L.fits (Q.equivalent query.now) pair.1) }
+    {
+        self.shard_of(query).write(rt).remove(query)
+    }
+
+    /// Takes the item under the query's key out where its value is wanted, and gives its pair. A
+    /// ghost stays, and no hook is called. It takes the write lock of the key's shard, under which
+    /// the predicate runs, and no memory.
+    pub fn remove_if<Q: Equivalent<K>, F: FnOnce(&V) -> bool, R: Wait>(
+        &self,
+        rt: &R,
+        query: &Q,
+        wanted: F,
+    ) -> Option<(K, V)>
+        requires callable { F.IsAlwaysCallable wanted }
+
+        // Whatever the predicate answers, the item goes or stays by that.
+        ensures answers { FromSome L.Lifecycle K.eq (λ (shard : Shard K V We B L).
+            RemovesAskedSo (Q.equivalent query.now) shard.state
+            (FnOnceReturnsAt F.FnOnce wanted) result) }
+        ensures fits { AlwaysSteady L.steady → IfSome result
+            (λ pair. FitsQuery L.fits (Q.equivalent query.now) pair.1) }
+    {
+        self.shard_of(query).write(rt).remove_if(query, wanted)
+    }
+
+    /// Shows each item to the predicate and drops those that it does not keep, one shard after the
+    /// other. Ghosts stay, and so do the counts. No hook is called. It takes the write lock of each
+    /// shard in turn, under which the predicate runs, and no memory.
+    pub fn retain<F: Fn(&K, &V) -> bool, R: Wait>(&self, rt: &R, keep: F)
+        requires callable { F.IsAlwaysCallable keep }
+    {
+        for shard in &self.shards {
+            shard.write(rt).retain(&keep);
+        }
+    }
+
+    /// Drops all items, and forgets those that left, one shard after the other. The counts, the
+    /// sizes and the memory stay. No hook is called. It takes the write lock of each shard in turn.
+    pub fn clear<R: Wait>(&self, rt: &R) {
+        for shard in &self.shards {
+            shard.write(rt).clear();
+        }
+    }
+}

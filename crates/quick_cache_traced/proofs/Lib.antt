@@ -1,0 +1,5 @@
+pub mod TraceLemmas
+mod StepLemmas
+mod PairLemmas
+mod KeptLemmas
+mod AnswerLemmas

@@ -1,0 +1,3 @@
+mod EnterLemmas
+mod TaskLemmas
+mod WithdrawalLemmas

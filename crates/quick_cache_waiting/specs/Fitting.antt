@@ -1,0 +1,23 @@
+-- Values that fit their keys, as a lifecycle says it.
+use Rattle.std.specs.Prelude.{◌≡◌, Bool, true, IfSome}
+use Rattle.quick_cache_loading.specs.Core.{Life, value_of}
+
+module _ {K V : Type 0} (fits : K → V → Type 0) where
+  -- a clone of a value that fits a key fits it, too
+  abbrev pub ClonesFit : (V → V → Type 0) → Type 0
+  ClonesFit is_clone = (key : K) (value clone : V) → is_clone value clone → fits key value
+      → fits key clone
+
+  -- the value that a life is filled with fits the key
+  abbrev pub FilledFits : K → Life V → Type 0
+  FilledFits key life = IfSome (value_of life) (λ value. fits key value)
+
+  -- the value fits a key that the query stands for
+  pub record FitsQuery (stands_for : K → Bool) (value : V) : Type 0 where
+    pub key : K
+    pub stands : stands_for key ≡ true
+    pub fits_key : fits key value
+
+-- every lifecycle of the type has steady pins
+abbrev pub AlwaysSteady : {L : Type 0} → (L → Type 0) → Type 0
+AlwaysSteady {L} steady = (lifecycle : L) → steady lifecycle

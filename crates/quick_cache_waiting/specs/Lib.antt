@@ -1,0 +1,4 @@
+pub mod Tasks
+pub mod Fitting
+pub mod Waiting
+pub mod Entering
