@@ -1,2 +1,4 @@
 mod OneThreadLemmas
 mod SharedLemmas
+mod ToldLemmas
+mod TurnLemmas

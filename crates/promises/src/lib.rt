@@ -6,6 +6,9 @@
 
 pub mod containers;
 pub mod keys;
+pub mod loads;
 pub mod one_thread;
 pub mod options;
 pub mod shared;
+pub mod told;
+pub mod walks;

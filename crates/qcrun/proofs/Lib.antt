@@ -1,3 +1,3 @@
-pub mod PrintLemmas
-pub mod RunLemmas
-pub mod SessionLemmas
+mod PrintLemmas
+mod RunLemmas
+mod SessionLemmas

@@ -1,5 +1,9 @@
 //! Scripts that show which items leave, in which order, and which hooks are told.
-use crate::tests::check_all;
+use crate::serve::serve;
+use crate::tests::{check_all, write_each};
+use std::io::Write;
+use std::process::ExitCode;
+use std::test::Fail;
 
 #[test]
 fn items_leave_by_marks_pins_and_weights(rt: HostRuntime) {
@@ -82,4 +86,22 @@ fn items_leave_by_marks_pins_and_weights(rt: HostRuntime) {
         ),
     ];
     check_all(&rt, rt.alloc(), &scripts);
+}
+
+#[test]
+fn a_scan_of_fresh_keys_takes_no_hot_one(rt: HostRuntime) -> Result<(), Fail> {
+    let mut script = Vec::new(rt.alloc());
+    write!(script, "cache 100 100\n")?;
+    // A hot set that is read, a scan of a thousand fresh keys, and the hot set again.
+    write_each(&mut script, "insert", 1000..=1096, " 1")?;
+    write_each(&mut script, "get", 1000..=1096, "")?;
+    write_each(&mut script, "insert", 2000..=2999, " 1")?;
+    write_each(&mut script, "get", 1000..=1096, "")?;
+    write!(script, "hits\n")?;
+    let mut written = Vec::new(rt.alloc());
+    let ended = serve(rt.alloc(), script.as_slice(), &mut written);
+    assert_eq!(rt; ended, ExitCode::from(0));
+    let told = b"some 1\nsome 1\nsome 1\nhits 194 misses 0\n";
+    assert!(rt; written.as_slice().ends_with(told.as_slice()));
+    Ok(())
 }

@@ -220,7 +220,7 @@ fn a_bad_line_ends_the_script(rt: HostRuntime) {
 }
 
 /// Writes a command with each of the numbers, one a line; the second number of an insert is 1.
-fn write_each(
+pub fn write_each(
     script: &mut Vec<u8>,
     name: &str,
     numbers: RangeInclusive<u64>,

@@ -1,2 +1,2 @@
 pub mod EventLemmas
-pub mod StillLemmas
+mod StillLemmas

@@ -1,2 +1,2 @@
-pub mod LoadLemmas
-pub mod ServedLemmas
+mod LoadLemmas
+mod ServedLemmas

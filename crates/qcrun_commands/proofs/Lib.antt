@@ -1,2 +1,2 @@
-pub mod CommandLemmas
-pub mod LineLemmas
+mod CommandLemmas
+mod LineLemmas

@@ -1,1 +1,1 @@
-pub mod SimulationLemmas
+mod SimulationLemmas

@@ -1,2 +1,2 @@
-pub mod ListLemmas
-pub mod CountLemmas
+mod ListLemmas
+mod CountLemmas

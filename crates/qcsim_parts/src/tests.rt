@@ -81,3 +81,22 @@ fn hits_are_listed_and_drawn(rt: HostRuntime) -> Result<(), Fail> {
     assert!(rt; chart.starts_with(b"<svg ") && chart.ends_with(b"</svg>\n"));
     Ok(())
 }
+
+#[test]
+fn a_scan_takes_every_hot_key_from_a_plain_list(rt: HostRuntime) -> Result<(), Fail> {
+    let mut keys = Vec::new(rt.alloc());
+    // Keys that are read twice, a scan of a thousand fresh ones, and the first ones again.
+    for range in [1000..1097u64, 1000..1097, 2000..3000, 1000..1097] {
+        for key in range {
+            keys.push(key)?;
+        }
+    }
+    let Some(hundred) = NonZeroUsize::new(100) else {
+        return Ok(());
+    };
+    let by_use = hits_by_use(rt.alloc(), &keys, hundred)?;
+    let by_age = hits_by_age(rt.alloc(), &keys, hundred)?;
+    // Each is the second read of a hot key before the scan, and none comes behind it.
+    assert_eq!(rt; (by_use, by_age), (97, 97));
+    Ok(())
+}

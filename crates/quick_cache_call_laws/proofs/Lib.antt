@@ -1,4 +1,4 @@
-pub mod StepParts
-pub mod CallSteps
-pub mod CallWrites
-pub mod Victims
+mod StepParts
+mod CallSteps
+mod CallWrites
+mod Victims

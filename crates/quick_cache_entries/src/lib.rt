@@ -6,5 +6,5 @@ mod acting;
 mod entering;
 mod shard;
 
-pub use acting::entry;
+pub use acting::{come, entry};
 pub use shard::EntryShard;

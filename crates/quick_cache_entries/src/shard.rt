@@ -1,7 +1,7 @@
 //! A shard, as entry calls use it while they hold its lock.
 ghost use Rattle.std.specs.Prelude.{◌≡◌, true};
-ghost use Rattle.quick_cache_waiting.specs.Fitting.{AlwaysSteady, FitsQuery};
-ghost use Rattle.quick_cache_entries.specs.Acts.{IfAbsent, IfGone, IfKept, LeavesFit, MayTell};
+ghost use Rattle.quick_cache_waiting.specs.Fitting.{FitsQuery};
+ghost use Rattle.quick_cache_entries.specs.Acts.{DoesAsChosen, IfAbsent, IfGone, IfKept, LeavesFit, MayTell};
 
 use quick_cache_guard::LoadingShard;
 use quick_cache_model::{Lifecycle, Refusal, ToKey};
@@ -33,10 +33,11 @@ pub trait EntryShard<K: Eq + Hash + Drop, V: Clone, L: Lifecycle<K, V>, A: Alloc
             → Q.equivalent query.now key ≡ true }
         requires callable { F.IsAlwaysCallable callback.old }
         requires leaves { LeavesFit F.FnMut L.fits callback.old }
-        // Where pinning is steady.
-        ensures fits { AlwaysSteady L.steady
-            → IfGone result (λ value. FitsQuery L.fits (Q.equivalent query.now) value) }
-        ensures tells { IfKept result (λ told. MayTell F.FnMut L.fits (AlwaysSteady L.steady)
+        ensures fits { IfGone result (λ value. FitsQuery L.fits (Q.equivalent query.now) value) }
+        ensures tells { IfKept result (λ told. MayTell F.FnMut L.fits
             (Q.equivalent query.now) callback.old told) }
-        ensures uncalled { IfAbsent result (callback.new ≡ callback.old) };
+        ensures uncalled { IfAbsent result (callback.new ≡ callback.old) }
+        // What comes of it is what the callback chose, by its one call.
+        ensures chosen { DoesAsChosen F.FnMut L.fits
+            (Q.equivalent query.now) callback.old result callback.new };
 }

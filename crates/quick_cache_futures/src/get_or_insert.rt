@@ -2,7 +2,7 @@
 ghost use Rattle.std.specs.Prelude.{◌≡◌, true, false, Ok, Err};
 ghost use Rattle.futures.specs.Poll.{IfReady, OnPending};
 ghost use Rattle.futures.specs.Task.{Covers, Keeps};
-ghost use Rattle.quick_cache_waiting.specs.Fitting.{AlwaysSteady, ClonesFit, FitsQuery};
+ghost use Rattle.quick_cache_waiting.specs.Fitting.{ClonesFit, FitsQuery};
 ghost use Rattle.quick_cache_futures.specs.Loaders.{IfLoaded, NeedsOf};
 
 use crate::value_or_guard::ValueOrGuard;
@@ -160,7 +160,7 @@ impl<
 
     // The value fits a key that the query stands for, and an error is one that the loader gives.
     ghost gives = { λ f output. IfLoaded
-        (λ value. AlwaysSteady L.steady → FitsQuery L.fits (Q.equivalent f.query) value)
+        (λ value. FitsQuery L.fits (Q.equivalent f.query) value)
         (λ error. F.gives f.loader (Err error)) output };
 
     fn poll(&mut self, cx: &mut Context<'_>) -> Poll<Self::Output> {

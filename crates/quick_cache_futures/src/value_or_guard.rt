@@ -3,7 +3,7 @@ ghost use Rattle.std.specs.Prelude.{◌≡◌, true};
 ghost use Rattle.std.specs.Option.{IfSome, IsSomeAnd};
 ghost use Rattle.futures.specs.Poll.{IfReady, OnPending};
 ghost use Rattle.futures.specs.Task.{Covers, Keeps};
-ghost use Rattle.quick_cache_waiting.specs.Fitting.{AlwaysSteady, ClonesFit, FitsQuery};
+ghost use Rattle.quick_cache_waiting.specs.Fitting.{ClonesFit, FitsQuery};
 ghost use Rattle.quick_cache_guard.specs.Answers.{IfGiven};
 
 use futures::Future;
@@ -92,7 +92,7 @@ impl<
         cx: &mut Context<'_>,
     ) -> Poll<Result<Result<V, PlaceholderGuard<'a, K, V, L, S, R, A>>, Refusal>>
         ensures value { IfReady result (λ output. IfGiven
-            (λ value. AlwaysSteady L.steady → ClonesFit L.fits V.is_clone
+            (λ value. ClonesFit L.fits V.is_clone
             → FitsQuery L.fits (Q.equivalent self.old.query) value)
             (λ key. Q.to_key_gives self.old.query key) output) }
         ensures query { self.new.query ≡ self.old.query }
@@ -112,7 +112,7 @@ impl<
         &mut self,
     ) -> Option<Result<Result<V, PlaceholderGuard<'a, K, V, L, S, R, A>>, Refusal>>
         ensures gives { IfSome result (λ output. IfGiven
-            (λ value. AlwaysSteady L.steady → ClonesFit L.fits V.is_clone
+            (λ value. ClonesFit L.fits V.is_clone
             → FitsQuery L.fits (Q.equivalent self.old.query) value)
             (λ key. Q.to_key_gives self.old.query key) output) }
         ensures same { self.new ≡ self.old }
@@ -155,7 +155,7 @@ impl<
 
     // The value fits a key that the query stands for, and the guard is for a key that it becomes.
     ghost gives = { λ f output. IfGiven
-        (λ value. AlwaysSteady L.steady → ClonesFit L.fits V.is_clone
+        (λ value. ClonesFit L.fits V.is_clone
         → FitsQuery L.fits (Q.equivalent f.query) value)
         (λ key. Q.to_key_gives f.query key) output };
 

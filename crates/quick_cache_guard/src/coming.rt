@@ -2,7 +2,7 @@
 ghost use Rattle.std.specs.Prelude.{◌≡◌, true, IfOk, IfErr, IfSome};
 ghost use Rattle.std.specs.Arc.{arc_value};
 ghost use Rattle.quick_cache_waiting.specs.Waiting.{IfGuard as IfShare};
-ghost use Rattle.quick_cache_waiting.specs.Fitting.{AlwaysSteady, ClonesFit, FitsQuery};
+ghost use Rattle.quick_cache_waiting.specs.Fitting.{ClonesFit, FitsQuery};
 ghost use Rattle.quick_cache_guard.specs.Answers.{IfValue, IfGuard, answer_of, output_of};
 
 use crate::guard::PlaceholderGuard;
@@ -85,7 +85,7 @@ pub fn come<
     requires stands { (key : K) → Q.to_key_gives query.now key
         → Q.equivalent query.now key ≡ true }
     ensures keyed { IfOk result (λ waiting. Q.to_key_gives query.now waiting.key) }
-    ensures fits { AlwaysSteady L.steady → ClonesFit L.fits V.is_clone → IfErr result
+    ensures fits { ClonesFit L.fits V.is_clone → IfErr result
         (λ told. IfSome told (λ answer. IfValue answer
         (λ value. FitsQuery L.fits (Q.equivalent query.now) value))) }
     ensures key { IfErr result (λ told. IfSome told (λ answer. IfGuard answer
@@ -133,7 +133,7 @@ pub fn come_and_wait<
 ) -> Option<GuardResult<V, PlaceholderGuard<'a, K, V, L, S, R, A>>>
     requires stands { (key : K) → Q.to_key_gives query.now key
         → Q.equivalent query.now key ≡ true }
-    ensures fits { AlwaysSteady L.steady → ClonesFit L.fits V.is_clone → IfSome result
+    ensures fits { ClonesFit L.fits V.is_clone → IfSome result
         (λ answer. IfValue answer
         (λ value. FitsQuery L.fits (Q.equivalent query.now) value)) }
     ensures key { IfSome result (λ answer. IfGuard answer
@@ -172,7 +172,7 @@ pub fn come_and_wait_within<
 ) -> Option<GuardResult<V, PlaceholderGuard<'a, K, V, L, S, R, A>>>
     requires stands { (key : K) → Q.to_key_gives query.now key
         → Q.equivalent query.now key ≡ true }
-    ensures fits { AlwaysSteady L.steady → ClonesFit L.fits V.is_clone → IfSome result
+    ensures fits { ClonesFit L.fits V.is_clone → IfSome result
         (λ answer. IfValue answer
         (λ value. FitsQuery L.fits (Q.equivalent query.now) value)) }
     ensures key { IfSome result (λ answer. IfGuard answer

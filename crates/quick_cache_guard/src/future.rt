@@ -3,7 +3,7 @@ ghost use Rattle.std.specs.Prelude.{◌≡◌, true, Some};
 ghost use Rattle.std.specs.Option.{IfSome, IsSomeAnd};
 ghost use Rattle.futures.specs.Poll.{IfReady, OnPending};
 ghost use Rattle.futures.specs.Task.{Covers, Keeps};
-ghost use Rattle.quick_cache_waiting.specs.Fitting.{AlwaysSteady, ClonesFit, FitsQuery};
+ghost use Rattle.quick_cache_waiting.specs.Fitting.{ClonesFit, FitsQuery};
 ghost use Rattle.quick_cache_guard.specs.Answers.{IfGiven, IfGuard, IfValue};
 
 use crate::coming::{Waiting, answer, come, output};
@@ -119,13 +119,34 @@ impl<
         }
     }
 
+    /// A future of one who waits already, as a task, at a placeholder of this shard. It takes no lock.
+    pub fn waiting(
+        rt: &'a R,
+        shard: &'a RwLock<S>,
+        query: &'a Q,
+        waiting: Waiting<K, V, L, A>,
+    ) -> Self
+        requires stands { (key : K) → Q.to_key_gives query.now key
+            → Q.equivalent query.now key ≡ true }
+        requires keyed { Q.to_key_gives query.now waiting.key }
+        ensures query { result.query ≡ query.now }
+    {
+        JoinFuture {
+            rt,
+            shard,
+            query,
+            waiting: Some(waiting),
+            is_finished: false,
+        }
+    }
+
     /// A poll, which keeps the query.
     pub fn go_on(
         &mut self,
         cx: &mut Context<'_>,
     ) -> Poll<Result<Result<V, PlaceholderGuard<'a, K, V, L, S, R, A>>, Refusal>>
         ensures value { IfReady result (λ output. IfGiven
-            (λ value. AlwaysSteady L.steady → ClonesFit L.fits V.is_clone
+            (λ value. ClonesFit L.fits V.is_clone
             → FitsQuery L.fits (Q.equivalent self.old.query) value)
             (λ key. Q.to_key_gives self.old.query key) output) }
         ensures query { self.new.query ≡ self.old.query }
@@ -153,7 +174,7 @@ impl<
     ) -> Poll<Result<Result<V, PlaceholderGuard<'a, K, V, L, S, R, A>>, Refusal>>
         requires keyed { Q.to_key_gives self.old.query waiting.key }
         ensures value { IfReady result (λ output. IfGiven
-            (λ value. AlwaysSteady L.steady → ClonesFit L.fits V.is_clone
+            (λ value. ClonesFit L.fits V.is_clone
             → FitsQuery L.fits (Q.equivalent self.old.query) value)
             (λ key. Q.to_key_gives self.old.query key) output) }
         ensures query { self.new.query ≡ self.old.query }
@@ -187,13 +208,13 @@ impl<
         told: Option<GuardResult<V, PlaceholderGuard<'a, K, V, L, S, R, A>>>,
         cx: &mut Context<'_>,
     ) -> Poll<Result<Result<V, PlaceholderGuard<'a, K, V, L, S, R, A>>, Refusal>>
-        requires fits { AlwaysSteady L.steady → ClonesFit L.fits V.is_clone → IfSome told
+        requires fits { ClonesFit L.fits V.is_clone → IfSome told
             (λ answer. IfValue answer
             (λ value. FitsQuery L.fits (Q.equivalent self.old.query) value)) }
         requires key { IfSome told (λ answer. IfGuard answer
             (λ key. Q.to_key_gives self.old.query key)) }
         ensures value { IfReady result (λ output. IfGiven
-            (λ value. AlwaysSteady L.steady → ClonesFit L.fits V.is_clone
+            (λ value. ClonesFit L.fits V.is_clone
             → FitsQuery L.fits (Q.equivalent self.old.query) value)
             (λ key. Q.to_key_gives self.old.query key) output) }
         ensures same { self.new ≡ self.old }
@@ -226,7 +247,7 @@ impl<
 
     // The value fits a key that the query stands for, and the guard is for a key that it becomes.
     ghost gives = { λ f output. IfGiven
-        (λ value. AlwaysSteady L.steady → ClonesFit L.fits V.is_clone
+        (λ value. ClonesFit L.fits V.is_clone
         → FitsQuery L.fits (Q.equivalent f.query) value)
         (λ key. Q.to_key_gives f.query key) output };
 

@@ -1,6 +1,6 @@
 //! A value, or the guard of a key that is absent, for a thread that waits where another loads it.
 ghost use Rattle.std.specs.Prelude.{◌≡◌, true};
-ghost use Rattle.quick_cache_waiting.specs.Fitting.{AlwaysSteady, ClonesFit, FitsQuery};
+ghost use Rattle.quick_cache_waiting.specs.Fitting.{ClonesFit, FitsQuery};
 ghost use Rattle.quick_cache_guard.specs.Answers.{IfGiven, IfGuard, IfValue};
 
 use crate::coming::{come_and_wait, come_and_wait_within, output};
@@ -37,7 +37,7 @@ impl<
         requires stands { (key : K) → Q.to_key_gives query.now key
             → Q.equivalent query.now key ≡ true }
         // Whatever other threads do, the value fits a key that the query stands for.
-        ensures fits { AlwaysSteady L.steady → ClonesFit L.fits V.is_clone
+        ensures fits { ClonesFit L.fits V.is_clone
             → IfValue result (λ value. FitsQuery L.fits (Q.equivalent query.now) value) }
         // The guard is for a key that the query becomes.
         ensures key { IfGuard result (λ key. Q.to_key_gives query.now key) }
@@ -62,7 +62,7 @@ impl<
         // Whatever other threads do, the value fits a key that the query stands for, and the guard
         // is for a key that the query becomes.
         ensures gives { IfGiven
-            (λ value. AlwaysSteady L.steady → ClonesFit L.fits V.is_clone
+            (λ value. ClonesFit L.fits V.is_clone
             → FitsQuery L.fits (Q.equivalent query.now) value)
             (λ key. Q.to_key_gives query.now key) result }
     {

@@ -8,6 +8,7 @@ mod joining;
 mod results;
 mod shard;
 
+pub use coming::Waiting;
 pub use future::JoinFuture;
 pub use guard::{FillError, PlaceholderGuard};
 pub use results::{EntryResult, GuardResult};

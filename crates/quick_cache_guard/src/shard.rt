@@ -1,6 +1,6 @@
 //! A shard, as those who load its keys use it while they hold its lock.
 ghost use Rattle.std.specs.Prelude.{◌≡◌, IfOk, IfErr, IfSome, true};
-ghost use Rattle.quick_cache_waiting.specs.Fitting.{AlwaysSteady, ClonesFit, FitsQuery};
+ghost use Rattle.quick_cache_waiting.specs.Fitting.{ClonesFit, FitsQuery};
 ghost use Rattle.quick_cache_guard.specs.Begins.{IfFound};
 
 use quick_cache_model::{Equivalent, Lifecycle, Refusal, ToKey};
@@ -27,8 +27,8 @@ pub trait LoadingShard<K: Eq + Hash + Drop, V: Clone, L: Lifecycle<K, V>, A: All
     ///
     /// `Memory` where the clone failed. Nothing was counted then.
     fn find<Q: Equivalent<K>>(&self, query: &Q) -> Result<Option<V>, Refusal>
-        // Where pinning is steady, and clones fit as their values do.
-        ensures fits { AlwaysSteady L.steady → ClonesFit L.fits V.is_clone → IfOk result
+        // Where clones fit as their values do.
+        ensures fits { ClonesFit L.fits V.is_clone → IfOk result
             (λ found. IfSome found
             (λ value. FitsQuery L.fits (Q.equivalent query.now) value)) };
 
@@ -44,8 +44,8 @@ pub trait LoadingShard<K: Eq + Hash + Drop, V: Clone, L: Lifecycle<K, V>, A: All
     ) -> Result<Begun<V, SharedPlaceholder<K, V, L, A>>, Refusal>
         requires stands { (key : K) → Q.to_key_gives query.now key
             → Q.equivalent query.now key ≡ true }
-        // Where pinning is steady, and clones fit as their values do.
-        ensures fits { AlwaysSteady L.steady → ClonesFit L.fits V.is_clone → IfOk result
+        // Where clones fit as their values do.
+        ensures fits { ClonesFit L.fits V.is_clone → IfOk result
             (λ begun. IfFound begun
             (λ value. FitsQuery L.fits (Q.equivalent query.now) value)) };
 

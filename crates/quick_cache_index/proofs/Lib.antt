@@ -1,8 +1,8 @@
-pub mod Candidates
+mod Candidates
 pub mod CountedTokens
-pub mod Distances
-pub mod FreedPlaces
-pub mod GroupLanes
-pub mod NearestFreePlace
-pub mod ShownTokens
-pub mod WalkedTokens
+mod Distances
+mod FreedPlaces
+mod GroupLanes
+mod NearestFreePlace
+mod ShownTokens
+mod WalkedTokens

@@ -1,6 +1,6 @@
-pub mod Admitted
-pub mod Calls
-pub mod CanBeMade
-pub mod Eviction
-pub mod Examples
-pub mod Steps
+mod Admitted
+mod Calls
+mod CanBeMade
+mod Eviction
+mod Examples
+mod Steps

@@ -1,26 +1,26 @@
-pub mod GatherLemmas
-pub mod SlabFrames
-pub mod SoundLemmas
-pub mod StandLemmas
-pub mod FindLemmas
-pub mod ViewLemmas
-pub mod RemoveLemmas
-pub mod TakeLemmas
-pub mod TurnLemmas
-pub mod ItemLemmas
-pub mod ChangeLemmas
-pub mod ApartLemmas
+mod GatherLemmas
+mod SlabFrames
+mod SoundLemmas
+mod StandLemmas
+mod FindLemmas
+mod ViewLemmas
+mod RemoveLemmas
+mod TakeLemmas
+mod TurnLemmas
+mod ItemLemmas
+mod ChangeLemmas
+mod ApartLemmas
 mod AwaitedLemmas
-pub mod CountLemmas
-pub mod PutLemmas
-pub mod LeaveLemmas
-pub mod MoveLemmas
-pub mod NextLemmas
-pub mod RewriteLemmas
+mod CountLemmas
+mod PutLemmas
+mod LeaveLemmas
+mod MoveLemmas
+mod NextLemmas
+mod RewriteLemmas
 pub mod CallerLemmas
 pub mod OneEntryLemmas
-pub mod WalkLemmas
+mod WalkLemmas
 pub mod StandingLemmas
-pub mod CopyLemmas
-pub mod ResidentLemmas
-pub mod PlaceholderLemmas
+mod CopyLemmas
+mod ResidentLemmas
+mod PlaceholderLemmas

@@ -11,8 +11,8 @@ use Rattle.std.proofs.lemmas.List.Sorted.{IsPermutation-cons, sum_by-IsPermutati
 use Rattle.quick_cache_model.specs.CacheState.{CacheState}
 use Rattle.quick_cache_lives.specs.Books.{Life, Book, living, Follows, IsBookOf, IsBalanced}
 use Rattle.quick_cache_lives.specs.Conservation.{arrivals, departures}
-use Rattle.quick_cache_lives.specs.Fates.{Fate, residents}
-use Rattle.quick_cache_lives.proofs.Leads.{Leads}
+use Rattle.quick_cache_fates.specs.Fates.{Fate, residents}
+use Rattle.quick_cache_fates.specs.Leads.{Leads}
 use Rattle.quick_cache_lives.proofs.Shuffles.{picked}
 
 -- 1 for a number below this one

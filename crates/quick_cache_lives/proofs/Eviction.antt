@@ -12,41 +12,16 @@ use Rattle.quick_cache_model.specs.Eviction.{lowered, promoted, EvictsVictim, Ad
 use Rattle.quick_cache_model.specs.Eviction.{EvictsToTarget, AdvancesCold, EvictsToCapacity}
 use Rattle.quick_cache_model.specs.Eviction.{ghosts_with}
 use Rattle.quick_cache_model.specs.Removal.{pair_of}
-use Rattle.quick_cache_lives.specs.Fates.{residents}
-use Rattle.quick_cache_lives.proofs.Leads.{Leads, Leads-same, Leads-from, Leads-changes}
-use Rattle.quick_cache_lives.proofs.Leads.{Leads-leaves, Tells, Tells-append}
-use Rattle.quick_cache_lives.proofs.Residents.{residents-put, residents-entered, residents-same}
-use Rattle.quick_cache_lives.proofs.Residents.{residents-found, residents-raised, pairs-lowered}
-
-module _ {K V : Type 0} where
-  -- the call of the queue's hook takes the pair
-  pub evicted-tells : (queue : Queue) (key : K) (value : V) (pairs : List (K × V))
-      → Tells ((key, value) ∷ pairs) (evicted queue key value ∷ []) pairs
-  evicted-tells Hot key value pairs = Leads-leaves (key, value) (Leads-same pairs)
-  evicted-tells Cold key value pairs = Leads-leaves (key, value) (Leads-same pairs)
+use Rattle.quick_cache_fates.specs.Fates.{residents}
+use Rattle.quick_cache_fates.specs.Leads.{Leads}
+use Rattle.quick_cache_fates.proofs.Leads.{Leads-same, Leads-from, Leads-changes}
+use Rattle.quick_cache_fates.specs.Leads.{Tells}
+use Rattle.quick_cache_fates.proofs.Leads.{Leads-leaves, Tells-append}
+use Rattle.quick_cache_fates.proofs.Victims.{EvictsVictim-tells}
+use Rattle.quick_cache_fates.proofs.Residents.{residents-put, residents-entered, residents-same}
+use Rattle.quick_cache_fates.proofs.Residents.{residents-found, residents-raised, pairs-lowered}
 
 module _ {K V : Type 0} (rules : Rules K V) where
-  -- a new ghost is no pair
-  ghosts-same : (queue : Queue) (item : Item K V) (state : CacheState K V)
-      → residents (ghosts_with rules queue item state) ≡ residents state
-  ghosts-same Hot item state = refl
-  ghosts-same Cold item state = refl
-
-  EvictsVictim-tells : (queue : Queue) (old : CacheState K V) (item : Item K V)
-      (calls : List (HookCall K V)) (new : CacheState K V)
-      → EvictsVictim rules queue old item calls new
-      → Tells (pair_of item ∷ residents old) calls (residents new)
-  EvictsVictim-tells queue old item _ _ (EvictsVictim.stays left light) =
-      let moved = record item { value = left; weight = 0 } in
-      Leads-changes item.key item.value left
-      (Leads.rests ((item.key, left) ∷ residents old) (residents (entered moved old))
-      (IsPermutation-sym _ _ (residents-entered moved old)))
-  EvictsVictim-tells queue old item _ _ (EvictsVictim.leaves left heavy) =
-      Leads-changes item.key item.value left
-      (subst (λ ps. Tells ((item.key, left) ∷ residents old)
-      (evicted queue item.key left ∷ []) ps) (sym (ghosts-same queue item old))
-      (evicted-tells queue item.key left (residents old)))
-
   AdvancesHot-tells : (old : CacheState K V) (answer : Bool) (calls : List (HookCall K V))
       (new : CacheState K V)
       → AdvancesHot rules old answer calls new → Tells (residents old) calls (residents new)
@@ -69,7 +44,7 @@ module _ {K V : Type 0} (rules : Rules K V) where
       Leads-from (residents old) (pair_of least ∷ residents mid)
       (subst (λ ps. IsPermutation (residents old) (pair_of item ∷ ps)) lower
       (residents-found InHot old.mark_cut rules.may_count hot before item after old raised split))
-      (EvictsVictim-tells Hot mid least calls new evicts)
+      (EvictsVictim-tells rules Hot mid least calls new evicts)
 
   EvictsToTarget-tells : (old : CacheState K V) (calls : List (HookCall K V))
       (new : CacheState K V)
@@ -101,7 +76,7 @@ module _ {K V : Type 0} (rules : Rules K V) where
       let mid = with_items InCold (after ++ before) old in
       Leads-from (residents old) (pair_of item ∷ residents mid)
       (residents-found InCold old.mark_cut rules.may_count cold before item after old raised split)
-      (EvictsVictim-tells Cold mid item calls new evicts)
+      (EvictsVictim-tells rules Cold mid item calls new evicts)
   AdvancesCold-tells old _ _ _
       (AdvancesCold.passes_all cold answer calls new raised passed advances) =
       subst (λ ps. Tells ps calls (residents new))

@@ -3,7 +3,7 @@
 use Rattle.std.proofs.Common.{◌≡◌, [], ◌∷◌, length, ap, arith}
 use Rattle.quick_cache_model.specs.CacheState.{CacheState}
 use Rattle.quick_cache_lives.specs.Books.{Book, Follows, IsBookOf}
-use Rattle.quick_cache_lives.specs.Fates.{Comes, Changes, Leaves, residents}
+use Rattle.quick_cache_fates.specs.Fates.{Comes, Changes, Leaves, residents}
 use Rattle.quick_cache_lives.proofs.Books.{Follows-counted}
 
 module _ {K V : Type 0} (old new : CacheState K V) (first last : Book K V) (key : K) (value : V)

@@ -22,11 +22,14 @@ use Rattle.quick_cache_model.proofs.Valid.Placeholders.{GivesUpPlaceholder-valid
 use Rattle.quick_cache_model.proofs.Valid.Placeholders.{FillsPlaceholder-valid}
 use Rattle.quick_cache_calls.specs.Loads.{TakesPlaceholder, Loads, LoadsNothing}
 use Rattle.quick_cache_calls.proofs.TakenKeys.{IsTicketOf, stands_for, taken_keys}
-use Rattle.quick_cache_lives.specs.Fates.{Comes, fate_of, residents}
+use Rattle.quick_cache_fates.specs.Fates.{Comes, fate_of, residents}
 use Rattle.quick_cache_lives.proofs.Eviction.{EvictsToCapacity-tells}
-use Rattle.quick_cache_lives.proofs.Leads.{Leads, Leads-same, Leads-from, Leads-changes}
-use Rattle.quick_cache_lives.proofs.Leads.{Leads-leaves, Tells, Tells-append}
-use Rattle.quick_cache_lives.proofs.Residents.{residents-entered, counted-residents}
+use Rattle.quick_cache_fates.specs.Leads.{Leads}
+use Rattle.quick_cache_fates.proofs.Leads.{Leads-same, Leads-from, Leads-changes}
+use Rattle.quick_cache_fates.specs.Leads.{Tells}
+use Rattle.quick_cache_fates.proofs.Leads.{Leads-leaves, Tells-append}
+use Rattle.quick_cache_fates.proofs.Residents.{residents-entered}
+use Rattle.quick_cache_lives.proofs.Residents.{counted-residents}
 use Rattle.quick_cache_lives.proofs.Told.{Told, Told-same, Told-append, Told-ordered}
 use Rattle.quick_cache_lives.proofs.Told.{Told-reordered}
 use Rattle.quick_cache_lives.proofs.Values.{comings-hooks, Leads-last}

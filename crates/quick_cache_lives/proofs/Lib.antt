@@ -1,14 +1,13 @@
-pub mod Leads
-pub mod Shuffles
-pub mod Books
-pub mod Values
-pub mod Residents
-pub mod Eviction
-pub mod Told
-pub mod Writes
-pub mod Fills
-pub mod Quiet
-pub mod Steps
-pub mod Runs
+mod Shuffles
+mod Books
+mod Values
+mod Residents
+mod Eviction
+mod Told
+mod Writes
+mod Fills
+mod Quiet
+mod Steps
+mod Runs
 pub mod CallerLemmas
-pub mod Examples
+mod Examples

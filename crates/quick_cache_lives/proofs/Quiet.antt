@@ -24,13 +24,16 @@ use Rattle.quick_cache_model.proofs.Valid.Lookups.{Retains-valid, Drains-valid, 
 use Rattle.quick_cache_model.proofs.Valid.Places.{IsInPlace-marked}
 use Rattle.quick_cache_model.proofs.Valid.States.{IsValid-in_place, SetsCapacity-valid}
 use Rattle.quick_cache_calls.specs.References.{WritesItem}
-use Rattle.quick_cache_lives.specs.Fates.{Changes, Leaves, Rewrite, fate_of, leaving}
-use Rattle.quick_cache_lives.specs.Fates.{changing, residents, IsRewrite}
+use Rattle.quick_cache_fates.specs.Fates.{Changes, Leaves, fate_of, leaving}
+use Rattle.quick_cache_lives.specs.Fates.{Rewrite}
+use Rattle.quick_cache_fates.specs.Fates.{residents}
+use Rattle.quick_cache_lives.specs.Fates.{changing, IsRewrite}
 use Rattle.quick_cache_lives.proofs.Eviction.{EvictsToCapacity-tells}
-use Rattle.quick_cache_lives.proofs.Leads.{Leads, Leads-same, Leads-from, Leads-changes}
-use Rattle.quick_cache_lives.proofs.Leads.{Leads-leaves, Leads-all}
-use Rattle.quick_cache_lives.proofs.Residents.{residents-between, residents-split}
-use Rattle.quick_cache_lives.proofs.Residents.{residents-rewritten}
+use Rattle.quick_cache_fates.specs.Leads.{Leads}
+use Rattle.quick_cache_fates.proofs.Leads.{Leads-same, Leads-from, Leads-changes}
+use Rattle.quick_cache_fates.proofs.Leads.{Leads-leaves, Leads-all}
+use Rattle.quick_cache_fates.proofs.Residents.{residents-between, residents-split}
+use Rattle.quick_cache_fates.proofs.Residents.{residents-rewritten}
 use Rattle.quick_cache_lives.proofs.Told.{Told, Told-quiet, Told-same, Told-nothing}
 use Rattle.quick_cache_lives.proofs.Values.{comings-hooks, comings-leaving}
 

@@ -8,7 +8,8 @@ use Rattle.quick_cache_calls.specs.declared.reply.Reply.{Reply}
 use Rattle.quick_cache_calls.specs.CacheRun.{CacheRun}
 use Rattle.quick_cache_lives.specs.Books.{Book, IsBookOf, IsBalanced}
 use Rattle.quick_cache_lives.specs.Conservation.{NumberedRun, Conserves, IsLastOf}
-use Rattle.quick_cache_lives.specs.Fates.{last_written, residents}
+use Rattle.quick_cache_fates.specs.Fates.{residents}
+use Rattle.quick_cache_lives.specs.Fates.{last_written}
 use Rattle.quick_cache_lives.proofs.Books.{Follows-balanced, Leads-led}
 use Rattle.quick_cache_lives.proofs.Steps.{CacheStep-booked}
 use Rattle.quick_cache_lives.proofs.Values.{last_written-append}

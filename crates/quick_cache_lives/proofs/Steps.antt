@@ -22,11 +22,13 @@ use Rattle.quick_cache_calls.specs.CacheStep.{CacheStep}
 use Rattle.quick_cache_calls.specs.Kinds.{replacement, IsLook, IsLoad, MakesRoom}
 use Rattle.quick_cache_calls.specs.Loads.{WritesIfGiven}
 use Rattle.quick_cache_calls.specs.References.{WritesItem}
-use Rattle.quick_cache_lives.specs.Fates.{Fate, Rewrite, Comes, Leaves, Befalls, HandsIn}
-use Rattle.quick_cache_lives.specs.Fates.{WritesThrough, pairs_out, coming, changing, leaving}
-use Rattle.quick_cache_lives.specs.Fates.{fate_of, residents}
+use Rattle.quick_cache_fates.specs.Fates.{Fate, Comes, Leaves}
+use Rattle.quick_cache_lives.specs.Fates.{Rewrite, Befalls, HandsIn}
+use Rattle.quick_cache_fates.specs.Fates.{coming, leaving}
+use Rattle.quick_cache_lives.specs.Fates.{WritesThrough, pairs_out, changing}
+use Rattle.quick_cache_fates.specs.Fates.{fate_of, residents}
 use Rattle.quick_cache_lives.proofs.Fills.{Loads-told, LoadsNothing-told}
-use Rattle.quick_cache_lives.proofs.Leads.{Leads-same, Leads-leaves}
+use Rattle.quick_cache_fates.proofs.Leads.{Leads-same, Leads-leaves}
 use Rattle.quick_cache_lives.proofs.Quiet.{LooksUp-told, Removes-told, RemovesIf-told}
 use Rattle.quick_cache_lives.proofs.Quiet.{Retains-told, cleared-told, Drains-told}
 use Rattle.quick_cache_lives.proofs.Quiet.{SetsCapacity-told, IsRewritten, WritesItem-told}

@@ -7,9 +7,12 @@ use Rattle.quick_cache_model.specs.CacheState.{CacheState, IsValid, SameButOrder
 use Rattle.quick_cache_model.proofs.EachElement.{all-permutation}
 use Rattle.quick_cache_model.proofs.Valid.Orders.{SameButOrder-valid}
 use Rattle.quick_cache_lives.specs.Conservation.{IsLastOf}
-use Rattle.quick_cache_lives.specs.Fates.{Fate, last_written, residents}
-use Rattle.quick_cache_lives.proofs.Leads.{Leads, Leads-append, Leads-to}
-use Rattle.quick_cache_lives.proofs.Residents.{residents-ordered, counted-residents}
+use Rattle.quick_cache_fates.specs.Fates.{Fate, residents}
+use Rattle.quick_cache_lives.specs.Fates.{last_written}
+use Rattle.quick_cache_fates.specs.Leads.{Leads}
+use Rattle.quick_cache_fates.proofs.Leads.{Leads-append, Leads-to}
+use Rattle.quick_cache_fates.proofs.Residents.{residents-ordered}
+use Rattle.quick_cache_lives.proofs.Residents.{counted-residents}
 use Rattle.quick_cache_lives.proofs.Values.{comings, Leads-last, last_written-append}
 
 module _ {K V : Type 0} (equal : K → K → Bool) where

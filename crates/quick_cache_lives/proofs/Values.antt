@@ -8,9 +8,9 @@ use Rattle.quick_cache_model.specs.Hooks.{HookCall, BeforeEvict, EvictHot, Evict
 use Rattle.quick_cache_model.proofs.EachElement.{all-permutation}
 use Rattle.quick_cache_model.proofs.KeyCounts.{one_if, one}
 use Rattle.quick_cache_lives.specs.Conservation.{IsLastOf}
-use Rattle.quick_cache_lives.specs.Fates.{Fate, Comes, Changes, Leaves, leaving, fate_of}
+use Rattle.quick_cache_fates.specs.Fates.{Fate, Comes, Changes, Leaves, leaving, fate_of}
 use Rattle.quick_cache_lives.specs.Fates.{last_written}
-use Rattle.quick_cache_lives.proofs.Leads.{Leads}
+use Rattle.quick_cache_fates.specs.Leads.{Leads}
 
 module _ {K V : Type 0} (test : K → Bool) where
   -- how many pairs have a key that passes

@@ -22,12 +22,14 @@ use Rattle.quick_cache_model.proofs.EqualKeys.{one-equal}
 use Rattle.quick_cache_model.proofs.KeyCounts.{one, one_if, loading_keys-split}
 use Rattle.quick_cache_model.proofs.Valid.Writes.{Writes-valid}
 use Rattle.quick_cache_lives.specs.Conservation.{IsLastOf}
-use Rattle.quick_cache_lives.specs.Fates.{Fate, Comes, Changes, Leaves, leaving, fate_of, residents}
+use Rattle.quick_cache_fates.specs.Fates.{Fate, Comes, Changes, Leaves, leaving, fate_of, residents}
 use Rattle.quick_cache_lives.proofs.Eviction.{EvictsToCapacity-tells}
-use Rattle.quick_cache_lives.proofs.Leads.{Leads, Leads-same, Leads-from, Leads-to, Leads-changes}
-use Rattle.quick_cache_lives.proofs.Leads.{Leads-leaves, Leads-beside, Leads-between}
-use Rattle.quick_cache_lives.proofs.Residents.{residents-split, residents-entered}
-use Rattle.quick_cache_lives.proofs.Residents.{residents-rewritten, counted-residents}
+use Rattle.quick_cache_fates.specs.Leads.{Leads}
+use Rattle.quick_cache_fates.proofs.Leads.{Leads-same, Leads-from, Leads-to, Leads-changes}
+use Rattle.quick_cache_fates.proofs.Leads.{Leads-leaves, Leads-beside, Leads-between}
+use Rattle.quick_cache_fates.proofs.Residents.{residents-split, residents-entered}
+use Rattle.quick_cache_fates.proofs.Residents.{residents-rewritten}
+use Rattle.quick_cache_lives.proofs.Residents.{counted-residents}
 use Rattle.quick_cache_lives.proofs.Residents.{counted-absent}
 use Rattle.quick_cache_lives.proofs.Told.{Told}
 use Rattle.quick_cache_lives.proofs.Values.{comings, comings-append, comings-hooks}

@@ -3,7 +3,7 @@ use Rattle.std.specs.Prelude.{◌≡◌, ℕ, ◌+◌, List, [], ◌∷◌, ◌+
 use Rattle.std.specs.Prelude.{if◌then◌else◌}
 use Rattle.std.specs.List.Sorted.{IsPermutation}
 use Rattle.quick_cache_model.specs.CacheState.{CacheState}
-use Rattle.quick_cache_lives.specs.Fates.{Fate, Comes, Changes, Leaves, residents}
+use Rattle.quick_cache_fates.specs.Fates.{Fate, Comes, Changes, Leaves, residents}
 
 -- a pair as it now stands, with the number that it was given when it came
 pub record Life (K V : Type 0) : Type 0 where

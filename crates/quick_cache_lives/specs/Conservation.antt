@@ -10,8 +10,10 @@ use Rattle.quick_cache_calls.specs.declared.reply.Reply.{Reply}
 use Rattle.quick_cache_calls.specs.Answered.{replies_of}
 use Rattle.quick_cache_calls.specs.CacheStep.{CacheStep}
 use Rattle.quick_cache_calls.specs.CacheRun.{CacheRun}
-use Rattle.quick_cache_lives.specs.Fates.{Fate, Comes, Changes, Leaves, Befalls}
-use Rattle.quick_cache_lives.specs.Fates.{last_written, residents}
+use Rattle.quick_cache_fates.specs.Fates.{Fate, Comes, Changes, Leaves}
+use Rattle.quick_cache_lives.specs.Fates.{Befalls}
+use Rattle.quick_cache_fates.specs.Fates.{residents}
+use Rattle.quick_cache_lives.specs.Fates.{last_written}
 use Rattle.quick_cache_lives.specs.Books.{Book, Follows, IsBookOf, IsBalanced}
 
 module _ {K V : Type 0} where

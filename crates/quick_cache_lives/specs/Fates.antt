@@ -3,8 +3,9 @@ use Rattle.std.specs.Prelude.{◌≡◌, Bool, true, false, not, List, [], ◌�
 use Rattle.std.specs.Prelude.{None, if◌then◌else◌}
 use Rattle.std.specs.List.{filter}
 use Rattle.quick_cache_model.specs.CacheState.{CacheState}
-use Rattle.quick_cache_model.specs.Hooks.{HookCall, BeforeEvict, EvictHot, EvictCold}
+use Rattle.quick_cache_model.specs.Hooks.{HookCall}
 use Rattle.quick_cache_model.specs.Removal.{pair_of}
+use Rattle.quick_cache_fates.specs.Fates.{Fate, Comes, Changes, Leaves, coming, leaving, fate_of, residents}
 use Rattle.quick_cache_calls.specs.declared.call.Call.{Call}
 use Rattle.quick_cache_calls.specs.declared.call.Call.TheVariants.{Insert, Replace, GetMut, PeekMut}
 use Rattle.quick_cache_calls.specs.declared.call.Call.TheVariants.{Load, LoadMut, Guarded}
@@ -14,12 +15,6 @@ use Rattle.quick_cache_calls.specs.declared.reply.Reply.TheVariants.{RefusedPair
 use Rattle.quick_cache_calls.specs.declared.reply.Reply.TheVariants.{Pair, Found, Loaded, Filled}
 use Rattle.quick_cache_calls.specs.declared.reply.Reply.TheVariants.{Pairs}
 
--- what befalls a pair: it comes, its value changes, or it leaves
-pub data Fate (K V : Type 0) : Type 0 where
-  Comes : (key : K) (value : V) → Fate K V
-  Changes : (key : K) (value left : V) → Fate K V
-  Leaves : (key : K) (value : V) → Fate K V
-
 -- a value that was written through a reference: the key of its item, and the value before and after
 pub record Rewrite (K V : Type 0) : Type 0 where
   pub key : K
@@ -27,23 +22,9 @@ pub record Rewrite (K V : Type 0) : Type 0 where
   pub left : V
 
 module _ {K V : Type 0} where
-  -- a pair that is handed in comes
-  abbrev pub coming : K × V → Fate K V
-  coming pair = Comes pair.0 pair.1
-
-  -- a pair that is given out or dropped leaves
-  abbrev pub leaving : K × V → Fate K V
-  leaving pair = Leaves pair.0 pair.1
-
   -- a value that is written through a reference changes
   abbrev pub changing : Rewrite K V → Fate K V
   changing rewrite = Changes rewrite.key rewrite.value rewrite.left
-
-  -- what a hook call tells of its pair
-  abbrev pub fate_of : HookCall K V → Fate K V
-  fate_of (BeforeEvict key value left) = Changes key value left
-  fate_of (EvictHot key value) = Leaves key value
-  fate_of (EvictCold key value) = Leaves key value
 
   -- The value last written under the keys that pass a test, once these fates befell pairs, and
   -- where this was the last one before them: a pair that comes writes its value, and so does a
@@ -55,10 +36,6 @@ module _ {K V : Type 0} where
   last_written test last (Changes key value left ∷ fates) =
       last_written test (if test key then Some left else last) fates
   last_written test last (Leaves key value ∷ fates) = last_written test last fates
-
-  -- the pairs that are resident
-  abbrev pub residents : CacheState K V → List (K × V)
-  residents state = map pair_of (state.hot ++ (state.cold ++ state.still))
 
 -- whether a reply tells that a placeholder was filled
 abbrev pub tells_fill : {K V M : Type 0} → Reply K V M → Bool

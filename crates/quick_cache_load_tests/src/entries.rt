@@ -26,6 +26,12 @@ fn an_entry_stays_goes_and_is_loaded_anew(rt: HostRuntime) -> Result<(), Fail> {
     assert!(rt; guard.insert(30).is_ok());
     let removed = cache.entry(&rt, &1, None, &mut goes);
     assert!(rt; matches!(removed, EntryResult::Removed(1, 30)));
+    let EntryResult::Vacant(guard) = cache.entry(&rt, &1, None, &mut raises) else {
+        panic!(rt; "no item is there");
+    };
+    assert!(rt; guard.insert(42).is_ok());
+    let removed = cache.entry(&rt, &1, None, &mut goes);
+    assert!(rt; matches!(removed, EntryResult::Removed(1, 42)));
     let vacant = cache.entry(&rt, &1, None, &mut raises);
     assert!(rt; matches!(vacant, EntryResult::Vacant(_)));
     drop(vacant);

@@ -1,5 +1,5 @@
 //! Entry calls that are refused, and that change weights.
-use quick_cache_guard::EntryResult;
+use quick_cache_guard::{EntryResult, GuardResult};
 use quick_cache_listeners::ByLength;
 use quick_cache_model::{DefaultHashBuilder, Refusal, UnitWeighter};
 use quick_cache_shard::EntryAction;
@@ -45,6 +45,18 @@ fn a_refused_replace_leaves_what_the_callback_wrote(rt: HostRuntime) -> Result<(
     }
     println!(rt; "{refused} requests were refused")?;
     assert!(rt; refused > 0 && cache.is_empty(&rt));
+    Ok(())
+}
+
+#[test]
+fn a_hit_asks_for_no_memory(rt: HostRuntime) -> Result<(), Fail> {
+    let ration = Rationed::new(rt.alloc(), 1000);
+    let cache: RationedCache<'_> = Cache::new(&ration, 100)?;
+    assert_eq!(rt; cache.insert(&rt, 1, 10), Ok(()));
+    ration.allow(0);
+    let loaded: Result<Result<u64, ()>, Refusal> = cache.get_or_insert_with(&rt, &1, || Err(()));
+    let found = cache.get_value_or_guard(&rt, &1, None);
+    assert!(rt; loaded == Ok(Ok(10)) && matches!(found, GuardResult::Value(10)));
     Ok(())
 }
 

@@ -5,7 +5,7 @@ use quick_cache_shard::EntryAction;
 use quick_cache_sync::Cache;
 use std::sync::Wait;
 use std::test::Fail;
-use std::thread::join;
+use std::thread::{join, yield_now};
 use std::time::{Clock, Duration};
 
 type Numbers = Cache<u64, u64>;
@@ -60,13 +60,38 @@ fn a_guard_whose_placeholder_left_is_gone(rt: HostRuntime) -> Result<(), Fail> {
         panic!(rt; "the key is absent");
     };
     cache.clear(&rt);
-    assert_eq!(rt; cache.insert(&rt, 1, 2), Ok(()));
+    // The other key comes to the slot that the placeholder had.
+    assert_eq!(rt; cache.insert(&rt, 2, 22), Ok(()));
     assert!(rt; matches!(guard.insert(5), Err(FillError::Gone(5))));
     assert_eq!(rt;
+        (
+            cache.peek(&rt, &1)?,
+            cache.peek(&rt, &2)?,
+            cache.misses(&rt)
+        ),
+        (None, Some(22), 1)
+    );
+    let GuardResult::Guard(guard) = cache.get_value_or_guard(&rt, &1, None) else {
+        panic!(rt; "the key is absent");
+    };
+    assert_eq!(rt; cache.insert(&rt, 1, 3), Ok(()));
+    // Dropped or filled, a guard whose placeholder is gone leaves what stands under its key.
+    drop(guard);
+    assert_eq!(rt;
         (cache.get(&rt, &1)?, cache.len(&rt), cache.misses(&rt)),
-        (Some(2), 1, 1)
+        (Some(3), 2, 2)
     );
     Ok(())
+}
+
+// Lets others go on until so many hits are counted: each who meets the placeholder counts one.
+fn await_hits<R: Wait>(rt: &R, cache: &Numbers, hits: u64) {
+    for _ in 0..1000000 {
+        if cache.hits(rt) >= hits {
+            return;
+        }
+        yield_now();
+    }
 }
 
 #[test]
@@ -84,13 +109,17 @@ fn one_of_two_threads_loads_what_a_third_gave_up(rt: HostRuntime) -> Result<(), 
     assert_eq!(rt; outcome(rt, cache, 1, Some(2)), 300);
     // One miss for the placeholder, and a hit for each time that it was met.
     assert_eq!(rt; (cache.hits(rt), cache.misses(rt)), (2, 1));
-    let (first, second) = join(
+    let (first, (second, ())) = join(
         rt,
         move || outcome(rt, cache, 1, None),
-        move || {
-            drop(guard);
-            outcome(rt, cache, 1, None)
-        },
+        move || join(
+            rt,
+            move || outcome(rt, cache, 1, None),
+            move || {
+                await_hits(rt, cache, 4);
+                drop(guard);
+            },
+        ),
     );
     assert_eq!(rt; (first.min(second), first.max(second)), (7, 100));
     assert_eq!(rt; cache.get(rt, &1), Ok(Some(7)));

@@ -1,8 +1,8 @@
-pub mod BoolLemmas
-pub mod CasesToRows
-pub mod RowLaws
-pub mod RowsToCases
-pub mod ScheduleLaws
-pub mod WaiterLists
-pub mod WhenRowsApply
+mod BoolLemmas
+mod CasesToRows
+mod RowLaws
+mod RowsToCases
+mod ScheduleLaws
+mod WaiterLists
+mod WhenRowsApply
 pub mod WiderShowing

@@ -1,6 +1,6 @@
 //! A look beside other readers, before the shard is locked for itself.
 ghost use Rattle.std.specs.Prelude.{IfOk, IfSome};
-ghost use Rattle.quick_cache_waiting.specs.Fitting.{AlwaysSteady, ClonesFit, FitsQuery};
+ghost use Rattle.quick_cache_waiting.specs.Fitting.{ClonesFit, FitsQuery};
 
 use quick_cache_guard::LoadingShard;
 use quick_cache_model::{Equivalent, Lifecycle, Refusal};
@@ -25,7 +25,7 @@ pub fn look<
     Q: Equivalent<K>,
 >(rt: &R, shard: &RwLock<S>, query: &Q) -> Result<Option<V>, Refusal>
     // Whatever other threads do, the value fits a key that the query stands for.
-    ensures fits { AlwaysSteady L.steady → ClonesFit L.fits V.is_clone → IfOk result
+    ensures fits { ClonesFit L.fits V.is_clone → IfOk result
         (λ found. IfSome found (λ value. FitsQuery L.fits (Q.equivalent query.now) value)) }
 {
     // A try that succeeds takes fewer steps than the call that may wait.

@@ -1,6 +1,6 @@
 //! The value of a key, which one thread loads while others wait for it.
 ghost use Rattle.std.specs.Prelude.{◌≡◌, true, Ok, Err, IfOk, IfErr};
-ghost use Rattle.quick_cache_waiting.specs.Fitting.{AlwaysSteady, ClonesFit, FitsQuery};
+ghost use Rattle.quick_cache_waiting.specs.Fitting.{ClonesFit, FitsQuery};
 ghost use Rattle.quick_cache_guard.specs.Answers.{IfGuard, IfValue};
 
 use crate::looking::look;
@@ -35,7 +35,7 @@ pub fn get_value_or_guard<
     requires stands { (key : K) → Q.to_key_gives query.now key
         → Q.equivalent query.now key ≡ true }
     // Whatever other threads do, the value fits a key that the query stands for.
-    ensures fits { AlwaysSteady L.steady → ClonesFit L.fits V.is_clone
+    ensures fits { ClonesFit L.fits V.is_clone
         → IfValue result (λ value. FitsQuery L.fits (Q.equivalent query.now) value) }
     // The guard is for a key that the query becomes.
     ensures key { IfGuard result (λ key. Q.to_key_gives query.now key) }
@@ -74,7 +74,7 @@ pub fn get_or_insert_with<
         → (key : K) → Q.to_key_gives query.now key → L.fits key value }
     requires clones { ClonesFit L.fits V.is_clone }
     // Whatever other threads do, the value fits a key that the query stands for.
-    ensures fits { AlwaysSteady L.steady → IfOk result (λ loaded. IfOk loaded
+    ensures fits { IfOk result (λ loaded. IfOk loaded
         (λ value. FitsQuery L.fits (Q.equivalent query.now) value)) }
     ensures error { IfOk result (λ loaded. IfErr loaded (λ error. F.post loader (Err error))) }
 {

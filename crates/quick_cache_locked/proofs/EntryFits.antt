@@ -10,10 +10,11 @@ use Rattle.quick_cache_model.specs.Hooks.{Rules}
 use Rattle.quick_cache_model.specs.Lookups.{looked_up}
 use Rattle.quick_cache_model.specs.Removal.{weighed, reweighed}
 use Rattle.quick_cache_policy.specs.declared.entry.EntryAction.{EntryAction}
+use Rattle.quick_cache_policy.specs.declared.entry.EntryAction.TheVariants.{Remove as remove, ReplaceWithGuard as replace}
 use Rattle.quick_cache_policy.specs.declared.entry.EntryOrPlaceholder.{EntryOrPlaceholder}
 use Rattle.quick_cache_policy.specs.declared.entry.EntryOrPlaceholder.TheVariants.{Kept as kept, Removed as removed, Replaced as replaced, ExistingPlaceholder as existing, NewPlaceholder as new_one}
 use Rattle.quick_cache_policy.specs.Entering.{ActsAsChosen, AnswersEntry, choice_of}
-use Rattle.quick_cache_entries.specs.Acts.{IfAbsent, IfGone, IfKept, LeavesFit, MayTell}
+use Rattle.quick_cache_entries.specs.Acts.{Chooses, DoesAsChosen, IfAbsent, IfGone, IfKept, KeepsReplaced, LeavesFit, MayTell}
 use Rattle.quick_cache_locked.specs.Fitting.{AllFit, FitsIn, FitsQuery}
 use Rattle.quick_cache_locked.proofs.FitLemmas.{rewritten-fits, SameButOrder-fits}
 use Rattle.quick_cache_locked.proofs.FitLoads.{MakesPlaceholder-fits, MeetsPlaceholder-fits}
@@ -148,12 +149,12 @@ module _ {F K V T W : Type 0}
     (rules : Rules K V) (stands_for : K → Bool) (callback : F) (old : CacheState K V)
     (own_ticket : W → ℕ) (given : K → Type 0) (hash : ℕ) where
   -- what is told was told by the callback, of a value that fits
-  pub AnswersEntry-tells : (fits : K → V → Type 0) (steady : Type 0)
+  pub AnswersEntry-tells : (fits : K → V → Type 0)
       (answer : Result (EntryOrPlaceholder K V W T) Refusal) (next : F) (new : CacheState K V)
       → AnswersEntry calls rules stands_for callback old own_ticket given hash answer next new
-      → (steady → AllFit fits old)
-      → IfKept answer (λ told. MayTell calls fits steady stands_for callback told)
-  AnswersEntry-tells fits steady (Ok (kept told)) next new acts fit = record {
+      → AllFit fits old
+      → IfKept answer (λ told. MayTell calls fits stands_for callback told)
+  AnswersEntry-tells fits (Ok (kept told)) next new acts fit = record {
     key = acts.item.key;
     value = acts.item.value;
     next = next;
@@ -161,14 +162,14 @@ module _ {F K V T W : Type 0}
     called = acts.called;
     stands = ActsOnEntry-stands rules stands_for old acts.item acts.left _ _ acts.step.ordered
         acts.step.holds;
-    fits_key = λ is_steady. (ActsOnEntry-item fits rules stands_for old acts.item acts.left _ _
-        acts.step.ordered acts.step.holds (fit is_steady)).1;
+    fits_key = (ActsOnEntry-item fits rules stands_for old acts.item acts.left _ _
+        acts.step.ordered acts.step.holds fit).1;
   }
-  AnswersEntry-tells fits steady (Ok (removed key value)) next new acts fit = tt
-  AnswersEntry-tells fits steady (Ok (replaced placeholder value)) next new acts fit = tt
-  AnswersEntry-tells fits steady (Ok (existing placeholder)) next new meets fit = tt
-  AnswersEntry-tells fits steady (Ok (new_one placeholder)) next new makes fit = tt
-  AnswersEntry-tells fits steady (Err refusal) next new none fit = tt
+  AnswersEntry-tells fits (Ok (removed key value)) next new acts fit = tt
+  AnswersEntry-tells fits (Ok (replaced placeholder value)) next new acts fit = tt
+  AnswersEntry-tells fits (Ok (existing placeholder)) next new meets fit = tt
+  AnswersEntry-tells fits (Ok (new_one placeholder)) next new makes fit = tt
+  AnswersEntry-tells fits (Err refusal) next new none fit = tt
 
   -- where there is no item the callback is not called
   pub AnswersEntry-uncalled : (answer : Result (EntryOrPlaceholder K V W T) Refusal) (next : F)
@@ -181,3 +182,45 @@ module _ {F K V T W : Type 0}
   AnswersEntry-uncalled (Ok (existing placeholder)) next new meets = meets.0
   AnswersEntry-uncalled (Ok (new_one placeholder)) next new makes = makes.0
   AnswersEntry-uncalled (Err refusal) next new none = tt
+
+  module _ (fits : K → V → Type 0) (fit : AllFit fits old) where
+    -- what was done was chosen by the callback, which saw an item that fits
+    was_chosen : (action : EntryAction T) (outcome : EntryOutcome) (gives : Item K V → V → Type 0)
+        (next : F) (new : CacheState K V)
+        → (acts : ActsAsChosen calls rules stands_for callback old action outcome gives next new)
+        → Chooses calls fits stands_for callback action acts.item.key acts.left next
+    was_chosen action outcome gives next new acts = record {
+      value = acts.item.value;
+      called = acts.called;
+      stands = ActsOnEntry-stands rules stands_for old acts.item acts.left _ _ acts.step.ordered
+          acts.step.holds;
+      fits_key = (ActsOnEntry-item fits rules stands_for old acts.item acts.left _ _
+          acts.step.ordered acts.step.holds fit).1;
+    }
+
+    -- what comes of an entry call is what the callback chose
+    pub AnswersEntry-chosen : (answer : Result (EntryOrPlaceholder K V W T) Refusal) (next : F)
+        (new : CacheState K V)
+        → AnswersEntry calls rules stands_for callback old own_ticket given hash answer next new
+        → DoesAsChosen calls fits stands_for callback answer next
+    AnswersEntry-chosen (Ok (kept told)) next new acts =
+        (acts.item.key, acts.left, was_chosen _ _ _ next new acts)
+    AnswersEntry-chosen (Ok (removed key value)) next new acts =
+        subst (λ k. Chooses calls fits stands_for callback remove k value next)
+        (sym acts.given.0)
+        (subst (λ v. Chooses calls fits stands_for callback remove acts.item.key v next)
+        (sym acts.given.1) (was_chosen _ _ _ next new acts))
+    AnswersEntry-chosen (Ok (replaced placeholder value)) next new acts = (
+      acts.item.key,
+      subst (λ v. Chooses calls fits stands_for callback replace acts.item.key v next)
+          (sym acts.given.1) (was_chosen _ _ _ next new acts),
+    )
+    AnswersEntry-chosen (Ok (existing placeholder)) next new meets = meets.0
+    AnswersEntry-chosen (Ok (new_one placeholder)) next new makes = makes.0
+    AnswersEntry-chosen (Err refusal) next new (inl acts) =
+        inr record {
+          key = acts.item.key;
+          left = acts.left;
+          chosen = was_chosen _ _ _ next new acts;
+        }
+    AnswersEntry-chosen (Err refusal) next new (inr none) = inl none.0

@@ -4,17 +4,16 @@ use Rattle.std.proofs.Common.{sym, subst, IfSome}
 use Rattle.std.specs.List.{AllByRecursion}
 use Rattle.quick_cache_model.specs.declared.lifecycle.Lifecycle as lifecycle
 use Rattle.quick_cache_model.specs.CacheState.{CacheState, Item, Place, UpToOrder, with_items}
-use Rattle.quick_cache_model.specs.Capacity.{SetsCapacity, resized}
 use Rattle.quick_cache_model.specs.Finding.{IsItemAt}
-use Rattle.quick_cache_model.specs.Hooks.{Rules, HookCall}
+use Rattle.quick_cache_model.specs.Hooks.{Rules}
 use Rattle.quick_cache_model.specs.Removal.{Removes, cleared}
 use Rattle.quick_cache_model.proofs.EachElement.{all-without}
 use Rattle.quick_cache_shard.specs.Predicates.{RemovesAsked, RetainsAsked, StayAsAnswered}
 use Rattle.quick_cache_shard.specs.Shard.{Shard, hooks_of}
 use Rattle.quick_cache_shard.specs.SetsCapacity.{SetsCapacityTo}
 use Rattle.quick_cache_locked.specs.Fitting.{FitsIn, AllFit, FitsQuery}
-use Rattle.quick_cache_locked.specs.Locked.{StaysFit}
-use Rattle.quick_cache_locked.proofs.FitLemmas.{AllFit-at, AllFit-with, KeepFits, RunsHooks-fits, EvictsToCapacity-fits, SameButOrder-fits}
+use Rattle.quick_cache_fates.proofs.Fitting.{RunsHooks-fits, TellsResidents-fits}
+use Rattle.quick_cache_locked.proofs.FitLemmas.{AllFit-at, AllFit-with, SameButOrder-fits}
 use Rattle.quick_cache_locked.proofs.FitWrites.{IsItemAt-fits}
 
 module _ {K V : Type 0} (fits : K → V → Type 0) where
@@ -92,48 +91,33 @@ module _ {K V : Type 0} (fits : K → V → Type 0) where
     still = StayAsAnswered-fits answers old.still new.still retains.still fit.still;
   }
 
-  pub SetsCapacity-fits : (rules : Rules K V) (capacity : ℕ) (old new : CacheState K V)
-      (calls : List (HookCall K V))
-      → SetsCapacity rules capacity old calls new → KeepFits fits calls → AllFit fits old
-      → AllFit fits new
-  SetsCapacity-fits rules capacity old _ _ (SetsCapacity.sets mid calls evicts) keep fit =
-      let left = EvictsToCapacity-fits fits rules 0 (resized rules capacity old) mid calls evicts
-      keep (record { hot = fit.hot; cold = fit.cold; still = fit.still }) in
-      record { hot = left.hot; cold = left.cold; still = left.still }
-
-module _ {K V We B L S : Type 0} (life : lifecycle.Ghosts L K V S) (old new : Shard K V We B L)
-    (same : new.lifecycle ≡ old.lifecycle) where
-  -- behind a lock, a step that keeps values fitting leaves values that fit
-  pub StaysFit-stepped : {P : CacheState K V → Type 0} → UpToOrder P new.state
-      → ((next : CacheState K V) → P next → AllFit life.fits old.state → AllFit life.fits next)
-      → StaysFit life old → StaysFit life new
-  StaysFit-stepped step keeps fit steady =
-      SameButOrder-fits life.fits step.ordered new.state step.same
-      (keeps step.ordered step.holds (fit (subst (λ l. life.steady l) same steady)))
+  -- a step that keeps values fitting leaves values that fit
+  pub AllFit-stepped : (old new : CacheState K V) {P : CacheState K V → Type 0} → UpToOrder P new
+      → ((next : CacheState K V) → P next → AllFit fits old → AllFit fits next)
+      → AllFit fits old → AllFit fits new
+  AllFit-stepped old new step keeps fit =
+      SameButOrder-fits fits step.ordered new step.same (keeps step.ordered step.holds fit)
 
   -- the same state
-  pub StaysFit-same : new.state ≡ old.state → StaysFit life old → StaysFit life new
-  StaysFit-same unchanged fit steady =
-      subst (λ (state : CacheState K V). AllFit life.fits state) (sym unchanged)
-      (fit (subst (λ l. life.steady l) same steady))
+  pub AllFit-same : (old new : CacheState K V) → new ≡ old → AllFit fits old → AllFit fits new
+  AllFit-same old new unchanged fit =
+      subst (λ (state : CacheState K V). AllFit fits state) (sym unchanged) fit
 
   -- no items
-  pub StaysFit-cleared : new.state ≡ cleared old.state → StaysFit life new
-  StaysFit-cleared clears steady =
-      subst (λ (state : CacheState K V). AllFit life.fits state) (sym clears)
+  pub AllFit-cleared : (old new : CacheState K V) → new ≡ cleared old → AllFit fits new
+  AllFit-cleared old new clears =
+      subst (λ (state : CacheState K V). AllFit fits state) (sym clears)
       (record { hot = tt; cold = tt; still = tt })
 
-  -- and so does a new capacity
-  pub StaysFit-resized : ((l : L) (was : S) (k : K) (v : V) (now : S) (left : V)
-      → life.before_evict_gives l was k v now left → life.fits k v → life.fits k left)
-      → (rules : Rules K V) (capacity : ℕ) (first last : S)
-      → SetsCapacityTo (life.steady old.lifecycle) (hooks_of life old) rules capacity old.state
-      first new.state last
-      → StaysFit life old → StaysFit life new
-  StaysFit-resized keeps rules capacity first last sets fit steady =
-      let was : life.steady old.lifecycle = subst (λ l. life.steady l) same steady in
-      let step = sets.holds.0 was in
-      SameButOrder-fits life.fits step.ordered new.state step.same
-      (SetsCapacity-fits life.fits rules capacity old.state step.ordered sets.calls step.holds
-      (RunsHooks-fits life.fits (hooks_of life old) (keeps old.lifecycle) sets.calls first last
-      sets.runs) (fit was))
+-- behind a lock, a new capacity leaves values that fit
+pub AllFit-resized : {K V We B L S : Type 0} (life : lifecycle.Ghosts L K V S)
+    → ((l : L) (was : S) (k : K) (v : V) (now : S) (left : V)
+    → life.before_evict_gives l was k v now left → life.fits k v → life.fits k left)
+    → (old new : Shard K V We B L) (rules : Rules K V) (capacity : ℕ) (first last : S)
+    → SetsCapacityTo (life.steady old.lifecycle) (hooks_of life old) rules capacity old.state first
+    new.state last
+    → AllFit life.fits old.state → AllFit life.fits new.state
+AllFit-resized life keeps old new rules capacity first last sets fit =
+    TellsResidents-fits life.fits old.state new.state sets.calls
+    (RunsHooks-fits life.fits (hooks_of life old) (keeps old.lifecycle) sets.calls first last
+    sets.runs) sets.holds.2 fit

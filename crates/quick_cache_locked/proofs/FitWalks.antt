@@ -13,7 +13,6 @@ use Rattle.quick_cache_shard.specs.Shard.{Shard, residents}
 use Rattle.quick_cache_shard.specs.Tokens.{TakesItem}
 use Rattle.quick_cache_shard.proofs.PlaceLemmas.{Contains-cons_cases}
 use Rattle.quick_cache_locked.specs.Fitting.{FitsIn, AllFit, ClonesFit}
-use Rattle.quick_cache_locked.specs.Locked.{StaysFit}
 use Rattle.quick_cache_locked.specs.Walks.{ShowsNext, TakesNext}
 use Rattle.quick_cache_locked.proofs.FitLemmas.{AllFit-at, AllFit-with}
 
@@ -73,22 +72,20 @@ module _ {K V We B L S : Type 0} (life : lifecycle.Ghosts L K V S) (after : ℕ)
       (resident-fits life.fits shard.state shows.item shows.there fit))
   ShowsNext-fits shard key_clone is_clone equal same_fits (Err refusal) shows fit keys clones = tt
 
-  module _ (old new : Shard K V We B L) (same : new.lifecycle ≡ old.lifecycle)
-      (fit : StaysFit life old) where
+  module _ (old new : Shard K V We B L) (fit : AllFit life.fits old.state) where
     -- what a step leaves
-    pub StaysFit-taken : (taken : Option (Token × K × V)) → TakesNext old after taken new
+    pub AllFit-taken : (taken : Option (Token × K × V)) → TakesNext old after taken new
         → IfSome taken (λ gone. TakesItem old.state (gone.1, gone.2) new.state)
-        → StaysFit life new
-    StaysFit-taken None next takes =
-        subst (λ (s : Shard K V We B L). StaysFit life s) (sym next.1) fit
-    StaysFit-taken (Some gone) next takes = λ steady.
-        TakesItem-fits life.fits old.state new.state (gone.1, gone.2) takes
-        (fit (subst (λ l. life.steady l) same steady))
+        → AllFit life.fits new.state
+    AllFit-taken None next takes =
+        subst (λ (s : Shard K V We B L). AllFit life.fits s.state) (sym next.1) fit
+    AllFit-taken (Some gone) next takes =
+        TakesItem-fits life.fits old.state new.state (gone.1, gone.2) takes fit
 
     -- what it takes
     pub taken-fits : (taken : Option (Token × K × V))
         → IfSome taken (λ gone. TakesItem old.state (gone.1, gone.2) new.state)
-        → life.steady old.lifecycle → IfSome taken (λ gone. life.fits gone.1 gone.2)
-    taken-fits None takes steady = tt
-    taken-fits (Some gone) takes steady =
-        TakesItem-gives life.fits old.state new.state (gone.1, gone.2) takes (fit steady)
+        → IfSome taken (λ gone. life.fits gone.1 gone.2)
+    taken-fits None takes = tt
+    taken-fits (Some gone) takes =
+        TakesItem-gives life.fits old.state new.state (gone.1, gone.2) takes fit

@@ -1,8 +1,8 @@
-pub mod FitLemmas
-pub mod FitWrites
-pub mod FitRemovals
-pub mod PeekLemmas
-pub mod FitWalks
-pub mod FitLoads
-pub mod TicketLemmas
-pub mod EntryFits
+mod FitLemmas
+mod FitWrites
+mod FitRemovals
+mod PeekLemmas
+mod FitWalks
+mod FitLoads
+mod TicketLemmas
+mod EntryFits

@@ -43,13 +43,13 @@ pub struct LockedShard<
 impl<K: Eq + Hash + Drop, V: Drop, We, B: BuildHasher, L: Lifecycle<K, V>, A: Allocator> Model
     for LockedShard<K, V, We, B, L, A> {
     ghost use Rattle.quick_cache_shard.specs.Shard.{Shard};
-    ghost use Rattle.quick_cache_locked.specs.Locked.{StaysFit};
+    ghost use Rattle.quick_cache_locked.specs.Fitting.{AllFit};
 
     ghost Value = { Shard K V We B L };
 
     ghost view = { λ locked. locked.shard };
 
-    ghost invariant = { λ locked. StaysFit L.Lifecycle locked.shard };
+    ghost invariant = { λ locked. AllFit L.fits locked.shard.state };
 }
 
 impl<

@@ -18,10 +18,14 @@ use Rattle.quick_cache_policy.specs.declared.contents.Contents.{Contents}
 use Rattle.quick_cache_policy.specs.Contents.{state_of}
 use Rattle.quick_cache_policy.specs.Work.{Work, WorksWithin}
 use Rattle.quick_cache_policy.proofs.HotLemmas.{counted_up-zero}
+use Rattle.quick_cache_fates.specs.Fates.{residents}
+use Rattle.quick_cache_fates.specs.Leads.{TellsBeside}
+use Rattle.quick_cache_fates.proofs.Leads.{Leads-same, Leads-changes, Leads-leaves, Leads-beside, Tells-append}
 use Rattle.quick_cache_policy.specs.Advances.{AreEvictions}
 use Rattle.quick_cache_policy.specs.Finding.{TakesSlot, Provides}
 use Rattle.quick_cache_policy.specs.Writing.{is_insert, needs_of_write, IsReplacement, AreAdmittedCalls, AreWriteCalls, Writing, WritingAdmitted, Rejecting, Checks, Wrote}
 use Rattle.quick_cache_policy.proofs.FindLemmas.{Finds-nothing}
+use Rattle.quick_cache_policy.proofs.TellLemmas.{Checks-tells, TakesOutItem-tells}
 
 -- what makes items is an insert
 pub insert-of : (strategy : Strategy) → is_insert strategy ≡ true → strategy ≡ Insert
@@ -44,6 +48,9 @@ module _ {K V : Type 0} (equal_to : K → Bool) (key : K) (strategy : Strategy)
   Rejecting-reports is = (
     RejectsTooHeavy.reports calls new (insert-of strategy is) takes,
     λ value. AreWriteCalls.rejects left calls replaced,
+    Tells-append calls (EvictCold key left ∷ [])
+        (Leads-beside (key, left) (TakesOutItem-tells equal_to old new calls takes))
+        (Leads-leaves (key, left) (Leads-same (residents new))),
   )
 
   -- a replace gives it back
@@ -52,15 +59,15 @@ module _ {K V : Type 0} (equal_to : K → Bool) (key : K) (strategy : Strategy)
   Rejecting-gives_back is = (
     RejectsTooHeavy.gives_back calls new (replace-of strategy is) takes,
     λ value. AreWriteCalls.gives_back left calls replaced,
+    Leads-beside (key, left) (TakesOutItem-tells equal_to old new calls takes),
   )
 
 -- a replace that finds no item gives the pair back, and calls nothing
 pub WritingAdmitted-gives_back : {K V S : Type 0} (hooks : Hooks K V S) (steady : Type 0)
     (rules : Rules K V) (equal_to : K → Bool) (key : K) (value : V) (strategy : Strategy)
     (old : CacheState K V) (first : S) → is_insert strategy ≡ false → HasNoItem equal_to old
-    → Calls hooks (WritingAdmitted steady
-    (λ calls. WritesAdmitted rules equal_to key strategy old value calls (Some (key, value))) old)
-    first first
+    → Calls hooks (WritingAdmitted steady rules equal_to key strategy old value
+    (Some (key, value)) old) first first
 WritingAdmitted-gives_back hooks steady rules equal_to key value strategy old first is none = record {
   calls = [];
   holds = (
@@ -68,6 +75,7 @@ WritingAdmitted-gives_back hooks steady rules equal_to key value strategy old fi
         (Some (key, value))) old
         (WritesAdmitted.gives_back (replace-of strategy is) none),
     AreAdmittedCalls.writes [] [] IsReplacement.none AreEvictions.none,
+    Leads-same ((key, value) ∷ residents old),
   );
   runs = refl;
 }
@@ -78,11 +86,8 @@ module _ {K V : Type 0} (steady : Type 0) (rules : Rules K V) (equal_to : K → 
   -- a pair that was admitted is written
   pub Writing-admitted : (admitted : _) (first rest : List (HookCall K V))
       → Checks steady rules old.hot_target key value (code_admitted admitted) first
-      → WritingAdmitted steady
-      (λ calls. WritesAdmitted rules equal_to key strategy old admitted.value calls answer) new rest
-      → Writing steady key value
-      (λ calls now. Writes rules equal_to key strategy old value calls answer now) new
-      (first ++ rest)
+      → WritingAdmitted steady rules equal_to key strategy old admitted.value answer new rest
+      → Writing steady rules equal_to key strategy old value answer new (first ++ rest)
   Writing-admitted admitted first rest checks writes = (
     λ s. UpToOrder-map
         (WritesAdmitted rules equal_to key strategy old admitted.value rest answer)
@@ -90,24 +95,27 @@ module _ {K V : Type 0} (steady : Type 0) (rules : Rules K V) (equal_to : K → 
         (λ now step. Writes.admitted first rest admitted.value answer now (checks.0 s) step)
         (writes.0 s),
     elim checks.2 [
-      | inl nothing ↦ subst (λ l. AreWriteCalls key value (l ++ rest)) (sym nothing)
+      | inl nothing ↦ subst (λ l. AreWriteCalls key value (l ++ rest)) (sym nothing.0)
           (AreWriteCalls.admits rest writes.1)
       | inr once ↦ subst (λ l. AreWriteCalls key value (l ++ rest)) (sym once)
           (AreWriteCalls.lightens admitted.value rest writes.1)
     ],
+    Tells-append first rest
+        (Checks-tells steady rules old.hot_target key value admitted first (residents old) checks)
+        writes.2,
   )
 
   -- and one that is too heavy is turned away
   pub Writing-too_heavy : (left : V) (first rest : List (HookCall K V))
       → Checks steady rules old.hot_target key value (code_too_heavy left) first
       → Rejecting equal_to key strategy old left answer new rest
-      → Writing steady key value
-      (λ calls now. Writes rules equal_to key strategy old value calls answer now) new
-      (first ++ rest)
+      → Writing steady rules equal_to key strategy old value answer new (first ++ rest)
   Writing-too_heavy left first rest checks rejects = (
     λ s. UpToOrder-exact (Writes rules equal_to key strategy old value (first ++ rest) answer) new
         (Writes.too_heavy first rest left answer new (checks.0 s) rejects.0),
     subst (λ l. AreWriteCalls key value (l ++ rest)) (sym checks.1) (rejects.1 value),
+    subst (λ l. TellsBeside key value old (l ++ rest) answer new) (sym checks.1)
+        (Leads-changes key value left rejects.2),
   )
 
 module _ {K V : Type 0} (stands_for : K → Bool) (hash : ℕ) (state : CacheState K V)
@@ -190,9 +198,8 @@ module _ {K V P W A T S : Type 0} (steady : Type 0) (hooks : Hooks K V S) (rules
   pub Wrote-provided : Finds (equal key) (rules.hash key) old.lists found
       → Provides found strategy (entry_count old.lists) ready.lists.room None
       → ready ≡ record old { lists = record old.lists { room = ready.lists.room } }
-      → Calls hooks (Writing steady key value
-      (λ calls now. Writes rules (equal key) key strategy (state_of ticket_of ready) value calls
-      answer now) new) first last
+      → Calls hooks (Writing steady rules (equal key) key strategy (state_of ticket_of ready) value
+      answer new) first last
       → Wrote steady hooks rules equal strategy (state_of ticket_of old) first key value answer new
       last
   Wrote-provided finds provides same writes = record {
@@ -201,7 +208,7 @@ module _ {K V P W A T S : Type 0} (steady : Type 0) (hooks : Hooks K V S) (rules
         strategy
         (subst (λ (n : ℕ). Provides found strategy n ready.lists.room None)
         (entry_count-taken ticket_of old) provides);
-    step = subst (λ (state : CacheState K V). Calls hooks (Writing steady key value
-        (λ calls now. Writes rules (equal key) key strategy state value calls answer now) new)
-        first last) (ap (state_of ticket_of) same) writes;
+    step = subst (λ (state : CacheState K V). Calls hooks
+        (Writing steady rules (equal key) key strategy state value answer new) first last)
+        (ap (state_of ticket_of) same) writes;
   }

@@ -1,17 +1,23 @@
 -- A cold advance: what it comes to after the search.
-use Rattle.std.proofs.Common.{◌≡◌, ◌-◌, Bool, true, List, [], ◌∷◌, ◌++◌, sym, ap, subst, ◌∙◌}
+use Rattle.std.proofs.Common.{◌≡◌, ◌-◌, Bool, true, List, [], ◌∷◌, ◌++◌, IsPermutation, sym, ap, subst, ◌∙◌}
 use Rattle.std.specs.List.{AllByRecursion}
+use Rattle.std.proofs.lemmas.List.Sorted.{IsPermutation-trans}
 use Rattle.quick_cache_model.specs.declared.queue.Queue.TheVariants.{Hot, Cold}
-use Rattle.quick_cache_model.specs.CacheState.{CacheState, Item, default_mark_cut}
+use Rattle.quick_cache_model.specs.CacheState.{CacheState, Item, InCold, default_mark_cut}
 use Rattle.quick_cache_model.specs.Eviction.{AdvancesHot, AdvancesCold, EvictsToTarget, EvictsVictim}
 use Rattle.quick_cache_model.specs.Eviction.{IsPassed, promoted}
 use Rattle.quick_cache_model.specs.Touches.{RaisesMarks}
 use Rattle.quick_cache_model.specs.Hooks.{Rules, HookCall}
 use Rattle.quick_cache_model.proofs.EachElement.{all-weaker}
 use Rattle.quick_cache_model.proofs.OrderLaws.{UpToOrder-map}
+use Rattle.quick_cache_fates.specs.Fates.{residents}
+use Rattle.quick_cache_fates.proofs.Leads.{Leads-from}
+use Rattle.quick_cache_fates.proofs.Residents.{residents-reordered}
+use Rattle.quick_cache_policy.specs.declared.cold.Search.{Search}
 use Rattle.quick_cache_policy.specs.declared.cold.Search.TheVariants.{Marked, Victim, AllPassed}
 use Rattle.quick_cache_policy.specs.Advances.{IsPassedBy, Searches, Evicting, AreEvictions}
 use Rattle.quick_cache_policy.specs.Advances.{FirstIsPromoted, FirstIsEvicted}
+use Rattle.quick_cache_policy.proofs.TellLemmas.{FirstIsEvicted-tells, FirstIsPromoted-order, Searches-order}
 
 module _ {K V : Type 0} (rules : Rules K V) (steady : Type 0) (old : CacheState K V)
     (cut : old.mark_cut ≡ default_mark_cut) (cold : List (Item K V)) where
@@ -22,12 +28,20 @@ module _ {K V : Type 0} (rules : Rules K V) (steady : Type 0) (old : CacheState 
   passed_by is = all-weaker (IsPassedBy steady rules.pinned) (IsPassed rules)
       (λ item passed. (passed.unmarked, passed.pinned_there is))
 
+  -- a search changes no pair
+  searched-order : (answer : Search)
+      → Searches steady rules.pinned rules.may_count old.cold answer cold
+      → IsPermutation (residents old) (residents (record old { cold = cold }))
+  searched-order answer finds =
+      residents-reordered InCold old.cold cold old
+      (Searches-order steady rules.pinned rules.may_count old.cold cold answer finds)
+
   -- a marked item was found, and promoted, and the hot ring brought to its target
   pub AdvancesCold-promoted : (mid new : CacheState K V) (calls : List (HookCall K V))
       → Searches steady rules.pinned rules.may_count old.cold Marked cold
       → FirstIsPromoted (record old { cold = cold }) mid
-      → Evicting steady (EvictsToTarget rules mid) new calls
-      → Evicting steady (AdvancesCold rules old true) new calls
+      → Evicting steady (EvictsToTarget rules) mid new calls
+      → Evicting steady (λ state. AdvancesCold rules state true) old new calls
   AdvancesCold-promoted mid new calls finds first evicts =
       let e = finds.ends in
       let both : e.item ∷ e.after ++ e.before ≡ first.item ∷ first.rest =
@@ -52,13 +66,17 @@ module _ {K V : Type 0} (rules : Rules K V) (steady : Type 0) (old : CacheState 
             (subst (λ (s : CacheState K V). EvictsToTarget rules s calls state) is goes))
             (evicts.0 steadily),
         evicts.1,
+        Leads-from (residents old) (residents mid)
+            (IsPermutation-trans (residents old) (residents (record old { cold = cold }))
+            (residents mid) (searched-order Marked finds)
+            (FirstIsPromoted-order (record old { cold = cold }) mid first)) evicts.2,
       )
 
   -- an item was found that is neither marked nor pinned, and it left
   pub AdvancesCold-evicted : (new : CacheState K V) (calls : List (HookCall K V))
       → Searches steady rules.pinned rules.may_count old.cold Victim cold
       → FirstIsEvicted rules Cold (record old { cold = cold }) calls new × AreEvictions calls
-      → Evicting steady (AdvancesCold rules old true) new calls
+      → Evicting steady (λ state. AdvancesCold rules state true) old new calls
   AdvancesCold-evicted new calls finds evicts =
       let e = finds.ends in
       let first = evicts.0 in
@@ -78,13 +96,17 @@ module _ {K V : Type 0} (rules : Rules K V) (steady : Type 0) (old : CacheState 
             calls state) same goes)))
             first.evicts,
         evicts.1,
+        Leads-from (residents old) (residents (record old { cold = cold }))
+            (searched-order Victim finds)
+            (FirstIsEvicted-tells rules Cold (record old { cold = cold }) new calls first),
       )
 
   -- all were passed by, and a hot advance was made
   pub AdvancesCold-passed : (answer : Bool) (new : CacheState K V) (calls : List (HookCall K V))
       → Searches steady rules.pinned rules.may_count old.cold AllPassed cold
-      → Evicting steady (AdvancesHot rules (record old { cold = cold }) answer) new calls
-      → Evicting steady (AdvancesCold rules old answer) new calls
+      → Evicting steady (λ state. AdvancesHot rules state answer) (record old { cold = cold }) new
+      calls
+      → Evicting steady (λ state. AdvancesCold rules state answer) old new calls
   AdvancesCold-passed answer new calls finds advances = (
     λ steadily. UpToOrder-map (AdvancesHot rules (record old { cold = cold }) answer calls)
         (AdvancesCold rules old answer calls) new
@@ -95,4 +117,6 @@ module _ {K V : Type 0} (rules : Rules K V) (steady : Type 0) (old : CacheState 
         state) finds.ends.1 goes))
         (advances.0 steadily),
     advances.1,
+    Leads-from (residents old) (residents (record old { cold = cold }))
+        (searched-order AllPassed finds) advances.2,
   )

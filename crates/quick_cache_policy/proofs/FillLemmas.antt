@@ -1,9 +1,10 @@
 -- A placeholder that leaves, and the pair that comes in its place.
-use Rattle.std.proofs.Common.{◌≡◌, ◌≢◌, ℕ, ◌+◌, ◌≤◌, ◌<◌, ◌==◌, if◌then◌else◌, Bool, true, false, List, [], ◌∷◌, ◌++◌, length, None, refl, sym, ap, subst, ◌∙◌, inl, inr, arith}
+use Rattle.std.proofs.Common.{◌≡◌, ◌≢◌, ℕ, ◌+◌, ◌≤◌, ◌<◌, ◌==◌, if◌then◌else◌, Bool, true, false, List, [], ◌∷◌, ◌++◌, length, None, IsPermutation, refl, sym, ap, subst, ◌∙◌, inl, inr, arith}
 use Rattle.std.specs.Cmp.{IsEquivalence}
 use Rattle.std.specs.List.{AllByRecursion}
 use Rattle.std.proofs.lemmas.Bool.{eqb-true, eqb-false, eq-eqb}
 use Rattle.std.proofs.lemmas.List.{map-append}
+use Rattle.std.proofs.lemmas.List.Sorted.{IsPermutation-sym}
 use Rattle.quick_cache_model.specs.CacheState.{CacheState, Item, LoadingEntry, SameButOrder, UpToOrder, keys_by}
 use Rattle.quick_cache_model.specs.CacheState.{entered as model_entered}
 use Rattle.quick_cache_model.specs.declared.queue.Queue.{Queue}
@@ -16,6 +17,10 @@ use Rattle.quick_cache_model.proofs.EachElement.{all-middle}
 use Rattle.quick_cache_model.proofs.OrderLaws.{UpToOrder-map, UpToOrder-exact}
 use Rattle.quick_cache_model.proofs.Valid.Edits.{entered-valid, keys_by-unloaded, keys_by-taken}
 use Rattle.quick_cache_model.proofs.Valid.Orders.{SameButOrder-valid}
+use Rattle.quick_cache_fates.specs.Fates.{residents}
+use Rattle.quick_cache_fates.specs.Leads.{Tells, TellsResidents}
+use Rattle.quick_cache_fates.proofs.Leads.{Leads-same, Leads-from, Leads-changes, Leads-leaves, Tells-append}
+use Rattle.quick_cache_fates.proofs.Residents.{residents-entered, residents-ordered}
 use Rattle.quick_cache_slots.specs.declared.entry.Awaited.{Awaited}
 use Rattle.quick_cache_slots.specs.declared.entry.Entry.{Entry}
 use Rattle.quick_cache_slots.specs.declared.entry.Entry.TheVariants.{Loading as loading_variant}
@@ -34,6 +39,7 @@ use Rattle.quick_cache_policy.proofs.EnterLemmas.{state_with, entered-state, Are
 use Rattle.quick_cache_policy.proofs.FindLemmas.{each-image}
 use Rattle.quick_cache_policy.proofs.LookupLemmas.{without_loading, loading-sound}
 use Rattle.quick_cache_policy.proofs.OverwriteLemmas.{evicts-from}
+use Rattle.quick_cache_policy.proofs.TellLemmas.{Checks-tells}
 use Rattle.quick_cache_policy.proofs.SoundLemmas.{state_of-reordered, AreHashed-reordered}
 
 -- what has the token of a placeholder is that placeholder
@@ -320,6 +326,21 @@ module _ {K V P W A X : Type 0} (ticket_of : P → ℕ) (contents : Contents K V
       put-stays ticket_of without token waiting.hash (filled queue mark weight value waiting.key)
       new filled-puts rules weight none pair is
 
+  -- what is told from there is told from where the definition puts the pair
+  pub filled-tells : (pair : Item K V) → filled queue mark weight value waiting.key ≡ pair
+      → (last : CacheState K V) (calls : List (HookCall K V))
+      → TellsResidents (state_with ticket_of contents new) calls last
+      → TellsResidents (model_entered pair (state_of ticket_of without)) calls last
+  filled-tells pair is last calls tells =
+      Leads-from (residents (model_entered pair (state_of ticket_of without)))
+      (residents (state_with ticket_of contents new))
+      (residents-ordered (model_entered pair (state_of ticket_of without))
+      (state_with ticket_of contents new)
+      (subst (λ (i : Item K V). SameButOrder (model_entered i (state_of ticket_of without))
+      (state_with ticket_of contents new)) is
+      (put-same ticket_of without token waiting.hash (filled queue mark weight value waiting.key)
+      new filled-puts))) tells
+
 -- ---- the fill
 
 module _ {K V : Type 0} (rules : Rules K V) (weight : ℕ) (mid : CacheState K V) where
@@ -339,10 +360,10 @@ module _ {K V : Type 0} (steady : Type 0) (ticket : ℕ) (old : CacheState K V) 
   -- a pair that was admitted
   pub Fills-admitted : (new : CacheState K V) (weighed : _) (first rest : List (HookCall K V))
       → Checks steady rules old.hot_target entry.key value (code_admitted weighed) first
-      → Evicting steady (MakesRoomFor 0 mid rules weighed.weight
+      → Evicting steady (MakesRoomFor 0 mid rules weighed.weight)
       (model_entered (new_item rules entry.key weighed.value
       (queue_for rules mid entry.key weighed.value entry.queue)
-      (if marked then first_mark old.mark_cut else 0)) mid))
+      (if marked then first_mark old.mark_cut else 0)) mid)
       new rest
       → Fills steady ticket old rules marked value new (first ++ rest)
   Fills-admitted new weighed first rest checks makes = record {
@@ -351,11 +372,21 @@ module _ {K V : Type 0} (steady : Type 0) (ticket : ℕ) (old : CacheState K V) 
     after = after;
     there = there;
     order = elim checks.2 [
-      | inl nothing ↦ subst (λ l. AreFillCalls entry.key value (l ++ rest)) (sym nothing)
+      | inl nothing ↦ subst (λ l. AreFillCalls entry.key value (l ++ rest)) (sym nothing.0)
           (AreFillCalls.admits rest makes.1)
       | inr once ↦ subst (λ l. AreFillCalls entry.key value (l ++ rest)) (sym once)
           (AreFillCalls.lightens weighed.value rest makes.1)
     ];
+    tells = Tells-append first rest
+        (Checks-tells steady rules old.hot_target entry.key value weighed first (residents old)
+        checks)
+        (Leads-from ((entry.key, weighed.value) ∷ residents old) (residents (entered_in mid))
+        (subst (λ ps. IsPermutation ((entry.key, weighed.value) ∷ ps) (residents (entered_in mid)))
+        (ap residents is)
+        (IsPermutation-sym _ _ (residents-entered (new_item rules entry.key weighed.value
+        (queue_for rules mid entry.key weighed.value entry.queue)
+        (if marked then first_mark old.mark_cut else 0)) mid)))
+        makes.2);
     step = λ s. UpToOrder-map _ _ new
         (λ now room. FillsPlaceholder.fills before entry after weighed.value first rest now there
         (checks.0 s) room)
@@ -384,6 +415,12 @@ module _ {K V : Type 0} (steady : Type 0) (ticket : ℕ) (old : CacheState K V) 
     there = there;
     order = subst (λ l. AreFillCalls entry.key value (l ++ EvictCold entry.key heavy ∷ []))
         (sym checks.1) (AreFillCalls.turns_away heavy);
+    tells = subst (λ (ps : List (K × V)). Tells ((entry.key, value) ∷ residents old)
+        (first ++ EvictCold entry.key heavy ∷ []) ps) (sym (ap residents is))
+        (subst (λ l. Tells ((entry.key, value) ∷ residents old)
+        (l ++ EvictCold entry.key heavy ∷ []) (residents old)) (sym checks.1)
+        (Leads-changes entry.key value heavy
+        (Leads-leaves (entry.key, heavy) (Leads-same (residents old)))));
     step = λ s. UpToOrder-exact _ _
         (subst (λ (m : CacheState K V). FillsPlaceholder ticket old rules marked value
         (first ++ EvictCold entry.key heavy ∷ []) None m) (sym is)

@@ -1,6 +1,6 @@
 -- A hot advance over the contents of a cache: what its visits and its eviction come to.
 use Rattle.std.proofs.Common.{◌≡◌, ◌≢◌, ℕ, ◌+◌, ◌*◌, ◌≤◌, Bool, true, false, [], length}
-use Rattle.std.proofs.Common.{refl, sym, ap, subst, arith}
+use Rattle.std.proofs.Common.{IsPermutation, refl, sym, ap, subst, arith}
 use Rattle.std.proofs.lemmas.List.{length-map}
 use Rattle.quick_cache_model.specs.declared.queue.Queue.TheVariants.{Hot, Cold}
 use Rattle.quick_cache_model.specs.CacheState.{CacheState, InHot, default_mark_cut, with_items}
@@ -8,12 +8,17 @@ use Rattle.quick_cache_model.specs.Eviction.{AdvancesHot, EvictsVictim}
 use Rattle.quick_cache_model.specs.Hooks.{Rules, Hooks, Calls}
 use Rattle.quick_cache_model.specs.Touches.{counted_up}
 use Rattle.quick_cache_model.proofs.OrderLaws.{UpToOrder-exact, UpToOrder-map}
+use Rattle.quick_cache_fates.specs.Fates.{residents}
+use Rattle.quick_cache_fates.specs.Leads.{Leads}
+use Rattle.quick_cache_fates.proofs.Leads.{Leads-from}
+use Rattle.quick_cache_fates.proofs.Residents.{residents-reordered}
 use Rattle.quick_cache_lists.specs.Views.{items_of}
 use Rattle.quick_cache_policy.specs.declared.contents.Contents.{Contents}
 use Rattle.quick_cache_policy.specs.Advances.{AreEvictions, Evicting, FirstIsEvicted}
 use Rattle.quick_cache_policy.specs.Contents.{state_of}
 use Rattle.quick_cache_policy.specs.HotRounds.{VisitsHot, SeekEnds}
 use Rattle.quick_cache_policy.specs.Work.{Work, PaysFor}
+use Rattle.quick_cache_policy.proofs.TellLemmas.{FirstIsEvicted-tells, SeekEnds-order}
 use Rattle.quick_cache_policy.proofs.AdvanceLemmas.{AdvancesHot-met, AdvancesHot-none, MeetsVictim-within, GivesUp-within}
 
 -- the queues are two
@@ -49,10 +54,21 @@ module _ {K V P W A T S : Type 0} (ticket_of : P → ℕ) (steady : Type 0) (rul
       ≡ record (state_of ticket_of old) { hot = items_of now.lists.hot }
   state_of-visited = ap (λ (c : Contents K V W A T P). state_of ticket_of c) same
 
+  -- the visits change no pair
+  visited-order : IsPermutation (residents (state_of ticket_of old))
+      (residents (state_of ticket_of now))
+  visited-order =
+      subst (λ (s : CacheState K V). IsPermutation (residents (state_of ticket_of old))
+      (residents s)) (sym state_of-visited)
+      (residents-reordered InHot (items_of old.lists.hot) (items_of now.lists.hot)
+      (state_of ticket_of old)
+      (SeekEnds-order steady rules.pinned rules.may_count met (items_of old.lists.hot)
+      (items_of now.lists.hot) seeks.visits seeks.ends))
+
   -- where there was no victim, the visits are the advance
   pub AdvancesHot-gives_up : met ≡ false → (first : S)
-      → Calls hooks (Evicting steady (AdvancesHot rules (state_of ticket_of old) false)
-      (state_of ticket_of now)) first first
+      → Calls hooks (Evicting steady (λ state. AdvancesHot rules state false)
+      (state_of ticket_of old) (state_of ticket_of now)) first first
   AdvancesHot-gives_up none first =
       let ends = subst (λ b. SeekEnds steady rules.pinned rules.may_count b
       (items_of old.lists.hot) (items_of now.lists.hot) seeks.visits) none seeks.ends in
@@ -66,6 +82,8 @@ module _ {K V P W A T S : Type 0} (ticket_of : P → ℕ) (steady : Type 0) (rul
               (AdvancesHot-none rules (state_of ticket_of old) ends.mid (items_of now.lists.hot)
               seeks.visits ends.raises (ends.holds.none_unpinned is_steady))),
           AreEvictions.none,
+          Leads.rests (residents (state_of ticket_of old)) (residents (state_of ticket_of now))
+              visited-order,
         );
         runs = refl;
       }
@@ -74,8 +92,8 @@ module _ {K V P W A T S : Type 0} (ticket_of : P → ℕ) (steady : Type 0) (rul
   pub AdvancesHot-evicts : met ≡ true → (new : Contents K V W A T P) (first last : S)
       → Calls hooks (λ calls. FirstIsEvicted rules Hot (state_of ticket_of now) calls
       (state_of ticket_of new) × AreEvictions calls) first last
-      → Calls hooks (Evicting steady (AdvancesHot rules (state_of ticket_of old) true)
-      (state_of ticket_of new)) first last
+      → Calls hooks (Evicting steady (λ state. AdvancesHot rules state true)
+      (state_of ticket_of old) (state_of ticket_of new)) first last
   AdvancesHot-evicts there new first last evicts =
       let ends = subst (λ b. SeekEnds steady rules.pinned rules.may_count b
       (items_of old.lists.hot) (items_of now.lists.hot) seeks.visits) there seeks.ends in
@@ -99,6 +117,10 @@ module _ {K V P W A T S : Type 0} (ticket_of : P → ℕ) (steady : Type 0) (rul
               (subst (λ s. EvictsVictim rules Hot s gone.item evicts.calls state) left goes))
               gone.evicts,
           evicts.holds.1,
+          Leads-from (residents (state_of ticket_of old)) (residents (state_of ticket_of now))
+              visited-order
+              (FirstIsEvicted-tells rules Hot (state_of ticket_of now) (state_of ticket_of new)
+              evicts.calls gone),
         );
         runs = evicts.runs;
       }

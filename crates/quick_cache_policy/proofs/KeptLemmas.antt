@@ -1,8 +1,9 @@
--- What a hot advance keeps: each item in its ring, how many there are, their keys and weights.
-use Rattle.std.proofs.Common.{◌≡◌, ℕ, ◌+◌, ◌≤◌, Bool, true, false, cond, List, [], ◌∷◌, length, map, sum_by}
+-- What a hot advance keeps: each item in its ring, how many there are, their pairs and weights.
+use Rattle.std.proofs.Common.{◌≡◌, ℕ, ◌+◌, ◌≤◌, Bool, true, false, cond, List, [], ◌∷◌, ◌++◌, length, map, sum_by, IsPermutation}
 use Rattle.std.proofs.Common.{refl, sym, ap, subst, ◌∙◌, arith, length-append}
 use Rattle.std.specs.List.{AllByRecursion}
-use Rattle.std.proofs.lemmas.List.{length-map}
+use Rattle.std.proofs.lemmas.List.{length-map, map-append}
+use Rattle.std.proofs.lemmas.List.Sorted.{IsPermutation-refl, IsPermutation-trans, IsPermutation-append_comm}
 use Rattle.std.proofs.lemmas.List.Sums.{sum_by-append, sum_by-cons}
 use Rattle.quick_cache_model.specs.declared.queue.Queue.{Queue}
 use Rattle.quick_cache_model.specs.CacheState.{Item, IsRingItem, weight_of}
@@ -10,7 +11,9 @@ use Rattle.quick_cache_model.specs.Touches.{with_touches, RaisesMarks}
 use Rattle.quick_cache_model.specs.Eviction.{lowered}
 use Rattle.quick_cache_model.proofs.TouchLaws.{with_touches-key, with_touches-weight}
 use Rattle.quick_cache_model.proofs.TouchLaws.{with_touches-queue, with_touches-mark}
+use Rattle.quick_cache_model.specs.Removal.{pair_of}
 use Rattle.quick_cache_model.proofs.KeyCounts.{keys}
+use Rattle.quick_cache_fates.proofs.Residents.{pairs-raised, pairs-lowered}
 use Rattle.quick_cache_policy.specs.Rounds.{HaveAtMost, MayRaise, HasVictimFirst, IsLowered, Going}
 use Rattle.quick_cache_policy.specs.Rounds.{Stopped, Passed, AfterTouches, EndsAllPinned}
 use Rattle.quick_cache_policy.specs.Rounds.{EndsSomeUnpinned, EndsAtVictim, MeetsVictim, GivesUp}
@@ -265,6 +268,45 @@ module _ {K V : Type 0} where
       Going-sum weight_alone weight_alone-mark cut (weight_alone-touched cut) steady pinned
       takes_touches
 
+-- The pairs: marks change none, and a turn is another order.
+module _ {K V : Type 0} where
+  -- touches that may be taken in
+  MayRaise-pairs : (takes_touches : Bool) (cut : ℕ) (may_count : ℕ → Type 0)
+      (old new : List (Item K V)) → MayRaise takes_touches cut may_count old new
+      → map pair_of old ≡ map pair_of new
+  MayRaise-pairs true cut may_count old new raises = pairs-raised cut may_count old new raises
+  MayRaise-pairs false cut may_count old new raises = ap (map pair_of) (sym raises)
+
+  -- the same pairs are the same in some order
+  same-order : (old new : List (Item K V)) → map pair_of old ≡ map pair_of new
+      → IsPermutation (map pair_of old) (map pair_of new)
+  same-order old new same = subst (λ ps. IsPermutation (map pair_of old) ps) same
+      (IsPermutation-refl (map pair_of old))
+
+  -- whole rounds
+  IsLowered-pairs : (old new : List (Item K V)) → IsLowered old new
+      → map pair_of old ≡ map pair_of new
+  IsLowered-pairs old new lower =
+      sym (ap (map pair_of) lower.lowers ∙ pairs-lowered lower.rounds old)
+
+  -- rounds that stopped at a victim
+  HasVictimFirst-pairs : (old new : List (Item K V)) → HasVictimFirst old new
+      → IsPermutation (map pair_of old) (map pair_of new)
+  HasVictimFirst-pairs old new first =
+      let front = map pair_of first.before in
+      let back = map pair_of (first.item ∷ first.after) in
+      let was : map pair_of old ≡ front ++ back =
+      ap (map pair_of) first.split ∙ map-append pair_of first.before (first.item ∷ first.after) in
+      let is : map pair_of new ≡ back ++ front =
+      ap (map pair_of) first.turned
+      ∙ map-append pair_of (map (lowered first.rounds) (first.item ∷ first.after))
+      (map (lowered (first.rounds + 1)) first.before)
+      ∙ (λ i. pairs-lowered first.rounds (first.item ∷ first.after) i
+      ++ pairs-lowered (first.rounds + 1) first.before i) in
+      subst (λ ps. IsPermutation ps (map pair_of new)) (sym was)
+      (subst (λ ps. IsPermutation (front ++ back) ps) (sym is)
+      (IsPermutation-append_comm front back))
+
 -- How many items there are.
 module _ {K V : Type 0} where
   -- after whole rounds
@@ -293,6 +335,7 @@ module _ {K V : Type 0} (cut : ℕ) where
   MayRaise-keeps takes_touches may_count old new raises = record {
     ring = λ queue. MayRaise-ring cut queue takes_touches may_count old new raises;
     same_keys = λ test. MayRaise-keys test takes_touches cut may_count old new raises;
+    same_pairs = same-order old new (MayRaise-pairs takes_touches cut may_count old new raises);
     same_weight = MayRaise-weight takes_touches cut may_count old new raises;
     same_length = MayRaise-length cut may_count takes_touches old new raises;
   }
@@ -302,6 +345,7 @@ module _ {K V : Type 0} (cut : ℕ) where
   IsLowered-keeps old new lower = record {
     ring = λ queue. IsLowered-ring cut queue old new lower;
     same_keys = λ test. IsLowered-keys test old new lower;
+    same_pairs = same-order old new (IsLowered-pairs old new lower);
     same_weight = IsLowered-weight old new lower;
     same_length = IsLowered-length old new lower;
   }
@@ -312,6 +356,7 @@ module _ {K V : Type 0} (cut : ℕ) where
   HasVictimFirst-keeps old new first = record {
     ring = λ queue. HasVictimFirst-ring cut queue old new first;
     same_keys = λ test. HasVictimFirst-keys test old new first;
+    same_pairs = HasVictimFirst-pairs old new first;
     same_weight = HasVictimFirst-weight old new first;
     same_length = HasVictimFirst-length old new first;
   }
@@ -322,6 +367,8 @@ module _ {K V : Type 0} (cut : ℕ) where
   KeepsItems-trans old mid new a b = record {
     ring = λ queue ring. b.ring queue (a.ring queue ring);
     same_keys = λ test. b.same_keys test ∙ a.same_keys test;
+    same_pairs = IsPermutation-trans (map pair_of old) (map pair_of mid) (map pair_of new)
+        a.same_pairs b.same_pairs;
     same_weight = b.same_weight ∙ a.same_weight;
     same_length = b.same_length ∙ a.same_length;
   }

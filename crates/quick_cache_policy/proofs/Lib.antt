@@ -1,42 +1,43 @@
-pub mod MappedLemmas
-pub mod MarkLemmas
-pub mod SeenLemmas
-pub mod RoundLemmas
-pub mod AdvanceLemmas
-pub mod KeptLemmas
-pub mod ItemLemmas
+mod MappedLemmas
+mod MarkLemmas
+mod SeenLemmas
+mod RoundLemmas
+mod AdvanceLemmas
+mod KeptLemmas
+mod ItemLemmas
 pub mod PlaceLemmas
 pub mod WrittenPlaces
-pub mod HotLemmas
-pub mod HotRoundLemmas
-pub mod HotSeekLemmas
-pub mod HotAdvanceLemmas
-pub mod VictimLemmas
-pub mod SoundLemmas
-pub mod KeyLemmas
+mod HotLemmas
+mod HotRoundLemmas
+mod HotSeekLemmas
+mod HotAdvanceLemmas
+mod VictimLemmas
+mod SoundLemmas
+mod KeyLemmas
 pub mod FindLemmas
-pub mod AdmissionLemmas
+mod AdmissionLemmas
 pub mod AnswerLemmas
-pub mod EnterLemmas
+mod EnterLemmas
 pub mod LookupLemmas
 pub mod TokenLemmas
 pub mod RetainLemmas
-pub mod ColdSoundLemmas
-pub mod ColdLemmas
-pub mod FirstLemmas
-pub mod WorkLemmas
-pub mod LoopLemmas
-pub mod ColdAdvances
-pub mod OverwriteLemmas
-pub mod BoundLemmas
-pub mod CopyLemmas
-pub mod RewriteLemmas
-pub mod NewLemmas
+mod ColdSoundLemmas
+mod ColdLemmas
+mod FirstLemmas
+mod WorkLemmas
+mod LoopLemmas
+mod ColdAdvances
+mod OverwriteLemmas
+mod BoundLemmas
+mod CopyLemmas
+mod RewriteLemmas
+mod NewLemmas
 pub mod ReferenceLemmas
-pub mod MakeLemmas
-pub mod FillLemmas
-pub mod GhostLemmas
-pub mod CapacityLemmas
-pub mod EntryLemmas
-pub mod WrittenLemmas
-pub mod KeptPlaces
+mod MakeLemmas
+mod FillLemmas
+mod GhostLemmas
+mod CapacityLemmas
+mod EntryLemmas
+mod WrittenLemmas
+mod KeptPlaces
+mod TellLemmas

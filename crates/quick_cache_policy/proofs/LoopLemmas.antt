@@ -5,6 +5,8 @@ use Rattle.std.proofs.lemmas.List.{append-nil}
 use Rattle.quick_cache_model.specs.CacheState.{CacheState, UpToOrder}
 use Rattle.quick_cache_model.specs.Hooks.{HookCall, Hooks, Calls}
 use Rattle.quick_cache_model.proofs.HookLaws.{RunsHooks-append}
+use Rattle.quick_cache_fates.specs.Fates.{residents}
+use Rattle.quick_cache_fates.proofs.Leads.{Leads-same, Tells-append}
 use Rattle.quick_cache_policy.specs.Advances.{AreEvictions, Evicting}
 
 -- the calls of evictions, and more of them
@@ -45,7 +47,7 @@ module _ {K V S : Type 0} (hooks : Hooks K V S) (steady : Type 0)
   -- after these calls the loop goes on from another state
   abbrev pub GoesOn : CacheState K V → CacheState K V → List (HookCall K V) → Type 0
   GoesOn old mid calls = (rest : List (HookCall K V)) (new : CacheState K V)
-      → Evicting steady (Loop mid) new rest → Evicting steady (Loop old) new (calls ++ rest)
+      → Evicting steady Loop mid new rest → Evicting steady Loop old new (calls ++ rest)
 
   -- before the first step
   pub GoesOn-begins : (old : CacheState K V) (state : S) → Calls hooks (GoesOn old old) state state
@@ -53,38 +55,40 @@ module _ {K V S : Type 0} (hooks : Hooks K V S) (steady : Type 0)
 
   module _ (old mid : CacheState K V) (first next : S)
       (so_far : Calls hooks (GoesOn old mid) first next) where
-    module _ (Step : List (HookCall K V) → CacheState K V → Type 0) (new : CacheState K V)
-        (last : S) (steps : Calls hooks (Evicting steady Step new) next last) where
+    module _ (Step : CacheState K V → List (HookCall K V) → CacheState K V → Type 0)
+        (new : CacheState K V) (last : S)
+        (steps : Calls hooks (Evicting steady Step mid new) next last) where
       -- one step more
       pub GoesOn-steps : ((calls rest : List (HookCall K V)) (end : CacheState K V)
-          → UpToOrder (Step calls) new → UpToOrder (Loop new rest) end
+          → UpToOrder (Step mid calls) new → UpToOrder (Loop new rest) end
           → UpToOrder (Loop mid (calls ++ rest)) end)
           → Calls hooks (GoesOn old new) first last
       GoesOn-steps join =
-          Calls-then hooks (GoesOn old mid) (Evicting steady Step new) (GoesOn old new) first next
-          last
-          (λ calls more goes step rest end ends. subst (Evicting steady (Loop old) end)
+          Calls-then hooks (GoesOn old mid) (Evicting steady Step mid new) (GoesOn old new) first
+          next last
+          (λ calls more goes step rest end ends. subst (Evicting steady Loop old end)
           (sym (append_assoc calls more rest))
           (goes (more ++ rest) end (
             λ is. join more rest end (step.0 is) (ends.0 is),
             AreEvictions-append more rest step.1 ends.1,
+            Tells-append more rest step.2 ends.2,
           )))
           so_far steps
 
       -- the last step
-      pub GoesOn-stops : ((calls : List (HookCall K V)) → UpToOrder (Step calls) new
+      pub GoesOn-stops : ((calls : List (HookCall K V)) → UpToOrder (Step mid calls) new
           → UpToOrder (Loop mid calls) new)
-          → Calls hooks (Evicting steady (Loop old) new) first last
+          → Calls hooks (Evicting steady Loop old new) first last
       GoesOn-stops ends =
-          Calls-then hooks (GoesOn old mid) (Evicting steady Step new)
-          (Evicting steady (Loop old) new) first next last
-          (λ calls more goes step. goes more new (λ is. ends more (step.0 is), step.1))
+          Calls-then hooks (GoesOn old mid) (Evicting steady Step mid new)
+          (Evicting steady Loop old new) first next last
+          (λ calls more goes step. goes more new (λ is. ends more (step.0 is), step.1, step.2))
           so_far steps
 
     -- no step more
     pub GoesOn-ends : UpToOrder (Loop mid []) mid
-        → Calls hooks (Evicting steady (Loop old) mid) first next
+        → Calls hooks (Evicting steady Loop old mid) first next
     GoesOn-ends ends =
-        Calls-map hooks (GoesOn old mid) (Evicting steady (Loop old) mid) first next
-        (λ calls goes. subst (Evicting steady (Loop old) mid) (append-nil calls)
-        (goes [] mid (λ is. ends, AreEvictions.none))) so_far
+        Calls-map hooks (GoesOn old mid) (Evicting steady Loop old mid) first next
+        (λ calls goes. subst (Evicting steady Loop old mid) (append-nil calls)
+        (goes [] mid (λ is. ends, AreEvictions.none, Leads-same (residents mid)))) so_far

@@ -1,8 +1,9 @@
 -- A pair under a key of which nothing is known: it is put last once room was made, under a key that
 -- is nowhere then, and in the queue that was chosen before.
-use Rattle.std.proofs.Common.{◌≡◌, ℕ, ◌+◌, ◌≤◌, ◌<◌, Bool, List, None, refl, sym, ap, subst, arith}
+use Rattle.std.proofs.Common.{◌≡◌, ℕ, ◌+◌, ◌≤◌, ◌<◌, Bool, List, ◌∷◌, None, refl, sym, ap, subst, arith}
 use Rattle.std.specs.Cmp.{IsEquivalence}
 use Rattle.std.proofs.lemmas.Bool.{le-leb, lt-leb}
+use Rattle.std.proofs.lemmas.List.Sorted.{IsPermutation-sym, IsPermutation-trans}
 use Rattle.quick_cache_model.specs.declared.queue.Queue.{Queue}
 use Rattle.quick_cache_model.specs.declared.queue.Queue.TheVariants.{Hot, Cold}
 use Rattle.quick_cache_model.specs.CacheState.{CacheState, Item, SameButOrder, UpToOrder, keys_by, hot_weight}
@@ -15,6 +16,11 @@ use Rattle.quick_cache_model.proofs.Eviction.Keys.{keys_by-none}
 use Rattle.quick_cache_model.proofs.OrderLaws.{SameButOrder-trans, entered-reordered}
 use Rattle.quick_cache_model.proofs.Valid.Edits.{entered-valid}
 use Rattle.quick_cache_model.proofs.Valid.Orders.{SameButOrder-valid}
+use Rattle.quick_cache_model.specs.Removal.{pair_of}
+use Rattle.quick_cache_fates.specs.Fates.{residents}
+use Rattle.quick_cache_fates.specs.Leads.{Tells, TellsResidents, TellsBeside}
+use Rattle.quick_cache_fates.proofs.Leads.{Leads-to, Leads-beside}
+use Rattle.quick_cache_fates.proofs.Residents.{residents-entered, residents-ordered}
 use Rattle.quick_cache_slots.specs.declared.entry.Entry.TheVariants.{Item as item_variant}
 use Rattle.quick_cache_lists.specs.Lists.{HeldItem, Lists, PutsLast, entered}
 use Rattle.quick_cache_policy.specs.declared.contents.Contents.{Contents}
@@ -77,6 +83,23 @@ module _ {K V P W A T X : Type 0} (ticket_of : P → ℕ) (old made : Contents K
             (subst (λ (i : Item K V). SameButOrder (model_entered i (state_of ticket_of made))
             (state_with ticket_of made new)) is put-state);
       }
+
+  -- what was told while room was made is told of the pair too
+  pub new-tells : pair_of item ≡ (key, value) → (calls : List (HookCall K V))
+      → TellsResidents (state_of ticket_of old) calls (state_of ticket_of made)
+      → TellsBeside key value (state_of ticket_of old) calls None (state_with ticket_of made new)
+  new-tells pair calls tells =
+      subst (λ (p : K × V). Tells (p ∷ residents (state_of ticket_of old)) calls
+      (residents (state_with ticket_of made new))) pair
+      (Leads-to (pair_of item ∷ residents (state_of ticket_of made))
+      (residents (state_with ticket_of made new))
+      (IsPermutation-trans (pair_of item ∷ residents (state_of ticket_of made))
+      (residents (model_entered item (state_of ticket_of made)))
+      (residents (state_with ticket_of made new))
+      (IsPermutation-sym _ _ (residents-entered item (state_of ticket_of made)))
+      (residents-ordered (model_entered item (state_of ticket_of made))
+      (state_with ticket_of made new) put-state))
+      (Leads-beside (pair_of item) tells))
 
   -- the lists are sound
   pub new-sound : item.key ≡ key → item.mark ≡ 0 → IsSound ticket_of equal rules.hash made

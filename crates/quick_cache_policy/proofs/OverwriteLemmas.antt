@@ -1,6 +1,6 @@
 -- A pair over a ghost, over a placeholder and over an item: the lists are the state that the write
 -- leads to before room is made, but for the order of what has none, and stay sound.
-use Rattle.std.proofs.Common.{◌≡◌, ℕ, ◌+◌, ◌≤◌, Bool, false, List, ◌++◌, length, None, refl, sym, ap, subst, ◌∙◌, arith}
+use Rattle.std.proofs.Common.{◌≡◌, ℕ, ◌+◌, ◌≤◌, Bool, false, List, ◌∷◌, ◌++◌, length, None, refl, sym, ap, subst, ◌∙◌, arith}
 use Rattle.std.specs.Cmp.{IsEquivalence}
 use Rattle.std.proofs.lemmas.List.{map-append}
 use Rattle.quick_cache_model.specs.CacheState.{CacheState, Item, LoadingEntry, SameButOrder, UpToOrder, keys_by}
@@ -16,6 +16,9 @@ use Rattle.quick_cache_model.proofs.Valid.Edits.{entered-valid, without_ghost-va
 use Rattle.quick_cache_model.proofs.Valid.Orders.{SameButOrder-valid}
 use Rattle.std.specs.List.{AllByRecursion}
 use Rattle.quick_cache_model.proofs.EachElement.{all-without}
+use Rattle.quick_cache_model.specs.Removal.{pair_of}
+use Rattle.quick_cache_fates.specs.Fates.{residents}
+use Rattle.quick_cache_fates.specs.Leads.{Tells, TellsResidents, TellsBeside}
 use Rattle.quick_cache_slots.specs.declared.entry.Entry.{Entry}
 use Rattle.quick_cache_slots.specs.declared.entry.Entry.TheVariants.{Item as item_variant}
 use Rattle.quick_cache_lists.specs.Lists.{HeldItem, HeldLoading, HeldGhost, Lists, AreApart, StandsIn, Replaces, PutsLast, HasNoKey, FindsLoading, entered, without_entry}
@@ -28,6 +31,7 @@ use Rattle.quick_cache_policy.proofs.SoundLemmas.{state_of-reordered, AreHashed-
 use Rattle.quick_cache_policy.proofs.FindLemmas.{IsGhostAt-stands, IsLoadingAt-stands}
 use Rattle.quick_cache_policy.proofs.EnterLemmas.{state_with, entered-state, AreHashed-entered, AreHashed-room, entered-count}
 use Rattle.quick_cache_policy.proofs.LookupLemmas.{without_ghost, without_loading}
+use Rattle.quick_cache_policy.proofs.TellLemmas.{entered-tells}
 
 -- ---- eviction goes on from the actual state
 
@@ -127,6 +131,18 @@ module _ {K V P W A T X : Type 0} (ticket_of : P → ℕ) (contents : Contents K
       })) calls state) is e))
       (evicts-from rules _ (state_with ticket_of contents new) last calls over_ghost-state evicts)
 
+  -- what is told from there is told of the pair too
+  pub over_ghost-tells : pair_of item ≡ (key, value) → (last : CacheState K V)
+      (calls : List (HookCall K V))
+      → TellsResidents (state_with ticket_of contents new) calls last
+      → TellsBeside key value (state_of ticket_of contents) calls None last
+  over_ghost-tells pair last calls tells =
+      subst (λ (p : K × V). Tells (p ∷ residents (state_of ticket_of contents)) calls
+      (residents last)) pair
+      (entered-tells item (record (state_of ticket_of contents) {
+        ghosts = hashes_of stands.before ++ hashes_of stands.after;
+      }) (state_with ticket_of contents new) last calls over_ghost-state tells)
+
   -- the rings have one item more
   pub over_ghost-count : length new.hot + length new.cold
       ≤ length contents.lists.hot + length contents.lists.cold + 1
@@ -208,6 +224,19 @@ module _ {K V P W A T X : Type 0} (ticket_of : P → ℕ) (contents : Contents K
             ++ loading_entries ticket_of found.stands.after;
       })) calls state) is e))
       (evicts-from rules _ (state_with ticket_of contents new) last calls over_loading-state evicts)
+
+  -- what is told from there is told of the pair too
+  pub over_loading-tells : pair_of item ≡ (key, value) → (last : CacheState K V)
+      (calls : List (HookCall K V))
+      → TellsResidents (state_with ticket_of contents new) calls last
+      → TellsBeside key value (state_of ticket_of contents) calls None last
+  over_loading-tells pair last calls tells =
+      subst (λ (p : K × V). Tells (p ∷ residents (state_of ticket_of contents)) calls
+      (residents last)) pair
+      (entered-tells item (record (state_of ticket_of contents) {
+        loading = loading_entries ticket_of found.stands.before
+            ++ loading_entries ticket_of found.stands.after;
+      }) (state_with ticket_of contents new) last calls over_loading-state tells)
 
   -- the rings have one item more
   pub over_loading-count : length new.hot + length new.cold

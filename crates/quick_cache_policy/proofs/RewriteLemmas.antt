@@ -14,6 +14,9 @@ use Rattle.quick_cache_model.proofs.Valid.Edits.{rewritten-valid}
 use Rattle.quick_cache_model.proofs.Valid.Orders.{SameButOrder-valid}
 use Rattle.quick_cache_model.proofs.Valid.Places.{IsInPlace-marked}
 use Rattle.quick_cache_model.proofs.Valid.States.{IsValid-in_place}
+use Rattle.quick_cache_model.specs.Removal.{pair_of}
+use Rattle.quick_cache_fates.specs.Fates.{residents}
+use Rattle.quick_cache_fates.specs.Leads.{Tells, TellsResidents, TellsBeside}
 use Rattle.quick_cache_lists.specs.Lists.{HeldItem, Lists, AreApart, FindsItem, IsItemOf, Rewrites, items_at, with_items, entered, held_rewritten}
 use Rattle.quick_cache_lists.specs.Views.{items_of}
 use Rattle.quick_cache_lists.proofs.StandingLemmas.{found-same}
@@ -23,6 +26,7 @@ use Rattle.quick_cache_policy.proofs.SoundLemmas.{state_of-reordered, AreHashed-
 use Rattle.quick_cache_policy.proofs.FindLemmas.{IsItemAt-stands}
 use Rattle.quick_cache_policy.proofs.EnterLemmas.{state_with, rewritten-state, AreHashed-rewritten, entered-count}
 use Rattle.quick_cache_policy.proofs.OverwriteLemmas.{evicts-from}
+use Rattle.quick_cache_policy.proofs.TellLemmas.{rewritten-tells}
 
 -- the mark once touches were taken in, where there are none as well
 pub with_touches-raised : {K V : Type 0} (cut n : ℕ) (item : Item K V) → item.mark ≤ cut
@@ -164,6 +168,19 @@ module _ {K V P W A X : Type 0} (ticket_of : P → ℕ) (contents : Contents K V
       (is ∙ ap (λ (m : ℕ). new_item rules key value was.queue (mark_after 2 strategy m))
       (sym (with_touches-raised 2 n was (marked sound)))) e))
       (evicts-from rules _ (state_with ticket_of contents new) last calls over_item-state evicts)
+
+  -- the item is told, and what is told from there is told of the pair too
+  pub over_item-tells : (value : V) → pair_of item ≡ (key, value) → (last : CacheState K V)
+      (calls : List (HookCall K V))
+      → TellsResidents (state_with ticket_of contents new) calls last
+      → TellsBeside key value (state_of ticket_of contents)
+      (evicted was.queue was.key was.value ∷ calls) None last
+  over_item-tells value pair last calls tells =
+      subst (λ (p : K × V). Tells (p ∷ residents (state_of ticket_of contents))
+      (evicted was.queue was.key was.value ∷ calls) (residents last)) pair
+      (rewritten-tells rewrites.place (items_of rewrites.before) item was (items_of rewrites.after)
+      (state_of ticket_of contents) (state_with ticket_of contents new) last calls there.split
+      over_item-state tells)
 
   -- the rings have one item more at most
   pub over_item-count : length new.hot + length new.cold

@@ -7,6 +7,7 @@ use Rattle.quick_cache_model.specs.CacheState.{CacheState, Item, UpToOrder, defa
 use Rattle.quick_cache_model.specs.Eviction.{EvictsVictim}
 use Rattle.quick_cache_model.specs.Hooks.{Rules, Hooks, HookCall, BeforeEvict, evicted}
 use Rattle.quick_cache_model.specs.Touches.{RaisesMarks, TakesTouches, counted_up}
+use Rattle.quick_cache_fates.specs.Leads.{TellsResidents}
 use Rattle.quick_cache_lists.specs.Lists.{IsItemOf, with_change, with_counts, with_mark}
 use Rattle.quick_cache_policy.specs.declared.contents.Contents.{Contents}
 use Rattle.quick_cache_policy.specs.declared.hot.Visit.{Visit}
@@ -27,11 +28,14 @@ pub data AreEvictions {K V : Type 0} : List (HookCall K V) → Type 0 where
       → AreEvictions (BeforeEvict key value left ∷ evicted queue key left ∷ rest)
 
 module _ {K V : Type 0} where
-  -- The calls are those of evictions. Where pinning is steady, they are those of a step to this
-  -- state, up to the order of what has none.
-  abbrev pub Evicting : (steady : Type 0) → (step : List (HookCall K V) → CacheState K V → Type 0)
-      → (new : CacheState K V) → List (HookCall K V) → Type 0
-  Evicting steady step new calls = (steady → UpToOrder (step calls) new) × AreEvictions calls
+  -- The calls are those of evictions, and whatever is pinned they tell what became of the residents.
+  -- Where pinning is steady, they are those of a step to this state, up to the order of what has
+  -- none.
+  abbrev pub Evicting : (steady : Type 0)
+      → (step : CacheState K V → List (HookCall K V) → CacheState K V → Type 0)
+      → (old new : CacheState K V) → List (HookCall K V) → Type 0
+  Evicting steady step old new calls = (steady → UpToOrder (step old calls) new)
+      × AreEvictions calls × TellsResidents old calls new
 
   -- the first item of a ring left it as a victim does
   pub record FirstIsEvicted (rules : Rules K V) (queue : Queue) (old : CacheState K V)

@@ -3,6 +3,7 @@ use Rattle.std.specs.Prelude.{◌≡◌, ℕ, Bool, List, [], ◌∷◌, Result,
 use Rattle.quick_cache_model.specs.CacheState.{CacheState, LoadingEntry, UpToOrder}
 use Rattle.quick_cache_model.specs.Hooks.{Rules, HookCall, BeforeEvict, EvictCold}
 use Rattle.quick_cache_model.specs.Placeholders.{IsLoadingTicket, HasNoTicket, FillsPlaceholder}
+use Rattle.quick_cache_fates.specs.Leads.{TellsBeside}
 use Rattle.quick_cache_policy.specs.Advances.{AreEvictions}
 
 -- The calls of a fill, in their order: `before_evict` for the pair, where it is too heavy; and then
@@ -16,14 +17,16 @@ pub data AreFillCalls {K V : Type 0} (key : K) (value : V) : List (HookCall K V)
 
 module _ {K V : Type 0} (steady : Type 0) (ticket : ℕ) (old : CacheState K V) (rules : Rules K V)
     (marked : Bool) (value : V) where
-  -- The placeholder of the ticket was filled: the calls are those of a fill. Where pinning is
-  -- steady, they are those of a step to this state, up to the order of what has none.
+  -- The placeholder of the ticket was filled: the calls are those of a fill, and whatever is pinned
+  -- they tell what became of the residents and of the pair, whose key is the placeholder's. Where
+  -- pinning is steady, they are those of a step to this state, up to the order of what has none.
   pub record Fills (new : CacheState K V) (calls : List (HookCall K V)) : Type 0 where
     pub before : List (LoadingEntry K)
     pub entry : LoadingEntry K
     pub after : List (LoadingEntry K)
     pub there : IsLoadingTicket ticket old before entry after
     pub order : AreFillCalls entry.key value calls
+    pub tells : TellsBeside entry.key value old calls None new
     pub step : steady
         → UpToOrder (FillsPlaceholder ticket old rules marked value calls None) new
 

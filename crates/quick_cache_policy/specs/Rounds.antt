@@ -5,11 +5,13 @@
 use Rattle.std.specs.Prelude.{◌≡◌, ℕ, ◌+◌, ◌*◌, ◌≤◌, Bool, true, false, List, ◌∷◌, ◌++◌, length, map, sum_by}
 use Rattle.std.specs.Prelude.{count_by}
 use Rattle.std.specs.List.{AllByRecursion}
+use Rattle.std.specs.List.Sorted.{IsPermutation}
 use Rattle.quick_cache_model.specs.declared.queue.Queue.{Queue}
 use Rattle.quick_cache_model.specs.CacheState.{Item, IsRingItem, weight_of}
 use Rattle.quick_cache_model.specs.Hooks.{Rules}
 use Rattle.quick_cache_model.specs.Touches.{TakesTouches, RaisesMarks}
 use Rattle.quick_cache_model.specs.Eviction.{lowered, IsFirstVictim}
+use Rattle.quick_cache_model.specs.Removal.{pair_of}
 
 -- rules of which only the pins matter
 abbrev pub pin_rules : {K V : Type 0} → (K → V → Bool) → Rules K V
@@ -76,12 +78,13 @@ module _ {K V : Type 0} where
     pub lowers : new ≡ map (lowered rounds) old
 
   -- A step keeps each item in its ring, with a mark up to the greatest, and changes no key, no
-  -- weight and not how many there are.
+  -- value, no weight and not how many there are.
   pub record KeepsItems (cut : ℕ) (old new : List (Item K V)) : Type 0 where
     pub ring : (queue : Queue) → AllByRecursion (IsRingItem cut queue) old
         → AllByRecursion (IsRingItem cut queue) new
     pub same_keys : (test : K → Bool)
         → count_by (λ item. test item.key) new ≡ count_by (λ item. test item.key) old
+    pub same_pairs : IsPermutation (map pair_of old) (map pair_of new)
     pub same_weight : weight_of new ≡ weight_of old
     pub same_length : length new ≡ length old
 

@@ -6,7 +6,8 @@ use Rattle.quick_cache_model.specs.CacheState.{CacheState, UpToOrder}
 use Rattle.quick_cache_model.specs.Admission.{Admitted, TooHeavy, ChecksAdmission}
 use Rattle.quick_cache_model.specs.Hooks.{Rules, Hooks, HookCall, Calls, BeforeEvict, EvictCold, evicted}
 use Rattle.quick_cache_model.specs.Refusals.{Needs, IsProvided, MayRefuse, needs_of_insert}
-use Rattle.quick_cache_model.specs.Writes.{Strategy, Insert, Replace, SoftReplace, Writes, RejectsTooHeavy}
+use Rattle.quick_cache_model.specs.Writes.{Strategy, Insert, Replace, SoftReplace, Writes, WritesAdmitted, RejectsTooHeavy}
+use Rattle.quick_cache_fates.specs.Leads.{TellsBeside}
 use Rattle.quick_cache_policy.specs.declared.admission.Admission.{Admission}
 use Rattle.quick_cache_policy.specs.declared.admission.Admission.TheVariants.{Admitted as code_admitted, TooHeavy as code_too_heavy}
 use Rattle.quick_cache_policy.specs.declared.strategy.InsertStrategy.{InsertStrategy}
@@ -54,21 +55,21 @@ pub data AreWriteCalls {K V : Type 0} (key : K) (value : V) : List (HookCall K V
   gives_back : (left : V) (replaced : List (HookCall K V)) → IsReplacement replaced
       → AreWriteCalls key value (BeforeEvict key value left ∷ replaced)
 
-module _ {K V : Type 0} where
-  -- The calls are those of a write of the pair. Where pinning is steady, they are those of a step
-  -- to this state, up to the order of what has none.
-  abbrev pub Writing : (steady : Type 0) → (key : K) → (value : V)
-      → (step : List (HookCall K V) → CacheState K V → Type 0)
-      → (new : CacheState K V) → List (HookCall K V) → Type 0
-  Writing steady key value step new calls =
-      (steady → UpToOrder (step calls) new) × AreWriteCalls key value calls
+module _ {K V : Type 0} (steady : Type 0) (rules : Rules K V) (equal_to : K → Bool) (key : K)
+    (strategy : Strategy) (old : CacheState K V) (value : V) (answer : Option (K × V))
+    (new : CacheState K V) (calls : List (HookCall K V)) where
+  -- The calls are those of a write of the pair, and whatever is pinned they tell what became of the
+  -- pair and of the residents. Where pinning is steady, they are those of a step to this state, up
+  -- to the order of what has none.
+  abbrev pub Writing : Type 0
+  Writing = (steady → UpToOrder (Writes rules equal_to key strategy old value calls answer) new)
+      × AreWriteCalls key value calls × TellsBeside key value old calls answer new
 
   -- the same of the write of a pair that was admitted
-  abbrev pub WritingAdmitted : (steady : Type 0)
-      → (step : List (HookCall K V) → CacheState K V → Type 0)
-      → (new : CacheState K V) → List (HookCall K V) → Type 0
-  WritingAdmitted steady step new calls =
-      (steady → UpToOrder (step calls) new) × AreAdmittedCalls calls
+  abbrev pub WritingAdmitted : Type 0
+  WritingAdmitted =
+      (steady → UpToOrder (WritesAdmitted rules equal_to key strategy old value calls answer) new)
+      × AreAdmittedCalls calls × TellsBeside key value old calls answer new
 
 -- A pair that is too heavy was turned away, after `before_evict` left this value: the item under
 -- its key leaves, and an insert tells the pair to the cold hook.
@@ -78,6 +79,7 @@ abbrev pub Rejecting : {K V : Type 0} → (equal_to : K → Bool) → (key : K) 
 Rejecting {V = V} equal_to key strategy old left answer new calls =
     RejectsTooHeavy equal_to key strategy old left calls answer new
     × ((value : V) → AreWriteCalls key value (BeforeEvict key value left ∷ calls))
+    × TellsBeside key left old calls answer new
 
 module _ {K V : Type 0} (steady : Type 0) (rules : Rules K V) (hot_target : ℕ) (key : K)
     (value : V) where
@@ -87,7 +89,8 @@ module _ {K V : Type 0} (steady : Type 0) (rules : Rules K V) (hot_target : ℕ)
   Checks (code_admitted admitted) calls =
       (steady → ChecksAdmission rules hot_target key value calls (Admitted admitted.value))
       × (admitted.weight ≡ rules.weight key admitted.value)
-      × (calls ≡ [] ⊎ (calls ≡ BeforeEvict key value admitted.value ∷ []))
+      × (((calls ≡ []) × (admitted.value ≡ value))
+      ⊎ (calls ≡ BeforeEvict key value admitted.value ∷ []))
   Checks (code_too_heavy left) calls =
       (steady → ChecksAdmission rules hot_target key value calls (TooHeavy left))
       × (calls ≡ BeforeEvict key value left ∷ [])
@@ -102,9 +105,7 @@ module _ {K V S : Type 0} (steady : Type 0) (hooks : Hooks K V S) (rules : Rules
   -- the pair was written, with this answer, and there was a slot where one was needed
   pub record Wrote (answer : Option (K × V)) (new : CacheState K V) (last : S) : Type 0 where
     pub provided : IsProvided needs old
-    pub step : Calls hooks
-        (Writing steady key value
-        (λ calls now. Writes rules (equal key) key strategy old value calls answer now) new)
+    pub step : Calls hooks (Writing steady rules (equal key) key strategy old value answer new)
         first last
 
   -- a refused write changed nothing, called no hook, and gives the pair back

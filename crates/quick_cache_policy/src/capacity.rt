@@ -35,9 +35,8 @@ impl<K: Eq + Hash + Drop, V: Drop, P: SharedPlaceholder<K>, A: Allocator> Conten
             ≡ rescaled_limit self.old.capacity capacity self.old.ghost_limit }
         ensures sets { Calls (M.hooks terms.now)
             (Evicting (M.steady terms.now)
-            (SetsCapacity (rules_by M.Policy P.Touch.may_count terms.now) capacity
-            (state_of P.ticket_of self.old))
-            (state_of P.ticket_of self.new))
+            (SetsCapacity (rules_by M.Policy P.Touch.may_count terms.now) capacity)
+            (state_of P.ticket_of self.old) (state_of P.ticket_of self.new))
             state.old state.new }
         ensures sound { IsSound P.ticket_of K.eq (M.hashed terms.now) self.new }
         ensures places { LosesOnly (places_of self.old.lists) (places_of self.new.lists) }

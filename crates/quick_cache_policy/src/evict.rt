@@ -34,9 +34,8 @@ impl<K: Eq + Hash + Drop, V: Drop, P: SharedPlaceholder<K>, A: Allocator> Conten
         requires sound { IsSound P.ticket_of K.eq (M.hashed terms.now) self.old }
         ensures evicts { Calls (M.hooks terms.now)
             (Evicting (M.steady terms.now)
-            (EvictsToTarget (rules_by M.Policy P.Touch.may_count terms.now)
-            (state_of P.ticket_of self.old))
-            (state_of P.ticket_of self.new))
+            (EvictsToTarget (rules_by M.Policy P.Touch.may_count terms.now))
+            (state_of P.ticket_of self.old) (state_of P.ticket_of self.new))
             state.old state.new }
         ensures sound { IsSound P.ticket_of K.eq (M.hashed terms.now) self.new }
         ensures room { self.old.lists.room ≤ self.new.lists.room }
@@ -77,9 +76,8 @@ impl<K: Eq + Hash + Drop, V: Drop, P: SharedPlaceholder<K>, A: Allocator> Conten
         requires sound { IsSound P.ticket_of K.eq (M.hashed terms.now) self.old }
         ensures advances { Calls (M.hooks terms.now)
             (Evicting (M.steady terms.now)
-            (AdvancesCold (rules_by M.Policy P.Touch.may_count terms.now)
-            (state_of P.ticket_of self.old) result)
-            (state_of P.ticket_of self.new))
+            (λ old. AdvancesCold (rules_by M.Policy P.Touch.may_count terms.now) old result)
+            (state_of P.ticket_of self.old) (state_of P.ticket_of self.new))
             state.old state.new }
         ensures sound { IsSound P.ticket_of K.eq (M.hashed terms.now) self.new }
         ensures room { self.old.lists.room ≤ self.new.lists.room }
@@ -128,9 +126,8 @@ impl<K: Eq + Hash + Drop, V: Drop, P: SharedPlaceholder<K>, A: Allocator> Conten
         requires sound { IsSound P.ticket_of K.eq (M.hashed terms.now) self.old }
         ensures evicts { Calls (M.hooks terms.now)
             (Evicting (M.steady terms.now)
-            (EvictsToCapacity (rules_by M.Policy P.Touch.may_count terms.now) need
-            (state_of P.ticket_of self.old))
-            (state_of P.ticket_of self.new))
+            (EvictsToCapacity (rules_by M.Policy P.Touch.may_count terms.now) need)
+            (state_of P.ticket_of self.old) (state_of P.ticket_of self.new))
             state.old state.new }
         ensures sound { IsSound P.ticket_of K.eq (M.hashed terms.now) self.new }
         ensures room { self.old.lists.room ≤ self.new.lists.room }

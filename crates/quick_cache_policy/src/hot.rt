@@ -173,9 +173,8 @@ impl<K: Eq + Hash + Drop, V: Drop, P: SharedPlaceholder<K>, A: Allocator> Conten
         requires sound { IsSound P.ticket_of K.eq (M.hashed terms.now) self.old }
         ensures advances { Calls (M.hooks terms.now)
             (Evicting (M.steady terms.now)
-            (AdvancesHot (rules_by M.Policy P.Touch.may_count terms.now)
-            (state_of P.ticket_of self.old) result)
-            (state_of P.ticket_of self.new))
+            (λ old. AdvancesHot (rules_by M.Policy P.Touch.may_count terms.now) old result)
+            (state_of P.ticket_of self.old) (state_of P.ticket_of self.new))
             state.old state.new }
         ensures sound { IsSound P.ticket_of K.eq (M.hashed terms.now) self.new }
         ensures room { self.old.lists.room ≤ self.new.lists.room }

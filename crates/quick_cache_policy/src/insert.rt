@@ -2,7 +2,7 @@
 ghost use Rattle.std.specs.Prelude.{◌≡◌, ◌+◌, ◌≤◌, ◌<◌, None, Some, IfErr, IsSome, true, false};
 ghost use Rattle.quick_cache_lists.specs.Lists.{Finds, entry_count};
 ghost use Rattle.quick_cache_model.specs.Hooks.{Calls};
-ghost use Rattle.quick_cache_model.specs.Writes.{WritesAdmitted, Writes, Insert};
+ghost use Rattle.quick_cache_model.specs.Writes.{Insert};
 ghost use Rattle.quick_cache_model.specs.declared.refusal.Refusal.TheVariants.{Memory};
 ghost use Rattle.quick_cache_policy.specs.Contents.{IsSound, state_of, ring_count, work_of};
 ghost use Rattle.quick_cache_policy.specs.Finding.{TakesSlot, Provides};
@@ -61,9 +61,8 @@ impl<K: Eq + Hash + Drop, V: Drop, P: SharedPlaceholder<K>, A: Allocator> Conten
         requires room { 0 < self.old.lists.room }
         ensures writes { Calls (M.hooks terms.now)
             (WritingAdmitted (M.steady terms.now)
-            (λ calls. WritesAdmitted (rules_by M.Policy P.Touch.may_count terms.now)
-            (K.eq key) key Insert (state_of P.ticket_of self.old) weighed.value calls None)
-            (state_of P.ticket_of self.new))
+            (rules_by M.Policy P.Touch.may_count terms.now) (K.eq key) key Insert
+            (state_of P.ticket_of self.old) weighed.value None (state_of P.ticket_of self.new))
             state.old state.new }
         ensures sound { IsSound P.ticket_of K.eq (M.hashed terms.now) self.new }
         // No other item moves.
@@ -109,10 +108,8 @@ impl<K: Eq + Hash + Drop, V: Drop, P: SharedPlaceholder<K>, A: Allocator> Conten
         requires room { TakesSlot found (strategy_of strategy) → 0 < self.old.lists.room }
         ensures writes { Calls (M.hooks terms.now)
             (WritingAdmitted (M.steady terms.now)
-            (λ calls. WritesAdmitted (rules_by M.Policy P.Touch.may_count terms.now)
-            (K.eq key) key (strategy_of strategy) (state_of P.ticket_of self.old) weighed.value
-            calls result)
-            (state_of P.ticket_of self.new))
+            (rules_by M.Policy P.Touch.may_count terms.now) (K.eq key) key (strategy_of strategy)
+            (state_of P.ticket_of self.old) weighed.value result (state_of P.ticket_of self.new))
             state.old state.new }
         // An insert takes the pair.
         ensures taken { is_insert (strategy_of strategy) ≡ true → result ≡ None }
@@ -181,11 +178,9 @@ impl<K: Eq + Hash + Drop, V: Drop, P: SharedPlaceholder<K>, A: Allocator> Conten
         requires found { Finds (K.eq key) hash self.old.lists found }
         requires room { TakesSlot found (strategy_of strategy) → 0 < self.old.lists.room }
         ensures writes { Calls (M.hooks terms.now)
-            (Writing (M.steady terms.now) key value
-            (λ calls. Writes (rules_by M.Policy P.Touch.may_count terms.now)
+            (Writing (M.steady terms.now) (rules_by M.Policy P.Touch.may_count terms.now)
             (K.eq key) key (strategy_of strategy) (state_of P.ticket_of self.old) value
-            calls result)
-            (state_of P.ticket_of self.new))
+            result (state_of P.ticket_of self.new))
             state.old state.new }
         // An insert takes the pair.
         ensures taken { is_insert (strategy_of strategy) ≡ true → result ≡ None }

@@ -2,7 +2,7 @@
 ghost use Rattle.std.specs.Prelude.{◌≡◌, ◌+◌, ◌≤◌, None};
 ghost use Rattle.quick_cache_lists.specs.Lists.{Finds};
 ghost use Rattle.quick_cache_model.specs.Hooks.{Calls};
-ghost use Rattle.quick_cache_model.specs.Writes.{WritesAdmitted, Insert};
+ghost use Rattle.quick_cache_model.specs.Writes.{Insert};
 ghost use Rattle.quick_cache_policy.specs.Contents.{IsSound, state_of, ring_count, work_of};
 ghost use Rattle.quick_cache_policy.specs.Places.{places_of, WritesPlace};
 ghost use Rattle.quick_cache_policy.specs.Policies.{rules_by};
@@ -39,10 +39,8 @@ impl<K: Eq + Hash + Drop, V: Drop, P: SharedPlaceholder<K>, A: Allocator> Conten
         requires found { Finds (K.eq key) hash self.old.lists (Found.Item token) }
         ensures writes { Calls (M.hooks terms.now)
             (WritingAdmitted (M.steady terms.now)
-            (λ calls. WritesAdmitted (rules_by M.Policy P.Touch.may_count terms.now)
-            (K.eq key) key (strategy_of strategy) (state_of P.ticket_of self.old) weighed.value
-            calls None)
-            (state_of P.ticket_of self.new))
+            (rules_by M.Policy P.Touch.may_count terms.now) (K.eq key) key (strategy_of strategy)
+            (state_of P.ticket_of self.old) weighed.value None (state_of P.ticket_of self.new))
             state.old state.new }
         ensures sound { IsSound P.ticket_of K.eq (M.hashed terms.now) self.new }
         // No other item moves.
@@ -89,9 +87,8 @@ impl<K: Eq + Hash + Drop, V: Drop, P: SharedPlaceholder<K>, A: Allocator> Conten
         requires found { Finds (K.eq key) hash self.old.lists (Found.Ghost token) }
         ensures writes { Calls (M.hooks terms.now)
             (WritingAdmitted (M.steady terms.now)
-            (λ calls. WritesAdmitted (rules_by M.Policy P.Touch.may_count terms.now)
-            (K.eq key) key Insert (state_of P.ticket_of self.old) weighed.value calls None)
-            (state_of P.ticket_of self.new))
+            (rules_by M.Policy P.Touch.may_count terms.now) (K.eq key) key Insert
+            (state_of P.ticket_of self.old) weighed.value None (state_of P.ticket_of self.new))
             state.old state.new }
         ensures sound { IsSound P.ticket_of K.eq (M.hashed terms.now) self.new }
         // No other item moves.
@@ -130,9 +127,8 @@ impl<K: Eq + Hash + Drop, V: Drop, P: SharedPlaceholder<K>, A: Allocator> Conten
         requires found { Finds (K.eq key) hash self.old.lists (Found.Loading token) }
         ensures writes { Calls (M.hooks terms.now)
             (WritingAdmitted (M.steady terms.now)
-            (λ calls. WritesAdmitted (rules_by M.Policy P.Touch.may_count terms.now)
-            (K.eq key) key Insert (state_of P.ticket_of self.old) weighed.value calls None)
-            (state_of P.ticket_of self.new))
+            (rules_by M.Policy P.Touch.may_count terms.now) (K.eq key) key Insert
+            (state_of P.ticket_of self.old) weighed.value None (state_of P.ticket_of self.new))
             state.old state.new }
         ensures sound { IsSound P.ticket_of K.eq (M.hashed terms.now) self.new }
         // No other item moves.

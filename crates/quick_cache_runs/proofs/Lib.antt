@@ -1,6 +1,6 @@
-pub mod CallSteps
-pub mod WalkLemmas
-pub mod RunLemmas
+mod CallSteps
+mod WalkLemmas
+mod RunLemmas
 mod LoadSteps
 mod DrainSteps
 pub mod CallerLemmas

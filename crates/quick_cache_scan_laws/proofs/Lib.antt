@@ -1,8 +1,8 @@
-pub mod StepParts
-pub mod Fronts
-pub mod Turns
-pub mod Runs
-pub mod Hashes
-pub mod Fresh
+mod StepParts
+mod Fronts
+mod Turns
+mod Runs
+mod Hashes
+mod Fresh
 pub mod CallerLemmas
-pub mod Examples
+mod Examples

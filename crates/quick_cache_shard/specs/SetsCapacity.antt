@@ -5,9 +5,9 @@ use Rattle.quick_cache_model.specs.CacheState.{CacheState}
 use Rattle.quick_cache_model.specs.Hooks.{Rules, Hooks, Calls}
 use Rattle.quick_cache_policy.specs.Advances.{Evicting}
 
--- The hooks led the request state from the first to the last, and their calls are those of
--- evictions. Where pinning is steady, it is a step of its definition.
+-- The hooks led the request state from the first to the last; their calls are those of evictions,
+-- and tell what became of the residents. Where pinning is steady, it is a step of its definition.
 abbrev pub SetsCapacityTo : {K V S : Type 0} → (steady : Type 0) → Hooks K V S → Rules K V
     → (capacity : ℕ) → (old : CacheState K V) → S → (new : CacheState K V) → S → Type 0
 SetsCapacityTo steady hooks rules capacity old first new last =
-    Calls hooks (Evicting steady (SetsCapacity rules capacity old) new) first last
+    Calls hooks (Evicting steady (SetsCapacity rules capacity) old new) first last

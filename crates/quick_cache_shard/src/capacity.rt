@@ -1,10 +1,8 @@
 //! Setting the capacity of a shard.
 ghost use Rattle.std.specs.Prelude.{◌≡◌, ◌+◌, ◌≤◌, length};
-ghost use Rattle.quick_cache_model.specs.Capacity.{SetsCapacity};
-ghost use Rattle.quick_cache_model.specs.Hooks.{Calls};
 ghost use Rattle.quick_cache_model.specs.Sizes.{rescaled_target, rescaled_limit};
-ghost use Rattle.quick_cache_policy.specs.Advances.{Evicting};
 ghost use Rattle.quick_cache_policy.specs.Work.{WorksWithin};
+ghost use Rattle.quick_cache_shard.specs.SetsCapacity.{SetsCapacityTo};
 ghost use Rattle.quick_cache_shard.specs.Shard.{LosesOnly, rules_of, hooks_of, IsSoundShard};
 
 use crate::shard::CacheShard;
@@ -30,12 +28,9 @@ impl<
     /// It takes no memory. What is pinned may weigh more than the capacity still.
     pub fn set_capacity(&mut self, capacity: u64, state: &mut L::RequestState)
         // Where pinning is steady, it is a step of its definition.
-        ensures sets { Calls (hooks_of L.Lifecycle self.old)
-            (Evicting (L.steady self.old.lifecycle)
-            (SetsCapacity (rules_of P.Touch.may_count K.Hash.hash_input We.Weighter B.BuildHasher
-            B.Hasher.Hasher L.Lifecycle self.old) capacity self.old.state)
-            self.new.state)
-            state.old state.new }
+        ensures sets { SetsCapacityTo (L.steady self.old.lifecycle) (hooks_of L.Lifecycle self.old)
+            (rules_of P.Touch.may_count K.Hash.hash_input We.Weighter B.BuildHasher B.Hasher.Hasher
+            L.Lifecycle self.old) capacity self.old.state state.old self.new.state state.new }
         // The sizes, whatever is pinned.
         ensures capacity { self.new.state.capacity ≡ capacity }
         ensures target { self.new.state.hot_target

@@ -9,6 +9,7 @@ mod making;
 pub mod memoised;
 #[cfg(test)]
 mod removing;
+pub mod resolver;
 pub mod saved;
 pub mod sessions;
 #[cfg(test)]

@@ -1,5 +1,6 @@
 //! What stands in a cache is looked up, or looked at.
 use quick_cache::sync::Cache;
+use quick_cache::sync_placeholder::GuardResult;
 use std::test::Fail;
 
 #[test]
@@ -42,5 +43,17 @@ fn item_stats(rt: HostRuntime) -> Result<(), Fail> {
         cache.item_stats(&rt, &1).map(|stats| stats.access_count),
         Some(1)
     );
+    Ok(())
+}
+
+#[test]
+fn get_value_or_guard(rt: HostRuntime) -> Result<(), Fail> {
+    let cache = Cache::new(rt.alloc(), 100)?;
+    let GuardResult::Guard(guard) = cache.get_value_or_guard(&rt, &"square", None) else {
+        panic!(rt; "the key is absent");
+    };
+    assert!(rt; guard.insert(4).is_ok());
+    let found = cache.get_value_or_guard(&rt, &"square", None);
+    assert!(rt; matches!(found, GuardResult::Value(4)));
     Ok(())
 }

@@ -42,3 +42,13 @@ fn clear(rt: HostRuntime) -> Result<(), Fail> {
     assert!(rt; cache.is_empty(&rt));
     Ok(())
 }
+
+#[test]
+fn drain(rt: HostRuntime) -> Result<(), Fail> {
+    let cache = Cache::new(rt.alloc(), 100)?;
+    assert!(rt; cache.insert(&rt, "square", 4).is_ok());
+    let mut drain = cache.drain(&rt);
+    assert_eq!(rt; (drain.next(), drain.next()), (Some(("square", 4)), None));
+    assert!(rt; cache.is_empty(&rt));
+    Ok(())
+}

@@ -1,14 +1,14 @@
-pub mod AllRings
+mod AllRings
 pub mod AtTokens
-pub mod CopiedNodes
-pub mod CountedSlots
-pub mod EditsByToken
-pub mod FreeTokens
-pub mod IteratedItems
-pub mod NodeFields
-pub mod OneRing
-pub mod PartedRings
-pub mod RingEditsOfSlots
-pub mod SlabViews
-pub mod SlotRings
+mod CopiedNodes
+mod CountedSlots
+mod EditsByToken
+mod FreeTokens
+mod IteratedItems
+mod NodeFields
+mod OneRing
+mod PartedRings
+mod RingEditsOfSlots
+mod SlabViews
+mod SlotRings
 pub mod TokenCounts

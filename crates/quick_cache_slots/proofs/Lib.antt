@@ -1,6 +1,6 @@
-pub mod TokenEdits
-pub mod JoinedLemmas
-pub mod JoinedEdits
-pub mod JoinedWalks
-pub mod WrittenLemmas
-pub mod CopiedLemmas
+mod TokenEdits
+mod JoinedLemmas
+mod JoinedEdits
+mod JoinedWalks
+mod WrittenLemmas
+mod CopiedLemmas

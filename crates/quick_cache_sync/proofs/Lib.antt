@@ -1,2 +1,2 @@
-pub mod SumLemmas
-pub mod TryLemmas
+mod SumLemmas
+mod TryLemmas

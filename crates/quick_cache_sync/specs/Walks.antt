@@ -7,7 +7,7 @@ use Rattle.quick_cache_model.specs.declared.refusal.Refusal.{Refusal}
 use Rattle.quick_cache_shard.specs.Copies.{ClonesAreEqual}
 use Rattle.quick_cache_shard.specs.Shard.{Shard}
 use Rattle.quick_cache_locked.specs.Fitting.{ClonesFit}
-use Rattle.quick_cache_locked.specs.Locked.{FromSome, AlwaysSteady}
+use Rattle.quick_cache_locked.specs.Locked.{FromSome}
 use Rattle.quick_cache_locked.specs.Walks.{ClonesNext, TakesNext}
 
 module _ {K V L S : Type 0} (life : lifecycle.Ghosts L K V S) (equal : K → K → Bool) where
@@ -21,14 +21,14 @@ module _ {K V L S : Type 0} (life : lifecycle.Ghosts L K V S) (equal : K → K �
   -- and fits its key
   abbrev pub ShownFits : (key_clone : K → K → Type 0) (is_clone : V → V → Type 0)
       → Option (Result (K × V) Refusal) → Type 0
-  ShownFits key_clone is_clone answer = AlwaysSteady life.steady → ClonesAreEqual equal key_clone
+  ShownFits key_clone is_clone answer = ClonesAreEqual equal key_clone
       → ClonesFit life.fits is_clone
       → IfSome answer (λ step. IfOk step (λ pair. life.fits pair.0 pair.1))
 
 -- a value that is taken fits its key
 abbrev pub TakenFits : {K V L S : Type 0} → lifecycle.Ghosts L K V S → Option (K × V) → Type 0
 TakenFits life answer =
-    AlwaysSteady life.steady → IfSome answer (λ pair. life.fits pair.0 pair.1)
+    IfSome answer (λ pair. life.fits pair.0 pair.1)
 
 -- there are no more items to come than tokens are left in these shards
 abbrev pub tokens_ahead : (shards shard after : ℕ) → Count

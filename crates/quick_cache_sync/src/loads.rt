@@ -2,9 +2,8 @@
 ghost use Rattle.std.specs.Prelude.{◌≡◌, true, Ok, Err, IfOk, IfErr};
 ghost use Rattle.quick_cache_guard.specs.Answers.{IfGuard, IfValue};
 ghost use Rattle.quick_cache_entries.specs.Acts.{LeavesFit, MayTell};
-ghost use Rattle.quick_cache_entries.specs.Entries.{IfGivenBack, IfGuarded, IfRetained};
+ghost use Rattle.quick_cache_entries.specs.Entries.{AnswersAsChosen, IfGivenBack, IfGuarded, IfRetained};
 ghost use Rattle.quick_cache_locked.specs.Fitting.{ClonesFit, FitsQuery};
-ghost use Rattle.quick_cache_locked.specs.Locked.{AlwaysSteady};
 
 use crate::cache::Cache;
 use quick_cache_entries as entries;
@@ -41,7 +40,7 @@ impl<
         requires stands { (key : K) → Q.to_key_gives query.now key
             → Q.equivalent query.now key ≡ true }
         // Whatever other threads do, the value fits a key that the query stands for.
-        ensures fits { AlwaysSteady L.steady → ClonesFit L.fits V.is_clone
+        ensures fits { ClonesFit L.fits V.is_clone
             → IfValue result (λ value. FitsQuery L.fits (Q.equivalent query.now) value) }
         // The guard is for a key that the query becomes.
         ensures key { IfGuard result (λ key. Q.to_key_gives query.now key) }
@@ -71,7 +70,7 @@ impl<
             → (key : K) → Q.to_key_gives query.now key → L.fits key value }
         requires clones { ClonesFit L.fits V.is_clone }
         // Whatever other threads do, the value fits a key that the query stands for.
-        ensures fits { AlwaysSteady L.steady → IfOk result (λ loaded. IfOk loaded
+        ensures fits { IfOk result (λ loaded. IfOk loaded
             (λ value. FitsQuery L.fits (Q.equivalent query.now) value)) }
         ensures error { IfOk result (λ loaded. IfErr loaded (λ error. F.post loader (Err error))) }
     {
@@ -100,12 +99,15 @@ impl<
         requires leaves { LeavesFit F.FnMut L.fits callback.old }
         // Whatever other threads do, a value that is given back fits a key that the query stands
         // for, and what is told was told of such a value.
-        ensures fits { AlwaysSteady L.steady
-            → IfGivenBack result (λ value. FitsQuery L.fits (Q.equivalent query.now) value) }
-        ensures told { IfRetained result (λ told. MayTell F.FnMut L.fits (AlwaysSteady L.steady)
+        ensures fits { IfGivenBack result (λ value. FitsQuery L.fits (Q.equivalent query.now) value) }
+        ensures told { IfRetained result (λ told. MayTell F.FnMut L.fits
             (Q.equivalent query.now) callback.old told) }
         // A guard is for a key that the query becomes.
         ensures key { IfGuarded result (λ key. Q.to_key_gives query.now key) }
+        // The answer is what the callback chose, by its one call, of an item that stood in the
+        // shard then. Where none did, it was not called.
+        ensures chosen { AnswersAsChosen F.FnMut L.fits
+            (Q.equivalent query.now) callback.old result callback.new }
     {
         entries::entry(rt, self.shard_of(query), query, limit, callback)
     }

@@ -6,7 +6,7 @@ ghost use Rattle.quick_cache_shard.specs.Shard.{Shard, HasItem};
 ghost use Rattle.quick_cache_shard.specs.Stats.{ShowsReads};
 ghost use Rattle.quick_cache_locked.specs.Peeks.{Peeks};
 ghost use Rattle.quick_cache_locked.specs.Fitting.{ClonesFit, FitsQuery};
-ghost use Rattle.quick_cache_locked.specs.Locked.{FromSome, AlwaysSteady};
+ghost use Rattle.quick_cache_locked.specs.Locked.{FromSome};
 ghost use Rattle.quick_cache_locked.specs.Touches.{any_touches};
 
 use crate::cache::Cache;
@@ -37,7 +37,7 @@ impl<K: Eq + Hash + Drop, V: Drop, We, B: BuildHasher, L: Lifecycle<K, V>, A: Al
         ensures answers { FromSome L.Lifecycle K.eq (λ (shard : Shard K V We B L).
             Peeks (Q.equivalent query.now) V.is_clone shard.state result) }
         // Whatever other threads do, the value fits a key that the query stands for.
-        ensures fits { AlwaysSteady L.steady → ClonesFit L.fits V.is_clone → IfOk result
+        ensures fits { ClonesFit L.fits V.is_clone → IfOk result
             (λ found. IfSome found (λ v. FitsQuery L.fits (Q.equivalent query.now) v)) }
         ensures succeeds { ((value : V) → V.is_infallible value) → IsOk result }
     {
@@ -56,7 +56,7 @@ impl<K: Eq + Hash + Drop, V: Drop, We, B: BuildHasher, L: Lifecycle<K, V>, A: Al
         ensures answers { FromSome L.Lifecycle K.eq (λ (shard : Shard K V We B L).
             Peeks (Q.equivalent query.now) V.is_clone shard.state result) }
         // Whatever other threads do, the value fits a key that the query stands for.
-        ensures fits { AlwaysSteady L.steady → ClonesFit L.fits V.is_clone → IfOk result
+        ensures fits { ClonesFit L.fits V.is_clone → IfOk result
             (λ found. IfSome found (λ v. FitsQuery L.fits (Q.equivalent query.now) v)) }
         ensures succeeds { ((value : V) → V.is_infallible value) → IsOk result }
     {

@@ -1,12 +1,14 @@
 //! Calls of a cache for tasks, which wait without a thread.
-ghost use Rattle.std.specs.Prelude.{◌≡◌, true, Ok};
+ghost use Rattle.std.specs.Prelude.{◌≡◌, true, false, Ok};
 ghost use Rattle.quick_cache_locked.specs.Fitting.{ClonesFit};
 
 use crate::cache::Cache;
 use futures::Future;
+use quick_cache_entry_futures::EntryFuture;
 use quick_cache_futures::{GetOrInsert, ValueOrGuard};
 use quick_cache_locked::LockedShard;
 use quick_cache_model::{Lifecycle, ToKey, Weighter};
+use quick_cache_shard::EntryAction;
 use std::alloc::Allocator;
 use std::hash::{BuildHasher, Hash};
 use std::sync::Wait;
@@ -54,5 +56,24 @@ impl<
         ensures loader { result.loader ≡ loader }
     {
         GetOrInsert::new(rt, self.shard_of(query), query, loader)
+    }
+
+    /// A future that acts on the entry of the query's key by the callback, as `entry` does with no
+    /// limit. It owns the callback, which is called under the write lock of the key's shard, once at
+    /// most. What it gives, and what a poll asks of the callback, is said on `EntryFuture`. The call
+    /// takes no lock; a poll does.
+    pub fn entry_async<'a, Q: ToKey<K>, R: Wait, T: Drop, F: FnMut(&K, &mut V) -> EntryAction<T>>(
+        &'a self,
+        rt: &'a R,
+        query: &'a Q,
+        callback: F,
+    ) -> EntryFuture<'a, Q, K, V, L, LockedShard<K, V, We, B, L, A>, R, T, F, A>
+        requires stands { (key : K) → Q.to_key_gives query.now key
+            → Q.equivalent query.now key ≡ true }
+        ensures query { result.query ≡ query.now }
+        ensures callback { result.callback ≡ callback }
+        ensures begins { result.is_finished ≡ false }
+    {
+        EntryFuture::new(rt, self.shard_of(query), query, callback)
     }
 }

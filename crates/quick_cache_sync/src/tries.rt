@@ -8,7 +8,7 @@ ghost use Rattle.quick_cache_shard.specs.Shard.{Shard, HasItem, rules_of, hooks_
 ghost use Rattle.quick_cache_locked.specs.Peeks.{Peeks};
 ghost use Rattle.quick_cache_sync.specs.Answers.{RemovesSo, InsertsSo, InsertsAloneSo};
 ghost use Rattle.quick_cache_locked.specs.Fitting.{ClonesFit, FitsQuery};
-ghost use Rattle.quick_cache_locked.specs.Locked.{FromSome, AlwaysSteady};
+ghost use Rattle.quick_cache_locked.specs.Locked.{FromSome};
 ghost use Rattle.quick_cache_locked.specs.Touches.{any_touches};
 ghost use Rattle.quick_cache_sync.specs.Tries.{IsTried, IsTriedWith, IfContended};
 
@@ -39,7 +39,7 @@ impl<K: Eq + Hash + Drop, V: Drop, We, B: BuildHasher, L: Lifecycle<K, V>, A: Al
             (λ (shard : Shard K V We B L).
             Peeks (Q.equivalent query.now) V.is_clone shard.state answer)) result }
         // Whatever other threads do, the value fits a key that the query stands for.
-        ensures fits { AlwaysSteady L.steady → ClonesFit L.fits V.is_clone → IfOk result
+        ensures fits { ClonesFit L.fits V.is_clone → IfOk result
             (λ found. IfSome found (λ v. FitsQuery L.fits (Q.equivalent query.now) v)) }
         ensures succeeds { ((value : V) → V.is_infallible value) → IsTried IsOk result }
     {
@@ -65,7 +65,7 @@ impl<K: Eq + Hash + Drop, V: Drop, We, B: BuildHasher, L: Lifecycle<K, V>, A: Al
             (λ (shard : Shard K V We B L).
             Peeks (Q.equivalent query.now) V.is_clone shard.state answer)) result }
         // Whatever other threads do, the value fits a key that the query stands for.
-        ensures fits { AlwaysSteady L.steady → ClonesFit L.fits V.is_clone → IfOk result
+        ensures fits { ClonesFit L.fits V.is_clone → IfOk result
             (λ found. IfSome found (λ v. FitsQuery L.fits (Q.equivalent query.now) v)) }
         ensures succeeds { ((value : V) → V.is_infallible value) → IsTried IsOk result }
     {
@@ -185,7 +185,7 @@ impl<K: Eq + Hash + Drop, V: Drop, We, B: BuildHasher, L: Lifecycle<K, V>, A: Al
             (λ (shard : Shard K V We B L). RemovesSo (Q.equivalent query.now) shard.state
             (hash_of B.BuildHasher B.Hasher.Hasher shard.builder (Q.hash_input query.now)) found)) }
         // Whatever other threads do, the value fits a key that the query stands for.
-        ensures fits { AlwaysSteady L.steady → IfOk result (λ found. IfSome found
+        ensures fits { IfOk result (λ found. IfSome found
             (λ pair. FitsQuery L.fits (Q.equivalent query.now) pair.1)) }
     {
         match self.shard_of(query).try_write() {

@@ -5,7 +5,7 @@ ghost use Rattle.quick_cache_model.specs.Hashing.{hash_of};
 ghost use Rattle.quick_cache_shard.specs.Shard.{Shard, rules_of, hooks_of};
 ghost use Rattle.quick_cache_sync.specs.Answers.{RemovesSo, RemovesAskedSo, ReplacesSo, ReplacesAloneSo};
 ghost use Rattle.quick_cache_locked.specs.Fitting.{FitsQuery};
-ghost use Rattle.quick_cache_locked.specs.Locked.{FromSome, AlwaysSteady};
+ghost use Rattle.quick_cache_locked.specs.Locked.{FromSome};
 ghost use Rattle.quick_cache_locked.specs.Touches.{any_touches};
 
 use crate::cache::Cache;
@@ -80,7 +80,7 @@ impl<K: Eq + Hash + Drop, V: Drop, We, B: BuildHasher, L: Lifecycle<K, V>, A: Al
             RemovesSo (Q.equivalent query.now) shard.state
             (hash_of B.BuildHasher B.Hasher.Hasher shard.builder (Q.hash_input query.now)) result) }
         // Whatever other threads do, the value fits a key that the query stands for.
-        ensures fits { AlwaysSteady L.steady → IfSome result
+        ensures fits { IfSome result
             (λ pair. FitsQuery L.fits (Q.equivalent query.now) pair.1) }
     {
         self.shard_of(query).write(rt).remove(query)
@@ -101,7 +101,7 @@ impl<K: Eq + Hash + Drop, V: Drop, We, B: BuildHasher, L: Lifecycle<K, V>, A: Al
         ensures answers { FromSome L.Lifecycle K.eq (λ (shard : Shard K V We B L).
             RemovesAskedSo (Q.equivalent query.now) shard.state
             (FnOnceReturnsAt F.FnOnce wanted) result) }
-        ensures fits { AlwaysSteady L.steady → IfSome result
+        ensures fits { IfSome result
             (λ pair. FitsQuery L.fits (Q.equivalent query.now) pair.1) }
     {
         self.shard_of(query).write(rt).remove_if(query, wanted)

@@ -1,13 +1,13 @@
-pub mod CountedPlaces
-pub mod Distances
-pub mod FreedPlaces
-pub mod GroupCounts
-pub mod GroupLanes
-pub mod HousedPairs
-pub mod NearestFreePlace
-pub mod OnlyTokens
-pub mod PairOrder
-pub mod PairedLists
-pub mod SearchAlongTokens
-pub mod ShownPairs
-pub mod WalkedTokens
+mod CountedPlaces
+mod Distances
+mod FreedPlaces
+mod GroupCounts
+mod GroupLanes
+mod HousedPairs
+mod NearestFreePlace
+mod OnlyTokens
+mod PairOrder
+mod PairedLists
+mod SearchAlongTokens
+mod ShownPairs
+mod WalkedTokens

@@ -2,7 +2,9 @@
 use quick_cache::sync::Cache;
 use std::alloc::Global;
 use std::sync::Wait;
+use std::sync::atomic::{AtomicBool, Ordering};
 use std::test::Fail;
+use std::thread::join;
 
 /// The keys that a walk shows, or that a drain takes, in ascending order, where each value is as
 /// its key.
@@ -10,7 +12,7 @@ fn met<R: Wait>(rt: &R, alloc: Global, cache: &Cache<u64, u64>, drains: bool) ->
     let mut keys = Vec::new(alloc);
     let mut walk = cache.iter(rt);
     let mut drain = cache.drain(rt);
-    for _ in 0..1000 {
+    for _ in 0..5000 {
         let step = if drains {
             drain.next()
         } else {
@@ -28,14 +30,19 @@ fn met<R: Wait>(rt: &R, alloc: Global, cache: &Cache<u64, u64>, drains: bool) ->
     Some(keys)
 }
 
-/// Whether these are the numbers up to so many, each once.
-fn are_numbers(keys: &Vec<u64>, count: usize) -> bool {
+/// Whether these are the numbers up to so many, each once, and greater ones behind them.
+fn begin_with_numbers(keys: &Vec<u64>, count: usize) -> bool {
     for (index, key) in keys.iter().enumerate() {
-        if *key != index as u64 {
+        let is_right = if index < count {
+            *key == index as u64
+        } else {
+            *key >= count as u64
+        };
+        if !is_right {
             return false;
         }
     }
-    keys.len() == count
+    keys.len() >= count
 }
 
 #[test]
@@ -48,9 +55,61 @@ fn a_walk_shows_each_item_once_and_a_drain_takes_it(rt: HostRuntime) -> Result<(
         let Some(keys) = met(&rt, rt.alloc(), &cache, drains) else {
             panic!(rt; "each value is as its key");
         };
-        assert!(rt; are_numbers(&keys, 500));
+        assert!(rt; begin_with_numbers(&keys, 500) && keys.len() == 500);
     }
     assert_eq!(rt; cache.len(&rt), 0);
+    Ok(())
+}
+
+/// Walks twenty times, and counts the walks that show each of the keys 0 to 499 once.
+fn right_walks<R: Wait>(rt: &R, alloc: Global, cache: &Cache<u64, u64>) -> u64 {
+    let mut right = 0u64;
+    for _ in 0..20 {
+        if let Some(keys) = met(rt, alloc, cache, false) {
+            right = right.saturating_add(u64::from(begin_with_numbers(&keys, 500)));
+        }
+    }
+    right
+}
+
+/// Inserts the keys 1000 to 1299 and takes them out again, until it is told to stop. It counts the
+/// rounds.
+fn comes_and_goes<R: Wait>(rt: &R, cache: &Cache<u64, u64>, is_over: &AtomicBool) -> u64 {
+    let mut rounds = 0u64;
+    for _ in 0..100000 {
+        for key in 1000..1300 {
+            drop(cache.insert(rt, key, key));
+        }
+        for key in 1000..1300 {
+            drop(cache.remove(rt, &key));
+        }
+        rounds = rounds.saturating_add(1);
+        if is_over.load(Ordering::SeqCst) {
+            break;
+        }
+    }
+    rounds
+}
+
+#[test]
+fn a_walk_beside_a_thread_shows_what_stays_once(rt: HostRuntime) -> Result<(), Fail> {
+    let cache: Cache<u64, u64> = Cache::new(rt.alloc(), 4000)?;
+    for number in 0..500 {
+        assert!(rt; cache.insert(&rt, number, number).is_ok());
+    }
+    let is_over = AtomicBool::new(false);
+    let (shared, is_over, alloc) = (&cache, &is_over, rt.alloc());
+    let (right, rounds) = join(
+        &rt,
+        || {
+            let right = right_walks(&rt, alloc, shared);
+            is_over.store(true, Ordering::SeqCst);
+            right
+        },
+        || comes_and_goes(&rt, shared, is_over),
+    );
+    println!(rt; "{rounds} rounds beside the walks")?;
+    assert_eq!(rt; (right, cache.len(&rt)), (20, 500));
     Ok(())
 }
 

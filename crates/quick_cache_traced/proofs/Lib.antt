@@ -1,4 +1,4 @@
-pub mod TraceLemmas
+mod TraceLemmas
 mod StepLemmas
 mod PairLemmas
 mod KeptLemmas

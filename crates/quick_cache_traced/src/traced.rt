@@ -179,6 +179,7 @@ impl<
             list.items) }
         // It is as long as the seats' counts together.
         ensures calls { IfOk result (λ list. vec_len list ≡ calls_of seats.items) }
+        ensures whole { OnOk result (parts_of seats.items ≡ PARTS) }
         ensures lacks { IfErr result (λ back. parts_of seats.items ≢ PARTS) }
         ensures back { IfErr result (λ back. (back.0 ≡ self) × (back.1 ≡ seats)) }
     {

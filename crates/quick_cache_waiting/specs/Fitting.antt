@@ -17,7 +17,3 @@ module _ {K V : Type 0} (fits : K → V → Type 0) where
     pub key : K
     pub stands : stands_for key ≡ true
     pub fits_key : fits key value
-
--- every lifecycle of the type has steady pins
-abbrev pub AlwaysSteady : {L : Type 0} → (L → Type 0) → Type 0
-AlwaysSteady {L} steady = (lifecycle : L) → steady lifecycle

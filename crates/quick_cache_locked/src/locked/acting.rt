@@ -1,7 +1,7 @@
 //! Entry calls on a shard behind its lock.
 ghost use Rattle.std.specs.Prelude.{◌≡◌, true};
 ghost use Rattle.quick_cache_model.specs.Hashing.{hash_of};
-ghost use Rattle.quick_cache_entries.specs.Acts.{IfAbsent, IfGone, IfKept, LeavesFit, MayTell};
+ghost use Rattle.quick_cache_entries.specs.Acts.{DoesAsChosen, IfAbsent, IfGone, IfKept, LeavesFit, MayTell};
 ghost use Rattle.quick_cache_shard.specs.Entering.{AnswersEntry};
 ghost use Rattle.quick_cache_shard.specs.Shard.{LosesOnly, rules_of};
 ghost use Rattle.quick_cache_locked.specs.Fitting.{FitsQuery};
@@ -43,11 +43,13 @@ impl<
             (Q.equivalent query.now) callback.old self.old.state
             (λ placeholder. placeholder.ticket) (Q.to_key_gives query.now) hash result callback.new
             self.new.state }
-        ensures fits { L.steady self.old.lifecycle
-            → IfGone result (λ value. FitsQuery L.fits (Q.equivalent query.now) value) }
+        ensures fits { IfGone result (λ value. FitsQuery L.fits (Q.equivalent query.now) value) }
         ensures tells { IfKept result (λ told. MayTell F.FnMut L.fits
-            (L.steady self.old.lifecycle) (Q.equivalent query.now) callback.old told) }
+            (Q.equivalent query.now) callback.old told) }
         ensures uncalled { IfAbsent result (callback.new ≡ callback.old) }
+        // What comes of it is what the callback chose, by its one call.
+        ensures chosen { DoesAsChosen F.FnMut L.fits
+            (Q.equivalent query.now) callback.old result callback.new }
         // No item moves that stays.
         ensures places { LosesOnly self.old.places self.new.places }
         ensures same { self.new ≡ record self.old {

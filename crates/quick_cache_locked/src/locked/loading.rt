@@ -2,11 +2,11 @@
 ghost use Rattle.std.specs.Prelude.{◌≡◌, true, IfOk, IfErr, IfSome};
 ghost use Rattle.quick_cache_model.specs.Hashing.{hash_of};
 ghost use Rattle.quick_cache_model.specs.Placeholders.{GivesUpPlaceholder};
-ghost use Rattle.quick_cache_shard.specs.Shard.{hooks_of, rules_of, UpToOrder};
+ghost use Rattle.quick_cache_shard.specs.Shard.{hooks_of, rules_of, KeepsPlaces, LosesOnly, UpToOrder};
 ghost use Rattle.quick_cache_guard.specs.Begins.{IfFound};
 ghost use Rattle.quick_cache_locked.specs.Fitting.{ClonesFit, FitsQuery};
 ghost use Rattle.quick_cache_locked.specs.Loads.{BeginsLoad, EndsLoad};
-ghost use Rattle.quick_cache_locked.specs.Locked.{AlwaysSteady, IsKept};
+ghost use Rattle.quick_cache_locked.specs.Locked.{IsKept};
 ghost use Rattle.quick_cache_locked.specs.Touches.{any_touches};
 
 use crate::locked::LockedShard;
@@ -36,7 +36,7 @@ impl<
             (Q.hash_input query.now) in
             BeginsLoad (λ placeholder. placeholder.ticket) (Q.equivalent query.now)
             (Q.to_key_gives query.now) hash V.is_clone self.old.state result self.new.state }
-        ensures fits { L.steady self.old.lifecycle → ClonesFit L.fits V.is_clone → IfOk result
+        ensures fits { ClonesFit L.fits V.is_clone → IfOk result
             (λ begun. IfFound begun (λ value. FitsQuery L.fits (Q.equivalent query.now) value)) }
         ensures same { self.new ≡ record self.old { state = self.new.state; room = self.new.room } }
         ensures kept { IsKept L.Lifecycle K.eq self.old }
@@ -86,6 +86,8 @@ impl<
             L.Lifecycle self.old)
             K.eq placeholder.now.ticket self.old.state waited key.now value state.old result
             self.new.state state.new }
+        // No item moves that stays.
+        ensures places { KeepsPlaces K.eq self.old.places self.new.places }
         ensures kept { IsKept L.Lifecycle K.eq self.old }
     {
         self.is_kept();
@@ -106,6 +108,8 @@ impl<
     pub fn give_up_load(&mut self, placeholder: &SharedPlaceholder<K, V, L, A>)
         ensures gives_up { UpToOrder
             (GivesUpPlaceholder placeholder.now.ticket self.old.state) self.new.state }
+        // No item moves that stays.
+        ensures places { LosesOnly self.old.places self.new.places }
         ensures kept { IsKept L.Lifecycle K.eq self.old }
     {
         self.is_kept();

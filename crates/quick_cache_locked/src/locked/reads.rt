@@ -25,13 +25,13 @@ impl<
     A: Allocator,
 > LockedShard<K, V, We, B, L, A> {
     /// Looks the query's key up beside other readers, and clones what it finds. The clone is made
-    /// first, so that a refused one counts nothing. Where pinning is steady, and clones fit as
-    /// their values do, the clone fits a key that the query stands for.
+    /// first, so that a refused one counts nothing. Where clones fit as their values do, the
+    /// clone fits a key that the query stands for.
     pub fn get<Q: Equivalent<K>>(&self, query: &Q) -> Result<Option<V>, Refusal>
     where
         V: Clone,
         ensures gets { Peeks (Q.equivalent query.now) V.is_clone self.now.state result }
-        ensures fits { L.steady self.now.lifecycle → ClonesFit L.fits V.is_clone → IfOk result
+        ensures fits { ClonesFit L.fits V.is_clone → IfOk result
             (λ found. IfSome found (λ v. FitsQuery L.fits (Q.equivalent query.now) v)) }
         ensures succeeds { ((value : V) → V.is_infallible value) → IsOk result }
         ensures kept { IsKept L.Lifecycle K.eq self.now }
@@ -47,7 +47,7 @@ impl<
     where
         V: Clone,
         ensures finds { Peeks (Q.equivalent query.now) V.is_clone self.now.state result }
-        ensures fits { L.steady self.now.lifecycle → ClonesFit L.fits V.is_clone → IfOk result
+        ensures fits { ClonesFit L.fits V.is_clone → IfOk result
             (λ found. IfSome found (λ v. FitsQuery L.fits (Q.equivalent query.now) v)) }
         ensures succeeds { ((value : V) → V.is_infallible value) → IsOk result }
         ensures kept { IsKept L.Lifecycle K.eq self.now }
@@ -63,7 +63,7 @@ impl<
     where
         V: Clone,
         ensures peeks { Peeks (Q.equivalent query.now) V.is_clone self.now.state result }
-        ensures fits { L.steady self.now.lifecycle → ClonesFit L.fits V.is_clone → IfOk result
+        ensures fits { ClonesFit L.fits V.is_clone → IfOk result
             (λ found. IfSome found (λ v. FitsQuery L.fits (Q.equivalent query.now) v)) }
         ensures succeeds { ((value : V) → V.is_infallible value) → IsOk result }
         ensures kept { IsKept L.Lifecycle K.eq self.now }

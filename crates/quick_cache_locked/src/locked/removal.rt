@@ -21,13 +21,13 @@ impl<
     L: Lifecycle<K, V>,
     A: Allocator,
 > LockedShard<K, V, We, B, L, A> {
-    /// Takes the item under the query's key out, or a ghost of its hash. Where pinning is steady,
-    /// the value that it gives fits a key that the query stands for.
+    /// Takes the item under the query's key out, or a ghost of its hash. The value that it gives
+    /// fits a key that the query stands for.
     pub fn remove<Q: Equivalent<K>>(&mut self, query: &Q) -> Option<(K, V)>
         ensures removes { let hash = hash_of B.BuildHasher B.Hasher.Hasher self.old.builder
             (Q.hash_input query.now) in
             UpToOrder (Removes (Q.equivalent query.now) self.old.state hash result) self.new.state }
-        ensures fits { L.steady self.old.lifecycle → IfSome result
+        ensures fits { IfSome result
             (λ pair. FitsQuery L.fits (Q.equivalent query.now) pair.1) }
         ensures places { LosesOnly self.old.places self.new.places }
         ensures same { self.new ≡ record self.old { state = self.new.state; places = self.new.places; room = self.new.room } }
@@ -48,7 +48,7 @@ impl<
         requires callable { F.IsAlwaysCallable wanted }
         ensures asks { UpToOrder (RemovesAsked (Q.equivalent query.now) self.old.state
             (FnOnceReturnsAt F.FnOnce wanted) result) self.new.state }
-        ensures fits { L.steady self.old.lifecycle → IfSome result
+        ensures fits { IfSome result
             (λ pair. FitsQuery L.fits (Q.equivalent query.now) pair.1) }
         ensures places { LosesOnly self.old.places self.new.places }
         ensures same { self.new ≡ record self.old { state = self.new.state; places = self.new.places; room = self.new.room } }

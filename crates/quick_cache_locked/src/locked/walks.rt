@@ -21,14 +21,14 @@ impl<
     A: Allocator,
 > LockedShard<K, V, We, B, L, A> {
     /// Clones the item of the least token above this one, or of the least token of all where none
-    /// is given. It is no use of the item. Where pinning is steady, and clones are as their keys and
-    /// values are, what it gives fits its key.
+    /// is given. It is no use of the item. Where clones are as their keys and values are, what it
+    /// gives fits its key.
     pub fn show_next(&self, after: Option<Token>) -> Result<Option<(Token, K, V)>, Refusal>
     where
         K: Clone,
         V: Clone,
         ensures shows { ShowsNext self.now (number_or_zero after) K.is_clone V.is_clone result }
-        ensures fits { L.steady self.now.lifecycle → ClonesAreEqual K.eq K.is_clone
+        ensures fits { ClonesAreEqual K.eq K.is_clone
             → ClonesFit L.fits V.is_clone → IfOk result
             (λ found. IfSome found (λ shown. L.fits shown.1 shown.2)) }
         ensures kept { IsKept L.Lifecycle K.eq self.now }
@@ -50,10 +50,10 @@ impl<
     }
 
     /// Takes out the item of the least token above this one, or of the least token of all where
-    /// none is given. Where pinning is steady, its value fits its key.
+    /// none is given. Its value fits its key.
     pub fn take_next(&mut self, after: Option<Token>) -> Option<(Token, K, V)>
         ensures takes { TakesNext self.old (number_or_zero after) result self.new }
-        ensures fits { L.steady self.old.lifecycle → IfSome result
+        ensures fits { IfSome result
             (λ taken. L.fits taken.1 taken.2) }
         ensures same { self.new ≡ record self.old {
           state = self.new.state;

@@ -1,31 +1,26 @@
-use Rattle.std.proofs.Common.{◌≡◌, ap, subst}
-use Rattle.quick_cache_locked.proofs.EntryFits.{AnswersEntry-fits, AnswersEntry-gives, AnswersEntry-tells, AnswersEntry-uncalled}
+use Rattle.quick_cache_locked.proofs.EntryFits.{AnswersEntry-fits, AnswersEntry-chosen, AnswersEntry-gives, AnswersEntry-tells, AnswersEntry-uncalled}
 use Rattle.quick_cache_locked.proofs.locked.LockedShard.act_on.Goals as goal
 
 -- what the callback leaves fits, and the other values stay as they were
 pub invariant_of-self : goal.invariant_of-self
-invariant_of-self g c steady =
-    let was = subst (λ l. g.L.Lifecycle.steady l)
-    (ap (λ s. s.lifecycle) c.entry_or_placeholder.ensures.same) steady in
+invariant_of-self g c =
     AnswersEntry-fits g.L.Lifecycle.fits g.F.FnMut _ (g.Q.Equivalent.equivalent c.args.query.now)
     c.args.callback.now c.self.inside.shard.state c.requires.leaves _ _ _
-    c.entry_or_placeholder.result _ _ c.entry_or_placeholder.ensures.answers (c.self.invariant was)
+    c.entry_or_placeholder.result _ _ c.entry_or_placeholder.ensures.answers c.self.invariant
 
 pub returns-clause-fits : goal.returns-clause-fits
 returns-clause-fits g c =
-    rw (← c.self.view_is)
-    (λ steady. AnswersEntry-gives g.L.Lifecycle.fits g.F.FnMut _
+    AnswersEntry-gives g.L.Lifecycle.fits g.F.FnMut _
     (g.Q.Equivalent.equivalent c.args.query.now) c.args.callback.now c.self.inside.shard.state
     c.requires.leaves _ _ _ c.entry_or_placeholder.result _ _ c.entry_or_placeholder.ensures.answers
-    (c.self.invariant steady))
+    c.self.invariant
 
 pub returns-clause-tells : goal.returns-clause-tells
 returns-clause-tells g c =
-    rw (← c.self.view_is)
-    (AnswersEntry-tells g.F.FnMut _ (g.Q.Equivalent.equivalent c.args.query.now)
+    AnswersEntry-tells g.F.FnMut _ (g.Q.Equivalent.equivalent c.args.query.now)
     c.args.callback.now c.self.inside.shard.state _ _ _ g.L.Lifecycle.fits
-    (g.L.Lifecycle.steady c.self.inside.shard.lifecycle) c.entry_or_placeholder.result _ _
-    c.entry_or_placeholder.ensures.answers c.self.invariant)
+    c.entry_or_placeholder.result _ _
+    c.entry_or_placeholder.ensures.answers c.self.invariant
 
 pub returns-clause-uncalled : goal.returns-clause-uncalled
 returns-clause-uncalled g c =
@@ -41,3 +36,10 @@ returns-clause-acts g c =
 
 pub returns-clause-places : goal.returns-clause-places
 returns-clause-places g c = rw (← c.self.view_is) c.entry_or_placeholder.ensures.places
+
+pub returns-clause-chosen : goal.returns-clause-chosen
+returns-clause-chosen g c =
+    AnswersEntry-chosen g.F.FnMut _ (g.Q.Equivalent.equivalent c.args.query.now)
+    c.args.callback.now c.self.inside.shard.state _ _ _ g.L.Lifecycle.fits
+    c.self.invariant
+    c.entry_or_placeholder.result _ _ c.entry_or_placeholder.ensures.answers

@@ -1,21 +1,21 @@
 use Rattle.std.proofs.Common.{◌≡◌, Ok, None, ap, ◌∙◌, rules}
 use Rattle.quick_cache_locked.specs.Loads.{BeginsLoad}
-use Rattle.quick_cache_locked.proofs.FitLoads.{BeginsLoad-finds, never_finds, StaysFit-looked, StaysFit-looks_or_makes}
+use Rattle.quick_cache_locked.proofs.FitLoads.{BeginsLoad-finds, never_finds, AllFit-looked, AllFit-looks_or_makes}
 use Rattle.quick_cache_locked.proofs.locked.LockedShard.begin_load.Goals.{in-Ok-Err, in-Err-get_or_placeholder}
 use Rattle.quick_cache_locked.proofs.locked.LockedShard.begin_load.Goals as goal
 
 -- a look-up writes no value
 pub invariant_of-self : goal.invariant_of-self
-invariant_of-self g c = StaysFit-looked g.L.Lifecycle c.self.inside.shard c.look_up.new.self
-    (ap (λ s. s.lifecycle) c.look_up.ensures.same)
-    (g.Q.Equivalent.equivalent c.args.query.now) c.look_up.result c.look_up.ensures.looks_up
+invariant_of-self g c = AllFit-looked g.L.Lifecycle.fits
+    (g.Q.Equivalent.equivalent c.args.query.now) c.self.inside.shard.state
+    c.look_up.new.self.state c.look_up.result c.look_up.ensures.looks_up
     c.self.invariant
 
 -- nor does a placeholder that is made or met
 pub invariant_of-self-in-Ok-None : goal.invariant_of-self-in-Ok-None
-invariant_of-self-in-Ok-None g c = StaysFit-looks_or_makes g.L.Lifecycle c.self.inside.shard
-    c.get_or_placeholder.new.self (ap (λ s. s.lifecycle) c.get_or_placeholder.ensures.same)
-    (g.Q.Equivalent.equivalent c.args.query.now) _ _ _ c.get_or_placeholder.result
+invariant_of-self-in-Ok-None g c = AllFit-looks_or_makes g.L.Lifecycle.fits
+    (g.Q.Equivalent.equivalent c.args.query.now) c.self.inside.shard.state
+    c.get_or_placeholder.new.self.state _ _ _ c.get_or_placeholder.result
     c.get_or_placeholder.ensures.answers c.self.invariant
 
 -- the look showed nothing, so no item is found

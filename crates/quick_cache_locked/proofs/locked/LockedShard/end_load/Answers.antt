@@ -1,8 +1,8 @@
-use Rattle.std.proofs.Common.{◌≡◌, false, refl, ap, rules}
+use Rattle.std.proofs.Common.{◌≡◌, false, refl, rules}
 use Rattle.std.specs.Prelude.{IsTrue}
 use Rattle.quick_cache_shard.specs.Shard.{rules_of}
 use Rattle.quick_cache_locked.specs.Touches.{any_touches}
-use Rattle.quick_cache_locked.proofs.FitLoads.{EndsLoad-filled, StaysFit-filled}
+use Rattle.quick_cache_locked.proofs.FitLoads.{EndsLoad-filled, AllFit-filled}
 use Rattle.quick_cache_locked.proofs.TicketLemmas.{awaits_none, awaits_other, of_ticket}
 use Rattle.quick_cache_locked.proofs.locked.LockedShard.end_load.Goals as goal
 
@@ -33,9 +33,9 @@ returns-in-None-clause-ends g c = rw (← c.self.view_is) (
 pub invariant_of-self : goal.invariant_of-self
 invariant_of-self g c =
     let equal : IsTrue (g.K.PartialEq.eq c.args.key.now c.in-Some.own.now) = search rules in
-    StaysFit-filled g.L.Lifecycle c.self.inside.shard c.replace_placeholder.new.self
-    (ap (λ s. s.lifecycle) c.replace_placeholder.ensures.same)
+    AllFit-filled g.L.Lifecycle
     (λ l was k v now left. g.met.L.Lifecycle.keeps_fits l was k v now left)
+    c.self.inside.shard c.replace_placeholder.new.self
     (rules_of any_touches g.K.Hash.hash_input g.We.Weighter g.B.BuildHasher g.B.Hasher.Hasher
     g.L.Lifecycle c.self.inside.shard)
     c.args.placeholder.now.ticket c.args.waited c.args.value c.replace_placeholder.result _ _
@@ -55,3 +55,15 @@ returns-clause-ends g c =
     c.self.inside.shard.state c.args.waited c.args.key.now c.args.value _ _
     c.replace_placeholder.result c.replace_placeholder.new.self.state
     c.replace_placeholder.ensures.fills)
+
+-- nothing changed
+pub returns-then-ne-clause-places : goal.returns-then-ne-clause-places
+returns-then-ne-clause-places g c =
+    rw (← c.self.view_is) c.loading_key.ensures.sound.places.one_token
+
+pub returns-in-None-clause-places : goal.returns-in-None-clause-places
+returns-in-None-clause-places g c =
+    rw (← c.self.view_is) c.loading_key.ensures.sound.places.one_token
+
+pub returns-clause-places : goal.returns-clause-places
+returns-clause-places g c = rw (← c.self.view_is) c.replace_placeholder.ensures.places

@@ -11,7 +11,7 @@ returns-clause-finds g c =
 
 -- the shard has values that fit, and the answer is a clone of one
 pub returns-clause-fits : goal.returns-clause-fits
-returns-clause-fits g c steady clones =
+returns-clause-fits g c clones =
     Peeks-fits (g.Q.Equivalent.equivalent c.args.query.now) g.V.Clone.is_clone _
     g.L.Lifecycle.fits c.find_clone.result (returns-clause-finds g c)
-    (c.is_kept.ensures.fit steady) clones
+    c.is_kept.ensures.fit clones

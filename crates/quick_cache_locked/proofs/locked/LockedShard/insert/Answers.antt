@@ -1,18 +1,17 @@
-use Rattle.std.proofs.Common.{ap}
 use Rattle.quick_cache_shard.specs.Shard.{rules_of}
 use Rattle.quick_cache_locked.specs.Touches.{any_touches}
-use Rattle.quick_cache_locked.proofs.FitWrites.{StaysFit-written}
+use Rattle.quick_cache_locked.proofs.FitWrites.{AllFit-written}
 use Rattle.quick_cache_locked.proofs.locked.LockedShard.insert.Goals as goal
 
 -- the pair fits, and eviction keeps the others so
 pub invariant_of-self : goal.invariant_of-self
-invariant_of-self g c = StaysFit-written g.L.Lifecycle
+invariant_of-self g c = AllFit-written g.L.Lifecycle
     (λ l was k v now left. g.met.L.Lifecycle.keeps_fits l was k v now left)
     c.self.inside.shard c.insert.new.self
     (rules_of any_touches g.K.Hash.hash_input g.We.Weighter g.B.BuildHasher g.B.Hasher.Hasher
     g.L.Lifecycle c.self.inside.shard)
     g.K.PartialEq.eq _ _ c.args.key c.args.value _ _ c.insert.ensures.answers
-    (ap (λ s. s.lifecycle) c.insert.ensures.same) c.requires.fits c.self.invariant
+    c.requires.fits c.self.invariant
 
 pub returns-clause-places : goal.returns-clause-places
 returns-clause-places g c = rw (← c.self.view_is) c.insert.ensures.places

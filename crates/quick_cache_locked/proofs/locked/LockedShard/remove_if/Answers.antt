@@ -1,11 +1,10 @@
-use Rattle.std.proofs.Common.{ap}
-use Rattle.quick_cache_locked.proofs.FitRemovals.{RemovesAsked-fits, RemovesAsked-gives, StaysFit-stepped}
+use Rattle.quick_cache_locked.proofs.FitRemovals.{RemovesAsked-fits, RemovesAsked-gives, AllFit-stepped}
 use Rattle.quick_cache_locked.proofs.locked.LockedShard.remove_if.Goals as goal
 
 -- the items that are left are as they were
 pub invariant_of-self : goal.invariant_of-self
-invariant_of-self g c = StaysFit-stepped g.L.Lifecycle c.self.inside.shard c.remove_if.new.self
-    (ap (λ s. s.lifecycle) c.remove_if.ensures.same) c.remove_if.ensures.asks
+invariant_of-self g c = AllFit-stepped g.L.Lifecycle.fits c.self.inside.shard.state
+    c.remove_if.new.self.state c.remove_if.ensures.asks
     (λ next step. RemovesAsked-fits g.L.Lifecycle.fits
     (g.Q.Equivalent.equivalent c.args.query.now) c.self.inside.shard.state _ _ next step)
     c.self.invariant
@@ -13,10 +12,9 @@ invariant_of-self g c = StaysFit-stepped g.L.Lifecycle c.self.inside.shard c.rem
 -- the shard had values that fit, and the answer is one of them
 pub returns-clause-fits : goal.returns-clause-fits
 returns-clause-fits g c =
-    rw (← c.self.view_is)
-    (λ steady. RemovesAsked-gives g.L.Lifecycle.fits
+    RemovesAsked-gives g.L.Lifecycle.fits
     (g.Q.Equivalent.equivalent c.args.query.now) _ _ c.remove_if.result _
-    c.remove_if.ensures.asks.holds (c.self.invariant steady))
+    c.remove_if.ensures.asks.holds c.self.invariant
 
 pub returns-clause-places : goal.returns-clause-places
 returns-clause-places g c = rw (← c.self.view_is) c.remove_if.ensures.places

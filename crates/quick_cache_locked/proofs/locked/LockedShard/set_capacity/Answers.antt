@@ -1,14 +1,13 @@
-use Rattle.std.proofs.Common.{ap}
 use Rattle.quick_cache_shard.specs.Shard.{rules_of}
 use Rattle.quick_cache_locked.specs.Touches.{any_touches}
-use Rattle.quick_cache_locked.proofs.FitRemovals.{StaysFit-resized}
+use Rattle.quick_cache_locked.proofs.FitRemovals.{AllFit-resized}
 use Rattle.quick_cache_locked.proofs.locked.LockedShard.set_capacity.Goals as goal
 
 -- eviction keeps the items that stay fitting
 pub invariant_of-self : goal.invariant_of-self
-invariant_of-self g c = StaysFit-resized g.L.Lifecycle c.self.inside.shard c.set_capacity.new.self
-    (ap (λ s. s.lifecycle) c.set_capacity.ensures.same)
+invariant_of-self g c = AllFit-resized g.L.Lifecycle
     (λ l was k v now left. g.met.L.Lifecycle.keeps_fits l was k v now left)
+    c.self.inside.shard c.set_capacity.new.self
     (rules_of any_touches g.K.Hash.hash_input g.We.Weighter g.B.BuildHasher g.B.Hasher.Hasher
     g.L.Lifecycle c.self.inside.shard)
     c.args.capacity _ _ c.set_capacity.ensures.sets c.self.invariant

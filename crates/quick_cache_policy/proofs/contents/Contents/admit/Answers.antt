@@ -13,7 +13,7 @@ returns-then-weight-self g c =
           λ s. ChecksAdmission.is_light
               (omega (arith, c.weigh-weight.ensures, c.if-weight-self.true)),
           c.weigh-weight.ensures,
-          inl refl,
+          inl (refl, refl),
         );
         runs = refl;
       };
@@ -30,7 +30,7 @@ returns-then-is_pinned g c =
               (omega (arith, c.weigh-weight.ensures, c.if-weight-self.false))
               (sym (c.is_pinned.ensures s) ∙ c.if-is_pinned.true),
           c.weigh-weight.ensures,
-          inl refl,
+          inl (refl, refl),
         );
         runs = refl;
       };

@@ -27,8 +27,8 @@ returns-in-Marked-clause-advances g c =
     let mid = state_of g.P.SharedPlaceholder.ticket_of c.promote_first.new.self in
     let new = state_of g.P.SharedPlaceholder.ticket_of c.evict_to_target.new.self in
     let steady = g.M.Policy.steady c.args.terms.now in
-    Calls-map (g.M.Policy.hooks c.args.terms.now) (Evicting steady (EvictsToTarget rules mid) new)
-    (Evicting steady (AdvancesCold rules old true) new)
+    Calls-map (g.M.Policy.hooks c.args.terms.now) (Evicting steady (EvictsToTarget rules) mid new)
+    (Evicting steady (λ state. AdvancesCold rules state true) old new)
     c.args.state.now c.evict_to_target.new.state
     (λ calls. AdvancesCold-promoted rules steady old refl cold mid new calls
     c.in-Marked.ensures.searches
@@ -46,7 +46,7 @@ returns-in-Victim-clause-advances g c =
     let steady = g.M.Policy.steady c.args.terms.now in
     Calls-map (g.M.Policy.hooks c.args.terms.now)
     (λ calls. FirstIsEvicted rules Cold (record old { cold = cold }) calls new × AreEvictions calls)
-    (Evicting steady (AdvancesCold rules old true) new)
+    (Evicting steady (λ state. AdvancesCold rules state true) old new)
     c.args.state.now c.evict_first.new.state
     (λ calls. AdvancesCold-evicted rules steady old refl cold new calls
     c.in-Victim.ensures.searches)
@@ -85,13 +85,14 @@ returns-in-AllPassed-clause-advances g c =
     let new = state_of g.P.SharedPlaceholder.ticket_of c.advance_hot.new.self in
     let steady = g.M.Policy.steady c.args.terms.now in
     Calls-map (g.M.Policy.hooks c.args.terms.now)
-    (Evicting steady (AdvancesHot rules (record old { cold = cold }) c.advance_hot.result) new)
-    (Evicting steady (AdvancesCold rules old c.advance_hot.result) new)
+    (Evicting steady (λ state. AdvancesHot rules state c.advance_hot.result)
+    (record old { cold = cold }) new)
+    (Evicting steady (λ state. AdvancesCold rules state c.advance_hot.result) old new)
     c.args.state.now c.advance_hot.new.state
     (λ calls. AdvancesCold-passed rules steady old refl cold c.advance_hot.result new calls
     c.in-AllPassed.ensures.searches)
     (subst (λ (s : CacheState _ _). Calls (g.M.Policy.hooks c.args.terms.now)
-    (Evicting steady (AdvancesHot rules s c.advance_hot.result) new)
+    (Evicting steady (λ state. AdvancesHot rules state c.advance_hot.result) s new)
     c.args.state.now c.advance_hot.new.state) is c.advance_hot.ensures.advances)
 
 -- the search turns the ring

@@ -45,7 +45,7 @@ returns-then-not-advance_cold-clause-evicts g c =
     GoesOn-stops (g.M.Policy.hooks c.args.terms.now) (g.M.Policy.steady c.args.terms.now)
     (EvictsToCapacity rules c.args.need)
     (state_of g.P.SharedPlaceholder.ticket_of c.args.self.now) mid
-    c.args.state.now c.loop-self.state c.loop-self.invariant.so_far (AdvancesCold rules mid false)
+    c.args.state.now c.loop-self.state c.loop-self.invariant.so_far (λ state. AdvancesCold rules state false)
     (state_of g.P.SharedPlaceholder.ticket_of c.advance_cold.new.self) c.advance_cold.new.state
     c.if-not-advance_cold.ensures.advances
     (λ calls. EvictsToCapacity-gives_up rules c.args.need mid
@@ -81,7 +81,7 @@ loop-self-preserved g c =
       so_far = GoesOn-steps (g.M.Policy.hooks c.args.terms.now)
           (g.M.Policy.steady c.args.terms.now) (EvictsToCapacity rules c.args.need)
           (state_of g.P.SharedPlaceholder.ticket_of c.args.self.now) mid c.args.state.now
-          c.loop-self.state i.so_far (AdvancesCold rules mid true) new c.advance_cold.new.state
+          c.loop-self.state i.so_far (λ state. AdvancesCold rules state true) new c.advance_cold.new.state
           e.advances
           (λ calls rest end.
           EvictsToCapacity-goes_on rules c.args.need mid new end calls rest above);

@@ -42,7 +42,7 @@ returns-then-not-advance_hot-clause-evicts g c =
     ) in
     GoesOn-stops (g.M.Policy.hooks c.args.terms.now) (g.M.Policy.steady c.args.terms.now)
     (EvictsToTarget rules) (state_of g.P.SharedPlaceholder.ticket_of c.args.self.now) mid
-    c.args.state.now c.loop-self.state c.loop-self.invariant.so_far (AdvancesHot rules mid false)
+    c.args.state.now c.loop-self.state c.loop-self.invariant.so_far (λ state. AdvancesHot rules state false)
     (state_of g.P.SharedPlaceholder.ticket_of c.advance_hot.new.self) c.advance_hot.new.state
     c.if-not-advance_hot.ensures.advances
     (λ calls. EvictsToTarget-gives_up rules mid
@@ -75,7 +75,7 @@ loop-self-preserved g c =
       so_far = GoesOn-steps (g.M.Policy.hooks c.args.terms.now)
           (g.M.Policy.steady c.args.terms.now) (EvictsToTarget rules)
           (state_of g.P.SharedPlaceholder.ticket_of c.args.self.now) mid c.args.state.now
-          c.loop-self.state i.so_far (AdvancesHot rules mid true) new c.advance_hot.new.state
+          c.loop-self.state i.so_far (λ state. AdvancesHot rules state true) new c.advance_hot.new.state
           e.advances
           (λ calls rest end. EvictsToTarget-goes_on rules mid new end calls rest above);
       sound = e.sound;

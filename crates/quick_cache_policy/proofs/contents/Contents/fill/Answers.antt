@@ -5,6 +5,8 @@ use Rattle.quick_cache_model.specs.CacheState.{CacheState, entered}
 use Rattle.quick_cache_model.specs.Hooks.{EvictCold, Calls}
 use Rattle.quick_cache_model.specs.Placeholders.{MakesRoomFor}
 use Rattle.quick_cache_model.specs.Writes.{new_item, queue_for}
+use Rattle.quick_cache_fates.specs.Fates.{residents}
+use Rattle.quick_cache_fates.proofs.Leads.{Leads-same}
 use Rattle.quick_cache_lists.proofs.CallerLemmas.{weight_of-items}
 use Rattle.quick_cache_lists.proofs.StandingLemmas.{loading-not_item, loading-not_ghost}
 use Rattle.quick_cache_slots.specs.declared.entry.Awaited.{Awaited}
@@ -20,7 +22,7 @@ use Rattle.quick_cache_policy.specs.Writing.{Checks}
 use Rattle.quick_cache_policy.proofs.AnswerLemmas.{WorksWithin-none}
 use Rattle.quick_cache_policy.proofs.BoundLemmas.{PaysFor-within}
 use Rattle.quick_cache_policy.proofs.EnterLemmas.{state_with}
-use Rattle.quick_cache_policy.proofs.FillLemmas.{entry-is_loading, awaited-is_loading, left, left-state, left-there, left-sound, filled-sound, filled-count, filled-evicts, filled-stays, Fills-admitted, Fills-too_heavy}
+use Rattle.quick_cache_policy.proofs.FillLemmas.{entry-is_loading, awaited-is_loading, left, left-state, left-there, left-sound, filled-sound, filled-count, filled-evicts, filled-stays, filled-tells, Fills-admitted, Fills-too_heavy}
 use Rattle.quick_cache_policy.proofs.LoopLemmas.{Calls-then}
 use Rattle.quick_cache_policy.proofs.NewLemmas.{queue_for-hot, queue_for-otherwise}
 use Rattle.quick_cache_policy.proofs.contents.Contents.fill.Goals.{then-hot_weight-from, else-hot_weight-from}
@@ -157,8 +159,8 @@ returns-then-weight-gt0-clause-fills g c =
       reads = 0;
       queue = queue i;
     } in
-    Calls-then hooks _ (Evicting steady (MakesRoomFor 0 mid rules weighed.weight
-    (entered pair mid)) (state_of ticket_of c.evict_to_capacity.new.self)) _ c.args.state.now
+    Calls-then hooks _ (Evicting steady (MakesRoomFor 0 mid rules weighed.weight) (entered pair mid)
+    (state_of ticket_of c.evict_to_capacity.new.self)) _ c.args.state.now
     c.admit.new.state c.evict_to_capacity.new.state
     (Fills-admitted steady ticket (state_of ticket_of contents) rules c.args.marked c.args.value
     (loading_entries ticket_of stands.before) (loading_entry ticket_of waiting)
@@ -176,6 +178,11 @@ returns-then-weight-gt0-clause-fills g c =
             c.evict_to_capacity.ensures.evicts.calls
             (c.evict_to_capacity.ensures.evicts.holds.0 steadily),
         c.evict_to_capacity.ensures.evicts.holds.1,
+        filled-tells ticket_of contents apart t waiting stands refl c.if-hot_weight-from.queue
+            c.mark_if-mark.result c.in-Admitted.weighed.weight c.in-Admitted.weighed.value
+            c.fill.new.self c.fill.ensures pair is (state_of ticket_of c.evict_to_capacity.new.self)
+            c.evict_to_capacity.ensures.evicts.calls
+            c.evict_to_capacity.ensures.evicts.holds.2,
       );
       runs = c.evict_to_capacity.ensures.evicts.runs;
     })
@@ -255,8 +262,8 @@ returns-else-weight-gt0-clause-fills g c =
       reads = 0;
       queue = queue i;
     } in
-    Calls-then hooks _ (Evicting steady (MakesRoomFor 0 mid rules weighed.weight
-    (entered pair mid)) (state_of ticket_of (record contents { lists = c.fill.new.self }))) _ c.args.state.now
+    Calls-then hooks _ (Evicting steady (MakesRoomFor 0 mid rules weighed.weight)
+    (entered pair mid) (state_of ticket_of (record contents { lists = c.fill.new.self }))) _ c.args.state.now
     c.admit.new.state c.admit.new.state
     (Fills-admitted steady ticket (state_of ticket_of contents) rules c.args.marked c.args.value
     (loading_entries ticket_of stands.before) (loading_entry ticket_of waiting)
@@ -272,6 +279,11 @@ returns-else-weight-gt0-clause-fills g c =
             c.mark_if-mark.result c.in-Admitted.weighed.weight c.in-Admitted.weighed.value c.fill.new.self
             c.fill.ensures rules (omega (arith, c.if-weight-gt0.false)) pair is,
         AreEvictions.none,
+        filled-tells ticket_of contents apart t waiting stands refl c.if-hot_weight-from.queue
+            c.mark_if-mark.result c.in-Admitted.weighed.weight c.in-Admitted.weighed.value
+            c.fill.new.self c.fill.ensures pair is
+            (state_of ticket_of (record contents { lists = c.fill.new.self })) []
+            (Leads-same (residents (state_of ticket_of (record contents { lists = c.fill.new.self })))),
       );
       runs = refl;
     })

@@ -4,6 +4,7 @@ use Rattle.quick_cache_model.specs.declared.queue.Queue.TheVariants.{Cold}
 use Rattle.quick_cache_model.specs.CacheState.{Item, UpToOrder}
 use Rattle.quick_cache_model.specs.Eviction.{EvictsToCapacity}
 use Rattle.quick_cache_model.specs.Writes.{queue_for}
+use Rattle.quick_cache_model.specs.Removal.{pair_of}
 use Rattle.quick_cache_slots.specs.declared.entry.Entry.TheVariants.{Item as item_variant}
 use Rattle.quick_cache_lists.specs.declared.found.Found.TheVariants.{Nothing as found_nothing}
 use Rattle.quick_cache_lists.specs.Lists.{Finds, PutsLast}
@@ -12,7 +13,7 @@ use Rattle.quick_cache_policy.specs.Contents.{state_of}
 use Rattle.quick_cache_policy.specs.Policies.{rules_by}
 use Rattle.quick_cache_policy.specs.Writing.{AreAdmittedCalls, IsReplacement}
 use Rattle.quick_cache_policy.proofs.FindLemmas.{AreHashed-under, HasNothing-state}
-use Rattle.quick_cache_policy.proofs.NewLemmas.{new-writes, new-sound, queue_for-hot, queue_for-otherwise}
+use Rattle.quick_cache_policy.proofs.NewLemmas.{new-writes, new-tells, new-sound, queue_for-hot, queue_for-otherwise}
 use Rattle.quick_cache_policy.proofs.contents.Contents.insert_new.Goals.{then-hot_weight-from, else-hot_weight-from}
 use Rattle.std.proofs.Common.{inl, inr}
 use Rattle.quick_cache_policy.proofs.AdmissionLemmas.{Finds-no_item}
@@ -77,6 +78,13 @@ returns-clause-writes g c =
             (subst (λ (n : ℕ). UpToOrder (EvictsToCapacity rules n old evicts.calls)
             (state_of ticket_of made)) c.requires.weight_is (evicts.holds.0 steady)),
         AreAdmittedCalls.writes [] evicts.calls IsReplacement.none evicts.holds.1,
+        new-tells ticket_of c.args.self.now made g.K.PartialEq.eq g.met.K.Eq.laws rules key value
+            (HasNothing-state ticket_of (g.K.PartialEq.eq key) (rules.hash key) c.args.self.now
+            under found)
+            c.evict_to_capacity.ensures.keys (number c.put.result) c.new-item.result c.put.new.self
+            (subst (λ (h : ℕ). PutsLast {T = g.row.P-Touch.Denot} made.lists (number c.put.result) h
+            (item_variant c.new-item.result) c.put.new.self) c.requires.hash_is c.put.ensures.last)
+            (ap pair_of c.new-item.ensures) evicts.calls evicts.holds.2,
       );
       runs = evicts.runs;
     }

@@ -2,11 +2,13 @@ use Rattle.std.proofs.Common.{ℕ, [], refl, sym, ap, subst, ◌∙◌, inr}
 use Rattle.std.specs.Int.NonZero.{non_zero_u32_get as number}
 use Rattle.quick_cache_model.specs.declared.queue.Queue.TheVariants.{Hot}
 use Rattle.quick_cache_model.specs.CacheState.{Item}
+use Rattle.quick_cache_model.specs.Removal.{pair_of}
 use Rattle.quick_cache_lists.specs.Lists.{Finds}
 use Rattle.quick_cache_lists.specs.declared.found.Found.TheVariants.{Ghost as found_ghost}
+use Rattle.quick_cache_policy.specs.Contents.{state_of}
 use Rattle.quick_cache_policy.specs.Policies.{rules_by}
 use Rattle.quick_cache_policy.specs.Writing.{AreAdmittedCalls, IsReplacement}
-use Rattle.quick_cache_policy.proofs.OverwriteLemmas.{over_ghost-writes, over_ghost-sound, over_ghost-count}
+use Rattle.quick_cache_policy.proofs.OverwriteLemmas.{over_ghost-writes, over_ghost-tells, over_ghost-sound, over_ghost-count}
 use Rattle.quick_cache_policy.proofs.FindLemmas.{AreHashed-under}
 use Rattle.quick_cache_policy.proofs.BoundLemmas.{PaysFor-within}
 use Rattle.std.proofs.Common.{inl}
@@ -63,6 +65,13 @@ returns-clause-writes g c =
               queue = Hot;
             }) c.requires.weight_is) _ evicts.calls (evicts.holds.0 steady),
         AreAdmittedCalls.writes [] evicts.calls IsReplacement.none evicts.holds.1,
+        over_ghost-tells g.P.SharedPlaceholder.ticket_of c.args.self.now
+            c.apart.ensures.apart g.K.PartialEq.eq g.met.K.Eq.laws rules key
+            c.args.weighed.value (number c.args.token) under found.0 found.1 c.new-item.result
+            c.replace.result c.replace.new.self c.replace.ensures
+            (ap pair_of c.new-item.ensures)
+            (state_of g.P.SharedPlaceholder.ticket_of c.evict_to_capacity.new.self)
+            evicts.calls evicts.holds.2,
       );
       runs = evicts.runs;
     }

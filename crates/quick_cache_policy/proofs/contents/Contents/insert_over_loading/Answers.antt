@@ -1,12 +1,14 @@
 use Rattle.std.proofs.Common.{[], ap, subst, ◌∙◌, inl, inr}
 use Rattle.std.specs.Int.NonZero.{non_zero_u32_get as number}
 use Rattle.quick_cache_model.specs.CacheState.{Item}
+use Rattle.quick_cache_model.specs.Removal.{pair_of}
 use Rattle.quick_cache_lists.specs.Lists.{HeldLoading, Finds}
 use Rattle.quick_cache_lists.specs.declared.found.Found.TheVariants.{Loading as found_loading}
+use Rattle.quick_cache_policy.specs.Contents.{state_of}
 use Rattle.quick_cache_policy.specs.Policies.{rules_by}
 use Rattle.quick_cache_policy.specs.Writing.{AreAdmittedCalls, IsReplacement}
 use Rattle.quick_cache_policy.proofs.FillLemmas.{awaited-is_loading}
-use Rattle.quick_cache_policy.proofs.OverwriteLemmas.{over_loading-writes, over_loading-sound, over_loading-count}
+use Rattle.quick_cache_policy.proofs.OverwriteLemmas.{over_loading-writes, over_loading-tells, over_loading-sound, over_loading-count}
 use Rattle.quick_cache_policy.proofs.BoundLemmas.{PaysFor-within}
 use Rattle.std.proofs.Common.{sym}
 use Rattle.quick_cache_policy.proofs.FindLemmas.{AreHashed-under}
@@ -65,6 +67,13 @@ returns-clause-writes g c =
               queue = queue i;
             })) _ evicts.calls (evicts.holds.0 steady),
         AreAdmittedCalls.writes [] evicts.calls IsReplacement.none evicts.holds.1,
+        over_loading-tells g.P.SharedPlaceholder.ticket_of c.args.self.now
+            c.apart.ensures.apart g.K.PartialEq.eq g.met.K.Eq.laws rules key
+            c.args.weighed.value (number c.args.token) found c.new-item.result
+            c.replace.result c.replace.new.self c.replace.ensures
+            (ap pair_of c.new-item.ensures)
+            (state_of g.P.SharedPlaceholder.ticket_of c.evict_to_capacity.new.self)
+            evicts.calls evicts.holds.2,
       );
       runs = evicts.runs;
     }

@@ -7,11 +7,13 @@ use Rattle.quick_cache_model.specs.Touches.{raised_by}
 use Rattle.quick_cache_model.specs.Writes.{mark_after}
 use Rattle.quick_cache_model.proofs.HookLaws.{RunsHooks-append}
 use Rattle.quick_cache_model.proofs.Valid.Writes.{mark_after-le}
+use Rattle.quick_cache_model.specs.Removal.{pair_of}
 use Rattle.quick_cache_lists.specs.Lists.{Finds, Rewrites, HasItemToken, IsItemOf}
 use Rattle.quick_cache_lists.specs.declared.found.Found.TheVariants.{Item as found_item}
+use Rattle.quick_cache_policy.specs.Contents.{state_of}
 use Rattle.quick_cache_policy.specs.Policies.{rules_by}
 use Rattle.quick_cache_policy.specs.Writing.{AreAdmittedCalls, IsReplacement, strategy_of}
-use Rattle.quick_cache_policy.proofs.RewriteLemmas.{over_item-same, over_item-writes, over_item-sound, over_item-count}
+use Rattle.quick_cache_policy.proofs.RewriteLemmas.{over_item-same, over_item-writes, over_item-tells, over_item-sound, over_item-count}
 use Rattle.quick_cache_policy.proofs.BoundLemmas.{PaysFor-within}
 use Rattle.std.proofs.Common.{inl, inr}
 use Rattle.quick_cache_policy.proofs.WrittenPlaces.{rewritten-places, one-place, HasItem-place}
@@ -123,6 +125,11 @@ returns-clause-writes g c =
             })) _ evicts.calls (evicts.holds.0 steady),
         AreAdmittedCalls.writes (evicted was.queue was.key was.value ∷ []) evicts.calls
             (IsReplacement.one was.queue was.key was.value) evicts.holds.1,
+        over_item-tells g.P.SharedPlaceholder.ticket_of c.args.self.now c.apart.ensures.apart
+            g.K.PartialEq.eq rules key token found c.new-item.result was c.rewrite.new.self rewrites
+            value (ap pair_of c.new-item.ensures)
+            (state_of g.P.SharedPlaceholder.ticket_of c.evict_to_capacity.new.self)
+            evicts.calls evicts.holds.2,
       );
       runs = RunsHooks-append hooks (evicted was.queue was.key was.value ∷ []) evicts.calls
           c.args.state.now c.report.new.state c.evict_to_capacity.new.state told evicts.runs;

@@ -1,4 +1,6 @@
-use Rattle.std.proofs.Common.{◌+◌, ◌∙◌, sym, ap, subst, arith}
+use Rattle.std.proofs.Common.{List, ◌+◌, ◌∙◌, sym, ap, subst, arith}
+use Rattle.quick_cache_fates.specs.Fates.{residents}
+use Rattle.quick_cache_fates.specs.Leads.{Tells}
 use Rattle.quick_cache_model.specs.declared.queue.Queue.TheVariants.{Hot, Cold}
 use Rattle.quick_cache_model.specs.Capacity.{SetsCapacity}
 use Rattle.quick_cache_model.specs.Eviction.{EvictsToCapacity}
@@ -50,6 +52,8 @@ returns-clause-sets g c =
             evicted)
             (evicts.holds.0 steady),
         evicts.holds.1,
+        subst (λ (ps : List (_ × _)). Tells ps evicts.calls (residents new)) (ap residents begins)
+            evicts.holds.2,
       );
       runs = evicts.runs;
     }

@@ -24,7 +24,7 @@ pub loop-index-init : goal.loop-index-init
 loop-index-init g c = (refl, refl, omega arith)
 
 pub returns-in-Some-clause-steps : goal.returns-in-Some-clause-steps
-returns-in-Some-clause-steps g c = λ steady. c.in-Some.ensures.fits (steady _)
+returns-in-Some-clause-steps g c = c.in-Some.ensures.fits
 
 -- the token is above the last one
 pub returns-in-Some-clause-goes : goal.returns-in-Some-clause-goes
@@ -64,4 +64,4 @@ loop-index-preserved g c =
     )
 
 pub returns-clause-steps : goal.returns-clause-steps
-returns-clause-steps g c = λ steady. tt
+returns-clause-steps g c = tt

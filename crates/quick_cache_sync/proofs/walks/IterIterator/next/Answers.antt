@@ -21,16 +21,16 @@ returns-in-Ok-Some-clause-steps g c =
               c.in-Ok-Some.field-0-is c.in-Ok-Some.ensures.shows;
         },
       ),
-      λ steady keys clones.
+      λ keys clones.
           subst (λ f. IfSome f (λ shown. g.L.Lifecycle.fits shown.1 shown.2))
-          c.in-Ok-Some.field-0-is (c.in-Ok-Some.ensures.fits (steady _) keys clones),
+          c.in-Ok-Some.field-0-is (c.in-Ok-Some.ensures.fits keys clones),
     )
 
 pub returns-in-Err-clause-steps : goal.returns-in-Err-clause-steps
-returns-in-Err-clause-steps g c = (tt, λ steady keys clones. tt)
+returns-in-Err-clause-steps g c = (tt, λ keys clones. tt)
 
 pub loop-index-preserved : goal.loop-index-preserved
 loop-index-preserved g c = tt
 
 pub returns-clause-steps : goal.returns-clause-steps
-returns-clause-steps g c = (tt, λ steady keys clones. tt)
+returns-clause-steps g c = (tt, λ keys clones. tt)

@@ -1,0 +1,13 @@
+//! Tests of the traced cache, and of listeners, pins and weights that are ready made, in both caches.
+#![tactic(auto)]
+
+#[cfg(test)]
+mod fitting;
+#[cfg(test)]
+mod history;
+#[cfg(test)]
+mod listeners;
+#[cfg(test)]
+mod refused;
+#[cfg(test)]
+mod seats;

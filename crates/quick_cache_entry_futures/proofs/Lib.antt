@@ -1,0 +1,2 @@
+mod Polls
+mod Timely

@@ -1,0 +1,22 @@
+-- What follows of a poll.
+use Rattle.futures.specs.Poll.{IfReady, OnPending}
+use Rattle.futures.specs.declared.task.Poll.{Poll}
+use Rattle.futures.specs.declared.task.Poll.TheVariants.{Ready, Pending}
+
+-- where it is pending
+pub OnPending-map : {A : Type 0} (polled : Poll A) (P Q : Type 0) → (P → Q) → OnPending polled P
+    → OnPending polled Q
+OnPending-map (Ready x) P Q go given = tt
+OnPending-map Pending P Q go given = go given
+
+-- where it is pending, of two facts
+pub OnPending-both : {A : Type 0} (polled : Poll A) (P Q R : Type 0) → (P → Q → R)
+    → OnPending polled P → OnPending polled Q → OnPending polled R
+OnPending-both (Ready x) P Q R go first second = tt
+OnPending-both Pending P Q R go first second = go first second
+
+-- where it is ready
+pub IfReady-map : {A : Type 0} (polled : Poll A) (P Q : A → Type 0) → ((x : A) → P x → Q x)
+    → IfReady polled P → IfReady polled Q
+IfReady-map (Ready x) P Q go given = go x given
+IfReady-map Pending P Q go given = tt

@@ -1,0 +1,4 @@
+pub mod Leads
+pub mod Residents
+pub mod Victims
+pub mod Fitting

@@ -1,0 +1,2 @@
+mod WalkLemmas
+mod PlaceLemmas

@@ -1,0 +1,5 @@
+pub mod Reading
+pub mod Moments
+pub mod Looks
+pub mod Answers
+pub mod Loads

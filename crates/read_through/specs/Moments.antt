@@ -1,0 +1,12 @@
+-- When a value may be answered that was loaded at a moment, and lives for so long.
+use Rattle.std.specs.Prelude.{◌≡◌, ℕ, ◌+◌, ◌<◌}
+
+module _ (life moment now : ℕ) where
+  -- what was stored serves while it lives, and what lives for 0 serves nobody
+  abbrev pub Serves : Type 0
+  Serves = (0 < life) × (now < moment + life)
+
+  -- An answer is fresh: it still lives. Where nothing lives, it was loaded at that very moment.
+  pub record IsFresh : Type 0 where
+    pub lives : 0 < life → now < moment + life
+    pub own : life ≡ 0 → moment ≡ now
