@@ -5,10 +5,12 @@
 #![tactic(auto)]
 
 pub mod containers;
+pub mod fitting;
 pub mod keys;
 pub mod loads;
 pub mod one_thread;
 pub mod options;
+pub mod room;
 pub mod shared;
 pub mod told;
 pub mod walks;

@@ -9,7 +9,7 @@ use Rattle.quick_cache_options.specs.Options.{Choices, Settings, no_choices, set
 use Rattle.quick_cache_shard.specs.Shard.{Shard}
 use Rattle.quick_cache_calls.specs.declared.reply.Reply.{Reply}
 use Rattle.qcrun_commands.specs.declared.command.Command.{Command}
-use Rattle.qcrun_commands.specs.declared.command.Command.TheVariants.{Cache, CacheWithShares, Show}
+use Rattle.qcrun_commands.specs.declared.command.Command.TheVariants.{Cache, CacheWithShares, CacheWithMark, Show}
 use Rattle.qcrun_calls.specs.declared.reply.Answer.{Answer}
 use Rattle.qcrun_calls.specs.declared.reply.Answer.TheVariants.{Done, Refused, Fault}
 use Rattle.qcrun.specs.declared.session.Outcome.{Outcome}
@@ -20,8 +20,8 @@ use Rattle.qcrun_cache.specs.Events.{LeavesByKind, TellsOf}
 use Rattle.qcrun_calls.specs.Served.{ServesAsked}
 use Rattle.qcrun_cache.specs.Still.{AreStill}
 
--- the numbers that the cache of a command is to be made with, if it asks for a new one; shares that
--- it does not tell are not set
+-- the numbers that the cache of a command is to be made with, if it asks for a new one; shares and
+-- a greatest mark that it does not tell are not set
 abbrev pub choices_of : Command → Option Choices
 choices_of (Cache items weight) = Some (record no_choices {
   estimated_items_capacity = Some items;
@@ -33,14 +33,22 @@ choices_of (CacheWithShares items weight hot ghosts) = Some (record no_choices {
   hot_allocation = Some hot;
   ghost_allocation = Some ghosts;
 })
+choices_of (CacheWithMark items weight hot ghosts mark) = Some (record no_choices {
+  estimated_items_capacity = Some items;
+  weight_capacity = Some weight;
+  hot_allocation = Some hot;
+  ghost_allocation = Some ghosts;
+  mark_cut = Some mark;
+})
 choices_of _ = None
 
--- an empty cache of these sizes and shares
+-- an empty cache of these sizes and shares, and of this greatest mark
 abbrev pub new_state : Settings → CacheState ℕ ℕ
-new_state settings =
-    empty_state settings.weight_capacity
+new_state settings = record (empty_state settings.weight_capacity
     (hot_target_of settings.weight_capacity settings.hot_allocation)
-    (ghost_limit_of settings.estimated_items_capacity settings.ghost_allocation)
+    (ghost_limit_of settings.estimated_items_capacity settings.ghost_allocation)) {
+      mark_cut = settings.mark_cut;
+    }
 
 module _ {We B L : Type 0} where
   -- An empty cache stands in the place of the old one, or there was no memory and the old one

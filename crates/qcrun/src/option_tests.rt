@@ -4,16 +4,20 @@ use std::process::Abort;
 
 #[test]
 fn the_first_fault_is_told(rt: HostRuntime) {
-    let (hot, ghosts) = (
+    let (hot, ghosts, mark) = (
         "options: hot_allocation is out of range\n",
         "options: ghost_allocation is out of range\n",
+        "options: mark_cut is out of range\n",
     );
-    let scripts: [(&str, &str); 5] = [
+    let scripts: [(&str, &str); 8] = [
         ("cache 1 1 1000001 0\n", hot),
         ("cache 1 1 0 1000001\n", ghosts),
         ("cache 1 1 1000001 1000001\n", hot),
         ("cache 1 1 4294967295 0\n", hot),
         ("cache 1 1 0 4294967295\n", ghosts),
+        ("cache 1 1 0 1000001 4\n", ghosts),
+        ("cache 1 1 0 0 0\n", mark),
+        ("cache 1 1 0 0 255\n", mark),
     ];
     check_all(&rt, rt.alloc(), &scripts);
 }
@@ -71,8 +75,9 @@ fn what_stands_behind_a_cache_line(rt: HostRuntime) {
 
 #[test]
 fn a_share_above_the_greatest_is_bad(rt: HostRuntime) {
-    let scripts: [(&[u8], &str); 4] = [
+    let scripts: [(&[u8], &str); 5] = [
         (b"cache 1 1 4294967296 0", "bad line 1\n"),
+        (b"cache 1 1 1000001 0 256", "bad line 1\n"),
         (b"cache 1 1 0 4294967296", "bad line 1\n"),
         (b"cache 5 5 1000001 4294967296", "bad line 1\n"),
         (

@@ -25,6 +25,15 @@ pub fn options_of(command: Command) -> Option<OptionsBuilder>
                 .ghost_allocation(ghosts);
             Some(options)
         }
+        Command::CacheWithMark(items, weight, hot, ghosts, mark) => {
+            options
+                .estimated_items_capacity(items)
+                .weight_capacity(weight)
+                .hot_allocation(hot)
+                .ghost_allocation(ghosts)
+                .mark_cut(mark);
+            Some(options)
+        }
         _ => None,
     }
 }

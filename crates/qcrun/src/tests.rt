@@ -17,8 +17,30 @@ pub fn check(rt: &impl Abort, alloc: Global, script: &[u8], wanted: &str, status
 
 #[test]
 fn scripts_print_their_replies(rt: HostRuntime) {
-    let scripts: [(&str, &str); 12] = [
+    let scripts: [(&str, &str); 16] = [
         ("", ""),
+        (
+            "cache 2 2 970000 500000 1\ninsert 1 1\nget 1\ninsert 2 1\nget 2\nget 2\nget 2\n\
+             insert 3 1\nshow\n",
+            "ok\nok\nsome 1\nok\nsome 1\nsome 1\nsome 1\nbefore 2 1\nhot 2 1\nok\n\
+             hot 1:1:0\ncold 3:1:0\nghosts\nstill\ncount 2 2 1 1\n",
+        ),
+        (
+            "cache 2 2 970000 500000 2\ninsert 1 1\nget 1\ninsert 2 1\nget 2\nget 2\nget 2\n\
+             insert 3 1\nshow\n",
+            "ok\nok\nsome 1\nok\nsome 1\nsome 1\nsome 1\nbefore 1 1\nhot 1 1\nok\n\
+             hot 2:1:0\ncold 3:1:0\nghosts\nstill\ncount 2 2 1 1\n",
+        ),
+        (
+            "cache 2 2 970000 500000 3\ninsert 1 1\nget 1\ninsert 2 1\nget 2\nget 2\nget 2\n\
+             insert 3 1\nshow\n",
+            "ok\nok\nsome 1\nok\nsome 1\nsome 1\nsome 1\nbefore 1 1\nhot 1 1\nok\n\
+             hot 2:1:1\ncold 3:1:0\nghosts\nstill\ncount 2 2 1 1\n",
+        ),
+        (
+            "cache 2 2 970000 500000 4\n",
+            "options: mark_cut is out of range\n",
+        ),
         (
             "cache 1 1\ninsert 18446744073709551615 18446744073709551601\nget 18446744073709551615",
             "ok\nok\nsome 18446744073709551601\n",
@@ -195,7 +217,7 @@ fn a_bad_line_ends_the_script(rt: HostRuntime) {
         "get 18446744073709551616",
         "show all",
         "cache 1 1 1",
-        "cache 1 1 1 1 1",
+        "cache 1 1 1 1 1 1",
         "insert 1 1 1 1",
         "replace 1",
         "removeif 1",

@@ -12,7 +12,7 @@ use Rattle.quick_cache_calls.specs.declared.call.Call.TheVariants as call
 use Rattle.quick_cache_calls.specs.declared.reply.Reply.{Reply}
 use Rattle.quick_cache_calls.specs.declared.reply.Reply.TheVariants as reply
 use Rattle.qcrun_commands.specs.declared.command.Command.{Command}
-use Rattle.qcrun_commands.specs.declared.command.Command.TheVariants.{Cache, CacheWithShares}
+use Rattle.qcrun_commands.specs.declared.command.Command.TheVariants.{Cache, CacheWithShares, CacheWithMark}
 use Rattle.qcrun_commands.specs.declared.command.Command.TheVariants.{Insert, Replace, Soft, Get}
 use Rattle.qcrun_commands.specs.declared.command.Command.TheVariants.{Peek, Remove, RemoveIf, Set, Poke}
 use Rattle.qcrun_commands.specs.declared.command.Command.TheVariants.{Load, Fail, Guard, Drop, Stats}
@@ -26,6 +26,7 @@ is_wanted wanted key value = value == wanted
 abbrev pub call_of : Command → Option (Call ℕ ℕ ℕ)
 call_of (Cache items weight) = None
 call_of (CacheWithShares items weight hot ghosts) = None
+call_of (CacheWithMark items weight hot ghosts mark) = None
 call_of (Insert key value) = Some (call.Insert key value)
 call_of (Replace key value) = Some (call.Replace key value false)
 call_of (Soft key value) = Some (call.Replace key value true)

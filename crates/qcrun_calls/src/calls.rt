@@ -216,6 +216,7 @@ pub fn make_call<A: Allocator>(
             Reply::Done
         }
         Command::Hits => count(cache),
-        Command::Cache(..) | Command::CacheWithShares(..) | Command::Show => unreachable!(),
+        Command::Cache(..) | Command::CacheWithShares(..) => unreachable!(),
+        Command::CacheWithMark(..) | Command::Show => unreachable!(),
     }
 }

@@ -6,11 +6,11 @@ use Rattle.std.proofs.lemmas.Bool.{false≢true}
 use Rattle.std.specs.Char.{digit_value}
 use Rattle.std.specs.Prelude.{codes, IsErr}
 use Rattle.std.specs.Str.Parse.{AllDigits}
-use Rattle.qcrun_commands.specs.Commands.{IsNumber, AreNumbers, HasMore, HasNumbers, IsLineOf}
+use Rattle.qcrun_commands.specs.Commands.{IsNumber, AreNumbers, HasGhosts, HasMore, HasNumbers, IsLineOf}
 use Rattle.qcrun_commands.specs.Commands.{HasSharesInRange, IsOkExactly}
 use Rattle.qcrun_commands.specs.Commands.{name_of, numbers_of}
 use Rattle.qcrun_commands.specs.declared.command.Command.{Command}
-use Rattle.qcrun_commands.specs.declared.command.Command.TheVariants.{Cache, CacheWithShares}
+use Rattle.qcrun_commands.specs.declared.command.Command.TheVariants.{Cache, CacheWithShares, CacheWithMark}
 use Rattle.qcrun_commands.specs.declared.command.Command.TheVariants.{Insert, Replace, Soft, Get}
 use Rattle.qcrun_commands.specs.declared.command.Command.TheVariants.{Peek, Remove, RemoveIf, Set, Poke}
 use Rattle.qcrun_commands.specs.declared.command.Command.TheVariants.{Load, Fail, Guard, Drop, Stats}
@@ -107,6 +107,8 @@ name_of-lacks_space : (command : Command) → LacksSpace (name_of command)
 name_of-lacks_space (Cache items weight) = LacksSpace-tested (codes "cache") refl
 name_of-lacks_space (CacheWithShares items weight hot ghost) =
     LacksSpace-tested (codes "cache") refl
+name_of-lacks_space (CacheWithMark items weight hot ghost mark) =
+    LacksSpace-tested (codes "cache") refl
 name_of-lacks_space (Insert key value) = LacksSpace-tested (codes "insert") refl
 name_of-lacks_space (Replace key value) = LacksSpace-tested (codes "replace") refl
 name_of-lacks_space (Soft key value) = LacksSpace-tested (codes "soft") refl
@@ -126,11 +128,12 @@ name_of-lacks_space (Capacity weight) = LacksSpace-tested (codes "capacity") ref
 name_of-lacks_space Hits = LacksSpace-tested (codes "hits") refl
 name_of-lacks_space Show = LacksSpace-tested (codes "show") refl
 
--- it has two numbers at most, or four
-numbers_of-count : (command : Command)
-    → (length (numbers_of command) ≤ 2) ⊎ (length (numbers_of command) ≡ 4)
+-- it has two numbers at most, or four or five
+numbers_of-count : (command : Command) → (length (numbers_of command) ≤ 2)
+    ⊎ ((4 ≤ length (numbers_of command)) × (length (numbers_of command) ≤ 5))
 numbers_of-count (Cache items weight) = inl (omega arith)
-numbers_of-count (CacheWithShares items weight hot ghost) = inr refl
+numbers_of-count (CacheWithShares items weight hot ghost) = inr (omega arith, omega arith)
+numbers_of-count (CacheWithMark items weight hot ghost mark) = inr (omega arith, omega arith)
 numbers_of-count (Insert key value) = inl (omega arith)
 numbers_of-count (Replace key value) = inl (omega arith)
 numbers_of-count (Soft key value) = inl (omega arith)
@@ -303,44 +306,66 @@ module _ (name : List ℕ) (first : ℕ) (words second shares : List ℕ)
       ap length (sym more.1.1 ∙ ap (λ (ns : List ℕ). first ∷ ns) (two.4
       ∙ ap (λ (ns : List ℕ). two.0 ∷ ns) one.2)) in
       ⊎_elim (λ few. absurd (omega (arith, few, count)))
-      (λ four. absurd (omega (arith, four, count))) (numbers_of-count command)
+      (λ four. absurd (omega (arith, four.0, count))) (numbers_of-count command)
 
-  -- and behind them stand two shares
-  module _ (hot ghost : List ℕ) (splits : shares ≡ spaced hot ghost) (lacks_too : LacksSpace hot)
+  -- and behind them stands a share, with more behind it
+  module _ (hot ghosts : List ℕ) (splits : shares ≡ spaced hot ghosts) (lacks_too : LacksSpace hot)
     where
       pub HasMore-shares : (command : Command) → HasMore name first words command
-          → (a b c : ℕ) × IsNumber second a × IsNumber hot b × IsNumber ghost c
-          × HasNumbers name (first ∷ a ∷ b ∷ c ∷ []) command
+          → (a b : ℕ) × IsNumber second a × IsNumber hot b × HasGhosts name first a b ghosts command
       HasMore-shares command more =
           let two = AreNumbers-two words second shares split lacks more.0 more.2 in
-          let three = AreNumbers-two shares hot ghost splits lacks_too two.1 two.3 in
+          let three = AreNumbers-two shares hot ghosts splits lacks_too two.1 two.3 in
           let of : numbers_of command ≡ first ∷ two.0 ∷ three.0 ∷ three.1 =
           sym more.1.1 ∙ ap (λ (ns : List ℕ). first ∷ ns) (two.4
-          ∙ ap (λ (ns : List ℕ). two.0 ∷ ns) three.4) in
-          let few : length three.1 ≤ 1 =
-          ⊎_elim (λ few. omega (arith, few, ap length of)) (λ four. omega (arith, four, ap length of))
-          (numbers_of-count command) in
-          let last = AreNumbers-last ghost three.1 few three.3 in (
+          ∙ ap (λ (ns : List ℕ). two.0 ∷ ns) three.4) in (
             two.0,
             three.0,
-            last.0,
             two.2,
             three.2,
-            last.1,
-            (
-              more.1.0,
-              sym (of ∙ ap (λ (ns : List ℕ). first ∷ two.0 ∷ three.0 ∷ ns) last.2),
-              more.1.2,
-            ),
+            (three.1, (more.1.0, sym of, more.1.2), three.3),
           )
 
-      pub HasMore-of_shares : (a b c : ℕ) → IsNumber second a → IsNumber hot b → IsNumber ghost c
-          → (command : Command) → HasNumbers name (first ∷ a ∷ b ∷ c ∷ []) command
+      pub HasMore-of_shares : (a b : ℕ) → IsNumber second a → IsNumber hot b
+          → (command : Command) → HasGhosts name first a b ghosts command
           → HasMore name first words command
-      HasMore-of_shares a b c is_a is_b is_c command has = (
-        a ∷ b ∷ c ∷ [],
-        has,
-        AreNumbers-more words second shares split lacks a (b ∷ c ∷ []) is_a
-            (AreNumbers-more shares hot ghost splits lacks_too b (c ∷ []) is_b
-            (AreNumbers-of_one ghost c is_c)),
+      HasMore-of_shares a b is_a is_b command has = (
+        a ∷ b ∷ has.0,
+        has.1,
+        AreNumbers-more words second shares split lacks a (b ∷ has.0) is_a
+            (AreNumbers-more shares hot ghosts splits lacks_too b has.0 is_b has.2),
       )
+
+-- The words behind three numbers are a share and a mark.
+module _ (name : List ℕ) (items weight hot : ℕ) (words ghosts mark : List ℕ)
+    (split : words ≡ spaced ghosts mark) (lacks : LacksSpace ghosts) where
+  pub HasGhosts-mark : (command : Command) → HasGhosts name items weight hot words command
+      → (a b : ℕ) × IsNumber ghosts a × IsNumber mark b
+      × HasNumbers name (items ∷ weight ∷ hot ∷ a ∷ b ∷ []) command
+  HasGhosts-mark command more =
+      let two = AreNumbers-two words ghosts mark split lacks more.0 more.2 in
+      let of : numbers_of command ≡ items ∷ weight ∷ hot ∷ two.0 ∷ two.1 =
+      sym more.1.1 ∙ ap (λ (ns : List ℕ). items ∷ weight ∷ hot ∷ ns) two.4 in
+      let few : length two.1 ≤ 1 =
+      ⊎_elim (λ few. omega (arith, few, ap length of))
+      (λ five. omega (arith, five.1, ap length of)) (numbers_of-count command) in
+      let last = AreNumbers-last mark two.1 few two.3 in (
+        two.0,
+        last.0,
+        two.2,
+        last.1,
+        (
+          more.1.0,
+          sym (of ∙ ap (λ (ns : List ℕ). items ∷ weight ∷ hot ∷ two.0 ∷ ns) last.2),
+          more.1.2,
+        ),
+      )
+
+  pub HasGhosts-of_mark : (a b : ℕ) → IsNumber ghosts a → IsNumber mark b
+      → (command : Command) → HasNumbers name (items ∷ weight ∷ hot ∷ a ∷ b ∷ []) command
+      → HasGhosts name items weight hot words command
+  HasGhosts-of_mark a b is_a is_b command has = (
+    a ∷ b ∷ [],
+    has,
+    AreNumbers-more words ghosts mark split lacks a (b ∷ []) is_a (AreNumbers-of_one mark b is_b),
+  )

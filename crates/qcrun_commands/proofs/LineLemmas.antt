@@ -7,7 +7,7 @@ use Rattle.std.proofs.lemmas.Str.Ascii.{IsAscii-nil, IsAscii-cons}
 use Rattle.std.specs.Prelude.{codes, nat_lt, IsUtf8, IsAscii}
 use Rattle.qcrun_commands.specs.Commands.{IsNumber, AreNumbers, IsLineOf, name_of, numbers_of}
 use Rattle.qcrun_commands.specs.declared.command.Command.{Command}
-use Rattle.qcrun_commands.specs.declared.command.Command.TheVariants.{Cache, CacheWithShares}
+use Rattle.qcrun_commands.specs.declared.command.Command.TheVariants.{Cache, CacheWithShares, CacheWithMark}
 use Rattle.qcrun_commands.specs.declared.command.Command.TheVariants.{Insert, Replace, Soft, Get}
 use Rattle.qcrun_commands.specs.declared.command.Command.TheVariants.{Peek, Remove, RemoveIf, Set, Poke}
 use Rattle.qcrun_commands.specs.declared.command.Command.TheVariants.{Load, Fail, Guard, Drop, Stats}
@@ -34,6 +34,7 @@ IsAscii-tested (c ∷ word) tested =
 IsAscii-name : (command : Command) → IsAscii (name_of command)
 IsAscii-name (Cache items weight) = IsAscii-tested (codes "cache") refl
 IsAscii-name (CacheWithShares items weight hot ghost) = IsAscii-tested (codes "cache") refl
+IsAscii-name (CacheWithMark items weight hot ghost mark) = IsAscii-tested (codes "cache") refl
 IsAscii-name (Insert key value) = IsAscii-tested (codes "insert") refl
 IsAscii-name (Replace key value) = IsAscii-tested (codes "replace") refl
 IsAscii-name (Soft key value) = IsAscii-tested (codes "soft") refl

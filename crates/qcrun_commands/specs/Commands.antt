@@ -3,7 +3,7 @@ use Rattle.std.specs.Prelude.{◌≡◌, ◌↔◌, ⊤, Result, Ok, ℕ, ◌^�
 use Rattle.std.specs.Prelude.{length, codes}
 use Rattle.std.specs.Str.Parse.{IsNumeral, digits_value}
 use Rattle.qcrun_commands.specs.declared.command.Command.{Command}
-use Rattle.qcrun_commands.specs.declared.command.Command.TheVariants.{Cache, CacheWithShares}
+use Rattle.qcrun_commands.specs.declared.command.Command.TheVariants.{Cache, CacheWithShares, CacheWithMark}
 use Rattle.qcrun_commands.specs.declared.command.Command.TheVariants.{Insert, Replace, Soft, Get}
 use Rattle.qcrun_commands.specs.declared.command.Command.TheVariants.{Peek, Remove, RemoveIf, Set, Poke}
 use Rattle.qcrun_commands.specs.declared.command.Command.TheVariants.{Load, Fail, Guard, Drop, Stats}
@@ -32,6 +32,7 @@ AreNumbers words (number ∷ numbers) = (word : List ℕ) × (rest : List ℕ) �
 abbrev pub name_of : Command → List ℕ
 name_of (Cache items weight) = codes "cache"
 name_of (CacheWithShares items weight hot ghost) = codes "cache"
+name_of (CacheWithMark items weight hot ghost mark) = codes "cache"
 name_of (Insert key value) = codes "insert"
 name_of (Replace key value) = codes "replace"
 name_of (Soft key value) = codes "soft"
@@ -55,6 +56,7 @@ name_of Show = codes "show"
 abbrev pub numbers_of : Command → List ℕ
 numbers_of (Cache items weight) = items ∷ weight ∷ []
 numbers_of (CacheWithShares items weight hot ghost) = items ∷ weight ∷ hot ∷ ghost ∷ []
+numbers_of (CacheWithMark items weight hot ghost mark) = items ∷ weight ∷ hot ∷ ghost ∷ mark ∷ []
 numbers_of (Insert key value) = key ∷ value ∷ []
 numbers_of (Replace key value) = key ∷ value ∷ []
 numbers_of (Soft key value) = key ∷ value ∷ []
@@ -74,9 +76,11 @@ numbers_of (Capacity weight) = weight ∷ []
 numbers_of Hits = []
 numbers_of Show = []
 
--- a share is of at most the greatest u32
+-- a share is of at most the greatest u32, and a mark of at most the greatest u8
 abbrev pub HasSharesInRange : Command → Type 0
 HasSharesInRange (CacheWithShares items weight hot ghost) = (hot < 2 ^ 32) × (ghost < 2 ^ 32)
+HasSharesInRange (CacheWithMark items weight hot ghost mark) =
+    (hot < 2 ^ 32) × (ghost < 2 ^ 32) × (mark < 2 ^ 8)
 HasSharesInRange _ = ⊤
 
 -- the command has this name, and these numbers
@@ -89,6 +93,13 @@ HasNumbers name numbers command = (name ≡ name_of command) × (numbers ≡ num
 abbrev pub HasMore : (name : List ℕ) → (first : ℕ) → (words : List ℕ) → Command → Type 0
 HasMore name first words command = (numbers : List ℕ) × HasNumbers name (first ∷ numbers) command
     × AreNumbers (32 ∷ words) numbers
+
+-- the command has this name and these three numbers, and words write the others, the first of them
+-- without a space before it
+abbrev pub HasGhosts : (name : List ℕ) → (items weight hot : ℕ) → (words : List ℕ) → Command
+    → Type 0
+HasGhosts name items weight hot words command = (numbers : List ℕ)
+    × HasNumbers name (items ∷ weight ∷ hot ∷ numbers) command × AreNumbers (32 ∷ words) numbers
 
 -- the line of a command: its name, and its numbers behind it
 abbrev pub IsLineOf : List ℕ → Command → Type 0

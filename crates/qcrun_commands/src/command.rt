@@ -2,7 +2,7 @@
 ghost use Rattle.std.specs.Prelude.{[], ◌∷◌, Some, codes};
 ghost use Rattle.std.specs.Result.{OkIff};
 ghost use Rattle.std.specs.Str.Parse.{digits_value};
-ghost use Rattle.qcrun_commands.specs.Commands.{HasMore, HasNumbers, IsLineOf, IsNumeralInRange, IsOkExactly};
+ghost use Rattle.qcrun_commands.specs.Commands.{HasGhosts, HasMore, HasNumbers, IsLineOf, IsNumeralInRange, IsOkExactly};
 
 use std::fmt::{self, Display, Formatter, Write};
 use std::str::{FromStr, from_utf8};
@@ -15,6 +15,8 @@ pub enum Command {
     /// `cache ITEMS WEIGHT HOT GHOST`: the same, with these shares of hot items and of ghosts, in
     /// parts per million.
     CacheWithShares(usize, u64, u32, u32),
+    /// `cache ITEMS WEIGHT HOT GHOST MARK`: the same, with this greatest mark of an item.
+    CacheWithMark(usize, u64, u32, u32, u8),
     /// `insert KEY VALUE`
     Insert(u64, u64),
     /// `replace KEY VALUE`
@@ -73,6 +75,9 @@ const MOST_DIGITS: usize = 20;
 
 /// The greatest share that is read.
 const MOST_SHARE: u64 = 4294967295;
+
+/// The greatest mark that is read.
+const MOST_MARK: u64 = 255;
 
 /// The number that a word writes: one to twenty digits, of at most the greatest `u64`.
 fn number(word: &str) -> Result<u64, NotACommand>
@@ -149,6 +154,46 @@ fn with_shares(
     Ok(Command::CacheWithShares(items as usize, weight, hot as u32, ghosts as u32))
 }
 
+/// The command of this name that has these numbers, the last three of them shares and a mark.
+fn with_mark(
+    name: &str,
+    items: u64,
+    weight: u64,
+    hot: u64,
+    ghosts: u64,
+    mark: u64,
+) -> Result<Command, NotACommand>
+    ensures { IsOkExactly result
+        (HasNumbers name.now (items ∷ weight ∷ hot ∷ ghosts ∷ mark ∷ [])) }
+{
+    if name != "cache" || hot > MOST_SHARE || ghosts > MOST_SHARE || mark > MOST_MARK {
+        return Err(NotACommand);
+    }
+    Ok(Command::CacheWithMark(
+        items as usize,
+        weight,
+        hot as u32,
+        ghosts as u32,
+        mark as u8,
+    ))
+}
+
+/// The command of this name that has these numbers, and behind them those that these words write.
+fn with_ghosts(
+    name: &str,
+    items: u64,
+    weight: u64,
+    hot: u64,
+    words: &str,
+) -> Result<Command, NotACommand>
+    ensures { IsOkExactly result (HasGhosts name.now items weight hot words.now) }
+{
+    let Some((ghosts, mark)) = words.split_once(' ') else {
+        return with_shares(name, items, weight, hot, number(words)?);
+    };
+    with_mark(name, items, weight, hot, number(ghosts)?, number(mark)?)
+}
+
 /// The command of this name that has this number, and behind it those that these words write.
 fn with_more(name: &str, first: u64, words: &str) -> Result<Command, NotACommand>
     ensures { IsOkExactly result (HasMore name.now first words.now) }
@@ -159,7 +204,7 @@ fn with_more(name: &str, first: u64, words: &str) -> Result<Command, NotACommand
     let Some((hot, ghosts)) = shares.split_once(' ') else {
         return Err(NotACommand);
     };
-    with_shares(name, first, number(second)?, number(hot)?, number(ghosts)?)
+    with_ghosts(name, first, number(second)?, number(hot)?, ghosts)
 }
 
 impl FromStr for Command {

@@ -2,5 +2,6 @@
 
 pub use quick_cache_shard::{
     CacheShard, Drain, EntryAction, EntryOrPlaceholder, GhostIter, InsertStrategy, Iter, IterFrom,
-    MakesPlaceholders, RingIter, SharedPlaceholder, Touches,
+    MakesPlaceholders, RefMut, RingIter, SharedPlaceholder, TokenMut, Touches,
 };
+pub use quick_cache_slots::Resident;

@@ -2,5 +2,5 @@
 
 pub use quick_cache_runs::{Call, Reply, run};
 pub use quick_cache_unsync::{
-    Cache, DefaultLifecycle, Drain, Guard, Iter, NotLoaded, Placeholder, Ref, RefMut,
+    Cache, DefaultLifecycle, Drain, Guard, Iter, NotLoaded, Placeholder, Plainly, Ref, RefMut,
 };

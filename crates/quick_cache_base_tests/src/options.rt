@@ -1,5 +1,7 @@
 //! The options: each default, each error, and each boundary of the sizes.
-use quick_cache_base::options::{DEFAULT_GHOST_ALLOCATION, DEFAULT_HOT_ALLOCATION, Error, Options};
+use quick_cache_base::options::{
+    DEFAULT_GHOST_ALLOCATION, DEFAULT_HOT_ALLOCATION, DEFAULT_MARK_CUT, Error, Options,
+};
 use quick_cache_base::sizes::{
     ghost_limit, hot_target, rescaled_limit, rescaled_target, shard_sizes,
 };
@@ -141,6 +143,31 @@ fn the_first_error_is_told(rt: HostRuntime) -> Result<(), Fail> {
         };
         assert_eq!(rt; text.as_str(), want, "at row {i}");
     }
+    Ok(())
+}
+
+#[test]
+fn the_greatest_mark_is_tested_last(rt: HostRuntime) -> Result<(), Fail> {
+    let mark = "mark_cut is out of range";
+    // The greatest mark, and the text where nothing else is wrong.
+    for (cut, want) in [(0, mark), (1, "none"), (3, "none"), (4, mark), (255, mark)] {
+        let mut builder = OptionsBuilder::new();
+        let unset = match builder.mark_cut(cut).weight_capacity(1).build() {
+            Ok(_) => format!(in rt.alloc(); "none")?,
+            Err(error) => format!(in rt.alloc(); "{error}")?,
+        };
+        let text = match builder.estimated_items_capacity(1).build() {
+            Ok(options) if options.mark_cut() == cut => format!(in rt.alloc(); "none")?,
+            Ok(_) => format!(in rt.alloc(); "another")?,
+            Err(error) => format!(in rt.alloc(); "{error}")?,
+        };
+        assert_eq!(rt;
+            (unset.as_str(), text.as_str()),
+            ("estimated_items_capacity is not set", want),
+            "at {cut}"
+        );
+    }
+    assert_eq!(rt; DEFAULT_MARK_CUT, 2);
     Ok(())
 }
 

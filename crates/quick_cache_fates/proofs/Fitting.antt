@@ -35,7 +35,7 @@ module _ {K V : Type 0} (fits : K → V → Type 0) where
       RunsHooks-fits hooks keeps calls runs.0 last runs.2
 
   -- the value of a pair fits its key
-  abbrev PairFits : K × V → Type 0
+  abbrev pub PairFits : K × V → Type 0
   PairFits pair = fits pair.0 pair.1
 
   -- the pairs of items that fit
@@ -51,7 +51,7 @@ module _ {K V : Type 0} (fits : K → V → Type 0) where
   items-fit (item ∷ items) fit = (fit.0, items-fit items fit.1)
 
   -- where all values fit, so do those of the residents
-  AllFit-residents : (state : CacheState K V) → AllFit fits state
+  pub AllFit-residents : (state : CacheState K V) → AllFit fits state
       → AllByRecursion PairFits (residents state)
   AllFit-residents state fit =
       pairs-fit (state.hot ++ (state.cold ++ state.still))

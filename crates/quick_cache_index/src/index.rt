@@ -1,5 +1,5 @@
 //! Tokens by hash: tokens in groups of sixteen places, found by tags of their hashes.
-ghost use Rattle.std.specs.Prelude.{◌≡◌, ◌+◌, ◌-◌, ◌^◌, ◌<◌, ◌≤◌, ◌↔◌, min, IsTrue, IsOk, IfOk, IfErr, OnOk, OnErr};
+ghost use Rattle.std.specs.Prelude.{◌≡◌, ◌+◌, ◌-◌, ◌*◌, ◌^◌, ◌<◌, ◌≤◌, ◌↔◌, min, max, IsTrue, IsOk, IfOk, IfErr, OnOk, OnErr};
 ghost use Rattle.std.specs.Int.NonZero.{non_zero_u32_get};
 ghost use Rattle.quick_cache_index.specs.Index.{HasToken, HasNone, GainsToken, LosesToken, Leads, KeepsOtherLeads, KeepsAllLeads, AreCandidates, token_count, wanted_room};
 
@@ -152,6 +152,8 @@ impl<A: Allocator> Index<A> {
         ensures room { OnOk result (min tokens 4294967294 ≤ self.new.room) }
         ensures more { OnOk result (self.old.room + token_count self.old ≤ self.new.room) }
         ensures most { OnOk result (self.new.room ≤ 4294967294) }
+        ensures at_most { OnOk result (self.new.room
+            ≤ max (self.old.room + token_count self.old) (2 * tokens + 14)) }
 
         // Where it had that room for all of its tokens, it takes no memory.
         ensures succeeds { min tokens 4294967294 ≤ self.old.room + token_count self.old

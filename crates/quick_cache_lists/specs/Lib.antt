@@ -9,3 +9,4 @@ pub mod Lent
 pub mod Placeholders
 pub mod Fills
 pub mod Shown
+pub mod Room

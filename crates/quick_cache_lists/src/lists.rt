@@ -1,6 +1,7 @@
 //! The lists of a shard, and room for them.
-ghost use Rattle.std.specs.Prelude.{◌≡◌, ◌+◌, ◌≤◌, ◌<◌, ◌⊎◌, ◌↔◌, min, IsOk, IfOk, IfErr, OnOk, OnErr};
+ghost use Rattle.std.specs.Prelude.{◌≡◌, ◌+◌, ◌≤◌, ◌<◌, ◌⊎◌, ◌↔◌, min, max, IsOk, IfOk, IfErr, OnOk, OnErr};
 ghost use Rattle.quick_cache_lists.specs.Lists.{no_lists, entry_count, slots_left, AreApart};
+ghost use Rattle.quick_cache_lists.specs.Room.{most_room};
 
 mod changes;
 mod copies;
@@ -81,6 +82,8 @@ impl<K, V, P, T, A: Allocator> Lists<K, V, P, T, A> {
         ensures lists { self.new ≡ record self.old { room = self.new.room } }
         ensures room { OnOk result (min additional (slots_left self.old) ≤ self.new.room) }
         ensures grows { self.old.room ≤ self.new.room }
+        ensures at_most { self.new.room
+            ≤ max self.old.room (most_room (entry_count self.old) additional) }
 
         // Where there is room it succeeds, and nothing changes.
         ensures had_room { min additional (slots_left self.old) ≤ self.old.room

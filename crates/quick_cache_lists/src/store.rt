@@ -1,9 +1,10 @@
 //! The slots and the index in step: each entry is in a slot, and its hash leads to the slot.
-ghost use Rattle.std.specs.Prelude.{◌≡◌, ◌+◌, ◌<◌, ◌≤◌, ℕ, min, length, map, Some, IsOk, IfErr, OnOk, OnErr};
+ghost use Rattle.std.specs.Prelude.{◌≡◌, ◌+◌, ◌*◌, ◌<◌, ◌≤◌, ℕ, min, max, length, map, Some, IsOk, IfErr, OnOk, OnErr};
 ghost use Rattle.std.specs.Int.NonZero.{non_zero_u32_get as number};
 ghost use Rattle.quick_cache_slab.specs.LinkedSlab.{next_token, times, IsOccupied, IsNextOf, item_at};
 ghost use Rattle.quick_cache_index.specs.Index.{token_count, wanted_room, HasToken};
 ghost use Rattle.quick_cache_lists.specs.Frames.{IsPlaced, IsRemoved};
+ghost use Rattle.quick_cache_lists.specs.Room.{most_room};
 ghost use Rattle.quick_cache_lists.specs.Slots.{weight_in, weight_at};
 ghost use Rattle.quick_cache_lists.specs.Sound.{AddsTokens, IsKeyed, room_of};
 
@@ -85,6 +86,9 @@ pub(crate) fn rekey<K, V, P, T, A: Allocator>(
         ≤ token_count index.new + index.new.room) }
     ensures more { OnOk result (token_count index.old + index.old.room
         ≤ token_count index.new + index.new.room) }
+    ensures at_most { OnOk result (token_count index.new + index.new.room
+        ≤ max (token_count index.old + index.old.room)
+        (2 * (token_count index.new + additional) + 14)) }
     ensures memory { IfErr result (λ refused. refused ≡ Refusal.Memory) }
     ensures refused { OnErr result (index.new
         ≡ record index.old { allocated = index.new.allocated }) }
@@ -107,6 +111,8 @@ pub(crate) fn grow_index<K, V, P, T, A: Allocator>(
     ensures keyed { IsKeyed slots.now index.new }
     ensures room { OnOk result (wanted_room index.old additional ≤ index.new.room) }
     ensures grows { index.old.room ≤ index.new.room }
+    ensures at_most { index.new.room
+        ≤ max index.old.room (most_room (token_count index.old) additional) }
 
     // Where there is room it succeeds, and nothing changes.
     ensures had_room { wanted_room index.old additional ≤ index.old.room

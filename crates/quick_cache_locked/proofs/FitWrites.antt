@@ -11,7 +11,7 @@ use Rattle.quick_cache_model.specs.Writes.{Strategy}
 use Rattle.quick_cache_model.proofs.EachElement.{all-middle}
 use Rattle.quick_cache_shard.specs.Shard.{Shard, hooks_of, Wrote, GivesBack, AnswersWrite}
 use Rattle.quick_cache_locked.specs.Fitting.{FitsIn, AllFit}
-use Rattle.quick_cache_fates.proofs.Fitting.{RunsHooks-fits, TellsBeside-fits}
+use Rattle.quick_cache_fates.proofs.Fitting.{RunsHooks-fits, TellsBeside-fits, TellsBeside-gives}
 use Rattle.quick_cache_locked.proofs.FitLemmas.{AllFit-at}
 
 module _ {K V : Type 0} (fits : K → V → Type 0) where
@@ -39,6 +39,19 @@ module _ {K V : Type 0} (fits : K → V → Type 0) where
         (RunsHooks-fits fits hooks keeps wrote.step.calls first last wrote.step.runs)
         wrote.step.holds.2 is fit
 
+    -- the pair that it gave back, if it did
+    pub GivesBack-gives : (back_key : K) (back_value : V) (refusal : Option Refusal)
+        → GivesBack steady hooks rules equal strategy old first key value back_key back_value
+        refusal new last
+        → fits back_key back_value
+    GivesBack-gives back_key back_value None wrote =
+        TellsBeside-gives fits key value old new wrote.step.calls (Some (back_key, back_value))
+        (RunsHooks-fits fits hooks keeps wrote.step.calls first last wrote.step.runs)
+        wrote.step.holds.2 is fit
+    GivesBack-gives back_key back_value (Some refusal) refuses =
+        subst (λ (k : K). fits k back_value) (sym refuses.key_back)
+        (subst (λ (v : V). fits key v) (sym refuses.value_back) is)
+
     -- a write that gave a pair back
     pub GivesBack-fits : (back_key : K) (back_value : V) (refusal : Option Refusal)
         → GivesBack steady hooks rules equal strategy old first key value back_key back_value
@@ -64,3 +77,19 @@ AllFit-written life keeps old new rules equal strategy first key value (Ok done)
 AllFit-written life keeps old new rules equal strategy first key value (Err back) last gives is fit =
     GivesBack-fits life.fits (life.steady old.lifecycle) (hooks_of life old) (keeps old.lifecycle)
     rules equal strategy old.state first key value new.state last is fit back.0 back.1 back.2 gives
+
+-- and a pair that it gives back fits
+pub written-gives : {K V We B L S : Type 0} (life : lifecycle.Ghosts L K V S)
+    → ((l : L) (was : S) (k : K) (v : V) (now : S) (left : V)
+    → life.before_evict_gives l was k v now left → life.fits k v → life.fits k left)
+    → (old new : Shard K V We B L) (rules : Rules K V) (equal : K → K → Bool)
+    (strategy : Strategy) (first : S) (key : K) (value : V) (back_key : K) (back_value : V)
+    (refusal : Option Refusal) (last : S)
+    → GivesBack (life.steady old.lifecycle) (hooks_of life old) rules equal strategy old.state
+    first key value back_key back_value refusal new.state last
+    → life.fits key value → AllFit life.fits old.state → life.fits back_key back_value
+written-gives life keeps old new rules equal strategy first key value back_key back_value refusal
+    last gives is fit =
+    GivesBack-gives life.fits (life.steady old.lifecycle) (hooks_of life old) (keeps old.lifecycle)
+    rules equal strategy old.state first key value new.state last is fit back_key back_value refusal
+    gives

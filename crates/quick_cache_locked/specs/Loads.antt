@@ -8,6 +8,8 @@ use Rattle.quick_cache_shard.specs.Filling.{AnswersFill, AwaitsKey}
 use Rattle.quick_cache_shard.specs.Loading.{IsMadeOrMet, MakesNone}
 use Rattle.quick_cache_guard.specs.declared.shard.Begun.{Begun}
 use Rattle.quick_cache_guard.specs.declared.shard.Begun.TheVariants.{Found, Loading}
+use Rattle.quick_cache_shard.specs.Shard.{Shard}
+use Rattle.quick_cache_shard.specs.Steps.{Goes, steady_in, hooks_in, rules_in}
 use Rattle.quick_cache_locked.specs.Peeks.{Peeks}
 
 module _ {K V P : Type 0} (own_ticket : P → ℕ) (stands_for : K → Bool) (gives : K → Type 0)
@@ -43,3 +45,11 @@ module _ {K V S : Type 0} (steady : Type 0) (hooks : Hooks K V S) (rules : Rules
       Calls hooks (AnswersFill steady ticket old rules marked value (Ok done) new) first last
   EndsLoad first (Err back) new last =
       AwaitsNoEqual equal ticket key old × (back ≡ value) × (new ≡ old) × (last ≡ first)
+
+-- the same of a shard, as what it goes by says
+abbrev pub EndsLoadBy : {K V We B L S : Type 0} → Goes K V We B L S → (may_count : ℕ → Type 0)
+    → (old : Shard K V We B L) → (equal : K → K → Bool) → (ticket : ℕ) → (marked : Bool)
+    → (key : K) → (value : V) → Result (Unit {0}) V → (new : Shard K V We B L) → S → S → Type 0
+EndsLoadBy goes may_count old equal ticket marked key value answer new first last =
+    EndsLoad (steady_in goes old) (hooks_in goes old) (rules_in goes may_count old) equal ticket
+    old.state marked key value first answer new.state last

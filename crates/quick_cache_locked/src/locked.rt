@@ -1,12 +1,12 @@
 //! A shard as its lock keeps it: each call is one step of it.
-ghost use Rattle.std.specs.Prelude.{[], ◌≡◌, IfOk, IfErr, IsOk};
+ghost use Rattle.std.specs.Prelude.{◌≡◌, IfOk, IfErr, IsOk};
 ghost use Rattle.quick_cache_model.specs.declared.refusal.Refusal.TheVariants.{Memory};
 ghost use Rattle.quick_cache_model.specs.CacheState.{empty_state};
 ghost use Rattle.quick_cache_model.specs.Sizes.{hot_target_of, ghost_limit_of};
-ghost use Rattle.quick_cache_shard.specs.Shard.{no_work, KeepsPlaces, rules_of, hooks_of};
-ghost use Rattle.quick_cache_shard.specs.Inserts.{Inserts};
+ghost use Rattle.quick_cache_shard.specs.Shard.{KeepsPlaces, KeepsTerms, made_with};
 ghost use Rattle.quick_cache_locked.specs.Locked.{IsKept};
 ghost use Rattle.quick_cache_locked.specs.Touches.{any_touches};
+ghost use Rattle.quick_cache_shard.specs.Steps.{InsertsBy};
 
 mod acting;
 mod loading;
@@ -19,7 +19,7 @@ mod writes;
 use quick_cache_model::{Lifecycle, Refusal, Weighter};
 use quick_cache_options::options::Options;
 use quick_cache_options::sizes::ShardSizes;
-use quick_cache_shard::{CacheShard, InsertStrategy};
+use quick_cache_shard::{CacheShard, Going, InsertStrategy, Keyed};
 use quick_cache_sharing::{Maker, SharedPlaceholder};
 use std::alloc::{Allocator, Global};
 use std::hash::{BuildHasher, Hash};
@@ -52,6 +52,40 @@ impl<K: Eq + Hash + Drop, V: Drop, We, B: BuildHasher, L: Lifecycle<K, V>, A: Al
     ghost invariant = { λ locked. AllFit L.fits locked.shard.state };
 }
 
+impl<K: Eq + Hash + Drop, V: Drop, We, B: BuildHasher, L: Lifecycle<K, V>, A: Allocator> Keyed
+    for LockedShard<K, V, We, B, L, A> {
+    ghost use Rattle.quick_cache_model.specs.Hashing.{hash_of};
+
+    type Builder = B;
+
+    ghost hash = { hash_of B.BuildHasher B.Hasher.Hasher };
+}
+
+impl<
+    K: Eq + Hash + Drop,
+    V: Drop,
+    We: Weighter<K, V>,
+    B: BuildHasher,
+    L: Lifecycle<K, V>,
+    A: Allocator,
+> Going for LockedShard<K, V, We, B, L, A> {
+    ghost use Rattle.quick_cache_shard.specs.Goes.{goes_by};
+
+    type Key = K;
+
+    type Value = V;
+
+    type Weigher = We;
+
+    type Builder = B;
+
+    type Life = L;
+
+    type RequestState = L::RequestState;
+
+    ghost goes = { goes_by K.Hash.hash_input We.Weighter B.BuildHasher B.Hasher.Hasher L.Lifecycle };
+}
+
 impl<
     K: Eq + Hash + Drop,
     V: Drop,
@@ -60,7 +94,7 @@ impl<
     L: Lifecycle<K, V>,
     A: Allocator,
 > LockedShard<K, V, We, B, L, A> {
-    /// An empty shard of these sizes, with the shares that the options tell.
+    /// An empty shard of these sizes, with the shares and the greatest mark that the options tell.
     pub fn new(
         alloc: A,
         options: &Options,
@@ -74,16 +108,11 @@ impl<
         We: Drop,
         B: Drop,
         L: Drop,
-        ensures makes { IfOk result (λ locked. locked ≡ record {
-          state = empty_state sizes.weight (hot_target_of sizes.weight options.now.hot_allocation)
-              (ghost_limit_of sizes.items options.now.ghost_allocation);
-          weigher = weigher;
-          builder = builder;
-          lifecycle = lifecycle;
-          places = [];
-          room = 0;
-          work = no_work;
-        }) }
+        ensures makes { IfOk result (λ locked. locked ≡ made_with
+            (record (empty_state sizes.weight
+            (hot_target_of sizes.weight options.now.hot_allocation)
+            (ghost_limit_of sizes.items options.now.ghost_allocation))
+            { mark_cut = options.now.mark_cut }) weigher builder lifecycle) }
         ensures succeeds { A.is_infallible alloc → IsOk result }
         ensures refused { IfErr result (λ refusal. refusal ≡ Memory) }
     {
@@ -95,6 +124,7 @@ impl<
             alloc,
             options.hot_allocation(),
             options.ghost_allocation(),
+            options.mark_cut(),
             sizes.items,
             sizes.weight,
             weigher,
@@ -126,18 +156,11 @@ impl<
         We: Weighter<K, V>,
         requires fits { L.fits key value }
         // Where pinning is steady, the write is a step of its definition.
-        ensures inserts { Inserts (L.steady self.old.lifecycle) (hooks_of L.Lifecycle self.old)
-            (rules_of any_touches K.Hash.hash_input We.Weighter B.BuildHasher B.Hasher.Hasher
-            L.Lifecycle self.old)
-            K.eq self.old.state state.old key value result self.new.state state.new }
+        ensures inserts { InsertsBy ⟦<Self as Going>⟧.goes any_touches self.old K.eq key value
+            result self.new state.old state.new }
         // No item moves that stays.
         ensures places { KeepsPlaces K.eq self.old.places self.new.places }
-        ensures same { self.new ≡ record self.old {
-          state = self.new.state;
-          places = self.new.places;
-          room = self.new.room;
-          work = self.new.work;
-        } }
+        ensures same { KeepsTerms self.old self.new }
         ensures kept { IsKept L.Lifecycle K.eq self.old }
     {
         self.is_kept();

@@ -15,6 +15,12 @@ pub const DEFAULT_HOT_ALLOCATION: u32 = 970000;
 /// The share of the estimated items that is kept as ghosts where none is set, in parts per million.
 pub const DEFAULT_GHOST_ALLOCATION: u32 = 500000;
 
+/// The greatest mark of an item where none is set.
+pub const DEFAULT_MARK_CUT: u8 = 2;
+
+/// The greatest of the greatest marks that may be set.
+pub(crate) const MOST_MARKS: u8 = 3;
+
 /// The greatest share: all of it, in parts per million.
 pub(crate) const WHOLE_ALLOCATION: u32 = 1000000;
 
@@ -50,6 +56,7 @@ pub struct Options {
     weight_capacity: u64,
     hot_allocation: u32,
     ghost_allocation: u32,
+    mark_cut: u8,
 }
 
 impl Model for Options {
@@ -63,9 +70,11 @@ impl Model for Options {
       weight_capacity = o.weight_capacity;
       hot_allocation = o.hot_allocation;
       ghost_allocation = o.ghost_allocation;
+      mark_cut = o.mark_cut;
     } };
 
-    ghost invariant = { λ o. IsInRange o.shards o.hot_allocation o.ghost_allocation };
+    ghost invariant = { λ o. IsInRange o.shards o.hot_allocation o.ghost_allocation
+        o.mark_cut };
 }
 
 impl Options {
@@ -105,5 +114,14 @@ impl Options {
         ensures in_range { result ≤ 1000000 }
     {
         self.ghost_allocation
+    }
+
+    /// The greatest mark of an item: how many uses of it count at most.
+    pub fn mark_cut(&self) -> u8
+        ensures value { result ≡ self.now.mark_cut }
+        ensures at_least { 1 ≤ result }
+        ensures at_most { result ≤ 3 }
+    {
+        self.mark_cut
     }
 }

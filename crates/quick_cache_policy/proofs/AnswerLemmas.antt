@@ -162,9 +162,9 @@ module _ {K V : Type 0} (stands_for : K → Bool) (hash : ℕ) (state : CacheSta
   Provides-refused none strategy Finished p = absurd p
 
 -- no work is within each bound
-pub WorksWithin-none : (n : ℕ) (work : Work) → work.advances < 2 ^ 64 → work.visits < 2 ^ 64
-    → WorksWithin n work work
-WorksWithin-none n work advances visits = record {
+pub WorksWithin-none : (cut n : ℕ) (work : Work) → work.advances < 2 ^ 64 → work.visits < 2 ^ 64
+    → WorksWithin cut n work work
+WorksWithin-none cut n work advances visits = record {
   advances = 0;
   visits = 0;
   does = record {
@@ -172,7 +172,7 @@ WorksWithin-none n work advances visits = record {
     visits_are = counted_up-zero work.visits visits;
   };
   few_advances = omega arith;
-  few_visits = zero-le (3 * n * (2 * n + 1));
+  few_visits = zero-le ((cut + 1) * n * (2 * n + 1));
 }
   where
     zero-le : (m : ℕ) → 0 ≤ m

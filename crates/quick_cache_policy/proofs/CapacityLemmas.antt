@@ -81,6 +81,8 @@ module _ {K V P W A T : Type 0} (ticket_of : P → ℕ) (old : Contents K V W A 
         limit_is,
         rescaled_limit-counts old.capacity capacity old.ghost_limit sound.sized.limit_counts,
       );
+      some_mark = sound.sized.some_mark;
+      few_marks = sound.sized.few_marks;
     };
     hashed = record {
       hot = sound.hashed.hot;

@@ -3,10 +3,9 @@ use Rattle.std.proofs.Common.{◌≡◌, ◌-◌, Bool, true, List, [], ◌∷�
 use Rattle.std.specs.List.{AllByRecursion}
 use Rattle.std.proofs.lemmas.List.Sorted.{IsPermutation-trans}
 use Rattle.quick_cache_model.specs.declared.queue.Queue.TheVariants.{Hot, Cold}
-use Rattle.quick_cache_model.specs.CacheState.{CacheState, Item, InCold, default_mark_cut}
+use Rattle.quick_cache_model.specs.CacheState.{CacheState, Item, InCold}
 use Rattle.quick_cache_model.specs.Eviction.{AdvancesHot, AdvancesCold, EvictsToTarget, EvictsVictim}
 use Rattle.quick_cache_model.specs.Eviction.{IsPassed, promoted}
-use Rattle.quick_cache_model.specs.Touches.{RaisesMarks}
 use Rattle.quick_cache_model.specs.Hooks.{Rules, HookCall}
 use Rattle.quick_cache_model.proofs.EachElement.{all-weaker}
 use Rattle.quick_cache_model.proofs.OrderLaws.{UpToOrder-map}
@@ -20,7 +19,7 @@ use Rattle.quick_cache_policy.specs.Advances.{FirstIsPromoted, FirstIsEvicted}
 use Rattle.quick_cache_policy.proofs.TellLemmas.{FirstIsEvicted-tells, FirstIsPromoted-order, Searches-order}
 
 module _ {K V : Type 0} (rules : Rules K V) (steady : Type 0) (old : CacheState K V)
-    (cut : old.mark_cut ≡ default_mark_cut) (cold : List (Item K V)) where
+    (cold : List (Item K V)) where
   -- where pinning is steady, the items that a search passed by are those that an advance does
   passed_by : steady → (items : List (Item K V))
       → AllByRecursion (IsPassedBy steady rules.pinned) items
@@ -30,15 +29,15 @@ module _ {K V : Type 0} (rules : Rules K V) (steady : Type 0) (old : CacheState 
 
   -- a search changes no pair
   searched-order : (answer : Search)
-      → Searches steady rules.pinned rules.may_count old.cold answer cold
+      → Searches steady rules.pinned old.mark_cut rules.may_count old.cold answer cold
       → IsPermutation (residents old) (residents (record old { cold = cold }))
   searched-order answer finds =
       residents-reordered InCold old.cold cold old
-      (Searches-order steady rules.pinned rules.may_count old.cold cold answer finds)
+      (Searches-order steady rules.pinned old.mark_cut rules.may_count old.cold cold answer finds)
 
   -- a marked item was found, and promoted, and the hot ring brought to its target
   pub AdvancesCold-promoted : (mid new : CacheState K V) (calls : List (HookCall K V))
-      → Searches steady rules.pinned rules.may_count old.cold Marked cold
+      → Searches steady rules.pinned old.mark_cut rules.may_count old.cold Marked cold
       → FirstIsPromoted (record old { cold = cold }) mid
       → Evicting steady (EvictsToTarget rules) mid new calls
       → Evicting steady (λ state. AdvancesCold rules state true) old new calls
@@ -61,8 +60,7 @@ module _ {K V : Type 0} (rules : Rules K V) (steady : Type 0) (old : CacheState 
         λ steadily. UpToOrder-map (EvictsToTarget rules mid calls)
             (AdvancesCold rules old true calls) new
             (λ state goes. AdvancesCold.promotes finds.cold e.before e.item e.after calls state
-            (subst (λ n. RaisesMarks n rules.may_count old.cold finds.cold) (sym cut) finds.raised)
-            e.split (passed_by steadily e.before e.passed) e.meets
+            finds.raised e.split (passed_by steadily e.before e.passed) e.meets
             (subst (λ (s : CacheState K V). EvictsToTarget rules s calls state) is goes))
             (evicts.0 steadily),
         evicts.1,
@@ -74,7 +72,7 @@ module _ {K V : Type 0} (rules : Rules K V) (steady : Type 0) (old : CacheState 
 
   -- an item was found that is neither marked nor pinned, and it left
   pub AdvancesCold-evicted : (new : CacheState K V) (calls : List (HookCall K V))
-      → Searches steady rules.pinned rules.may_count old.cold Victim cold
+      → Searches steady rules.pinned old.mark_cut rules.may_count old.cold Victim cold
       → FirstIsEvicted rules Cold (record old { cold = cold }) calls new × AreEvictions calls
       → Evicting steady (λ state. AdvancesCold rules state true) old new calls
   AdvancesCold-evicted new calls finds evicts =
@@ -88,8 +86,7 @@ module _ {K V : Type 0} (rules : Rules K V) (steady : Type 0) (old : CacheState 
             (EvictsVictim rules Cold (record old { cold = first.rest }) first.item calls)
             (AdvancesCold rules old true calls) new
             (λ state goes. AdvancesCold.evicts finds.cold e.before e.item e.after calls state
-            (subst (λ n. RaisesMarks n rules.may_count old.cold finds.cold) (sym cut) finds.raised)
-            e.split (passed_by steadily e.before e.passed) e.meets.0 (e.meets.1 steadily)
+            finds.raised e.split (passed_by steadily e.before e.passed) e.meets.0 (e.meets.1 steadily)
             (subst (λ (xs : List (Item K V)). EvictsVictim rules Cold (record old { cold = xs })
             e.item calls state) rest
             (subst (λ (i : Item K V). EvictsVictim rules Cold (record old { cold = first.rest }) i
@@ -103,7 +100,7 @@ module _ {K V : Type 0} (rules : Rules K V) (steady : Type 0) (old : CacheState 
 
   -- all were passed by, and a hot advance was made
   pub AdvancesCold-passed : (answer : Bool) (new : CacheState K V) (calls : List (HookCall K V))
-      → Searches steady rules.pinned rules.may_count old.cold AllPassed cold
+      → Searches steady rules.pinned old.mark_cut rules.may_count old.cold AllPassed cold
       → Evicting steady (λ state. AdvancesHot rules state answer) (record old { cold = cold }) new
       calls
       → Evicting steady (λ state. AdvancesCold rules state answer) old new calls
@@ -111,8 +108,7 @@ module _ {K V : Type 0} (rules : Rules K V) (steady : Type 0) (old : CacheState 
     λ steadily. UpToOrder-map (AdvancesHot rules (record old { cold = cold }) answer calls)
         (AdvancesCold rules old answer calls) new
         (λ state goes. AdvancesCold.passes_all finds.cold answer calls state
-        (subst (λ n. RaisesMarks n rules.may_count old.cold finds.cold) (sym cut) finds.raised)
-        (passed_by steadily finds.cold finds.ends.0)
+        finds.raised (passed_by steadily finds.cold finds.ends.0)
         (subst (λ (xs : List (Item K V)). AdvancesHot rules (record old { cold = xs }) answer calls
         state) finds.ends.1 goes))
         (advances.0 steadily),

@@ -2,7 +2,7 @@
 use Rattle.std.proofs.Common.{◌≡◌, ℕ, ◌+◌, ◌<◌, Bool, List, [], ◌∷◌, ◌++◌, length, refl, sym, ap, subst, ◌∙◌, arith, append_assoc, length-append}
 use Rattle.std.specs.List.{AllByRecursion}
 use Rattle.std.proofs.lemmas.List.{append-nil}
-use Rattle.quick_cache_model.specs.CacheState.{Item, default_mark_cut}
+use Rattle.quick_cache_model.specs.CacheState.{Item}
 use Rattle.quick_cache_model.specs.Touches.{RaisesMarks}
 use Rattle.quick_cache_model.proofs.EachElement.{all-push}
 use Rattle.quick_cache_model.proofs.TouchLaws.{RaisesMarks-same}
@@ -14,13 +14,13 @@ use Rattle.quick_cache_policy.specs.Advances.{IsPassedBy, IsFound, LooksAt, Stop
 
 -- a look changes no number of items
 pub LooksAt-length : {K V : Type 0} {steady : Type 0} {pinned : K → V → Bool}
-    {may_count : ℕ → Type 0} {old new : List (Item K V)} {answer : Search}
-    → LooksAt steady pinned may_count old answer new → length new ≡ length old
+    {cut : ℕ} {may_count : ℕ → Type 0} {old new : List (Item K V)} {answer : Search}
+    → LooksAt steady pinned cut may_count old answer new → length new ≡ length old
 LooksAt-length {K = K} {V = V} looks =
     ap (length {A = Item K V}) looks.looked ∙ sym (ap (length {A = Item K V}) looks.split)
 
-module _ {K V : Type 0} (steady : Type 0) (pinned : K → V → Bool) (may_count : ℕ → Type 0)
-    (old : List (Item K V)) where
+module _ {K V : Type 0} (steady : Type 0) (pinned : K → V → Bool) (cut : ℕ)
+    (may_count : ℕ → Type 0) (old : List (Item K V)) where
   -- so many items were passed by, and stand behind the rest with the touches that they took
   pub record HasPassed (passed : ℕ) (now : List (Item K V)) : Type 0 where
     pub olds : List (Item K V)
@@ -28,7 +28,7 @@ module _ {K V : Type 0} (steady : Type 0) (pinned : K → V → Bool) (may_count
     pub rest : List (Item K V)
     pub split : old ≡ olds ++ rest
     pub count : length olds ≡ passed
-    pub raised : RaisesMarks default_mark_cut may_count olds news
+    pub raised : RaisesMarks cut may_count olds news
     pub passed_by : AllByRecursion (IsPassedBy steady pinned) news
     pub now_is : now ≡ rest ++ news
 
@@ -77,7 +77,7 @@ module _ {K V : Type 0} (steady : Type 0) (pinned : K → V → Bool) (may_count
 
     -- one more was passed by, and the ring turned
     pub HasPassed-more : (new : List (Item K V)) → passed < length old
-        → LooksAt steady pinned may_count now AllPassed new → HasPassed (passed + 1) (turned new)
+        → LooksAt steady pinned cut may_count now AllPassed new → HasPassed (passed + 1) (turned new)
     HasPassed-more new more looks =
         let n = next looks.item looks.rest looks.split more in record {
           olds = has.olds ++ looks.item ∷ [];
@@ -86,7 +86,7 @@ module _ {K V : Type 0} (steady : Type 0) (pinned : K → V → Bool) (may_count
           split = has.split ∙ ap (λ l. has.olds ++ l) n.stands
               ∙ sym (append_assoc has.olds (looks.item ∷ []) n.left);
           count = omega (arith, has.count, length-append has.olds (looks.item ∷ []));
-          raised = RaisesMarks-append default_mark_cut may_count has.olds has.news
+          raised = RaisesMarks-append cut may_count has.olds has.news
               (looks.item ∷ []) (looks.touched ∷ []) has.raised (looks.takes, tt);
           passed_by = all-push (IsPassedBy steady pinned) has.news looks.touched has.passed_by
               looks.finds;
@@ -96,18 +96,18 @@ module _ {K V : Type 0} (steady : Type 0) (pinned : K → V → Bool) (may_count
 
     -- the ring, once the items that were looked at took their touches
     stopped : (found : Item K V → Type 0) (answer : Search) (new : List (Item K V)) → may_count 0
-        → passed < length old → (looks : LooksAt steady pinned may_count now answer new)
+        → passed < length old → (looks : LooksAt steady pinned cut may_count now answer new)
         → found looks.touched
-        → (cold : List (Item K V)) × RaisesMarks default_mark_cut may_count old
+        → (cold : List (Item K V)) × RaisesMarks cut may_count old
         cold × StopsAt steady pinned found cold new
     stopped found answer new none more looks is =
         let n = next looks.item looks.rest looks.split more in (
           has.news ++ looks.touched ∷ n.left,
-          subst (λ l. RaisesMarks default_mark_cut may_count l (has.news ++ looks.touched ∷ n.left))
+          subst (λ l. RaisesMarks cut may_count l (has.news ++ looks.touched ∷ n.left))
               (sym (has.split ∙ ap (λ l. has.olds ++ l) n.stands))
-              (RaisesMarks-append default_mark_cut may_count has.olds has.news (looks.item ∷ n.left)
+              (RaisesMarks-append cut may_count has.olds has.news (looks.item ∷ n.left)
               (looks.touched ∷ n.left) has.raised
-              (looks.takes, RaisesMarks-same default_mark_cut may_count none n.left)),
+              (looks.takes, RaisesMarks-same cut may_count none n.left)),
           record {
             before = has.news;
             item = looks.touched;
@@ -121,24 +121,24 @@ module _ {K V : Type 0} (steady : Type 0) (pinned : K → V → Bool) (may_count
 
     -- the search stops at a marked item
     pub HasPassed-marked : (new : List (Item K V)) → may_count 0 → passed < length old
-        → LooksAt steady pinned may_count now Marked new
-        → Searches steady pinned may_count old Marked new
+        → LooksAt steady pinned cut may_count now Marked new
+        → Searches steady pinned cut may_count old Marked new
     HasPassed-marked new none more looks =
         let s = stopped (λ item. IsFound steady pinned item Marked) Marked new none more looks
         looks.finds in record { cold = s.0; raised = s.1; ends = s.2 }
 
     -- or at one that is neither marked nor pinned
     pub HasPassed-victim : (new : List (Item K V)) → may_count 0 → passed < length old
-        → LooksAt steady pinned may_count now Victim new
-        → Searches steady pinned may_count old Victim new
+        → LooksAt steady pinned cut may_count now Victim new
+        → Searches steady pinned cut may_count old Victim new
     HasPassed-victim new none more looks =
         let s = stopped (λ item. IsFound steady pinned item Victim) Victim new none more looks
         looks.finds in record { cold = s.0; raised = s.1; ends = s.2 }
 
     -- in each case the search has ended
     pub HasPassed-found : (answer : Search) (new : List (Item K V)) → (answer ≡ AllPassed → ⊥)
-        → may_count 0 → passed < length old → LooksAt steady pinned may_count now answer new
-        → Searches steady pinned may_count old answer new
+        → may_count 0 → passed < length old → LooksAt steady pinned cut may_count now answer new
+        → Searches steady pinned cut may_count old answer new
     HasPassed-found Marked new found none more looks = HasPassed-marked new none more looks
     HasPassed-found Victim new found none more looks = HasPassed-victim new none more looks
     HasPassed-found AllPassed new found none more looks = absurd (found refl)

@@ -4,7 +4,7 @@ use Rattle.std.proofs.Common.{◌∙◌, arith, length-append}
 use Rattle.std.specs.List.{AllByRecursion}
 use Rattle.std.proofs.lemmas.List.{length-map}
 use Rattle.quick_cache_model.specs.declared.queue.Queue.TheVariants.{Cold}
-use Rattle.quick_cache_model.specs.CacheState.{Item, IsRingItem, default_mark_cut}
+use Rattle.quick_cache_model.specs.CacheState.{Item, IsRingItem}
 use Rattle.quick_cache_model.specs.Touches.{TakesTouches}
 use Rattle.quick_cache_model.proofs.EachElement.{all-push}
 use Rattle.quick_cache_model.proofs.KeyCounts.{one, keys, keys-cons, keys-append}
@@ -47,21 +47,21 @@ module _ {K V : Type 0} where
       omega (arith, keys-append test xs (x ∷ []), keys-cons test x [], keys-cons test x xs)
 
   -- touches take no item out of its ring
-  pub TakesTouches-ring : (may_count : ℕ → Type 0) (old new : Item K V)
-      → TakesTouches default_mark_cut may_count old new
-      → IsRingItem default_mark_cut Cold old → IsRingItem default_mark_cut Cold new
-  TakesTouches-ring may_count old new takes ring =
-      subst (IsRingItem default_mark_cut Cold) (sym takes.2) (record {
-        weighs = omega (arith, ring.weighs, with_touches-weight default_mark_cut takes.0 old);
-        of_queue = with_touches-queue default_mark_cut takes.0 old ∙ ring.of_queue;
-        marked = with_touches-mark default_mark_cut takes.0 old ring.marked;
+  pub TakesTouches-ring : (cut : ℕ) (may_count : ℕ → Type 0) (old new : Item K V)
+      → TakesTouches cut may_count old new
+      → IsRingItem cut Cold old → IsRingItem cut Cold new
+  TakesTouches-ring cut may_count old new takes ring =
+      subst (IsRingItem cut Cold) (sym takes.2) (record {
+        weighs = omega (arith, ring.weighs, with_touches-weight cut takes.0 old);
+        of_queue = with_touches-queue cut takes.0 old ∙ ring.of_queue;
+        marked = with_touches-mark cut takes.0 old ring.marked;
       })
 
   -- nor do they change its key
-  pub TakesTouches-key : (may_count : ℕ → Type 0) (old new : Item K V)
-      → TakesTouches default_mark_cut may_count old new → new.key ≡ old.key
-  TakesTouches-key may_count old new takes =
-      ap (λ (i : Item K V). i.key) takes.2 ∙ with_touches-key default_mark_cut takes.0 old
+  pub TakesTouches-key : (cut : ℕ) (may_count : ℕ → Type 0) (old new : Item K V)
+      → TakesTouches cut may_count old new → new.key ≡ old.key
+  TakesTouches-key cut may_count old new takes =
+      ap (λ (i : Item K V). i.key) takes.2 ∙ with_touches-key cut takes.0 old
 
 module _ {K V P W A T : Type 0} (ticket_of : P → ℕ) (equal : K → K → Bool) (hash : K → ℕ)
     (contents : Contents K V W A T P) (sound : IsSound ticket_of equal hash contents) where
@@ -69,7 +69,7 @@ module _ {K V P W A T : Type 0} (ticket_of : P → ℕ) (equal : K → K → Boo
   pub IsSound-cold : (cold : List (HeldItem K V))
       → ((test : K → Bool) → keys test (items_of cold)
       ≤ keys test (items_of contents.lists.cold))
-      → AllByRecursion (IsRingItem default_mark_cut Cold) (items_of cold)
+      → AllByRecursion (IsRingItem contents.mark_cut Cold) (items_of cold)
       → AllByRecursion (λ held. held.hash ≡ hash held.item.key) cold
       → IsSound ticket_of equal hash
       (record contents { lists = record contents.lists { cold = cold } })
@@ -94,9 +94,9 @@ module _ {K V P W A T : Type 0} (ticket_of : P → ℕ) (equal : K → K → Boo
         keys-turned test (items_of contents.lists.cold),
         ap (keys test) (items_of-turned contents.lists.cold),
       ))
-      (subst (AllByRecursion (IsRingItem default_mark_cut Cold))
+      (subst (AllByRecursion (IsRingItem contents.mark_cut Cold))
       (sym (items_of-turned contents.lists.cold))
-      (all-turned (IsRingItem default_mark_cut Cold) (items_of contents.lists.cold)
+      (all-turned (IsRingItem contents.mark_cut Cold) (items_of contents.lists.cold)
       sound.valid.in_cold))
       (all-turned (λ (held : HeldItem K V). held.hash ≡ hash held.item.key) contents.lists.cold
       sound.hashed.cold)
@@ -104,15 +104,15 @@ module _ {K V P W A T : Type 0} (ticket_of : P → ℕ) (equal : K → K → Boo
   -- with touches taken in at the first cold item
   pub IsSound-cold_touched : (may_count : ℕ → Type 0) (held : HeldItem K V)
       (rest : List (HeldItem K V)) (touched : Item K V) → contents.lists.cold ≡ held ∷ rest
-      → TakesTouches default_mark_cut may_count held.item touched
+      → TakesTouches contents.mark_cut may_count held.item touched
       → IsSound ticket_of equal hash
       (record contents {
         lists = record contents.lists { cold = record held { item = touched } ∷ rest };
       })
   IsSound-cold_touched may_count held rest touched split takes =
-      let key = TakesTouches-key may_count held.item touched takes in
-      let ring : AllByRecursion (IsRingItem default_mark_cut Cold) (items_of (held ∷ rest)) =
-      subst (λ xs. AllByRecursion (IsRingItem default_mark_cut Cold) (items_of xs)) split
+      let key = TakesTouches-key contents.mark_cut may_count held.item touched takes in
+      let ring : AllByRecursion (IsRingItem contents.mark_cut Cold) (items_of (held ∷ rest)) =
+      subst (λ xs. AllByRecursion (IsRingItem contents.mark_cut Cold) (items_of xs)) split
       sound.valid.in_cold in
       let hashes : AllByRecursion (λ (h : HeldItem K V). h.hash ≡ hash h.item.key) (held ∷ rest) =
       subst (AllByRecursion (λ (h : HeldItem K V). h.hash ≡ hash h.item.key)) split
@@ -125,5 +125,5 @@ module _ {K V P W A T : Type 0} (ticket_of : P → ℕ) (equal : K → K → Boo
         ap (one test) key,
         ap (λ (xs : List (HeldItem K V)). keys test (items_of xs)) split,
       ))
-      (TakesTouches-ring may_count held.item touched takes ring.0, ring.1)
+      (TakesTouches-ring contents.mark_cut may_count held.item touched takes ring.0, ring.1)
       (hashes.0 ∙ ap hash (sym key), hashes.1)

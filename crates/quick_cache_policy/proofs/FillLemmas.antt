@@ -218,7 +218,7 @@ module _ {K V P W A X : Type 0} (ticket_of : P → ℕ) (contents : Contents K V
       (state_of-reordered ticket_of contents _ new puts.put)
 
   put-sound : (equal : K → K → Bool) → IsEquivalence equal → (hashed : K → ℕ)
-      → keys_by (equal item.key) (state_of ticket_of contents) ≡ 0 → item.mark ≤ 2
+      → keys_by (equal item.key) (state_of ticket_of contents) ≡ 0 → item.mark ≤ contents.mark_cut
       → hash ≡ hashed item.key → IsSound ticket_of equal hashed contents
       → IsSound ticket_of equal hashed (record contents { lists = new })
   unfolding held
@@ -286,7 +286,8 @@ module _ {K V P W A X : Type 0} (ticket_of : P → ℕ) (contents : Contents K V
       fills.last
 
   -- what is sound stays so
-  pub filled-sound : (equal : K → K → Bool) → IsEquivalence equal → (hashed : K → ℕ) → mark ≤ 2
+  pub filled-sound : (equal : K → K → Bool) → IsEquivalence equal → (hashed : K → ℕ)
+      → mark ≤ contents.mark_cut
       → IsSound ticket_of equal hashed contents
       → IsSound ticket_of equal hashed (record contents { lists = new })
   filled-sound equal laws hashed marked sound =

@@ -1,6 +1,6 @@
 -- The first cold item, once it took its touches.
 use Rattle.std.proofs.Common.{◌≡◌, ℕ, ◌==◌, Bool, true, false, if◌then◌else◌, List, [], ◌∷◌, refl, sym, ap, subst, ◌∙◌}
-use Rattle.quick_cache_model.specs.CacheState.{Item, InCold, default_mark_cut}
+use Rattle.quick_cache_model.specs.CacheState.{Item, InCold}
 use Rattle.quick_cache_model.specs.Touches.{TakesTouches, raised_by, counted_up}
 use Rattle.quick_cache_lists.specs.Lists.{HeldItem, Lists, HasItemToken, IsItemOf, AreApart, with_change, with_counts}
 use Rattle.quick_cache_lists.specs.Views.{items_of}
@@ -38,8 +38,8 @@ module _ {K V P W A T : Type 0} {may_count : ℕ → Type 0} {old mid : Contents
     × (held.token ≡ token))
     (takes : HasTakenTouches may_count token old mid) where
   -- the item was the first one
-  took : TakesTouches default_mark_cut may_count first.0.item takes.touched
-  took = subst (λ (i : Item K V). TakesTouches default_mark_cut may_count i takes.touched)
+  took : TakesTouches old.mark_cut may_count first.0.item takes.touched
+  took = subst (λ (i : Item K V). TakesTouches old.mark_cut may_count i takes.touched)
       (IsItemOf-first_cold old.lists apart first.0 first.1 takes.item first.2
       (subst (λ n. IsItemOf old.lists n takes.item) (sym first.3) takes.is_of)) takes.takes
 
@@ -54,7 +54,7 @@ module _ {K V P W A T : Type 0} {may_count : ℕ → Type 0} {old mid : Contents
       (ap (λ n. with_change n change old.lists) (sym first.3)
       ∙ change-cold old.lists apart change [] first.1 first.0 first.2
       ∙ ap (λ (i : Item K V). record old.lists { cold = record first.0 { item = i } ∷ first.1 })
-      (TakesTouches-counts default_mark_cut may_count first.0.item takes.touched took))
+      (TakesTouches-counts old.mark_cut may_count first.0.item takes.touched took))
 
   -- only the cold ring is another
   pub first-touched_same : mid ≡ record old { lists = record old.lists { cold = mid.lists.cold } }
@@ -67,7 +67,7 @@ module _ {K V P W A T : Type 0} {may_count : ℕ → Type 0} {old mid : Contents
   first-touched_places = LosesOnly-same _ _
       (ap (λ (c : Contents K V W A T P). places_in c.lists.cold) first-touched
       ∙ ap (λ (k : K). (first.0.token, k) ∷ places_in first.1)
-      (MayTake-key true may_count first.0.item takes.touched took)
+      (MayTake-key true old.mark_cut may_count first.0.item takes.touched took)
       ∙ sym (ap (λ (l : List (HeldItem K V)). places_in l) first.2))
 
   -- it is sound
@@ -89,7 +89,7 @@ module _ {K V P W A T : Type 0} {may_count : ℕ → Type 0} {old mid : Contents
   -- it was looked at, and this was found
   pub first-looked : (steady : Type 0) (pinned : K → V → Bool) (answer : Search)
       → IsFound steady pinned takes.touched answer
-      → LooksAt steady pinned may_count (items_of old.lists.cold) answer (items_of mid.lists.cold)
+      → LooksAt steady pinned old.mark_cut may_count (items_of old.lists.cold) answer (items_of mid.lists.cold)
   first-looked steady pinned answer finds = record {
     item = first.0.item;
     touched = takes.touched;

@@ -1,9 +1,10 @@
 -- A hot advance over the contents of a cache: what its visits and its eviction come to.
 use Rattle.std.proofs.Common.{◌≡◌, ◌≢◌, ℕ, ◌+◌, ◌*◌, ◌≤◌, Bool, true, false, [], length}
 use Rattle.std.proofs.Common.{IsPermutation, refl, sym, ap, subst, arith}
+use Rattle.std.proofs.Math.Nat.{mul-le-mul_left}
 use Rattle.std.proofs.lemmas.List.{length-map}
 use Rattle.quick_cache_model.specs.declared.queue.Queue.TheVariants.{Hot, Cold}
-use Rattle.quick_cache_model.specs.CacheState.{CacheState, InHot, default_mark_cut, with_items}
+use Rattle.quick_cache_model.specs.CacheState.{CacheState, InHot, with_items}
 use Rattle.quick_cache_model.specs.Eviction.{AdvancesHot, EvictsVictim}
 use Rattle.quick_cache_model.specs.Hooks.{Rules, Hooks, Calls}
 use Rattle.quick_cache_model.specs.Touches.{counted_up}
@@ -26,23 +27,30 @@ pub cold≢hot : Cold ≢ Hot
 cold≢hot e = cc
 
 -- One advance, which counts one unless it is paid for.
-pub PaysFor-advance : (extra old_hot cold new_hot new_cold visits : ℕ) (old new : Work)
+pub PaysFor-advance : (cut extra old_hot cold new_hot new_cold visits : ℕ) (old new : Work)
     → new.advances ≡ counted_up 1 old.advances → new.visits ≡ counted_up visits old.visits
-    → visits ≤ 3 * old_hot → new_hot ≤ old_hot → new_hot + 1 ≡ old_hot + extra → new_cold ≡ cold
-    → PaysFor extra old_hot cold new_hot new_cold old new
-PaysFor-advance extra old_hot cold new_hot new_cold visits old new advanced visited within fewer
+    → visits ≤ (cut + 1) * old_hot → new_hot ≤ old_hot → new_hot + 1 ≡ old_hot + extra → new_cold ≡ cold
+    → PaysFor cut extra old_hot cold new_hot new_cold old new
+PaysFor-advance cut extra old_hot cold new_hot new_cold visits old new advanced visited within fewer
     falls same = record {
       advances = 1;
       visits = visits;
       does = record { advances_are = advanced; visits_are = visited };
       members = omega (arith, fewer, same);
       paid = omega (arith, falls, same);
-      visited = omega (arith, within);
+      visited = omega (
+        arith,
+        within,
+        mul-le-mul_left (cut + 1) (more old_hot cold),
+      );
     }
+  where
+    more : (n k : ℕ) → n ≤ n + k
+    more n k = omega arith
 
 module _ {K V P W A T S : Type 0} (ticket_of : P → ℕ) (steady : Type 0) (rules : Rules K V)
     (hooks : Hooks K V S) (old now : Contents K V W A T P) (advances : ℕ) (met : Bool)
-    (seeks : VisitsHot (SeekEnds steady rules.pinned rules.may_count met)
+    (seeks : VisitsHot (SeekEnds steady rules.pinned old.mark_cut rules.may_count met)
     (record old { advances = advances }) now)
     (same : now ≡ record old {
       lists = record old.lists { hot = now.lists.hot };
@@ -62,7 +70,7 @@ module _ {K V P W A T S : Type 0} (ticket_of : P → ℕ) (steady : Type 0) (rul
       (residents s)) (sym state_of-visited)
       (residents-reordered InHot (items_of old.lists.hot) (items_of now.lists.hot)
       (state_of ticket_of old)
-      (SeekEnds-order steady rules.pinned rules.may_count met (items_of old.lists.hot)
+      (SeekEnds-order steady rules.pinned old.mark_cut rules.may_count met (items_of old.lists.hot)
       (items_of now.lists.hot) seeks.visits seeks.ends))
 
   -- where there was no victim, the visits are the advance
@@ -70,7 +78,7 @@ module _ {K V P W A T S : Type 0} (ticket_of : P → ℕ) (steady : Type 0) (rul
       → Calls hooks (Evicting steady (λ state. AdvancesHot rules state false)
       (state_of ticket_of old) (state_of ticket_of now)) first first
   AdvancesHot-gives_up none first =
-      let ends = subst (λ b. SeekEnds steady rules.pinned rules.may_count b
+      let ends = subst (λ b. SeekEnds steady rules.pinned old.mark_cut rules.may_count b
       (items_of old.lists.hot) (items_of now.lists.hot) seeks.visits) none seeks.ends in
       record {
         calls = [];
@@ -95,7 +103,7 @@ module _ {K V P W A T S : Type 0} (ticket_of : P → ℕ) (steady : Type 0) (rul
       → Calls hooks (Evicting steady (λ state. AdvancesHot rules state true)
       (state_of ticket_of old) (state_of ticket_of new)) first last
   AdvancesHot-evicts there new first last evicts =
-      let ends = subst (λ b. SeekEnds steady rules.pinned rules.may_count b
+      let ends = subst (λ b. SeekEnds steady rules.pinned old.mark_cut rules.may_count b
       (items_of old.lists.hot) (items_of now.lists.hot) seeks.visits) there seeks.ends in
       let gone = evicts.holds.0 in
       let left : with_items InHot gone.rest (state_of ticket_of now)
@@ -125,24 +133,18 @@ module _ {K V P W A T S : Type 0} (ticket_of : P → ℕ) (steady : Type 0) (rul
         runs = evicts.runs;
       }
 
-  -- at most three visits an item
-  pub visits-three : seeks.visits ≤ 3 * length old.lists.hot
-  visits-three = go met seeks.ends
+  -- at most one visit more an item than the greatest mark
+  pub visits-an_item : seeks.visits ≤ (old.mark_cut + 1) * length old.lists.hot
+  visits-an_item = go met seeks.ends
     where
       items : length (items_of old.lists.hot) ≡ length old.lists.hot
       items = length-map old.lists.hot (λ held. held.item)
 
-      go : (b : Bool) → SeekEnds steady rules.pinned rules.may_count b (items_of old.lists.hot)
-          (items_of now.lists.hot) seeks.visits → seeks.visits ≤ 3 * length old.lists.hot
-      go true ends = omega (
-        arith,
-        items,
-        MeetsVictim-within steady rules.pinned default_mark_cut rules.may_count
-            (items_of old.lists.hot) (items_of now.lists.hot) seeks.visits ends,
-      )
-      go false ends = omega (
-        arith,
-        items,
-        GivesUp-within steady rules.pinned default_mark_cut rules.may_count
-            (items_of old.lists.hot) (items_of now.lists.hot) seeks.visits ends,
-      )
+      go : (b : Bool) → SeekEnds steady rules.pinned old.mark_cut rules.may_count b (items_of old.lists.hot)
+          (items_of now.lists.hot) seeks.visits → seeks.visits ≤ (old.mark_cut + 1) * length old.lists.hot
+      go true ends = subst (λ n. seeks.visits ≤ (old.mark_cut + 1) * n) items
+          (MeetsVictim-within steady rules.pinned old.mark_cut rules.may_count
+          (items_of old.lists.hot) (items_of now.lists.hot) seeks.visits ends)
+      go false ends = subst (λ n. seeks.visits ≤ (old.mark_cut + 1) * n) items
+          (GivesUp-within steady rules.pinned old.mark_cut rules.may_count
+          (items_of old.lists.hot) (items_of now.lists.hot) seeks.visits ends)

@@ -1,7 +1,7 @@
 -- Rounds of a hot advance over the contents of a cache.
 use Rattle.std.proofs.Common.{◌≡◌, ℕ, ◌+◌, ◌-◌, ◌^◌, ◌<◌, Bool, true, false, List, [], ◌∷◌}
 use Rattle.std.proofs.Common.{refl, sym, ap, ap₂, subst, ◌∙◌, arith, if◌then◌else◌, ◌==◌}
-use Rattle.quick_cache_model.specs.CacheState.{Item, InHot, default_mark_cut}
+use Rattle.quick_cache_model.specs.CacheState.{Item, InHot}
 use Rattle.quick_cache_model.specs.Eviction.{lowered}
 use Rattle.quick_cache_model.specs.Touches.{counted_up}
 use Rattle.quick_cache_lists.specs.Lists.{HeldItem, Lists, HasItemToken, IsItemOf, AreApart, with_change, with_counts, with_mark}
@@ -35,16 +35,16 @@ module _ {K V P W A T : Type 0} (takes_touches : Bool) (may_count : ℕ → Type
   pub record FirstTakes (held : HeldItem K V) (rest : List (HeldItem K V))
       (old new : Contents K V W A T P) : Type 0 where
     pub item : Item K V
-    pub takes : MayTake takes_touches default_mark_cut may_count held.item item
+    pub takes : MayTake takes_touches old.mark_cut may_count held.item item
     pub same : new ≡ record old {
       lists = record old.lists { hot = record held { item = item } ∷ rest };
     }
 
 module _ {K V : Type 0} where
   -- an item that took touches is the old one with other counts
-  TakesTouches-counts : (may_count : ℕ → Type 0) (x y : Item K V)
-      → MayTake true default_mark_cut may_count x y → with_counts y.mark y.reads x ≡ y
-  TakesTouches-counts may_count x y takes = go (takes.0 == 0) _ _ takes.2
+  TakesTouches-counts : (cut : ℕ) (may_count : ℕ → Type 0) (x y : Item K V)
+      → MayTake true cut may_count x y → with_counts y.mark y.reads x ≡ y
+  TakesTouches-counts cut may_count x y takes = go (takes.0 == 0) _ _ takes.2
     where
       go : (b : Bool) (mark reads : ℕ)
           → y ≡ (if b then x else record x { mark = mark; reads = reads })
@@ -64,10 +64,10 @@ module _ {K V P W A T : Type 0} (may_count : ℕ → Type 0) (held : HeldItem K 
         let is = IsItemOf-first_hot old.lists apart held rest taken.item stands taken.is_of in
         let counts = with_counts taken.touched.mark taken.touched.reads in
         let change = change-hot old.lists apart counts [] rest held stands in
-        let takes = subst (λ x. MayTake true default_mark_cut may_count x taken.touched) is
+        let takes = subst (λ x. MayTake true old.mark_cut may_count x taken.touched) is
         taken.takes
         in
-        let touched = TakesTouches-counts may_count held.item taken.touched takes in
+        let touched = TakesTouches-counts old.mark_cut may_count held.item taken.touched takes in
         record {
           item = taken.touched;
           takes = takes;

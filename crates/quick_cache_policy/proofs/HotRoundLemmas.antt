@@ -4,7 +4,7 @@ use Rattle.std.proofs.Common.{refl, sym, ap, subst, ◌∙◌, arith}
 use Rattle.std.specs.List.{AllByRecursion}
 use Rattle.std.proofs.lemmas.List.{length-map}
 use Rattle.quick_cache_model.specs.declared.queue.Queue.TheVariants.{Hot}
-use Rattle.quick_cache_model.specs.CacheState.{Item, default_mark_cut}
+use Rattle.quick_cache_model.specs.CacheState.{Item}
 use Rattle.quick_cache_model.specs.Eviction.{lowered}
 use Rattle.quick_cache_model.specs.Touches.{counted_up}
 use Rattle.quick_cache_model.proofs.TouchLaws.{with_touches-key}
@@ -49,6 +49,12 @@ module _ {K V P W A T : Type 0} (hash : K → ℕ) where
     same = refl;
   }
 
+  -- the greatest mark stays
+  pub ChangesHot-cut : (n : ℕ) (old new : Contents K V W A T P) → ChangesHot n old new
+      → new.mark_cut ≡ old.mark_cut
+  ChangesHot-cut n old new changes =
+      ap (λ (c : Contents K V W A T P). c.mark_cut) changes.same
+
   -- one change after another
   pub ChangesHot-then : (n k : ℕ) (old mid new : Contents K V W A T P) → ChangesHot n old mid
       → ChangesHot k mid new → ChangesHot (n + k) old new
@@ -65,7 +71,7 @@ module _ {K V P W A T : Type 0} (hash : K → ℕ) where
   -- what keeps the items keeps the contents sound
   pub ChangesHot-sound : (ticket_of : P → ℕ) (equal : K → K → Bool) (n : ℕ)
       (old new : Contents K V W A T P) → ChangesHot n old new
-      → KeepsItems default_mark_cut (items_of old.lists.hot) (items_of new.lists.hot)
+      → KeepsItems old.mark_cut (items_of old.lists.hot) (items_of new.lists.hot)
       → IsSound ticket_of equal hash old → IsSound ticket_of equal hash new
   ChangesHot-sound ticket_of equal n old new changes keeps sound =
       subst (λ (c : Contents K V W A T P). IsSound ticket_of equal hash c) (sym changes.same)
@@ -98,11 +104,11 @@ length_items : {K V : Type 0} (entries : List (HeldItem K V))
 length_items {K} {V} entries = length-map entries (λ (h : HeldItem K V). h.item)
 
 -- touches change no key
-pub MayTake-key : {K V : Type 0} (takes_touches : Bool) (may_count : ℕ → Type 0) (x y : Item K V)
-    → MayTake takes_touches default_mark_cut may_count x y → y.key ≡ x.key
-MayTake-key {K} {V} true may_count x y takes = ap (λ (i : Item K V). i.key) takes.2
-    ∙ with_touches-key default_mark_cut takes.0 x
-MayTake-key {K} {V} false may_count x y takes = ap (λ (i : Item K V). i.key) takes
+pub MayTake-key : {K V : Type 0} (takes_touches : Bool) (cut : ℕ) (may_count : ℕ → Type 0)
+    (x y : Item K V) → MayTake takes_touches cut may_count x y → y.key ≡ x.key
+MayTake-key {K} {V} true cut may_count x y takes = ap (λ (i : Item K V). i.key) takes.2
+    ∙ with_touches-key cut takes.0 x
+MayTake-key {K} {V} false cut may_count x y takes = ap (λ (i : Item K V). i.key) takes
 
 module _ {K V P W A T : Type 0} (hash : K → ℕ) (steady : Type 0) (pinned : K → V → Bool)
     (takes_touches : Bool) (may_count : ℕ → Type 0) where
@@ -116,7 +122,7 @@ module _ {K V P W A T : Type 0} (hash : K → ℕ) (steady : Type 0) (pinned : K
       record {
         hashed = subst (AllByRecursion (λ (h : HeldItem K V). h.hash ≡ hash h.item.key))
             (sym (ap (λ (c : Contents K V W A T P). c.lists.hot) v.same)) (
-              under.0 ∙ ap hash (sym (MayTake-key takes_touches may_count v.held.item v.item
+              under.0 ∙ ap hash (sym (MayTake-key takes_touches old.mark_cut may_count v.held.item v.item
                   v.takes)),
               under.1,
             );
@@ -124,7 +130,7 @@ module _ {K V P W A T : Type 0} (hash : K → ℕ) (steady : Type 0) (pinned : K
         places = LosesOnly-same _ _
             (ap (λ (c : Contents K V W A T P). places_in c.lists.hot) v.same
             ∙ ap (λ (k : K). (v.held.token, k) ∷ places_in v.rest)
-            (MayTake-key takes_touches may_count v.held.item v.item v.takes)
+            (MayTake-key takes_touches old.mark_cut may_count v.held.item v.item v.takes)
             ∙ sym (ap (λ (l : List (HeldItem K V)). places_in l) v.stands));
         same = ap (λ (c : Contents K V W A T P). record c {
           lists = record c.lists { hot = new.lists.hot };
@@ -178,14 +184,14 @@ module _ {K V P W A T : Type 0} (hash : K → ℕ) (steady : Type 0) (pinned : K
   -- The middle of a round: so many items were visited, and passed.
   pub record GoesRound (visited : ℕ) (unpinned : Bool)
       (old now : Contents K V W A T P) : Type 0 where
-    pub going : Going steady pinned takes_touches default_mark_cut may_count
+    pub going : Going steady pinned takes_touches old.mark_cut may_count
         (items_of old.lists.hot) visited unpinned (items_of now.lists.hot)
     pub changes : ChangesHot hash visited old now
 
   -- What a round did, with its end.
   pub record RoundDone (ticket_of : P → ℕ) (equal : K → K → Bool) (end : Round)
       (old new : Contents K V W A T P) : Type 0 where
-    pub ends : VisitsHot (RoundEnds steady pinned takes_touches may_count end) old new
+    pub ends : VisitsHot (RoundEnds steady pinned takes_touches old.mark_cut may_count end) old new
     pub sound : IsSound ticket_of equal hash new
     pub count : length new.lists.hot ≡ length old.lists.hot
     pub places : LosesOnly (places_in old.lists.hot) (places_in new.lists.hot)
@@ -199,7 +205,7 @@ module _ {K V P W A T : Type 0} (hash : K → ℕ) (steady : Type 0) (pinned : K
       → AllByRecursion (λ held. held.hash ≡ hash held.item.key) old.lists.hot
       → old.visits < 2 ^ 64 → GoesRound 0 false old old
   GoesRound-begins old hashed within = record {
-    going = round-begins steady pinned takes_touches default_mark_cut may_count
+    going = round-begins steady pinned takes_touches old.mark_cut may_count
         (items_of old.lists.hot);
     changes = ChangesHot-none hash old hashed within;
   }
@@ -209,7 +215,7 @@ module _ {K V P W A T : Type 0} (hash : K → ℕ) (steady : Type 0) (pinned : K
       → GoesRound visited unpinned old now → length now.lists.hot ≡ length old.lists.hot
   GoesRound-length visited unpinned old now goes =
       sym (length_items now.lists.hot)
-      ∙ Going-length steady pinned takes_touches default_mark_cut may_count
+      ∙ Going-length steady pinned takes_touches old.mark_cut may_count
       (items_of old.lists.hot) visited unpinned (items_of now.lists.hot) goes.going
       ∙ length_items old.lists.hot
 
@@ -227,14 +233,16 @@ module _ {K V P W A T : Type 0} (hash : K → ℕ) (steady : Type 0) (pinned : K
       let short : visited < length (items_of old.lists.hot) =
       omega (arith, lt, length_items old.lists.hot) in
       record {
-        going = subst (λ b. Going steady pinned takes_touches default_mark_cut may_count
+        going = subst (λ b. Going steady pinned takes_touches old.mark_cut may_count
             (items_of old.lists.hot) (visited + 1) b (items_of lists.hot)) (sym is)
-            (subst (Going steady pinned takes_touches default_mark_cut may_count
+            (subst (Going steady pinned takes_touches old.mark_cut may_count
             (items_of old.lists.hot) (visited + 1) unpinned)
             (sym (ap items_of p.hot ∙ items_of-split v.rest [] made))
-            (round-passes_pinned steady pinned takes_touches default_mark_cut may_count
+            (round-passes_pinned steady pinned takes_touches old.mark_cut may_count
             (items_of old.lists.hot) visited unpinned (items_of now.lists.hot) v.held.item v.item
-            (items_of v.rest) goes.going short (ap items_of v.stands) v.takes v.meets));
+            (items_of v.rest) goes.going short (ap items_of v.stands)
+            (subst (λ n. MayTake takes_touches n may_count v.held.item v.item)
+            (ChangesHot-cut hash visited old now goes.changes) v.takes) v.meets));
         changes = ChangesHot-then hash visited 1 old now (record mid { lists = lists }) goes.changes
             p.changes;
       }
@@ -253,15 +261,16 @@ module _ {K V P W A T : Type 0} (hash : K → ℕ) (steady : Type 0) (pinned : K
       let short : visited < length (items_of old.lists.hot) =
       omega (arith, lt, length_items old.lists.hot) in
       record {
-        going = subst (λ b. Going steady pinned takes_touches default_mark_cut may_count
+        going = subst (λ b. Going steady pinned takes_touches old.mark_cut may_count
             (items_of old.lists.hot) (visited + 1) b (items_of lists.hot)) (sym is)
-            (subst (Going steady pinned takes_touches default_mark_cut may_count
+            (subst (Going steady pinned takes_touches old.mark_cut may_count
             (items_of old.lists.hot) (visited + 1) true)
             (sym (ap items_of p.hot ∙ items_of-split v.rest [] made))
-            (round-passes_marked steady pinned takes_touches default_mark_cut may_count
+            (round-passes_marked steady pinned takes_touches old.mark_cut may_count
             (items_of old.lists.hot) visited unpinned (items_of now.lists.hot) v.held.item v.item
-            (items_of v.rest) goes.going short (ap items_of v.stands) v.takes v.meets.0
-            v.meets.1));
+            (items_of v.rest) goes.going short (ap items_of v.stands)
+            (subst (λ n. MayTake takes_touches n may_count v.held.item v.item)
+            (ChangesHot-cut hash visited old now goes.changes) v.takes) v.meets.0 v.meets.1));
         changes = ChangesHot-then hash visited 1 old now (record mid { lists = lists }) goes.changes
             p.changes;
       }
@@ -269,9 +278,9 @@ module _ {K V P W A T : Type 0} (hash : K → ℕ) (steady : Type 0) (pinned : K
   -- what keeps the items is all that a round's end must tell
   RoundDone-by : (ticket_of : P → ℕ) (equal : K → K → Bool) (end : Round) (visits : ℕ)
       (old new : Contents K V W A T P)
-      → RoundEnds steady pinned takes_touches may_count end (items_of old.lists.hot)
+      → RoundEnds steady pinned takes_touches old.mark_cut may_count end (items_of old.lists.hot)
       (items_of new.lists.hot) visits
-      → KeepsItems default_mark_cut (items_of old.lists.hot) (items_of new.lists.hot)
+      → KeepsItems old.mark_cut (items_of old.lists.hot) (items_of new.lists.hot)
       → ChangesHot hash visits old new → IsSound ticket_of equal hash old
       → RoundDone ticket_of equal end old new
   RoundDone-by ticket_of equal end visits old new ends keeps changes sound = record {
@@ -298,16 +307,17 @@ module _ {K V P W A T : Type 0} (hash : K → ℕ) (steady : Type 0) (pinned : K
       let there : items_of new.lists.hot ≡ v.item ∷ items_of v.rest =
       ap (λ (c : Contents K V W A T P). items_of c.lists.hot) v.same
       ∙ ap (λ (x : Item K V). x ∷ items_of v.rest) unmarked in
-      let ends : RoundEnds steady pinned takes_touches may_count round_victim
+      let ends : RoundEnds steady pinned takes_touches old.mark_cut may_count round_victim
       (items_of old.lists.hot) (items_of new.lists.hot) (visited + 1) =
-      subst (λ xs. RoundEnds steady pinned takes_touches may_count round_victim
+      subst (λ xs. RoundEnds steady pinned takes_touches old.mark_cut may_count round_victim
       (items_of old.lists.hot) xs (visited + 1)) (sym there)
-      (round-stops steady pinned takes_touches default_mark_cut may_count
+      (round-stops steady pinned takes_touches old.mark_cut may_count
       (items_of old.lists.hot) visited unpinned (items_of now.lists.hot) v.held.item v.item
-      (items_of v.rest) none_counted goes.going short (ap items_of v.stands) v.takes v.meets.0
-      v.meets.1) in
+      (items_of v.rest) none_counted goes.going short (ap items_of v.stands)
+      (subst (λ n. MayTake takes_touches n may_count v.held.item v.item)
+      (ChangesHot-cut hash visited old now goes.changes) v.takes) v.meets.0 v.meets.1) in
       RoundDone-by ticket_of equal round_victim (visited + 1) old new ends
-      (EndsAtVictim-keeps default_mark_cut steady pinned takes_touches may_count
+      (EndsAtVictim-keeps old.mark_cut steady pinned takes_touches may_count
       (items_of old.lists.hot) (items_of new.lists.hot) (visited + 1) ends)
       (ChangesHot-then hash visited 1 old now new goes.changes first) sound
 
@@ -318,16 +328,16 @@ module _ {K V P W A T : Type 0} (hash : K → ℕ) (steady : Type 0) (pinned : K
       → visited ≡ length old.lists.hot
       → RoundDone ticket_of equal round_all_pinned old now
   GoesRound-over_pinned ticket_of equal visited unpinned old now is sound goes all =
-      let going = subst (λ b. Going steady pinned takes_touches default_mark_cut may_count
+      let going = subst (λ b. Going steady pinned takes_touches old.mark_cut may_count
       (items_of old.lists.hot) visited b (items_of now.lists.hot)) is goes.going in
       let whole : visited ≡ length (items_of old.lists.hot) =
       all ∙ sym (length_items old.lists.hot) in
-      let ends : RoundEnds steady pinned takes_touches may_count round_all_pinned
+      let ends : RoundEnds steady pinned takes_touches old.mark_cut may_count round_all_pinned
       (items_of old.lists.hot) (items_of now.lists.hot) visited =
-      round-over_pinned steady pinned takes_touches default_mark_cut may_count
+      round-over_pinned steady pinned takes_touches old.mark_cut may_count
       (items_of old.lists.hot) visited (items_of now.lists.hot) going whole in
       RoundDone-by ticket_of equal round_all_pinned visited old now ends
-      (EndsAllPinned-keeps default_mark_cut steady pinned takes_touches may_count
+      (EndsAllPinned-keeps old.mark_cut steady pinned takes_touches may_count
       (items_of old.lists.hot) (items_of now.lists.hot) visited ends) goes.changes sound
 
   -- a round that is over, with some
@@ -337,14 +347,14 @@ module _ {K V P W A T : Type 0} (hash : K → ℕ) (steady : Type 0) (pinned : K
       → visited ≡ length old.lists.hot
       → RoundDone ticket_of equal round_some_unpinned old now
   GoesRound-over_unpinned ticket_of equal visited unpinned old now is sound goes all =
-      let going = subst (λ b. Going steady pinned takes_touches default_mark_cut may_count
+      let going = subst (λ b. Going steady pinned takes_touches old.mark_cut may_count
       (items_of old.lists.hot) visited b (items_of now.lists.hot)) is goes.going in
       let whole : visited ≡ length (items_of old.lists.hot) =
       all ∙ sym (length_items old.lists.hot) in
-      let ends : RoundEnds steady pinned takes_touches may_count round_some_unpinned
+      let ends : RoundEnds steady pinned takes_touches old.mark_cut may_count round_some_unpinned
       (items_of old.lists.hot) (items_of now.lists.hot) visited =
-      round-over_unpinned steady pinned takes_touches default_mark_cut may_count
+      round-over_unpinned steady pinned takes_touches old.mark_cut may_count
       (items_of old.lists.hot) visited (items_of now.lists.hot) going whole in
       RoundDone-by ticket_of equal round_some_unpinned visited old now ends
-      (EndsSomeUnpinned-keeps default_mark_cut steady pinned takes_touches may_count
+      (EndsSomeUnpinned-keeps old.mark_cut steady pinned takes_touches may_count
       (items_of old.lists.hot) (items_of now.lists.hot) visited ends) goes.changes sound

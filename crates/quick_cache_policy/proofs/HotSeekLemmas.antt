@@ -1,18 +1,17 @@
 -- Round after round of a hot advance, up to a victim, over the contents of a cache.
 use Rattle.std.proofs.Common.{◌≡◌, ℕ, ◌+◌, ◌^◌, ◌<◌, Bool, true, false, length}
-use Rattle.std.proofs.Common.{refl, ◌∙◌}
+use Rattle.std.proofs.Common.{refl, ◌∙◌, subst}
 use Rattle.quick_cache_model.specs.declared.queue.Queue.TheVariants.{Hot}
-use Rattle.quick_cache_model.specs.CacheState.{default_mark_cut}
 use Rattle.quick_cache_lists.specs.Views.{items_of}
 use Rattle.quick_cache_policy.specs.declared.contents.Contents.{Contents}
 use Rattle.quick_cache_policy.specs.declared.hot.Round.{Round}
 use Rattle.quick_cache_policy.specs.declared.hot.Round.TheVariants.{AllPinned as round_all_pinned, SomeUnpinned as round_some_unpinned, Victim as round_victim}
 use Rattle.quick_cache_policy.specs.Contents.{IsSound}
-use Rattle.quick_cache_policy.specs.HotRounds.{VisitsHot, SeekEnds}
+use Rattle.quick_cache_policy.specs.HotRounds.{VisitsHot, RoundEnds, SeekEnds}
 use Rattle.quick_cache_policy.specs.Places.{places_in, LosesOnly}
 use Rattle.quick_cache_policy.specs.Rounds.{Advancing, HaveAtMost, advance_measure}
 use Rattle.quick_cache_policy.proofs.AdvanceLemmas.{advance-begins, advance-goes_on, advance-stops, advance-gives_up}
-use Rattle.quick_cache_policy.proofs.HotRoundLemmas.{ChangesHot, ChangesHot-none, ChangesHot-then, RoundDone}
+use Rattle.quick_cache_policy.proofs.HotRoundLemmas.{ChangesHot, ChangesHot-none, ChangesHot-cut, ChangesHot-then, RoundDone}
 use Rattle.quick_cache_policy.proofs.KeptLemmas.{HaveAtMost-ring}
 use Rattle.quick_cache_policy.proofs.MarkLemmas.{advance_measure-falls}
 
@@ -21,7 +20,7 @@ module _ {K V P W A T : Type 0} (ticket_of : P → ℕ) (equal : K → K → Boo
   -- Between two rounds: the touches that are still to be taken, and what the rounds so far did.
   pub record SeeksVictim (takes_touches : Bool) (old now : Contents K V W A T P) : Type 0 where
     pub visits : ℕ
-    pub advancing : Advancing steady pinned takes_touches default_mark_cut may_count
+    pub advancing : Advancing steady pinned takes_touches old.mark_cut may_count
         (items_of old.lists.hot) (items_of now.lists.hot) visits
     pub changes : ChangesHot hash visits old now
     pub sound : IsSound ticket_of equal hash now
@@ -29,7 +28,7 @@ module _ {K V P W A T : Type 0} (ticket_of : P → ℕ) (equal : K → K → Boo
 
   -- what the rounds did, with the answer
   pub record SeekDone (met : Bool) (old new : Contents K V W A T P) : Type 0 where
-    pub ends : VisitsHot (SeekEnds steady pinned may_count met) old new
+    pub ends : VisitsHot (SeekEnds steady pinned old.mark_cut may_count met) old new
     pub sound : IsSound ticket_of equal hash new
     pub count : length new.lists.hot ≡ length old.lists.hot
     pub places : LosesOnly (places_in old.lists.hot) (places_in new.lists.hot)
@@ -43,7 +42,7 @@ module _ {K V P W A T : Type 0} (ticket_of : P → ℕ) (equal : K → K → Boo
       → IsSound ticket_of equal hash old → old.visits < 2 ^ 64 → SeeksVictim true old old
   SeeksVictim-begins old none_counted sound within = record {
     visits = 0;
-    advancing = advance-begins steady pinned default_mark_cut may_count none_counted
+    advancing = advance-begins steady pinned old.mark_cut may_count none_counted
         (items_of old.lists.hot);
     changes = ChangesHot-none hash old sound.hashed.hot within;
     sound = sound;
@@ -52,8 +51,8 @@ module _ {K V P W A T : Type 0} (ticket_of : P → ℕ) (equal : K → K → Boo
 
   -- the marks of sound contents are at most the greatest
   HaveAtMost-sound : (old : Contents K V W A T P) → IsSound ticket_of equal hash old
-      → HaveAtMost default_mark_cut (items_of old.lists.hot)
-  HaveAtMost-sound old sound = HaveAtMost-ring default_mark_cut Hot (items_of old.lists.hot)
+      → HaveAtMost old.mark_cut (items_of old.lists.hot)
+  HaveAtMost-sound old sound = HaveAtMost-ring old.mark_cut Hot (items_of old.lists.hot)
       sound.valid.in_hot
 
   -- what a round did, as a change
@@ -67,6 +66,17 @@ module _ {K V P W A T : Type 0} (ticket_of : P → ℕ) (equal : K → K → Boo
     same = done.same;
   }
 
+  -- what a later round did, by the greatest mark of the beginning
+  ends-by : (takes_touches : Bool) (end : Round) (visits : ℕ) (old now new : Contents K V W A T P)
+      → ChangesHot hash visits old now
+      → (done : RoundDone hash steady pinned takes_touches may_count ticket_of equal end now new)
+      → RoundEnds steady pinned takes_touches old.mark_cut may_count end (items_of now.lists.hot)
+      (items_of new.lists.hot) done.ends.visits
+  ends-by takes_touches end visits old now new changes done =
+      subst (λ n. RoundEnds steady pinned takes_touches n may_count end (items_of now.lists.hot)
+      (items_of new.lists.hot) done.ends.visits) (ChangesHot-cut hash visits old now changes)
+      done.ends.ends
+
   -- a round that met a marked item was not the last
   pub SeeksVictim-goes_on : (takes_touches : Bool) (old now new : Contents K V W A T P)
       → IsSound ticket_of equal hash old → SeeksVictim takes_touches old now
@@ -75,9 +85,10 @@ module _ {K V P W A T : Type 0} (ticket_of : P → ℕ) (equal : K → K → Boo
       → SeeksVictim false old new
   SeeksVictim-goes_on takes_touches old now new sound seeks done = record {
     visits = seeks.visits + done.ends.visits;
-    advancing = advance-goes_on steady pinned default_mark_cut may_count takes_touches
+    advancing = advance-goes_on steady pinned old.mark_cut may_count takes_touches
         (items_of old.lists.hot) (items_of now.lists.hot) (items_of new.lists.hot) seeks.visits
-        done.ends.visits (HaveAtMost-sound old sound) seeks.advancing done.ends.ends;
+        done.ends.visits (HaveAtMost-sound old sound) seeks.advancing
+        (ends-by takes_touches round_some_unpinned seeks.visits old now new seeks.changes done);
     changes = ChangesHot-then hash seeks.visits done.ends.visits old now new seeks.changes
         (ChangesHot-round takes_touches round_some_unpinned now new done);
     sound = done.sound;
@@ -89,10 +100,10 @@ module _ {K V P W A T : Type 0} (ticket_of : P → ℕ) (equal : K → K → Boo
       → SeeksVictim takes_touches old now
       → RoundDone hash steady pinned takes_touches may_count ticket_of equal round_some_unpinned
       now new
-      → advance_measure false default_mark_cut (items_of new.lists.hot)
-      < advance_measure takes_touches default_mark_cut (items_of now.lists.hot)
+      → advance_measure false new.mark_cut (items_of new.lists.hot)
+      < advance_measure takes_touches now.mark_cut (items_of now.lists.hot)
   advance_measure-seeks takes_touches old now new seeks done =
-      advance_measure-falls default_mark_cut may_count steady pinned takes_touches
+      advance_measure-falls now.mark_cut may_count steady pinned takes_touches
       (items_of now.lists.hot) (items_of new.lists.hot) done.ends.visits
       (HaveAtMost-sound now seeks.sound) done.ends.ends
 
@@ -107,9 +118,10 @@ module _ {K V P W A T : Type 0} (ticket_of : P → ℕ) (equal : K → K → Boo
       record {
         ends = record {
           visits = seeks.visits + done.ends.visits;
-          ends = advance-stops steady pinned default_mark_cut may_count takes_touches
+          ends = advance-stops steady pinned old.mark_cut may_count takes_touches
               (items_of old.lists.hot) (items_of now.lists.hot) (items_of new.lists.hot)
-              seeks.visits done.ends.visits seeks.advancing done.ends.ends;
+              seeks.visits done.ends.visits seeks.advancing
+              (ends-by takes_touches round_victim seeks.visits old now new seeks.changes done);
           counted = changes.counted;
         };
         sound = done.sound;
@@ -130,9 +142,10 @@ module _ {K V P W A T : Type 0} (ticket_of : P → ℕ) (equal : K → K → Boo
       record {
         ends = record {
           visits = seeks.visits + done.ends.visits;
-          ends = advance-gives_up steady pinned default_mark_cut may_count takes_touches
+          ends = advance-gives_up steady pinned old.mark_cut may_count takes_touches
               (items_of old.lists.hot) (items_of now.lists.hot) (items_of new.lists.hot)
-              seeks.visits done.ends.visits seeks.advancing done.ends.ends;
+              seeks.visits done.ends.visits seeks.advancing
+              (ends-by takes_touches round_all_pinned seeks.visits old now new seeks.changes done);
           counted = changes.counted;
         };
         sound = done.sound;

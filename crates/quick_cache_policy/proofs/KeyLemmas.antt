@@ -3,7 +3,7 @@ use Rattle.std.proofs.Common.{◌≡◌, ℕ, ◌-◌, ◌≤◌, Bool, true, fa
 use Rattle.std.proofs.Common.{ap, arith}
 use Rattle.quick_cache_model.specs.declared.queue.Queue.{Queue}
 use Rattle.quick_cache_model.specs.declared.queue.Queue.TheVariants.{Hot, Cold}
-use Rattle.quick_cache_model.specs.CacheState.{CacheState, Item, keys_by, default_mark_cut}
+use Rattle.quick_cache_model.specs.CacheState.{CacheState, Item, keys_by}
 use Rattle.quick_cache_model.specs.Hooks.{Rules, HookCall}
 use Rattle.quick_cache_model.proofs.Eviction.Keys.{EvictsVictim-keys}
 use Rattle.quick_cache_model.proofs.KeyCounts.{keys, keys-cons, keys-append, keys-split, keys-raised}
@@ -70,12 +70,12 @@ module _ {K V : Type 0} (test : K → Bool) where
         )
 
     -- a search of the cold ring
-    pub Searches-keys : (may_count : ℕ → Type 0) (old new : List (Item K V)) (answer : Search)
-        → Searches steady pinned may_count old answer new → keys test new ≡ keys test old
-    Searches-keys may_count old new answer searches =
+    pub Searches-keys : (cut : ℕ) (may_count : ℕ → Type 0) (old new : List (Item K V))
+        (answer : Search) → Searches steady pinned cut may_count old answer new → keys test new ≡ keys test old
+    Searches-keys cut may_count old new answer searches =
         omega (
           arith,
-          keys-raised test default_mark_cut may_count old searches.cold searches.raised,
+          keys-raised test cut may_count old searches.cold searches.raised,
           ends answer searches.ends,
         )
       where
@@ -86,15 +86,15 @@ module _ {K V : Type 0} (test : K → Bool) where
         ends found_none passed = ap (keys test) passed.1
 
     -- round after round of the hot ring
-    pub SeekEnds-keys : (may_count : ℕ → Type 0) (met : Bool) (old new : List (Item K V))
-        (visits : ℕ) → SeekEnds steady pinned may_count met old new visits
+    pub SeekEnds-keys : (cut : ℕ) (may_count : ℕ → Type 0) (met : Bool) (old new : List (Item K V))
+        (visits : ℕ) → SeekEnds steady pinned cut may_count met old new visits
         → keys test new ≡ keys test old
-    SeekEnds-keys may_count true old new visits ends =
-        let kept = MeetsVictim-keeps default_mark_cut steady pinned true may_count old new visits
+    SeekEnds-keys cut may_count true old new visits ends =
+        let kept = MeetsVictim-keeps cut steady pinned true may_count old new visits
         ends in
         kept.same_keys test
-    SeekEnds-keys may_count false old new visits ends =
-        let kept = GivesUp-keeps default_mark_cut steady pinned true may_count old new visits ends in
+    SeekEnds-keys cut may_count false old new visits ends =
+        let kept = GivesUp-keeps cut steady pinned true may_count old new visits ends in
         kept.same_keys test
 
 module _ {K V P W A T : Type 0} (ticket_of : P → ℕ) (test : K → Bool) where

@@ -40,4 +40,6 @@ mod CapacityLemmas
 mod EntryLemmas
 mod WrittenLemmas
 mod KeptPlaces
+mod AskLemmas
+mod ThereLemmas
 mod TellLemmas

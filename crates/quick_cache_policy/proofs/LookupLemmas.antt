@@ -2,7 +2,7 @@
 use Rattle.std.proofs.Common.{◌≡◌, ℕ, ◌+◌, Bool, true, false, List, ◌∷◌, ◌++◌, Option, Some, None, refl, sym, ap, subst, ◌∙◌}
 use Rattle.std.specs.List.{AllByRecursion}
 use Rattle.std.proofs.lemmas.List.{map-append}
-use Rattle.quick_cache_model.specs.CacheState.{CacheState, Item, LoadingEntry, Place, InHot, InCold, InStill, UpToOrder, IsValid, default_mark_cut}
+use Rattle.quick_cache_model.specs.CacheState.{CacheState, Item, LoadingEntry, Place, InHot, InCold, InStill, UpToOrder, IsValid}
 use Rattle.quick_cache_model.specs.CacheState.{with_items as model_with_items}
 use Rattle.quick_cache_model.specs.Lookups.{looked_up, after_hit, LooksUp}
 use Rattle.quick_cache_model.specs.Removal.{Removes}
@@ -68,7 +68,7 @@ counted contents token change = record contents {
 pub record IsCounted {K V P W A T : Type 0} (contents : Contents K V W A T P) (token : ℕ)
     (item : Item K V) (new : Contents K V W A T P) : Type 0 where
   pub change : Item K V → Item K V
-  pub counts : change item ≡ looked_up default_mark_cut item
+  pub counts : change item ≡ looked_up contents.mark_cut item
   pub keeps : (i : Item K V) → (change i).key ≡ i.key
   pub is : new ≡ counted contents token change
 
@@ -88,11 +88,11 @@ counted-is contents now token change lists hits now_is lists_are hits_are =
 module _ {K V P W A T : Type 0} (ticket_of : P → ℕ) (contents : Contents K V W A T P)
     (apart : AreApart contents.lists) (token hash : ℕ) (item : Item K V)
     (change : Item K V → Item K V) where
-  module _ (counts : change item ≡ looked_up default_mark_cut item)
+  module _ (counts : change item ≡ looked_up contents.mark_cut item)
       (has : HasItem contents.lists (record { token = token; hash = hash; item = item })) where
     changed : with_change token change contents.lists
         ≡ with_items has.place (has.stands.before
-        ++ record { token = token; hash = hash; item = looked_up default_mark_cut item }
+        ++ record { token = token; hash = hash; item = looked_up contents.mark_cut item }
         ∷ has.stands.after) contents.lists
     changed =
         change-at contents.lists apart change has.place has.stands.before
@@ -101,7 +101,7 @@ module _ {K V P W A T : Type 0} (ticket_of : P → ℕ) (contents : Contents K V
         ++ record { token = token; hash = hash; item = i } ∷ has.stands.after) contents.lists) counts
 
     -- the item is the one that was looked up
-    pub counted-item : IsItemOf (counted contents token change).lists token (looked_up default_mark_cut item)
+    pub counted-item : IsItemOf (counted contents token change).lists token (looked_up contents.mark_cut item)
     counted-item = (
       hash,
       record {
@@ -117,7 +117,7 @@ module _ {K V P W A T : Type 0} (ticket_of : P → ℕ) (contents : Contents K V
     -- the state is that of a hit
     pub counted-state : state_of ticket_of (counted contents token change)
         ≡ model_with_items has.place (items_of has.stands.before
-        ++ looked_up default_mark_cut item ∷ items_of has.stands.after)
+        ++ looked_up contents.mark_cut item ∷ items_of has.stands.after)
         (after_hit (state_of ticket_of contents))
     counted-state =
         ap (λ (l : Lists K V P). state_of ticket_of (record contents {
@@ -171,7 +171,7 @@ module _ {K V P W A T : Type 0} (ticket_of : P → ℕ) (contents : Contents K V
     counted-found stands_for passes known is =
         subst (λ (h : ℕ). FindsItem stands_for h (counted contents token change).lists token) is
         (record {
-          item = looked_up default_mark_cut item;
+          item = looked_up contents.mark_cut item;
           stands = counted-item.1;
           passes = passes;
         })
@@ -183,7 +183,7 @@ module _ {K V P W A T : Type 0} (ticket_of : P → ℕ) (contents : Contents K V
         subst (λ (l : Lists K V P). AreHashed hashed l) (sym changed)
         (AreHashed-instead hashed has.place has.stands.before
         (record { token = token; hash = hash; item = item })
-        (record { token = token; hash = hash; item = looked_up default_mark_cut item })
+        (record { token = token; hash = hash; item = looked_up contents.mark_cut item })
         has.stands.after contents.lists has.stands.split are
         (under has.place has.stands.before has.stands.after has.stands.split))
       where

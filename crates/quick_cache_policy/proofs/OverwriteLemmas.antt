@@ -9,6 +9,7 @@ use Rattle.quick_cache_model.specs.CacheState.{entered as model_entered}
 use Rattle.quick_cache_model.specs.Finding.{IsLoadingAt, IsGhostAt}
 use Rattle.quick_cache_model.specs.Hooks.{Rules, HookCall}
 use Rattle.quick_cache_model.specs.Eviction.{EvictsToCapacity}
+use Rattle.quick_cache_model.specs.Touches.{first_mark}
 use Rattle.quick_cache_model.specs.Writes.{Insert, WritesAdmitted, new_item}
 use Rattle.quick_cache_model.proofs.Eviction.Keys.{keys_by-none}
 use Rattle.quick_cache_model.proofs.OrderLaws.{EvictsToCapacity-reordered, UpToOrder-map, UpToOrder-reordered}
@@ -208,7 +209,8 @@ module _ {K V P W A T X : Type 0} (ticket_of : P → ℕ) (contents : Contents K
       found.stands found.named))
 
   -- the write over the placeholder
-  pub over_loading-writes : item ≡ new_item rules key value found.waiting.queue 1
+  pub over_loading-writes : item ≡ new_item rules key value found.waiting.queue
+      (first_mark contents.mark_cut)
       → (last : CacheState K V) (calls : List (HookCall K V))
       → UpToOrder (EvictsToCapacity rules 0 (state_with ticket_of contents new) calls) last
       → UpToOrder (WritesAdmitted rules (equal key) key Insert (state_of ticket_of contents) value
@@ -266,7 +268,7 @@ module _ {K V P W A T X : Type 0} (ticket_of : P → ℕ) (contents : Contents K
         (keys_by-unloaded (equal key) (loading_entries ticket_of found.stands.before)
         (loading_entry ticket_of found.waiting) (loading_entries ticket_of found.stands.after)
         (state_of ticket_of contents) waits.split) sound.valid))
-        (omega (arith, marked))
+        (omega (arith, marked, sound.sized.some_mark))
         (unloaded-valid equal (loading_entries ticket_of found.stands.before)
         (loading_entry ticket_of found.waiting) (loading_entries ticket_of found.stands.after)
         (state_of ticket_of contents) waits.split sound.valid));

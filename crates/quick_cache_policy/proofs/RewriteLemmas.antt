@@ -145,7 +145,7 @@ module _ {K V P W A X : Type 0} (ticket_of : P → ℕ) (contents : Contents K V
       (state_of-reordered ticket_of contents _ new rewrites.rewritten)
 
   -- its mark is up to the greatest
-  marked : IsSound ticket_of equal rules.hash contents → was.mark ≤ 2
+  marked : IsSound ticket_of equal rules.hash contents → was.mark ≤ contents.mark_cut
   marked sound = IsInPlace-marked rewrites.place (items_of rewrites.before) was
       (items_of rewrites.after) (state_of ticket_of contents) there.split
       (IsValid-in_place equal (state_of ticket_of contents) sound.valid)
@@ -153,7 +153,8 @@ module _ {K V P W A X : Type 0} (ticket_of : P → ℕ) (contents : Contents K V
   -- the write over the item
   pub over_item-writes : IsSound ticket_of equal rules.hash contents → (value : V)
       (strategy : Strategy) (n : ℕ) → rules.may_count n
-      → item ≡ new_item rules key value was.queue (mark_after 2 strategy (raised_by 2 n was.mark))
+      → item ≡ new_item rules key value was.queue
+      (mark_after contents.mark_cut strategy (raised_by contents.mark_cut n was.mark))
       → (last : CacheState K V) (calls : List (HookCall K V))
       → UpToOrder (EvictsToCapacity rules 0 (state_with ticket_of contents new) calls) last
       → UpToOrder (WritesAdmitted rules (equal key) key strategy (state_of ticket_of contents) value
@@ -161,12 +162,12 @@ module _ {K V P W A X : Type 0} (ticket_of : P → ℕ) (contents : Contents K V
   over_item-writes sound value strategy n counted is last calls evicts =
       UpToOrder-map _ _ last
       (λ state e. WritesAdmitted.overwrites rewrites.place (items_of rewrites.before) was
-      (with_touches 2 n was) (items_of rewrites.after) calls state there (n, counted, refl)
+      (with_touches contents.mark_cut n was) (items_of rewrites.after) calls state there (n, counted, refl)
       (subst (λ (i : Item K V). EvictsToCapacity rules 0
       (rewritten rewrites.place (items_of rewrites.before) i (items_of rewrites.after)
       (state_of ticket_of contents)) calls state)
-      (is ∙ ap (λ (m : ℕ). new_item rules key value was.queue (mark_after 2 strategy m))
-      (sym (with_touches-raised 2 n was (marked sound)))) e))
+      (is ∙ ap (λ (m : ℕ). new_item rules key value was.queue (mark_after contents.mark_cut strategy m))
+      (sym (with_touches-raised contents.mark_cut n was (marked sound)))) e))
       (evicts-from rules _ (state_with ticket_of contents new) last calls over_item-state evicts)
 
   -- the item is told, and what is told from there is told of the pair too
@@ -194,7 +195,7 @@ module _ {K V P W A X : Type 0} (ticket_of : P → ℕ) (contents : Contents K V
 
   -- the lists are sound before room is made
   pub over_item-sound : IsEquivalence equal → item.key ≡ key → item.queue ≡ was.queue
-      → item.mark ≤ 2 → IsSound ticket_of equal rules.hash contents
+      → item.mark ≤ contents.mark_cut → IsSound ticket_of equal rules.hash contents
       → IsSound ticket_of equal rules.hash (record contents { lists = new })
   over_item-sound laws same queue within sound = record {
     valid = SameButOrder-valid equal _ (state_with ticket_of contents new) over_item-state

@@ -9,7 +9,6 @@ use Rattle.quick_cache_model.specs.declared.queue.Queue.{Queue}
 use Rattle.quick_cache_model.specs.declared.queue.Queue.TheVariants.{Hot, Cold}
 use Rattle.quick_cache_model.specs.CacheState.{CacheState, Item, IsValid, ring_place, with_items, items_at}
 use Rattle.quick_cache_model.specs.CacheState.{entered, SameButOrder, IsRingItem}
-use Rattle.quick_cache_model.specs.CacheState.{default_mark_cut}
 use Rattle.quick_cache_model.proofs.KeyCounts.{keys, keys-cons, keys-append}
 use Rattle.quick_cache_model.specs.Hooks.{Rules, HookCall, BeforeEvict, EvictHot, EvictCold}
 use Rattle.quick_cache_model.specs.Eviction.{EvictsVictim, newest}
@@ -467,5 +466,5 @@ module _ {K V P W A T : Type 0} (ticket_of : P → ℕ) (contents : Contents K V
         → contents.lists.cold ≡ held ∷ rest → IsSound ticket_of equal hash contents
         → 0 < held.item.weight
     first_cold-weighs equal hash split sound =
-        (subst (λ (l : List (Item K V)). AllByRecursion (IsRingItem default_mark_cut Cold) l)
+        (subst (λ (l : List (Item K V)). AllByRecursion (IsRingItem contents.mark_cut Cold) l)
         (ap items_of split) sound.valid.in_cold).0.weighs

@@ -6,7 +6,7 @@ use Rattle.std.proofs.lemmas.List.{map-append}
 use Rattle.std.proofs.lemmas.List.Sorted.{IsPermutation-refl, IsPermutation-sym, IsPermutation-trans, IsPermutation-append_comm, IsPermutation-cons}
 use Rattle.quick_cache_model.specs.declared.queue.Queue.{Queue}
 use Rattle.quick_cache_model.specs.declared.queue.Queue.TheVariants.{Hot, Cold}
-use Rattle.quick_cache_model.specs.CacheState.{CacheState, Item, Place, InHot, InCold, SameButOrder, ring_place, items_at, with_items, entered, rewritten, default_mark_cut}
+use Rattle.quick_cache_model.specs.CacheState.{CacheState, Item, Place, InHot, InCold, SameButOrder, ring_place, items_at, with_items, entered, rewritten}
 use Rattle.quick_cache_model.specs.Hooks.{Rules, HookCall, BeforeEvict, EvictCold, evicted}
 use Rattle.quick_cache_model.specs.Removal.{pair_of}
 use Rattle.quick_cache_model.specs.Writes.{TakesOutItem}
@@ -66,12 +66,12 @@ module _ {K V : Type 0} where
         (map pair_of (stops.item ∷ stops.after))))))
 
     -- a search of the cold ring
-    pub Searches-order : (may_count : ℕ → Type 0) (old new : List (Item K V)) (answer : Search)
-        → Searches steady pinned may_count old answer new
+    pub Searches-order : (cut : ℕ) (may_count : ℕ → Type 0) (old new : List (Item K V)) (answer : Search)
+        → Searches steady pinned cut may_count old answer new
         → IsPermutation (map pair_of old) (map pair_of new)
-    Searches-order may_count old new answer searches =
+    Searches-order cut may_count old new answer searches =
         subst (λ ps. IsPermutation ps (map pair_of new))
-        (sym (pairs-raised default_mark_cut may_count old searches.cold searches.raised))
+        (sym (pairs-raised cut may_count old searches.cold searches.raised))
         (ends answer searches.ends)
       where
         ends : (b : Search) → SearchEnds steady pinned searches.cold b new
@@ -83,15 +83,16 @@ module _ {K V : Type 0} where
             (sym passed.1) (IsPermutation-refl (map pair_of searches.cold))
 
     -- round after round of the hot ring
-    pub SeekEnds-order : (may_count : ℕ → Type 0) (met : Bool) (old new : List (Item K V))
-        (visits : ℕ) → SeekEnds steady pinned may_count met old new visits
+    pub SeekEnds-order : (cut : ℕ) (may_count : ℕ → Type 0) (met : Bool)
+        (old new : List (Item K V)) (visits : ℕ)
+        → SeekEnds steady pinned cut may_count met old new visits
         → IsPermutation (map pair_of old) (map pair_of new)
-    SeekEnds-order may_count true old new visits ends =
-        let kept = MeetsVictim-keeps default_mark_cut steady pinned true may_count old new visits
+    SeekEnds-order cut may_count true old new visits ends =
+        let kept = MeetsVictim-keeps cut steady pinned true may_count old new visits
         ends in
         kept.same_pairs
-    SeekEnds-order may_count false old new visits ends =
-        let kept = GivesUp-keeps default_mark_cut steady pinned true may_count old new visits ends in
+    SeekEnds-order cut may_count false old new visits ends =
+        let kept = GivesUp-keeps cut steady pinned true may_count old new visits ends in
         kept.same_pairs
 
   -- ---- a pair that comes in

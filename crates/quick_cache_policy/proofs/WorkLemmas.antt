@@ -1,6 +1,6 @@
 -- How much work was done: the counts of advances and of visits, one step after another.
-use Rattle.std.proofs.Common.{◌≡◌, ℕ, ◌+◌, ◌*◌, ◌^◌, ◌<◌, ◌≤◌, arith, ap}
-use Rattle.std.proofs.Math.Nat.{mul-le-mul_right}
+use Rattle.std.proofs.Common.{◌≡◌, ℕ, ◌+◌, ◌*◌, ◌^◌, ◌<◌, ◌≤◌, arith, ap, subst}
+use Rattle.std.proofs.Math.Nat.{mul-le-mul_left, mul-le-mul_right}
 use Rattle.quick_cache_policy.specs.Work.{Work, DoesMore, PaysFor}
 
 -- nothing more was done
@@ -21,9 +21,9 @@ DoesMore-then advances visits more still old mid new first second = record {
 }
 
 -- nothing is to be paid for
-pub PaysFor-none : (hot cold : ℕ) (work : Work) → work.advances < 2 ^ 64
-    → work.visits < 2 ^ 64 → PaysFor 0 hot cold hot cold work work
-PaysFor-none hot cold work few less = record {
+pub PaysFor-none : (cut hot cold : ℕ) (work : Work) → work.advances < 2 ^ 64
+    → work.visits < 2 ^ 64 → PaysFor cut 0 hot cold hot cold work work
+PaysFor-none cut hot cold work few less = record {
   advances = 0;
   visits = 0;
   does = DoesMore-none work few less;
@@ -33,15 +33,19 @@ PaysFor-none hot cold work few less = record {
 }
 
 -- each of two steps is paid for, so both are
-pub PaysFor-then : (extra more hot cold hot1 cold1 hot2 cold2 : ℕ) (old mid new : Work)
-    → PaysFor extra hot cold hot1 cold1 old mid → PaysFor more hot1 cold1 hot2 cold2 mid new
-    → PaysFor (extra + more) hot cold hot2 cold2 old new
-PaysFor-then extra more hot cold hot1 cold1 hot2 cold2 old mid new first second =
-    let fewer : 3 * (hot1 + cold1) ≤ 3 * (hot + cold) = omega (arith, first.members) in
-    let each : 3 * (hot1 + cold1) * second.advances ≤ 3 * (hot + cold) * second.advances =
-    mul-le-mul_right second.advances fewer in
-    let both : 3 * (hot + cold) * (first.advances + second.advances)
-    ≡ 3 * (hot + cold) * first.advances + 3 * (hot + cold) * second.advances = omega arith in
+pub PaysFor-then : (cut cut1 extra more hot cold hot1 cold1 hot2 cold2 : ℕ) (old mid new : Work)
+    → cut1 ≡ cut → PaysFor cut extra hot cold hot1 cold1 old mid
+    → PaysFor cut1 more hot1 cold1 hot2 cold2 mid new
+    → PaysFor cut (extra + more) hot cold hot2 cold2 old new
+PaysFor-then cut cut1 extra more hot cold hot1 cold1 hot2 cold2 old mid new same first then =
+    let second = subst (λ c. PaysFor c more hot1 cold1 hot2 cold2 mid new) same then in
+    let fewer : (cut + 1) * (hot1 + cold1) ≤ (cut + 1) * (hot + cold) =
+    mul-le-mul_left (cut + 1) first.members in
+    let each : (cut + 1) * (hot1 + cold1) * second.advances
+    ≤ (cut + 1) * (hot + cold) * second.advances = mul-le-mul_right second.advances fewer in
+    let both : (cut + 1) * (hot + cold) * (first.advances + second.advances)
+    ≡ (cut + 1) * (hot + cold) * first.advances + (cut + 1) * (hot + cold) * second.advances =
+    omega arith in
     record {
       advances = first.advances + second.advances;
       visits = first.visits + second.visits;
@@ -53,10 +57,10 @@ PaysFor-then extra more hot cold hot1 cold1 hot2 cold2 old mid new first second 
     }
 
 -- a cold item that left is no work
-pub PaysFor-evicted : (hot cold hot1 cold1 : ℕ) (old new : Work) → hot1 ≡ hot → cold1 + 1 ≡ cold
+pub PaysFor-evicted : (cut hot cold hot1 cold1 : ℕ) (old new : Work) → hot1 ≡ hot → cold1 + 1 ≡ cold
     → new ≡ old → old.advances < 2 ^ 64 → old.visits < 2 ^ 64
-    → PaysFor 0 hot cold hot1 cold1 old new
-PaysFor-evicted hot cold hot1 cold1 old new same fewer work few less = record {
+    → PaysFor cut 0 hot cold hot1 cold1 old new
+PaysFor-evicted cut hot cold hot1 cold1 old new same fewer work few less = record {
   advances = 0;
   visits = 0;
   does = record {

@@ -3,7 +3,7 @@ use Rattle.std.specs.Prelude.{◌≡◌, ℕ, ◌-◌, ◌<◌, Bool, true, fals
 use Rattle.std.specs.List.{AllByRecursion}
 use Rattle.quick_cache_model.specs.declared.queue.Queue.{Queue}
 use Rattle.quick_cache_model.specs.declared.queue.Queue.TheVariants.{Hot}
-use Rattle.quick_cache_model.specs.CacheState.{CacheState, Item, UpToOrder, default_mark_cut, ring_place, items_at, with_items}
+use Rattle.quick_cache_model.specs.CacheState.{CacheState, Item, UpToOrder, ring_place, items_at, with_items}
 use Rattle.quick_cache_model.specs.Eviction.{EvictsVictim}
 use Rattle.quick_cache_model.specs.Hooks.{Rules, Hooks, HookCall, BeforeEvict, evicted}
 use Rattle.quick_cache_model.specs.Touches.{RaisesMarks, TakesTouches, counted_up}
@@ -78,13 +78,13 @@ module _ {K V : Type 0} where
   IsFound steady pinned item found_none = IsPassedBy steady pinned item
 
   -- the first item took its touches, and then it was looked at
-  pub record LooksAt (steady : Type 0) (pinned : K → V → Bool) (may_count : ℕ → Type 0)
+  pub record LooksAt (steady : Type 0) (pinned : K → V → Bool) (cut : ℕ) (may_count : ℕ → Type 0)
       (old : List (Item K V)) (answer : Search) (new : List (Item K V)) : Type 0 where
     pub item : Item K V
     pub touched : Item K V
     pub rest : List (Item K V)
     pub split : old ≡ item ∷ rest
-    pub takes : TakesTouches default_mark_cut may_count item touched
+    pub takes : TakesTouches cut may_count item touched
     pub finds : IsFound steady pinned touched answer
     pub looked : new ≡ touched ∷ rest
 
@@ -111,10 +111,10 @@ module _ {K V : Type 0} where
       AllByRecursion (IsPassedBy steady pinned) old × (new ≡ old)
 
   -- a search of the cold ring, in which each item that was looked at took its touches first
-  pub record Searches (steady : Type 0) (pinned : K → V → Bool) (may_count : ℕ → Type 0)
+  pub record Searches (steady : Type 0) (pinned : K → V → Bool) (cut : ℕ) (may_count : ℕ → Type 0)
       (old : List (Item K V)) (answer : Search) (new : List (Item K V)) : Type 0 where
     pub cold : List (Item K V)
-    pub raised : RaisesMarks default_mark_cut may_count old cold
+    pub raised : RaisesMarks cut may_count old cold
     pub ends : SearchEnds steady pinned cold answer new
 
 module _ {K V T S : Type 0} (weight_of : K → V → ℕ) (hooks : Hooks K V S) (item : Item K V)
@@ -135,7 +135,7 @@ module _ {K V P W A T : Type 0} where
     pub item : Item K V
     pub touched : Item K V
     pub is_of : IsItemOf old.lists token item
-    pub takes : TakesTouches default_mark_cut may_count item touched
+    pub takes : TakesTouches old.mark_cut may_count item touched
     pub same : new ≡ record old {
       lists = with_change token (with_counts touched.mark touched.reads) old.lists;
     }

@@ -2,17 +2,20 @@
 use Rattle.std.specs.Prelude.{◌≡◌, ℕ, ◌≤◌, ◌<◌, ◌^◌, min, Bool, length}
 use Rattle.std.specs.List.{AllByRecursion}
 use Rattle.quick_cache_model.specs.declared.queue.Queue.{Queue}
-use Rattle.quick_cache_model.specs.CacheState.{CacheState, IsValid, default_mark_cut, ring_place}
+use Rattle.quick_cache_model.specs.CacheState.{CacheState, IsValid, ring_place}
 use Rattle.quick_cache_lists.specs.Lists.{Lists, items_at}
 use Rattle.quick_cache_lists.specs.Views.{items_of, hashes_of, loading_entries}
 use Rattle.quick_cache_policy.specs.declared.contents.Contents.{Contents}
 use Rattle.quick_cache_policy.specs.Work.{Work}
 
--- the target is within the capacity, and the limit is what a count holds
-pub record AreSizes (capacity hot_target ghost_limit : ℕ) : Type 0 where
+-- the target is within the capacity, the limit is what a count holds, and the greatest mark is one
+-- of three
+pub record AreSizes (capacity hot_target ghost_limit mark_cut : ℕ) : Type 0 where
   pub target_within : hot_target ≤ capacity
   pub target_above : min capacity 1 ≤ hot_target
   pub limit_counts : ghost_limit < 2 ^ 64
+  pub some_mark : 1 ≤ mark_cut
+  pub few_marks : mark_cut ≤ 3
 
 -- each key stands under its hash
 pub record AreHashed {K V P : Type 0} (hash : K → ℕ) (lists : Lists K V P) : Type 0 where
@@ -33,7 +36,7 @@ module _ {K V P W A T : Type 0} where
     capacity = contents.capacity;
     hot_target = contents.hot_target;
     ghost_limit = contents.ghost_limit;
-    mark_cut = default_mark_cut;
+    mark_cut = contents.mark_cut;
     hits = contents.hits;
     misses = contents.misses;
     next_ticket = contents.next_ticket;
@@ -47,9 +50,18 @@ module _ {K V P W A T : Type 0} where
   abbrev pub work_of : Contents K V W A T P → Work
   work_of contents = record { advances = contents.advances; visits = contents.visits }
 
+  -- all but the lists and the work is as it was
+  abbrev pub KeepsNumbers : (old new : Contents K V W A T P) → Type 0
+  KeepsNumbers old new = new ≡ record old {
+    lists = new.lists;
+    advances = new.advances;
+    visits = new.visits;
+  }
+
   -- what always holds: a valid state of a cache, whose keys stand under their hashes
   pub record IsSound (ticket_of : P → ℕ) (equal : K → K → Bool) (hash : K → ℕ)
       (contents : Contents K V W A T P) : Type 0 where
     pub valid : IsValid equal (state_of ticket_of contents)
     pub sized : AreSizes contents.capacity contents.hot_target contents.ghost_limit
+        contents.mark_cut
     pub hashed : AreHashed hash contents.lists

@@ -5,7 +5,7 @@ use Rattle.std.specs.Int.NonZero.{non_zero_u32_get}
 use Rattle.std.specs.declared.num.NonZeroU32.{NonZeroU32 as Token}
 use Rattle.quick_cache_model.specs.declared.refusal.Refusal.{Refusal}
 use Rattle.quick_cache_model.specs.declared.refusal.Refusal.TheVariants.{Memory, SlotsFull, TicketsSpent, Finished}
-use Rattle.quick_cache_model.specs.CacheState.{CacheState, Item, UpToOrder, Place, default_mark_cut}
+use Rattle.quick_cache_model.specs.CacheState.{CacheState, Item, UpToOrder, Place}
 use Rattle.quick_cache_model.specs.Finding.{IsItemAt}
 use Rattle.quick_cache_model.specs.Lookups.{looked_up, LooksUp}
 use Rattle.quick_cache_model.specs.Removal.{pair_of}
@@ -61,7 +61,7 @@ module _ {K V P W A T : Type 0} (ticket_of : P → ℕ) (stands_for : K → Bool
   pub record IsLookedUp (token : Token) (new : Contents K V W A T P) : Type 0 where
     pub item : Item K V
     pub passes : stands_for item.key ≡ true
-    pub now : IsItemOf new.lists (non_zero_u32_get token) (looked_up default_mark_cut item)
+    pub now : IsItemOf new.lists (non_zero_u32_get token) (looked_up old.mark_cut item)
     pub value : UpToOrder
         (LooksUp stands_for (state_of ticket_of old) (λ i. i.value) (Some item.value))
         (state_of ticket_of new)

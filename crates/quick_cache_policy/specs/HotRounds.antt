@@ -1,6 +1,6 @@
 -- How the rounds of a hot advance end, and what they do to the contents of a cache.
 use Rattle.std.specs.Prelude.{◌≡◌, ℕ, Bool, true, false, List, ◌∷◌}
-use Rattle.quick_cache_model.specs.CacheState.{Item, default_mark_cut}
+use Rattle.quick_cache_model.specs.CacheState.{Item}
 use Rattle.quick_cache_model.specs.Eviction.{lowered}
 use Rattle.quick_cache_model.specs.Touches.{counted_up}
 use Rattle.quick_cache_lists.specs.Lists.{HeldItem}
@@ -20,23 +20,22 @@ module _ {K V : Type 0} (steady : Type 0) (pinned : K → V → Bool) where
   EndsAs round_victim old new visits = EndsAtVictim steady pinned old new visits
 
   -- a round with its end; each item that it visited took its touches first, where it was to
-  abbrev pub RoundEnds : (takes_touches : Bool) → (ℕ → Type 0) → Round
+  abbrev pub RoundEnds : (takes_touches : Bool) (cut : ℕ) → (ℕ → Type 0) → Round
       → (old new : List (Item K V)) (visits : ℕ) → Type 0
-  RoundEnds takes_touches may_count end old new visits =
-      AfterTouches takes_touches default_mark_cut may_count old
-      (λ mid. EndsAs end mid new visits)
+  RoundEnds takes_touches cut may_count end old new visits =
+      AfterTouches takes_touches cut may_count old (λ mid. EndsAs end mid new visits)
 
   -- how round after round of a ring ended, at a victim or with none, told of the ring as touches
   -- left it
-  abbrev pub EndsWith : (met : Bool) → (old new : List (Item K V)) (visits : ℕ) → Type 0
-  EndsWith true old new visits = MeetsVictim steady pinned default_mark_cut old new visits
-  EndsWith false old new visits = GivesUp steady pinned default_mark_cut old new visits
+  abbrev pub EndsWith : (cut : ℕ) → (met : Bool) → (old new : List (Item K V)) (visits : ℕ) → Type 0
+  EndsWith cut true old new visits = MeetsVictim steady pinned cut old new visits
+  EndsWith cut false old new visits = GivesUp steady pinned cut old new visits
 
   -- round after round with their end; each item that was visited took its touches in the first
-  abbrev pub SeekEnds : (ℕ → Type 0) → (met : Bool) → (old new : List (Item K V)) (visits : ℕ)
-      → Type 0
-  SeekEnds may_count met old new visits =
-      AfterTouches true default_mark_cut may_count old (λ mid. EndsWith met mid new visits)
+  abbrev pub SeekEnds : (cut : ℕ) → (ℕ → Type 0) → (met : Bool) → (old new : List (Item K V))
+      (visits : ℕ) → Type 0
+  SeekEnds cut may_count met old new visits =
+      AfterTouches true cut may_count old (λ mid. EndsWith cut met mid new visits)
 
 module _ {K V P W A T : Type 0} where
   -- The hot ring was visited so often, as told of its items, and each visit was counted.
@@ -55,7 +54,7 @@ module _ {K V P W A T : Type 0} where
     pub rest : List (HeldItem K V)
     pub stands : old.lists.hot ≡ held ∷ rest
     pub item : Item K V
-    pub takes : MayTake takes_touches default_mark_cut may_count held.item item
+    pub takes : MayTake takes_touches old.mark_cut may_count held.item item
     pub meets : Meets steady pinned item met
     pub same : new ≡ record old {
       lists = record old.lists { hot = record held { item = lowered 1 item } ∷ rest };

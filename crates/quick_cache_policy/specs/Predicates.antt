@@ -1,9 +1,9 @@
 -- What a predicate answers that a caller hands in, and what goes by its answers.
 use Rattle.std.specs.Prelude.{◌≡◌, ◌++◌, Bool, true, false, List, [], ◌∷◌, Option, Some, None}
-use Rattle.std.specs.Fn.{FnReturns, FnOnceReturnsAt}
+use Rattle.std.specs.Fn.{FnReturns, FnOnceReturnsAt, FnOnceTakesAt}
 use denote.Ref.{Bor}
 use denote.Param.Members.{Shared, Once}
-use Rattle.quick_cache_model.specs.CacheState.{CacheState, Item, Place, with_items}
+use Rattle.quick_cache_model.specs.CacheState.{CacheState, Item, Place, items_at, with_items}
 use Rattle.quick_cache_model.specs.Finding.{IsItemAt, HasNoItem}
 
 module _ {F K V : Type 0} (calls : Shared F (Bor K × (Bor V × Unit {0})) Bool) (keep : F) where
@@ -14,6 +14,17 @@ module _ {F K V : Type 0} (calls : Shared F (Bor K × (Bor V × Unit {0})) Bool)
     pub shows : (shown_key.now ≡ key) × (shown_value.now ≡ value)
     pub says : FnReturns calls keep (shown_key, (shown_value, tt)) answer
 
+  -- the predicate may be called at references to this pair
+  abbrev pub MayBeAsked : K → V → Type 0
+  MayBeAsked key value = (shown_key : Bor K) (shown_value : Bor V) → shown_key.now ≡ key
+      → shown_value.now ≡ value → calls.pre keep (shown_key, (shown_value, tt))
+
+  -- and so at each resident pair
+  abbrev pub MayBeAskedOfEach : CacheState K V → Type 0
+  MayBeAskedOfEach state = (place : Place) (before : List (Item K V)) (item : Item K V)
+      (after : List (Item K V)) → items_at place state ≡ before ++ item ∷ after
+      → MayBeAsked item.key item.value
+
   -- the predicate answers as this test does, at each pair
   abbrev pub IsAnsweredAs : (K → V → Bool) → Type 0
   IsAnsweredAs keeps = (key : K) (value : V) (answer : Bool) → Answers key value answer
@@ -23,6 +34,13 @@ module _ {F K V : Type 0} (calls : Shared F (Bor K × (Bor V × Unit {0})) Bool)
 abbrev pub IsTestedAs : {F V : Type 0} → Once F (Bor V × Unit {0}) Bool → F → (V → Bool) → Type 0
 IsTestedAs {F} {V} calls wanted passes = (value : V) (answer : Bool)
     → FnOnceReturnsAt calls wanted value answer → answer ≡ passes value
+
+-- a predicate that is called once may be called at the value of the item under the query
+abbrev pub MayBeAskedUnder : {F K V : Type 0} → Once F (Bor V × Unit {0}) Bool → F → (K → Bool)
+    → CacheState K V → Type 0
+MayBeAskedUnder {F} {K} {V} calls wanted stands_for state = (place : Place)
+    (before : List (Item K V)) (item : Item K V) (after : List (Item K V))
+    → IsItemAt stands_for state place before item after → FnOnceTakesAt calls wanted item.value
 
 module _ {K V : Type 0} (answers : K → V → Bool → Type 0) where
   -- Of the first items the second stay, in their order: each stays where it was answered yes, and

@@ -41,7 +41,7 @@ impl<K: Eq + Hash + Drop, V: Drop, P: SharedPlaceholder<K>, A: Allocator> Conten
         ensures sound { IsSound P.ticket_of K.eq (M.hashed terms.now) self.new }
         ensures places { LosesOnly (places_of self.old.lists) (places_of self.new.lists) }
         ensures room { self.old.lists.room ≤ self.new.lists.room }
-        ensures work { WorksWithin
+        ensures work { WorksWithin self.old.mark_cut
             (ring_count Queue.Hot self.old + ring_count Queue.Cold self.old + 1)
             (work_of self.old) (work_of self.new) }
         ensures same { self.new ≡ record self.old {

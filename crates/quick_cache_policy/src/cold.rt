@@ -24,7 +24,8 @@ impl<K: Eq + Hash + Drop, V: Drop, P: SharedPlaceholder<K>, A: Allocator> Conten
     /// Turns the cold ring up to the first item that is marked or unpinned.
     pub(crate) fn search_cold<M: Policy<K, V>>(&mut self, terms: &M) -> Search
         requires sound { IsSound P.ticket_of K.eq (M.hashed terms.now) self.old }
-        ensures searches { Searches (M.steady terms.now) (M.pinned terms.now) P.Touch.may_count
+        ensures searches { Searches (M.steady terms.now) (M.pinned terms.now)
+            self.old.mark_cut P.Touch.may_count
             (items_of self.old.lists.cold) result (items_of self.new.lists.cold) }
         ensures sound { IsSound P.ticket_of K.eq (M.hashed terms.now) self.new }
         ensures count { ring_count Queue.Cold self.new ≡ ring_count Queue.Cold self.old }
@@ -46,7 +47,8 @@ impl<K: Eq + Hash + Drop, V: Drop, P: SharedPlaceholder<K>, A: Allocator> Conten
     fn look_cold<M: Policy<K, V>>(&mut self, terms: &M) -> Search
         requires sound { IsSound P.ticket_of K.eq (M.hashed terms.now) self.old }
         requires there { 0 < ring_count Queue.Cold self.old }
-        ensures looks { LooksAt (M.steady terms.now) (M.pinned terms.now) P.Touch.may_count
+        ensures looks { LooksAt (M.steady terms.now) (M.pinned terms.now)
+            self.old.mark_cut P.Touch.may_count
             (items_of self.old.lists.cold) result (items_of self.new.lists.cold) }
         ensures sound { IsSound P.ticket_of K.eq (M.hashed terms.now) self.new }
         ensures places { LosesOnly (places_in self.old.lists.cold) (places_in self.new.lists.cold) }

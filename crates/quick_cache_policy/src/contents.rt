@@ -1,5 +1,6 @@
 //! The lists and the numbers of a cache.
-ghost use Rattle.std.specs.Prelude.{◌≡◌, ℕ, IfOk, IfErr, IsOk, OnOk, ◌≤◌, ◌+◌, ◌-◌, min};
+ghost use Rattle.std.specs.Prelude.{◌≡◌, ℕ, IfOk, IfErr, IsOk, OnOk, ◌≤◌, ◌+◌, ◌-◌, min, max};
+ghost use Rattle.quick_cache_lists.specs.Room.{most_room};
 ghost use Rattle.quick_cache_model.specs.CacheState.{empty_state};
 ghost use Rattle.quick_cache_model.specs.Refusals.{slot_count, slots_taken};
 ghost use Rattle.quick_cache_model.specs.declared.refusal.Refusal.TheVariants.{Memory};
@@ -24,6 +25,9 @@ pub struct Contents<K: Eq + Hash, V, P: SharedPlaceholder<K>, A: Allocator = Glo
     pub capacity: u64,
     pub hot_target: u64,
     pub ghost_limit: usize,
+    /// The greatest mark of an item. It stands beside the hits: a look-up reads it and writes those,
+    /// and so has one line for both.
+    pub mark_cut: u8,
     pub hits: u64,
     pub misses: u64,
     /// The ticket of the next placeholder.
@@ -41,12 +45,13 @@ impl<K: Eq + Hash, V, P: SharedPlaceholder<K>, A: Allocator> Contents<K, V, P, A
         capacity: u64,
         hot_target: u64,
         ghost_limit: usize,
+        mark_cut: u8,
     ) -> Result<Self, Refusal>
     where
         A: Clone,
-        requires sized { AreSizes capacity hot_target ghost_limit }
-        ensures state { IfOk result (λ made.
-            state_of P.ticket_of made ≡ empty_state capacity hot_target ghost_limit) }
+        requires sized { AreSizes capacity hot_target ghost_limit mark_cut }
+        ensures state { IfOk result (λ made. state_of P.ticket_of made
+            ≡ record (empty_state capacity hot_target ghost_limit) { mark_cut = mark_cut }) }
         ensures sound { IfOk result
             (λ made. (hashed : K → ℕ) → IsSound P.ticket_of K.eq hashed made) }
         ensures room { IfOk result (λ made. made.lists.room ≡ 0) }
@@ -59,6 +64,7 @@ impl<K: Eq + Hash, V, P: SharedPlaceholder<K>, A: Allocator> Contents<K, V, P, A
             capacity,
             hot_target,
             ghost_limit,
+            mark_cut,
             hits: 0,
             misses: 0,
             shared_hits: P::Touch::default(),
@@ -74,6 +80,9 @@ impl<K: Eq + Hash, V, P: SharedPlaceholder<K>, A: Allocator> Contents<K, V, P, A
         ensures room { OnOk result (min additional
             (slot_count - slots_taken (state_of P.ticket_of self.old)) ≤ self.new.lists.room) }
         ensures grows { self.old.lists.room ≤ self.new.lists.room }
+        ensures at_most { self.new.lists.room ≤ max self.old.lists.room
+            (most_room (slots_taken (state_of P.ticket_of self.old))
+            (additional + min additional self.old.ghost_limit)) }
 
         // Where there is that room already it succeeds.
         ensures succeeds { min (additional + min additional self.old.ghost_limit)

@@ -70,6 +70,7 @@ impl<
             capacity: self.capacity,
             hot_target: self.hot_target,
             ghost_limit: self.ghost_limit,
+            mark_cut: self.mark_cut,
             hits: self.hits,
             misses: self.misses,
             shared_hits: P::Touch::default(),

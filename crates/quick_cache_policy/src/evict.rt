@@ -4,7 +4,7 @@ ghost use Rattle.quick_cache_model.specs.CacheState.{keys_by};
 ghost use Rattle.quick_cache_model.specs.Eviction.{EvictsToTarget, AdvancesCold, EvictsToCapacity};
 ghost use Rattle.quick_cache_model.specs.Hooks.{Calls};
 ghost use Rattle.quick_cache_policy.specs.Advances.{Evicting};
-ghost use Rattle.quick_cache_policy.specs.Contents.{IsSound, state_of, ring_count, work_of};
+ghost use Rattle.quick_cache_policy.specs.Contents.{IsSound, state_of, ring_count, work_of, KeepsNumbers};
 ghost use Rattle.quick_cache_policy.specs.Places.{places_of, LosesOnly};
 ghost use Rattle.quick_cache_policy.specs.Policies.{rules_by};
 ghost use Rattle.quick_cache_policy.specs.Work.{PaysFor};
@@ -46,15 +46,11 @@ impl<K: Eq + Hash + Drop, V: Drop, P: SharedPlaceholder<K>, A: Allocator> Conten
         ensures places { LosesOnly (places_of self.old.lists) (places_of self.new.lists) }
         ensures fewer { ring_count Queue.Hot self.new ≤ ring_count Queue.Hot self.old }
         ensures cold { ring_count Queue.Cold self.new ≡ ring_count Queue.Cold self.old }
-        ensures work { PaysFor 1
+        ensures work { PaysFor self.old.mark_cut 1
             (ring_count Queue.Hot self.old) (ring_count Queue.Cold self.old)
             (ring_count Queue.Hot self.new) (ring_count Queue.Cold self.new)
             (work_of self.old) (work_of self.new) }
-        ensures same { self.new ≡ record self.old {
-          lists = self.new.lists;
-          advances = self.new.advances;
-          visits = self.new.visits;
-        } }
+        ensures same { KeepsNumbers self.old self.new }
     {
         counts_fit(self.advances, self.visits);
         while self.lists.weight(Queue::Hot) > u128::from(self.hot_target) {
@@ -89,15 +85,11 @@ impl<K: Eq + Hash + Drop, V: Drop, P: SharedPlaceholder<K>, A: Allocator> Conten
         ensures falls { ring_count Queue.Hot self.new + 2 * ring_count Queue.Cold self.new
             + (if result then 1 else 0)
             ≤ ring_count Queue.Hot self.old + 2 * ring_count Queue.Cold self.old }
-        ensures work { PaysFor (if result then 0 else 1)
+        ensures work { PaysFor self.old.mark_cut (if result then 0 else 1)
             (ring_count Queue.Hot self.old) (ring_count Queue.Cold self.old)
             (ring_count Queue.Hot self.new) (ring_count Queue.Cold self.new)
             (work_of self.old) (work_of self.new) }
-        ensures same { self.new ≡ record self.old {
-          lists = self.new.lists;
-          advances = self.new.advances;
-          visits = self.new.visits;
-        } }
+        ensures same { KeepsNumbers self.old self.new }
     {
         counts_fit(self.advances, self.visits);
         match self.search_cold(terms) {
@@ -136,15 +128,11 @@ impl<K: Eq + Hash + Drop, V: Drop, P: SharedPlaceholder<K>, A: Allocator> Conten
             ≤ keys_by test (state_of P.ticket_of self.old) }
         // And none moves.
         ensures places { LosesOnly (places_of self.old.lists) (places_of self.new.lists) }
-        ensures work { PaysFor 1
+        ensures work { PaysFor self.old.mark_cut 1
             (ring_count Queue.Hot self.old) (ring_count Queue.Cold self.old)
             (ring_count Queue.Hot self.new) (ring_count Queue.Cold self.new)
             (work_of self.old) (work_of self.new) }
-        ensures same { self.new ≡ record self.old {
-          lists = self.new.lists;
-          advances = self.new.advances;
-          visits = self.new.visits;
-        } }
+        ensures same { KeepsNumbers self.old self.new }
     {
         counts_fit(self.advances, self.visits);
         while self.lists.weight(Queue::Hot) + self.lists.weight(Queue::Cold) + u128::from(need)

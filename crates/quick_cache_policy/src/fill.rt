@@ -1,14 +1,12 @@
 //! A placeholder that is filled with a value, or given up.
 ghost use Rattle.std.specs.Prelude.{◌≡◌, ℕ, ◌+◌, ◌≤◌, ◌<◌, MatchOption, ◌==◌, None, if◌then◌else◌};
 ghost use Rattle.std.specs.Int.NonZero.{non_zero_u32_get as number};
-ghost use Rattle.quick_cache_lists.specs.Placeholders.{FindsPlaceholder, HasNoPlaceholder};
-ghost use Rattle.quick_cache_model.specs.CacheState.{UpToOrder, entered, keys_by};
+ghost use Rattle.quick_cache_lists.specs.Placeholders.{FindsPlaceholder};
+ghost use Rattle.quick_cache_model.specs.CacheState.{UpToOrder};
 ghost use Rattle.quick_cache_model.specs.Hooks.{Calls};
-ghost use Rattle.quick_cache_model.specs.Placeholders.{GivesUpPlaceholder, HasNoTicket, MakesRoomFor};
-ghost use Rattle.quick_cache_model.specs.Writes.{new_item, queue_for};
+ghost use Rattle.quick_cache_model.specs.Placeholders.{GivesUpPlaceholder, HasNoTicket};
 ghost use Rattle.quick_cache_policy.specs.Places.{places_of, KeepsPlaces, LosesOnly};
-ghost use Rattle.quick_cache_policy.specs.Advances.{Evicting};
-ghost use Rattle.quick_cache_policy.specs.Contents.{IsSound, state_of, ring_count, work_of};
+ghost use Rattle.quick_cache_policy.specs.Contents.{IsSound, state_of, ring_count, work_of, KeepsNumbers};
 ghost use Rattle.quick_cache_policy.specs.Filling.{AnswersFill, AwaitsKey, Fills};
 ghost use Rattle.quick_cache_policy.specs.Policies.{rules_by};
 ghost use Rattle.quick_cache_policy.specs.Work.{WorksWithin};
@@ -69,14 +67,10 @@ impl<K: Eq + Hash + Drop, V: Drop, P: SharedPlaceholder<K>, A: Allocator> Conten
         ensures sound { IsSound P.ticket_of K.eq (M.hashed terms.now) self.new }
         ensures places { KeepsPlaces K.eq (places_of self.old.lists) (places_of self.new.lists) }
         ensures room { self.old.lists.room ≤ self.new.lists.room }
-        ensures work { WorksWithin
+        ensures work { WorksWithin self.old.mark_cut
             (ring_count Queue.Hot self.old + ring_count Queue.Cold self.old + 1)
             (work_of self.old) (work_of self.new) }
-        ensures same { self.new ≡ record self.old {
-          lists = self.new.lists;
-          advances = self.new.advances;
-          visits = self.new.visits;
-        } }
+        ensures same { KeepsNumbers self.old self.new }
     {
         // Read for the proof: the counts are within their types.
         let _advances = self.advances;
@@ -135,14 +129,10 @@ impl<K: Eq + Hash + Drop, V: Drop, P: SharedPlaceholder<K>, A: Allocator> Conten
         ensures sound { IsSound P.ticket_of K.eq (M.hashed terms.now) self.new }
         ensures places { KeepsPlaces K.eq (places_of self.old.lists) (places_of self.new.lists) }
         ensures room { self.old.lists.room ≤ self.new.lists.room }
-        ensures work { WorksWithin
+        ensures work { WorksWithin self.old.mark_cut
             (ring_count Queue.Hot self.old + ring_count Queue.Cold self.old + 1)
             (work_of self.old) (work_of self.new) }
-        ensures same { self.new ≡ record self.old {
-          lists = self.new.lists;
-          advances = self.new.advances;
-          visits = self.new.visits;
-        } }
+        ensures same { KeepsNumbers self.old self.new }
     {
         // Read for the proof: the counts are within their types.
         let _advances = self.advances;

@@ -7,7 +7,7 @@ ghost use Rattle.quick_cache_model.specs.CacheState.{keys_by};
 ghost use Rattle.quick_cache_model.specs.Eviction.{AdvancesHot};
 ghost use Rattle.quick_cache_model.specs.Hooks.{Calls};
 ghost use Rattle.quick_cache_policy.specs.Advances.{Evicting, HasTakenTouches, IsVisited};
-ghost use Rattle.quick_cache_policy.specs.Contents.{IsSound, state_of, ring_count, work_of};
+ghost use Rattle.quick_cache_policy.specs.Contents.{IsSound, state_of, ring_count, work_of, KeepsNumbers};
 ghost use Rattle.quick_cache_policy.specs.HotRounds.{VisitsHot, VisitsFirst, RoundEnds, SeekEnds};
 ghost use Rattle.quick_cache_policy.specs.Places.{places_in, places_of, LosesOnly};
 ghost use Rattle.quick_cache_policy.specs.Policies.{rules_by};
@@ -19,9 +19,6 @@ use quick_cache_model::{Queue, Token};
 use quick_cache_placeholder::SharedPlaceholder;
 use std::alloc::Allocator;
 use std::hash::Hash;
-
-/// The greatest mark.
-pub(crate) const MARK_CUT: u8 = 2;
 
 /// What a visit met.
 #[derive(Clone, Copy)]
@@ -54,7 +51,7 @@ impl<K: Eq + Hash + Drop, V: Drop, P: SharedPlaceholder<K>, A: Allocator> Conten
         let item = self.lists.item(token);
         let mark = u64::from(item.mark())
             .saturating_add(count)
-            .min(u64::from(MARK_CUT)) as u8;
+            .min(u64::from(self.mark_cut)) as u8;
         let reads = item.reads().saturating_add(count);
         self.lists.set_counts(token, mark, reads);
     }
@@ -102,7 +99,7 @@ impl<K: Eq + Hash + Drop, V: Drop, P: SharedPlaceholder<K>, A: Allocator> Conten
     fn go_round<M: Policy<K, V>>(&mut self, takes_touches: bool, terms: &M) -> Round
         requires sound { IsSound P.ticket_of K.eq (M.hashed terms.now) self.old }
         ensures ends { VisitsHot (RoundEnds (M.steady terms.now) (M.pinned terms.now) takes_touches
-            P.Touch.may_count result) self.old self.new }
+            self.old.mark_cut P.Touch.may_count result) self.old self.new }
         ensures sound { IsSound P.ticket_of K.eq (M.hashed terms.now) self.new }
         ensures count { ring_count Queue.Hot self.new ≡ ring_count Queue.Hot self.old }
         ensures places { LosesOnly (places_in self.old.lists.hot) (places_in self.new.lists.hot) }
@@ -137,7 +134,7 @@ impl<K: Eq + Hash + Drop, V: Drop, P: SharedPlaceholder<K>, A: Allocator> Conten
     fn seek_victim<M: Policy<K, V>>(&mut self, terms: &M) -> bool
         requires sound { IsSound P.ticket_of K.eq (M.hashed terms.now) self.old }
         ensures ends { VisitsHot (SeekEnds (M.steady terms.now) (M.pinned terms.now)
-            P.Touch.may_count result) self.old self.new }
+            self.old.mark_cut P.Touch.may_count result) self.old self.new }
         ensures sound { IsSound P.ticket_of K.eq (M.hashed terms.now) self.new }
         ensures count { ring_count Queue.Hot self.new ≡ ring_count Queue.Hot self.old }
         ensures places { LosesOnly (places_in self.old.lists.hot) (places_in self.new.lists.hot) }
@@ -185,15 +182,11 @@ impl<K: Eq + Hash + Drop, V: Drop, P: SharedPlaceholder<K>, A: Allocator> Conten
         ensures falls { ring_count Queue.Hot self.new + (if result then 1 else 0)
             ≡ ring_count Queue.Hot self.old }
         ensures cold { ring_count Queue.Cold self.new ≡ ring_count Queue.Cold self.old }
-        ensures work { PaysFor (if result then 0 else 1)
+        ensures work { PaysFor self.old.mark_cut (if result then 0 else 1)
             (ring_count Queue.Hot self.old) (ring_count Queue.Cold self.old)
             (ring_count Queue.Hot self.new) (ring_count Queue.Cold self.new)
             (work_of self.old) (work_of self.new) }
-        ensures same { self.new ≡ record self.old {
-          lists = self.new.lists;
-          advances = self.new.advances;
-          visits = self.new.visits;
-        } }
+        ensures same { KeepsNumbers self.old self.new }
     {
         self.advances = self.advances.saturating_add(1);
         if !self.seek_victim(terms) {

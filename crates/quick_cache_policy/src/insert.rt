@@ -4,7 +4,7 @@ ghost use Rattle.quick_cache_lists.specs.Lists.{Finds, entry_count};
 ghost use Rattle.quick_cache_model.specs.Hooks.{Calls};
 ghost use Rattle.quick_cache_model.specs.Writes.{Insert};
 ghost use Rattle.quick_cache_model.specs.declared.refusal.Refusal.TheVariants.{Memory};
-ghost use Rattle.quick_cache_policy.specs.Contents.{IsSound, state_of, ring_count, work_of};
+ghost use Rattle.quick_cache_policy.specs.Contents.{IsSound, state_of, ring_count, work_of, KeepsNumbers};
 ghost use Rattle.quick_cache_policy.specs.Finding.{TakesSlot, Provides};
 ghost use Rattle.quick_cache_policy.specs.Places.{places_of, KeepsPlaces, WritesPlace};
 ghost use Rattle.quick_cache_policy.specs.Policies.{rules_by};
@@ -68,14 +68,10 @@ impl<K: Eq + Hash + Drop, V: Drop, P: SharedPlaceholder<K>, A: Allocator> Conten
         // No other item moves.
         ensures places { WritesPlace K.eq key (places_of self.old.lists) (places_of self.new.lists) }
         ensures room { self.old.lists.room ≤ self.new.lists.room + 1 }
-        ensures work { WorksWithin
+        ensures work { WorksWithin self.old.mark_cut
             (ring_count Queue.Hot self.old + ring_count Queue.Cold self.old + 1)
             (work_of self.old) (work_of self.new) }
-        ensures same { self.new ≡ record self.old {
-          lists = self.new.lists;
-          advances = self.new.advances;
-          visits = self.new.visits;
-        } }
+        ensures same { KeepsNumbers self.old self.new }
     {
         let Weighed { value, weight } = weighed;
         let hot_weight = self.lists.weight(Queue::Hot) + u128::from(weight);
@@ -120,14 +116,10 @@ impl<K: Eq + Hash + Drop, V: Drop, P: SharedPlaceholder<K>, A: Allocator> Conten
         // A replace takes none.
         ensures keeps_room { is_insert (strategy_of strategy) ≡ false
             → self.old.lists.room ≤ self.new.lists.room }
-        ensures work { WorksWithin
+        ensures work { WorksWithin self.old.mark_cut
             (ring_count Queue.Hot self.old + ring_count Queue.Cold self.old + 1)
             (work_of self.old) (work_of self.new) }
-        ensures same { self.new ≡ record self.old {
-          lists = self.new.lists;
-          advances = self.new.advances;
-          visits = self.new.visits;
-        } }
+        ensures same { KeepsNumbers self.old self.new }
     {
         // Read for the proof: the counts are within their types.
         let _advances = self.advances;
@@ -191,14 +183,10 @@ impl<K: Eq + Hash + Drop, V: Drop, P: SharedPlaceholder<K>, A: Allocator> Conten
         // A replace takes none.
         ensures keeps_room { is_insert (strategy_of strategy) ≡ false
             → self.old.lists.room ≤ self.new.lists.room }
-        ensures work { WorksWithin
+        ensures work { WorksWithin self.old.mark_cut
             (ring_count Queue.Hot self.old + ring_count Queue.Cold self.old + 1)
             (work_of self.old) (work_of self.new) }
-        ensures same { self.new ≡ record self.old {
-          lists = self.new.lists;
-          advances = self.new.advances;
-          visits = self.new.visits;
-        } }
+        ensures same { KeepsNumbers self.old self.new }
     {
         // Read for the proof: the counts are within their types.
         let _advances = self.advances;
@@ -244,14 +232,10 @@ impl<K: Eq + Hash + Drop, V: Drop, P: SharedPlaceholder<K>, A: Allocator> Conten
         ensures keeps_room { is_insert (strategy_of strategy) ≡ false
             → self.old.lists.room ≤ self.new.lists.room }
         ensures asks { IfErr result (λ back. back.2 ≡ Some Memory → self.old.lists.room ≡ 0) }
-        ensures work { WorksWithin
+        ensures work { WorksWithin self.old.mark_cut
             (ring_count Queue.Hot self.old + ring_count Queue.Cold self.old + 1)
             (work_of self.old) (work_of self.new) }
-        ensures same { self.new ≡ record self.old {
-          lists = self.new.lists;
-          advances = self.new.advances;
-          visits = self.new.visits;
-        } }
+        ensures same { KeepsNumbers self.old self.new }
     {
         // Read for the proof: the counts are within their types.
         let _advances = self.advances;

@@ -6,6 +6,7 @@
 #![tactic(auto)]
 
 mod admission;
+mod by_token;
 mod capacity;
 mod cold;
 mod contents;

@@ -10,7 +10,6 @@ ghost use Rattle.quick_cache_policy.specs.Finding.{AreUnder, IsLookedUp, IsMisse
 ghost use Rattle.quick_cache_policy.specs.Places.{places_of, LosesOnly};
 
 use crate::contents::Contents;
-use crate::hot::MARK_CUT;
 use quick_cache_lists::{Entry, Found};
 use quick_cache_model::{Equivalent, Token};
 use quick_cache_placeholder::SharedPlaceholder;
@@ -91,10 +90,11 @@ impl<K: Eq + Hash, V, P: SharedPlaceholder<K>, A: Allocator> Contents<K, V, P, A
         let item = self.lists.item(token);
         let mark = item.mark();
         // A full mark is not written again: most look-ups meet one, and write one number of a slot.
-        if mark == MARK_CUT {
+        if mark == self.mark_cut {
             self.lists.count_read(token);
         } else {
-            self.lists.count_use(token, mark.min(MARK_CUT - 1) + 1);
+            self.lists
+                .count_use(token, mark.saturating_add(1).min(self.mark_cut));
         }
         self.hits = self.hits.saturating_add(1);
     }

@@ -3,7 +3,7 @@ ghost use Rattle.std.specs.Prelude.{◌≡◌, ◌+◌, ◌≤◌, None};
 ghost use Rattle.quick_cache_lists.specs.Lists.{Finds};
 ghost use Rattle.quick_cache_model.specs.Hooks.{Calls};
 ghost use Rattle.quick_cache_model.specs.Writes.{Insert};
-ghost use Rattle.quick_cache_policy.specs.Contents.{IsSound, state_of, ring_count, work_of};
+ghost use Rattle.quick_cache_policy.specs.Contents.{IsSound, state_of, ring_count, work_of, KeepsNumbers};
 ghost use Rattle.quick_cache_policy.specs.Places.{places_of, WritesPlace};
 ghost use Rattle.quick_cache_policy.specs.Policies.{rules_by};
 ghost use Rattle.quick_cache_policy.specs.Work.{WorksWithin};
@@ -11,7 +11,6 @@ ghost use Rattle.quick_cache_policy.specs.Writing.{strategy_of, WritingAdmitted}
 
 use crate::admission::{Weighed, report};
 use crate::contents::Contents;
-use crate::hot::MARK_CUT;
 use crate::policy::Policy;
 use crate::strategy::InsertStrategy;
 use quick_cache_lists::{Entry, Found, Resident};
@@ -46,14 +45,10 @@ impl<K: Eq + Hash + Drop, V: Drop, P: SharedPlaceholder<K>, A: Allocator> Conten
         // No other item moves.
         ensures places { WritesPlace K.eq key (places_of self.old.lists) (places_of self.new.lists) }
         ensures room { self.old.lists.room ≤ self.new.lists.room }
-        ensures work { WorksWithin
+        ensures work { WorksWithin self.old.mark_cut
             (ring_count Queue.Hot self.old + ring_count Queue.Cold self.old + 1)
             (work_of self.old) (work_of self.new) }
-        ensures same { self.new ≡ record self.old {
-          lists = self.new.lists;
-          advances = self.new.advances;
-          visits = self.new.visits;
-        } }
+        ensures same { KeepsNumbers self.old self.new }
     {
         self.lists.apart();
         let touches = self.lists.take_touch(token);
@@ -61,8 +56,8 @@ impl<K: Eq + Hash + Drop, V: Drop, P: SharedPlaceholder<K>, A: Allocator> Conten
         let queue = item.queue();
         let touched = u64::from(item.mark())
             .saturating_add(touches)
-            .min(u64::from(MARK_CUT)) as u8;
-        let mark = strategy.mark_after(touched);
+            .min(u64::from(self.mark_cut)) as u8;
+        let mark = strategy.mark_after(self.mark_cut, touched);
         let Weighed { value, weight } = weighed;
         // It goes on with the old item's counter, which was emptied.
         let item = Resident::new(key, value, weight, mark, queue, P::Touch::default());
@@ -94,14 +89,10 @@ impl<K: Eq + Hash + Drop, V: Drop, P: SharedPlaceholder<K>, A: Allocator> Conten
         // No other item moves.
         ensures places { WritesPlace K.eq key (places_of self.old.lists) (places_of self.new.lists) }
         ensures room { self.old.lists.room ≤ self.new.lists.room }
-        ensures work { WorksWithin
+        ensures work { WorksWithin self.old.mark_cut
             (ring_count Queue.Hot self.old + ring_count Queue.Cold self.old + 1)
             (work_of self.old) (work_of self.new) }
-        ensures same { self.new ≡ record self.old {
-          lists = self.new.lists;
-          advances = self.new.advances;
-          visits = self.new.visits;
-        } }
+        ensures same { KeepsNumbers self.old self.new }
     {
         self.lists.apart();
         let Weighed { value, weight } = weighed;
@@ -134,14 +125,10 @@ impl<K: Eq + Hash + Drop, V: Drop, P: SharedPlaceholder<K>, A: Allocator> Conten
         // No other item moves.
         ensures places { WritesPlace K.eq key (places_of self.old.lists) (places_of self.new.lists) }
         ensures room { self.old.lists.room ≤ self.new.lists.room }
-        ensures work { WorksWithin
+        ensures work { WorksWithin self.old.mark_cut
             (ring_count Queue.Hot self.old + ring_count Queue.Cold self.old + 1)
             (work_of self.old) (work_of self.new) }
-        ensures same { self.new ≡ record self.old {
-          lists = self.new.lists;
-          advances = self.new.advances;
-          visits = self.new.visits;
-        } }
+        ensures same { KeepsNumbers self.old self.new }
     {
         self.lists.apart();
         let queue = self.lists.awaited(token).queue();

@@ -7,7 +7,7 @@ ghost use Rattle.quick_cache_lists.specs.Lists.{entry_count};
 ghost use Rattle.quick_cache_policy.specs.Contents.{IsSound, state_of};
 ghost use Rattle.quick_cache_policy.specs.Finding.{AreUnder};
 ghost use Rattle.quick_cache_policy.specs.Places.{places_of, LosesOnly};
-ghost use Rattle.quick_cache_policy.specs.Predicates.{Answers, RemovesAsked, RetainsAsked};
+ghost use Rattle.quick_cache_policy.specs.Predicates.{Answers, MayBeAskedUnder, MayBeAskedOfEach, RemovesAsked, RetainsAsked};
 
 use crate::contents::Contents;
 use quick_cache_model::Equivalent;
@@ -25,7 +25,8 @@ impl<K: Eq + Hash, V, P: SharedPlaceholder<K>, A: Allocator> Contents<K, V, P, A
         wanted: F,
     ) -> Option<(K, V)>
         requires under { AreUnder (Q.equivalent query.now) hash self.old.lists }
-        requires callable { F.IsAlwaysCallable wanted }
+        requires callable { MayBeAskedUnder F.FnOnce wanted (Q.equivalent query.now)
+            (state_of P.ticket_of self.old) }
         ensures removes { UpToOrder (RemovesAsked (Q.equivalent query.now)
             (state_of P.ticket_of self.old) (FnOnceReturnsAt F.FnOnce wanted) result)
             (state_of P.ticket_of self.new) }
@@ -51,7 +52,7 @@ impl<K: Eq + Hash, V, P: SharedPlaceholder<K>, A: Allocator> Contents<K, V, P, A
     where
         K: Drop,
         V: Drop,
-        requires callable { F.IsAlwaysCallable keep }
+        requires callable { MayBeAskedOfEach F.Fn keep (state_of P.ticket_of self.old) }
         ensures retains { UpToOrder (RetainsAsked (Answers F.Fn keep)
             (state_of P.ticket_of self.old)) (state_of P.ticket_of self.new) }
         ensures sound { (hashed : K → ℕ) → IsSound P.ticket_of K.eq hashed self.old

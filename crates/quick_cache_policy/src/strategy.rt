@@ -1,6 +1,5 @@
 //! What a write does where nothing stands under its key, and how it counts where something does.
 ghost use Rattle.std.specs.Prelude.{◌≡◌};
-ghost use Rattle.quick_cache_model.specs.CacheState.{default_mark_cut};
 ghost use Rattle.quick_cache_model.specs.Writes.{mark_after};
 ghost use Rattle.quick_cache_policy.specs.Writing.{strategy_of, is_insert};
 
@@ -14,13 +13,13 @@ pub enum InsertStrategy {
 }
 
 impl InsertStrategy {
-    /// The mark of an item that is written over.
-    pub(crate) fn mark_after(self, mark: u8) -> u8
-        ensures { result ≡ mark_after default_mark_cut (strategy_of self) mark }
+    /// The mark of an item that is written over, by the greatest mark.
+    pub(crate) fn mark_after(self, cut: u8, mark: u8) -> u8
+        ensures { result ≡ mark_after cut (strategy_of self) mark }
     {
         match self {
-            InsertStrategy::Insert => mark.min(1) + 1,
-            InsertStrategy::Replace { soft: false } => mark.min(1) + 1,
+            InsertStrategy::Insert => mark.saturating_add(1).min(cut),
+            InsertStrategy::Replace { soft: false } => mark.saturating_add(1).min(cut),
             InsertStrategy::Replace { soft: true } => mark,
         }
     }

@@ -1,16 +1,16 @@
 //! One call, and its reply.
-ghost use Rattle.std.specs.Prelude.{◌≡◌, Bool};
+ghost use Rattle.std.specs.Prelude.{Bool};
 ghost use Rattle.quick_cache_calls.specs.Answered.{AlwaysClones, IsAnswered};
 ghost use Rattle.quick_cache_runs.specs.Asked.{IfAsks, IfLoads};
-ghost use Rattle.quick_cache_runs.specs.Made.{IsMade};
+ghost use Rattle.quick_cache_runs.specs.Made.{IsMadeBy};
 ghost use Rattle.quick_cache_shard.specs.Copies.{ClonesAreEqual};
 ghost use Rattle.quick_cache_shard.specs.Predicates.{IsAnsweredAs};
-ghost use Rattle.quick_cache_shard.specs.Shard.{rules_of, hooks_of};
-ghost use Rattle.quick_cache_unsync.specs.Touches.{no_touches};
+ghost use Rattle.quick_cache_shard.specs.Shard.{KeepsTerms};
 
 use crate::{loads, looks, removals, sizes, walks, writes};
 use quick_cache_calls::{Call, Reply};
 use quick_cache_model::{Lifecycle, Weighter};
+use quick_cache_shard::Going;
 use quick_cache_unsync::Cache;
 use std::alloc::Allocator;
 use std::hash::{BuildHasher, Hash};
@@ -37,17 +37,10 @@ pub(crate) fn act<
     // Where pinning is steady, and a predicate answers as a pure test does, the call is a step of
     // its definition.
     ensures step { L.steady cache.old.lifecycle → (answers : F → K → V → Bool)
-        → IfAsks (λ asked. IsAnsweredAs F.Fn asked (answers asked)) call → IsMade
-        (rules_of no_touches K.Hash.hash_input We.Weighter B.BuildHasher B.Hasher.Hasher
-        L.Lifecycle cache.old)
-        K.eq K.is_clone V.is_clone answers (hooks_of L.Lifecycle cache.old) cache.old.state
-        state.old call result cache.new.state state.new }
-    ensures same { cache.new ≡ record cache.old {
-      state = cache.new.state;
-      places = cache.new.places;
-      room = cache.new.room;
-      work = cache.new.work;
-    } }
+        → IfAsks (λ asked. IsAnsweredAs F.Fn asked (answers asked)) call
+        → IsMadeBy ⟦<Cache<K, V, We, B, L, A> as Going>⟧.goes K.eq K.is_clone V.is_clone answers
+        cache.old state.old call result cache.new state.new }
+    ensures same { KeepsTerms cache.old cache.new }
     // A look is refused only where a clone fails.
     ensures answered { AlwaysClones V.is_infallible → IsAnswered call result }
 {

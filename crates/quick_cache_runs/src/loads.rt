@@ -1,14 +1,14 @@
 //! Calls that load what they do not find, each with its reply.
-ghost use Rattle.std.specs.Prelude.{◌≡◌, Bool, Option, Some, IfOk, OnErr};
+ghost use Rattle.std.specs.Prelude.{Option, Some, IfOk, OnErr};
 ghost use Rattle.quick_cache_calls.specs.Shown.{IsShown};
 ghost use Rattle.quick_cache_model.specs.Lookups.{Sees};
-ghost use Rattle.quick_cache_runs.specs.Made.{IsMade};
+ghost use Rattle.quick_cache_runs.specs.Made.{MakesCall};
 ghost use Rattle.quick_cache_shard.specs.Copies.{ClonesAreEqual};
-ghost use Rattle.quick_cache_shard.specs.Shard.{rules_of, hooks_of, IsSoundShard};
-ghost use Rattle.quick_cache_unsync.specs.Touches.{no_touches};
+ghost use Rattle.quick_cache_shard.specs.Shard.{IsSoundShard, KeepsTerms};
 
 use quick_cache_calls::{Call, Reply};
 use quick_cache_model::{Lifecycle, Refusal, Weighter};
+use quick_cache_shard::Going;
 use quick_cache_unsync::{Cache, poke};
 use std::alloc::{AllocError, Allocator};
 use std::hash::{BuildHasher, Hash};
@@ -32,17 +32,9 @@ pub(crate) fn guarded<
 ) -> Reply<K, V, M>
     requires keys { ClonesAreEqual K.eq K.is_clone }
     // Where pinning is steady, the call is a step of its definition.
-    ensures step { L.steady cache.old.lifecycle → (answers : F → K → V → Bool) → IsMade
-        (rules_of no_touches K.Hash.hash_input We.Weighter B.BuildHasher B.Hasher.Hasher
-        L.Lifecycle cache.old)
-        K.eq K.is_clone V.is_clone answers (hooks_of L.Lifecycle cache.old) cache.old.state
-        state.old (Call.Guarded key.now given) result cache.new.state state.new }
-    ensures same { cache.new ≡ record cache.old {
-      state = cache.new.state;
-      places = cache.new.places;
-      room = cache.new.room;
-      work = cache.new.work;
-    } }
+    ensures step { MakesCall F ⟦<Cache<K, V, We, B, L, A> as Going>⟧.goes K.eq K.is_clone
+        V.is_clone cache.old state.old (Call.Guarded key.now given) result cache.new state.new }
+    ensures same { KeepsTerms cache.old cache.new }
 {
     match cache.peek(key) {
         Some(value) => match value.clone() {
@@ -104,17 +96,10 @@ pub(crate) fn guarded_mut<
 ) -> Reply<K, V, M>
     requires keys { ClonesAreEqual K.eq K.is_clone }
     // Where pinning is steady, the call is a step of its definition.
-    ensures step { L.steady cache.old.lifecycle → (answers : F → K → V → Bool) → IsMade
-        (rules_of no_touches K.Hash.hash_input We.Weighter B.BuildHasher B.Hasher.Hasher
-        L.Lifecycle cache.old)
-        K.eq K.is_clone V.is_clone answers (hooks_of L.Lifecycle cache.old) cache.old.state
-        state.old (Call.GuardedMut key.now given left) result cache.new.state state.new }
-    ensures same { cache.new ≡ record cache.old {
-      state = cache.new.state;
-      places = cache.new.places;
-      room = cache.new.room;
-      work = cache.new.work;
-    } }
+    ensures step { MakesCall F ⟦<Cache<K, V, We, B, L, A> as Going>⟧.goes K.eq K.is_clone
+        V.is_clone cache.old state.old (Call.GuardedMut key.now given left) result
+        cache.new state.new }
+    ensures same { KeepsTerms cache.old cache.new }
 {
     let Ok(shown) = copied(cache, key) else {
         return Reply::Refused(Refusal::Memory);
@@ -161,17 +146,9 @@ pub(crate) fn load<
 ) -> Reply<K, V, M>
     requires keys { ClonesAreEqual K.eq K.is_clone }
     // Where pinning is steady, the call is a step of its definition.
-    ensures step { L.steady cache.old.lifecycle → (answers : F → K → V → Bool) → IsMade
-        (rules_of no_touches K.Hash.hash_input We.Weighter B.BuildHasher B.Hasher.Hasher
-        L.Lifecycle cache.old)
-        K.eq K.is_clone V.is_clone answers (hooks_of L.Lifecycle cache.old) cache.old.state
-        state.old (Call.Load key.now given) result cache.new.state state.new }
-    ensures same { cache.new ≡ record cache.old {
-      state = cache.new.state;
-      places = cache.new.places;
-      room = cache.new.room;
-      work = cache.new.work;
-    } }
+    ensures step { MakesCall F ⟦<Cache<K, V, We, B, L, A> as Going>⟧.goes K.eq K.is_clone
+        V.is_clone cache.old state.old (Call.Load key.now given) result cache.new state.new }
+    ensures same { KeepsTerms cache.old cache.new }
 {
     match guarded::<F, _, _, _, _, _, _, _>(cache, key, given, state) {
         Reply::Filled => Reply::Loaded(cache.contains_key(key)),
@@ -199,17 +176,10 @@ pub(crate) fn load_mut<
 ) -> Reply<K, V, M>
     requires keys { ClonesAreEqual K.eq K.is_clone }
     // Where pinning is steady, the call is a step of its definition.
-    ensures step { L.steady cache.old.lifecycle → (answers : F → K → V → Bool) → IsMade
-        (rules_of no_touches K.Hash.hash_input We.Weighter B.BuildHasher B.Hasher.Hasher
-        L.Lifecycle cache.old)
-        K.eq K.is_clone V.is_clone answers (hooks_of L.Lifecycle cache.old) cache.old.state
-        state.old (Call.LoadMut key.now given left) result cache.new.state state.new }
-    ensures same { cache.new ≡ record cache.old {
-      state = cache.new.state;
-      places = cache.new.places;
-      room = cache.new.room;
-      work = cache.new.work;
-    } }
+    ensures step { MakesCall F ⟦<Cache<K, V, We, B, L, A> as Going>⟧.goes K.eq K.is_clone
+        V.is_clone cache.old state.old (Call.LoadMut key.now given left) result
+        cache.new state.new }
+    ensures same { KeepsTerms cache.old cache.new }
 {
     match guarded::<F, _, _, _, _, _, _, _>(cache, key, given, state) {
         Reply::Filled => Reply::Loaded(poke(cache, key, left)),

@@ -1,12 +1,11 @@
 //! Calls that look at one item, each with its reply.
-ghost use Rattle.std.specs.Prelude.{◌≡◌, [], Bool};
+ghost use Rattle.std.specs.Prelude.{◌≡◌};
 ghost use Rattle.quick_cache_calls.specs.Answered.{AlwaysClones, IsAnswered};
-ghost use Rattle.quick_cache_calls.specs.CacheStep.{CacheStep};
-ghost use Rattle.quick_cache_shard.specs.Shard.{rules_of};
-ghost use Rattle.quick_cache_unsync.specs.Touches.{no_touches};
+ghost use Rattle.quick_cache_runs.specs.Made.{StepsBy};
 
 use quick_cache_calls::{Call, Reply};
 use quick_cache_model::{Lifecycle, Refusal, Weighter};
+use quick_cache_shard::Going;
 use quick_cache_unsync::Cache;
 use std::alloc::Allocator;
 use std::hash::{BuildHasher, Hash};
@@ -22,10 +21,8 @@ pub(crate) fn get<
     L: Lifecycle<K, V>,
     A: Allocator,
 >(cache: &mut Cache<K, V, We, B, L, A>, key: K) -> Reply<K, V, M>
-    ensures step { (answers : F → K → V → Bool) → CacheStep
-        (rules_of no_touches K.Hash.hash_input We.Weighter B.BuildHasher B.Hasher.Hasher
-        L.Lifecycle cache.old)
-        K.eq K.is_clone V.is_clone answers cache.old.state (Call.Get key) result [] cache.new.state }
+    ensures step { StepsBy F ⟦<Cache<K, V, We, B, L, A> as Going>⟧.goes K.eq K.is_clone
+        V.is_clone cache.old (Call.Get key) result cache.new }
     ensures same { cache.new ≡ record cache.old { state = cache.new.state } }
     // A look-up is refused only where a clone fails.
     ensures answered { AlwaysClones V.is_infallible → IsAnswered {F = F} (Call.Get key) result }
@@ -56,11 +53,8 @@ pub(crate) fn peek<
     L: Lifecycle<K, V>,
     A: Allocator,
 >(cache: &Cache<K, V, We, B, L, A>, key: K) -> Reply<K, V, M>
-    ensures step { (answers : F → K → V → Bool) → CacheStep
-        (rules_of no_touches K.Hash.hash_input We.Weighter B.BuildHasher B.Hasher.Hasher
-        L.Lifecycle cache.now)
-        K.eq K.is_clone V.is_clone answers cache.now.state (Call.Peek key) result []
-        cache.now.state }
+    ensures step { StepsBy F ⟦<Cache<K, V, We, B, L, A> as Going>⟧.goes K.eq K.is_clone
+        V.is_clone cache.now (Call.Peek key) result cache.now }
     // It is refused only where a clone fails.
     ensures answered { AlwaysClones V.is_infallible → IsAnswered {F = F} (Call.Peek key) result }
 {
@@ -84,11 +78,8 @@ pub(crate) fn contains<
     L: Lifecycle<K, V>,
     A: Allocator,
 >(cache: &Cache<K, V, We, B, L, A>, key: K) -> Reply<K, V, M>
-    ensures step { (answers : F → K → V → Bool) → CacheStep
-        (rules_of no_touches K.Hash.hash_input We.Weighter B.BuildHasher B.Hasher.Hasher
-        L.Lifecycle cache.now)
-        K.eq K.is_clone V.is_clone answers cache.now.state (Call.Contains key) result []
-        cache.now.state }
+    ensures step { StepsBy F ⟦<Cache<K, V, We, B, L, A> as Going>⟧.goes K.eq K.is_clone
+        V.is_clone cache.now (Call.Contains key) result cache.now }
 {
     Reply::Flag(cache.contains_key(&key))
 }
@@ -104,11 +95,8 @@ pub(crate) fn stats<
     L: Lifecycle<K, V>,
     A: Allocator,
 >(cache: &Cache<K, V, We, B, L, A>, key: K) -> Reply<K, V, M>
-    ensures step { (answers : F → K → V → Bool) → CacheStep
-        (rules_of no_touches K.Hash.hash_input We.Weighter B.BuildHasher B.Hasher.Hasher
-        L.Lifecycle cache.now)
-        K.eq K.is_clone V.is_clone answers cache.now.state (Call.Stats key) result []
-        cache.now.state }
+    ensures step { StepsBy F ⟦<Cache<K, V, We, B, L, A> as Going>⟧.goes K.eq K.is_clone
+        V.is_clone cache.now (Call.Stats key) result cache.now }
 {
     match cache.item_stats(&key) {
         Some(stats) => Reply::Stats(Some(stats.access_count)),

@@ -1,12 +1,15 @@
 //! Calls that take items out, each with its reply.
-ghost use Rattle.std.specs.Prelude.{◌≡◌, [], Bool};
+ghost use Rattle.std.specs.Prelude.{[], Bool};
 ghost use Rattle.quick_cache_calls.specs.CacheStep.{CacheStep};
 ghost use Rattle.quick_cache_shard.specs.Predicates.{Answers, IsAnsweredAs};
-ghost use Rattle.quick_cache_shard.specs.Shard.{rules_of};
+ghost use Rattle.quick_cache_shard.specs.Shard.{KeepsWork};
 ghost use Rattle.quick_cache_unsync.specs.Touches.{no_touches};
+ghost use Rattle.quick_cache_shard.specs.Steps.{rules_in};
+ghost use Rattle.quick_cache_runs.specs.Made.{StepsBy};
 
 use quick_cache_calls::{Call, Reply};
 use quick_cache_model::{Lifecycle, Weighter};
+use quick_cache_shard::Going;
 use quick_cache_unsync::Cache;
 use std::alloc::Allocator;
 use std::hash::{BuildHasher, Hash};
@@ -22,12 +25,9 @@ pub(crate) fn remove<
     L: Lifecycle<K, V>,
     A: Allocator,
 >(cache: &mut Cache<K, V, We, B, L, A>, key: K) -> Reply<K, V, M>
-    ensures step { (answers : F → K → V → Bool) → CacheStep
-        (rules_of no_touches K.Hash.hash_input We.Weighter B.BuildHasher B.Hasher.Hasher
-        L.Lifecycle cache.old)
-        K.eq K.is_clone V.is_clone answers cache.old.state (Call.Remove key) result []
-        cache.new.state }
-    ensures same { cache.new ≡ record cache.old { state = cache.new.state; places = cache.new.places; room = cache.new.room } }
+    ensures step { StepsBy F ⟦<Cache<K, V, We, B, L, A> as Going>⟧.goes K.eq K.is_clone
+        V.is_clone cache.old (Call.Remove key) result cache.new }
+    ensures same { KeepsWork cache.old cache.new }
 {
     Reply::Pair(cache.remove(&key))
 }
@@ -48,11 +48,10 @@ pub(crate) fn remove_if<
     // Where the predicate answers as a pure test does, it is the removal by that test.
     ensures step { (answers : F → K → V → Bool) → IsAnsweredAs F.Fn wanted (answers wanted)
         → CacheStep
-        (rules_of no_touches K.Hash.hash_input We.Weighter B.BuildHasher B.Hasher.Hasher
-        L.Lifecycle cache.old)
+        (rules_in ⟦<Cache<K, V, We, B, L, A> as Going>⟧.goes no_touches cache.old)
         K.eq K.is_clone V.is_clone answers cache.old.state (Call.RemoveIf key wanted) result []
         cache.new.state }
-    ensures same { cache.new ≡ record cache.old { state = cache.new.state; places = cache.new.places; room = cache.new.room } }
+    ensures same { KeepsWork cache.old cache.new }
 {
     let is_wanted = |value: &V| -> bool
         requires { F.IsAlwaysCallable wanted }
@@ -77,11 +76,10 @@ pub(crate) fn retain<
     // Where the predicate answers as a pure test does, it is the removal by that test.
     ensures step { (answers : F → K → V → Bool) → IsAnsweredAs F.Fn keep (answers keep)
         → CacheStep
-        (rules_of no_touches K.Hash.hash_input We.Weighter B.BuildHasher B.Hasher.Hasher
-        L.Lifecycle cache.old)
+        (rules_in ⟦<Cache<K, V, We, B, L, A> as Going>⟧.goes no_touches cache.old)
         K.eq K.is_clone V.is_clone answers cache.old.state (Call.Retain keep) result []
         cache.new.state }
-    ensures same { cache.new ≡ record cache.old { state = cache.new.state; places = cache.new.places; room = cache.new.room } }
+    ensures same { KeepsWork cache.old cache.new }
 {
     cache.retain(keep);
     Reply::Done
@@ -98,12 +96,9 @@ pub(crate) fn clear<
     L: Lifecycle<K, V>,
     A: Allocator,
 >(cache: &mut Cache<K, V, We, B, L, A>) -> Reply<K, V, M>
-    ensures step { (answers : F → K → V → Bool) → CacheStep
-        (rules_of no_touches K.Hash.hash_input We.Weighter B.BuildHasher B.Hasher.Hasher
-        L.Lifecycle cache.old)
-        K.eq K.is_clone V.is_clone answers cache.old.state (Call.Clear) result []
-        cache.new.state }
-    ensures same { cache.new ≡ record cache.old { state = cache.new.state; places = cache.new.places; room = cache.new.room } }
+    ensures step { StepsBy F ⟦<Cache<K, V, We, B, L, A> as Going>⟧.goes K.eq K.is_clone
+        V.is_clone cache.old (Call.Clear) result cache.new }
+    ensures same { KeepsWork cache.old cache.new }
 {
     cache.clear();
     Reply::Done

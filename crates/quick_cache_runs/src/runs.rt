@@ -4,18 +4,16 @@ ghost use Rattle.std.specs.Prelude.{All, length, vec_len, vec_capacity};
 ghost use Rattle.quick_cache_model.specs.CacheState.{IsValid};
 ghost use Rattle.quick_cache_calls.specs.Answered.{AlwaysClones, IsAnswered, AreAnswered};
 ghost use Rattle.quick_cache_calls.specs.Answered.{replies_of};
-ghost use Rattle.quick_cache_calls.specs.CacheRun.{IsRun, RunsCalls};
-ghost use Rattle.quick_cache_lives.specs.Conservation.{ConservesCalls};
 ghost use Rattle.quick_cache_runs.specs.Asked.{IfAsks, IfLoads};
-ghost use Rattle.quick_cache_runs.specs.Made.{IsMade};
+ghost use Rattle.quick_cache_runs.specs.Made.{IsMadeBy, IsRunBy, RunsCallsBy, ConservesCallsBy};
 ghost use Rattle.quick_cache_shard.specs.Copies.{ClonesAreEqual};
 ghost use Rattle.quick_cache_shard.specs.Predicates.{IsAnsweredAs};
-ghost use Rattle.quick_cache_shard.specs.Shard.{rules_of, hooks_of};
-ghost use Rattle.quick_cache_unsync.specs.Touches.{no_touches};
+ghost use Rattle.quick_cache_shard.specs.Shard.{KeepsTerms};
 
 use crate::calls::act;
 use quick_cache_calls::{Call, Reply};
 use quick_cache_model::{Lifecycle, Weighter};
+use quick_cache_shard::Going;
 use quick_cache_unsync::Cache;
 use std::alloc::Allocator;
 use std::hash::{BuildHasher, Hash};
@@ -48,18 +46,11 @@ fn make<
     requires room { vec_len replies.old < vec_capacity replies.old }
     ensures made { (reply : Reply K V M) × (replies.new.items ≡ replies.old.items ++ reply ∷ [])
         × (L.steady cache.old.lifecycle → (answers : F → K → V → Bool)
-        → IfAsks (λ asked. IsAnsweredAs F.Fn asked (answers asked)) call → IsMade
-        (rules_of no_touches K.Hash.hash_input We.Weighter B.BuildHasher B.Hasher.Hasher
-        L.Lifecycle cache.old)
-        K.eq K.is_clone V.is_clone answers (hooks_of L.Lifecycle cache.old) cache.old.state
-        state.old call reply cache.new.state state.new)
+        → IfAsks (λ asked. IsAnsweredAs F.Fn asked (answers asked)) call
+        → IsMadeBy ⟦<Cache<K, V, We, B, L, A> as Going>⟧.goes K.eq K.is_clone V.is_clone answers
+        cache.old state.old call reply cache.new state.new)
         × (AlwaysClones V.is_infallible → IsAnswered call reply) }
-    ensures same { cache.new ≡ record cache.old {
-      state = cache.new.state;
-      places = cache.new.places;
-      room = cache.new.room;
-      work = cache.new.work;
-    } }
+    ensures same { KeepsTerms cache.old cache.new }
     ensures len { vec_len replies.new ≡ vec_len replies.old + 1 }
     ensures capacity { vec_capacity replies.new ≡ vec_capacity replies.old }
 {
@@ -89,17 +80,10 @@ fn make_all<
     requires none { replies.items ≡ [] }
     requires room { length calls.items ≤ vec_capacity replies }
     ensures runs { L.steady cache.old.lifecycle → (answers : F → K → V → Bool)
-        → All (IfAsks (λ asked. IsAnsweredAs F.Fn asked (answers asked))) calls.items → IsRun
-        (rules_of no_touches K.Hash.hash_input We.Weighter B.BuildHasher B.Hasher.Hasher
-        L.Lifecycle cache.old)
-        K.eq K.is_clone V.is_clone answers (hooks_of L.Lifecycle cache.old)
-        cache.old.state state.old calls.items result.items cache.new.state state.new }
-    ensures same { cache.new ≡ record cache.old {
-      state = cache.new.state;
-      places = cache.new.places;
-      room = cache.new.room;
-      work = cache.new.work;
-    } }
+        → All (IfAsks (λ asked. IsAnsweredAs F.Fn asked (answers asked))) calls.items
+        → IsRunBy ⟦<Cache<K, V, We, B, L, A> as Going>⟧.goes K.eq K.is_clone V.is_clone answers
+        cache.old state.old calls.items result.items cache.new state.new }
+    ensures same { KeepsTerms cache.old cache.new }
     ensures answered { AlwaysClones V.is_infallible → AreAnswered calls.items result.items }
 {
     for call in calls {
@@ -138,25 +122,15 @@ pub fn run<
     // Where pinning is steady, and each predicate answers as a pure test does, the calls are a run
     // of the definition.
     ensures runs { L.steady cache.old.lifecycle → (answers : F → K → V → Bool)
-        → All (IfAsks (λ asked. IsAnsweredAs F.Fn asked (answers asked))) calls.items → RunsCalls
-        (rules_of no_touches K.Hash.hash_input We.Weighter B.BuildHasher B.Hasher.Hasher
-        L.Lifecycle cache.old)
-        K.eq K.is_clone V.is_clone answers (hooks_of L.Lifecycle cache.old)
-        cache.old.state state.old calls.items result cache.new.state state.new }
+        → All (IfAsks (λ asked. IsAnsweredAs F.Fn asked (answers asked))) calls.items
+        → RunsCallsBy ⟦<Cache<K, V, We, B, L, A> as Going>⟧.goes K.eq K.is_clone V.is_clone answers
+        cache.old state.old calls.items result cache.new state.new }
     // So no pair is lost, made, or told of twice.
     ensures conserves { L.steady cache.old.lifecycle → (answers : F → K → V → Bool)
         → All (IfAsks (λ asked. IsAnsweredAs F.Fn asked (answers asked))) calls.items
-        → ConservesCalls
-        (rules_of no_touches K.Hash.hash_input We.Weighter B.BuildHasher B.Hasher.Hasher
-        L.Lifecycle cache.old)
-        K.eq K.is_clone V.is_clone answers (hooks_of L.Lifecycle cache.old)
-        cache.old.state state.old calls.items result cache.new.state state.new }
-    ensures same { cache.new ≡ record cache.old {
-      state = cache.new.state;
-      places = cache.new.places;
-      room = cache.new.room;
-      work = cache.new.work;
-    } }
+        → ConservesCallsBy ⟦<Cache<K, V, We, B, L, A> as Going>⟧.goes K.eq K.is_clone V.is_clone answers
+        cache.old state.old calls.items result cache.new state.new }
+    ensures same { KeepsTerms cache.old cache.new }
     // A look is refused only where a clone fails.
     ensures answered { AlwaysClones V.is_infallible → AreAnswered calls.items (replies_of result) }
 {

@@ -1,12 +1,11 @@
 //! Calls about the sizes of a cache, each with its reply.
-ghost use Rattle.std.specs.Prelude.{◌≡◌, [], Bool};
-ghost use Rattle.quick_cache_calls.specs.CacheStep.{CacheStep};
-ghost use Rattle.quick_cache_shard.specs.Shard.{rules_of, hooks_of};
-ghost use Rattle.quick_cache_runs.specs.Made.{IsMade};
-ghost use Rattle.quick_cache_unsync.specs.Touches.{no_touches};
+ghost use Rattle.std.specs.Prelude.{◌≡◌};
+ghost use Rattle.quick_cache_shard.specs.Shard.{KeepsTerms};
+ghost use Rattle.quick_cache_runs.specs.Made.{MakesCall, StepsBy};
 
 use quick_cache_calls::{Call, Reply};
 use quick_cache_model::{Lifecycle, Weighter};
+use quick_cache_shard::Going;
 use quick_cache_unsync::Cache;
 use std::alloc::Allocator;
 use std::hash::{BuildHasher, Hash};
@@ -22,11 +21,8 @@ pub(crate) fn counts<
     L: Lifecycle<K, V>,
     A: Allocator,
 >(cache: &Cache<K, V, We, B, L, A>) -> Reply<K, V, M>
-    ensures step { (answers : F → K → V → Bool) → CacheStep
-        (rules_of no_touches K.Hash.hash_input We.Weighter B.BuildHasher B.Hasher.Hasher
-        L.Lifecycle cache.now)
-        K.eq K.is_clone V.is_clone answers cache.now.state (Call.Counts) result []
-        cache.now.state }
+    ensures step { StepsBy F ⟦<Cache<K, V, We, B, L, A> as Going>⟧.goes K.eq K.is_clone
+        V.is_clone cache.now (Call.Counts) result cache.now }
 {
     Reply::Counts {
         len: cache.len(),
@@ -53,18 +49,9 @@ pub(crate) fn set_capacity<
     state: &mut L::RequestState,
 ) -> Reply<K, V, M>
     // Where pinning is steady, the call is a step of its definition.
-    ensures step { L.steady cache.old.lifecycle → (answers : F → K → V → Bool)
-        → IsMade
-        (rules_of no_touches K.Hash.hash_input We.Weighter B.BuildHasher B.Hasher.Hasher
-        L.Lifecycle cache.old)
-        K.eq K.is_clone V.is_clone answers (hooks_of L.Lifecycle cache.old) cache.old.state
-        state.old (Call.SetCapacity capacity) result cache.new.state state.new }
-    ensures same { cache.new ≡ record cache.old {
-      state = cache.new.state;
-      places = cache.new.places;
-      room = cache.new.room;
-      work = cache.new.work;
-    } }
+    ensures step { MakesCall F ⟦<Cache<K, V, We, B, L, A> as Going>⟧.goes K.eq K.is_clone
+        V.is_clone cache.old state.old (Call.SetCapacity capacity) result cache.new state.new }
+    ensures same { KeepsTerms cache.old cache.new }
 {
     cache.set_capacity_with_lifecycle(capacity, state);
     Reply::Done
@@ -81,11 +68,8 @@ pub(crate) fn reserve<
     L: Lifecycle<K, V>,
     A: Allocator,
 >(cache: &mut Cache<K, V, We, B, L, A>, additional: usize) -> Reply<K, V, M>
-    ensures step { (answers : F → K → V → Bool) → CacheStep
-        (rules_of no_touches K.Hash.hash_input We.Weighter B.BuildHasher B.Hasher.Hasher
-        L.Lifecycle cache.old)
-        K.eq K.is_clone V.is_clone answers cache.old.state (Call.Reserve additional) result []
-        cache.new.state }
+    ensures step { StepsBy F ⟦<Cache<K, V, We, B, L, A> as Going>⟧.goes K.eq K.is_clone
+        V.is_clone cache.old (Call.Reserve additional) result cache.new }
     ensures same { cache.new ≡ record cache.old { room = cache.new.room } }
 {
     match cache.reserve(additional) {

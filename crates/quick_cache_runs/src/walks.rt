@@ -1,15 +1,15 @@
 //! Calls that show or give out all items, each with its reply.
-ghost use Rattle.std.specs.Prelude.{◌≡◌, ◌≤◌, [], Bool, IfOk, IfErr, vec_capacity};
-ghost use Rattle.quick_cache_calls.specs.CacheStep.{CacheStep};
+ghost use Rattle.std.specs.Prelude.{◌≡◌, ◌≤◌, [], IfOk, IfErr, vec_capacity};
 ghost use Rattle.quick_cache_calls.specs.Shown.{ArePairsShown};
 ghost use Rattle.quick_cache_model.specs.CacheState.{item_count};
 ghost use Rattle.quick_cache_model.specs.Removal.{Drains};
 ghost use Rattle.quick_cache_model.specs.declared.refusal.Refusal.TheVariants.{Memory};
-ghost use Rattle.quick_cache_shard.specs.Shard.{rules_of};
-ghost use Rattle.quick_cache_unsync.specs.Touches.{no_touches};
+ghost use Rattle.quick_cache_shard.specs.Shard.{KeepsWork};
+ghost use Rattle.quick_cache_runs.specs.Made.{StepsBy};
 
 use quick_cache_calls::{Call, Reply};
 use quick_cache_model::{Lifecycle, Refusal, Weighter};
+use quick_cache_shard::Going;
 use quick_cache_unsync::{Cache, Iter};
 use std::alloc::Allocator;
 use std::hash::{BuildHasher, Hash};
@@ -58,11 +58,8 @@ pub(crate) fn walk<
     L: Lifecycle<K, V>,
     A: Allocator,
 >(alloc: &M, cache: &Cache<K, V, We, B, L, A>) -> Reply<K, V, M>
-    ensures step { (answers : F → K → V → Bool) → CacheStep
-        (rules_of no_touches K.Hash.hash_input We.Weighter B.BuildHasher B.Hasher.Hasher
-        L.Lifecycle cache.now)
-        K.eq K.is_clone V.is_clone answers cache.now.state (Call.Iter) result []
-        cache.now.state }
+    ensures step { StepsBy F ⟦<Cache<K, V, We, B, L, A> as Going>⟧.goes K.eq K.is_clone
+        V.is_clone cache.now (Call.Iter) result cache.now }
 {
     let Ok(alloc) = alloc.clone() else {
         return Reply::Refused(Refusal::Memory);
@@ -82,7 +79,7 @@ fn given_out<M: Allocator, K: Eq + Hash + Drop, V: Drop, We, B: BuildHasher, L, 
     requires none { pairs.items ≡ [] }
     requires room { item_count cache.old.state ≤ vec_capacity pairs }
     ensures drains { Drains cache.old.state result.items cache.new.state }
-    ensures same { cache.new ≡ record cache.old { state = cache.new.state; places = cache.new.places; room = cache.new.room } }
+    ensures same { KeepsWork cache.old cache.new }
 {
     for pair in cache.drain() {
         pairs.push_reserved(pair);
@@ -101,11 +98,9 @@ pub(crate) fn drain<
     L: Lifecycle<K, V>,
     A: Allocator,
 >(alloc: &M, cache: &mut Cache<K, V, We, B, L, A>) -> Reply<K, V, M>
-    ensures step { (answers : F → K → V → Bool) → CacheStep
-        (rules_of no_touches K.Hash.hash_input We.Weighter B.BuildHasher B.Hasher.Hasher
-        L.Lifecycle cache.old)
-        K.eq K.is_clone V.is_clone answers cache.old.state (Call.Drain) result [] cache.new.state }
-    ensures same { cache.new ≡ record cache.old { state = cache.new.state; places = cache.new.places; room = cache.new.room } }
+    ensures step { StepsBy F ⟦<Cache<K, V, We, B, L, A> as Going>⟧.goes K.eq K.is_clone
+        V.is_clone cache.old (Call.Drain) result cache.new }
+    ensures same { KeepsWork cache.old cache.new }
 {
     let Ok(alloc) = alloc.clone() else {
         return Reply::Refused(Refusal::Memory);

@@ -1,12 +1,11 @@
 //! Calls that write, each with its reply.
-ghost use Rattle.std.specs.Prelude.{◌≡◌, [], Bool};
-ghost use Rattle.quick_cache_calls.specs.CacheStep.{CacheStep};
-ghost use Rattle.quick_cache_shard.specs.Shard.{rules_of, hooks_of};
-ghost use Rattle.quick_cache_runs.specs.Made.{IsMade};
-ghost use Rattle.quick_cache_unsync.specs.Touches.{no_touches};
+ghost use Rattle.std.specs.Prelude.{◌≡◌};
+ghost use Rattle.quick_cache_shard.specs.Shard.{KeepsTerms};
+ghost use Rattle.quick_cache_runs.specs.Made.{MakesCall, StepsBy};
 
 use quick_cache_calls::{Call, Reply};
 use quick_cache_model::{Lifecycle, Weighter};
+use quick_cache_shard::Going;
 use quick_cache_unsync::{Cache, poke as write_to_peeked, set as write_to_found};
 use std::alloc::Allocator;
 use std::hash::{BuildHasher, Hash};
@@ -28,18 +27,9 @@ pub(crate) fn insert<
     state: &mut L::RequestState,
 ) -> Reply<K, V, M>
     // Where pinning is steady, the call is a step of its definition.
-    ensures step { L.steady cache.old.lifecycle → (answers : F → K → V → Bool)
-        → IsMade
-        (rules_of no_touches K.Hash.hash_input We.Weighter B.BuildHasher B.Hasher.Hasher
-        L.Lifecycle cache.old)
-        K.eq K.is_clone V.is_clone answers (hooks_of L.Lifecycle cache.old) cache.old.state
-        state.old (Call.Insert key value) result cache.new.state state.new }
-    ensures same { cache.new ≡ record cache.old {
-      state = cache.new.state;
-      places = cache.new.places;
-      room = cache.new.room;
-      work = cache.new.work;
-    } }
+    ensures step { MakesCall F ⟦<Cache<K, V, We, B, L, A> as Going>⟧.goes K.eq K.is_clone
+        V.is_clone cache.old state.old (Call.Insert key value) result cache.new state.new }
+    ensures same { KeepsTerms cache.old cache.new }
 {
     match cache.insert_with_lifecycle(key, value, state) {
         Ok(()) => Reply::Done,
@@ -65,18 +55,9 @@ pub(crate) fn replace<
     state: &mut L::RequestState,
 ) -> Reply<K, V, M>
     // Where pinning is steady, the call is a step of its definition.
-    ensures step { L.steady cache.old.lifecycle → (answers : F → K → V → Bool)
-        → IsMade
-        (rules_of no_touches K.Hash.hash_input We.Weighter B.BuildHasher B.Hasher.Hasher
-        L.Lifecycle cache.old)
-        K.eq K.is_clone V.is_clone answers (hooks_of L.Lifecycle cache.old) cache.old.state
-        state.old (Call.Replace key value soft) result cache.new.state state.new }
-    ensures same { cache.new ≡ record cache.old {
-      state = cache.new.state;
-      places = cache.new.places;
-      room = cache.new.room;
-      work = cache.new.work;
-    } }
+    ensures step { MakesCall F ⟦<Cache<K, V, We, B, L, A> as Going>⟧.goes K.eq K.is_clone
+        V.is_clone cache.old state.old (Call.Replace key value soft) result cache.new state.new }
+    ensures same { KeepsTerms cache.old cache.new }
 {
     match cache.replace_with_lifecycle(key, value, soft, state) {
         Ok(()) => Reply::Done,
@@ -95,12 +76,10 @@ pub(crate) fn set<
     L: Lifecycle<K, V>,
     A: Allocator,
 >(cache: &mut Cache<K, V, We, B, L, A>, key: K, value: V) -> Reply<K, V, M>
-    ensures step { (answers : F → K → V → Bool) → CacheStep
-        (rules_of no_touches K.Hash.hash_input We.Weighter B.BuildHasher B.Hasher.Hasher
-        L.Lifecycle cache.old)
-        K.eq K.is_clone V.is_clone answers cache.old.state (Call.GetMut key value) result []
-        cache.new.state }
-    ensures same { cache.new ≡ record cache.old { state = cache.new.state; places = cache.new.places } }
+    ensures step { StepsBy F ⟦<Cache<K, V, We, B, L, A> as Going>⟧.goes K.eq K.is_clone
+        V.is_clone cache.old (Call.GetMut key value) result cache.new }
+    ensures same { cache.new
+        ≡ record cache.old { state = cache.new.state; places = cache.new.places } }
 {
     Reply::Flag(write_to_found(cache, &key, value))
 }
@@ -116,12 +95,10 @@ pub(crate) fn poke<
     L: Lifecycle<K, V>,
     A: Allocator,
 >(cache: &mut Cache<K, V, We, B, L, A>, key: K, value: V) -> Reply<K, V, M>
-    ensures step { (answers : F → K → V → Bool) → CacheStep
-        (rules_of no_touches K.Hash.hash_input We.Weighter B.BuildHasher B.Hasher.Hasher
-        L.Lifecycle cache.old)
-        K.eq K.is_clone V.is_clone answers cache.old.state (Call.PeekMut key value) result []
-        cache.new.state }
-    ensures same { cache.new ≡ record cache.old { state = cache.new.state; places = cache.new.places } }
+    ensures step { StepsBy F ⟦<Cache<K, V, We, B, L, A> as Going>⟧.goes K.eq K.is_clone
+        V.is_clone cache.old (Call.PeekMut key value) result cache.new }
+    ensures same { cache.new
+        ≡ record cache.old { state = cache.new.state; places = cache.new.places } }
 {
     Reply::Flag(write_to_peeked(cache, &key, value))
 }

@@ -3,7 +3,6 @@ use Rattle.std.proofs.Common.{ℕ, Bool, Result, Ok, Err}
 use Rattle.std.specs.Int.NonZero.{non_zero_u32_get as number}
 use Rattle.std.specs.declared.num.NonZeroU32.{NonZeroU32 as Token}
 use Rattle.quick_cache_model.specs.declared.refusal.Refusal.{Refusal}
-use Rattle.quick_cache_model.specs.CacheState.{default_mark_cut}
 use Rattle.quick_cache_model.specs.Lookups.{looked_up}
 use Rattle.quick_cache_lists.specs.Lists.{HeldItem}
 use Rattle.quick_cache_policy.specs.declared.contents.Contents.{Contents}
@@ -32,10 +31,10 @@ module _ {K V W P A T We B L : Type 0} (ticket_of : P → ℕ) (own_ticket : W �
       let held : HeldItem K V = record {
         token = number token;
         hash = looks.now.0;
-        item = looked_up default_mark_cut looks.item;
+        item = looked_up old.mark_cut looks.item;
       } in
       record {
-        item = looked_up default_mark_cut looks.item;
+        item = looked_up old.mark_cut looks.item;
         stands = record {
           place = HasItem-place new.lists held looks.now.1;
           there = HasItem-resident new.lists held looks.now.1;

@@ -33,6 +33,8 @@ module _ {K V P W A T We B L : Type 0} (ticket_of : P → ℕ) (equal : K → K 
       target_above = sound.sized.target_above;
       limit_counts = sound.sized.limit_counts;
     };
+    some_mark = sound.sized.some_mark;
+    few_marks = sound.sized.few_marks;
     slots = omega (arith, within, entry_count-taken ticket_of contents);
     places = record {
       one_key = place-same contents.lists apart;

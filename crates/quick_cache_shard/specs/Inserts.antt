@@ -16,11 +16,3 @@ module _ {K V S : Type 0} (steady : Type 0) (hooks : Hooks K V S) (rules : Rules
       Wrote steady hooks rules equal Insert old first key value None new last
   Inserts first key value (Err back) new last =
       RefusesWrite steady hooks rules equal Insert old first key value back.0 back.1 back.2 new last
-
-  -- the same with a request state of the call's own, a default one at first
-  pub record InsertsAlone (is_default : S → Type 0) (key : K) (value : V)
-      (answer : Result (Unit {0}) (K × V × Refusal)) (new : CacheState K V) : Type 0 where
-    pub first : S
-    pub last : S
-    pub begins : is_default first
-    pub inserts : Inserts first key value answer new last

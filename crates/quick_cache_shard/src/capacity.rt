@@ -1,11 +1,11 @@
 //! Setting the capacity of a shard.
-ghost use Rattle.std.specs.Prelude.{◌≡◌, ◌+◌, ◌≤◌, length};
+ghost use Rattle.std.specs.Prelude.{◌≡◌, ◌+◌, ◌≤◌};
 ghost use Rattle.quick_cache_model.specs.Sizes.{rescaled_target, rescaled_limit};
-ghost use Rattle.quick_cache_policy.specs.Work.{WorksWithin};
-ghost use Rattle.quick_cache_shard.specs.SetsCapacity.{SetsCapacityTo};
-ghost use Rattle.quick_cache_shard.specs.Shard.{LosesOnly, rules_of, hooks_of, IsSoundShard};
+ghost use Rattle.quick_cache_shard.specs.Shard.{LosesOnly, IsSoundShard, KeepsTerms, WorksAsWrite};
+ghost use Rattle.quick_cache_shard.specs.Steps.{SetsCapacityBy};
 
 use crate::shard::CacheShard;
+use crate::words::Going;
 use quick_cache_model::{Lifecycle, Weighter};
 use quick_cache_options::sizes::{rescaled_limit, rescaled_target};
 use quick_cache_policy::SharedPlaceholder;
@@ -28,9 +28,8 @@ impl<
     /// It takes no memory. What is pinned may weigh more than the capacity still.
     pub fn set_capacity(&mut self, capacity: u64, state: &mut L::RequestState)
         // Where pinning is steady, it is a step of its definition.
-        ensures sets { SetsCapacityTo (L.steady self.old.lifecycle) (hooks_of L.Lifecycle self.old)
-            (rules_of P.Touch.may_count K.Hash.hash_input We.Weighter B.BuildHasher B.Hasher.Hasher
-            L.Lifecycle self.old) capacity self.old.state state.old self.new.state state.new }
+        ensures sets { SetsCapacityBy ⟦<Self as Going>⟧.goes P.Touch.may_count self.old capacity
+            self.new state.old state.new }
         // The sizes, whatever is pinned.
         ensures capacity { self.new.state.capacity ≡ capacity }
         ensures target { self.new.state.hot_target
@@ -44,14 +43,8 @@ impl<
         ensures places { LosesOnly self.old.places self.new.places }
         ensures room { self.old.room ≤ self.new.room }
         // How much work it takes, whatever is pinned.
-        ensures work { WorksWithin (length self.old.state.hot + length self.old.state.cold + 1)
-            self.old.work self.new.work }
-        ensures same { self.new ≡ record self.old {
-          state = self.new.state;
-          places = self.new.places;
-          room = self.new.room;
-          work = self.new.work;
-        } }
+        ensures work { WorksAsWrite self.old self.new }
+        ensures same { KeepsTerms self.old self.new }
         ensures sound { IsSoundShard K.eq self.new }
     {
         let present = self.contents.capacity;

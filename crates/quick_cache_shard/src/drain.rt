@@ -4,7 +4,7 @@ ghost use Rattle.std.specs.Int.NonZero.{non_zero_u32_get as number};
 ghost use Rattle.std.specs.Iterator.{at_most, UpTo};
 ghost use Rattle.std.specs.Iterator.SizeHint.{IsWithinCount};
 ghost use Rattle.quick_cache_policy.specs.Tokens.{TakesItem};
-ghost use Rattle.quick_cache_shard.specs.Shard.{IsSoundShard, LeavesPlace};
+ghost use Rattle.quick_cache_shard.specs.Shard.{IsSoundShard, LeavesPlace, KeepsWork};
 ghost use Rattle.quick_cache_shard.specs.ShardDrain.{drained, drain_lender, DrainsInAll};
 
 use crate::shard::CacheShard;
@@ -134,11 +134,7 @@ impl<K: Eq + Hash, V, We, B: BuildHasher, L, P: SharedPlaceholder<K>, A: Allocat
         ensures leaves { IfSome result
             (λ taken. LeavesPlace self.old (number taken.0) taken.1.0 self.new) }
         ensures room { self.old.room ≤ self.new.room }
-        ensures same { self.new ≡ record self.old {
-          state = self.new.state;
-          places = self.new.places;
-          room = self.new.room;
-        } }
+        ensures same { KeepsWork self.old self.new }
         ensures sound { IsSoundShard K.eq self.new }
     {
         self.contents.lists.apart();

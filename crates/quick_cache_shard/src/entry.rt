@@ -1,10 +1,11 @@
 //! A call that shows an item to a callback of the caller's, and does what that chooses.
 ghost use Rattle.std.specs.Prelude.{◌≡◌, ◌≤◌, ◌+◌, true};
-ghost use Rattle.quick_cache_model.specs.Hashing.{hash_of};
 ghost use Rattle.quick_cache_policy.specs.Entering.{AnswersEntry, IsNewUnder};
-ghost use Rattle.quick_cache_shard.specs.Shard.{LosesOnly, rules_of, IsSoundShard};
+ghost use Rattle.quick_cache_shard.specs.Shard.{LosesOnly, IsSoundShard, KeepsWork};
+ghost use Rattle.quick_cache_shard.specs.Steps.{rules_in};
 
 use crate::shard::CacheShard;
+use crate::words::{Going, Keyed};
 use quick_cache_model::{Lifecycle, Refusal, ToKey, Weighter};
 use quick_cache_policy::{EntryAction, EntryOrPlaceholder, MakesPlaceholders, SharedPlaceholder};
 use std::alloc::Allocator;
@@ -48,14 +49,12 @@ impl<
     where
         We: Weighter<K, V>,
         L: Lifecycle<K, V>,
-        requires hash_is { hash ≡ hash_of B.BuildHasher B.Hasher.Hasher self.old.builder
-            (Q.hash_input query.now) }
+        requires hash_is { hash ≡ ⟦<Self as Keyed>⟧.hash self.old.builder (Q.hash_input query.now) }
         requires stands { (key : K) → Q.to_key_gives query.now key
             → Q.equivalent query.now key ≡ true }
         requires callable { F.IsAlwaysCallable callback.old }
         ensures answers { AnswersEntry F.FnMut
-            (rules_of P.Touch.may_count K.Hash.hash_input We.Weighter B.BuildHasher
-            B.Hasher.Hasher L.Lifecycle self.old)
+            (rules_in ⟦<Self as Going>⟧.goes P.Touch.may_count self.old)
             (Q.equivalent query.now) callback.old self.old.state P.own_ticket
             (Q.to_key_gives query.now) hash result callback.new self.new.state }
         // A new placeholder has the hash of its key.
@@ -64,11 +63,7 @@ impl<
         ensures places { LosesOnly self.old.places self.new.places }
         // It takes room for one entry at most.
         ensures room { self.old.room ≤ self.new.room + 1 }
-        ensures same { self.new ≡ record self.old {
-          state = self.new.state;
-          places = self.new.places;
-          room = self.new.room;
-        } }
+        ensures same { KeepsWork self.old self.new }
         ensures sound { IsSoundShard K.eq self.new }
     {
         let answer = self

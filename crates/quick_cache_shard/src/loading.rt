@@ -1,14 +1,13 @@
 //! Placeholders: made or met by a look-up, filled, or given up.
-ghost use Rattle.std.specs.Prelude.{◌≡◌, ◌≤◌, ◌+◌, length, true, MatchOption};
-ghost use Rattle.quick_cache_model.specs.Hashing.{hash_of};
-ghost use Rattle.quick_cache_model.specs.Hooks.{Calls};
+ghost use Rattle.std.specs.Prelude.{◌≡◌, ◌≤◌, ◌+◌, true, MatchOption};
 ghost use Rattle.quick_cache_model.specs.Placeholders.{GivesUpPlaceholder, HasNoTicket};
-ghost use Rattle.quick_cache_policy.specs.Filling.{AnswersFill, AwaitsKey};
-ghost use Rattle.quick_cache_policy.specs.Work.{WorksWithin};
+ghost use Rattle.quick_cache_policy.specs.Filling.{AwaitsKey};
 ghost use Rattle.quick_cache_shard.specs.Loading.{FindsToken, IsMadeUnder, LooksUpOrMakes};
-ghost use Rattle.quick_cache_shard.specs.Shard.{KeepsPlaces, LosesOnly, rules_of, hooks_of, UpToOrder, IsSoundShard};
+ghost use Rattle.quick_cache_shard.specs.Shard.{KeepsPlaces, LosesOnly, UpToOrder, IsSoundShard, KeepsTerms, KeepsWork, WorksAsWrite};
+ghost use Rattle.quick_cache_shard.specs.Steps.{FillsBy};
 
 use crate::shard::CacheShard;
+use crate::words::{Going, Keyed};
 use quick_cache_model::{Lifecycle, Refusal, ToKey, Token, Weighter};
 use quick_cache_policy::{MakesPlaceholders, SharedPlaceholder};
 use std::alloc::Allocator;
@@ -40,8 +39,7 @@ impl<
         hash: u64,
         query: &Q,
     ) -> Result<Result<Token, (P, bool)>, Refusal>
-        requires hash_is { hash ≡ hash_of B.BuildHasher B.Hasher.Hasher self.old.builder
-            (Q.hash_input query.now) }
+        requires hash_is { hash ≡ ⟦<Self as Keyed>⟧.hash self.old.builder (Q.hash_input query.now) }
         requires stands { (key : K) → Q.to_key_gives query.now key
             → Q.equivalent query.now key ≡ true }
         ensures answers { LooksUpOrMakes P.own_ticket (Q.equivalent query.now)
@@ -52,10 +50,7 @@ impl<
         ensures token { FindsToken (Q.equivalent query.now) self.new result }
         // It takes room for one entry at most.
         ensures room { self.old.room ≤ self.new.room + 1 }
-        ensures same { self.new ≡ record self.old {
-          state = self.new.state;
-          room = self.new.room;
-        } }
+        ensures same { self.new ≡ record self.old { state = self.new.state; room = self.new.room } }
         ensures sound { IsSoundShard K.eq self.new }
     {
         let answer = self.contents.get_or_placeholder(maker, hash, query);
@@ -85,23 +80,13 @@ impl<
         We: Weighter<K, V>,
         L: Lifecycle<K, V>,
         // Where pinning is steady, the fill is a step of its definition.
-        ensures fills { Calls (hooks_of L.Lifecycle self.old)
-            (AnswersFill (L.steady self.old.lifecycle) (P.own_ticket placeholder.now) self.old.state
-            (rules_of P.Touch.may_count K.Hash.hash_input We.Weighter B.BuildHasher
-            B.Hasher.Hasher L.Lifecycle self.old)
-            referenced value result self.new.state)
-            state.old state.new }
+        ensures fills { FillsBy ⟦<Self as Going>⟧.goes P.Touch.may_count self.old
+            (P.own_ticket placeholder.now) referenced value result self.new state.old state.new }
         ensures places { KeepsPlaces K.eq self.old.places self.new.places }
         ensures room { self.old.room ≤ self.new.room }
         // How much work it takes, whatever is pinned.
-        ensures work { WorksWithin (length self.old.state.hot + length self.old.state.cold + 1)
-            self.old.work self.new.work }
-        ensures same { self.new ≡ record self.old {
-          state = self.new.state;
-          places = self.new.places;
-          room = self.new.room;
-          work = self.new.work;
-        } }
+        ensures work { WorksAsWrite self.old self.new }
+        ensures same { KeepsTerms self.old self.new }
         ensures sound { IsSoundShard K.eq self.new }
     {
         let answer = self
@@ -130,11 +115,7 @@ impl<
             (GivesUpPlaceholder (P.own_ticket placeholder.now) self.old.state) self.new.state }
         ensures places { LosesOnly self.old.places self.new.places }
         ensures room { self.old.room ≤ self.new.room }
-        ensures same { self.new ≡ record self.old {
-          state = self.new.state;
-          places = self.new.places;
-          room = self.new.room;
-        } }
+        ensures same { KeepsWork self.old self.new }
         ensures sound { IsSoundShard K.eq self.new }
     {
         self.contents.remove_placeholder(placeholder);

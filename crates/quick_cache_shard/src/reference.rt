@@ -1,13 +1,14 @@
 //! A value that is written where it stands.
 ghost use Rattle.std.specs.Prelude.{◌≡◌, ◌<◌, IfNone, IfSome, MatchOption, true, false};
-ghost use Rattle.std.specs.Borrow.{sem};
+ghost use Rattle.std.specs.Borrow.{sem, Lends};
 ghost use Rattle.std.specs.Int.NonZero.{non_zero_u32_get as number};
 ghost use Rattle.quick_cache_model.specs.Finding.{HasNoItem};
-ghost use Rattle.quick_cache_model.specs.Hashing.{hash_of};
-ghost use Rattle.quick_cache_policy.specs.References.{count_under, IsValueUnder, ReweighsUnder, NotesLookUp};
-ghost use Rattle.quick_cache_shard.specs.Shard.{LosesOnly, rules_of, IsSoundShard, HasTokenUnder};
+ghost use Rattle.quick_cache_policy.specs.References.{count_under, IsValueUnder, NotesLookUp};
+ghost use Rattle.quick_cache_shard.specs.Shard.{LosesOnly, IsSoundShard, HasTokenUnder};
+ghost use Rattle.quick_cache_shard.specs.Steps.{ReweighsBy};
 
 use crate::shard::CacheShard;
+use crate::words::{Going, Keyed, Rowed};
 use quick_cache_model::{Equivalent, Lifecycle, Token, Weighter};
 use quick_cache_policy::SharedPlaceholder;
 use std::alloc::Allocator;
@@ -22,13 +23,12 @@ impl<K: Eq + Hash, V, We, B: BuildHasher, L, P: SharedPlaceholder<K>, A: Allocat
     P,
     A,
 > {
-    ghost use Rattle.quick_cache_shard.specs.Lent.{lends_under};
+    ghost use Rattle.quick_cache_shard.specs.Lent.{written_under};
 
     /// Counts a look-up as `get` does, and gives the token of the item, if one was found.
     #[inline]
     pub fn look_up<Q: Equivalent<K>>(&mut self, hash: u64, query: &Q) -> Option<Token>
-        requires hash_is { hash ≡ hash_of B.BuildHasher B.Hasher.Hasher self.old.builder
-            (Q.hash_input query.now) }
+        requires hash_is { hash ≡ ⟦<Self as Keyed>⟧.hash self.old.builder (Q.hash_input query.now) }
         ensures looks_up { MatchOption result
             (NotesLookUp (Q.equivalent query.now) self.old.state false self.new.state)
             (λ _. NotesLookUp (Q.equivalent query.now) self.old.state true self.new.state) }
@@ -47,8 +47,7 @@ impl<K: Eq + Hash, V, We, B: BuildHasher, L, P: SharedPlaceholder<K>, A: Allocat
     /// The token of the item under the query, if there is one. Nothing changes.
     #[inline]
     pub fn token_of<Q: Equivalent<K>>(&self, hash: u64, query: &Q) -> Option<Token>
-        requires hash_is { hash ≡ hash_of B.BuildHasher B.Hasher.Hasher self.now.builder
-            (Q.hash_input query.now) }
+        requires hash_is { hash ≡ ⟦<Self as Keyed>⟧.hash self.now.builder (Q.hash_input query.now) }
         ensures there { IfSome result
             (λ _. 0 < count_under (Q.equivalent query.now) self.now.state) }
         ensures token { IfSome result
@@ -64,8 +63,7 @@ impl<K: Eq + Hash, V, We, B: BuildHasher, L, P: SharedPlaceholder<K>, A: Allocat
     /// token at which it is thought to, nothing is searched. Nothing changes.
     #[inline]
     pub fn value_under<Q: Equivalent<K>>(&self, thought: Option<Token>, hash: u64, query: &Q) -> &V
-        requires hash_is { hash ≡ hash_of B.BuildHasher B.Hasher.Hasher self.now.builder
-            (Q.hash_input query.now) }
+        requires hash_is { hash ≡ ⟦<Self as Keyed>⟧.hash self.now.builder (Q.hash_input query.now) }
         requires there { 0 < count_under (Q.equivalent query.now) self.now.state }
         ensures { IsValueUnder (Q.equivalent query.now) self.now.state result.now }
     {
@@ -83,13 +81,10 @@ impl<K: Eq + Hash, V, We, B: BuildHasher, L, P: SharedPlaceholder<K>, A: Allocat
         hash: u64,
         query: &Q,
     ) -> &mut V
-        requires hash_is { hash ≡ hash_of B.BuildHasher B.Hasher.Hasher self.old.builder
-            (Q.hash_input query.now) }
+        requires hash_is { hash ≡ ⟦<Self as Keyed>⟧.hash self.old.builder (Q.hash_input query.now) }
         requires there { 0 < count_under (Q.equivalent query.now) self.old.state }
-        ensures* writes_back { sem 𝓛 (lends_under K.row V.row We.row B.row L.row P.row A.row
-            B.Hasher.row P.Touch.row P.Kept.row K.eq K.hash_input B.BuildHasher B.Hasher.Hasher
-            P.SharedPlaceholder P.Touch.is_default P.Touch.may_count
-            P.Touch.none_counted A.Allocator self.entry (Q.equivalent query.now) result) }
+        ensures* writes_back { sem 𝓛 (Lends ⟦<Self as Rowed>⟧.lender_row V.row self.entry result
+            (written_under (Q.equivalent query.now) self.old)) }
         ensures value { IsValueUnder (Q.equivalent query.now) self.old.state result.now }
     {
         self.contents.lists.apart();
@@ -107,19 +102,14 @@ impl<K: Eq + Hash, V, We, B: BuildHasher, L, P: SharedPlaceholder<K>, A: Allocat
         V: Drop,
         We: Weighter<K, V>,
         L: Lifecycle<K, V>,
-        requires hash_is { hash ≡ hash_of B.BuildHasher B.Hasher.Hasher self.old.builder
-            (Q.hash_input query.now) }
+        requires hash_is { hash ≡ ⟦<Self as Keyed>⟧.hash self.old.builder (Q.hash_input query.now) }
         requires there { 0 < count_under (Q.equivalent query.now) self.old.state }
-        ensures reweighs { ReweighsUnder (Q.equivalent query.now)
-            (rules_of P.Touch.may_count K.Hash.hash_input We.Weighter B.BuildHasher
-            B.Hasher.Hasher L.Lifecycle self.old)
-            self.old.state self.new.state }
+        ensures reweighs { ReweighsBy ⟦<Self as Going>⟧.goes P.Touch.may_count self.old
+            (Q.equivalent query.now) self.new }
         ensures places { LosesOnly self.old.places self.new.places }
         ensures there { 0 < count_under (Q.equivalent query.now) self.new.state }
-        ensures same { self.new ≡ record self.old {
-          state = self.new.state;
-          places = self.new.places;
-        } }
+        ensures same { self.new
+            ≡ record self.old { state = self.new.state; places = self.new.places } }
     {
         self.contents.reweigh(thought, hash, query, &self.terms);
     }

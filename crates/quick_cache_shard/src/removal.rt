@@ -1,13 +1,13 @@
 //! Removals by a predicate of the caller, and of all that there is.
 ghost use Rattle.std.specs.Prelude.{◌≡◌, ◌≤◌, ◌+◌, [], Bool};
 ghost use Rattle.std.specs.Fn.{FnOnceReturnsAt};
-ghost use Rattle.quick_cache_model.specs.Hashing.{hash_of};
 ghost use Rattle.quick_cache_model.specs.Refusals.{slots_taken};
 ghost use Rattle.quick_cache_model.specs.Removal.{RemovesIf, Retains, cleared};
-ghost use Rattle.quick_cache_policy.specs.Predicates.{Answers, IsAnsweredAs, IsTestedAs, RemovesAsked, RetainsAsked};
-ghost use Rattle.quick_cache_shard.specs.Shard.{LosesOnly, UpToOrder, IsSoundShard};
+ghost use Rattle.quick_cache_policy.specs.Predicates.{Answers, IsAnsweredAs, IsTestedAs, MayBeAskedUnder, MayBeAskedOfEach, RemovesAsked, RetainsAsked};
+ghost use Rattle.quick_cache_shard.specs.Shard.{LosesOnly, UpToOrder, IsSoundShard, KeepsWork};
 
 use crate::shard::CacheShard;
+use crate::words::Keyed;
 use quick_cache_model::Equivalent;
 use quick_cache_policy::SharedPlaceholder;
 use std::alloc::Allocator;
@@ -31,9 +31,9 @@ impl<K: Eq + Hash, V, We, B: BuildHasher, L, P: SharedPlaceholder<K>, A: Allocat
         query: &Q,
         wanted: F,
     ) -> Option<(K, V)>
-        requires hash_is { hash ≡ hash_of B.BuildHasher B.Hasher.Hasher self.old.builder
-            (Q.hash_input query.now) }
-        requires callable { F.IsAlwaysCallable wanted }
+        requires hash_is { hash ≡ ⟦<Self as Keyed>⟧.hash self.old.builder (Q.hash_input query.now) }
+        requires callable { MayBeAskedUnder F.FnOnce wanted (Q.equivalent query.now)
+            self.old.state }
 
         // Where the predicate answers as a pure test does, it is the removal by that test.
         ensures removes { (passes : V → Bool) → IsTestedAs F.FnOnce wanted passes
@@ -45,11 +45,7 @@ impl<K: Eq + Hash, V, We, B: BuildHasher, L, P: SharedPlaceholder<K>, A: Allocat
             (FnOnceReturnsAt F.FnOnce wanted) result) self.new.state }
         ensures places { LosesOnly self.old.places self.new.places }
         ensures room { self.old.room ≤ self.new.room }
-        ensures same { self.new ≡ record self.old {
-          state = self.new.state;
-          places = self.new.places;
-          room = self.new.room;
-        } }
+        ensures same { KeepsWork self.old self.new }
         ensures sound { IsSoundShard K.eq self.new }
     {
         let taken = self.contents.remove_if(hash, query, wanted);
@@ -64,7 +60,7 @@ impl<K: Eq + Hash, V, We, B: BuildHasher, L, P: SharedPlaceholder<K>, A: Allocat
     where
         K: Drop,
         V: Drop,
-        requires callable { F.IsAlwaysCallable keep }
+        requires callable { MayBeAskedOfEach F.Fn keep self.old.state }
 
         // Where the predicate answers as a pure test does, it is the retain by that test.
         ensures retains { (keeps : K → V → Bool) → IsAnsweredAs F.Fn keep keeps
@@ -74,11 +70,7 @@ impl<K: Eq + Hash, V, We, B: BuildHasher, L, P: SharedPlaceholder<K>, A: Allocat
         ensures asks { UpToOrder (RetainsAsked (Answers F.Fn keep) self.old.state) self.new.state }
         ensures places { LosesOnly self.old.places self.new.places }
         ensures room { self.old.room ≤ self.new.room }
-        ensures same { self.new ≡ record self.old {
-          state = self.new.state;
-          places = self.new.places;
-          room = self.new.room;
-        } }
+        ensures same { KeepsWork self.old self.new }
         ensures sound { IsSoundShard K.eq self.new }
     {
         self.contents.retain(keep);

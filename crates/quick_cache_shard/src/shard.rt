@@ -1,11 +1,10 @@
 //! The shard: its calls, and what a contract sees of it.
-ghost use Rattle.std.specs.Prelude.{◌≡◌, IfOk, IfErr, IsOk, MatchOption, option_copied, ◌≤◌, ◌+◌, OnErr, Some, [], min, ◌-◌, OnOk, length, IsSome, true, false, None};
+ghost use Rattle.std.specs.Prelude.{◌≡◌, IfOk, IfErr, IsOk, option_copied, ◌≤◌, ◌+◌, Some, min, max, ◌-◌, OnOk, IsSome, true, false, None};
 ghost use Rattle.std.specs.Bool.{OnTrue, OnFalse};
 ghost use Rattle.std.specs.Borrow.{sem};
 ghost use Rattle.std.specs.Option.{option_map};
-ghost use Rattle.std.specs.Int.NonZero.{non_zero_u32_get as number};
 ghost use Rattle.std.specs.Map.Iter.{deref_pair};
-ghost use Rattle.quick_cache_lists.specs.Lists.{HasItemToken, IsItemOf};
+ghost use Rattle.quick_cache_lists.specs.Room.{most_room};
 ghost use Rattle.quick_cache_model.specs.declared.refusal.Refusal.TheVariants.{Memory};
 ghost use Rattle.quick_cache_model.specs.CacheState.{empty_state};
 ghost use Rattle.quick_cache_model.specs.Finding.{HasNoItem};
@@ -13,12 +12,14 @@ ghost use Rattle.quick_cache_model.specs.Hashing.{hash_of};
 ghost use Rattle.quick_cache_model.specs.Lookups.{LooksUp, Sees};
 ghost use Rattle.quick_cache_model.specs.Removal.{Removes, pair_of};
 ghost use Rattle.quick_cache_model.specs.Sizes.{hot_target_of, ghost_limit_of};
-ghost use Rattle.quick_cache_policy.specs.Work.{no_work, WorksWithin};
-ghost use Rattle.quick_cache_policy.specs.Writing.{strategy_of, is_insert, AnswersWrite};
+ghost use Rattle.quick_cache_policy.specs.Work.{no_work};
+ghost use Rattle.quick_cache_policy.specs.Writing.{strategy_of, is_insert};
 ghost use Rattle.quick_cache_policy.specs.Copies.{ClonesAreEqual, IsCopyOf};
-ghost use Rattle.quick_cache_shard.specs.Shard.{KeepsPlaces, LosesOnly, rules_of, hooks_of, UpToOrder, IsSoundShard, HasItem};
+ghost use Rattle.quick_cache_shard.specs.Shard.{KeepsPlaces, LosesOnly, UpToOrder, IsSoundShard, HasItem, KeepsTerms, KeepsWork, WorksAsWrite, made_with};
 ghost use Rattle.quick_cache_model.specs.Refusals.{slots_taken, slot_count};
+ghost use Rattle.quick_cache_shard.specs.Steps.{AnswersWriteBy};
 
+use crate::words::{Going, Keyed, Rowed};
 use quick_cache_model::{Equivalent, Lifecycle, Refusal, Token, Weighter, hash_of};
 use quick_cache_options::sizes::{ghost_limit, hot_target};
 use quick_cache_policy::{Contents, InsertStrategy, SharedPlaceholder, Terms};
@@ -66,6 +67,48 @@ impl<K: Eq + Hash, V, We, B: BuildHasher, L, P: SharedPlaceholder<K>, A: Allocat
         s.contents };
 }
 
+impl<K: Eq + Hash, V, We, B: BuildHasher, L, P: SharedPlaceholder<K>, A: Allocator> Rowed
+    for CacheShard<K, V, We, B, L, P, A> {
+    ghost use Rattle.quick_cache_shard.specs.Lent.{row_of};
+
+    ghost lender_row = { row_of K.row V.row We.row B.row L.row P.row A.row B.Hasher.row P.Touch.row
+        P.Kept.row K.eq K.hash_input B.BuildHasher B.Hasher.Hasher P.SharedPlaceholder
+        P.Touch.is_default P.Touch.may_count P.Touch.none_counted A.Allocator };
+}
+
+impl<K: Eq + Hash, V, We, B: BuildHasher, L, P: SharedPlaceholder<K>, A: Allocator> Keyed
+    for CacheShard<K, V, We, B, L, P, A> {
+    type Builder = B;
+
+    ghost hash = { hash_of B.BuildHasher B.Hasher.Hasher };
+}
+
+impl<
+    K: Eq + Hash + Drop,
+    V: Drop,
+    We: Weighter<K, V>,
+    B: BuildHasher,
+    L: Lifecycle<K, V>,
+    P: SharedPlaceholder<K>,
+    A: Allocator,
+> Going for CacheShard<K, V, We, B, L, P, A> {
+    ghost use Rattle.quick_cache_shard.specs.Goes.{goes_by};
+
+    type Key = K;
+
+    type Value = V;
+
+    type Weigher = We;
+
+    type Builder = B;
+
+    type Life = L;
+
+    type RequestState = L::RequestState;
+
+    ghost goes = { goes_by K.Hash.hash_input We.Weighter B.BuildHasher B.Hasher.Hasher L.Lifecycle };
+}
+
 impl<K: Eq + Hash, V, We, B: BuildHasher, L, P: SharedPlaceholder<K>, A: Allocator> CacheShard<
     K,
     V,
@@ -78,13 +121,14 @@ impl<K: Eq + Hash, V, We, B: BuildHasher, L, P: SharedPlaceholder<K>, A: Allocat
     ghost use Rattle.quick_cache_shard.specs.Lent.{ends_so};
 
     /// An empty cache for so many items and so much weight, with the hot and the ghost share in
-    /// parts per million.
+    /// parts per million, and with that greatest mark.
     ///
     /// It takes no memory; `Memory` is a refused clone of the allocator.
     pub fn new(
         alloc: A,
         hot: u32,
         ghosts: u32,
+        mark_cut: u8,
         items: usize,
         weight: u64,
         weigher: We,
@@ -96,21 +140,17 @@ impl<K: Eq + Hash, V, We, B: BuildHasher, L, P: SharedPlaceholder<K>, A: Allocat
         We: Drop,
         B: Drop,
         L: Drop,
-        ensures makes { IfOk result (λ shard. shard ≡ record {
-          state = empty_state weight (hot_target_of weight hot) (ghost_limit_of items ghosts);
-          places = [];
-          weigher = weigher;
-          builder = builder;
-          lifecycle = lifecycle;
-          room = 0;
-          work = no_work;
-        }) }
+        requires some_mark { 1 ≤ mark_cut }
+        requires few_marks { mark_cut ≤ 3 }
+        ensures makes { IfOk result (λ shard. shard ≡ made_with
+            (record (empty_state weight (hot_target_of weight hot)
+            (ghost_limit_of items ghosts)) { mark_cut = mark_cut }) weigher builder lifecycle) }
         ensures succeeds { A.is_infallible alloc → IsOk result }
         ensures refused { IfErr result (λ refusal. refusal ≡ Memory) }
     {
         let (hot_target, ghost_limit) = (hot_target(weight, hot), ghost_limit(items, ghosts));
         Ok(CacheShard {
-            contents: Contents::new(alloc, weight, hot_target, ghost_limit)?,
+            contents: Contents::new(alloc, weight, hot_target, ghost_limit, mark_cut)?,
             terms: Terms {
                 weigher,
                 builder,
@@ -166,6 +206,8 @@ impl<K: Eq + Hash, V, We, B: BuildHasher, L, P: SharedPlaceholder<K>, A: Allocat
         ensures room { OnOk result (min additional (slot_count - slots_taken self.old.state)
             ≤ self.new.room) }
         ensures grows { self.old.room ≤ self.new.room }
+        ensures at_most { self.new.room ≤ max self.old.room (most_room
+            (slots_taken self.old.state) (additional + min additional self.old.state.ghost_limit)) }
 
         // Where there is that room already it succeeds.
         ensures succeeds { min (additional + min additional self.old.state.ghost_limit)
@@ -203,14 +245,10 @@ impl<K: Eq + Hash, V, We, B: BuildHasher, L, P: SharedPlaceholder<K>, A: Allocat
         V: Drop,
         We: Weighter<K, V>,
         L: Lifecycle<K, V>,
-        requires hash_is { hash
-            ≡ hash_of B.BuildHasher B.Hasher.Hasher self.old.builder (K.hash_input key) }
+        requires hash_is { hash ≡ ⟦<Self as Keyed>⟧.hash self.old.builder (K.hash_input key) }
         // Where pinning is steady, the write is a step of its definition.
-        ensures answers { AnswersWrite (L.steady self.old.lifecycle) (hooks_of L.Lifecycle self.old)
-            (rules_of P.Touch.may_count K.Hash.hash_input We.Weighter B.BuildHasher
-            B.Hasher.Hasher L.Lifecycle self.old)
-            K.eq (strategy_of strategy) self.old.state state.old key value result
-            self.new.state state.new }
+        ensures answers { AnswersWriteBy ⟦<Self as Going>⟧.goes P.Touch.may_count self.old K.eq
+            (strategy_of strategy) key value result self.new state.old state.new }
         // No item that stays moves.
         ensures places { KeepsPlaces K.eq self.old.places self.new.places }
         // Only a replace gives a pair back with no refusal, and it is never refused.
@@ -225,14 +263,8 @@ impl<K: Eq + Hash, V, We, B: BuildHasher, L, P: SharedPlaceholder<K>, A: Allocat
             → self.old.room ≤ self.new.room }
         ensures asks { IfErr result (λ back. back.2 ≡ Some Memory → self.old.room ≡ 0) }
         // How much work it takes, whatever is pinned.
-        ensures work { WorksWithin (length self.old.state.hot + length self.old.state.cold + 1)
-            self.old.work self.new.work }
-        ensures same { self.new ≡ record self.old {
-          state = self.new.state;
-          places = self.new.places;
-          room = self.new.room;
-          work = self.new.work;
-        } }
+        ensures work { WorksAsWrite self.old self.new }
+        ensures same { KeepsTerms self.old self.new }
         ensures sound { IsSoundShard K.eq self.new }
     {
         let answer = self
@@ -246,12 +278,8 @@ impl<K: Eq + Hash, V, We, B: BuildHasher, L, P: SharedPlaceholder<K>, A: Allocat
     /// item and counts a read of it; else a miss is counted.
     #[inline(always)]
     pub fn get<Q: Equivalent<K>>(&mut self, hash: u64, query: &Q) -> Option<&V>
-        requires hash_is { hash ≡ hash_of B.BuildHasher B.Hasher.Hasher self.old.builder
-            (Q.hash_input query.now) }
-        ensures* looks_up { sem 𝓛 (ends_so K.row V.row We.row B.row L.row P.row A.row
-            B.Hasher.row P.Touch.row P.Kept.row K.eq K.hash_input B.BuildHasher B.Hasher.Hasher
-            P.SharedPlaceholder P.Touch.is_default P.Touch.may_count
-            P.Touch.none_counted A.Allocator self.entry
+        requires hash_is { hash ≡ ⟦<Self as Keyed>⟧.hash self.old.builder (Q.hash_input query.now) }
+        ensures* looks_up { sem 𝓛 (ends_so ⟦<Self as Rowed>⟧.lender_row self.entry
             (λ new. UpToOrder (LooksUp (Q.equivalent query.now) self.old.state (λ item. item.value)
             (option_copied result)) new.state
             × (new ≡ record self.old { state = new.state }))) }
@@ -263,12 +291,8 @@ impl<K: Eq + Hash, V, We, B: BuildHasher, L, P: SharedPlaceholder<K>, A: Allocat
 
     /// The pair under the query, as `get` finds its value.
     pub fn get_key_value<Q: Equivalent<K>>(&mut self, hash: u64, query: &Q) -> Option<(&K, &V)>
-        requires hash_is { hash ≡ hash_of B.BuildHasher B.Hasher.Hasher self.old.builder
-            (Q.hash_input query.now) }
-        ensures* looks_up { sem 𝓛 (ends_so K.row V.row We.row B.row L.row P.row A.row
-            B.Hasher.row P.Touch.row P.Kept.row K.eq K.hash_input B.BuildHasher B.Hasher.Hasher
-            P.SharedPlaceholder P.Touch.is_default P.Touch.may_count
-            P.Touch.none_counted A.Allocator self.entry
+        requires hash_is { hash ≡ ⟦<Self as Keyed>⟧.hash self.old.builder (Q.hash_input query.now) }
+        ensures* looks_up { sem 𝓛 (ends_so ⟦<Self as Rowed>⟧.lender_row self.entry
             (λ new. UpToOrder (LooksUp (Q.equivalent query.now) self.old.state pair_of
             (option_map deref_pair result)) new.state
             × (new ≡ record self.old { state = new.state }))) }
@@ -281,8 +305,7 @@ impl<K: Eq + Hash, V, We, B: BuildHasher, L, P: SharedPlaceholder<K>, A: Allocat
     /// The value under the query, which is handed in with its hash. Nothing changes: it is no use
     /// of the item.
     pub fn peek<Q: Equivalent<K>>(&self, hash: u64, query: &Q) -> Option<&V>
-        requires hash_is { hash ≡ hash_of B.BuildHasher B.Hasher.Hasher self.now.builder
-            (Q.hash_input query.now) }
+        requires hash_is { hash ≡ ⟦<Self as Keyed>⟧.hash self.now.builder (Q.hash_input query.now) }
         ensures sees { Sees (Q.equivalent query.now) self.now.state (λ item. item.value)
             (option_copied result) }
         ensures sound { IsSoundShard K.eq self.now }
@@ -294,8 +317,7 @@ impl<K: Eq + Hash, V, We, B: BuildHasher, L, P: SharedPlaceholder<K>, A: Allocat
 
     /// Whether there is an item under the query, which is handed in with its hash. Nothing changes.
     pub fn contains<Q: Equivalent<K>>(&self, hash: u64, query: &Q) -> bool
-        requires hash_is { hash ≡ hash_of B.BuildHasher B.Hasher.Hasher self.now.builder
-            (Q.hash_input query.now) }
+        requires hash_is { hash ≡ ⟦<Self as Keyed>⟧.hash self.now.builder (Q.hash_input query.now) }
         ensures there { OnTrue result (HasItem (Q.equivalent query.now) self.now.state) }
         ensures absent { OnFalse result (HasNoItem (Q.equivalent query.now) self.now.state) }
         ensures sound { IsSoundShard K.eq self.now }
@@ -308,8 +330,7 @@ impl<K: Eq + Hash, V, We, B: BuildHasher, L, P: SharedPlaceholder<K>, A: Allocat
     /// does, nothing is searched.
     #[inline]
     pub fn contains_from<Q: Equivalent<K>>(&self, token: Token, hash: u64, query: &Q) -> bool
-        requires hash_is { hash ≡ hash_of B.BuildHasher B.Hasher.Hasher self.now.builder
-            (Q.hash_input query.now) }
+        requires hash_is { hash ≡ ⟦<Self as Keyed>⟧.hash self.now.builder (Q.hash_input query.now) }
         ensures there { OnTrue result (HasItem (Q.equivalent query.now) self.now.state) }
         ensures absent { OnFalse result (HasNoItem (Q.equivalent query.now) self.now.state) }
         ensures sound { IsSoundShard K.eq self.now }
@@ -324,17 +345,12 @@ impl<K: Eq + Hash, V, We, B: BuildHasher, L, P: SharedPlaceholder<K>, A: Allocat
     where
         K: Drop,
         V: Drop,
-        requires hash_is { hash ≡ hash_of B.BuildHasher B.Hasher.Hasher self.old.builder
-            (Q.hash_input query.now) }
+        requires hash_is { hash ≡ ⟦<Self as Keyed>⟧.hash self.old.builder (Q.hash_input query.now) }
         ensures removes { UpToOrder (Removes (Q.equivalent query.now) self.old.state hash result)
             self.new.state }
         ensures places { LosesOnly self.old.places self.new.places }
         ensures room { self.old.room ≤ self.new.room }
-        ensures same { self.new ≡ record self.old {
-          state = self.new.state;
-          places = self.new.places;
-          room = self.new.room;
-        } }
+        ensures same { KeepsWork self.old self.new }
         ensures sound { IsSoundShard K.eq self.new }
     {
         let taken = self.contents.remove(hash, query);

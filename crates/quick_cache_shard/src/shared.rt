@@ -1,12 +1,12 @@
 //! Look-ups beside other readers, which add to counts alone.
 ghost use Rattle.std.specs.Prelude.{◌≡◌, IsOk, IfOk, IfErr, option_copied};
 ghost use Rattle.quick_cache_model.specs.declared.refusal.Refusal.TheVariants.{Memory};
-ghost use Rattle.quick_cache_model.specs.Hashing.{hash_of};
 ghost use Rattle.quick_cache_model.specs.Lookups.{Sees};
 ghost use Rattle.quick_cache_shard.specs.Shard.{IsSoundShard, HasItem};
 ghost use Rattle.quick_cache_shard.specs.Shared.{ShowsClone};
 
 use crate::shard::CacheShard;
+use crate::words::Keyed;
 use quick_cache_model::{Equivalent, Refusal};
 use quick_cache_policy::SharedPlaceholder;
 use std::alloc::Allocator;
@@ -26,8 +26,7 @@ impl<K: Eq + Hash, V, We, B: BuildHasher, L, P: SharedPlaceholder<K>, A: Allocat
     /// else changes: the touch becomes a mark and a read at the item's first visit in an advance,
     /// or when it is written over.
     pub fn get_shared<Q: Equivalent<K>>(&self, hash: u64, query: &Q) -> Option<&V>
-        requires hash_is { hash ≡ hash_of B.BuildHasher B.Hasher.Hasher self.now.builder
-            (Q.hash_input query.now) }
+        requires hash_is { hash ≡ ⟦<Self as Keyed>⟧.hash self.now.builder (Q.hash_input query.now) }
         ensures sees { Sees (Q.equivalent query.now) self.now.state (λ item. item.value)
             (option_copied result) }
         ensures sound { IsSoundShard K.eq self.now }
@@ -46,8 +45,7 @@ impl<K: Eq + Hash, V, We, B: BuildHasher, L, P: SharedPlaceholder<K>, A: Allocat
     pub fn find_clone<Q: Equivalent<K>>(&self, hash: u64, query: &Q) -> Result<Option<V>, Refusal>
     where
         V: Clone,
-        requires hash_is { hash ≡ hash_of B.BuildHasher B.Hasher.Hasher self.now.builder
-            (Q.hash_input query.now) }
+        requires hash_is { hash ≡ ⟦<Self as Keyed>⟧.hash self.now.builder (Q.hash_input query.now) }
         ensures shows { IfOk result
             (ShowsClone (Q.equivalent query.now) V.is_clone self.now.state) }
         ensures refused { IfErr result (λ refusal. refusal ≡ Memory) }
@@ -76,8 +74,7 @@ impl<K: Eq + Hash, V, We, B: BuildHasher, L, P: SharedPlaceholder<K>, A: Allocat
     pub fn get_clone<Q: Equivalent<K>>(&self, hash: u64, query: &Q) -> Result<Option<V>, Refusal>
     where
         V: Clone,
-        requires hash_is { hash ≡ hash_of B.BuildHasher B.Hasher.Hasher self.now.builder
-            (Q.hash_input query.now) }
+        requires hash_is { hash ≡ ⟦<Self as Keyed>⟧.hash self.now.builder (Q.hash_input query.now) }
         ensures shows { IfOk result
             (ShowsClone (Q.equivalent query.now) V.is_clone self.now.state) }
         ensures refused { IfErr result (λ refusal. refusal ≡ Memory) }

@@ -2,12 +2,12 @@
 ghost use Rattle.std.specs.Prelude.{◌≡◌, ℕ, MatchOption};
 ghost use Rattle.std.specs.Option.{option_map};
 ghost use Rattle.quick_cache_model.specs.Finding.{HasNoItem};
-ghost use Rattle.quick_cache_model.specs.Hashing.{hash_of};
 ghost use Rattle.quick_cache_model.specs.Lookups.{Sees};
 ghost use Rattle.quick_cache_shard.specs.Shard.{IsSoundShard};
 ghost use Rattle.quick_cache_policy.specs.Stats.{ShowsReads};
 
 use crate::shard::CacheShard;
+use crate::words::Keyed;
 use quick_cache_model::{Equivalent, ItemStats, MemoryUsed};
 use quick_cache_policy::SharedPlaceholder;
 use std::alloc::Allocator;
@@ -25,8 +25,7 @@ impl<K: Eq + Hash, V, We, B: BuildHasher, L, P: SharedPlaceholder<K>, A: Allocat
     /// How often the item under the query was read, up to the greatest u64. The query is handed in
     /// with its hash. Nothing changes: it is no use of the item.
     pub fn item_stats<Q: Equivalent<K>>(&self, hash: u64, query: &Q) -> Option<ItemStats>
-        requires hash_is { hash ≡ hash_of B.BuildHasher B.Hasher.Hasher self.now.builder
-            (Q.hash_input query.now) }
+        requires hash_is { hash ≡ ⟦<Self as Keyed>⟧.hash self.now.builder (Q.hash_input query.now) }
         ensures shown { MatchOption result
             (HasNoItem (Q.equivalent query.now) self.now.state)
             (λ stats. ShowsReads P.Touch.may_count (Q.equivalent query.now) self.now.state

@@ -4,7 +4,7 @@ ghost use Rattle.std.specs.Int.NonZero.{non_zero_u32_get as number};
 ghost use Rattle.quick_cache_lists.specs.Lists.{number_or_zero};
 ghost use Rattle.quick_cache_policy.specs.Tokens.{TakesItem};
 ghost use Rattle.quick_cache_shard.specs.PlaceWalks.{EndsAt, GivesOnce, IsNextPlace};
-ghost use Rattle.quick_cache_shard.specs.Shard.{IsSoundShard, IsFree, StandsAt, LeavesPlace};
+ghost use Rattle.quick_cache_shard.specs.Shard.{IsSoundShard, IsFree, StandsAt, LeavesPlace, KeepsWork};
 
 use crate::shard::CacheShard;
 use quick_cache_model::Token;
@@ -45,11 +45,7 @@ impl<K: Eq + Hash, V, We, B: BuildHasher, L, P: SharedPlaceholder<K>, A: Allocat
             (IsFree self.old (number token) × (self.new ≡ self.old))
             (λ pair. LeavesPlace self.old (number token) pair.0 self.new) }
         ensures room { self.old.room ≤ self.new.room }
-        ensures same { self.new ≡ record self.old {
-          state = self.new.state;
-          places = self.new.places;
-          room = self.new.room;
-        } }
+        ensures same { KeepsWork self.old self.new }
         ensures sound { IsSoundShard K.eq self.new }
     {
         self.contents.lists.apart();
@@ -70,11 +66,7 @@ impl<K: Eq + Hash, V, We, B: BuildHasher, L, P: SharedPlaceholder<K>, A: Allocat
         ensures takes { IfSome result
             (λ taken. TakesItem self.old.state (taken.1, taken.2) self.new.state) }
         ensures room { self.old.room ≤ self.new.room }
-        ensures same { self.new ≡ record self.old {
-          state = self.new.state;
-          places = self.new.places;
-          room = self.new.room;
-        } }
+        ensures same { KeepsWork self.old self.new }
         ensures sound { IsSoundShard K.eq self.new }
     {
         self.contents.lists.apart();

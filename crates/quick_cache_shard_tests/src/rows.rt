@@ -28,6 +28,7 @@ pub(crate) fn empty<K: Eq + Hash, V, T: Touches>(
         alloc,
         970000,
         500000,
+        2,
         capacity,
         capacity as u64,
         UnitWeighter,

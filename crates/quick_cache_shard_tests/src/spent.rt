@@ -14,7 +14,7 @@ use std::test::Fail;
 
 /// An empty shard for four items, whose next ticket is this one.
 fn with_ticket(alloc: Global, ticket: u64) -> Result<Tested<u64, u64>, Refusal> {
-    let mut contents = Contents::new(alloc, 4, 2, 2)?;
+    let mut contents = Contents::new(alloc, 4, 2, 2, 2)?;
     contents.next_ticket = ticket;
     Ok(CacheShard::from_parts(
         contents,

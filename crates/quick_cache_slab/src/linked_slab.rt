@@ -16,7 +16,7 @@ mod unchecked;
 
 pub use copies::CopyItem;
 pub use drain::Drain;
-use growth::make_room;
+pub use growth::make_room;
 pub use item::ItemMut;
 pub use iter::{Iter, IterFrom};
 use links::{fill, is_occupied, link, unlink};

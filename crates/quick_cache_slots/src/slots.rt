@@ -1,5 +1,5 @@
 //! The slots of a shard, and room for them.
-ghost use Rattle.std.specs.Prelude.{◌≡◌, ◌≢◌, ◌+◌, ◌≤◌, ◌<◌, ◌↔◌, min, count_by, is_some, length, IsOk, IfOk, IfErr, IfSome, OnOk, OnErr, MatchOption, IsTrue, Some};
+ghost use Rattle.std.specs.Prelude.{◌≡◌, ◌≢◌, ◌+◌, ◌-◌, ◌*◌, ◌≤◌, ◌<◌, ◌↔◌, min, max, count_by, is_some, length, IsOk, IfOk, IfErr, IfSome, OnOk, OnErr, MatchOption, IsTrue, Some};
 ghost use Rattle.std.specs.Int.NonZero.{non_zero_u32_get as number};
 ghost use Rattle.quick_cache_slab.specs.LinkedSlab.{item_at, IsOccupied, next_token, spare, left, IsFull, placed, linked, unlinked, removed, IsNextOf, IsAlone, JoinsEnd, IsParted, emptied};
 ghost use Rattle.quick_cache_slab.specs.SlabEdits.{PlacesItem, LinksToken, UnlinksToken, RemovesItem};
@@ -18,7 +18,7 @@ pub use copies::Copying;
 pub use iter::{SlotIter, SlotsFrom};
 use quick_cache_model::{Refusal, Token};
 use quick_cache_slab::LinkedSlab;
-use quick_cache_slab::linked_slab::TightNode;
+use quick_cache_slab::linked_slab::{TightNode, make_room};
 use std::alloc::{Allocator, Global};
 use std::marker::Model;
 use std::mem;
@@ -166,6 +166,9 @@ impl<K, V, P, T, A: Allocator> Slots<K, V, P, T, A> {
         ensures kept { self.new ≡ record self.old { room = self.new.room } }
         ensures room { OnOk result (min additional (left self.old) ≤ spare self.new) }
         ensures grows { self.old.room ≤ self.new.room }
+        ensures at_most { length self.old.slots + self.new.room
+            ≤ max (length self.old.slots + self.old.room)
+            (2 * (length self.old.slots + (additional - length self.old.free)) + 4) }
         ensures parted { IsParted self.new }
 
         // It is refused only where that room was missing. Where it was there, no more is made.
@@ -177,10 +180,7 @@ impl<K, V, P, T, A: Allocator> Slots<K, V, P, T, A> {
         let wanted = additional - self.slab.free_up_to(additional);
         let wanted = wanted.min(MAX_SLOTS - self.asides.len());
         self.slab.reserve(additional)?;
-        if wanted <= self.asides.capacity() - self.asides.len() {
-            return Ok(());
-        }
-        match self.asides.reserve(wanted) {
+        match make_room(&mut self.asides, wanted) {
             Ok(()) => Ok(()),
             Err(_) => Err(Refusal::Memory),
         }

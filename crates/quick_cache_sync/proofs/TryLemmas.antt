@@ -32,7 +32,7 @@ module _ {K V We B L S : Type 0} (life : lifecycle.Ghosts L K V S) (equal : K â†
       kept = some.kept;
       holds = record {
         new = some.holds.new;
-        step = record { first = first; last = last; begins = begins; inserts = some.holds.step };
+        step = record { first = first; last = last; begins = begins; does = some.holds.step };
       };
     }
 

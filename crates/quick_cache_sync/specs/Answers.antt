@@ -6,8 +6,11 @@ use Rattle.quick_cache_model.specs.Hooks.{Rules, Hooks}
 use Rattle.quick_cache_model.specs.Removal.{Removes}
 use Rattle.quick_cache_shard.specs.Predicates.{RemovesAsked}
 use Rattle.quick_cache_shard.specs.Alone.{IsDoneAlone}
-use Rattle.quick_cache_shard.specs.Inserts.{Inserts, InsertsAlone}
+use Rattle.quick_cache_shard.specs.Inserts.{Inserts}
 use Rattle.quick_cache_shard.specs.Replaces.{Replaces}
+use Rattle.quick_cache_shard.specs.Shard.{Shard}
+use Rattle.quick_cache_shard.specs.Steps.{Goes, steady_in, hooks_in, rules_in}
+use Rattle.quick_cache_locked.specs.Touches.{any_touches}
 
 module _ {K V : Type 0} (stands_for : K → Bool) (old : CacheState K V) where
   -- a removal answers so, and some state comes of it
@@ -33,7 +36,8 @@ module _ {K V S : Type 0} (steady : Type 0) (hooks : Hooks K V S) (rules : Rules
   pub record InsertsAloneSo (is_default : S → Type 0) (key : K) (value : V)
       (answer : Result (Unit {0}) (K × V × Refusal)) : Type 0 where
     pub new : CacheState K V
-    pub step : InsertsAlone steady hooks rules equal old is_default key value answer new
+    pub step : IsDoneAlone is_default
+        (λ first last. Inserts steady hooks rules equal old first key value answer new last)
 
   -- a replace answers so and leads the request state from the first to the last, and some state
   -- comes of it
@@ -48,3 +52,30 @@ module _ {K V S : Type 0} (steady : Type 0) (hooks : Hooks K V S) (rules : Rules
     pub new : CacheState K V
     pub step : IsDoneAlone is_default
         (λ first last. Replaces steady hooks rules equal old soft first key value answer new last)
+
+-- the same of a shard, as what it goes by says
+module _ {K V We B L S : Type 0} (goes : Goes K V We B L S) (equal : K → K → Bool)
+    (shard : Shard K V We B L) where
+  abbrev pub InsertsSoBy : (first : S) → (key : K) → (value : V)
+      → Result (Unit {0}) (K × V × Refusal) → (last : S) → Type 0
+  InsertsSoBy first key value answer last =
+      InsertsSo (steady_in goes shard) (hooks_in goes shard) (rules_in goes any_touches shard)
+      equal shard.state first key value answer last
+
+  abbrev pub InsertsAloneBy : (is_default : S → Type 0) → (key : K) → (value : V)
+      → Result (Unit {0}) (K × V × Refusal) → Type 0
+  InsertsAloneBy is_default key value answer =
+      InsertsAloneSo (steady_in goes shard) (hooks_in goes shard) (rules_in goes any_touches shard)
+      equal shard.state is_default key value answer
+
+  abbrev pub ReplacesSoBy : (soft : Bool) → (first : S) → (key : K) → (value : V)
+      → Result (Unit {0}) (K × V) → (last : S) → Type 0
+  ReplacesSoBy soft first key value answer last =
+      ReplacesSo (steady_in goes shard) (hooks_in goes shard) (rules_in goes any_touches shard)
+      equal shard.state soft first key value answer last
+
+  abbrev pub ReplacesAloneBy : (is_default : S → Type 0) → (soft : Bool) → (key : K) → (value : V)
+      → Result (Unit {0}) (K × V) → Type 0
+  ReplacesAloneBy is_default soft key value answer =
+      ReplacesAloneSo (steady_in goes shard) (hooks_in goes shard) (rules_in goes any_touches shard)
+      equal shard.state is_default soft key value answer

@@ -3,10 +3,8 @@ ghost use Rattle.std.specs.Prelude.{◌≡◌, IfOk, IfErr, Some, codes};
 ghost use Rattle.quick_cache_model.specs.declared.refusal.Refusal.TheVariants.{Memory};
 ghost use Rattle.quick_cache_model.specs.Sizes.{IsShardCount};
 ghost use Rattle.quick_cache_options.specs.Options.{default_shards};
-ghost use Rattle.quick_cache_shard.specs.Shard.{rules_of, hooks_of};
-ghost use Rattle.quick_cache_sync.specs.Answers.{InsertsSo, InsertsAloneSo};
+ghost use Rattle.quick_cache_sync.specs.Answers.{InsertsAloneBy, InsertsSoBy};
 ghost use Rattle.quick_cache_locked.specs.Locked.{FromSome};
-ghost use Rattle.quick_cache_locked.specs.Touches.{any_touches};
 
 use crate::lifecycle::DefaultLifecycle;
 use crossbeam_utils::CachePadded;
@@ -14,6 +12,7 @@ use quick_cache_locked::LockedShard;
 use quick_cache_model::{DefaultHashBuilder, Lifecycle, Refusal, UnitWeighter, Weighter};
 use quick_cache_options::sizes::shard_sizes;
 use quick_cache_options::{Options, OptionsBuilder};
+use quick_cache_shard::Going;
 use std::alloc::{Allocator, Global};
 use std::fmt::{Debug, Formatter, Write};
 use std::hash::{BuildHasher, Hash};
@@ -151,11 +150,11 @@ impl<K: Eq + Hash + Drop, V: Drop, We, B: BuildHasher, L: Lifecycle<K, V>, A: Al
         Cache::with_options(alloc, options, weigher, builder, lifecycle)
     }
 
-    /// An empty cache of the sizes, the shares and the number of shards that the options tell. It
-    /// takes no lock, and allocates the list of its shards alone. There are as many as the next
-    /// power of two, or fewer, so that each is made for 32 items at least. Each has its part of the
-    /// items and of the weight, rounded up, and clones of the weigher, the builder and the
-    /// lifecycle.
+    /// An empty cache of the sizes, the shares, the greatest mark and the number of shards that the
+    /// options tell. It takes no lock, and allocates the list of its shards alone. There are as many
+    /// as the next power of two, or fewer, so that each is made for 32 items at least. Each has its
+    /// part of the items and of the weight, rounded up, and clones of the weigher, the builder and
+    /// the lifecycle.
     ///
     /// # Errors
     ///
@@ -213,10 +212,8 @@ impl<K: Eq + Hash + Drop, V: Drop, We, B: BuildHasher, L: Lifecycle<K, V>, A: Al
         We: Weighter<K, V>,
         requires fits { L.fits key value }
         ensures answers { FromSome L.Lifecycle K.eq (λ shard.
-            InsertsAloneSo (L.steady shard.lifecycle) (hooks_of L.Lifecycle shard)
-            (rules_of any_touches K.Hash.hash_input We.Weighter B.BuildHasher B.Hasher.Hasher
-            L.Lifecycle shard)
-            K.eq shard.state L.RequestState.is_default key value result) }
+            InsertsAloneBy ⟦<Self as Going>⟧.goes K.eq shard
+            L.RequestState.is_default key value result) }
     {
         let mut state = L::RequestState::default();
         self.insert_with_lifecycle(rt, key, value, &mut state)
@@ -241,13 +238,36 @@ impl<K: Eq + Hash + Drop, V: Drop, We, B: BuildHasher, L: Lifecycle<K, V>, A: Al
         We: Weighter<K, V>,
         requires fits { L.fits key value }
         ensures answers { FromSome L.Lifecycle K.eq (λ shard.
-            InsertsSo (L.steady shard.lifecycle) (hooks_of L.Lifecycle shard)
-            (rules_of any_touches K.Hash.hash_input We.Weighter B.BuildHasher B.Hasher.Hasher
-            L.Lifecycle shard)
-            K.eq shard.state state.old key value result state.new) }
+            InsertsSoBy ⟦<Self as Going>⟧.goes K.eq shard
+            state.old key value result state.new) }
     {
         self.shard_of(&key).write(rt).insert(key, value, state)
     }
+}
+
+impl<
+    K: Eq + Hash + Drop,
+    V: Drop,
+    We: Weighter<K, V>,
+    B: BuildHasher,
+    L: Lifecycle<K, V>,
+    A: Allocator,
+> Going for Cache<K, V, We, B, L, A> {
+    ghost use Rattle.quick_cache_shard.specs.Goes.{goes_by};
+
+    type Key = K;
+
+    type Value = V;
+
+    type Weigher = We;
+
+    type Builder = B;
+
+    type Life = L;
+
+    type RequestState = L::RequestState;
+
+    ghost goes = { goes_by K.Hash.hash_input We.Weighter B.BuildHasher B.Hasher.Hasher L.Lifecycle };
 }
 
 impl<K: Eq + Hash + Drop, V: Drop, We, B: BuildHasher, L: Lifecycle<K, V>, A: Allocator> Debug

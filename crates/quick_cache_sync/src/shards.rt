@@ -1,9 +1,10 @@
 //! The shards of a cache, and which one a key has.
-ghost use Rattle.std.specs.Prelude.{◌≡◌, ◌<◌};
+ghost use Rattle.std.specs.Prelude.{◌≡◌, ◌<◌, vec_len};
 ghost use Rattle.quick_cache_model.specs.Hashing.{hash_of};
-ghost use Rattle.quick_cache_sync.specs.Shards.{shard_of_hash};
+ghost use Rattle.quick_cache_sync.specs.Shards.{IsDivision, IsLockAt, shard_of_hash};
 
 use crate::cache::Cache;
+use crossbeam_utils::CachePadded;
 use quick_cache_locked::LockedShard;
 use quick_cache_model::{Equivalent, Lifecycle, hash_of};
 use std::alloc::Allocator;
@@ -33,8 +34,7 @@ impl<K: Eq + Hash + Drop, V: Drop, We, B: BuildHasher, L: Lifecycle<K, V>, A: Al
             (hash_of B.BuildHasher B.Hasher.Hasher self.now.builder (Q.hash_input query.now)) }
         ensures below { result < self.now.shards }
     {
-        let hash = hash_of(&self.builder, query);
-        (hash.rotate_right(32) & (self.num_shards() as u64 - 1)) as usize
+        place_of(self.num_shards(), &self.builder, query)
     }
 
     /// The shard of the query's key, behind its lock.
@@ -42,7 +42,7 @@ impl<K: Eq + Hash + Drop, V: Drop, We, B: BuildHasher, L: Lifecycle<K, V>, A: Al
         &self,
         query: &Q,
     ) -> &RwLock<LockedShard<K, V, We, B, L, A>> {
-        &self.shards[self.shard_index(query)]
+        lock_of(&self.shards, &self.builder, query)
     }
 
     /// The read lock of the query's shard. It is tried once before the call waits for it, since a
@@ -59,6 +59,36 @@ impl<K: Eq + Hash + Drop, V: Drop, We, B: BuildHasher, L: Lifecycle<K, V>, A: Al
             None => wait_to_read(lock, rt),
         }
     }
+}
+
+/// The place of the query's key in a list of so many shards.
+#[inline(always)]
+fn place_of<K: Eq + Hash, Q: Equivalent<K>, B: BuildHasher>(
+    shards: usize,
+    builder: &B,
+    query: &Q,
+) -> usize
+    requires division { IsDivision shards }
+    ensures index { result ≡ shard_of_hash shards
+        (hash_of B.BuildHasher B.Hasher.Hasher builder.now (Q.hash_input query.now)) }
+    ensures below { result < shards }
+{
+    let hash = hash_of(builder, query);
+    (hash.rotate_right(32) & (shards as u64 - 1)) as usize
+}
+
+/// The lock of the query's key in a list of them.
+#[inline(always)]
+fn lock_of<'a, K: Eq + Hash, Q: Equivalent<K>, T, B: BuildHasher, A: Allocator>(
+    locks: &'a Vec<CachePadded<RwLock<T>>, A>,
+    builder: &B,
+    query: &Q,
+) -> &'a RwLock<T>
+    requires division { IsDivision (vec_len locks.now) }
+    ensures of_the_key { IsLockAt locks.now (shard_of_hash (vec_len locks.now)
+        (hash_of B.BuildHasher B.Hasher.Hasher builder.now (Q.hash_input query.now))) result.now }
+{
+    &locks[place_of(locks.len(), builder, query)]
 }
 
 /// The read lock, waited for. Apart from the try it leaves its registers to the look-up.

@@ -4,9 +4,9 @@ ghost use Rattle.std.specs.Bool.{OnTrue, OnFalse};
 ghost use Rattle.quick_cache_model.specs.Finding.{HasNoItem};
 ghost use Rattle.quick_cache_model.specs.Hashing.{hash_of};
 ghost use Rattle.quick_cache_shard.specs.Stats.{ShowsReads};
-ghost use Rattle.quick_cache_shard.specs.Shard.{Shard, HasItem, rules_of, hooks_of};
+ghost use Rattle.quick_cache_shard.specs.Shard.{Shard, HasItem};
 ghost use Rattle.quick_cache_locked.specs.Peeks.{Peeks};
-ghost use Rattle.quick_cache_sync.specs.Answers.{RemovesSo, InsertsSo, InsertsAloneSo};
+ghost use Rattle.quick_cache_sync.specs.Answers.{RemovesSo, InsertsAloneBy, InsertsSoBy};
 ghost use Rattle.quick_cache_locked.specs.Fitting.{ClonesFit, FitsQuery};
 ghost use Rattle.quick_cache_locked.specs.Locked.{FromSome};
 ghost use Rattle.quick_cache_locked.specs.Touches.{any_touches};
@@ -15,6 +15,7 @@ ghost use Rattle.quick_cache_sync.specs.Tries.{IsTried, IsTriedWith, IfContended
 use crate::cache::Cache;
 use crate::error::{LockContention, TryError};
 use quick_cache_model::{Equivalent, ItemStats, Lifecycle, Weighter};
+use quick_cache_shard::Going;
 use std::alloc::Allocator;
 use std::hash::{BuildHasher, Hash};
 
@@ -129,10 +130,8 @@ impl<K: Eq + Hash + Drop, V: Drop, We, B: BuildHasher, L: Lifecycle<K, V>, A: Al
         We: Weighter<K, V>,
         requires fits { L.fits key value }
         ensures answers { IsTriedWith (λ answer. FromSome L.Lifecycle K.eq (λ shard.
-            InsertsAloneSo (L.steady shard.lifecycle) (hooks_of L.Lifecycle shard)
-            (rules_of any_touches K.Hash.hash_input We.Weighter B.BuildHasher B.Hasher.Hasher
-            L.Lifecycle shard)
-            K.eq shard.state L.RequestState.is_default key value answer)) result }
+            InsertsAloneBy ⟦<Self as Going>⟧.goes K.eq shard
+            L.RequestState.is_default key value answer)) result }
         ensures pair { IfContended result (λ back_key back_value.
             (back_key ≡ key) × (back_value ≡ value)) }
     {
@@ -158,10 +157,8 @@ impl<K: Eq + Hash + Drop, V: Drop, We, B: BuildHasher, L: Lifecycle<K, V>, A: Al
         We: Weighter<K, V>,
         requires fits { L.fits key value }
         ensures answers { IsTriedWith (λ answer. FromSome L.Lifecycle K.eq (λ shard.
-            InsertsSo (L.steady shard.lifecycle) (hooks_of L.Lifecycle shard)
-            (rules_of any_touches K.Hash.hash_input We.Weighter B.BuildHasher B.Hasher.Hasher
-            L.Lifecycle shard)
-            K.eq shard.state state.old key value answer state.new)) result }
+            InsertsSoBy ⟦<Self as Going>⟧.goes K.eq shard
+            state.old key value answer state.new)) result }
         ensures pair { IfContended result (λ back_key back_value.
             (back_key ≡ key) × (back_value ≡ value) × (state.new ≡ state.old)) }
     {

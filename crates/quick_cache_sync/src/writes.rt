@@ -1,15 +1,16 @@
 //! Replaces and removals.
-ghost use Rattle.std.specs.Prelude.{IfSome};
+ghost use Rattle.std.specs.Prelude.{IfErr, IfSome};
 ghost use Rattle.std.specs.Fn.{FnOnceReturnsAt};
 ghost use Rattle.quick_cache_model.specs.Hashing.{hash_of};
-ghost use Rattle.quick_cache_shard.specs.Shard.{Shard, rules_of, hooks_of};
-ghost use Rattle.quick_cache_sync.specs.Answers.{RemovesSo, RemovesAskedSo, ReplacesSo, ReplacesAloneSo};
+ghost use Rattle.quick_cache_shard.specs.Shard.{Shard};
+ghost use Rattle.quick_cache_sync.specs.Answers.{RemovesSo, RemovesAskedSo, ReplacesAloneBy, ReplacesSoBy};
+ghost use Rattle.quick_cache_locked.specs.Asked.{MayBeAskedOfFitting, MayBeAskedOfFittingUnder};
 ghost use Rattle.quick_cache_locked.specs.Fitting.{FitsQuery};
 ghost use Rattle.quick_cache_locked.specs.Locked.{FromSome};
-ghost use Rattle.quick_cache_locked.specs.Touches.{any_touches};
 
 use crate::cache::Cache;
 use quick_cache_model::{Equivalent, Lifecycle, Weighter};
+use quick_cache_shard::Going;
 use std::alloc::Allocator;
 use std::hash::{BuildHasher, Hash};
 use std::sync::Wait;
@@ -34,10 +35,10 @@ impl<K: Eq + Hash + Drop, V: Drop, We, B: BuildHasher, L: Lifecycle<K, V>, A: Al
         We: Weighter<K, V>,
         requires fits { L.fits key value }
         ensures answers { FromSome L.Lifecycle K.eq (λ shard.
-            ReplacesAloneSo (L.steady shard.lifecycle) (hooks_of L.Lifecycle shard)
-            (rules_of any_touches K.Hash.hash_input We.Weighter B.BuildHasher B.Hasher.Hasher
-            L.Lifecycle shard)
-            K.eq shard.state L.RequestState.is_default soft key value result) }
+            ReplacesAloneBy ⟦<Self as Going>⟧.goes K.eq shard
+            L.RequestState.is_default soft key value result) }
+        // Whatever other threads do, the pair that comes back fits.
+        ensures fits { IfErr result (λ pair. L.fits pair.0 pair.1) }
     {
         let mut state = L::RequestState::default();
         self.replace_with_lifecycle(rt, key, value, soft, &mut state)
@@ -63,10 +64,10 @@ impl<K: Eq + Hash + Drop, V: Drop, We, B: BuildHasher, L: Lifecycle<K, V>, A: Al
         We: Weighter<K, V>,
         requires fits { L.fits key value }
         ensures answers { FromSome L.Lifecycle K.eq (λ shard.
-            ReplacesSo (L.steady shard.lifecycle) (hooks_of L.Lifecycle shard)
-            (rules_of any_touches K.Hash.hash_input We.Weighter B.BuildHasher B.Hasher.Hasher
-            L.Lifecycle shard)
-            K.eq shard.state soft state.old key value result state.new) }
+            ReplacesSoBy ⟦<Self as Going>⟧.goes K.eq shard
+            soft state.old key value result state.new) }
+        // Whatever other threads do, the pair that comes back fits.
+        ensures fits { IfErr result (λ pair. L.fits pair.0 pair.1) }
     {
         self.shard_of(&key)
             .write(rt)
@@ -95,7 +96,8 @@ impl<K: Eq + Hash + Drop, V: Drop, We, B: BuildHasher, L: Lifecycle<K, V>, A: Al
         query: &Q,
         wanted: F,
     ) -> Option<(K, V)>
-        requires callable { F.IsAlwaysCallable wanted }
+        // The value that the predicate sees fits a key that the query stands for.
+        requires callable { MayBeAskedOfFittingUnder L.fits (Q.equivalent query.now) F.FnOnce wanted }
 
         // Whatever the predicate answers, the item goes or stays by that.
         ensures answers { FromSome L.Lifecycle K.eq (λ (shard : Shard K V We B L).
@@ -111,7 +113,8 @@ impl<K: Eq + Hash + Drop, V: Drop, We, B: BuildHasher, L: Lifecycle<K, V>, A: Al
     /// other. Ghosts stay, and so do the counts. No hook is called. It takes the write lock of each
     /// shard in turn, under which the predicate runs, and no memory.
     pub fn retain<F: Fn(&K, &V) -> bool, R: Wait>(&self, rt: &R, keep: F)
-        requires callable { F.IsAlwaysCallable keep }
+        // The pairs that the predicate sees fit.
+        requires callable { MayBeAskedOfFitting L.fits F.Fn keep }
     {
         for shard in &self.shards {
             shard.write(rt).retain(&keep);

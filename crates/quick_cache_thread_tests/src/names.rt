@@ -2,6 +2,7 @@
 ghost use Rattle.std.specs.Cmp.Rules.{comparing, hashing};
 ghost use Rattle.std.proofs.Common.{rules};
 
+mod lending;
 mod one_thread;
 mod parts;
 
@@ -83,6 +84,7 @@ fn shard_has_its_names(rt: HostRuntime) -> Result<(), Fail> {
         rt.alloc(),
         970000,
         500000,
+        2,
         4,
         4,
         UnitWeighter,

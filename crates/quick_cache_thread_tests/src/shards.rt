@@ -46,6 +46,35 @@ fn the_options_tell_how_a_cache_is_divided(rt: HostRuntime) -> Result<(), Fail> 
 }
 
 #[test]
+fn the_greatest_mark_decides_who_leaves(rt: HostRuntime) -> Result<(), Fail> {
+    // The greatest mark, and which of two keys stays: one read once, and one read three times.
+    for (cut, stays) in [(1, 1), (2, 2), (3, 2)] {
+        let options = OptionsBuilder::new()
+            .estimated_items_capacity(2)
+            .weight_capacity(2)
+            .mark_cut(cut)
+            .build()?;
+        let cache: Cache<u64, u64> = Cache::with_options(
+            rt.alloc(),
+            options,
+            UnitWeighter,
+            DefaultHashBuilder::new(),
+            DefaultLifecycle::new(),
+        )?;
+        assert_eq!(rt; cache.insert(&rt, 1, 10), Ok(()));
+        assert_eq!(rt; cache.get(&rt, &1), Ok(Some(10)));
+        assert_eq!(rt; cache.insert(&rt, 2, 20), Ok(()));
+        for _ in 0..3 {
+            assert_eq!(rt; cache.get(&rt, &2), Ok(Some(20)));
+        }
+        assert_eq!(rt; cache.insert(&rt, 3, 30), Ok(()));
+        let found = (cache.contains_key(&rt, &1), cache.contains_key(&rt, &2));
+        assert_eq!(rt; found, (stays == 1, stays == 2), "at {cut}");
+    }
+    Ok(())
+}
+
+#[test]
 fn too_many_shards_are_refused(rt: HostRuntime) -> Result<(), Fail> {
     let mut options = OptionsBuilder::new();
     options

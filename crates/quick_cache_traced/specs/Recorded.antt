@@ -31,9 +31,11 @@ pub record Recorded (K V We B L M : Type 0) : Type 0 where
 
 -- the state of an empty cache of these options
 abbrev pub empty_of : {K V : Type 0} → Settings → CacheState K V
-empty_of options = empty_state options.weight_capacity
+empty_of options = record (empty_state options.weight_capacity
     (hot_target_of options.weight_capacity options.hot_allocation)
-    (ghost_limit_of options.estimated_items_capacity options.ghost_allocation)
+    (ghost_limit_of options.estimated_items_capacity options.ghost_allocation)) {
+      mark_cut = options.mark_cut;
+    }
 
 -- where a look shows two clones of the value that it sees, or nothing twice
 pub record SeesTwice {K V : Type 0} (stands_for : K → Bool) (shows : V → V → Type 0)

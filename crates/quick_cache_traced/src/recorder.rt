@@ -3,12 +3,13 @@ ghost use Rattle.std.specs.Prelude.{◌≡◌, ◌+◌, ◌<◌, ◌++◌, ◌�
 ghost use Rattle.std.specs.Prelude.{vec_len, vec_capacity};
 ghost use Rattle.quick_cache_model.specs.declared.refusal.Refusal.TheVariants.{Memory};
 ghost use Rattle.quick_cache_model.specs.Hashing.{hash_of};
-ghost use Rattle.quick_cache_shard.specs.Shard.{no_work, rules_of, hooks_of};
-ghost use Rattle.quick_cache_shard.specs.Inserts.{InsertsAlone};
+ghost use Rattle.quick_cache_shard.specs.Shard.{no_work, rules_of};
 ghost use Rattle.quick_cache_unsync.specs.Touches.{no_touches};
 ghost use Rattle.quick_cache_traced.specs.Recorded.{GetsTwice, NotesInsert, RemovesTwice};
 ghost use Rattle.quick_cache_traced.specs.Recorded.{MayRefuseInsert, Adds, Unmade, IsKept, Shows};
 ghost use Rattle.quick_cache_traced.specs.Recorded.{empty_of};
+ghost use Rattle.quick_cache_shard.specs.Alone.{IsDoneAlone};
+ghost use Rattle.quick_cache_shard.specs.Steps.{InsertsBy, goes_by};
 
 use crate::call::TraceCall;
 use crate::looks::{copy_of, look_at_pair, look_twice};
@@ -220,12 +221,10 @@ impl<
     pub fn insert(&mut self, seat: &mut Seat<G>, key: K, value: V) -> Result<(), (K, V, Refusal)>
         ensures kept { IsKept K.Hash.hash_input We.Weighter B.BuildHasher B.Hasher.Hasher
             L.Lifecycle L.RequestState.is_default K.eq K.is_clone V.is_clone self.old }
-        ensures inserts { OnOk result (InsertsAlone (L.steady self.old.cache.lifecycle)
-            (hooks_of L.Lifecycle self.old.cache)
-            (rules_of no_touches K.Hash.hash_input We.Weighter B.BuildHasher B.Hasher.Hasher
-            L.Lifecycle self.old.cache)
-            K.eq self.old.cache.state L.RequestState.is_default key value result
-            self.new.cache.state) }
+        ensures inserts { OnOk result (IsDoneAlone L.RequestState.is_default
+            (InsertsBy
+            (goes_by K.Hash.hash_input We.Weighter B.BuildHasher B.Hasher.Hasher L.Lifecycle)
+            no_touches self.old.cache K.eq key value result self.new.cache)) }
         ensures notes { OnOk result
             (NotesInsert K.is_clone V.is_clone key value self.old self.new) }
         ensures counts { OnOk result (Adds self.old self.new seat.old seat.new) }

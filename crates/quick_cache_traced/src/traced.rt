@@ -2,12 +2,13 @@
 ghost use Rattle.std.specs.Prelude.{◌≡◌, ◌≢◌, ◌+◌, IfOk, IfErr, OnOk, OnErr, vec_len};
 ghost use Rattle.quick_cache_model.specs.declared.refusal.Refusal.TheVariants.{Memory};
 ghost use Rattle.quick_cache_model.specs.Hashing.{hash_of};
-ghost use Rattle.quick_cache_shard.specs.Shard.{rules_of, hooks_of};
-ghost use Rattle.quick_cache_shard.specs.Inserts.{InsertsAlone};
+ghost use Rattle.quick_cache_shard.specs.Shard.{rules_of};
 ghost use Rattle.quick_cache_unsync.specs.Touches.{no_touches};
 ghost use Rattle.quick_cache_traced.specs.Recorded.{FromSome, WasMade, GetsTwice, NotesInsert};
 ghost use Rattle.quick_cache_traced.specs.Recorded.{RemovesTwice, MayRefuseInsert, Adds, Unmade};
 ghost use Rattle.quick_cache_traced.specs.Seats.{parts_of, calls_of};
+ghost use Rattle.quick_cache_shard.specs.Alone.{IsDoneAlone};
+ghost use Rattle.quick_cache_shard.specs.Steps.{InsertsBy, goes_by};
 
 use crate::call::TraceCall;
 use crate::gathering::{has_all, merged};
@@ -112,10 +113,10 @@ impl<
     ) -> Result<(), (K, V, Refusal)>
         ensures answers { OnOk result (WasMade {M = A} K.Hash.hash_input We.Weighter B.BuildHasher
             B.Hasher.Hasher L.Lifecycle L.RequestState.is_default K.eq K.is_clone V.is_clone
-            (λ old new. InsertsAlone (L.steady old.cache.lifecycle) (hooks_of L.Lifecycle old.cache)
-            (rules_of no_touches K.Hash.hash_input We.Weighter B.BuildHasher B.Hasher.Hasher
-            L.Lifecycle old.cache)
-            K.eq old.cache.state L.RequestState.is_default key value result new.cache.state
+            (λ old new. IsDoneAlone L.RequestState.is_default
+            (InsertsBy
+            (goes_by K.Hash.hash_input We.Weighter B.BuildHasher B.Hasher.Hasher L.Lifecycle)
+            no_touches old.cache K.eq key value result new.cache)
             × NotesInsert K.is_clone V.is_clone key value old new
             × Adds old new seat.old seat.new)) }
         ensures counts { OnOk result (seat.new ≡ record seat.old { calls = seat.old.calls + 1 }) }

@@ -1,7 +1,6 @@
--- What a cache, and a reference to a value of it, end as. This module alone names the rows of their
--- type parameters where references are concerned.
-use Rattle.std.specs.Prelude.{ℕ, Bool, List, [], Option}
-use Rattle.std.specs.Borrow.{Fml, RattleType, MutBor, GName, follows, RestsIfNone}
+-- What a reference to a value of a cache holds, and how the logic calls its type.
+use Rattle.std.specs.Prelude.{ℕ, Bool, List, []}
+use Rattle.std.specs.Borrow.{RattleType, GName}
 use Rattle.std.specs.declared.alloc.Allocator.{Ghosts}
 use Rattle.std.specs.declared.cmp.PartialEq as partial_eq
 use Rattle.std.specs.declared.default.Default as default
@@ -17,7 +16,6 @@ use Rattle.quick_cache_shard.specs.Shard.{Shard}
 use Rattle.quick_cache_unsync.specs.References.{still_under}
 use Rattle.quick_cache_unsync.specs.declared.reference.RefMut.{RefMut}
 use Rattle.quick_cache_unsync.specs.contracts.reference.RefMut as refs
-use Rattle.quick_cache_unsync.specs.contracts.cache.Cache as cache
 
 module _ {Q K V We B L A H S : Type 0} {query : equivalent.Ghosts Q K} {query_hash : hash.Ghosts Q}
     {query_eq : partial_eq.Ghosts Q} {key_eq : partial_eq.Ghosts K} {key_hash : hash.Ghosts K}
@@ -58,21 +56,9 @@ module _ (Q K V We B L A H S : RattleType) (stands_for : Q.Denot → K.Denot →
     (weigh : weighter.Ghosts We.Denot K.Denot V.Denot) (make : builder.Ghosts B.Denot H.Denot)
     (hashes : hasher.Ghosts H.Denot) (life : lifecycle.Ghosts L.Denot K.Denot V.Denot S.Denot)
     (is_default : S.Denot → Type 0) (alloc : Ghosts A.Denot) where
-  abbrev cache_row : RattleType
-  cache_row = cache.the_row K V We B L A H (record {}) (record { eq = equal })
-      (record { hash_input = writes }) make hashes alloc
-
-  abbrev refs_row : RattleType
+  -- how the logic calls the type of a reference
+  abbrev pub refs_row : RattleType
   refs_row = refs.the_row (record { mir = named 1; lft = [] }) Q K V We B L A H S
       (record { equivalent = stands_for }) (record { hash_input = query_input })
       (record { eq = query_equal }) (record { eq = equal }) (record { hash_input = writes }) weigh
       make hashes life (record { is_default = is_default }) (record {}) alloc
-
-  -- it ends with the last value written
-  abbrev pub writes_back : MutBor refs_row.Denot → MutBor V.Denot → Fml
-  writes_back r value = follows refs_row V r.ghost_name value.ghost_name (with_value r.now)
-
-  -- it ends as the reference leaves it, or, where there is none, so that P holds of it
-  abbrev pub rests_if_none : MutBor (Shard K.Denot V.Denot We.Denot B.Denot L.Denot)
-      → Option refs_row.Denot → (Shard K.Denot V.Denot We.Denot B.Denot L.Denot → Type 0) → Fml
-  rests_if_none held r P = RestsIfNone cache_row held lender r P

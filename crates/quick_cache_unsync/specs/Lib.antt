@@ -7,6 +7,7 @@ pub mod Lent
 pub mod CacheDrain
 pub mod References
 pub mod Loads
+pub mod Steps
 pub use Rattle.quick_cache_shard.specs.Shard
 pub use Rattle.quick_cache_shard.specs.Copies
 pub use Rattle.quick_cache_shard.specs.Writing

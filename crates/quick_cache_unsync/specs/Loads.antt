@@ -10,22 +10,13 @@ use Rattle.quick_cache_calls.specs.Loads.{LoadsNothing}
 use Rattle.quick_cache_calls.specs.References.{TellsItem}
 use Rattle.quick_cache_unsync.specs.declared.not_loaded.NotLoaded.{NotLoaded}
 use Rattle.quick_cache_unsync.specs.declared.not_loaded.NotLoaded.TheVariants.{NotKept, Failed, Refused}
+use Rattle.quick_cache_shard.specs.Alone.{IsDoneAlone}
 use Rattle.quick_cache_shard.specs.Filling.{Fills, AnswersFill}
 use Rattle.quick_cache_shard.specs.Loading.{IsMadeOrMet, MakesNone}
 
 -- a placeholder of the ticket is there
 abbrev pub IsAwaited : {K V : Type 0} → (ticket : ℕ) → CacheState K V → Type 0
 IsAwaited ticket state = HasNoTicket ticket state → ⊥
-
--- A value fills the placeholder of a ticket, which is there, with hooks that begin with a default
--- request state.
-module _ {K V S : Type 0} (steady : Type 0) (hooks : Hooks K V S) (rules : Rules K V)
-    (is_default : S → Type 0) (ticket : ℕ) (old : CacheState K V) where
-  pub record FillsAlone (value : V) (new : CacheState K V) : Type 0 where
-    pub first : S
-    pub last : S
-    pub begins : is_default first
-    pub fills : Calls hooks (Fills steady ticket old rules false value new) first last
 
 -- A value fills the placeholder of a ticket, and is dropped where that is gone: nothing changes then.
 module _ {K V S : Type 0} (steady : Type 0) (hooks : Hooks K V S) (rules : Rules K V)
@@ -43,7 +34,7 @@ module _ {K V S E : Type 0} (steady : Type 0) (hooks : Hooks K V S) (rules : Rul
   pub record FillsWith (answer : Bool) (new : CacheState K V) : Type 0 where
     pub value : V
     pub loaded : given (Ok value)
-    pub fills : FillsAlone steady hooks rules is_default ticket old value new
+    pub fills : IsDoneAlone is_default (Calls hooks (Fills steady ticket old rules false value new))
     pub resident : TellsItem stands_for new answer
 
   pub record GivesUpWith (error : E) (new : CacheState K V) : Type 0 where

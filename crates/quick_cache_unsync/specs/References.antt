@@ -1,12 +1,10 @@
 -- References to a value of a cache, to write.
-use Rattle.std.specs.Prelude.{◌≡◌, ℕ, ◌+◌, ◌<◌, Bool, true, false, List, [], ◌∷◌, Option, map, count_by, if◌then◌else◌}
-use Rattle.std.proofs.Common.{refl, subst, sym, cond, ◌∙◌}
-use Rattle.std.proofs.lemmas.List.Sums.{sum_by-cons}
-use Rattle.quick_cache_model.specs.CacheState.{CacheState, Item, UpToOrder}
+use Rattle.std.specs.Prelude.{Bool, Option}
+use Rattle.quick_cache_model.specs.CacheState.{CacheState, UpToOrder}
 use Rattle.quick_cache_model.specs.Hooks.{Rules}
 use Rattle.quick_cache_model.specs.Lookups.{LooksUp}
 use Rattle.quick_cache_calls.specs.References.{WritesItem}
-use Rattle.quick_cache_shard.specs.References.{count_under, valued, with_value_under}
+pub use Rattle.quick_cache_shard.specs.StillUnder.{still_under}
 
 module _ {K V : Type 0} (stands_for : K → Bool) where
   -- A value is written through a reference that is a look-up: the item is marked and read, then it
@@ -17,28 +15,3 @@ module _ {K V : Type 0} (stands_for : K → Bool) where
     pub mid : CacheState K V
     pub looks : UpToOrder (LooksUp stands_for old (λ item. item.value) found) mid
     pub writes : UpToOrder (WritesItem rules stands_for mid value there) new
-
-  -- one for an item that the query stands for
-  abbrev counted : Item K V → ℕ
-  counted item = cond (stands_for item.key) 1 0
-
-  -- items with another value count as before
-  valued-count : (value : V) (items : List (Item K V))
-      → count_by (λ item. stands_for item.key) (map (valued stands_for value) items)
-      ≡ count_by (λ item. stands_for item.key) items
-  valued-count value [] = refl
-  valued-count value (x ∷ xs) =
-      sum_by-cons counted (valued stands_for value x) (map (valued stands_for value) xs)
-      ∙ (λ i. cond (stands_for (same (stands_for x.key) i)) 1 0 + valued-count value xs i)
-      ∙ sym (sum_by-cons counted x xs)
-    where
-      same : (b : Bool) → (if b then record x { value = value } else x).key ≡ x.key
-      same true = refl
-      same false = refl
-
-  -- an item that has another value is there
-  pub still_under : (value : V) (state : CacheState K V) → 0 < count_under stands_for state
-      → 0 < count_under stands_for (with_value_under stands_for value state)
-  still_under value state some = subst (λ n. 0 < n)
-      (λ i. sym (valued-count value state.hot) i + sym (valued-count value state.cold) i
-      + sym (valued-count value state.still) i) some

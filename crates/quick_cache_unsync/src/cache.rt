@@ -1,5 +1,5 @@
 //! The cache for one thread.
-ghost use Rattle.std.specs.Prelude.{[], ◌≡◌, ◌≤◌, ◌+◌, ◌^◌, ◌-◌, ◌↔◌, min, IsTrue, IfOk, IfErr, IsOk, Some, codes, option_copied, OnOk, length};
+ghost use Rattle.std.specs.Prelude.{◌≡◌, ◌≤◌, ◌+◌, ◌^◌, ◌-◌, ◌↔◌, min, max, IsTrue, IfOk, IfErr, IsOk, Some, codes, option_copied, OnOk};
 ghost use Rattle.std.specs.Borrow.{sem};
 ghost use Rattle.quick_cache_model.specs.declared.refusal.Refusal.TheVariants.{Memory};
 ghost use Rattle.quick_cache_model.specs.CacheState.{empty_state, item_count, total_weight};
@@ -10,18 +10,22 @@ ghost use Rattle.quick_cache_model.specs.Lookups.{Sees, LooksUp};
 ghost use Rattle.quick_cache_model.specs.Removal.{Removes};
 ghost use Rattle.quick_cache_model.specs.Sizes.{hot_target_of, ghost_limit_of, default_hot_share, default_ghost_share};
 ghost use Rattle.quick_cache_shard.specs.Copies.{ClonesAreEqual, IsCopyOf};
-ghost use Rattle.quick_cache_shard.specs.Shard.{no_work, rules_of, hooks_of, HasItem, IsSoundShard, WorksWithin, UpToOrder};
-ghost use Rattle.quick_cache_shard.specs.Inserts.{Inserts, InsertsAlone};
+ghost use Rattle.quick_cache_shard.specs.Shard.{no_work, HasItem, IsSoundShard, UpToOrder, KeepsTerms, KeepsWork, WorksAsWrite, made_with};
+ghost use Rattle.quick_cache_shard.specs.Room.{most_room};
 ghost use Rattle.quick_cache_unsync.specs.Touches.{no_touches};
 ghost use Rattle.quick_cache_model.specs.Refusals.{slots_taken, slot_count};
+ghost use Rattle.quick_cache_shard.specs.Steps.{InsertsBy};
+ghost use Rattle.quick_cache_shard.specs.Alone.{IsDoneAlone};
 
 use crate::lifecycle::DefaultLifecycle;
 use crate::placeholder::Placeholder;
 use quick_cache_model::{
     DefaultHashBuilder, Equivalent, Lifecycle, Refusal, UnitWeighter, Weighter,
 };
-use quick_cache_options::options::{DEFAULT_GHOST_ALLOCATION, DEFAULT_HOT_ALLOCATION};
-use quick_cache_shard::{CacheShard, InsertStrategy};
+use quick_cache_options::options::{
+    DEFAULT_GHOST_ALLOCATION, DEFAULT_HOT_ALLOCATION, DEFAULT_MARK_CUT,
+};
+use quick_cache_shard::{CacheShard, Going, InsertStrategy, Keyed, Rowed};
 use std::alloc::{Allocator, Global};
 use std::fmt::{Debug, Formatter, Write};
 use std::hash::{BuildHasher, Hash};
@@ -46,6 +50,44 @@ impl<K: Eq + Hash, V, We, B: BuildHasher, L, A: Allocator> Model for Cache<K, V,
     ghost Value = { Shard K V We B L };
 
     ghost view = { λ cache. cache.shard };
+}
+
+impl<K: Eq + Hash, V, We, B: BuildHasher, L, A: Allocator> Rowed for Cache<K, V, We, B, L, A> {
+    ghost use Rattle.quick_cache_unsync.specs.Lent.{row_of};
+
+    ghost lender_row = { row_of K.row V.row We.row B.row L.row A.row B.Hasher.row K.eq
+        K.Hash.hash_input B.BuildHasher B.Hasher.Hasher A.Allocator };
+}
+
+impl<K: Eq + Hash, V, We, B: BuildHasher, L, A: Allocator> Keyed for Cache<K, V, We, B, L, A> {
+    type Builder = B;
+
+    ghost hash = { hash_of B.BuildHasher B.Hasher.Hasher };
+}
+
+impl<
+    K: Eq + Hash + Drop,
+    V: Drop,
+    We: Weighter<K, V>,
+    B: BuildHasher,
+    L: Lifecycle<K, V>,
+    A: Allocator,
+> Going for Cache<K, V, We, B, L, A> {
+    ghost use Rattle.quick_cache_shard.specs.Goes.{goes_by};
+
+    type Key = K;
+
+    type Value = V;
+
+    type Weigher = We;
+
+    type Builder = B;
+
+    type Life = L;
+
+    type RequestState = L::RequestState;
+
+    ghost goes = { goes_by K.Hash.hash_input We.Weighter B.BuildHasher B.Hasher.Hasher L.Lifecycle };
 }
 
 impl<K: Eq + Hash, V, A: Allocator> Cache<
@@ -98,16 +140,9 @@ impl<K: Eq + Hash, V, We, A: Allocator> Cache<
     where
         A: Clone,
         We: Drop,
-        ensures makes { IfOk result (λ cache. cache ≡ record {
-          state = empty_state weight (hot_target_of weight default_hot_share)
-              (ghost_limit_of items default_ghost_share);
-          weigher = weigher;
-          builder = cache.builder;
-          lifecycle = cache.lifecycle;
-          places = [];
-          room = 0;
-          work = no_work;
-        }) }
+        ensures makes { IfOk result (λ cache. cache ≡ made_with
+            (empty_state weight (hot_target_of weight default_hot_share)
+            (ghost_limit_of items default_ghost_share)) weigher cache.builder cache.lifecycle) }
         ensures succeeds { A.is_infallible alloc → IsOk result }
         ensures refused { IfErr result (λ refusal. refusal ≡ Memory) }
     {
@@ -117,7 +152,7 @@ impl<K: Eq + Hash, V, We, A: Allocator> Cache<
 }
 
 impl<K: Eq + Hash, V, We, B: BuildHasher, L, A: Allocator> Cache<K, V, We, B, L, A> {
-    ghost use Rattle.quick_cache_unsync.specs.Lent.{ends_so};
+    ghost use Rattle.quick_cache_shard.specs.Lent.{ends_so};
 
     /// An empty cache that is made for so many items and may hold so much weight, with the default
     /// shares. It allocates nothing.
@@ -138,16 +173,9 @@ impl<K: Eq + Hash, V, We, B: BuildHasher, L, A: Allocator> Cache<K, V, We, B, L,
         We: Drop,
         B: Drop,
         L: Drop,
-        ensures makes { IfOk result (λ cache. cache ≡ record {
-          state = empty_state weight (hot_target_of weight default_hot_share)
-              (ghost_limit_of items default_ghost_share);
-          weigher = weigher;
-          builder = builder;
-          lifecycle = lifecycle;
-          places = [];
-          room = 0;
-          work = no_work;
-        }) }
+        ensures makes { IfOk result (λ cache. cache ≡ made_with
+            (empty_state weight (hot_target_of weight default_hot_share)
+            (ghost_limit_of items default_ghost_share)) weigher builder lifecycle) }
         ensures succeeds { A.is_infallible alloc → IsOk result }
         ensures refused { IfErr result (λ refusal. refusal ≡ Memory) }
     {
@@ -156,6 +184,7 @@ impl<K: Eq + Hash, V, We, B: BuildHasher, L, A: Allocator> Cache<K, V, We, B, L,
                 alloc,
                 DEFAULT_HOT_ALLOCATION,
                 DEFAULT_GHOST_ALLOCATION,
+                DEFAULT_MARK_CUT,
                 items,
                 weight,
                 weigher,
@@ -203,6 +232,8 @@ impl<K: Eq + Hash, V, We, B: BuildHasher, L, A: Allocator> Cache<K, V, We, B, L,
         ensures room { OnOk result (min additional (slot_count - slots_taken self.old.state)
             ≤ self.new.room) }
         ensures grows { self.old.room ≤ self.new.room }
+        ensures at_most { self.new.room ≤ max self.old.room (most_room
+            (slots_taken self.old.state) (additional + min additional self.old.state.ghost_limit)) }
 
         // Where there is that room already it succeeds.
         ensures succeeds { min (additional + min additional self.old.state.ghost_limit)
@@ -224,8 +255,7 @@ impl<K: Eq + Hash, V, We, B: BuildHasher, L, A: Allocator> Cache<K, V, We, B, L,
     /// takes no memory.
     #[inline(always)]
     pub fn get<Q: Equivalent<K>>(&mut self, query: &Q) -> Option<&V>
-        ensures* looks_up { sem 𝓛 (ends_so K.row V.row We.row B.row L.row A.row B.Hasher.row
-            K.eq K.Hash.hash_input B.BuildHasher B.Hasher.Hasher A.Allocator self.entry
+        ensures* looks_up { sem 𝓛 (ends_so ⟦<Self as Rowed>⟧.lender_row self.entry
             (λ new. UpToOrder (LooksUp (Q.equivalent query.now) self.old.state
             (λ item. item.value) (option_copied result)) new.state
             × (new ≡ record self.old { state = new.state }))) }
@@ -263,7 +293,7 @@ impl<K: Eq + Hash, V, We, B: BuildHasher, L, A: Allocator> Cache<K, V, We, B, L,
             (Q.hash_input query.now) in
             UpToOrder (Removes (Q.equivalent query.now) self.old.state hash result) self.new.state }
         ensures room { self.old.room ≤ self.new.room }
-        ensures same { self.new ≡ record self.old { state = self.new.state; places = self.new.places; room = self.new.room } }
+        ensures same { KeepsWork self.old self.new }
     {
         let hash = self.shard.hash(query);
         self.shard.remove(hash, query)
@@ -281,22 +311,14 @@ impl<K: Eq + Hash, V, We, B: BuildHasher, L, A: Allocator> Cache<K, V, We, B, L,
         We: Weighter<K, V>,
         L: Lifecycle<K, V>,
         // Where pinning is steady, the write is a step of its definition.
-        ensures inserts { InsertsAlone (L.steady self.old.lifecycle) (hooks_of L.Lifecycle self.old)
-            (rules_of no_touches K.Hash.hash_input We.Weighter B.BuildHasher B.Hasher.Hasher
-            L.Lifecycle self.old)
-            K.eq self.old.state L.RequestState.is_default key value result self.new.state }
+        ensures inserts { IsDoneAlone L.RequestState.is_default
+            (InsertsBy ⟦<Self as Going>⟧.goes no_touches self.old K.eq key value result self.new) }
         // It takes room for one entry at most, and asks for memory only where there is no room.
         ensures room { self.old.room ≤ self.new.room + 1 }
         ensures asks { IfErr result (λ back. back.2 ≡ Memory → self.old.room ≡ 0) }
         // How much work it takes, whatever is pinned.
-        ensures work { WorksWithin (length self.old.state.hot + length self.old.state.cold + 1)
-            self.old.work self.new.work }
-        ensures same { self.new ≡ record self.old {
-          state = self.new.state;
-          places = self.new.places;
-          room = self.new.room;
-          work = self.new.work;
-        } }
+        ensures work { WorksAsWrite self.old self.new }
+        ensures same { KeepsTerms self.old self.new }
     {
         let mut state = L::RequestState::default();
         self.insert_with_lifecycle(key, value, &mut state)
@@ -322,22 +344,14 @@ impl<K: Eq + Hash, V, We, B: BuildHasher, L, A: Allocator> Cache<K, V, We, B, L,
         We: Weighter<K, V>,
         L: Lifecycle<K, V>,
         // Where pinning is steady, the write is a step of its definition.
-        ensures inserts { Inserts (L.steady self.old.lifecycle) (hooks_of L.Lifecycle self.old)
-            (rules_of no_touches K.Hash.hash_input We.Weighter B.BuildHasher B.Hasher.Hasher
-            L.Lifecycle self.old)
-            K.eq self.old.state state.old key value result self.new.state state.new }
+        ensures inserts { InsertsBy ⟦<Self as Going>⟧.goes no_touches self.old K.eq key value result
+            self.new state.old state.new }
         // It takes room for one entry at most, and asks for memory only where there is no room.
         ensures room { self.old.room ≤ self.new.room + 1 }
         ensures asks { IfErr result (λ back. back.2 ≡ Memory → self.old.room ≡ 0) }
         // How much work it takes, whatever is pinned.
-        ensures work { WorksWithin (length self.old.state.hot + length self.old.state.cold + 1)
-            self.old.work self.new.work }
-        ensures same { self.new ≡ record self.old {
-          state = self.new.state;
-          places = self.new.places;
-          room = self.new.room;
-          work = self.new.work;
-        } }
+        ensures work { WorksAsWrite self.old self.new }
+        ensures same { KeepsTerms self.old self.new }
     {
         let hash = self.shard.hash(&key);
         match self

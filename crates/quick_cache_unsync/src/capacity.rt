@@ -1,13 +1,14 @@
 //! Setting the capacity of a cache.
-ghost use Rattle.std.specs.Prelude.{◌≡◌, ◌+◌, ◌≤◌, length};
+ghost use Rattle.std.specs.Prelude.{◌≡◌, ◌+◌, ◌≤◌};
 ghost use Rattle.quick_cache_model.specs.Sizes.{rescaled_target, rescaled_limit};
-ghost use Rattle.quick_cache_shard.specs.Shard.{rules_of, hooks_of, WorksWithin};
+ghost use Rattle.quick_cache_shard.specs.Shard.{KeepsTerms, WorksAsWrite};
 ghost use Rattle.quick_cache_shard.specs.Alone.{IsDoneAlone};
-ghost use Rattle.quick_cache_shard.specs.SetsCapacity.{SetsCapacityTo};
 ghost use Rattle.quick_cache_unsync.specs.Touches.{no_touches};
+ghost use Rattle.quick_cache_shard.specs.Steps.{SetsCapacityBy};
 
 use crate::cache::Cache;
 use quick_cache_model::{Lifecycle, Weighter};
+use quick_cache_shard::Going;
 use std::alloc::Allocator;
 use std::hash::{BuildHasher, Hash};
 
@@ -26,10 +27,7 @@ impl<
     pub fn set_capacity(&mut self, capacity: u64)
         // Where pinning is steady, it is a step of its definition.
         ensures sets { IsDoneAlone L.RequestState.is_default
-            (λ first last. SetsCapacityTo (L.steady self.old.lifecycle)
-            (hooks_of L.Lifecycle self.old)
-            (rules_of no_touches K.Hash.hash_input We.Weighter B.BuildHasher B.Hasher.Hasher
-            L.Lifecycle self.old) capacity self.old.state first self.new.state last) }
+            (SetsCapacityBy ⟦<Self as Going>⟧.goes no_touches self.old capacity self.new) }
         // The sizes, whatever is pinned.
         ensures capacity { self.new.state.capacity ≡ capacity }
         ensures target { self.new.state.hot_target
@@ -42,14 +40,8 @@ impl<
             × (self.new.state.ghost_limit ≡ self.old.state.ghost_limit) }
         ensures room { self.old.room ≤ self.new.room }
         // How much work it takes, whatever is pinned.
-        ensures work { WorksWithin (length self.old.state.hot + length self.old.state.cold + 1)
-            self.old.work self.new.work }
-        ensures same { self.new ≡ record self.old {
-          state = self.new.state;
-          places = self.new.places;
-          room = self.new.room;
-          work = self.new.work;
-        } }
+        ensures work { WorksAsWrite self.old self.new }
+        ensures same { KeepsTerms self.old self.new }
     {
         let mut state = L::RequestState::default();
         self.set_capacity_with_lifecycle(capacity, &mut state);
@@ -58,9 +50,8 @@ impl<
     /// Sets the weight that the cache may hold, as `set_capacity` does, and hands what leaves to
     /// the lifecycle, with this request state.
     pub fn set_capacity_with_lifecycle(&mut self, capacity: u64, state: &mut L::RequestState)
-        ensures sets { SetsCapacityTo (L.steady self.old.lifecycle) (hooks_of L.Lifecycle self.old)
-            (rules_of no_touches K.Hash.hash_input We.Weighter B.BuildHasher B.Hasher.Hasher
-            L.Lifecycle self.old) capacity self.old.state state.old self.new.state state.new }
+        ensures sets { SetsCapacityBy ⟦<Self as Going>⟧.goes no_touches self.old capacity
+            self.new state.old state.new }
         ensures capacity { self.new.state.capacity ≡ capacity }
         ensures target { self.new.state.hot_target
             ≡ rescaled_target self.old.state.capacity capacity self.old.state.hot_target }
@@ -70,14 +61,8 @@ impl<
             → (self.new.state.hot_target ≡ self.old.state.hot_target)
             × (self.new.state.ghost_limit ≡ self.old.state.ghost_limit) }
         ensures room { self.old.room ≤ self.new.room }
-        ensures work { WorksWithin (length self.old.state.hot + length self.old.state.cold + 1)
-            self.old.work self.new.work }
-        ensures same { self.new ≡ record self.old {
-          state = self.new.state;
-          places = self.new.places;
-          room = self.new.room;
-          work = self.new.work;
-        } }
+        ensures work { WorksAsWrite self.old self.new }
+        ensures same { KeepsTerms self.old self.new }
     {
         self.shard.set_capacity(capacity, state);
     }

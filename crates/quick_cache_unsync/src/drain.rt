@@ -3,7 +3,7 @@ ghost use Rattle.std.specs.Prelude.{◌≡◌, ◌≤◌, length, MatchOption, I
 ghost use Rattle.std.specs.Iterator.{at_most, UpTo};
 ghost use Rattle.std.specs.Iterator.SizeHint.{IsWithinCount};
 ghost use Rattle.quick_cache_shard.specs.Tokens.{TakesItem};
-ghost use Rattle.quick_cache_shard.specs.Shard.{IsSoundShard};
+ghost use Rattle.quick_cache_shard.specs.Shard.{KeepsWork};
 ghost use Rattle.quick_cache_unsync.specs.CacheDrain.{drained, drain_lender, DrainsInAll};
 
 use crate::cache::Cache;
@@ -91,7 +91,7 @@ impl<K: Eq + Hash, V, We, B: BuildHasher, L, A: Allocator> Cache<K, V, We, B, L,
             ((item_count self.old.state ≡ 0) × (self.new ≡ self.old))
             (λ taken. TakesItem self.old.state taken.1 self.new.state) }
         ensures room { self.old.room ≤ self.new.room }
-        ensures same { self.new ≡ record self.old { state = self.new.state; places = self.new.places; room = self.new.room } }
+        ensures same { KeepsWork self.old self.new }
     {
         self.shard.take_next(after)
     }

@@ -1,14 +1,15 @@
 //! The right to fill a placeholder. As it goes unused, the placeholder is given up.
-ghost use Rattle.std.specs.Prelude.{◌≡◌, ◌≤◌, ◌+◌, length};
+ghost use Rattle.std.specs.Prelude.{◌≤◌, ◌+◌};
 ghost use Rattle.quick_cache_model.specs.Placeholders.{GivesUpPlaceholder};
-ghost use Rattle.quick_cache_shard.specs.Shard.{rules_of, hooks_of, UpToOrder, IsSoundShard, WorksWithin};
+ghost use Rattle.quick_cache_shard.specs.Shard.{UpToOrder, IsSoundShard, KeepsTerms, KeepsWork, WorksAsWrite};
 ghost use Rattle.quick_cache_shard.specs.Alone.{IsDoneAlone};
-ghost use Rattle.quick_cache_unsync.specs.Loads.{FillsIfThere};
 ghost use Rattle.quick_cache_unsync.specs.Touches.{no_touches};
+ghost use Rattle.quick_cache_unsync.specs.Steps.{FillsIfThereBy};
 
 use crate::cache::Cache;
 use crate::placeholder::Placeholder;
 use quick_cache_model::{Lifecycle, Weighter};
+use quick_cache_shard::Going;
 use std::alloc::{Allocator, Global};
 use std::hash::{BuildHasher, Hash};
 
@@ -44,11 +45,7 @@ impl<
             (GivesUpPlaceholder self.entry.ticket self.entry.cache.now.state)
             self.exit.0.now.state }
         ensures room { self.entry.cache.now.room ≤ self.exit.0.now.room }
-        ensures same { self.exit.0.now ≡ record self.entry.cache.now {
-          state = self.exit.0.now.state;
-          places = self.exit.0.now.places;
-          room = self.exit.0.now.room;
-        } }
+        ensures same { KeepsWork self.entry.cache.now self.exit.0.now }
         ensures sound { IsSoundShard K.eq self.exit.0.now }
     {
         let Guard {
@@ -76,24 +73,13 @@ impl<
     pub fn insert(self, value: V)
         // Where pinning is steady, the fill is a step of its definition.
         ensures fills { IsDoneAlone L.RequestState.is_default
-            (λ first last. FillsIfThere (L.steady self.entry.cache.now.lifecycle)
-            (hooks_of L.Lifecycle self.entry.cache.now)
-            (rules_of no_touches K.Hash.hash_input We.Weighter B.BuildHasher B.Hasher.Hasher
-            L.Lifecycle self.entry.cache.now)
-            self.entry.ticket self.entry.cache.now.state value first
-            self.exit.0.now.state last) }
+            (FillsIfThereBy ⟦<Cache<K, V, We, B, L, A> as Going>⟧.goes no_touches
+            self.entry.cache.now self.entry.ticket value self.exit.0.now) }
         // It takes no room.
         ensures room { self.entry.cache.now.room ≤ self.exit.0.now.room }
         // How much work it takes, whatever is pinned.
-        ensures work { WorksWithin
-            (length self.entry.cache.now.state.hot + length self.entry.cache.now.state.cold + 1)
-            self.entry.cache.now.work self.exit.0.now.work }
-        ensures same { self.exit.0.now ≡ record self.entry.cache.now {
-          state = self.exit.0.now.state;
-          places = self.exit.0.now.places;
-          room = self.exit.0.now.room;
-          work = self.exit.0.now.work;
-        } }
+        ensures work { WorksAsWrite self.entry.cache.now self.exit.0.now }
+        ensures same { KeepsTerms self.entry.cache.now self.exit.0.now }
         ensures sound { IsSoundShard K.eq self.exit.0.now }
     {
         let mut state = L::RequestState::default();
@@ -111,24 +97,13 @@ impl<
     /// lifecycle with this request state.
     pub fn insert_with_lifecycle(self, value: V, state: &mut L::RequestState)
         // Where pinning is steady, the fill is a step of its definition.
-        ensures fills { FillsIfThere (L.steady self.entry.cache.now.lifecycle)
-            (hooks_of L.Lifecycle self.entry.cache.now)
-            (rules_of no_touches K.Hash.hash_input We.Weighter B.BuildHasher B.Hasher.Hasher
-            L.Lifecycle self.entry.cache.now)
-            self.entry.ticket self.entry.cache.now.state value state.old
-            self.exit.0.now.state state.new }
+        ensures fills { FillsIfThereBy ⟦<Cache<K, V, We, B, L, A> as Going>⟧.goes no_touches
+            self.entry.cache.now self.entry.ticket value self.exit.0.now state.old state.new }
         // It takes no room.
         ensures room { self.entry.cache.now.room ≤ self.exit.0.now.room }
         // How much work it takes, whatever is pinned.
-        ensures work { WorksWithin
-            (length self.entry.cache.now.state.hot + length self.entry.cache.now.state.cold + 1)
-            self.entry.cache.now.work self.exit.0.now.work }
-        ensures same { self.exit.0.now ≡ record self.entry.cache.now {
-          state = self.exit.0.now.state;
-          places = self.exit.0.now.places;
-          room = self.exit.0.now.room;
-          work = self.exit.0.now.work;
-        } }
+        ensures work { WorksAsWrite self.entry.cache.now self.exit.0.now }
+        ensures same { KeepsTerms self.entry.cache.now self.exit.0.now }
         ensures sound { IsSoundShard K.eq self.exit.0.now }
     {
         let Guard {

@@ -1,16 +1,17 @@
 //! References to values that a loader makes where there is none.
-ghost use Rattle.std.specs.Prelude.{◌≡◌, ◌≤◌, ◌+◌, IfOk, IfErr, Ok, true};
-ghost use Rattle.std.specs.Borrow.{sem};
-ghost use Rattle.quick_cache_model.specs.Hashing.{hash_of};
-ghost use Rattle.quick_cache_shard.specs.Shard.{rules_of, hooks_of, IsSoundShard};
-ghost use Rattle.quick_cache_unsync.specs.Loads.{AnswersLoad, answer_of};
+ghost use Rattle.std.specs.Prelude.{◌≡◌, ◌+◌, IfOk, IfErr, Ok, true};
+ghost use Rattle.std.specs.Borrow.{sem, RestsIfErr};
+ghost use Rattle.quick_cache_shard.specs.Shard.{IsSoundShard};
+ghost use Rattle.quick_cache_unsync.specs.Loads.{answer_of};
 ghost use Rattle.quick_cache_unsync.specs.Touches.{no_touches};
+ghost use Rattle.quick_cache_unsync.specs.Steps.{LoadsWithin};
 
 use crate::cache::Cache;
 use crate::not_loaded::NotLoaded;
 use crate::reading::Ref;
 use crate::reference::RefMut;
 use quick_cache_model::{Lifecycle, ToKey, Weighter};
+use quick_cache_shard::{Going, Keyed, Rowed};
 use std::alloc::Allocator;
 use std::hash::{BuildHasher, Hash};
 
@@ -22,7 +23,6 @@ impl<
     L: Lifecycle<K, V>,
     A: Allocator,
 > Cache<K, V, We, B, L, A> {
-    ghost use Rattle.quick_cache_unsync.specs.Lent.{rests_if_err};
     ghost use Rattle.quick_cache_unsync.specs.LentReads.{reader, read_from, asked_of};
     ghost use Rattle.quick_cache_unsync.specs.LentValues.{lender, lent, query_of};
 
@@ -45,34 +45,17 @@ impl<
             → Q.equivalent query.now key ≡ true }
         requires loader { F.pre loader }
         // Where pinning is steady, a value fills the placeholder by a step of its definition.
-        ensures* rests { sem 𝓛 (rests_if_err K.row V.row We.row B.row L.row A.row B.Hasher.row
-            K.eq K.Hash.hash_input B.BuildHasher B.Hasher.Hasher A.Allocator self.entry
-            (λ r. reader r) result
-            (λ new. IfErr result (λ error. AnswersLoad (L.steady self.old.lifecycle)
-            (hooks_of L.Lifecycle self.old)
-            (rules_of no_touches K.Hash.hash_input We.Weighter B.BuildHasher B.Hasher.Hasher
-            L.Lifecycle self.old)
+        ensures* rests { sem 𝓛 (RestsIfErr ⟦<Self as Rowed>⟧.lender_row self.entry reader result
+            (λ new. IfErr result (λ error. LoadsWithin ⟦<Self as Going>⟧.goes no_touches self.old
             L.RequestState.is_default (Q.equivalent query.now) (Q.to_key_gives query.now)
-            (hash_of B.BuildHasher B.Hasher.Hasher self.old.builder (Q.hash_input query.now))
-            (F.post loader) self.old.state (answer_of error) new.state)
-            × (self.old.room ≤ new.room + 1)
-            × (new ≡ record self.old { state = new.state; places = new.places; room = new.room; work = new.work }))) }
-        ensures loads { IfOk result (λ r. AnswersLoad (L.steady self.old.lifecycle)
-            (hooks_of L.Lifecycle self.old)
-            (rules_of no_touches K.Hash.hash_input We.Weighter B.BuildHasher B.Hasher.Hasher
-            L.Lifecycle self.old)
+            (⟦<Self as Keyed>⟧.hash self.old.builder (Q.hash_input query.now))
+            (F.post loader) (answer_of error) new))) }
+        ensures loads { IfOk result (λ r. LoadsWithin ⟦<Self as Going>⟧.goes no_touches self.old
             L.RequestState.is_default (Q.equivalent query.now) (Q.to_key_gives query.now)
-            (hash_of B.BuildHasher B.Hasher.Hasher self.old.builder (Q.hash_input query.now))
-            (F.post loader) self.old.state (Ok (Ok true)) (read_from r).state) }
+            (⟦<Self as Keyed>⟧.hash self.old.builder (Q.hash_input query.now))
+            (F.post loader) (Ok (Ok true)) (read_from r)) }
         ensures lends { IfOk result (λ r. reader r ≡ self.entry.ghost_name) }
         ensures query { IfOk result (λ r. asked_of r ≡ query.now) }
-        ensures room { IfOk result (λ r. self.old.room ≤ (read_from r).room + 1) }
-        ensures same { IfOk result (λ r. read_from r ≡ record self.old {
-          state = (read_from r).state;
-          places = (read_from r).places;
-          room = (read_from r).room;
-          work = (read_from r).work;
-        }) }
         ensures sound { IfOk result (λ r. IsSoundShard K.eq (read_from r)) }
     {
         let hash = self.hash_of(query);
@@ -109,34 +92,17 @@ impl<
             → Q.equivalent query.now key ≡ true }
         requires loader { F.pre loader }
         // Where pinning is steady, a value fills the placeholder by a step of its definition.
-        ensures* rests { sem 𝓛 (rests_if_err K.row V.row We.row B.row L.row A.row B.Hasher.row
-            K.eq K.Hash.hash_input B.BuildHasher B.Hasher.Hasher A.Allocator self.entry
-            (λ r. lender r) result
-            (λ new. IfErr result (λ error. AnswersLoad (L.steady self.old.lifecycle)
-            (hooks_of L.Lifecycle self.old)
-            (rules_of no_touches K.Hash.hash_input We.Weighter B.BuildHasher B.Hasher.Hasher
-            L.Lifecycle self.old)
+        ensures* rests { sem 𝓛 (RestsIfErr ⟦<Self as Rowed>⟧.lender_row self.entry lender result
+            (λ new. IfErr result (λ error. LoadsWithin ⟦<Self as Going>⟧.goes no_touches self.old
             L.RequestState.is_default (Q.equivalent query.now) (Q.to_key_gives query.now)
-            (hash_of B.BuildHasher B.Hasher.Hasher self.old.builder (Q.hash_input query.now))
-            (F.post loader) self.old.state (answer_of error) new.state)
-            × (self.old.room ≤ new.room + 1)
-            × (new ≡ record self.old { state = new.state; places = new.places; room = new.room; work = new.work }))) }
-        ensures loads { IfOk result (λ r. AnswersLoad (L.steady self.old.lifecycle)
-            (hooks_of L.Lifecycle self.old)
-            (rules_of no_touches K.Hash.hash_input We.Weighter B.BuildHasher B.Hasher.Hasher
-            L.Lifecycle self.old)
+            (⟦<Self as Keyed>⟧.hash self.old.builder (Q.hash_input query.now))
+            (F.post loader) (answer_of error) new))) }
+        ensures loads { IfOk result (λ r. LoadsWithin ⟦<Self as Going>⟧.goes no_touches self.old
             L.RequestState.is_default (Q.equivalent query.now) (Q.to_key_gives query.now)
-            (hash_of B.BuildHasher B.Hasher.Hasher self.old.builder (Q.hash_input query.now))
-            (F.post loader) self.old.state (Ok (Ok true)) (lent r).state) }
+            (⟦<Self as Keyed>⟧.hash self.old.builder (Q.hash_input query.now))
+            (F.post loader) (Ok (Ok true)) (lent r)) }
         ensures lends { IfOk result (λ r. lender r ≡ self.entry.ghost_name) }
         ensures query { IfOk result (λ r. query_of r ≡ query.now) }
-        ensures room { IfOk result (λ r. self.old.room ≤ (lent r).room + 1) }
-        ensures same { IfOk result (λ r. lent r ≡ record self.old {
-          state = (lent r).state;
-          places = (lent r).places;
-          room = (lent r).room;
-          work = (lent r).work;
-        }) }
         ensures sound { IfOk result (λ r. IsSoundShard K.eq (lent r)) }
     {
         let hash = self.hash_of(query);

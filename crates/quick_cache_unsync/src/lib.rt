@@ -27,7 +27,7 @@ pub use guard::Guard;
 pub use iter::Iter;
 pub use lifecycle::DefaultLifecycle;
 pub use not_loaded::NotLoaded;
-pub use placeholder::Placeholder;
+pub use placeholder::{Placeholder, Plainly};
 pub use quick_cache_model::{
     DefaultHashBuilder, Equivalent, ItemStats, Lifecycle, MemoryUsed, Refusal, ToKey, UnitWeighter,
     Weighter, hash_of,

@@ -2,15 +2,16 @@
 ghost use Rattle.std.specs.Prelude.{◌≡◌, ◌<◌, ◌+◌, ◌≤◌, true};
 ghost use Rattle.quick_cache_model.specs.Hashing.{hash_of};
 ghost use Rattle.quick_cache_shard.specs.References.{count_under};
-ghost use Rattle.quick_cache_shard.specs.Shard.{rules_of, hooks_of, IsSoundShard};
-ghost use Rattle.quick_cache_unsync.specs.Loads.{IsAwaited, EndsLoad, LooksUpOrTakes, AnswersLoad, OnResident};
+ghost use Rattle.quick_cache_shard.specs.Shard.{IsSoundShard, KeepsTerms, KeepsWork};
+ghost use Rattle.quick_cache_unsync.specs.Loads.{IsAwaited, LooksUpOrTakes, OnResident};
 ghost use Rattle.quick_cache_calls.specs.References.{TellsItem};
 ghost use Rattle.quick_cache_unsync.specs.Touches.{no_touches};
+ghost use Rattle.quick_cache_unsync.specs.Steps.{EndsLoadBy, LoadsBy};
 
 use crate::cache::Cache;
 use crate::placeholder::{Placeholder, Plainly};
 use quick_cache_model::{Equivalent, Lifecycle, Refusal, ToKey, Weighter};
-use quick_cache_shard::Token;
+use quick_cache_shard::{Going, Keyed, Token};
 use std::alloc::Allocator;
 use std::hash::{BuildHasher, Hash};
 
@@ -25,8 +26,7 @@ impl<K: Eq + Hash, V, We, B: BuildHasher, L, A: Allocator> Cache<K, V, We, B, L,
 
     /// Whether an item stands under the query, at that token if there is one.
     fn is_resident<Q: Equivalent<K>>(&self, token: Token, hash: u64, query: &Q) -> bool
-        requires hash_is { hash ≡ hash_of B.BuildHasher B.Hasher.Hasher self.now.builder
-            (Q.hash_input query.now) }
+        requires hash_is { hash ≡ ⟦<Self as Keyed>⟧.hash self.now.builder (Q.hash_input query.now) }
         ensures { TellsItem (Q.equivalent query.now) self.now.state result }
     {
         self.shard.contains_from(token, hash, query)
@@ -49,14 +49,13 @@ impl<
         hash: u64,
         query: &Q,
     ) -> Result<Result<Token, Placeholder>, Refusal>
-        requires hash_is { hash ≡ hash_of B.BuildHasher B.Hasher.Hasher self.old.builder
-            (Q.hash_input query.now) }
+        requires hash_is { hash ≡ ⟦<Self as Keyed>⟧.hash self.old.builder (Q.hash_input query.now) }
         requires stands { (key : K) → Q.to_key_gives query.now key
             → Q.equivalent query.now key ≡ true }
         ensures takes { LooksUpOrTakes (Q.equivalent query.now) (Q.to_key_gives query.now) hash
             self.old.state (λ placeholder. placeholder.ticket) result self.new.state }
         ensures room { self.old.room ≤ self.new.room + 1 }
-        ensures same { self.new ≡ record self.old { state = self.new.state; places = self.new.places; room = self.new.room } }
+        ensures same { KeepsWork self.old self.new }
         ensures sound { IsSoundShard K.eq self.new }
     {
         match self.shard.get_or_placeholder(&Plainly, hash, query) {
@@ -74,22 +73,14 @@ impl<
         placeholder: &Placeholder,
         loader: F,
     ) -> Result<bool, E>
-        requires hash_is { hash ≡ hash_of B.BuildHasher B.Hasher.Hasher self.old.builder
-            (Q.hash_input query.now) }
+        requires hash_is { hash ≡ ⟦<Self as Keyed>⟧.hash self.old.builder (Q.hash_input query.now) }
         requires awaited { IsAwaited placeholder.now.ticket self.old.state }
         requires loader { F.pre loader }
-        ensures ends { EndsLoad (L.steady self.old.lifecycle) (hooks_of L.Lifecycle self.old)
-            (rules_of no_touches K.Hash.hash_input We.Weighter B.BuildHasher B.Hasher.Hasher
-            L.Lifecycle self.old)
-            L.RequestState.is_default (Q.equivalent query.now) placeholder.now.ticket (F.post loader)
-            self.old.state result self.new.state }
+        ensures ends { EndsLoadBy ⟦<Self as Going>⟧.goes no_touches self.old
+            L.RequestState.is_default (Q.equivalent query.now) placeholder.now.ticket
+            (F.post loader) result self.new }
         ensures room { self.old.room ≤ self.new.room }
-        ensures same { self.new ≡ record self.old {
-          state = self.new.state;
-          places = self.new.places;
-          room = self.new.room;
-          work = self.new.work;
-        } }
+        ensures same { KeepsTerms self.old self.new }
         ensures sound { IsSoundShard K.eq self.new }
     {
         match loader() {
@@ -114,25 +105,17 @@ impl<
         query: &Q,
         loader: F,
     ) -> (u32, Result<Result<bool, E>, Refusal>)
-        requires hash_is { hash ≡ hash_of B.BuildHasher B.Hasher.Hasher self.old.builder
-            (Q.hash_input query.now) }
+        requires hash_is { hash ≡ ⟦<Self as Keyed>⟧.hash self.old.builder (Q.hash_input query.now) }
         requires stands { (key : K) → Q.to_key_gives query.now key
             → Q.equivalent query.now key ≡ true }
         requires loader { F.pre loader }
-        ensures loads { AnswersLoad (L.steady self.old.lifecycle) (hooks_of L.Lifecycle self.old)
-            (rules_of no_touches K.Hash.hash_input We.Weighter B.BuildHasher B.Hasher.Hasher
-            L.Lifecycle self.old)
+        ensures loads { LoadsBy ⟦<Self as Going>⟧.goes no_touches self.old
             L.RequestState.is_default (Q.equivalent query.now) (Q.to_key_gives query.now)
-            hash (F.post loader) self.old.state result.1 self.new.state }
+            hash (F.post loader) result.1 self.new }
         ensures there { OnResident result.1
             (0 < count_under (Q.equivalent query.now) self.new.state) }
         ensures room { self.old.room ≤ self.new.room + 1 }
-        ensures same { self.new ≡ record self.old {
-          state = self.new.state;
-          places = self.new.places;
-          room = self.new.room;
-          work = self.new.work;
-        } }
+        ensures same { KeepsTerms self.old self.new }
         ensures sound { IsSoundShard K.eq self.new }
     {
         match self.begin_load(hash, query) {
@@ -163,20 +146,13 @@ impl<
             → Q.equivalent query.now key ≡ true }
         requires loader { F.pre loader }
         // Where pinning is steady, a value fills the placeholder by a step of its definition.
-        ensures loads { AnswersLoad (L.steady self.old.lifecycle) (hooks_of L.Lifecycle self.old)
-            (rules_of no_touches K.Hash.hash_input We.Weighter B.BuildHasher B.Hasher.Hasher
-            L.Lifecycle self.old)
+        ensures loads { LoadsBy ⟦<Self as Going>⟧.goes no_touches self.old
             L.RequestState.is_default (Q.equivalent query.now) (Q.to_key_gives query.now)
-            (hash_of B.BuildHasher B.Hasher.Hasher self.old.builder (Q.hash_input query.now))
-            (F.post loader) self.old.state result self.new.state }
+            (⟦<Self as Keyed>⟧.hash self.old.builder (Q.hash_input query.now))
+            (F.post loader) result self.new }
         // It takes room for one entry at most.
         ensures room { self.old.room ≤ self.new.room + 1 }
-        ensures same { self.new ≡ record self.old {
-          state = self.new.state;
-          places = self.new.places;
-          room = self.new.room;
-          work = self.new.work;
-        } }
+        ensures same { KeepsTerms self.old self.new }
         ensures sound { IsSoundShard K.eq self.new }
     {
         let hash = self.hash_of(query);

@@ -1,16 +1,17 @@
 //! A reference to a value of the cache, to write. As it goes, the item is weighed anew.
 ghost use Rattle.std.specs.Prelude.{◌≡◌, ◌<◌, IfSome, IfNone, None, true};
-ghost use Rattle.std.specs.Borrow.{sem};
+ghost use Rattle.std.specs.Borrow.{sem, Lends, RestsIfNone};
 ghost use Rattle.quick_cache_model.specs.Finding.{HasNoItem};
 ghost use Rattle.quick_cache_model.specs.Hashing.{hash_of};
 ghost use Rattle.quick_cache_model.specs.Lookups.{LooksUp};
-ghost use Rattle.quick_cache_shard.specs.References.{count_under, IsValueUnder, NotesLookUp, ReweighsUnder};
-ghost use Rattle.quick_cache_shard.specs.Shard.{rules_of, UpToOrder, IsSoundShard};
+ghost use Rattle.quick_cache_shard.specs.References.{count_under, IsValueUnder, NotesLookUp};
+ghost use Rattle.quick_cache_shard.specs.Shard.{UpToOrder, IsSoundShard};
 ghost use Rattle.quick_cache_unsync.specs.Touches.{no_touches};
+ghost use Rattle.quick_cache_shard.specs.Steps.{ReweighsBy};
 
 use crate::cache::Cache;
 use quick_cache_model::{Equivalent, Lifecycle, Weighter};
-use quick_cache_shard::Token;
+use quick_cache_shard::{Going, Keyed, Rowed, Token};
 use std::alloc::{Allocator, Global};
 use std::hash::{BuildHasher, Hash};
 use std::ops::{Deref, DerefMut};
@@ -48,12 +49,12 @@ impl<
     A: Allocator,
 > Drop for RefMut<'_, Q, K, V, We, B, L, A> {
     fn drop(self)
-        ensures reweighs { ReweighsUnder (Q.equivalent self.entry.query.now)
-            (rules_of no_touches K.Hash.hash_input We.Weighter B.BuildHasher B.Hasher.Hasher
-            L.Lifecycle self.entry.cache.now)
-            self.entry.cache.now.state self.exit.0.now.state }
-        ensures same { self.exit.0.now
-            ≡ record self.entry.cache.now { state = self.exit.0.now.state; places = self.exit.0.now.places } }
+        ensures reweighs { ReweighsBy ⟦<Cache<K, V, We, B, L, A> as Going>⟧.goes no_touches
+            self.entry.cache.now (Q.equivalent self.entry.query.now) self.exit.0.now }
+        ensures same { self.exit.0.now ≡ record self.entry.cache.now {
+          state = self.exit.0.now.state;
+          places = self.exit.0.now.places;
+        } }
     {
         let RefMut {
             cache,
@@ -63,6 +64,22 @@ impl<
         } = self;
         cache.reweigh(Token::new(slot), hash, query);
     }
+}
+
+impl<
+    Q: Equivalent<K>,
+    K: Eq + Hash + Drop,
+    V: Drop,
+    We: Weighter<K, V>,
+    B: BuildHasher,
+    L: Lifecycle<K, V>,
+    A: Allocator,
+> Rowed for RefMut<'_, Q, K, V, We, B, L, A> {
+    ghost use Rattle.quick_cache_unsync.specs.LentValues.{refs_row};
+
+    ghost lender_row = { refs_row Q.row K.row V.row We.row B.row L.row A.row B.Hasher.row
+        L.RequestState.row Q.equivalent Q.hash_input Q.eq K.eq K.hash_input We.Weighter
+        B.BuildHasher B.Hasher.Hasher L.Lifecycle L.RequestState.is_default A.Allocator };
 }
 
 impl<
@@ -96,15 +113,13 @@ impl<
     L: Lifecycle<K, V>,
     A: Allocator,
 > DerefMut for RefMut<'_, Q, K, V, We, B, L, A> {
-    ghost use Rattle.quick_cache_unsync.specs.LentValues.{writes_back};
+    ghost use Rattle.quick_cache_unsync.specs.LentValues.{with_value};
 
     ghost deref_mut_gives = { λ p x. IsValueUnder (Q.equivalent p.query.now) p.cache.now.state x };
 
     fn deref_mut(&mut self) -> &mut V
-        ensures* writes_back { sem 𝓛 (writes_back Q.row K.row V.row We.row B.row L.row A.row
-            B.Hasher.row L.RequestState.row Q.equivalent Q.hash_input Q.eq K.eq K.hash_input
-            We.Weighter B.BuildHasher B.Hasher.Hasher L.Lifecycle L.RequestState.is_default
-            A.Allocator self.entry result) }
+        ensures* writes_back { sem 𝓛 (Lends ⟦<Self as Rowed>⟧.lender_row V.row self.entry result
+            (with_value self.old)) }
         ensures value { IsValueUnder (Q.equivalent self.old.query.now) self.old.cache.now.state
             result.now }
     {
@@ -114,7 +129,7 @@ impl<
 }
 
 impl<K: Eq + Hash, V, We, B: BuildHasher, L, A: Allocator> Cache<K, V, We, B, L, A> {
-    ghost use Rattle.quick_cache_unsync.specs.Lent.{lends_under};
+    ghost use Rattle.quick_cache_shard.specs.Lent.{written_under};
 
     // The value of the item under the query, which is known to be there.
     pub(crate) fn value_under<Q: Equivalent<K>>(
@@ -123,8 +138,7 @@ impl<K: Eq + Hash, V, We, B: BuildHasher, L, A: Allocator> Cache<K, V, We, B, L,
         hash: u64,
         query: &Q,
     ) -> &V
-        requires hash_is { hash ≡ hash_of B.BuildHasher B.Hasher.Hasher self.now.builder
-            (Q.hash_input query.now) }
+        requires hash_is { hash ≡ ⟦<Self as Keyed>⟧.hash self.now.builder (Q.hash_input query.now) }
         requires there { 0 < count_under (Q.equivalent query.now) self.now.state }
         ensures { IsValueUnder (Q.equivalent query.now) self.now.state result.now }
     {
@@ -138,12 +152,10 @@ impl<K: Eq + Hash, V, We, B: BuildHasher, L, A: Allocator> Cache<K, V, We, B, L,
         hash: u64,
         query: &Q,
     ) -> &mut V
-        requires hash_is { hash ≡ hash_of B.BuildHasher B.Hasher.Hasher self.old.builder
-            (Q.hash_input query.now) }
+        requires hash_is { hash ≡ ⟦<Self as Keyed>⟧.hash self.old.builder (Q.hash_input query.now) }
         requires there { 0 < count_under (Q.equivalent query.now) self.old.state }
-        ensures* writes_back { sem 𝓛 (lends_under K.row V.row We.row B.row L.row A.row
-            B.Hasher.row K.eq K.Hash.hash_input B.BuildHasher B.Hasher.Hasher A.Allocator
-            self.entry (Q.equivalent query.now) result) }
+        ensures* writes_back { sem 𝓛 (Lends ⟦<Self as Rowed>⟧.lender_row V.row self.entry result
+            (written_under (Q.equivalent query.now) self.old)) }
         ensures value { IsValueUnder (Q.equivalent query.now) self.old.state result.now }
     {
         self.shard.value_mut(thought, hash, query)
@@ -156,15 +168,13 @@ impl<K: Eq + Hash, V, We, B: BuildHasher, L, A: Allocator> Cache<K, V, We, B, L,
         V: Drop,
         We: Weighter<K, V>,
         L: Lifecycle<K, V>,
-        requires hash_is { hash ≡ hash_of B.BuildHasher B.Hasher.Hasher self.old.builder
-            (Q.hash_input query.now) }
+        requires hash_is { hash ≡ ⟦<Self as Keyed>⟧.hash self.old.builder (Q.hash_input query.now) }
         requires there { 0 < count_under (Q.equivalent query.now) self.old.state }
-        ensures reweighs { ReweighsUnder (Q.equivalent query.now)
-            (rules_of no_touches K.Hash.hash_input We.Weighter B.BuildHasher B.Hasher.Hasher
-            L.Lifecycle self.old)
-            self.old.state self.new.state }
+        ensures reweighs { ReweighsBy ⟦<Self as Going>⟧.goes no_touches self.old
+            (Q.equivalent query.now) self.new }
         ensures there { 0 < count_under (Q.equivalent query.now) self.new.state }
-        ensures same { self.new ≡ record self.old { state = self.new.state; places = self.new.places } }
+        ensures same { self.new
+            ≡ record self.old { state = self.new.state; places = self.new.places } }
     {
         self.shard.reweigh(thought, hash, query);
     }
@@ -178,7 +188,7 @@ impl<
     L: Lifecycle<K, V>,
     A: Allocator,
 > Cache<K, V, We, B, L, A> {
-    ghost use Rattle.quick_cache_unsync.specs.LentValues.{rests_if_none, lender, lent, query_of};
+    ghost use Rattle.quick_cache_unsync.specs.LentValues.{lender, lent, query_of};
 
     /// A reference to the value under the query's key, to write, by a look-up: the item is marked
     /// and read, and a hit or a miss is counted. It takes no memory.
@@ -190,10 +200,7 @@ impl<
         &'a mut self,
         query: &'a Q,
     ) -> Option<RefMut<'a, Q, K, V, We, B, L, A>>
-        ensures* rests { sem 𝓛 (rests_if_none Q.row K.row V.row We.row B.row L.row A.row
-            B.Hasher.row L.RequestState.row Q.equivalent Q.hash_input Q.eq K.eq K.hash_input
-            We.Weighter B.BuildHasher B.Hasher.Hasher L.Lifecycle L.RequestState.is_default
-            A.Allocator self.entry result
+        ensures* rests { sem 𝓛 (RestsIfNone ⟦<Self as Rowed>⟧.lender_row self.entry lender result
             (λ new. UpToOrder (LooksUp (Q.equivalent query.now) self.old.state
             (λ item. item.value) None) new.state
             × (new ≡ record self.old { state = new.state }))) }
@@ -223,10 +230,8 @@ impl<
         &'a mut self,
         query: &'a Q,
     ) -> Option<RefMut<'a, Q, K, V, We, B, L, A>>
-        ensures* rests { sem 𝓛 (rests_if_none Q.row K.row V.row We.row B.row L.row A.row
-            B.Hasher.row L.RequestState.row Q.equivalent Q.hash_input Q.eq K.eq K.hash_input
-            We.Weighter B.BuildHasher B.Hasher.Hasher L.Lifecycle L.RequestState.is_default
-            A.Allocator self.entry result (λ new. new ≡ self.old)) }
+        ensures* rests { sem 𝓛 (RestsIfNone ⟦<Self as Rowed>⟧.lender_row self.entry lender result
+            (λ new. new ≡ self.old)) }
         ensures lends { IfSome result (λ r. lender r ≡ self.entry.ghost_name) }
         ensures query { IfSome result (λ r. query_of r ≡ query.now) }
         ensures same { IfSome result (λ r. lent r ≡ self.old) }

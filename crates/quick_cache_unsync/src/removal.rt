@@ -3,8 +3,8 @@ ghost use Rattle.std.specs.Prelude.{[], ◌≡◌, ◌≤◌, ◌+◌, Bool};
 ghost use Rattle.std.specs.Fn.{FnOnceReturnsAt};
 ghost use Rattle.quick_cache_model.specs.Refusals.{slots_taken};
 ghost use Rattle.quick_cache_model.specs.Removal.{RemovesIf, Retains, cleared};
-ghost use Rattle.quick_cache_shard.specs.Predicates.{Answers, IsAnsweredAs, IsTestedAs, RemovesAsked, RetainsAsked};
-ghost use Rattle.quick_cache_shard.specs.Shard.{IsSoundShard, UpToOrder};
+ghost use Rattle.quick_cache_shard.specs.Predicates.{Answers, IsAnsweredAs, IsTestedAs, MayBeAskedUnder, MayBeAskedOfEach, RemovesAsked, RetainsAsked};
+ghost use Rattle.quick_cache_shard.specs.Shard.{IsSoundShard, UpToOrder, KeepsWork};
 
 use crate::cache::Cache;
 use quick_cache_model::Equivalent;
@@ -20,7 +20,8 @@ impl<K: Eq + Hash, V, We, B: BuildHasher, L, A: Allocator> Cache<K, V, We, B, L,
         query: &Q,
         wanted: F,
     ) -> Option<(K, V)>
-        requires callable { F.IsAlwaysCallable wanted }
+        requires callable { MayBeAskedUnder F.FnOnce wanted (Q.equivalent query.now)
+            self.old.state }
 
         // Where the predicate answers as a pure test does, it is the removal by that test.
         ensures removes { (passes : V → Bool) → IsTestedAs F.FnOnce wanted passes
@@ -31,7 +32,7 @@ impl<K: Eq + Hash, V, We, B: BuildHasher, L, A: Allocator> Cache<K, V, We, B, L,
         ensures asks { UpToOrder (RemovesAsked (Q.equivalent query.now) self.old.state
             (FnOnceReturnsAt F.FnOnce wanted) result) self.new.state }
         ensures room { self.old.room ≤ self.new.room }
-        ensures same { self.new ≡ record self.old { state = self.new.state; places = self.new.places; room = self.new.room } }
+        ensures same { KeepsWork self.old self.new }
         ensures sound { IsSoundShard K.eq self.new }
     {
         let hash = self.shard.hash(query);
@@ -45,7 +46,7 @@ impl<K: Eq + Hash, V, We, B: BuildHasher, L, A: Allocator> Cache<K, V, We, B, L,
     where
         K: Drop,
         V: Drop,
-        requires callable { F.IsAlwaysCallable keep }
+        requires callable { MayBeAskedOfEach F.Fn keep self.old.state }
 
         // Where the predicate answers as a pure test does, it is the retain by that test.
         ensures retains { (keeps : K → V → Bool) → IsAnsweredAs F.Fn keep keeps
@@ -54,7 +55,7 @@ impl<K: Eq + Hash, V, We, B: BuildHasher, L, A: Allocator> Cache<K, V, We, B, L,
         // Whatever it answers, each item goes or stays by that.
         ensures asks { UpToOrder (RetainsAsked (Answers F.Fn keep) self.old.state) self.new.state }
         ensures room { self.old.room ≤ self.new.room }
-        ensures same { self.new ≡ record self.old { state = self.new.state; places = self.new.places; room = self.new.room } }
+        ensures same { KeepsWork self.old self.new }
         ensures sound { IsSoundShard K.eq self.new }
     {
         self.shard.retain(keep);

@@ -1,13 +1,13 @@
 //! Pairs in the place of others.
-ghost use Rattle.std.specs.Prelude.{◌≡◌, ◌+◌, ◌≤◌, length};
-ghost use Rattle.quick_cache_shard.specs.Shard.{rules_of, hooks_of, WorksWithin};
+ghost use Rattle.std.specs.Prelude.{◌+◌, ◌≤◌};
+ghost use Rattle.quick_cache_shard.specs.Shard.{KeepsTerms, WorksAsWrite};
 ghost use Rattle.quick_cache_shard.specs.Alone.{IsDoneAlone};
-ghost use Rattle.quick_cache_shard.specs.Replaces.{Replaces};
 ghost use Rattle.quick_cache_unsync.specs.Touches.{no_touches};
+ghost use Rattle.quick_cache_shard.specs.Steps.{ReplacesBy};
 
 use crate::cache::Cache;
 use quick_cache_model::{Lifecycle, Weighter};
-use quick_cache_shard::InsertStrategy;
+use quick_cache_shard::{Going, InsertStrategy};
 use std::alloc::Allocator;
 use std::hash::{BuildHasher, Hash};
 
@@ -28,21 +28,13 @@ impl<
     pub fn replace(&mut self, key: K, value: V, soft: bool) -> Result<(), (K, V)>
         // Where pinning is steady, the write is a step of its definition. It is never refused.
         ensures replaces { IsDoneAlone L.RequestState.is_default
-            (λ first last. Replaces (L.steady self.old.lifecycle) (hooks_of L.Lifecycle self.old)
-            (rules_of no_touches K.Hash.hash_input We.Weighter B.BuildHasher B.Hasher.Hasher
-            L.Lifecycle self.old)
-            K.eq self.old.state soft first key value result self.new.state last) }
+            (ReplacesBy ⟦<Self as Going>⟧.goes no_touches self.old K.eq soft key value result
+            self.new) }
         // It takes no room.
         ensures room { self.old.room ≤ self.new.room }
         // How much work it takes, whatever is pinned.
-        ensures work { WorksWithin (length self.old.state.hot + length self.old.state.cold + 1)
-            self.old.work self.new.work }
-        ensures same { self.new ≡ record self.old {
-          state = self.new.state;
-          places = self.new.places;
-          room = self.new.room;
-          work = self.new.work;
-        } }
+        ensures work { WorksAsWrite self.old self.new }
+        ensures same { KeepsTerms self.old self.new }
     {
         let mut state = L::RequestState::default();
         self.replace_with_lifecycle(key, value, soft, &mut state)
@@ -64,21 +56,13 @@ impl<
         state: &mut L::RequestState,
     ) -> Result<(), (K, V)>
         // Where pinning is steady, the write is a step of its definition. It is never refused.
-        ensures replaces { Replaces (L.steady self.old.lifecycle) (hooks_of L.Lifecycle self.old)
-            (rules_of no_touches K.Hash.hash_input We.Weighter B.BuildHasher B.Hasher.Hasher
-            L.Lifecycle self.old)
-            K.eq self.old.state soft state.old key value result self.new.state state.new }
+        ensures replaces { ReplacesBy ⟦<Self as Going>⟧.goes no_touches self.old K.eq soft
+            key value result self.new state.old state.new }
         // It takes no room.
         ensures room { self.old.room ≤ self.new.room }
         // How much work it takes, whatever is pinned.
-        ensures work { WorksWithin (length self.old.state.hot + length self.old.state.cold + 1)
-            self.old.work self.new.work }
-        ensures same { self.new ≡ record self.old {
-          state = self.new.state;
-          places = self.new.places;
-          room = self.new.room;
-          work = self.new.work;
-        } }
+        ensures work { WorksAsWrite self.old self.new }
+        ensures same { KeepsTerms self.old self.new }
     {
         let hash = self.shard.hash(&key);
         let strategy = InsertStrategy::Replace { soft };

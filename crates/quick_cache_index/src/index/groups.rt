@@ -39,6 +39,7 @@ pub(crate) fn groups_for(tokens: usize) -> usize
     ensures power { IsPowerOfTwo result }
     ensures few { result ≤ 2 ^ 29 }
     ensures enough { tokens ≤ capacity_of result }
+    ensures at_most { capacity_of result ≤ 2 * tokens + 14 }
 {
     tokens.div_ceil(TOKENS_A_GROUP).next_power_of_two()
 }

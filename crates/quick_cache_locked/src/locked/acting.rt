@@ -3,15 +3,16 @@ ghost use Rattle.std.specs.Prelude.{◌≡◌, true};
 ghost use Rattle.quick_cache_model.specs.Hashing.{hash_of};
 ghost use Rattle.quick_cache_entries.specs.Acts.{DoesAsChosen, IfAbsent, IfGone, IfKept, LeavesFit, MayTell};
 ghost use Rattle.quick_cache_shard.specs.Entering.{AnswersEntry};
-ghost use Rattle.quick_cache_shard.specs.Shard.{LosesOnly, rules_of};
+ghost use Rattle.quick_cache_shard.specs.Shard.{LosesOnly, KeepsWork};
 ghost use Rattle.quick_cache_locked.specs.Fitting.{FitsQuery};
 ghost use Rattle.quick_cache_locked.specs.Locked.{IsKept};
 ghost use Rattle.quick_cache_locked.specs.Touches.{any_touches};
+ghost use Rattle.quick_cache_shard.specs.Steps.{rules_in};
 
 use crate::locked::LockedShard;
 use quick_cache_entries::EntryShard;
 use quick_cache_model::{Lifecycle, Refusal, ToKey, Weighter};
-use quick_cache_shard::{EntryAction, EntryOrPlaceholder};
+use quick_cache_shard::{EntryAction, EntryOrPlaceholder, Going};
 use quick_cache_sharing::SharedPlaceholder;
 use std::alloc::Allocator;
 use std::hash::{BuildHasher, Hash};
@@ -37,9 +38,7 @@ impl<
         requires leaves { LeavesFit F.FnMut L.fits callback.old }
         ensures acts { let hash = hash_of B.BuildHasher B.Hasher.Hasher self.old.builder
             (Q.hash_input query.now) in
-            AnswersEntry F.FnMut
-            (rules_of any_touches K.Hash.hash_input We.Weighter B.BuildHasher B.Hasher.Hasher
-            L.Lifecycle self.old)
+            AnswersEntry F.FnMut (rules_in ⟦<Self as Going>⟧.goes any_touches self.old)
             (Q.equivalent query.now) callback.old self.old.state
             (λ placeholder. placeholder.ticket) (Q.to_key_gives query.now) hash result callback.new
             self.new.state }
@@ -52,11 +51,7 @@ impl<
             (Q.equivalent query.now) callback.old result callback.new }
         // No item moves that stays.
         ensures places { LosesOnly self.old.places self.new.places }
-        ensures same { self.new ≡ record self.old {
-          state = self.new.state;
-          places = self.new.places;
-          room = self.new.room;
-        } }
+        ensures same { KeepsWork self.old self.new }
         ensures kept { IsKept L.Lifecycle K.eq self.old }
     {
         self.is_kept();

@@ -1,17 +1,18 @@
 //! Keys that are being loaded in a shard behind its lock.
-ghost use Rattle.std.specs.Prelude.{◌≡◌, true, IfOk, IfErr, IfSome};
+ghost use Rattle.std.specs.Prelude.{◌≡◌, true, IfOk};
 ghost use Rattle.quick_cache_model.specs.Hashing.{hash_of};
 ghost use Rattle.quick_cache_model.specs.Placeholders.{GivesUpPlaceholder};
-ghost use Rattle.quick_cache_shard.specs.Shard.{hooks_of, rules_of, KeepsPlaces, LosesOnly, UpToOrder};
+ghost use Rattle.quick_cache_shard.specs.Shard.{KeepsPlaces, LosesOnly, UpToOrder};
 ghost use Rattle.quick_cache_guard.specs.Begins.{IfFound};
 ghost use Rattle.quick_cache_locked.specs.Fitting.{ClonesFit, FitsQuery};
-ghost use Rattle.quick_cache_locked.specs.Loads.{BeginsLoad, EndsLoad};
+ghost use Rattle.quick_cache_locked.specs.Loads.{BeginsLoad, EndsLoadBy};
 ghost use Rattle.quick_cache_locked.specs.Locked.{IsKept};
 ghost use Rattle.quick_cache_locked.specs.Touches.{any_touches};
 
 use crate::locked::LockedShard;
 use quick_cache_guard::{Begun, LoadingShard};
 use quick_cache_model::{Equivalent, Lifecycle, Refusal, ToKey, Weighter};
+use quick_cache_shard::Going;
 use quick_cache_sharing::SharedPlaceholder;
 use std::alloc::Allocator;
 use std::hash::{BuildHasher, Hash};
@@ -81,11 +82,8 @@ impl<
         state: &mut L::RequestState,
     ) -> Result<(), V>
         requires fits { L.fits key.now value }
-        ensures ends { EndsLoad (L.steady self.old.lifecycle) (hooks_of L.Lifecycle self.old)
-            (rules_of any_touches K.Hash.hash_input We.Weighter B.BuildHasher B.Hasher.Hasher
-            L.Lifecycle self.old)
-            K.eq placeholder.now.ticket self.old.state waited key.now value state.old result
-            self.new.state state.new }
+        ensures ends { EndsLoadBy ⟦<Self as Going>⟧.goes any_touches self.old K.eq
+            placeholder.now.ticket waited key.now value result self.new state.old state.new }
         // No item moves that stays.
         ensures places { KeepsPlaces K.eq self.old.places self.new.places }
         ensures kept { IsKept L.Lifecycle K.eq self.old }

@@ -4,7 +4,8 @@ ghost use Rattle.std.specs.Fn.{FnOnceReturnsAt};
 ghost use Rattle.quick_cache_model.specs.Hashing.{hash_of};
 ghost use Rattle.quick_cache_model.specs.Removal.{Removes, cleared};
 ghost use Rattle.quick_cache_shard.specs.Predicates.{Answers, RemovesAsked, RetainsAsked};
-ghost use Rattle.quick_cache_shard.specs.Shard.{LosesOnly, UpToOrder};
+ghost use Rattle.quick_cache_shard.specs.Shard.{LosesOnly, UpToOrder, KeepsWork};
+ghost use Rattle.quick_cache_locked.specs.Asked.{MayBeAskedOfFitting, MayBeAskedOfFittingUnder};
 ghost use Rattle.quick_cache_locked.specs.Fitting.{FitsQuery};
 ghost use Rattle.quick_cache_locked.specs.Locked.{IsKept};
 
@@ -30,7 +31,7 @@ impl<
         ensures fits { IfSome result
             (λ pair. FitsQuery L.fits (Q.equivalent query.now) pair.1) }
         ensures places { LosesOnly self.old.places self.new.places }
-        ensures same { self.new ≡ record self.old { state = self.new.state; places = self.new.places; room = self.new.room } }
+        ensures same { KeepsWork self.old self.new }
         ensures kept { IsKept L.Lifecycle K.eq self.old }
     {
         self.is_kept();
@@ -39,19 +40,19 @@ impl<
     }
 
     /// Takes the item under the query's key out where its value is wanted. What it gives fits as
-    /// what `remove` gives.
+    /// what `remove` gives, and so does the value that the predicate sees.
     pub fn remove_if<Q: Equivalent<K>, F: FnOnce(&V) -> bool>(
         &mut self,
         query: &Q,
         wanted: F,
     ) -> Option<(K, V)>
-        requires callable { F.IsAlwaysCallable wanted }
+        requires callable { MayBeAskedOfFittingUnder L.fits (Q.equivalent query.now) F.FnOnce wanted }
         ensures asks { UpToOrder (RemovesAsked (Q.equivalent query.now) self.old.state
             (FnOnceReturnsAt F.FnOnce wanted) result) self.new.state }
         ensures fits { IfSome result
             (λ pair. FitsQuery L.fits (Q.equivalent query.now) pair.1) }
         ensures places { LosesOnly self.old.places self.new.places }
-        ensures same { self.new ≡ record self.old { state = self.new.state; places = self.new.places; room = self.new.room } }
+        ensures same { KeepsWork self.old self.new }
         ensures kept { IsKept L.Lifecycle K.eq self.old }
     {
         self.is_kept();
@@ -59,12 +60,12 @@ impl<
         self.shard.remove_if(hash, query, wanted)
     }
 
-    /// Drops the items that the predicate does not keep.
+    /// Drops the items that the predicate does not keep. The pairs that it sees fit.
     pub fn retain<F: Fn(&K, &V) -> bool>(&mut self, keep: F)
-        requires callable { F.IsAlwaysCallable keep }
+        requires callable { MayBeAskedOfFitting L.fits F.Fn keep }
         ensures asks { UpToOrder (RetainsAsked (Answers F.Fn keep) self.old.state) self.new.state }
         ensures places { LosesOnly self.old.places self.new.places }
-        ensures same { self.new ≡ record self.old { state = self.new.state; places = self.new.places; room = self.new.room } }
+        ensures same { KeepsWork self.old self.new }
         ensures kept { IsKept L.Lifecycle K.eq self.old }
     {
         self.is_kept();
@@ -75,7 +76,7 @@ impl<
     pub fn clear(&mut self)
         ensures clears { self.new.state ≡ cleared self.old.state }
         ensures places { self.new.places ≡ [] }
-        ensures same { self.new ≡ record self.old { state = self.new.state; places = self.new.places; room = self.new.room } }
+        ensures same { KeepsWork self.old self.new }
         ensures kept { IsKept L.Lifecycle K.eq self.old }
     {
         self.is_kept();

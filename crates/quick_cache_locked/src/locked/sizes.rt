@@ -1,14 +1,16 @@
 //! The sizes of a shard behind its lock.
-ghost use Rattle.std.specs.Prelude.{◌≡◌, ◌-◌, ◌≤◌, IfErr, OnOk, min};
+ghost use Rattle.std.specs.Prelude.{◌≡◌, ◌-◌, ◌≤◌, ◌+◌, IfErr, OnOk, min, max};
 ghost use Rattle.quick_cache_model.specs.declared.refusal.Refusal.TheVariants.{Memory};
 ghost use Rattle.quick_cache_model.specs.Refusals.{slots_taken, slot_count};
-ghost use Rattle.quick_cache_shard.specs.Shard.{LosesOnly, rules_of, hooks_of};
-ghost use Rattle.quick_cache_shard.specs.SetsCapacity.{SetsCapacityTo};
+ghost use Rattle.quick_cache_shard.specs.Room.{most_room};
+ghost use Rattle.quick_cache_shard.specs.Shard.{LosesOnly, KeepsTerms};
 ghost use Rattle.quick_cache_locked.specs.Locked.{IsKept};
 ghost use Rattle.quick_cache_locked.specs.Touches.{any_touches};
+ghost use Rattle.quick_cache_shard.specs.Steps.{SetsCapacityBy};
 
 use crate::locked::LockedShard;
 use quick_cache_model::{Lifecycle, Refusal, Weighter};
+use quick_cache_shard::Going;
 use std::alloc::Allocator;
 use std::hash::{BuildHasher, Hash};
 
@@ -25,17 +27,11 @@ impl<
     where
         We: Weighter<K, V>,
         // Where pinning is steady, it is a step of its definition.
-        ensures sets { SetsCapacityTo (L.steady self.old.lifecycle) (hooks_of L.Lifecycle self.old)
-            (rules_of any_touches K.Hash.hash_input We.Weighter B.BuildHasher B.Hasher.Hasher
-            L.Lifecycle self.old) capacity self.old.state state.old self.new.state state.new }
+        ensures sets { SetsCapacityBy ⟦<Self as Going>⟧.goes any_touches self.old capacity
+            self.new state.old state.new }
         ensures capacity { self.new.state.capacity ≡ capacity }
         ensures places { LosesOnly self.old.places self.new.places }
-        ensures same { self.new ≡ record self.old {
-          state = self.new.state;
-          places = self.new.places;
-          room = self.new.room;
-          work = self.new.work;
-        } }
+        ensures same { KeepsTerms self.old self.new }
         ensures kept { IsKept L.Lifecycle K.eq self.old }
     {
         self.is_kept();
@@ -46,6 +42,8 @@ impl<
     pub fn reserve(&mut self, additional: usize) -> Result<(), Refusal>
         ensures room { OnOk result (min additional (slot_count - slots_taken self.old.state)
             ≤ self.new.room) }
+        ensures at_most { self.new.room ≤ max self.old.room (most_room
+            (slots_taken self.old.state) (additional + min additional self.old.state.ghost_limit)) }
         ensures refused { IfErr result (λ refusal. refusal ≡ Memory) }
         ensures same { self.new ≡ record self.old { room = self.new.room } }
         ensures kept { IsKept L.Lifecycle K.eq self.old }

@@ -1,10 +1,11 @@
 //! Walks over a shard behind its lock, one step at a time.
-ghost use Rattle.std.specs.Prelude.{◌≡◌, IfOk, IfSome, IsOk};
+ghost use Rattle.std.specs.Prelude.{IfOk, IfSome};
 ghost use Rattle.quick_cache_shard.specs.WalksFrom.{number_or_zero};
 ghost use Rattle.quick_cache_shard.specs.Copies.{ClonesAreEqual};
 ghost use Rattle.quick_cache_locked.specs.Fitting.{ClonesFit};
 ghost use Rattle.quick_cache_locked.specs.Locked.{IsKept};
 ghost use Rattle.quick_cache_locked.specs.Walks.{ShowsNext, TakesNext};
+ghost use Rattle.quick_cache_shard.specs.Shard.{KeepsWork};
 
 use crate::locked::LockedShard;
 use quick_cache_model::{Lifecycle, Refusal};
@@ -55,11 +56,7 @@ impl<
         ensures takes { TakesNext self.old (number_or_zero after) result self.new }
         ensures fits { IfSome result
             (λ taken. L.fits taken.1 taken.2) }
-        ensures same { self.new ≡ record self.old {
-          state = self.new.state;
-          places = self.new.places;
-          room = self.new.room;
-        } }
+        ensures same { KeepsWork self.old self.new }
         ensures kept { IsKept L.Lifecycle K.eq self.old }
     {
         self.is_kept();

@@ -1,13 +1,13 @@
 //! Pairs in the place of others, behind the lock of a shard.
-ghost use Rattle.std.specs.Prelude.{◌≡◌};
-ghost use Rattle.quick_cache_shard.specs.Shard.{KeepsPlaces, rules_of, hooks_of};
-ghost use Rattle.quick_cache_shard.specs.Replaces.{Replaces};
+ghost use Rattle.std.specs.Prelude.{IfErr};
+ghost use Rattle.quick_cache_shard.specs.Shard.{KeepsPlaces, KeepsTerms};
 ghost use Rattle.quick_cache_locked.specs.Locked.{IsKept};
 ghost use Rattle.quick_cache_locked.specs.Touches.{any_touches};
+ghost use Rattle.quick_cache_shard.specs.Steps.{ReplacesBy};
 
 use crate::locked::LockedShard;
 use quick_cache_model::{Lifecycle, Weighter};
-use quick_cache_shard::InsertStrategy;
+use quick_cache_shard::{Going, InsertStrategy};
 use std::alloc::Allocator;
 use std::hash::{BuildHasher, Hash};
 
@@ -30,18 +30,13 @@ impl<
     ) -> Result<(), (K, V)>
         requires fits { L.fits key value }
         // Where pinning is steady, the write is a step of its definition. It is never refused.
-        ensures replaces { Replaces (L.steady self.old.lifecycle) (hooks_of L.Lifecycle self.old)
-            (rules_of any_touches K.Hash.hash_input We.Weighter B.BuildHasher B.Hasher.Hasher
-            L.Lifecycle self.old)
-            K.eq self.old.state soft state.old key value result self.new.state state.new }
+        ensures replaces { ReplacesBy ⟦<Self as Going>⟧.goes any_touches self.old K.eq soft
+            key value result self.new state.old state.new }
+        // The pair that comes back fits, whatever `before_evict` left of it.
+        ensures fits { IfErr result (λ pair. L.fits pair.0 pair.1) }
         // No item moves that stays.
         ensures places { KeepsPlaces K.eq self.old.places self.new.places }
-        ensures same { self.new ≡ record self.old {
-          state = self.new.state;
-          places = self.new.places;
-          room = self.new.room;
-          work = self.new.work;
-        } }
+        ensures same { KeepsTerms self.old self.new }
         ensures kept { IsKept L.Lifecycle K.eq self.old }
     {
         self.is_kept();

@@ -3,7 +3,8 @@ ghost use Rattle.std.specs.Prelude.{◌≡◌, ◌↔◌, Some, None, IsOk, IfOk
 ghost use Rattle.quick_cache_options.specs.Options.{no_choices, settings_of, first_error};
 
 use crate::options::{
-    DEFAULT_GHOST_ALLOCATION, DEFAULT_HOT_ALLOCATION, Error, Options, WHOLE_ALLOCATION,
+    DEFAULT_GHOST_ALLOCATION, DEFAULT_HOT_ALLOCATION, DEFAULT_MARK_CUT, Error, MOST_MARKS, Options,
+    WHOLE_ALLOCATION,
 };
 use std::marker::Model;
 
@@ -21,6 +22,7 @@ pub struct OptionsBuilder {
     weight_capacity: Option<u64>,
     hot_allocation: Option<u32>,
     ghost_allocation: Option<u32>,
+    mark_cut: Option<u8>,
 }
 
 impl Model for OptionsBuilder {
@@ -34,6 +36,7 @@ impl Model for OptionsBuilder {
       weight_capacity = b.weight_capacity;
       hot_allocation = b.hot_allocation;
       ghost_allocation = b.ghost_allocation;
+      mark_cut = b.mark_cut;
     } };
 }
 
@@ -92,12 +95,23 @@ impl OptionsBuilder {
         self
     }
 
+    /// Sets the greatest mark of an item, from 1 to 3: how many uses of it count at most. With less
+    /// the cache forgets faster what was used, with more it keeps it longer.
+    pub fn mark_cut(&mut self, mark_cut: u8) -> &mut Self
+        ensures same_builder { result.ghost_name ≡ self.entry.ghost_name }
+        ensures set { result.now ≡ record self.old { mark_cut = Some mark_cut } }
+    {
+        self.mark_cut = Some(mark_cut);
+        self
+    }
+
     /// The options, each number as it was set or its default.
     ///
     /// # Errors
     ///
     /// The first of these that holds: the hot share is above 1000000, the ghost share is, the
-    /// shards are above 2^63, no weight capacity is set, no estimated items capacity is set.
+    /// shards are above 2^63, no weight capacity is set, no estimated items capacity is set, the
+    /// greatest mark is 0 or above 3.
     pub fn build(&self) -> Result<Options, Error>
         ensures options { IfOk result (λ options. options ≡ settings_of self.now) }
         ensures succeeds { IsOk result ↔ (first_error self.now ≡ None) }
@@ -106,6 +120,7 @@ impl OptionsBuilder {
         let hot_allocation = self.hot_allocation.unwrap_or(DEFAULT_HOT_ALLOCATION);
         let ghost_allocation = self.ghost_allocation.unwrap_or(DEFAULT_GHOST_ALLOCATION);
         let shards = self.shards.unwrap_or(DEFAULT_SHARDS);
+        let mark_cut = self.mark_cut.unwrap_or(DEFAULT_MARK_CUT);
         if hot_allocation > WHOLE_ALLOCATION {
             return Err(Error("hot_allocation is out of range"));
         }
@@ -121,12 +136,16 @@ impl OptionsBuilder {
         let Some(estimated_items_capacity) = self.estimated_items_capacity else {
             return Err(Error("estimated_items_capacity is not set"));
         };
+        if mark_cut < 1 || mark_cut > MOST_MARKS {
+            return Err(Error("mark_cut is out of range"));
+        }
         Ok(Options {
             shards,
             estimated_items_capacity,
             weight_capacity,
             hot_allocation,
             ghost_allocation,
+            mark_cut,
         })
     }
 }

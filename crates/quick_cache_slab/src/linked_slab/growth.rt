@@ -1,5 +1,5 @@
 //! How a `LinkedSlab` makes room.
-ghost use Rattle.std.specs.Prelude.{◌≡◌, ◌+◌, ◌≤◌, min, length, IsOk, IfErr, OnOk, OnErr, vec_len, vec_capacity};
+ghost use Rattle.std.specs.Prelude.{◌≡◌, ◌+◌, ◌-◌, ◌*◌, ◌≤◌, min, max, length, IsOk, IfErr, OnOk, OnErr, vec_len, vec_capacity};
 ghost use Rattle.quick_cache_slab.specs.LinkedSlab.{spare, left, IsParted};
 
 use crate::linked_slab::links::next_of;
@@ -7,8 +7,8 @@ use crate::linked_slab::{LinkedSlab, MAX_SLOTS, SlotNode};
 use quick_cache_model::Refusal;
 use std::alloc::{AllocError, Allocator};
 
-// Makes room for so many more slots where there is less.
-pub(super) fn make_room<N, A: Allocator>(
+/// Makes room for so many more where there is less, and then at least twice what there was.
+pub fn make_room<N, A: Allocator>(
     nodes: &mut Vec<N, A>,
     additional: usize,
 ) -> Result<(), AllocError>
@@ -16,6 +16,8 @@ pub(super) fn make_room<N, A: Allocator>(
     ensures len { vec_len nodes.new ≡ vec_len nodes.old }
     ensures ok { OnOk result (vec_len nodes.old + additional ≤ vec_capacity nodes.new) }
     ensures capacity { vec_capacity nodes.old ≤ vec_capacity nodes.new }
+    ensures at_most { vec_capacity nodes.new ≤ max (vec_capacity nodes.old)
+        (2 * (vec_len nodes.old + additional) + 4) }
     ensures had_room { vec_len nodes.old + additional ≤ vec_capacity nodes.old
         → IsOk result × (vec_capacity nodes.new ≡ vec_capacity nodes.old) }
     ensures err { OnErr result (vec_capacity nodes.new ≡ vec_capacity nodes.old) }
@@ -23,7 +25,8 @@ pub(super) fn make_room<N, A: Allocator>(
     if additional <= nodes.capacity() - nodes.len() {
         return Ok(());
     }
-    nodes.reserve(additional)
+    let doubled = nodes.capacity().saturating_mul(2).max(4) - nodes.len();
+    nodes.reserve_exact(additional.max(doubled))
 }
 
 impl<T, A: Allocator, N: SlotNode<T>> LinkedSlab<T, A, N> {
@@ -35,6 +38,9 @@ impl<T, A: Allocator, N: SlotNode<T>> LinkedSlab<T, A, N> {
         ensures kept { self.new ≡ record self.old { room = self.new.room } }
         ensures room { OnOk result (min additional (left self.old) ≤ spare self.new) }
         ensures grows { self.old.room ≤ self.new.room }
+        ensures at_most { length self.old.slots + self.new.room
+            ≤ max (length self.old.slots + self.old.room)
+            (2 * (length self.old.slots + (additional - length self.old.free)) + 4) }
         ensures parted { IsParted self.new }
 
         // It is refused only where that room was missing. Where it was there, no more is made.

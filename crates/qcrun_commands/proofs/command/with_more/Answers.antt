@@ -1,6 +1,6 @@
 use Rattle.std.proofs.Common.{ℕ, List, [], ◌∷◌, None, Some, refl, sym, ap, subst, ◌∙◌, arith}
 use Rattle.std.proofs.lemmas.Str.Pattern.{split_parts}
-use Rattle.qcrun_commands.specs.Commands.{HasMore, HasNumbers}
+use Rattle.qcrun_commands.specs.Commands.{HasGhosts, HasMore, HasNumbers}
 use Rattle.qcrun_commands.proofs.CommandLemmas.{IsOkExactly-as, IsOkExactly-err, AreNumbers-one}
 use Rattle.qcrun_commands.proofs.CommandLemmas.{AreNumbers-of_one, HasMore-second, HasMore-not_two}
 use Rattle.qcrun_commands.proofs.CommandLemmas.{HasMore-shares, HasMore-of_shares}
@@ -64,23 +64,9 @@ returns-in_err-number-3 c =
     c.from_residual-in_err-number-3.result c.from_residual-in_err-number-3.ensures.0
     (λ command more.
     let three = HasMore-shares _ _ _ _ _ parts.0 parts.1 _ _ shares.0 shares.1 command more in
-    c.in_err-number-3.ensures three.4.0)
+    c.in_err-number-3.ensures three.3.0)
 
--- or the third is none
-pub returns-in_err-number-4 : goal.returns-in_err-number-4
-returns-in_err-number-4 c =
-    let parts = split_parts 32 c.args.words.now
-    (Some (c.in-Some.second, c.in-Some.shares)) c.in-Some.ensures.cases (omega arith) in
-    let shares = split_parts 32 c.in-Some.shares.now
-    (Some (c.in-Some-split_once.hot, c.in-Some-split_once.ghosts))
-    c.in-Some-split_once.ensures.cases (omega arith) in
-    IsOkExactly-err (HasMore c.args.name.now c.args.first c.args.words.now)
-    c.from_residual-in_err-number-4.result c.from_residual-in_err-number-4.ensures.0
-    (λ command more.
-    let three = HasMore-shares _ _ _ _ _ parts.0 parts.1 _ _ shares.0 shares.1 command more in
-    c.in_err-number-4.ensures three.5.0)
-
--- all three are numbers
+-- both are numbers, and more stands behind them
 pub returns : goal.returns
 returns c =
     let parts = split_parts 32 c.args.words.now
@@ -90,18 +76,18 @@ returns c =
     c.in-Some-split_once.ensures.cases (omega arith) in
     let second = c.in_ok-number-2.ensures in
     let third = c.in_ok-number-3.ensures in
-    let fourth = c.in_ok-number-4.ensures in
     let a = c.in_ok-number-2.field-0 in
     let b = c.in_ok-number-3.field-0 in
-    let d = c.in_ok-number-4.field-0 in
-    IsOkExactly-as c.with_shares.result
-    (HasNumbers c.args.name.now (c.args.first ∷ a ∷ b ∷ d ∷ []))
+    let ghosts = c.in-Some-split_once.ghosts.now in
+    IsOkExactly-as c.with_ghosts.result
+    (HasGhosts c.args.name.now c.args.first a b ghosts)
     (HasMore c.args.name.now c.args.first c.args.words.now)
-    (HasMore-of_shares _ _ _ _ _ parts.0 parts.1 _ _ shares.0 shares.1 a b d
-    (second.0, sym second.1) (third.0, sym third.1) (fourth.0, sym fourth.1))
+    (HasMore-of_shares _ _ _ _ _ parts.0 parts.1 _ _ shares.0 shares.1 a b
+    (second.0, sym second.1) (third.0, sym third.1))
     (λ command more.
-    let three = HasMore-shares _ _ _ _ _ parts.0 parts.1 _ _ shares.0 shares.1 command more in
-    subst (λ (ns : List ℕ). HasNumbers c.args.name.now ns command)
-    (λ i. c.args.first ∷ sym (second.1 ∙ three.3.1) i ∷ sym (third.1 ∙ three.4.1) i
-    ∷ sym (fourth.1 ∙ three.5.1) i ∷ []) three.6)
-    c.with_shares.ensures
+    let two = HasMore-shares _ _ _ _ _ parts.0 parts.1 _ _ shares.0 shares.1 command more in
+    subst (λ (n : ℕ). HasGhosts c.args.name.now c.args.first a n ghosts command)
+    (sym (third.1 ∙ two.3.1))
+    (subst (λ (n : ℕ). HasGhosts c.args.name.now c.args.first n two.1 ghosts command)
+    (sym (second.1 ∙ two.2.1)) two.4))
+    c.with_ghosts.ensures

@@ -23,7 +23,7 @@ returns-in-Ok-clause-asks g c = λ steady.
     let looks = c.get.follows.holds-at-none.0 in
     let same = c.get.follows.holds-at-none.1 in
     let mid = c.get.follows.lender-at-none in
-    let wrote = c.in-Ok.ensures.inserts.inserts in
+    let wrote = c.in-Ok.ensures.inserts.does in
     let is_steady = subst (λ (x : Shard _ _ _ _ _). g.L.Lifecycle.steady x.lifecycle) (sym same)
     steady in
     subst (λ (x : Shard _ _ _ _ _). Simulates

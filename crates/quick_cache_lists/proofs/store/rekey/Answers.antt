@@ -64,3 +64,18 @@ returns-clause-more g c =
       c.in_ok-clear_for.ensures.more,
       c.key_all.ensures.room,
     )
+
+pub returns-clause-at_most : goal.returns-clause-at_most
+returns-clause-at_most g c =
+    let keyed = returns-clause-keyed g c in
+    omega (
+      arith,
+      keyed.counted,
+      ap length c.iter_from.ensures,
+      length-past 0 c.args.slots.now.slots,
+      c.len.ensures.items,
+      c.len.ensures.free,
+      c.saturating_add.ensures,
+      c.in_ok-clear_for.ensures.at_most,
+      c.key_all.ensures.room,
+    )

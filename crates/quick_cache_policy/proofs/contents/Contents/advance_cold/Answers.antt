@@ -1,4 +1,4 @@
-use Rattle.std.proofs.Common.{◌∙◌, ap, subst, arith, refl, length, true}
+use Rattle.std.proofs.Common.{◌∙◌, ap, subst, arith, length, true}
 use Rattle.quick_cache_model.specs.declared.queue.Queue.TheVariants.{Hot, Cold}
 use Rattle.quick_cache_model.specs.CacheState.{CacheState}
 use Rattle.quick_cache_model.specs.Eviction.{AdvancesHot, AdvancesCold, EvictsToTarget}
@@ -30,7 +30,7 @@ returns-in-Marked-clause-advances g c =
     Calls-map (g.M.Policy.hooks c.args.terms.now) (Evicting steady (EvictsToTarget rules) mid new)
     (Evicting steady (λ state. AdvancesCold rules state true) old new)
     c.args.state.now c.evict_to_target.new.state
-    (λ calls. AdvancesCold-promoted rules steady old refl cold mid new calls
+    (λ calls. AdvancesCold-promoted rules steady old cold mid new calls
     c.in-Marked.ensures.searches
     (subst (λ (s : CacheState _ _). FirstIsPromoted s mid) is c.promote_first.ensures.promotes))
     c.evict_to_target.ensures.evicts
@@ -48,7 +48,7 @@ returns-in-Victim-clause-advances g c =
     (λ calls. FirstIsEvicted rules Cold (record old { cold = cold }) calls new × AreEvictions calls)
     (Evicting steady (λ state. AdvancesCold rules state true) old new)
     c.args.state.now c.evict_first.new.state
-    (λ calls. AdvancesCold-evicted rules steady old refl cold new calls
+    (λ calls. AdvancesCold-evicted rules steady old cold new calls
     c.in-Victim.ensures.searches)
     (subst (λ (s : CacheState _ _). Calls (g.M.Policy.hooks c.args.terms.now)
     (λ calls. FirstIsEvicted rules Cold s calls new × AreEvictions calls)
@@ -65,7 +65,7 @@ returns-in-Victim-clause-falls g c = omega (
 
 pub returns-in-Victim-clause-work : goal.returns-in-Victim-clause-work
 returns-in-Victim-clause-work g c =
-    PaysFor-evicted (length c.args.self.now.lists.hot) (length c.args.self.now.lists.cold)
+    PaysFor-evicted c.args.self.now.mark_cut (length c.args.self.now.lists.hot) (length c.args.self.now.lists.cold)
     (length c.evict_first.new.self.lists.hot) (length c.evict_first.new.self.lists.cold)
     (work_of c.args.self.now) (work_of c.evict_first.new.self)
     (c.evict_first.ensures.others Hot (λ e. absurd (cc))
@@ -89,7 +89,7 @@ returns-in-AllPassed-clause-advances g c =
     (record old { cold = cold }) new)
     (Evicting steady (λ state. AdvancesCold rules state c.advance_hot.result) old new)
     c.args.state.now c.advance_hot.new.state
-    (λ calls. AdvancesCold-passed rules steady old refl cold c.advance_hot.result new calls
+    (λ calls. AdvancesCold-passed rules steady old cold c.advance_hot.result new calls
     c.in-AllPassed.ensures.searches)
     (subst (λ (s : CacheState _ _). Calls (g.M.Policy.hooks c.args.terms.now)
     (Evicting steady (λ state. AdvancesHot rules state c.advance_hot.result) s new)
@@ -103,7 +103,8 @@ returns-in-Marked-clause-keys g c test =
       keys_by-cold g.P.SharedPlaceholder.ticket_of test c.args.self.now c.search_cold.new.self
           c.search_cold.ensures.same
           (Searches-keys test (g.M.Policy.steady c.args.terms.now)
-          (g.M.Policy.pinned c.args.terms.now) g.P.Touch.Touches.may_count
+          (g.M.Policy.pinned c.args.terms.now) c.args.self.now.mark_cut
+          g.P.Touch.Touches.may_count
           (items_of c.args.self.now.lists.cold) (items_of c.search_cold.new.self.lists.cold)
           c.search_cold.result c.search_cold.ensures.searches),
       FirstIsPromoted-keys test (state_of g.P.SharedPlaceholder.ticket_of c.search_cold.new.self)
@@ -121,7 +122,8 @@ returns-in-Victim-clause-keys g c test =
       keys_by-cold g.P.SharedPlaceholder.ticket_of test c.args.self.now c.search_cold.new.self
           c.search_cold.ensures.same
           (Searches-keys test (g.M.Policy.steady c.args.terms.now)
-          (g.M.Policy.pinned c.args.terms.now) g.P.Touch.Touches.may_count
+          (g.M.Policy.pinned c.args.terms.now) c.args.self.now.mark_cut
+          g.P.Touch.Touches.may_count
           (items_of c.args.self.now.lists.cold) (items_of c.search_cold.new.self.lists.cold)
           c.search_cold.result c.search_cold.ensures.searches),
       FirstIsEvicted-keys test rules Cold
@@ -136,7 +138,8 @@ returns-in-AllPassed-clause-keys g c test =
       keys_by-cold g.P.SharedPlaceholder.ticket_of test c.args.self.now c.search_cold.new.self
           c.search_cold.ensures.same
           (Searches-keys test (g.M.Policy.steady c.args.terms.now)
-          (g.M.Policy.pinned c.args.terms.now) g.P.Touch.Touches.may_count
+          (g.M.Policy.pinned c.args.terms.now) c.args.self.now.mark_cut
+          g.P.Touch.Touches.may_count
           (items_of c.args.self.now.lists.cold) (items_of c.search_cold.new.self.lists.cold)
           c.search_cold.result c.search_cold.ensures.searches),
       c.advance_hot.ensures.keys test,

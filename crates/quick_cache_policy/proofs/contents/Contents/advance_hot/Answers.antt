@@ -5,7 +5,7 @@ use Rattle.quick_cache_policy.specs.Contents.{state_of, ring_count}
 use Rattle.quick_cache_policy.specs.Policies.{rules_by}
 use Rattle.quick_cache_policy.proofs.KeyLemmas.{FirstIsEvicted-keys, SeekEnds-keys, keys_by-hot}
 use Rattle.quick_cache_policy.proofs.PlaceLemmas.{LosesOnly-hot}
-use Rattle.quick_cache_policy.proofs.HotAdvanceLemmas.{cold≢hot, PaysFor-advance, AdvancesHot-gives_up, AdvancesHot-evicts, visits-three}
+use Rattle.quick_cache_policy.proofs.HotAdvanceLemmas.{cold≢hot, PaysFor-advance, AdvancesHot-gives_up, AdvancesHot-evicts, visits-an_item}
 use Rattle.quick_cache_policy.proofs.contents.Contents.advance_hot.Goals as goal
 
 pub returns-then-not-seek_victim-clause-advances : goal.returns-then-not-seek_victim-clause-advances
@@ -33,11 +33,11 @@ returns-clause-cold g c =
 pub returns-clause-work : goal.returns-clause-work
 returns-clause-work g c =
     let s = c.seek_victim.ensures in
-    let within = visits-three g.P.SharedPlaceholder.ticket_of (g.M.Policy.steady c.args.terms.now)
+    let within = visits-an_item g.P.SharedPlaceholder.ticket_of (g.M.Policy.steady c.args.terms.now)
     (rules_by g.M.Policy g.P.Touch.Touches.may_count c.args.terms.now)
     (g.M.Policy.hooks c.args.terms.now) c.args.self.now c.seek_victim.new.self
     c.saturating_add-self.result c.seek_victim.result s.ends s.same in
-    PaysFor-advance 0 _ _ _ _ s.ends.visits _ _
+    PaysFor-advance _ 0 _ _ _ _ s.ends.visits _ _
     (ap (λ (x : Contents _ _ _ _ _ _). x.advances) c.evict_first.ensures.same
     ∙ ap (λ (x : Contents _ _ _ _ _ _). x.advances) s.same ∙ c.saturating_add-self.ensures)
     (ap (λ (x : Contents _ _ _ _ _ _). x.visits) c.evict_first.ensures.same ∙ s.ends.counted)
@@ -56,7 +56,8 @@ returns-then-not-seek_victim-clause-keys g c test =
       keys_by-hot g.P.SharedPlaceholder.ticket_of test c.args.self.now c.seek_victim.new.self
           c.saturating_add-self.result s.same
           (SeekEnds-keys test (g.M.Policy.steady c.args.terms.now)
-          (g.M.Policy.pinned c.args.terms.now) g.P.Touch.Touches.may_count c.seek_victim.result
+          (g.M.Policy.pinned c.args.terms.now) c.args.self.now.mark_cut
+          g.P.Touch.Touches.may_count c.seek_victim.result
           _ _ s.ends.visits s.ends.ends),
     )
 
@@ -71,7 +72,8 @@ returns-clause-keys g c test =
       keys_by-hot g.P.SharedPlaceholder.ticket_of test c.args.self.now c.seek_victim.new.self
           c.saturating_add-self.result s.same
           (SeekEnds-keys test (g.M.Policy.steady c.args.terms.now)
-          (g.M.Policy.pinned c.args.terms.now) g.P.Touch.Touches.may_count c.seek_victim.result
+          (g.M.Policy.pinned c.args.terms.now) c.args.self.now.mark_cut
+          g.P.Touch.Touches.may_count c.seek_victim.result
           _ _ s.ends.visits s.ends.ends),
       FirstIsEvicted-keys test rules Hot
           (state_of g.P.SharedPlaceholder.ticket_of c.seek_victim.new.self)

@@ -1,6 +1,5 @@
-use Rattle.std.proofs.Common.{◌≡◌, ◌+◌, refl, sym, ap, subst, ◌∙◌, arith}
+use Rattle.std.proofs.Common.{◌≡◌, refl, sym, ap, subst, ◌∙◌, arith}
 use Rattle.std.specs.Int.NonZero.{non_zero_u32_get as number}
-use Rattle.quick_cache_model.specs.CacheState.{default_mark_cut}
 use Rattle.quick_cache_model.specs.Removal.{pair_of}
 use Rattle.quick_cache_model.specs.Touches.{counted_up, raised_by}
 use Rattle.quick_cache_lists.specs.Lists.{HeldItem, FindsItem, read_once, used}
@@ -13,7 +12,7 @@ use Rattle.quick_cache_policy.proofs.LookupLemmas.{IsCounted, counted-is, looks_
 use Rattle.quick_cache_policy.specs.Places.{places_of}
 use Rattle.quick_cache_policy.proofs.PlaceLemmas.{places_of-change}
 use Rattle.quick_cache_policy.proofs.contents.Contents.count_hit.Goals as goal
-use Rattle.quick_cache_policy.proofs.contents.Contents.count_hit.Goals.{then-mark-eq-MARK_CUT, else-mark-eq-MARK_CUT}
+use Rattle.quick_cache_policy.proofs.contents.Contents.count_hit.Goals.{then-mark-self, else-mark-self}
 
 -- the item was found, and it and a hit are counted
 pub returns-clause-looks_up : goal.returns-clause-looks_up
@@ -31,14 +30,14 @@ returns-clause-looks_up g c =
     (record { token = t; hash = c.args.hash; item = c.requires.found.item })
     (record { token = t; hash = hash; item = item }) c.requires.found.stands has refl refl)
     ∙ c.requires.found.passes in
-    let now = c.if-mark-eq-MARK_CUT.self in
+    let now = c.if-mark-self.self in
     let hits = c.saturating_add-self.result in
     let hits_are : hits ≡ counted_up 1 now.hits = omega (arith, c.saturating_add-self.ensures) in
     let done : IsCounted contents t item (record now { hits = hits }) =
-    elim c.if-mark-eq-MARK_CUT.branch [
-      | then-mark-eq-MARK_CUT w ↦
-          let mark_is : item.mark ≡ raised_by default_mark_cut 1 item.mark =
-          omega (arith, c.mark-mark.ensures, w.if-mark-eq-MARK_CUT.true) in
+    elim c.if-mark-self.branch [
+      | then-mark-self w ↦
+          let mark_is : item.mark ≡ raised_by contents.mark_cut 1 item.mark =
+          omega (arith, c.mark-mark.ensures, w.if-mark-self.true) in
           record {
             change = read_once;
             counts = λ i. record item { mark = mark_is i; reads = counted_up 1 item.reads };
@@ -46,14 +45,14 @@ returns-clause-looks_up g c =
             is = counted-is contents now t read_once w.count_read.new.self hits w.self-is
                 w.count_read.ensures hits_are;
           }
-      | else-mark-eq-MARK_CUT w ↦
-          let mark_is : w.min.result + 1 ≡ raised_by default_mark_cut 1 item.mark =
-          omega (arith, c.mark-mark.ensures, w.min.ensures) in
+      | else-mark-self w ↦
+          let mark_is : w.min.result ≡ raised_by contents.mark_cut 1 item.mark =
+          omega (arith, c.mark-mark.ensures, w.saturating_add.ensures, w.min.ensures) in
           record {
-            change = used (w.min.result + 1);
+            change = used w.min.result;
             counts = λ i. record item { mark = mark_is i; reads = counted_up 1 item.reads };
             keeps = λ i. refl;
-            is = counted-is contents now t (used (w.min.result + 1)) w.count_use.new.self hits
+            is = counted-is contents now t (used w.min.result) w.count_use.new.self hits
                 w.self-is w.count_use.ensures hits_are;
           }
     ] in
@@ -84,14 +83,14 @@ returns-clause-counts g c =
     (record { token = t; hash = c.args.hash; item = c.requires.found.item })
     (record { token = t; hash = hash; item = item }) c.requires.found.stands has refl refl)
     ∙ c.requires.found.passes in
-    let now = c.if-mark-eq-MARK_CUT.self in
+    let now = c.if-mark-self.self in
     let hits = c.saturating_add-self.result in
     let hits_are : hits ≡ counted_up 1 now.hits = omega (arith, c.saturating_add-self.ensures) in
     let done : IsCounted contents t item (record now { hits = hits }) =
-    elim c.if-mark-eq-MARK_CUT.branch [
-      | then-mark-eq-MARK_CUT w ↦
-          let mark_is : item.mark ≡ raised_by default_mark_cut 1 item.mark =
-          omega (arith, c.mark-mark.ensures, w.if-mark-eq-MARK_CUT.true) in
+    elim c.if-mark-self.branch [
+      | then-mark-self w ↦
+          let mark_is : item.mark ≡ raised_by contents.mark_cut 1 item.mark =
+          omega (arith, c.mark-mark.ensures, w.if-mark-self.true) in
           record {
             change = read_once;
             counts = λ i. record item { mark = mark_is i; reads = counted_up 1 item.reads };
@@ -99,14 +98,14 @@ returns-clause-counts g c =
             is = counted-is contents now t read_once w.count_read.new.self hits w.self-is
                 w.count_read.ensures hits_are;
           }
-      | else-mark-eq-MARK_CUT w ↦
-          let mark_is : w.min.result + 1 ≡ raised_by default_mark_cut 1 item.mark =
-          omega (arith, c.mark-mark.ensures, w.min.ensures) in
+      | else-mark-self w ↦
+          let mark_is : w.min.result ≡ raised_by contents.mark_cut 1 item.mark =
+          omega (arith, c.mark-mark.ensures, w.saturating_add.ensures, w.min.ensures) in
           record {
-            change = used (w.min.result + 1);
+            change = used w.min.result;
             counts = λ i. record item { mark = mark_is i; reads = counted_up 1 item.reads };
             keeps = λ i. refl;
-            is = counted-is contents now t (used (w.min.result + 1)) w.count_use.new.self hits
+            is = counted-is contents now t (used w.min.result) w.count_use.new.self hits
                 w.self-is w.count_use.ensures hits_are;
           }
     ] in
@@ -130,14 +129,14 @@ returns-clause-found g c =
     (record { token = t; hash = c.args.hash; item = c.requires.found.item })
     (record { token = t; hash = hash; item = item }) c.requires.found.stands has refl refl)
     ∙ c.requires.found.passes in
-    let now = c.if-mark-eq-MARK_CUT.self in
+    let now = c.if-mark-self.self in
     let hits = c.saturating_add-self.result in
     let hits_are : hits ≡ counted_up 1 now.hits = omega (arith, c.saturating_add-self.ensures) in
     let done : IsCounted contents t item (record now { hits = hits }) =
-    elim c.if-mark-eq-MARK_CUT.branch [
-      | then-mark-eq-MARK_CUT w ↦
-          let mark_is : item.mark ≡ raised_by default_mark_cut 1 item.mark =
-          omega (arith, c.mark-mark.ensures, w.if-mark-eq-MARK_CUT.true) in
+    elim c.if-mark-self.branch [
+      | then-mark-self w ↦
+          let mark_is : item.mark ≡ raised_by contents.mark_cut 1 item.mark =
+          omega (arith, c.mark-mark.ensures, w.if-mark-self.true) in
           record {
             change = read_once;
             counts = λ i. record item { mark = mark_is i; reads = counted_up 1 item.reads };
@@ -145,14 +144,14 @@ returns-clause-found g c =
             is = counted-is contents now t read_once w.count_read.new.self hits w.self-is
                 w.count_read.ensures hits_are;
           }
-      | else-mark-eq-MARK_CUT w ↦
-          let mark_is : w.min.result + 1 ≡ raised_by default_mark_cut 1 item.mark =
-          omega (arith, c.mark-mark.ensures, w.min.ensures) in
+      | else-mark-self w ↦
+          let mark_is : w.min.result ≡ raised_by contents.mark_cut 1 item.mark =
+          omega (arith, c.mark-mark.ensures, w.saturating_add.ensures, w.min.ensures) in
           record {
-            change = used (w.min.result + 1);
+            change = used w.min.result;
             counts = λ i. record item { mark = mark_is i; reads = counted_up 1 item.reads };
             keeps = λ i. refl;
-            is = counted-is contents now t (used (w.min.result + 1)) w.count_use.new.self hits
+            is = counted-is contents now t (used w.min.result) w.count_use.new.self hits
                 w.self-is w.count_use.ensures hits_are;
           }
     ] in
@@ -178,14 +177,14 @@ returns-clause-sound g c = λ hashed sound.
     (record { token = t; hash = c.args.hash; item = c.requires.found.item })
     (record { token = t; hash = hash; item = item }) c.requires.found.stands has refl refl)
     ∙ c.requires.found.passes in
-    let now = c.if-mark-eq-MARK_CUT.self in
+    let now = c.if-mark-self.self in
     let hits = c.saturating_add-self.result in
     let hits_are : hits ≡ counted_up 1 now.hits = omega (arith, c.saturating_add-self.ensures) in
     let done : IsCounted contents t item (record now { hits = hits }) =
-    elim c.if-mark-eq-MARK_CUT.branch [
-      | then-mark-eq-MARK_CUT w ↦
-          let mark_is : item.mark ≡ raised_by default_mark_cut 1 item.mark =
-          omega (arith, c.mark-mark.ensures, w.if-mark-eq-MARK_CUT.true) in
+    elim c.if-mark-self.branch [
+      | then-mark-self w ↦
+          let mark_is : item.mark ≡ raised_by contents.mark_cut 1 item.mark =
+          omega (arith, c.mark-mark.ensures, w.if-mark-self.true) in
           record {
             change = read_once;
             counts = λ i. record item { mark = mark_is i; reads = counted_up 1 item.reads };
@@ -193,14 +192,14 @@ returns-clause-sound g c = λ hashed sound.
             is = counted-is contents now t read_once w.count_read.new.self hits w.self-is
                 w.count_read.ensures hits_are;
           }
-      | else-mark-eq-MARK_CUT w ↦
-          let mark_is : w.min.result + 1 ≡ raised_by default_mark_cut 1 item.mark =
-          omega (arith, c.mark-mark.ensures, w.min.ensures) in
+      | else-mark-self w ↦
+          let mark_is : w.min.result ≡ raised_by contents.mark_cut 1 item.mark =
+          omega (arith, c.mark-mark.ensures, w.saturating_add.ensures, w.min.ensures) in
           record {
-            change = used (w.min.result + 1);
+            change = used w.min.result;
             counts = λ i. record item { mark = mark_is i; reads = counted_up 1 item.reads };
             keeps = λ i. refl;
-            is = counted-is contents now t (used (w.min.result + 1)) w.count_use.new.self hits
+            is = counted-is contents now t (used w.min.result) w.count_use.new.self hits
                 w.self-is w.count_use.ensures hits_are;
           }
     ] in
@@ -224,14 +223,14 @@ returns-clause-places g c =
     (record { token = t; hash = c.args.hash; item = c.requires.found.item })
     (record { token = t; hash = hash; item = item }) c.requires.found.stands has refl refl)
     ∙ c.requires.found.passes in
-    let now = c.if-mark-eq-MARK_CUT.self in
+    let now = c.if-mark-self.self in
     let hits = c.saturating_add-self.result in
     let hits_are : hits ≡ counted_up 1 now.hits = omega (arith, c.saturating_add-self.ensures) in
     let done : IsCounted contents t item (record now { hits = hits }) =
-    elim c.if-mark-eq-MARK_CUT.branch [
-      | then-mark-eq-MARK_CUT w ↦
-          let mark_is : item.mark ≡ raised_by default_mark_cut 1 item.mark =
-          omega (arith, c.mark-mark.ensures, w.if-mark-eq-MARK_CUT.true) in
+    elim c.if-mark-self.branch [
+      | then-mark-self w ↦
+          let mark_is : item.mark ≡ raised_by contents.mark_cut 1 item.mark =
+          omega (arith, c.mark-mark.ensures, w.if-mark-self.true) in
           record {
             change = read_once;
             counts = λ i. record item { mark = mark_is i; reads = counted_up 1 item.reads };
@@ -239,14 +238,14 @@ returns-clause-places g c =
             is = counted-is contents now t read_once w.count_read.new.self hits w.self-is
                 w.count_read.ensures hits_are;
           }
-      | else-mark-eq-MARK_CUT w ↦
-          let mark_is : w.min.result + 1 ≡ raised_by default_mark_cut 1 item.mark =
-          omega (arith, c.mark-mark.ensures, w.min.ensures) in
+      | else-mark-self w ↦
+          let mark_is : w.min.result ≡ raised_by contents.mark_cut 1 item.mark =
+          omega (arith, c.mark-mark.ensures, w.saturating_add.ensures, w.min.ensures) in
           record {
-            change = used (w.min.result + 1);
+            change = used w.min.result;
             counts = λ i. record item { mark = mark_is i; reads = counted_up 1 item.reads };
             keeps = λ i. refl;
-            is = counted-is contents now t (used (w.min.result + 1)) w.count_use.new.self hits
+            is = counted-is contents now t (used w.min.result) w.count_use.new.self hits
                 w.self-is w.count_use.ensures hits_are;
           }
     ] in

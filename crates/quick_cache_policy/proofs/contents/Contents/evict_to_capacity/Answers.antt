@@ -21,7 +21,7 @@ loop-self-init g c = record {
   room = omega arith;
   keys = λ test. omega arith;
   places = λ place there. there;
-  work = PaysFor-none (length c.args.self.now.lists.hot) (length c.args.self.now.lists.cold)
+  work = PaysFor-none c.args.self.now.mark_cut (length c.args.self.now.lists.hot) (length c.args.self.now.lists.cold)
       (work_of c.args.self.now) c.counts_fit.ensures.advances c.counts_fit.ensures.visits;
   same = refl;
 }
@@ -53,10 +53,11 @@ returns-then-not-advance_cold-clause-evicts g c =
 
 pub returns-then-not-advance_cold-clause-work : goal.returns-then-not-advance_cold-clause-work
 returns-then-not-advance_cold-clause-work g c =
-    PaysFor-then 0 1 (length c.args.self.now.lists.hot) (length c.args.self.now.lists.cold)
+    PaysFor-then c.args.self.now.mark_cut c.loop-self.self.mark_cut 0 1 (length c.args.self.now.lists.hot) (length c.args.self.now.lists.cold)
     (length c.loop-self.self.lists.hot) (length c.loop-self.self.lists.cold)
     (length c.advance_cold.new.self.lists.hot) (length c.advance_cold.new.self.lists.cold)
     (work_of c.args.self.now) (work_of c.loop-self.self) (work_of c.advance_cold.new.self)
+    (ap (λ (r : Contents _ _ _ _ _ _). r.mark_cut) c.loop-self.invariant.same)
     c.loop-self.invariant.work c.if-not-advance_cold.ensures.work
 
 pub loop-self-preserved : goal.loop-self-preserved
@@ -89,11 +90,12 @@ loop-self-preserved g c =
       room = omega (arith, i.room, e.room);
       keys = λ test. omega (arith, i.keys test, e.keys test);
       places = λ place there. i.places place (e.places place there);
-      work = PaysFor-then 0 0 (length c.args.self.now.lists.hot)
+      work = PaysFor-then c.args.self.now.mark_cut c.loop-self.self.mark_cut 0 0 (length c.args.self.now.lists.hot)
           (length c.args.self.now.lists.cold) (length c.loop-self.self.lists.hot)
           (length c.loop-self.self.lists.cold) (length c.advance_cold.new.self.lists.hot)
           (length c.advance_cold.new.self.lists.cold) (work_of c.args.self.now)
-          (work_of c.loop-self.self) (work_of c.advance_cold.new.self) i.work e.work;
+          (work_of c.loop-self.self) (work_of c.advance_cold.new.self)
+          (ap (λ (r : Contents _ _ _ _ _ _). r.mark_cut) i.same) i.work e.work;
       same = e.same ∙ ap (λ (r : Contents _ _ _ _ _ _). record r {
         lists = c.advance_cold.new.self.lists;
         advances = c.advance_cold.new.self.advances;

@@ -23,7 +23,7 @@ invariant-loop-self g l = record {
   keys : (test : _ → Bool)
       → keys_by test (state_of g.P.SharedPlaceholder.ticket_of l.self)
       ≤ keys_by test (state_of g.P.SharedPlaceholder.ticket_of l.initial.self);
-  work : PaysFor 0
+  work : PaysFor l.initial.self.mark_cut 0
       (length l.initial.self.lists.hot) (length l.initial.self.lists.cold)
       (length l.self.lists.hot) (length l.self.lists.cold)
       (work_of l.initial.self) (work_of l.self);

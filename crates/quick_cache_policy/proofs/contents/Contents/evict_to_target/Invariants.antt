@@ -25,7 +25,7 @@ invariant-loop-self g l = record {
       ≤ keys_by test (state_of g.P.SharedPlaceholder.ticket_of l.initial.self);
   fewer : length l.self.lists.hot ≤ length l.initial.self.lists.hot;
   cold : length l.self.lists.cold ≡ length l.initial.self.lists.cold;
-  work : PaysFor 0
+  work : PaysFor l.initial.self.mark_cut 0
       (length l.initial.self.lists.hot) (length l.initial.self.lists.cold)
       (length l.self.lists.hot) (length l.self.lists.cold)
       (work_of l.initial.self) (work_of l.self);

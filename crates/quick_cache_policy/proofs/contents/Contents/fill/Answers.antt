@@ -4,6 +4,7 @@ use Rattle.quick_cache_model.specs.declared.queue.Queue.TheVariants.{Hot, Cold}
 use Rattle.quick_cache_model.specs.CacheState.{CacheState, entered}
 use Rattle.quick_cache_model.specs.Hooks.{EvictCold, Calls}
 use Rattle.quick_cache_model.specs.Placeholders.{MakesRoomFor}
+use Rattle.quick_cache_model.specs.Touches.{first_mark}
 use Rattle.quick_cache_model.specs.Writes.{new_item, queue_for}
 use Rattle.quick_cache_fates.specs.Fates.{residents}
 use Rattle.quick_cache_fates.proofs.Leads.{Leads-same}
@@ -31,9 +32,15 @@ use Rattle.quick_cache_policy.specs.Places.{places_of, LosesOnly}
 use Rattle.quick_cache_policy.proofs.WrittenPlaces.{without-places, LosesOnly-keeps}
 use Rattle.quick_cache_policy.proofs.contents.Contents.fill.Goals as goal
 
-few : (b : Bool) (mark : ℕ) → mark ≡ (if b then 1 else 0) → mark ≤ 2
-few true mark is = omega (arith, is)
-few false mark is = omega (arith, is)
+few : (cut : ℕ) → 1 ≤ cut → (b : Bool) (mark : ℕ) → mark ≡ (if b then 1 else 0) → mark ≤ cut
+few cut some true mark is = omega (arith, some, is)
+few cut some false mark is = omega (arith, is)
+
+-- a value that others waited for has the first mark
+first : (cut : ℕ) → 1 ≤ cut → (b : Bool)
+    → (if b then 1 else 0) ≡ (if b then first_mark cut else 0)
+first cut some true = omega (arith, some)
+first cut some false = refl
 
 -- the lists are sound once the item stands there
 pub evict_to_capacity-requires : goal.evict_to_capacity-requires
@@ -58,7 +65,7 @@ evict_to_capacity-requires g c =
       sound = filled-sound ticket_of contents apart t waiting stands refl c.if-hot_weight-from.queue
           c.mark_if-mark.result c.in-Admitted.weighed.weight c.in-Admitted.weighed.value c.fill.new.self
           c.fill.ensures equal g.met.K.Eq.laws hashed
-          (few c.args.marked c.mark_if-mark.result c.mark_if-mark.ensures) c.requires.sound;
+          (few contents.mark_cut c.requires.sound.sized.some_mark c.args.marked c.mark_if-mark.result c.mark_if-mark.ensures) c.requires.sound;
     }
 
 pub returns-else-weight-gt0-clause-sound : goal.returns-else-weight-gt0-clause-sound
@@ -82,7 +89,7 @@ returns-else-weight-gt0-clause-sound g c =
     filled-sound ticket_of contents apart t waiting stands refl c.if-hot_weight-from.queue
     c.mark_if-mark.result c.in-Admitted.weighed.weight c.in-Admitted.weighed.value c.fill.new.self
     c.fill.ensures equal g.met.K.Eq.laws hashed
-    (few c.args.marked c.mark_if-mark.result c.mark_if-mark.ensures) c.requires.sound
+    (few contents.mark_cut c.requires.sound.sized.some_mark c.args.marked c.mark_if-mark.result c.mark_if-mark.ensures) c.requires.sound
 
 -- the calls of the check, and then those of making room
 pub returns-then-weight-gt0-clause-fills : goal.returns-then-weight-gt0-clause-fills
@@ -149,13 +156,14 @@ returns-then-weight-gt0-clause-fills g c =
     (sym mid_is) in
     let pair = new_item rules awaited.key weighed.value
     (queue_for rules mid awaited.key weighed.value awaited.queue)
-    (if c.args.marked then 1 else 0) in
+    (if c.args.marked then first_mark contents.mark_cut else 0) in
     let is : filled c.if-hot_weight-from.queue c.mark_if-mark.result weighed.weight weighed.value
     awaited.key ≡ pair = λ i. record {
       key = awaited.key;
       value = weighed.value;
       weight = weight i;
-      mark = c.mark_if-mark.ensures i;
+      mark = (c.mark_if-mark.ensures
+          ∙ first contents.mark_cut c.requires.sound.sized.some_mark c.args.marked) i;
       reads = 0;
       queue = queue i;
     } in
@@ -252,13 +260,14 @@ returns-else-weight-gt0-clause-fills g c =
     (sym mid_is) in
     let pair = new_item rules awaited.key weighed.value
     (queue_for rules mid awaited.key weighed.value awaited.queue)
-    (if c.args.marked then 1 else 0) in
+    (if c.args.marked then first_mark contents.mark_cut else 0) in
     let is : filled c.if-hot_weight-from.queue c.mark_if-mark.result weighed.weight weighed.value
     awaited.key ≡ pair = λ i. record {
       key = awaited.key;
       value = weighed.value;
       weight = weight i;
-      mark = c.mark_if-mark.ensures i;
+      mark = (c.mark_if-mark.ensures
+          ∙ first contents.mark_cut c.requires.sound.sized.some_mark c.args.marked) i;
       reads = 0;
       queue = queue i;
     } in
@@ -306,7 +315,7 @@ returns-then-weight-gt0-clause-work g c =
       placeholder = awaited.placeholder;
     } in
     let stands : StandsIn contents.lists.loading waiting = c.awaited-awaited.ensures.1 in
-    PaysFor-within _ _ _ _ _ _ _ (filled-count ticket_of contents apart t waiting stands refl c.if-hot_weight-from.queue
+    PaysFor-within _ _ _ _ _ _ _ _ (filled-count ticket_of contents apart t waiting stands refl c.if-hot_weight-from.queue
     c.mark_if-mark.result c.in-Admitted.weighed.weight c.in-Admitted.weighed.value c.fill.new.self
     c.fill.ensures)
     c.evict_to_capacity.ensures.work
@@ -411,7 +420,7 @@ returns-in-Loading-clause-fills g c =
 -- a pair that is turned away takes no work
 pub returns-in-Loading-clause-work : goal.returns-in-Loading-clause-work
 returns-in-Loading-clause-work g c =
-    WorksWithin-none (ring_count Hot c.args.self.now + ring_count Cold c.args.self.now + 1)
+    WorksWithin-none c.args.self.now.mark_cut (ring_count Hot c.args.self.now + ring_count Cold c.args.self.now + 1)
     (work_of c.args.self.now) (omega arith) (omega arith)
 
 -- the key of the placeholder stood nowhere

@@ -46,9 +46,9 @@ returns-in-Some-clause-answers g c =
 pub returns-in-Some-clause-work : goal.returns-in-Some-clause-work
 returns-in-Some-clause-work g c =
     let old = c.args.self.now in
-    subst (WorksWithin (ring_count Hot old + ring_count Cold old + 1) (work_of old))
+    subst (WorksWithin old.mark_cut (ring_count Hot old + ring_count Cold old + 1) (work_of old))
     (sym (ap work_of c.provide.ensures.lists))
-    (WorksWithin-none (ring_count Hot old + ring_count Cold old + 1) (work_of old) (omega arith)
+    (WorksWithin-none old.mark_cut (ring_count Hot old + ring_count Cold old + 1) (work_of old) (omega arith)
     (omega arith))
 
 -- making room changes nothing that is found

@@ -86,7 +86,7 @@ returns-clause-work g c =
     let under = AreHashed-under (g.K.PartialEq.eq key) (rules.hash key) lists rules.hash
     (λ k same. sym (g.met.M.Policy.same_hash c.args.terms.now key k same))
     c.requires.sound.hashed in
-    PaysFor-within _ _ _ _ _ _ _
+    PaysFor-within _ _ _ _ _ _ _ _
     (over_ghost-count g.P.SharedPlaceholder.ticket_of c.args.self.now
     c.apart.ensures.apart g.K.PartialEq.eq g.met.K.Eq.laws rules key c.args.weighed.value
     (number c.args.token) under found.0 found.1 c.new-item.result c.replace.result

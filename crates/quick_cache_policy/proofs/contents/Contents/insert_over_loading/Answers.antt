@@ -1,7 +1,8 @@
-use Rattle.std.proofs.Common.{[], ap, subst, ◌∙◌, inl, inr}
+use Rattle.std.proofs.Common.{◌≡◌, arith, [], ap, subst, ◌∙◌, inl, inr}
 use Rattle.std.specs.Int.NonZero.{non_zero_u32_get as number}
 use Rattle.quick_cache_model.specs.CacheState.{Item}
 use Rattle.quick_cache_model.specs.Removal.{pair_of}
+use Rattle.quick_cache_model.specs.Touches.{first_mark}
 use Rattle.quick_cache_lists.specs.Lists.{HeldLoading, Finds}
 use Rattle.quick_cache_lists.specs.declared.found.Found.TheVariants.{Loading as found_loading}
 use Rattle.quick_cache_policy.specs.Contents.{state_of}
@@ -50,6 +51,8 @@ returns-clause-writes g c =
     let queue = c.queue-queue.ensures ∙ ap (λ (w : HeldLoading _ _). w.queue)
     (awaited-is_loading lists c.apart.ensures.apart (number c.args.token) c.awaited.ensures.0
     c.awaited.result c.awaited.ensures.1 found.waiting found.stands found.named) in
+    let first : 1 ≡ first_mark c.args.self.now.mark_cut =
+    omega (arith, c.requires.sound.sized.some_mark) in
     let evicts = c.evict_to_capacity.ensures.evicts in
     record {
       calls = evicts.calls;
@@ -62,7 +65,7 @@ returns-clause-writes g c =
               key = key;
               value = c.args.weighed.value;
               weight = c.requires.weight_is i;
-              mark = 1;
+              mark = first i;
               reads = 0;
               queue = queue i;
             })) _ evicts.calls (evicts.holds.0 steady),
@@ -85,7 +88,7 @@ returns-clause-work g c =
     let lists = c.args.self.now.lists in
     let found = subst (λ h. Finds (g.K.PartialEq.eq key) h lists (found_loading c.args.token))
     c.requires.hash_is c.requires.found in
-    PaysFor-within _ _ _ _ _ _ _
+    PaysFor-within _ _ _ _ _ _ _ _
     (over_loading-count g.P.SharedPlaceholder.ticket_of c.args.self.now
     c.apart.ensures.apart g.K.PartialEq.eq g.met.K.Eq.laws rules key c.args.weighed.value
     (number c.args.token) found c.new-item.result c.replace.result

@@ -1,6 +1,5 @@
-use Rattle.std.proofs.Common.{subst, sym}
+use Rattle.std.proofs.Common.{subst, sym, arith}
 use Rattle.quick_cache_lists.specs.Lists.{Lists}
-use Rattle.quick_cache_model.proofs.Valid.States.{empty_state-valid}
 use Rattle.quick_cache_policy.specs.Contents.{IsSound}
 use Rattle.quick_cache_policy.proofs.contents.Contents.new.Goals as goal
 
@@ -13,6 +12,7 @@ returns-clause-sound g c = λ hashed.
       capacity = c.args.capacity;
       hot_target = c.args.hot_target;
       ghost_limit = c.args.ghost_limit;
+      mark_cut = c.args.mark_cut;
       hits = 0;
       misses = 0;
       shared_hits = c.default.result;
@@ -23,7 +23,15 @@ returns-clause-sound g c = λ hashed.
     }))
     (sym c.in_ok-new.ensures.empty)
     (record {
-      valid = empty_state-valid g.K.PartialEq.eq c.args.capacity c.args.hot_target c.args.ghost_limit;
+      valid = record {
+        one_entry_a_key = λ k. omega arith;
+        one_entry_a_ticket = λ n. omega arith;
+        tickets_given = tt;
+        ghosts_within = omega arith;
+        in_hot = tt;
+        in_cold = tt;
+        in_still = tt;
+      };
       sized = c.requires.sized;
       hashed = record { hot = tt; cold = tt; still = tt; loading = tt };
     })

@@ -52,7 +52,7 @@ evict_to_capacity-requires g c =
     let same = over_item-same g.P.SharedPlaceholder.ticket_of c.args.self.now
     c.apart.ensures.apart g.K.PartialEq.eq rules key token found c.new-item.result was
     c.rewrite.new.self rewrites item is in
-    let few : touched ≤ 2 = omega (arith, c.min-touched.ensures, c.from-2.ensures) in
+    let few : touched ≤ c.args.self.now.mark_cut = omega (arith, c.min-touched.ensures, c.from-2.ensures) in
     record {
       sound = over_item-sound g.P.SharedPlaceholder.ticket_of c.args.self.now
           c.apart.ensures.apart g.K.PartialEq.eq rules key token found c.new-item.result was
@@ -60,9 +60,9 @@ evict_to_capacity-requires g c =
           (ap (λ (i : Item _ _). i.key) c.new-item.ensures)
           (ap (λ (i : Item _ _). i.queue) c.new-item.ensures ∙ c.queue-queue.ensures
           ∙ ap (λ (i : Item _ _). i.queue) same)
-          (subst (λ m. m ≤ 2)
+          (subst (λ m. m ≤ c.args.self.now.mark_cut)
           (sym (ap (λ (i : Item _ _). i.mark) c.new-item.ensures ∙ c.mark_after-mark.ensures))
-          (mark_after-le 2 strategy touched few)) c.requires.sound;
+          (mark_after-le c.args.self.now.mark_cut strategy touched few)) c.requires.sound;
     }
 
 pub returns-clause-writes : goal.returns-clause-writes
@@ -85,7 +85,8 @@ returns-clause-writes g c =
     let same = over_item-same g.P.SharedPlaceholder.ticket_of c.args.self.now
     c.apart.ensures.apart g.K.PartialEq.eq rules key token found c.new-item.result was
     c.rewrite.new.self rewrites item is in
-    let touched : c.min-touched.result ≡ raised_by 2 n item.mark =
+    let cut = c.args.self.now.mark_cut in
+    let touched : c.min-touched.result ≡ raised_by cut n item.mark =
     omega (
       arith,
       c.min-touched.ensures,
@@ -94,10 +95,10 @@ returns-clause-writes g c =
       c.from-2.ensures,
       c.mark.ensures,
     ) in
-    let mark : c.mark_after-mark.result ≡ mark_after 2 strategy (raised_by 2 n was.mark) =
+    let mark : c.mark_after-mark.result ≡ mark_after cut strategy (raised_by cut n was.mark) =
     c.mark_after-mark.ensures
-    ∙ ap (λ m. mark_after 2 strategy m) touched
-    ∙ ap (λ (i : Item g.row.K.Denot g.row.V.Denot). mark_after 2 strategy (raised_by 2 n i.mark))
+    ∙ ap (λ m. mark_after cut strategy m) touched
+    ∙ ap (λ (i : Item g.row.K.Denot g.row.V.Denot). mark_after cut strategy (raised_by cut n i.mark))
     same in
     let queue : c.queue-queue.result ≡ was.queue = c.queue-queue.ensures
     ∙ ap (λ (i : Item g.row.K.Denot g.row.V.Denot). i.queue) same in
@@ -146,7 +147,7 @@ returns-clause-work g c =
     c.requires.hash_is c.requires.found in
     let rewrites = subst (λ l. Rewrites l token c.new-item.result was c.rewrite.new.self)
     c.take_touch-touches.ensures.same c.rewrite.ensures in
-    PaysFor-within _ _ _ _ _ _ _
+    PaysFor-within _ _ _ _ _ _ _ _
     (over_item-count g.P.SharedPlaceholder.ticket_of c.args.self.now c.apart.ensures.apart
     g.K.PartialEq.eq rules key token found c.new-item.result was c.rewrite.new.self rewrites)
     c.evict_to_capacity.ensures.work

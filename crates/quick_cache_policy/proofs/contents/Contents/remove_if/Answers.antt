@@ -23,6 +23,24 @@ returns-in_default-clause-removes g c =
     c.args.hash c.args.self.now c.requires.under
     (none-found _ _ c.in_default.not-Some c.find_item.ensures)))
 
+-- it is asked of the item that was found
+pub wanted-requires : goal.wanted-requires
+wanted-requires g c =
+    let contents = c.args.self.now in
+    let stands_for = g.Q.Equivalent.equivalent c.args.query.now in
+    let t = number c.in-Some.token in
+    let held : HeldItem g.row.K.Denot g.row.V.Denot =
+    record { token = t; hash = c.item.ensures.0; item = c.item.result } in
+    let has = c.item.ensures.1 in
+    let passes = ap (λ (h : HeldItem g.row.K.Denot g.row.V.Denot). stands_for h.item.key)
+    (found-same contents.lists c.apart.ensures.apart t
+    (record { token = t; hash = c.args.hash; item = c.in-Some.ensures.item }) held
+    c.in-Some.ensures.stands has refl refl) ∙ c.in-Some.ensures.passes in
+    c.requires.callable has.place (items_of has.stands.before) c.item.result
+    (items_of has.stands.after)
+    (IsItemAt-stands g.P.SharedPlaceholder.ticket_of stands_for c.args.hash contents has.place
+    has.stands.before held has.stands.after has.stands.split passes) c.value.result c.value.ensures
+
 -- the value that was shown is that of the item that was found
 pub returns-then-not-wanted-clause-removes : goal.returns-then-not-wanted-clause-removes
 returns-then-not-wanted-clause-removes g c =

@@ -1,9 +1,13 @@
 use Rattle.std.proofs.Common.{arith}
 use Rattle.std.proofs.lemmas.Fn.{says}
 use Rattle.quick_cache_model.proofs.OrderLaws.{UpToOrder-exact}
-use Rattle.quick_cache_lists.specs.Lists.{number_or_zero}
+use Rattle.std.specs.Int.NonZero.{non_zero_u32_get as number}
+use Rattle.quick_cache_lists.specs.Lists.{HeldItem, number_or_zero}
+use Rattle.quick_cache_lists.specs.Views.{items_of}
 use Rattle.quick_cache_policy.specs.Predicates.{Answers}
 use Rattle.quick_cache_policy.proofs.RetainLemmas.{IsSifting-start, IsSifting-stay, IsSifting-go, IsSifting-end}
+use Rattle.quick_cache_policy.proofs.AskLemmas.{sifting-stood}
+use Rattle.quick_cache_policy.proofs.EnterLemmas.{split-state}
 use Rattle.quick_cache_policy.proofs.KeptPlaces.{sifting-places}
 use Rattle.quick_cache_policy.proofs.contents.Contents.retain.Goals as goal
 
@@ -13,6 +17,20 @@ loop-token-init g c =
 
 pub item-requires : goal.item-requires
 item-requires g c = (c.first_above.ensures.found c.in-Some.token c.in-Some.is).1
+
+-- it is asked of an item that was there
+pub keep-requires : goal.keep-requires
+keep-requires g c =
+    let old = c.args.self.now in
+    let held : HeldItem g.row.K.Denot g.row.V.Denot =
+    record { token = number c.in-Some.token; hash = c.item.ensures.0; item = c.item.result } in
+    let has = sifting-stood (Answers g.F.Fn c.args.keep) (number_or_zero c.loop-token.at) old
+    c.loop-token.self c.loop-token.invariant.0 held c.item.ensures.1 in
+    c.requires.callable has.place (items_of has.stands.before) c.item.result
+    (items_of has.stands.after)
+    (split-state g.P.SharedPlaceholder.ticket_of old has.place has.stands.before held
+    has.stands.after old.lists has.stands.split) c.pair.result.0 c.pair.result.1
+    c.pair.ensures.key c.pair.ensures.value
 
 -- each token is above the last one
 pub loop-token-smaller-then-not-keep : goal.loop-token-smaller-then-not-keep

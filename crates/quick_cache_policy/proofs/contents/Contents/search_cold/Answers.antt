@@ -2,7 +2,9 @@ use Rattle.std.proofs.Common.{◌+◌, length, ap, sym, subst, ◌∙◌, arith,
 use Rattle.quick_cache_lists.specs.Lists.{Lists, turned}
 use Rattle.quick_cache_lists.specs.Views.{items_of}
 use Rattle.quick_cache_policy.specs.declared.contents.Contents.{Contents}
+use Rattle.quick_cache_policy.specs.Advances.{LooksAt}
 use Rattle.quick_cache_policy.specs.Contents.{IsSound}
+use Rattle.quick_cache_policy.specs.declared.cold.Search.TheVariants.{AllPassed}
 use Rattle.quick_cache_policy.proofs.ColdLemmas.{HasPassed, HasPassed-none, HasPassed-more}
 use Rattle.quick_cache_policy.proofs.ColdLemmas.{HasPassed-found, LooksAt-length}
 use Rattle.quick_cache_policy.proofs.ColdSoundLemmas.{IsSound-cold_turned, items_of-turned, items_of-length, length-turned}
@@ -14,7 +16,7 @@ use Rattle.quick_cache_policy.proofs.contents.Contents.search_cold.Goals as goal
 pub loop-init : goal.loop-init
 loop-init g c = record {
   passed = HasPassed-none (g.M.Policy.steady c.args.terms.now) (g.M.Policy.pinned c.args.terms.now)
-      g.P.Touch.Touches.may_count (items_of c.args.self.now.lists.cold);
+      c.args.self.now.mark_cut g.P.Touch.Touches.may_count (items_of c.args.self.now.lists.cold);
   sound = c.requires.sound;
   count = refl;
   places = λ place there. there;
@@ -28,7 +30,7 @@ returns-in_default g c =
     let looks = c.look_cold.ensures in
     record {
       searches = HasPassed-found (g.M.Policy.steady c.args.terms.now)
-          (g.M.Policy.pinned c.args.terms.now)
+          (g.M.Policy.pinned c.args.terms.now) c.args.self.now.mark_cut
           g.P.Touch.Touches.may_count (items_of c.args.self.now.lists.cold) c.loop.counter
           (items_of cold) i.passed c.look_cold.result (items_of c.look_cold.new.self.lists.cold)
           c.in_default.not-AllPassed g.P.Touch.Touches.none_counted
@@ -38,7 +40,10 @@ returns-in_default g c =
             c.count-end.ensures,
             items_of-length c.args.self.now.lists.cold,
           ))
-          looks.looks;
+          (subst (λ n. LooksAt (g.M.Policy.steady c.args.terms.now)
+          (g.M.Policy.pinned c.args.terms.now) n g.P.Touch.Touches.may_count (items_of cold)
+          c.look_cold.result (items_of c.look_cold.new.self.lists.cold))
+          (ap (λ (r : Contents _ _ _ _ _ _). r.mark_cut) i.same) looks.looks);
       sound = looks.sound;
       count = omega (
         arith,
@@ -61,13 +66,13 @@ loop-preserved g c =
     let seen = c.look_cold.new.self in
     record {
       passed = subst (λ items. HasPassed (g.M.Policy.steady c.args.terms.now)
-          (g.M.Policy.pinned c.args.terms.now)
+          (g.M.Policy.pinned c.args.terms.now) c.args.self.now.mark_cut
           g.P.Touch.Touches.may_count (items_of c.args.self.now.lists.cold) (c.loop.counter + 1)
           items)
           (sym (ap (λ (l : Lists _ _ _). items_of l.cold) c.turn.ensures
           ∙ items_of-turned seen.lists.cold))
           (HasPassed-more (g.M.Policy.steady c.args.terms.now)
-          (g.M.Policy.pinned c.args.terms.now)
+          (g.M.Policy.pinned c.args.terms.now) c.args.self.now.mark_cut
           g.P.Touch.Touches.may_count (items_of c.args.self.now.lists.cold) c.loop.counter
           (items_of cold) i.passed (items_of seen.lists.cold)
           (omega (
@@ -76,7 +81,10 @@ loop-preserved g c =
             c.count-end.ensures,
             items_of-length c.args.self.now.lists.cold,
           ))
-          looks.looks);
+          (subst (λ n. LooksAt (g.M.Policy.steady c.args.terms.now)
+          (g.M.Policy.pinned c.args.terms.now) n g.P.Touch.Touches.may_count (items_of cold)
+          AllPassed (items_of seen.lists.cold))
+          (ap (λ (r : Contents _ _ _ _ _ _). r.mark_cut) i.same) looks.looks));
       sound = subst (λ (l : Lists _ _ _). IsSound g.P.SharedPlaceholder.ticket_of g.K.PartialEq.eq
           (g.M.Policy.hashed c.args.terms.now) (record seen { lists = l })) (sym c.turn.ensures)
           (IsSound-cold_turned g.P.SharedPlaceholder.ticket_of g.K.PartialEq.eq

@@ -8,7 +8,7 @@ use Rattle.quick_cache_policy.proofs.contents.Contents.search_cold.Given as goal
 abbrev pub invariant-loop : goal.invariant-loop
 invariant-loop g l = record {
   passed : HasPassed (g.M.Policy.steady l.terms) (g.M.Policy.pinned l.terms)
-      g.P.Touch.Touches.may_count (items_of l.initial.self.lists.cold) l.counter
+      l.initial.self.mark_cut g.P.Touch.Touches.may_count (items_of l.initial.self.lists.cold) l.counter
       (items_of l.self.lists.cold);
   sound : IsSound g.P.SharedPlaceholder.ticket_of g.K.PartialEq.eq (g.M.Policy.hashed l.terms)
       l.self;

@@ -1,4 +1,3 @@
-use Rattle.quick_cache_model.specs.CacheState.{default_mark_cut}
 use Rattle.quick_cache_lists.specs.Views.{items_of}
 use Rattle.quick_cache_policy.specs.Rounds.{advance_measure}
 use Rattle.quick_cache_policy.proofs.HotSeekLemmas.{SeeksVictim}
@@ -12,4 +11,4 @@ invariant-loop-takes_touches g l = SeeksVictim g.P.SharedPlaceholder.ticket_of g
 
 abbrev pub decreases-loop-takes_touches : goal.decreases-loop-takes_touches
 decreases-loop-takes_touches g l =
-    advance_measure l.takes_touches default_mark_cut (items_of l.self.lists.hot)
+    advance_measure l.takes_touches l.self.mark_cut (items_of l.self.lists.hot)

@@ -64,15 +64,18 @@ returns-clause-work g c =
     let ready = c.forget_ghosts.new.self in
     let same = c.forget_ghosts.ensures.same in
     let n = ring_count Hot old + ring_count Cold old + 1 in
-    subst (λ w. WorksWithin n w (work_of c.evict_to_capacity.new.self))
+    let cut = old.mark_cut in
+    subst (λ w. WorksWithin cut n w (work_of c.evict_to_capacity.new.self))
     (ap (λ (s : Contents _ _ _ _ _ _). work_of s) same)
-    (PaysFor-within n (ring_count Hot ready) (ring_count Cold ready) _ _ _ _
+    (subst (λ k. WorksWithin k n (work_of ready) (work_of c.evict_to_capacity.new.self))
+    (ap (λ (s : Contents _ _ _ _ _ _). s.mark_cut) same)
+    (PaysFor-within ready.mark_cut n (ring_count Hot ready) (ring_count Cold ready) _ _ _ _
     (omega (
       arith,
       ap (λ (s : Contents _ _ _ _ _ _). ring_count Hot s) same,
       ap (λ (s : Contents _ _ _ _ _ _). ring_count Cold s) same,
     ))
-    c.evict_to_capacity.ensures.work)
+    c.evict_to_capacity.ensures.work))
 
 pub returns-clause-places : goal.returns-clause-places
 returns-clause-places g c = λ place there.

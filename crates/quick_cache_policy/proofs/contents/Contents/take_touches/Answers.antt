@@ -39,7 +39,8 @@ pub returns : goal.returns
 returns g c =
     let item = c.item-item.result in
     let n = c.take_touch-count.result in
-    let mark : c.min-mark.result ≡ raised_by 2 n item.mark =
+    let cut = c.args.self.now.mark_cut in
+    let mark : c.min-mark.result ≡ raised_by cut n item.mark =
     omega (
       arith,
       c.min-mark.ensures,
@@ -52,13 +53,13 @@ returns g c =
     omega (arith, c.saturating_add-reads.ensures, c.reads.ensures) in
     record {
       item = item;
-      touched = record item { mark = raised_by 2 n item.mark; reads = counted_up n item.reads };
+      touched = record item { mark = raised_by cut n item.mark; reads = counted_up n item.reads };
       is_of = subst (λ l. IsItemOf l (number c.args.token) item) c.take_touch-count.ensures.same
           c.item-item.ensures;
       takes = (
         n,
         c.take_touch-count.ensures.counted,
-        sym (with_touches-some 2 n item c.if-count-eq0.false),
+        sym (with_touches-some cut n item c.if-count-eq0.false),
       );
       same = λ i. record c.args.self.now {
         lists = (c.set_counts.ensures
@@ -68,6 +69,6 @@ returns g c =
             ∙ ap (λ m. with_change (number c.args.token)
             (with_counts m c.saturating_add-reads.result) c.args.self.now.lists) mark
             ∙ ap (λ m. with_change (number c.args.token)
-            (with_counts (raised_by 2 n item.mark) m) c.args.self.now.lists) reads) i;
+            (with_counts (raised_by cut n item.mark) m) c.args.self.now.lists) reads) i;
       };
     }

@@ -38,9 +38,9 @@ returns-in-TooHeavy-clause-writes g c =
 pub returns-in-TooHeavy-clause-work : goal.returns-in-TooHeavy-clause-work
 returns-in-TooHeavy-clause-work g c =
     let old = c.args.self.now in
-    subst (WorksWithin (ring_count Hot old + ring_count Cold old + 1) (work_of old))
+    subst (WorksWithin old.mark_cut (ring_count Hot old + ring_count Cold old + 1) (work_of old))
     (sym (ap work_of c.reject_too_heavy.ensures.same))
-    (WorksWithin-none (ring_count Hot old + ring_count Cold old + 1) (work_of old) (omega arith)
+    (WorksWithin-none old.mark_cut (ring_count Hot old + ring_count Cold old + 1) (work_of old) (omega arith)
     (omega arith))
 
 pub returns-in-TooHeavy-clause-places : goal.returns-in-TooHeavy-clause-places

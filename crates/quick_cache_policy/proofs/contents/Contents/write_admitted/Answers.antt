@@ -36,7 +36,7 @@ returns-then-not-makes_items-clause-writes g c =
 pub returns-then-not-makes_items-clause-work : goal.returns-then-not-makes_items-clause-work
 returns-then-not-makes_items-clause-work g c =
     let old = c.args.self.now in
-    WorksWithin-none (ring_count Hot old + ring_count Cold old + 1) (work_of old) (omega arith)
+    WorksWithin-none old.mark_cut (ring_count Hot old + ring_count Cold old + 1) (work_of old) (omega arith)
     (omega arith)
 
 -- and moves nothing

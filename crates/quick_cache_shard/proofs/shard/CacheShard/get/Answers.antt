@@ -1,5 +1,5 @@
 use Rattle.std.proofs.Common.{ap, ◌∙◌, refl}
-use Rattle.quick_cache_model.specs.CacheState.{Item, default_mark_cut}
+use Rattle.quick_cache_model.specs.CacheState.{Item}
 use Rattle.quick_cache_model.specs.Lookups.{looked_up}
 use Rattle.quick_cache_policy.specs.declared.contents.Contents.{Contents}
 use Rattle.quick_cache_policy.specs.Contents.{state_of, work_of}
@@ -18,7 +18,7 @@ pub returns : goal.returns
 returns g c =
     let looks = c.in_ok-token.ensures.looks_up in
     let shown = IsItemOf-one c.look_up.new.self.lists c.apart.ensures.apart _
-    (looked_up default_mark_cut looks.item) c.item.result looks.now c.item.ensures in
+    (looked_up c.self.inside.contents.mark_cut looks.item) c.item.result looks.now c.item.ensures in
     let value = c.value.ensures ∙ ap (λ (item : Item g.row.K.Denot g.row.V.Denot). item.value) shown
     in
     let work = ap (λ (now : Contents g.row.K.Denot g.row.V.Denot g.row.P.Denot g.row.A.Denot

@@ -1,5 +1,5 @@
 use Rattle.std.proofs.Common.{◌≡◌, ap, ◌∙◌, refl}
-use Rattle.quick_cache_model.specs.CacheState.{Item, default_mark_cut}
+use Rattle.quick_cache_model.specs.CacheState.{Item}
 use Rattle.quick_cache_model.specs.Lookups.{looked_up}
 use Rattle.quick_cache_model.specs.Removal.{pair_of}
 use Rattle.quick_cache_policy.specs.declared.contents.Contents.{Contents}
@@ -46,7 +46,7 @@ pub returns : goal.returns
 returns g c =
     let looks = c.in_ok-token.ensures.looks_up in
     let shown = IsItemOf-one c.look_up.new.self.lists c.apart.ensures.apart _
-    (looked_up default_mark_cut looks.item) c.item.result looks.now c.item.ensures in
+    (looked_up c.self.inside.contents.mark_cut looks.item) c.item.result looks.now c.item.ensures in
     let pair : (c.pair.result.0.now, c.pair.result.1.now) ≡ pair_of looks.item =
     (λ i. (c.pair.ensures.key i, c.pair.ensures.value i))
     ∙ ap (λ (item : Item g.row.K.Denot g.row.V.Denot). pair_of item) shown in

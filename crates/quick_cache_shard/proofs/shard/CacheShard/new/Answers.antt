@@ -13,8 +13,9 @@ returns-clause-makes g c =
     let places = places_of-none c.in_ok-new.field-0.lists
     (ap (λ (s : CacheState _ _). s.hot) state) (ap (λ (s : CacheState _ _). s.cold) state)
     (ap (λ (s : CacheState _ _). s.still) state) in
-    let sized = state ∙ (λ i. empty_state c.args.weight (c.hot_target-hot_target.ensures.value i)
-    (c.ghost_limit-ghost_limit.ensures.value i)) in
+    let sized = state ∙ (λ i. record (empty_state c.args.weight
+    (c.hot_target-hot_target.ensures.value i) (c.ghost_limit-ghost_limit.ensures.value i))
+    { mark_cut = c.args.mark_cut }) in
     λ i. record {
       state = sized i;
       places = places i;

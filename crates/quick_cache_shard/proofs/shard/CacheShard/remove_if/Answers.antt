@@ -7,6 +7,9 @@ use Rattle.quick_cache_shard.proofs.shard.CacheShard.remove_if.Goals as goal
 pub invariant_of-self : goal.invariant_of-self
 invariant_of-self g c = c.remove_if-taken.ensures.sound _ c.self.invariant
 
+pub remove_if-taken-requires-clause-callable : goal.remove_if-taken-requires-clause-callable
+remove_if-taken-requires-clause-callable g c = rw (← c.self.view_is) at c.requires.callable
+
 -- what a pure test answers, the predicate answered
 pub returns-clause-removes : goal.returns-clause-removes
 returns-clause-removes g c = λ passes as_test.

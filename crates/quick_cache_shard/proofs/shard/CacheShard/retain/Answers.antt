@@ -7,6 +7,9 @@ use Rattle.quick_cache_shard.proofs.shard.CacheShard.retain.Goals as goal
 pub invariant_of-self : goal.invariant_of-self
 invariant_of-self g c = c.retain.ensures.sound _ c.self.invariant
 
+pub retain-requires : goal.retain-requires
+retain-requires g c = record { callable = rw (← c.self.view_is) at c.requires.callable }
+
 -- what a pure test answers, the predicate answered
 pub returns-clause-retains : goal.returns-clause-retains
 returns-clause-retains g c = λ keeps as_test.

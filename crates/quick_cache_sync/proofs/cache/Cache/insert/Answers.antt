@@ -14,7 +14,7 @@ returns g c =
             first = c.default-state.result;
             last = c.insert_with_lifecycle.new.state;
             begins = c.default-state.ensures;
-            inserts = some.holds.step;
+            does = some.holds.step;
           };
         };
       };

@@ -18,4 +18,5 @@ returns g c =
           };
         };
       };
+      fits = c.replace_with_lifecycle.ensures.fits;
     }

@@ -23,7 +23,7 @@ invariant_of-self-in_err-insert g c =
     g.L.RequestState.Default.is_default g.K.PartialEq.eq g.K.Clone.is_clone g.V.Clone.is_clone
     old c.self.invariant new new.state new.places new.room new.work
     c.insert.ensures.same
-    c.in_err-insert.ensures.inserts.inserts.unchanged)
+    c.in_err-insert.ensures.inserts.does.unchanged)
 
 -- the insert is a step, which the new entry shows
 pub invariant_of-self-2 : goal.invariant_of-self-2
@@ -53,7 +53,7 @@ invariant_of-self-2 g c =
     (hooks_of g.L.Lifecycle inside.cache) g.L.RequestState.Default.is_default inside.cache.state
     new.state (g.L.Lifecycle.steady inside.cache.lifecycle) c.self.invariant.steady c.args.key
     c.in-Ok-Ok.kept c.args.value c.in-Ok-Ok.copy (rw c.in-Ok-Ok.is-0 at is_key)
-    (rw c.in-Ok-Ok.is-1 at is_value) done.first done.last done.begins done.inserts)
+    (rw c.in-Ok-Ok.is-1 at is_value) done.first done.last done.begins done.does)
 
 pub returns-clause-notes : goal.returns-clause-notes
 returns-clause-notes g c =

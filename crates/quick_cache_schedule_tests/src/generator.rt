@@ -1,0 +1,7 @@
+//! Random numbers, which a seed determines. The upper bits are the better ones.
+
+/// The next number of the generator.
+pub fn next(seed: u64) -> u64 {
+    seed.wrapping_mul(6_364_136_223_846_793_005)
+        .wrapping_add(1_442_695_040_888_963_407)
+}

@@ -1,0 +1,68 @@
+-- The steps of a shard's calls that weigh, pin or call hooks, as what it goes by says. The request
+-- state comes last, before and after.
+use Rattle.std.specs.Prelude.{ℕ, Bool, Option, Result}
+use Rattle.quick_cache_model.specs.declared.refusal.Refusal.{Refusal}
+use Rattle.quick_cache_model.specs.Hooks.{Rules, Hooks, Calls}
+use Rattle.quick_cache_model.specs.Writes.{Strategy}
+use Rattle.quick_cache_policy.specs.Filling.{AnswersFill}
+use Rattle.quick_cache_policy.specs.References.{ReweighsUnder}
+use Rattle.quick_cache_policy.specs.Writing.{AnswersWrite}
+use Rattle.quick_cache_policy.specs.Policies.{rules_by}
+use Rattle.quick_cache_shard.specs.Inserts.{Inserts}
+use Rattle.quick_cache_shard.specs.Replaces.{Replaces}
+use Rattle.quick_cache_shard.specs.SetsCapacity.{SetsCapacityTo}
+use Rattle.quick_cache_shard.specs.Shard.{Shard, terms_of}
+pub use Rattle.quick_cache_shard.specs.Goes.{Goes, goes_by}
+
+-- what it says of a shard: whether pinning is steady, the hooks that are called, and the rules
+module _ {K V We B L S : Type 0} (goes : Goes K V We B L S) where
+  abbrev pub steady_in : Shard K V We B L → Type 0
+  steady_in shard = goes.steady (terms_of shard)
+
+  abbrev pub hooks_in : Shard K V We B L → Hooks K V S
+  hooks_in shard = goes.hooks (terms_of shard)
+
+  abbrev pub rules_in : (may_count : ℕ → Type 0) → Shard K V We B L → Rules K V
+  rules_in may_count shard = rules_by goes may_count (terms_of shard)
+
+module _ {K V We B L S : Type 0} (goes : Goes K V We B L S)
+    (may_count : ℕ → Type 0) (old : Shard K V We B L) where
+  -- The pair was written or comes back, and where pinning is steady, that is a step of its
+  -- definition.
+  abbrev pub AnswersWriteBy : (equal : K → K → Bool) → Strategy → (key : K) → (value : V)
+      → Result (Unit {0}) (K × V × Option Refusal) → (new : Shard K V We B L) → S → S → Type 0
+  AnswersWriteBy equal strategy key value answer new first last =
+      AnswersWrite (steady_in goes old) (hooks_in goes old) (rules_in goes may_count old) equal
+      strategy old.state first key value answer new.state last
+
+  -- an insert, which is admitted or refused
+  abbrev pub InsertsBy : (equal : K → K → Bool) → (key : K) → (value : V)
+      → Result (Unit {0}) (K × V × Refusal) → (new : Shard K V We B L) → S → S → Type 0
+  InsertsBy equal key value answer new first last =
+      Inserts (steady_in goes old) (hooks_in goes old) (rules_in goes may_count old) equal
+      old.state first key value answer new.state last
+
+  -- a replace, which is never refused
+  abbrev pub ReplacesBy : (equal : K → K → Bool) → (soft : Bool) → (key : K) → (value : V)
+      → Result (Unit {0}) (K × V) → (new : Shard K V We B L) → S → S → Type 0
+  ReplacesBy equal soft key value answer new first last =
+      Replaces (steady_in goes old) (hooks_in goes old) (rules_in goes may_count old) equal
+      old.state soft first key value answer new.state last
+
+  -- the placeholder of the ticket was filled, or is gone
+  abbrev pub FillsBy : (ticket : ℕ) → (referenced : Bool) → (value : V) → Result (Unit {0}) V
+      → (new : Shard K V We B L) → S → S → Type 0
+  FillsBy ticket referenced value answer new =
+      Calls (hooks_in goes old) (AnswersFill (steady_in goes old) ticket old.state
+      (rules_in goes may_count old) referenced value answer new.state)
+
+  -- the capacity was set, and victims left
+  abbrev pub SetsCapacityBy : (capacity : ℕ) → (new : Shard K V We B L) → S → S → Type 0
+  SetsCapacityBy capacity new first last =
+      SetsCapacityTo (steady_in goes old) (hooks_in goes old) (rules_in goes may_count old)
+      capacity old.state first new.state last
+
+  -- the item under the query was weighed anew
+  abbrev pub ReweighsBy : (stands_for : K → Bool) → (new : Shard K V We B L) → Type 0
+  ReweighsBy stands_for new =
+      ReweighsUnder stands_for (rules_in goes may_count old) old.state new.state
