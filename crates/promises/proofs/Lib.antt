@@ -1,3 +1,5 @@
+mod ContainerLemmas
+mod LentLemmas
 mod OneThreadLemmas
 mod SharedLemmas
 mod ToldLemmas

@@ -74,6 +74,15 @@ pub fn first_item<T: Copy>(slab: &LinkedSlab<T>) -> Option<T>
     slab.iter().next().copied()
 }
 
+/// So does a walk that is asked for by the other name.
+pub fn first_entry<T: Copy>(slab: &LinkedSlab<T>) -> Option<T>
+    ensures none { IfNone result (items slab.now ≡ []) }
+    ensures first { IfSome result (λ first.
+        (rest : List T) × (items slab.now ≡ first ∷ rest)) }
+{
+    slab.iter_entries().next().copied()
+}
+
 /// A slab of whose slots none is taken has no item.
 pub fn count_of_new<T: Drop>(alloc: Global) -> Result<usize, Refusal>
     ensures { IfOk result (λ count. count ≡ 0) }
@@ -121,4 +130,11 @@ pub fn find_token(table: &Table, hash: u64, token: Token) -> bool
     ensures { result ≡ has_pair table.now hash (number token) }
 {
     table.find(hash, |other| other == token).is_some()
+}
+
+/// The tokens of a hash have a pair each, and there is none only where no token has one.
+pub fn first_token(table: &Table, hash: u64) -> Option<Token>
+    ensures { IfSome result (λ token. has_pair table.now hash (number token) ≡ true) }
+{
+    table.iter_hash(hash).next()
 }

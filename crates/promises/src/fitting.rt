@@ -1,9 +1,13 @@
 //! What a caller relies on that sees values under the lock of the shared cache: they fit.
 ghost use Rattle.std.specs.Prelude.{◌≡◌, ◌<◌, IfOk, IfSome, None, Some};
 
+use quick_cache_guard::{EntryResult, GuardResult};
 use quick_cache_model::{DefaultHashBuilder, Lifecycle, Refusal, UnitWeighter};
-use quick_cache_sync::Cache;
+use quick_cache_policy::EntryAction;
+use quick_cache_sync::{Cache, LockContention, TryError};
+use std::convert::Infallible;
 use std::sync::Wait;
+use std::time::Clock;
 
 /// Says that no value is 0, and keeps the value of the last pair that left.
 #[derive(Drop)]
@@ -47,6 +51,95 @@ impl Lifecycle<u64, u64> for AboveZero {
 
 /// A shared cache of such values.
 pub type Shares = Cache<u64, u64, UnitWeighter, DefaultHashBuilder, AboveZero>;
+
+/// A value that a look-up shows fits.
+pub fn divide_by_found<R: Wait>(rt: &R, shares: &Shares, key: &u64, sum: u64) -> u64 {
+    match shares.get(rt, key) {
+        Ok(Some(value)) => sum / value,
+        _ => sum,
+    }
+}
+
+/// So does one that a peek shows.
+pub fn divide_by_peeked<R: Wait>(rt: &R, shares: &Shares, key: &u64, sum: u64) -> u64 {
+    match shares.peek(rt, key) {
+        Ok(Some(value)) => sum / value,
+        _ => sum,
+    }
+}
+
+/// And one that is taken out.
+pub fn divide_by_taken<R: Wait>(rt: &R, shares: &Shares, key: &u64, sum: u64) -> u64 {
+    match shares.remove(rt, key) {
+        Some((_, value)) => sum / value,
+        None => sum,
+    }
+}
+
+/// So it is where the call does not wait for the lock. Where the clones of a value cannot fail, only
+/// another's lock keeps it from an answer.
+pub fn try_to_divide(shares: &Shares, key: &u64, sum: u64) -> Result<u64, LockContention> {
+    match shares.try_get(key) {
+        Ok(Some(value)) => Ok(sum / value),
+        Ok(None) => Ok(sum),
+        Err(TryError::Contended(contention)) => Err(contention),
+        Err(TryError::Refused(_)) => unreachable!(),
+    }
+}
+
+/// By a peek too.
+pub fn try_to_peek(shares: &Shares, key: &u64, sum: u64) -> Result<u64, LockContention> {
+    match shares.try_peek(key) {
+        Ok(Some(value)) => Ok(sum / value),
+        Ok(None) => Ok(sum),
+        Err(TryError::Contended(contention)) => Err(contention),
+        Err(TryError::Refused(_)) => unreachable!(),
+    }
+}
+
+/// And by a removal.
+pub fn try_to_take(shares: &Shares, key: &u64, sum: u64) -> Result<u64, LockContention> {
+    match shares.try_remove(key)? {
+        Some((_, value)) => Ok(sum / value),
+        None => Ok(sum),
+    }
+}
+
+/// A loaded value fits, whoever loaded it. A loader that cannot fail is told to have failed by none.
+pub fn divide_by_loaded<R: Wait>(rt: &R, shares: &Shares, key: &u64, sum: u64) -> u64 {
+    let loaded: Result<Result<u64, Infallible>, Refusal> = shares.get_or_insert_with(
+        rt,
+        key,
+        || Ok(7),
+    );
+    match loaded {
+        Ok(Ok(value)) => sum / value,
+        Ok(Err(never)) => match never {},
+        Err(_) => sum,
+    }
+}
+
+/// A value for which one waited fits, and the guard in its place is that of the key.
+pub fn divide_or_load<R: Wait + Clock>(rt: &R, shares: &Shares, key: &u64, sum: u64) -> u64 {
+    match shares.get_value_or_guard(rt, key, None) {
+        GuardResult::Value(value) => sum / value,
+        GuardResult::Guard(guard) => {
+            drop(guard.insert(7));
+            sum
+        }
+        GuardResult::Timeout => sum,
+        GuardResult::Refused(_) => sum,
+    }
+}
+
+/// What an entry call takes out fits.
+pub fn divide_by_entry<R: Wait + Clock>(rt: &R, shares: &Shares, key: &u64, sum: u64) -> u64 {
+    let mut removes = |_: &u64, _: &mut u64| -> EntryAction<()> { EntryAction::Remove };
+    match shares.entry(rt, key, None, &mut removes) {
+        EntryResult::Removed(_, value) => sum / value,
+        _ => sum,
+    }
+}
 
 /// A test that is safe at values that fit alone may be handed to a removal.
 pub fn take_large<R: Wait>(rt: &R, shares: &Shares, key: &u64, sum: u64) -> Option<(u64, u64)>

@@ -3,6 +3,7 @@ ghost use Rattle.std.specs.Prelude.{◌≡◌, IsOk, IfOk};
 
 use quick_cache_base::OptionsBuilder;
 use quick_cache_base::options::{Error, Options};
+use quick_cache_base::sizes::shard_count;
 
 /// Options by a chain of setters, whose outcome is known before it runs.
 pub fn build_by_a_chain() -> Result<Options, Error>
@@ -21,4 +22,11 @@ pub fn build_by_a_chain() -> Result<Options, Error>
         .hot_allocation(7)
         .ghost_allocation(8)
         .build()
+}
+
+/// A cache for few items has one shard, however many are asked for.
+pub fn count_shards() -> usize
+    ensures { result ≡ 1 }
+{
+    shard_count(16, 32)
 }

@@ -4,11 +4,19 @@
 #[cfg(test)]
 mod eviction_tests;
 #[cfg(test)]
+mod memory_tests;
+#[cfg(test)]
 mod option_tests;
 mod options;
 mod print;
 mod serve;
 mod session;
+#[cfg(test)]
+mod stored_replies;
+#[cfg(test)]
+mod stored_script;
+#[cfg(test)]
+mod stored_tests;
 #[cfg(test)]
 mod tests;
 

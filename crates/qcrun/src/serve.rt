@@ -2,17 +2,16 @@
 ghost use Rattle.std.specs.Io.KnownBytes.{Appends};
 ghost use Rattle.std.specs.Prelude.{◌≡◌, ℕ, Bool, List, None, IfOk, OnOk};
 ghost use Rattle.std.specs.Process.{exit_status};
-ghost use Rattle.quick_cache_shard.specs.Shard.{rules_of};
+ghost use Rattle.quick_cache_shard.specs.Steps.{rules_in};
 ghost use Rattle.quick_cache_unsync.specs.Touches.{no_touches};
 ghost use Rattle.qcrun.specs.Runs.{PrintsLine, ServesKnown, ServesLine, bad_line, status_of};
 
 use crate::print::print;
 use crate::session::{Outcome, Session};
-use qcrun_cache::{ByKind, LastDigits, RemainderBuilder, RemainderHasher};
+use qcrun_cache::NumberCache;
 use qcrun_commands::{Line, command_of, read_line};
-use quick_cache_model::{Lifecycle, Weighter};
+use quick_cache_shard::Going;
 use std::alloc::Allocator;
-use std::hash::{BuildHasher, Hash, Hasher};
 use std::io::{self, BufReader, ErrorKind, Read, Write};
 use std::process::ExitCode;
 
@@ -38,9 +37,7 @@ trait LineServer {
 
 impl<A: Allocator + Copy> LineServer for Session<A> {
     ghost serves_line = { λ old line served new printed. ServesLine A
-        (rules_of no_touches ⟦<u64 as Hash>⟧.hash_input
-        ⟦<LastDigits as Weighter<u64, u64>>⟧ ⟦<RemainderBuilder as BuildHasher>⟧
-        ⟦<RemainderHasher as Hasher>⟧ ⟦<ByKind<A> as Lifecycle<u64, u64>>⟧)
+        (rules_in ⟦<NumberCache<A> as Going>⟧.goes no_touches)
         old.cache line served new.cache printed };
 
     fn serve_line<W: Write>(&mut self, line: &[u8], writer: &mut W) -> io::Result<bool> {

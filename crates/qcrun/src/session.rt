@@ -1,19 +1,19 @@
 //! The cache that stands, and what commands do to it.
 ghost use Rattle.std.specs.Prelude.{◌≡◌, None, option_copied};
-ghost use Rattle.quick_cache_shard.specs.Shard.{rules_of};
+ghost use Rattle.quick_cache_shard.specs.Steps.{rules_in};
 ghost use Rattle.quick_cache_unsync.specs.Touches.{no_touches};
 ghost use Rattle.qcrun.specs.Sessions.{MakesCache, ServesCommand, ShowsCache};
 
 use crate::options::options_of;
 use qcrun_cache::still::still;
-use qcrun_cache::{ByKind, Events, LastDigits, NumberCache, RemainderBuilder, RemainderHasher};
+use qcrun_cache::{ByKind, Events, LastDigits, NumberCache, RemainderBuilder};
 use qcrun_calls::{Answer, make_call};
 use qcrun_commands::Command;
-use quick_cache_model::{Lifecycle, Refusal, Weighter};
+use quick_cache_model::Refusal;
 use quick_cache_options::options::OptionsBuilder;
+use quick_cache_shard::Going;
 use quick_cache_unsync::Cache;
 use std::alloc::Allocator;
-use std::hash::{BuildHasher, Hash, Hasher};
 
 /// What became of a command.
 #[derive(Drop)]
@@ -54,9 +54,7 @@ impl<A: Allocator + Copy> Session<A> {
     /// Serves a command. It prints nothing.
     pub fn serve(&mut self, command: Command) -> Outcome<A>
         ensures { ServesCommand
-            (rules_of no_touches ⟦<u64 as Hash>⟧.hash_input ⟦<LastDigits as Weighter<u64, u64>>⟧
-            ⟦<RemainderBuilder as BuildHasher>⟧ ⟦<RemainderHasher as Hasher>⟧
-            ⟦<ByKind<A> as Lifecycle<u64, u64>>⟧)
+            (rules_in ⟦<NumberCache<A> as Going>⟧.goes no_touches)
             self.old.cache command result self.new.cache }
     {
         let mut events = Some(Vec::new(self.alloc));

@@ -1,6 +1,5 @@
 //! What is printed for whole scripts, and the status at the end.
 use crate::serve::serve;
-use rationed::Rationed;
 use std::alloc::Global;
 use std::io::{self, ErrorKind, Read, Write};
 use std::ops::RangeInclusive;
@@ -17,7 +16,7 @@ pub fn check(rt: &impl Abort, alloc: Global, script: &[u8], wanted: &str, status
 
 #[test]
 fn scripts_print_their_replies(rt: HostRuntime) {
-    let scripts: [(&str, &str); 16] = [
+    let scripts: [(&str, &str); 17] = [
         ("", ""),
         (
             "cache 2 2 970000 500000 1\ninsert 1 1\nget 1\ninsert 2 1\nget 2\nget 2\nget 2\n\
@@ -53,6 +52,10 @@ fn scripts_print_their_replies(rt: HostRuntime) {
         (
             "cache 0 0\ninsert 1 1\nget 1\nshow\n",
             "ok\nbefore 1 1\ncold 1 1\nok\nnone\nhot\ncold\nghosts\nstill\ncount 0 0 0 0\n",
+        ),
+        (
+            "cache 0 0\ninsert 1 400\nget 1\nshow\n",
+            "ok\nok\nsome 400\nhot\ncold\nghosts\nstill 1:400\ncount 1 0 0 0\n",
         ),
         (
             "cache 2 2\ninsert 1 1\ninsert 2 1\ninsert 3 1\ninsert 2 1\nshow\n",
@@ -274,6 +277,26 @@ fn a_bad_line_is_told_by_its_number(rt: HostRuntime) -> Result<(), Fail> {
 }
 
 #[test]
+fn a_hundred_keys_of_one_hash_are_found_and_go_once(rt: HostRuntime) -> Result<(), Fail> {
+    let mut script = Vec::new(rt.alloc());
+    let mut wanted = Vec::new(rt.alloc());
+    write!(script, "cache 100 100\n")?;
+    write!(wanted, "ok\n")?;
+    for key in 1..=100 {
+        writeln!(script, "insert {key}000 {key}01")?;
+        writeln!(wanted, "ok")?;
+    }
+    for key in 1..=100 {
+        writeln!(script, "get {key}000\nremove {key}000\nremove {key}000")?;
+        writeln!(wanted, "some {key}01\nsome {key}000 {key}01\nnone")?;
+    }
+    let mut written = Vec::new(rt.alloc());
+    let ended = serve(rt.alloc(), script.as_slice(), &mut written);
+    assert!(rt; ended == ExitCode::from(0) && written.as_slice() == wanted.as_slice());
+    Ok(())
+}
+
+#[test]
 fn two_of_each_are_shown_in_order(rt: HostRuntime) -> Result<(), Fail> {
     let mut script = Vec::new(rt.alloc());
     write!(script, "cache 34 34\n")?;
@@ -367,48 +390,4 @@ fn a_failed_write_ends_it(rt: HostRuntime) {
     );
     assert_eq!(rt; status, ExitCode::from(1));
     assert_eq!(rt; writer.writes, 2);
-}
-
-/// Gives a line at each read, and allows so many blocks from then on.
-#[derive(Drop)]
-struct RationedLines<'a> {
-    ration: &'a Rationed<Global>,
-    lines: &'a [(u64, &'static str)],
-    next: usize,
-}
-
-impl Read for RationedLines<'_> {
-    fn read(&mut self, buf: &mut [u8]) -> io::Result<usize> {
-        let Some((blocks, line)) = self.lines.get(self.next) else {
-            return Ok(0);
-        };
-        self.ration.allow(*blocks);
-        self.next = self.next.saturating_add(1);
-        let mut line = line.as_bytes();
-        line.read(buf)
-    }
-}
-
-#[test]
-fn what_lacks_memory_is_told(rt: HostRuntime) {
-    let ration = Rationed::new(rt.alloc(), 1);
-    let lines = [
-        (100, "cache 55 55\n"),
-        (0, "insert 1 1\n"),
-        (100, "insert 1 1\n"),
-        (0, "insert 1 2\n"),
-        (0, "get 1\n"),
-    ];
-    let reader = RationedLines {
-        ration: &ration,
-        lines: &lines,
-        next: 0,
-    };
-    let mut written = Vec::new(rt.alloc());
-    let status = serve(&ration, reader, &mut written);
-    assert_eq!(rt; status, ExitCode::from(0));
-    assert_eq!(rt;
-        written.as_slice(),
-        b"ok\nrefused memory\nok\nevents lost\nok\nsome 2\n".as_slice()
-    );
 }

@@ -3,17 +3,17 @@ ghost use Rattle.std.specs.Prelude.{◌≡◌, IsSome, nat_eq};
 ghost use Rattle.quick_cache_model.specs.Hooks.{Calls};
 ghost use Rattle.quick_cache_model.specs.Lookups.{Sees};
 ghost use Rattle.quick_cache_model.specs.Removal.{RemovesIf};
-ghost use Rattle.quick_cache_shard.specs.Shard.{rules_of, hooks_of, UpToOrder};
+ghost use Rattle.quick_cache_shard.specs.Shard.{UpToOrder};
+ghost use Rattle.quick_cache_shard.specs.Steps.{rules_in, hooks_in};
 ghost use Rattle.quick_cache_unsync.specs.Touches.{no_touches};
 ghost use Rattle.qcrun_calls.specs.Served.{Serves, ServesAsked, call_of, is_wanted, numbers_of};
 
-use qcrun_cache::{ByKind, Events, LastDigits, NumberCache, RemainderBuilder, RemainderHasher};
+use qcrun_cache::{Events, NumberCache};
 use qcrun_commands::Command;
 use quick_cache_calls::{Call, Reply};
-use quick_cache_model::{Lifecycle, Weighter};
+use quick_cache_shard::Going;
 use quick_cache_unsync::{poke, set};
 use std::alloc::Allocator;
-use std::hash::{BuildHasher, Hash, Hasher};
 
 /// Inserts a pair.
 fn insert<A: Allocator>(
@@ -22,11 +22,8 @@ fn insert<A: Allocator>(
     value: u64,
     events: &mut Events<A>,
 ) -> Reply<u64, u64>
-    ensures serves { Calls (hooks_of ⟦<ByKind<A> as Lifecycle<u64, u64>>⟧ cache.old)
-        (λ calls. Serves
-        (rules_of no_touches ⟦<u64 as Hash>⟧.hash_input
-        ⟦<LastDigits as Weighter<u64, u64>>⟧ ⟦<RemainderBuilder as BuildHasher>⟧
-        ⟦<RemainderHasher as Hasher>⟧ ⟦<ByKind<A> as Lifecycle<u64, u64>>⟧ cache.old)
+    ensures serves { Calls (hooks_in ⟦<NumberCache<A> as Going>⟧.goes cache.old)
+        (λ calls. Serves (rules_in ⟦<NumberCache<A> as Going>⟧.goes no_touches cache.old)
         cache.old.state (Call.Insert key value) result calls cache.new.state)
         events.old events.new }
     ensures same { cache.new ≡ record cache.old {
@@ -50,11 +47,8 @@ fn replace<A: Allocator>(
     soft: bool,
     events: &mut Events<A>,
 ) -> Reply<u64, u64>
-    ensures serves { Calls (hooks_of ⟦<ByKind<A> as Lifecycle<u64, u64>>⟧ cache.old)
-        (λ calls. Serves
-        (rules_of no_touches ⟦<u64 as Hash>⟧.hash_input
-        ⟦<LastDigits as Weighter<u64, u64>>⟧ ⟦<RemainderBuilder as BuildHasher>⟧
-        ⟦<RemainderHasher as Hasher>⟧ ⟦<ByKind<A> as Lifecycle<u64, u64>>⟧ cache.old)
+    ensures serves { Calls (hooks_in ⟦<NumberCache<A> as Going>⟧.goes cache.old)
+        (λ calls. Serves (rules_in ⟦<NumberCache<A> as Going>⟧.goes no_touches cache.old)
         cache.old.state (Call.Replace key value soft) result calls cache.new.state)
         events.old events.new }
     ensures same { cache.new ≡ record cache.old {
@@ -95,11 +89,8 @@ fn guarded<A: Allocator>(
     given: Option<u64>,
     events: &mut Events<A>,
 ) -> Reply<u64, u64>
-    ensures serves { Calls (hooks_of ⟦<ByKind<A> as Lifecycle<u64, u64>>⟧ cache.old)
-        (λ calls. Serves
-        (rules_of no_touches ⟦<u64 as Hash>⟧.hash_input
-        ⟦<LastDigits as Weighter<u64, u64>>⟧ ⟦<RemainderBuilder as BuildHasher>⟧
-        ⟦<RemainderHasher as Hasher>⟧ ⟦<ByKind<A> as Lifecycle<u64, u64>>⟧ cache.old)
+    ensures serves { Calls (hooks_in ⟦<NumberCache<A> as Going>⟧.goes cache.old)
+        (λ calls. Serves (rules_in ⟦<NumberCache<A> as Going>⟧.goes no_touches cache.old)
         cache.old.state (Call.Guarded key given) result calls cache.new.state)
         events.old events.new }
     ensures same { cache.new ≡ record cache.old {
@@ -129,11 +120,8 @@ fn load<A: Allocator>(
     given: Option<u64>,
     events: &mut Events<A>,
 ) -> Reply<u64, u64>
-    ensures serves { Calls (hooks_of ⟦<ByKind<A> as Lifecycle<u64, u64>>⟧ cache.old)
-        (λ calls. Serves
-        (rules_of no_touches ⟦<u64 as Hash>⟧.hash_input
-        ⟦<LastDigits as Weighter<u64, u64>>⟧ ⟦<RemainderBuilder as BuildHasher>⟧
-        ⟦<RemainderHasher as Hasher>⟧ ⟦<ByKind<A> as Lifecycle<u64, u64>>⟧ cache.old)
+    ensures serves { Calls (hooks_in ⟦<NumberCache<A> as Going>⟧.goes cache.old)
+        (λ calls. Serves (rules_in ⟦<NumberCache<A> as Going>⟧.goes no_touches cache.old)
         cache.old.state (Call.Load key given) result calls cache.new.state)
         events.old events.new }
     ensures same { cache.new ≡ record cache.old {
@@ -178,11 +166,8 @@ pub fn make_call<A: Allocator>(
     events: &mut Events<A>,
 ) -> Reply<u64, u64>
     requires asks { IsSome (call_of command) }
-    ensures serves { Calls (hooks_of ⟦<ByKind<A> as Lifecycle<u64, u64>>⟧ cache.old)
-        (λ calls. ServesAsked
-        (rules_of no_touches ⟦<u64 as Hash>⟧.hash_input
-        ⟦<LastDigits as Weighter<u64, u64>>⟧ ⟦<RemainderBuilder as BuildHasher>⟧
-        ⟦<RemainderHasher as Hasher>⟧ ⟦<ByKind<A> as Lifecycle<u64, u64>>⟧ cache.old)
+    ensures serves { Calls (hooks_in ⟦<NumberCache<A> as Going>⟧.goes cache.old)
+        (λ calls. ServesAsked (rules_in ⟦<NumberCache<A> as Going>⟧.goes no_touches cache.old)
         cache.old.state command result calls cache.new.state)
         events.old events.new }
     ensures same { cache.new ≡ record cache.old {

@@ -1,9 +1,10 @@
 //! How many keys of a trace this project's cache has when they are asked for.
 ghost use Rattle.std.specs.Prelude.{◌≡◌, ◌∷◌, [], IfOk};
-ghost use Rattle.quick_cache_shard.specs.Shard.{rules_of};
+ghost use Rattle.quick_cache_shard.specs.Steps.{rules_in};
 ghost use Rattle.quick_cache_unsync.specs.Touches.{no_touches};
 ghost use Rattle.qcsim.specs.Simulation.{Simulates, HasHits, counted};
 
+use quick_cache_shard::Going;
 use quick_cache_unsync::{Cache, Lifecycle, Refusal, Weighter};
 use std::alloc::Global;
 use std::hash::{BuildHasher, Hash};
@@ -14,8 +15,7 @@ fn ask_for<K: Eq + Hash + Copy + Drop, We: Weighter<K, ()>, B: BuildHasher, L: L
     key: K,
 ) -> Result<bool, Refusal>
     ensures asks { L.steady cache.old.lifecycle → IfOk result (λ found. Simulates
-        (rules_of no_touches K.Hash.hash_input We.Weighter B.BuildHasher B.Hasher.Hasher L.Lifecycle
-        cache.old) K.eq cache.old.state (key ∷ []) (counted found) cache.new.state) }
+        (rules_in ⟦<Cache<K, (), We, B, L> as Going>⟧.goes no_touches cache.old) K.eq cache.old.state (key ∷ []) (counted found) cache.new.state) }
     ensures same_weigher { cache.new.weigher ≡ cache.old.weigher }
     ensures same_builder { cache.new.builder ≡ cache.old.builder }
     ensures same_lifecycle { cache.new.lifecycle ≡ cache.old.lifecycle }
@@ -38,8 +38,7 @@ fn ask_for_all<
     L: Lifecycle<K, ()>,
 >(cache: &mut Cache<K, (), We, B, L>, keys: &[K]) -> Result<u64, Refusal>
     ensures asks { L.steady cache.old.lifecycle → IfOk result (λ hits. Simulates
-        (rules_of no_touches K.Hash.hash_input We.Weighter B.BuildHasher B.Hasher.Hasher L.Lifecycle
-        cache.old) K.eq cache.old.state keys.now hits cache.new.state) }
+        (rules_in ⟦<Cache<K, (), We, B, L> as Going>⟧.goes no_touches cache.old) K.eq cache.old.state keys.now hits cache.new.state) }
 {
     let mut hits = 0;
     let mut rest = keys;

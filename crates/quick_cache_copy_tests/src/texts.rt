@@ -6,13 +6,14 @@ ghost use Rattle.quick_cache_loading.specs.LoadingStep.{LoadingStep};
 ghost use Rattle.quick_cache_runs.specs.Asked.{IfAsks};
 ghost use Rattle.quick_cache_shard.specs.Copies.{IsCopyOf};
 ghost use Rattle.quick_cache_shard.specs.Predicates.{IsAnsweredAs};
-ghost use Rattle.quick_cache_shard.specs.Shard.{rules_of, hooks_of};
+ghost use Rattle.quick_cache_shard.specs.Steps.{rules_in, hooks_in};
 ghost use Rattle.quick_cache_copy_tests.specs.Shown.{HasSameBytes, IsShownUnder};
 ghost use Rattle.quick_cache_unsync.specs.Touches.{no_touches};
 
 use quick_cache_base::protocol::{Answer, Core, Event, run as run_loading, step};
 use quick_cache_base::{Lifecycle, Refusal, Weighter};
 use quick_cache_runs::{Call, Reply, run};
+use quick_cache_shard::Going;
 use quick_cache_unsync::Cache;
 use std::alloc::{AllocError, Global};
 use std::hash::{BuildHasher, Hash};
@@ -36,9 +37,9 @@ fn run_texts<
     requires callable { All (IfAsks (λ asked. F.IsAlwaysCallable asked)) calls.items }
     ensures runs { L.steady cache.old.lifecycle → (answers : F → _ → _ → Bool)
         → All (IfAsks (λ asked. IsAnsweredAs F.Fn asked (answers asked))) calls.items → RunsCalls
-        (rules_of no_touches ⟦<String as Hash>⟧.hash_input We.Weighter B.BuildHasher
-        B.Hasher.Hasher L.Lifecycle cache.old)
-        string_eq HasSameBytes HasSameBytes answers (hooks_of L.Lifecycle cache.old)
+        (rules_in ⟦<Cache<String, String, We, B, L> as Going>⟧.goes no_touches cache.old)
+        string_eq HasSameBytes HasSameBytes answers
+        (hooks_in ⟦<Cache<String, String, We, B, L> as Going>⟧.goes cache.old)
         cache.old.state state.old calls.items result cache.new.state state.new }
 {
     run(alloc, cache, calls, state)

@@ -16,7 +16,7 @@ use Rattle.quick_cache_shard.specs.Filling.{AnswersFill}
 use Rattle.quick_cache_shard.specs.Loading.{IsMadeOrMet, LooksUpOrMakes}
 use Rattle.quick_cache_shard.specs.References.{NotesLookUp}
 use Rattle.quick_cache_guard.specs.declared.shard.Begun.TheVariants.{Found}
-use Rattle.quick_cache_shard.specs.Shard.{Shard, hooks_of}
+use Rattle.quick_cache_shard.specs.Lifecycles.{hooks_by}
 use Rattle.quick_cache_locked.specs.Fitting.{FitsIn, AllFit}
 use Rattle.quick_cache_locked.specs.Loads.{BeginsLoad, EndsLoad}
 use Rattle.quick_cache_locked.specs.Peeks.{Peeks}
@@ -83,24 +83,23 @@ module _ {K V : Type 0} (fits : K → V → Type 0) where
       (MeetsPlaceholder-fits stands_for old ticket met.ordered met.holds fit)
 
 -- behind a lock, a fill with a value that fits the key of the placeholder leaves values that fit
-pub AllFit-filled : {K V We B L S : Type 0} (life : lifecycle.Ghosts L K V S)
+pub AllFit-filled : {K V L S : Type 0} (life : lifecycle.Ghosts L K V S)
     → ((l : L) (was : S) (k : K) (v : V) (now : S) (left : V)
     → life.before_evict_gives l was k v now left → life.fits k v → life.fits k left)
-    → (old new : Shard K V We B L) (rules : Rules K V) (ticket : ℕ) (marked : Bool) (value : V)
-    (answer : Result (Unit {0}) V) (first last : S)
-    → Calls (hooks_of life old)
-    (AnswersFill (life.steady old.lifecycle) ticket old.state rules marked value answer new.state)
-    first last
+    → (l : L) (old new : CacheState K V) (rules : Rules K V) (ticket : ℕ) (marked : Bool)
+    (value : V) (answer : Result (Unit {0}) V) (first last : S)
+    → Calls (hooks_by life l)
+    (AnswersFill (life.steady l) ticket old rules marked value answer new) first last
     → ((before : List (LoadingEntry K)) (entry : LoadingEntry K) (after : List (LoadingEntry K))
-    → IsLoadingTicket ticket old.state before entry after → life.fits entry.key value)
-    → AllFit life.fits old.state → AllFit life.fits new.state
-AllFit-filled life keeps old new rules ticket marked value (Ok done) first last filled is fit =
+    → IsLoadingTicket ticket old before entry after → life.fits entry.key value)
+    → AllFit life.fits old → AllFit life.fits new
+AllFit-filled life keeps l old new rules ticket marked value (Ok done) first last filled is fit =
     let fills = filled.holds in
-    TellsBeside-fits life.fits fills.entry.key value old.state new.state filled.calls None
-    (RunsHooks-fits life.fits (hooks_of life old) (keeps old.lifecycle) filled.calls first last
-    filled.runs) fills.tells (is fills.before fills.entry fills.after fills.there) fit
-AllFit-filled life keeps old new rules ticket marked value (Err back) first last filled is fit =
-    AllFit-same life.fits old.state new.state filled.holds.unchanged fit
+    TellsBeside-fits life.fits fills.entry.key value old new filled.calls None
+    (RunsHooks-fits life.fits (hooks_by life l) (keeps l) filled.calls first last filled.runs)
+    fills.tells (is fills.before fills.entry fills.after fills.there) fit
+AllFit-filled life keeps l old new rules ticket marked value (Err back) first last filled is fit =
+    AllFit-same life.fits old new filled.holds.unchanged fit
 
 -- the answer of a fill is that of a load that ends
 pub EndsLoad-filled : {K V S : Type 0} (steady : Type 0) (hooks : Hooks K V S) (rules : Rules K V)

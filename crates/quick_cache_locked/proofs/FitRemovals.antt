@@ -9,7 +9,7 @@ use Rattle.quick_cache_model.specs.Hooks.{Rules}
 use Rattle.quick_cache_model.specs.Removal.{Removes, cleared}
 use Rattle.quick_cache_model.proofs.EachElement.{all-without}
 use Rattle.quick_cache_shard.specs.Predicates.{RemovesAsked, RetainsAsked, StayAsAnswered}
-use Rattle.quick_cache_shard.specs.Shard.{Shard, hooks_of}
+use Rattle.quick_cache_shard.specs.Lifecycles.{hooks_by}
 use Rattle.quick_cache_shard.specs.SetsCapacity.{SetsCapacityTo}
 use Rattle.quick_cache_locked.specs.Fitting.{FitsIn, AllFit, FitsQuery}
 use Rattle.quick_cache_fates.proofs.Fitting.{RunsHooks-fits, TellsResidents-fits}
@@ -110,14 +110,13 @@ module _ {K V : Type 0} (fits : K → V → Type 0) where
       (record { hot = tt; cold = tt; still = tt })
 
 -- behind a lock, a new capacity leaves values that fit
-pub AllFit-resized : {K V We B L S : Type 0} (life : lifecycle.Ghosts L K V S)
+pub AllFit-resized : {K V L S : Type 0} (life : lifecycle.Ghosts L K V S)
     → ((l : L) (was : S) (k : K) (v : V) (now : S) (left : V)
     → life.before_evict_gives l was k v now left → life.fits k v → life.fits k left)
-    → (old new : Shard K V We B L) (rules : Rules K V) (capacity : ℕ) (first last : S)
-    → SetsCapacityTo (life.steady old.lifecycle) (hooks_of life old) rules capacity old.state first
-    new.state last
-    → AllFit life.fits old.state → AllFit life.fits new.state
-AllFit-resized life keeps old new rules capacity first last sets fit =
-    TellsResidents-fits life.fits old.state new.state sets.calls
-    (RunsHooks-fits life.fits (hooks_of life old) (keeps old.lifecycle) sets.calls first last
-    sets.runs) sets.holds.2 fit
+    → (l : L) (old new : CacheState K V) (rules : Rules K V) (capacity : ℕ) (first last : S)
+    → SetsCapacityTo (life.steady l) (hooks_by life l) rules capacity old first new last
+    → AllFit life.fits old → AllFit life.fits new
+AllFit-resized life keeps l old new rules capacity first last sets fit =
+    TellsResidents-fits life.fits old new sets.calls
+    (RunsHooks-fits life.fits (hooks_by life l) (keeps l) sets.calls first last sets.runs)
+    sets.holds.2 fit

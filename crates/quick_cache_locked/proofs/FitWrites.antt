@@ -9,7 +9,8 @@ use Rattle.quick_cache_model.specs.Hooks.{Rules, Hooks}
 use Rattle.quick_cache_model.specs.Finding.{IsItemAt}
 use Rattle.quick_cache_model.specs.Writes.{Strategy}
 use Rattle.quick_cache_model.proofs.EachElement.{all-middle}
-use Rattle.quick_cache_shard.specs.Shard.{Shard, hooks_of, Wrote, GivesBack, AnswersWrite}
+use Rattle.quick_cache_shard.specs.Lifecycles.{hooks_by}
+use Rattle.quick_cache_shard.specs.Shard.{Wrote, GivesBack, AnswersWrite}
 use Rattle.quick_cache_locked.specs.Fitting.{FitsIn, AllFit}
 use Rattle.quick_cache_fates.proofs.Fitting.{RunsHooks-fits, TellsBeside-fits, TellsBeside-gives}
 use Rattle.quick_cache_locked.proofs.FitLemmas.{AllFit-at}
@@ -62,34 +63,33 @@ module _ {K V : Type 0} (fits : K → V → Type 0) where
         subst (λ (s : CacheState K V). AllFit fits s) (sym refuses.unchanged) fit
 
 -- behind a lock, a write of a pair that fits leaves values that fit
-pub AllFit-written : {K V We B L S : Type 0} (life : lifecycle.Ghosts L K V S)
+pub AllFit-written : {K V L S : Type 0} (life : lifecycle.Ghosts L K V S)
     → ((l : L) (was : S) (k : K) (v : V) (now : S) (left : V)
     → life.before_evict_gives l was k v now left → life.fits k v → life.fits k left)
-    → (old new : Shard K V We B L) (rules : Rules K V) (equal : K → K → Bool)
+    → (l : L) (old new : CacheState K V) (rules : Rules K V) (equal : K → K → Bool)
     (strategy : Strategy) (first : S) (key : K) (value : V)
     (answer : Result (Unit {0}) (K × V × Option Refusal)) (last : S)
-    → AnswersWrite (life.steady old.lifecycle) (hooks_of life old) rules equal strategy old.state
-    first key value answer new.state last
-    → life.fits key value → AllFit life.fits old.state → AllFit life.fits new.state
-AllFit-written life keeps old new rules equal strategy first key value (Ok done) last wrote is fit =
-    Wrote-fits life.fits (life.steady old.lifecycle) (hooks_of life old) (keeps old.lifecycle) rules
-    equal strategy old.state first key value new.state last is fit None wrote
-AllFit-written life keeps old new rules equal strategy first key value (Err back) last gives is fit =
-    GivesBack-fits life.fits (life.steady old.lifecycle) (hooks_of life old) (keeps old.lifecycle)
-    rules equal strategy old.state first key value new.state last is fit back.0 back.1 back.2 gives
+    → AnswersWrite (life.steady l) (hooks_by life l) rules equal strategy old first key value answer
+    new last
+    → life.fits key value → AllFit life.fits old → AllFit life.fits new
+AllFit-written life keeps l old new rules equal strategy first key value (Ok done) last wrote is fit =
+    Wrote-fits life.fits (life.steady l) (hooks_by life l) (keeps l) rules equal strategy old first
+    key value new last is fit None wrote
+AllFit-written life keeps l old new rules equal strategy first key value (Err back) last gives is fit =
+    GivesBack-fits life.fits (life.steady l) (hooks_by life l) (keeps l) rules equal strategy old
+    first key value new last is fit back.0 back.1 back.2 gives
 
 -- and a pair that it gives back fits
-pub written-gives : {K V We B L S : Type 0} (life : lifecycle.Ghosts L K V S)
+pub written-gives : {K V L S : Type 0} (life : lifecycle.Ghosts L K V S)
     → ((l : L) (was : S) (k : K) (v : V) (now : S) (left : V)
     → life.before_evict_gives l was k v now left → life.fits k v → life.fits k left)
-    → (old new : Shard K V We B L) (rules : Rules K V) (equal : K → K → Bool)
+    → (l : L) (old new : CacheState K V) (rules : Rules K V) (equal : K → K → Bool)
     (strategy : Strategy) (first : S) (key : K) (value : V) (back_key : K) (back_value : V)
     (refusal : Option Refusal) (last : S)
-    → GivesBack (life.steady old.lifecycle) (hooks_of life old) rules equal strategy old.state
-    first key value back_key back_value refusal new.state last
-    → life.fits key value → AllFit life.fits old.state → life.fits back_key back_value
-written-gives life keeps old new rules equal strategy first key value back_key back_value refusal
+    → GivesBack (life.steady l) (hooks_by life l) rules equal strategy old first key value back_key
+    back_value refusal new last
+    → life.fits key value → AllFit life.fits old → life.fits back_key back_value
+written-gives life keeps l old new rules equal strategy first key value back_key back_value refusal
     last gives is fit =
-    GivesBack-gives life.fits (life.steady old.lifecycle) (hooks_of life old) (keeps old.lifecycle)
-    rules equal strategy old.state first key value new.state last is fit back_key back_value refusal
-    gives
+    GivesBack-gives life.fits (life.steady l) (hooks_by life l) (keeps l) rules equal strategy old
+    first key value new last is fit back_key back_value refusal gives

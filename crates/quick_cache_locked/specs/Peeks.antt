@@ -1,11 +1,12 @@
 -- Looks that clone what they find.
-use Rattle.std.specs.Prelude.{Bool, List, Option, Result, Ok, Err}
+use Rattle.std.specs.Prelude.{Bool, List, Option, Result, Ok, Err, IfOk, IfSome}
 use Rattle.quick_cache_model.specs.declared.refusal.Refusal.{Refusal}
 use Rattle.quick_cache_model.specs.declared.refusal.Refusal.TheVariants.{Memory}
 use Rattle.quick_cache_model.specs.CacheState.{CacheState, Item, Place}
 use Rattle.quick_cache_model.specs.Finding.{IsItemAt}
 use Rattle.quick_cache_model.specs.Lookups.{Sees}
 use Rattle.quick_cache_calls.specs.Shown.{IsShown}
+use Rattle.quick_cache_waiting.specs.Fitting.{ClonesFit, FitsQuery}
 
 module _ {K V : Type 0} (stands_for : K → Bool) (is_clone : V → V → Type 0)
     (old : CacheState K V) where
@@ -18,3 +19,9 @@ module _ {K V : Type 0} (stands_for : K → Bool) (is_clone : V → V → Type 0
     refuses : (place : Place) (before : List (Item K V)) (item : Item K V)
         (after : List (Item K V))
         → IsItemAt stands_for old place before item after → Peeks (Err Memory)
+
+-- where clones fit as their values do, a clone that is shown fits a key that the query stands for
+abbrev pub ShowsFitting : {K V E : Type 0} → (fits : K → V → Type 0) → (stands_for : K → Bool)
+    → (is_clone : V → V → Type 0) → Result (Option V) E → Type 0
+ShowsFitting fits stands_for is_clone answer = ClonesFit fits is_clone
+    → IfOk answer (λ found. IfSome found (λ value. FitsQuery fits stands_for value))

@@ -1,12 +1,9 @@
-//! A shard as its lock keeps it: each call is one step of it.
+//! A shard as its lock keeps it: each call is one step of it, and moves no item that stays.
 ghost use Rattle.std.specs.Prelude.{◌≡◌, IfOk, IfErr, IsOk};
 ghost use Rattle.quick_cache_model.specs.declared.refusal.Refusal.TheVariants.{Memory};
-ghost use Rattle.quick_cache_model.specs.CacheState.{empty_state};
-ghost use Rattle.quick_cache_model.specs.Sizes.{hot_target_of, ghost_limit_of};
-ghost use Rattle.quick_cache_shard.specs.Shard.{KeepsPlaces, KeepsTerms, made_with};
+ghost use Rattle.quick_cache_shard.specs.Shard.{made_with};
+ghost use Rattle.quick_cache_locked.specs.Counts.{empty_of};
 ghost use Rattle.quick_cache_locked.specs.Locked.{IsKept};
-ghost use Rattle.quick_cache_locked.specs.Touches.{any_touches};
-ghost use Rattle.quick_cache_shard.specs.Steps.{InsertsBy};
 
 mod acting;
 mod loading;
@@ -19,7 +16,7 @@ mod writes;
 use quick_cache_model::{Lifecycle, Refusal, Weighter};
 use quick_cache_options::options::Options;
 use quick_cache_options::sizes::ShardSizes;
-use quick_cache_shard::{CacheShard, Going, InsertStrategy, Keyed};
+use quick_cache_shard::{CacheShard, Going, Keyed};
 use quick_cache_sharing::{Maker, SharedPlaceholder};
 use std::alloc::{Allocator, Global};
 use std::hash::{BuildHasher, Hash};
@@ -89,10 +86,10 @@ impl<
 impl<
     K: Eq + Hash + Drop,
     V: Drop,
-    We,
-    B: BuildHasher,
-    L: Lifecycle<K, V>,
-    A: Allocator,
+    We: Drop,
+    B: BuildHasher + Drop,
+    L: Lifecycle<K, V> + Drop,
+    A: Allocator + Clone,
 > LockedShard<K, V, We, B, L, A> {
     /// An empty shard of these sizes, with the shares and the greatest mark that the options tell.
     pub fn new(
@@ -103,16 +100,8 @@ impl<
         builder: B,
         lifecycle: L,
     ) -> Result<Self, Refusal>
-    where
-        A: Clone,
-        We: Drop,
-        B: Drop,
-        L: Drop,
         ensures makes { IfOk result (λ locked. locked ≡ made_with
-            (record (empty_state sizes.weight
-            (hot_target_of sizes.weight options.now.hot_allocation)
-            (ghost_limit_of sizes.items options.now.ghost_allocation))
-            { mark_cut = options.now.mark_cut }) weigher builder lifecycle) }
+            (empty_of options.now sizes.items sizes.weight) weigher builder lifecycle) }
         ensures succeeds { A.is_infallible alloc → IsOk result }
         ensures refused { IfErr result (λ refusal. refusal ≡ Memory) }
     {
@@ -136,41 +125,20 @@ impl<
             maker: Maker::new(own),
         })
     }
+}
 
+impl<
+    K: Eq + Hash + Drop,
+    V: Drop,
+    We,
+    B: BuildHasher,
+    L: Lifecycle<K, V>,
+    A: Allocator,
+> LockedShard<K, V, We, B, L, A> {
     /// Tells what always holds of it.
     fn is_kept(&self)
         ensures { IsKept L.Lifecycle K.eq self.now }
     {
         self.shard.len();
-    }
-
-    /// Inserts a pair whose value fits its key, and hands what leaves to the lifecycle, with this
-    /// request state.
-    pub fn insert(
-        &mut self,
-        key: K,
-        value: V,
-        state: &mut L::RequestState,
-    ) -> Result<(), (K, V, Refusal)>
-    where
-        We: Weighter<K, V>,
-        requires fits { L.fits key value }
-        // Where pinning is steady, the write is a step of its definition.
-        ensures inserts { InsertsBy ⟦<Self as Going>⟧.goes any_touches self.old K.eq key value
-            result self.new state.old state.new }
-        // No item moves that stays.
-        ensures places { KeepsPlaces K.eq self.old.places self.new.places }
-        ensures same { KeepsTerms self.old self.new }
-        ensures kept { IsKept L.Lifecycle K.eq self.old }
-    {
-        self.is_kept();
-        let hash = self.shard.hash(&key);
-        match self
-            .shard
-            .insert(state, hash, key, value, InsertStrategy::Insert)
-        {
-            Ok(()) => Ok(()),
-            Err((key, value, refusal)) => Err((key, value, refusal.unwrap())),
-        }
     }
 }

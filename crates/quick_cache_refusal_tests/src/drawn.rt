@@ -1,7 +1,7 @@
 //! Many numbers in one, so that two of them tell whether the many were the same.
 
 /// Numbers that were drawn together in their order.
-#[derive(Debug, Default, Clone, Copy, PartialEq, Eq)]
+#[derive(Default, Clone, Copy, PartialEq)]
 pub struct Drawn {
     pub sum: u64,
 }

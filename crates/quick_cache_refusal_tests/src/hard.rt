@@ -1,11 +1,11 @@
-//! Weights at both ends, pins that change from one question to the next, and one hash for all keys.
+//! Weights that together pass a `u64`, and pins that change from one question to the next.
 ghost use Rattle.std.specs.Prelude.{◌≡◌};
 
 use quick_cache_model::{DefaultHashBuilder, Lifecycle, UnitWeighter, Weighter};
 use quick_cache_options::OptionsBuilder;
-use quick_cache_unsync::{Cache, DefaultLifecycle};
+use quick_cache_unsync::Cache;
+use std::alloc::Global;
 use std::cell::Cell;
-use std::hash::{BuildHasher, Hasher};
 use std::test::Fail;
 
 /// Weighs a number as itself.
@@ -17,18 +17,6 @@ impl Weighter<u64, u64> for AsItself {
 
     fn weight(&self, _key: &u64, value: &u64) -> u64 {
         *value
-    }
-}
-
-/// Weighs each number 0.
-#[derive(Drop)]
-struct AsNothing;
-
-impl Weighter<u64, u64> for AsNothing {
-    ghost weight_of = { λ _ _ _. 0 };
-
-    fn weight(&self, _key: &u64, _value: &u64) -> u64 {
-        0
     }
 }
 
@@ -79,6 +67,38 @@ impl Lifecycle<u64, u64> for Counting<'_> {
     }
 }
 
+/// A cache with such pins.
+type Pinning<'a, We> = Cache<u64, u64, We, DefaultHashBuilder, Counting<'a>>;
+
+/// A cache all of whose items may be hot.
+fn pinning<'a, We: Weighter<u64, u64> + Drop>(
+    alloc: Global,
+    items: usize,
+    weight: u64,
+    weigher: We,
+    pins: Counting<'a>,
+) -> Result<Pinning<'a, We>, Fail> {
+    let mut options = OptionsBuilder::new();
+    options
+        .estimated_items_capacity(items)
+        .weight_capacity(weight)
+        .hot_allocation(1000000);
+    let builder = DefaultHashBuilder::new();
+    Ok(Cache::with_options(alloc, options.build()?, weigher, builder, pins)?)
+}
+
+/// Inserts a pair, and tells how many calls of hooks that made.
+fn put<We: Weighter<u64, u64>>(cache: &mut Pinning<'_, We>, key: u64, value: u64) -> Option<u64> {
+    let mut events = 0;
+    cache.insert_with_lifecycle(key, value, &mut events).ok()?;
+    Some(events)
+}
+
+/// How many items there are, and what they weigh.
+fn sizes<We>(cache: &Pinning<'_, We>) -> (usize, u64) {
+    (cache.len(), cache.weight())
+}
+
 #[test]
 fn two_pinned_items_of_the_greatest_weight_stay(rt: HostRuntime) -> Result<(), Fail> {
     let odd = Cell::new(1);
@@ -86,50 +106,17 @@ fn two_pinned_items_of_the_greatest_weight_stay(rt: HostRuntime) -> Result<(), F
         asked: &odd,
         adds: 0,
     };
-    let mut options = OptionsBuilder::new();
-    options
-        .estimated_items_capacity(2)
-        .weight_capacity(u64::MAX)
-        .hot_allocation(1000000);
-    let builder = DefaultHashBuilder::new();
-    let mut cache: Cache<u64, u64, AsItself, DefaultHashBuilder, Counting<'_>> =
-        Cache::with_options(rt.alloc(), options.build()?, AsItself, builder, pins)?;
-    let mut events = 0;
-    for key in [1, 2] {
-        drop(cache.insert_with_lifecycle(key, u64::MAX, &mut events));
+    let mut cache = pinning(rt.alloc(), 2, u64::MAX, AsItself, pins)?;
+    let mut is_right = true;
+    for (key, items) in [(1, 1), (2, 2)] {
+        let events = put(&mut cache, key, u64::MAX);
+        is_right = is_right && events == Some(0) && sizes(&cache) == (items, u64::MAX);
     }
-    let mut seen = [(cache.len(), cache.weight()), (0, 0), (0, 0)];
-    for key in [1, 2] {
+    for (key, left) in [(1, (1, u64::MAX)), (2, (0, 0))] {
         cache.remove(&key);
-        seen[key as usize] = (cache.len(), cache.weight());
+        is_right = is_right && sizes(&cache) == left;
     }
-    assert_eq!(rt; (events, seen), (0, [(2, u64::MAX), (1, u64::MAX), (0, 0)]));
-    Ok(())
-}
-
-#[test]
-fn a_pair_of_weight_nothing_stays_where_there_is_no_room(rt: HostRuntime) -> Result<(), Fail> {
-    let even = Cell::new(0);
-    let pins = Counting {
-        asked: &even,
-        adds: 0,
-    };
-    let builder = DefaultHashBuilder::new();
-    let mut cache: Cache<u64, u64, AsNothing, DefaultHashBuilder, Counting<'_>> = Cache::with(
-        rt.alloc(),
-        0,
-        0,
-        AsNothing,
-        builder,
-        pins,
-    )?;
-    let mut events = 0;
-    let is_in = cache.insert_with_lifecycle(1, 10, &mut events).is_ok();
-    let found = cache.get(&1).copied();
-    assert_eq!(rt;
-        (is_in, events, found, cache.len(), cache.weight()),
-        (true, 0, Some(10), 1, 0)
-    );
+    assert!(rt; is_right);
     Ok(())
 }
 
@@ -140,76 +127,15 @@ fn each_call_returns_where_pins_come_and_go(rt: HostRuntime) -> Result<(), Fail>
         asked: &turns,
         adds: 1,
     };
-    let builder = DefaultHashBuilder::new();
-    let mut cache: Cache<u64, u64, UnitWeighter, DefaultHashBuilder, Counting<'_>> = Cache::with(
-        rt.alloc(),
-        4,
-        4,
-        UnitWeighter,
-        builder,
-        pins,
-    )?;
+    let mut cache = pinning(rt.alloc(), 4, 4, UnitWeighter, pins)?;
     for key in 0..200 {
-        let is_in = cache.insert(key, key).is_ok();
+        let is_in = put(&mut cache, key, key).is_some();
         let is_its_own = match cache.get(&key) {
             Some(value) => *value == key,
             None => true,
         };
-        assert!(rt;
-            is_in && is_its_own && cache.weight() == cache.len() as u64,
-            "at {key}"
-        );
+        let (items, weight) = sizes(&cache);
+        assert!(rt; is_in && is_its_own && weight == items as u64, "at {key}");
     }
-    Ok(())
-}
-
-/// Hashes all to 7.
-#[derive(Clone, Drop)]
-struct OneHash;
-
-impl Hasher for OneHash {
-    ghost write = { λ hasher _. hasher };
-
-    ghost finish = { λ _. 7 };
-
-    fn finish(&self) -> u64 {
-        7
-    }
-
-    fn write(&mut self, _bytes: &[u8]) {}
-}
-
-impl BuildHasher for OneHash {
-    type Hasher = OneHash;
-
-    ghost build_hasher = { λ _. record {} };
-
-    fn build_hasher(&self) -> OneHash {
-        OneHash
-    }
-}
-
-#[test]
-fn a_hundred_keys_of_one_hash_are_found_and_go_once(rt: HostRuntime) -> Result<(), Fail> {
-    let lifecycle = DefaultLifecycle::new();
-    let mut cache: Cache<u64, u64, UnitWeighter, OneHash> = Cache::with(
-        rt.alloc(),
-        100,
-        100,
-        UnitWeighter,
-        OneHash,
-        lifecycle,
-    )?;
-    for key in 0..100u64 {
-        drop(cache.insert(key, key.wrapping_mul(3)));
-    }
-    let is_full = cache.len() == 100;
-    for key in 0..100u64 {
-        let value = key.wrapping_mul(3);
-        let is_found = cache.get(&key).copied() == Some(value);
-        let goes_once = cache.remove(&key) == Some((key, value)) && cache.remove(&key).is_none();
-        assert!(rt; is_full && is_found && goes_once, "at {key}");
-    }
-    assert_eq!(rt; (cache.len(), cache.hits()), (0, 100));
     Ok(())
 }

@@ -98,75 +98,6 @@ fn call_of<'a, F: Fn(&Slip<'a>, &Slip<'a>) -> bool + Drop>(
     }
 }
 
-/// The call with numbers for its slips.
-fn step_of<F>(call: &SlipCall<'_, F>) -> Step {
-    let loaded = |value: &Option<Slip<'_>>| match value {
-        Some(slip) => Some(slip.number),
-        None => None,
-    };
-    match call {
-        Call::Insert(key, value) => Call::Insert(key.number, value.number),
-        Call::Replace(key, value, soft) => Call::Replace(key.number, value.number, *soft),
-        Call::Get(key) => Call::Get(key.number),
-        Call::Peek(key) => Call::Peek(key.number),
-        Call::GetMut(key, value) => Call::GetMut(key.number, value.number),
-        Call::PeekMut(key, value) => Call::PeekMut(key.number, value.number),
-        Call::Contains(key) => Call::Contains(key.number),
-        Call::Stats(key) => Call::Stats(key.number),
-        Call::Remove(key) => Call::Remove(key.number),
-        Call::RemoveIf(key, _) => Call::RemoveIf(key.number, ()),
-        Call::Load(key, value) => Call::Load(key.number, loaded(value)),
-        Call::LoadMut(key, value, last) => Call::LoadMut(key.number, loaded(value), last.number),
-        Call::Guarded(key, value) => Call::Guarded(key.number, loaded(value)),
-        Call::GuardedMut(key, value, last) => {
-            Call::GuardedMut(key.number, loaded(value), last.number)
-        }
-        Call::Iter => Call::Iter,
-        Call::Drain => Call::Drain,
-        Call::Counts => Call::Counts,
-        Call::Retain(_) => Call::Retain(()),
-        Call::SetCapacity(capacity) => Call::SetCapacity(*capacity),
-        Call::Reserve(additional) => Call::Reserve(*additional),
-        Call::Clear => Call::Clear,
-    }
-}
-
-/// What a reply tells, in numbers.
-fn drawn_of(reply: &SlipReply<'_>) -> Drawn {
-    let mut drawn = Drawn::default();
-    match reply {
-        Reply::Done => drawn.add(&[1]),
-        Reply::RefusedPair(key, value, _) => drawn.add(&[2, key.number, value.number]),
-        Reply::NotAdmitted(key, value) => drawn.add(&[3, key.number, value.number]),
-        Reply::Value(Some(value)) => drawn.add(&[4, value.number]),
-        Reply::Value(None) => drawn.add(&[5]),
-        Reply::Flag(flag) => drawn.add(&[6, *flag as u64]),
-        Reply::Stats(Some(reads)) => drawn.add(&[7, *reads]),
-        Reply::Stats(None) => drawn.add(&[8]),
-        Reply::Pair(Some((key, value))) => drawn.add(&[9, key.number, value.number]),
-        Reply::Pair(None) => drawn.add(&[10]),
-        Reply::Found(value) => drawn.add(&[11, value.number]),
-        Reply::Loaded(stays) => drawn.add(&[12, *stays as u64]),
-        Reply::LoadFailed => drawn.add(&[13]),
-        Reply::Filled => drawn.add(&[14]),
-        Reply::Dropped => drawn.add(&[15]),
-        Reply::Pairs(pairs) => {
-            for (key, value) in pairs {
-                drawn.add(&[16, key.number, value.number]);
-            }
-        }
-        Reply::Counts {
-            len,
-            weight,
-            capacity,
-            hits,
-            misses,
-        } => drawn.add(&[17, *len as u64, *weight, *capacity, *hits, *misses]),
-        Reply::Refused(_) => drawn.add(&[18]),
-    }
-    drawn
-}
-
 /// What came of a call.
 #[derive(Clone, Copy)]
 enum Outcome {
@@ -178,18 +109,58 @@ enum Outcome {
     Lost,
 }
 
-/// Whether this reply to a call is its refusal for want of memory.
+/// A call was made, whose reply tells these numbers.
+fn made(numbers: &[u64]) -> Outcome {
+    Outcome::Made(Drawn::of(numbers))
+}
+
+/// Tells whether the pair that came back is that of the step.
+fn refused(step: &Step, key: u64, value: u64) -> Outcome {
+    if *step == Call::Insert(key, value) {
+        Outcome::Refused
+    } else {
+        Outcome::Lost
+    }
+}
+
+/// What pairs tell, in numbers.
+fn shown(pairs: &[(Slip<'_>, Slip<'_>)]) -> Outcome {
+    let mut drawn = Drawn::default();
+    for (key, value) in pairs {
+        drawn.add(&[16, key.number, value.number]);
+    }
+    Outcome::Made(drawn)
+}
+
+/// What a reply tells, or that its call was refused for want of memory.
 fn outcome_of(reply: &SlipReply<'_>, step: &Step) -> Outcome {
     match reply {
-        Reply::RefusedPair(key, value, Refusal::Memory) => {
-            if *step == Call::Insert(key.number, value.number) {
-                Outcome::Refused
-            } else {
-                Outcome::Lost
-            }
-        }
+        Reply::RefusedPair(key, value, Refusal::Memory) => refused(step, key.number, value.number),
         Reply::Refused(Refusal::Memory) => Outcome::Refused,
-        _ => Outcome::Made(drawn_of(reply)),
+        Reply::Done => made(&[1]),
+        Reply::RefusedPair(key, value, _) => made(&[2, key.number, value.number]),
+        Reply::NotAdmitted(key, value) => made(&[3, key.number, value.number]),
+        Reply::Value(Some(value)) => made(&[4, value.number]),
+        Reply::Value(None) => made(&[5]),
+        Reply::Flag(flag) => made(&[6, *flag as u64]),
+        Reply::Stats(Some(reads)) => made(&[7, *reads]),
+        Reply::Stats(None) => made(&[8]),
+        Reply::Pair(Some((key, value))) => made(&[9, key.number, value.number]),
+        Reply::Pair(None) => made(&[10]),
+        Reply::Found(value) => made(&[11, value.number]),
+        Reply::Loaded(stays) => made(&[12, *stays as u64]),
+        Reply::LoadFailed => made(&[13]),
+        Reply::Filled => made(&[14]),
+        Reply::Dropped => made(&[15]),
+        Reply::Pairs(pairs) => shown(pairs),
+        Reply::Counts {
+            len,
+            weight,
+            capacity,
+            hits,
+            misses,
+        } => made(&[17, *len as u64, *weight, *capacity, *hits, *misses]),
+        Reply::Refused(_) => made(&[18]),
     }
 }
 
@@ -210,10 +181,13 @@ fn make<'a>(
             Some(reply) => outcome_of(reply, step),
             None => Outcome::Lost,
         },
-        Err((replies, calls)) => match calls.first() {
-            Some(call) if replies.is_empty() && step_of(call) == *step => Outcome::Refused,
-            _ => Outcome::Lost,
-        },
+        Err((replies, calls)) => {
+            if replies.is_empty() && calls.len() == 1 {
+                Outcome::Refused
+            } else {
+                Outcome::Lost
+            }
+        }
     })
 }
 

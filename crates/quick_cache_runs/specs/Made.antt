@@ -1,5 +1,7 @@
 -- Calls that are made, each a step of its definition.
-use Rattle.std.specs.Prelude.{Bool, List, [], Result, Vec}
+use Rattle.std.specs.Prelude.{All, Bool, List, [], Result, Vec}
+use denote.Ref.{Bor}
+use denote.Param.Members.{Shared}
 use Rattle.quick_cache_model.specs.CacheState.{CacheState}
 use Rattle.quick_cache_model.specs.Hooks.{Rules, Hooks, HookCall, RunsHooks}
 use Rattle.quick_cache_calls.specs.declared.call.Call.{Call}
@@ -10,6 +12,7 @@ use Rattle.quick_cache_lives.specs.Conservation.{ConservesCalls}
 use Rattle.quick_cache_shard.specs.Shard.{Shard}
 use Rattle.quick_cache_shard.specs.Steps.{Goes, steady_in, hooks_in, rules_in}
 use Rattle.quick_cache_unsync.specs.Touches.{no_touches}
+use Rattle.quick_cache_runs.specs.Asked.{IsAskedAs}
 
 module _ {K V F M S : Type 0} (rules : Rules K V) (equal : K → K → Bool)
     (shows_key : K → K → Type 0) (shows : V → V → Type 0) (answers : F → K → V → Bool)
@@ -38,21 +41,49 @@ module _ {K V We B L F M S : Type 0} (goes : Goes K V We B L S) (equal : K → K
       IsRun (rules_in goes no_touches old) equal shows_key shows answers (hooks_in goes old)
       old.state first calls replies new.state last
 
-  -- a list's calls are a run, or those are for whose replies there was room
-  abbrev pub RunsCallsBy : {A : Type 0} → List (Call K V F)
-      → Result (Vec (Reply K V M) A) (Vec (Reply K V M) A × Vec (Call K V F) A)
-      → (new : Shard K V We B L) → (last : S) → Type 0
-  RunsCallsBy calls result new last =
-      RunsCalls (rules_in goes no_touches old) equal shows_key shows answers (hooks_in goes old)
-      old.state first calls result new.state last
+module _ {K V We B L F M S : Type 0} (asks : Shared F (Bor K × (Bor V × Unit {0})) Bool)
+    (goes : Goes K V We B L S) (equal : K → K → Bool) (shows_key : K → K → Type 0)
+    (shows : V → V → Type 0) (old : Shard K V We B L) where
+  -- where a predicate that is asked answers as a pure test does, the call is a step of its
+  -- definition that calls no hook
+  abbrev pub StepsAsked : Call K V F → Reply K V M → (new : Shard K V We B L) → Type 0
+  StepsAsked call reply new = (answers : F → K → V → Bool)
+      → IsAskedAs asks answers call
+      → CacheStep (rules_in goes no_touches old) equal shows_key shows answers old.state call reply
+      [] new.state
 
-  -- and they keep their pairs
-  abbrev pub ConservesCallsBy : {A : Type 0} → List (Call K V F)
-      → Result (Vec (Reply K V M) A) (Vec (Reply K V M) A × Vec (Call K V F) A)
-      → (new : Shard K V We B L) → (last : S) → Type 0
-  ConservesCallsBy calls result new last =
-      ConservesCalls (rules_in goes no_touches old) equal shows_key shows answers
-      (hooks_in goes old) old.state first calls result new.state last
+  module _ (first : S) where
+    -- where pinning is steady, and a predicate that is asked answers so, the call is made
+    abbrev pub MakesAsked : Call K V F → Reply K V M → (new : Shard K V We B L) → (last : S)
+        → Type 0
+    MakesAsked call reply new last = steady_in goes old → (answers : F → K → V → Bool)
+        → IsAskedAs asks answers call
+        → IsMadeBy goes equal shows_key shows answers old first call reply new last
+
+    -- and all calls are a run
+    abbrev pub RunsAsked : List (Call K V F) → List (Reply K V M) → (new : Shard K V We B L)
+        → (last : S) → Type 0
+    RunsAsked calls replies new last = steady_in goes old → (answers : F → K → V → Bool)
+        → All (IsAskedAs asks answers) calls
+        → IsRunBy goes equal shows_key shows answers old first calls replies new last
+
+    -- or those are for whose replies there was room
+    abbrev pub RunsCallsBy : {A : Type 0} → List (Call K V F)
+        → Result (Vec (Reply K V M) A) (Vec (Reply K V M) A × Vec (Call K V F) A)
+        → (new : Shard K V We B L) → (last : S) → Type 0
+    RunsCallsBy calls result new last = steady_in goes old → (answers : F → K → V → Bool)
+        → All (IsAskedAs asks answers) calls
+        → RunsCalls (rules_in goes no_touches old) equal shows_key shows answers
+        (hooks_in goes old) old.state first calls result new.state last
+
+    -- and they keep their pairs
+    abbrev pub ConservesCallsBy : {A : Type 0} → List (Call K V F)
+        → Result (Vec (Reply K V M) A) (Vec (Reply K V M) A × Vec (Call K V F) A)
+        → (new : Shard K V We B L) → (last : S) → Type 0
+    ConservesCallsBy calls result new last = steady_in goes old → (answers : F → K → V → Bool)
+        → All (IsAskedAs asks answers) calls
+        → ConservesCalls (rules_in goes no_touches old) equal shows_key shows answers
+        (hooks_in goes old) old.state first calls result new.state last
 
 module _ (F : Type 0) {K V We B L S M : Type 0} (goes : Goes K V We B L S) (equal : K → K → Bool)
     (shows_key : K → K → Type 0) (shows : V → V → Type 0) (old : Shard K V We B L) where

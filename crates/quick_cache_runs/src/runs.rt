@@ -1,16 +1,15 @@
 //! Lists of calls, made one after another.
-ghost use Rattle.std.specs.Prelude.{◌≡◌, ◌≤◌, ◌<◌, ◌+◌, ◌++◌, [], ◌∷◌, Bool};
+ghost use Rattle.std.specs.Prelude.{◌≡◌, ◌≤◌, ◌<◌, ◌+◌, ◌++◌, [], ◌∷◌};
 ghost use Rattle.std.specs.Prelude.{All, length, vec_len, vec_capacity};
 ghost use Rattle.quick_cache_model.specs.CacheState.{IsValid};
 ghost use Rattle.quick_cache_calls.specs.Answered.{AlwaysClones, IsAnswered, AreAnswered};
 ghost use Rattle.quick_cache_calls.specs.Answered.{replies_of};
 ghost use Rattle.quick_cache_runs.specs.Asked.{IfAsks, IfLoads};
-ghost use Rattle.quick_cache_runs.specs.Made.{IsMadeBy, IsRunBy, RunsCallsBy, ConservesCallsBy};
+ghost use Rattle.quick_cache_runs.specs.Made.{MakesAsked, RunsAsked, RunsCallsBy, ConservesCallsBy};
 ghost use Rattle.quick_cache_shard.specs.Copies.{ClonesAreEqual};
-ghost use Rattle.quick_cache_shard.specs.Predicates.{IsAnsweredAs};
 ghost use Rattle.quick_cache_shard.specs.Shard.{KeepsTerms};
 
-use crate::calls::act;
+use crate::calls::CallMaker;
 use quick_cache_calls::{Call, Reply};
 use quick_cache_model::{Lifecycle, Weighter};
 use quick_cache_shard::Going;
@@ -25,71 +24,60 @@ fn valid<K: Eq + Hash, V, We, B: BuildHasher, L, A: Allocator>(cache: &Cache<K, 
     let _ = cache.shard().len();
 }
 
-/// Makes one call, and puts its reply at the end of the list, which has room for it.
-fn make<
+impl<
     F: Fn(&K, &V) -> bool + Drop,
+    M: Allocator + Clone,
     K: Eq + Hash + Clone + Drop,
     V: Clone + Drop,
     We: Weighter<K, V>,
     B: BuildHasher,
     L: Lifecycle<K, V>,
     A: Allocator,
-    M: Allocator + Clone,
->(
-    replies: &mut Vec<Reply<K, V, M>, M>,
-    cache: &mut Cache<K, V, We, B, L, A>,
-    call: Call<K, V, F>,
-    state: &mut L::RequestState,
-)
-    requires keys { IfLoads (ClonesAreEqual K.eq K.is_clone) call }
-    requires callable { IfAsks (λ asked. F.IsAlwaysCallable asked) call }
-    requires room { vec_len replies.old < vec_capacity replies.old }
-    ensures made { (reply : Reply K V M) × (replies.new.items ≡ replies.old.items ++ reply ∷ [])
-        × (L.steady cache.old.lifecycle → (answers : F → K → V → Bool)
-        → IfAsks (λ asked. IsAnsweredAs F.Fn asked (answers asked)) call
-        → IsMadeBy ⟦<Cache<K, V, We, B, L, A> as Going>⟧.goes K.eq K.is_clone V.is_clone answers
-        cache.old state.old call reply cache.new state.new)
-        × (AlwaysClones V.is_infallible → IsAnswered call reply) }
-    ensures same { KeepsTerms cache.old cache.new }
-    ensures len { vec_len replies.new ≡ vec_len replies.old + 1 }
-    ensures capacity { vec_capacity replies.new ≡ vec_capacity replies.old }
-{
-    let reply = act(replies.allocator(), cache, call, state);
-    replies.push_reserved(reply);
-}
-
-/// Makes the calls in their order, and puts their replies into this list, which is empty and has
-/// room for them.
-fn make_all<
-    F: Fn(&K, &V) -> bool + Drop,
-    K: Eq + Hash + Clone + Drop,
-    V: Clone + Drop,
-    We: Weighter<K, V>,
-    B: BuildHasher,
-    L: Lifecycle<K, V>,
-    A: Allocator,
-    M: Allocator + Clone,
->(
-    mut replies: Vec<Reply<K, V, M>, M>,
-    cache: &mut Cache<K, V, We, B, L, A>,
-    calls: Vec<Call<K, V, F>, M>,
-    state: &mut L::RequestState,
-) -> Vec<Reply<K, V, M>, M>
-    requires keys { All (IfLoads (ClonesAreEqual K.eq K.is_clone)) calls.items }
-    requires callable { All (IfAsks (λ asked. F.IsAlwaysCallable asked)) calls.items }
-    requires none { replies.items ≡ [] }
-    requires room { length calls.items ≤ vec_capacity replies }
-    ensures runs { L.steady cache.old.lifecycle → (answers : F → K → V → Bool)
-        → All (IfAsks (λ asked. IsAnsweredAs F.Fn asked (answers asked))) calls.items
-        → IsRunBy ⟦<Cache<K, V, We, B, L, A> as Going>⟧.goes K.eq K.is_clone V.is_clone answers
-        cache.old state.old calls.items result.items cache.new state.new }
-    ensures same { KeepsTerms cache.old cache.new }
-    ensures answered { AlwaysClones V.is_infallible → AreAnswered calls.items result.items }
-{
-    for call in calls {
-        make(&mut replies, cache, call, state);
+> CallMaker<F, M, K, V, We, B, L, A> {
+    /// Makes one call, and puts its reply at the end of the list, which has room for it.
+    fn make(
+        replies: &mut Vec<Reply<K, V, M>, M>,
+        cache: &mut Cache<K, V, We, B, L, A>,
+        call: Call<K, V, F>,
+        state: &mut L::RequestState,
+    )
+        requires keys { IfLoads (ClonesAreEqual K.eq K.is_clone) call }
+        requires callable { IfAsks (λ asked. F.IsAlwaysCallable asked) call }
+        requires room { vec_len replies.old < vec_capacity replies.old }
+        ensures made { (reply : Reply K V M) × (replies.new.items ≡ replies.old.items ++ reply ∷ [])
+            × MakesAsked F.Fn ⟦<Cache<K, V, We, B, L, A> as Going>⟧.goes K.eq K.is_clone V.is_clone
+            cache.old state.old call reply cache.new state.new
+            × (AlwaysClones V.is_infallible → IsAnswered call reply) }
+        ensures same { KeepsTerms cache.old cache.new }
+        ensures len { vec_len replies.new ≡ vec_len replies.old + 1 }
+        ensures capacity { vec_capacity replies.new ≡ vec_capacity replies.old }
+    {
+        let reply = Self::act(replies.allocator(), cache, call, state);
+        replies.push_reserved(reply);
     }
-    replies
+
+    /// Makes the calls in their order, and puts their replies into this list, which is empty and has
+    /// room for them.
+    fn make_all(
+        mut replies: Vec<Reply<K, V, M>, M>,
+        cache: &mut Cache<K, V, We, B, L, A>,
+        calls: Vec<Call<K, V, F>, M>,
+        state: &mut L::RequestState,
+    ) -> Vec<Reply<K, V, M>, M>
+        requires keys { All (IfLoads (ClonesAreEqual K.eq K.is_clone)) calls.items }
+        requires callable { All (IfAsks (λ asked. F.IsAlwaysCallable asked)) calls.items }
+        requires none { replies.items ≡ [] }
+        requires room { length calls.items ≤ vec_capacity replies }
+        ensures runs { RunsAsked F.Fn ⟦<Cache<K, V, We, B, L, A> as Going>⟧.goes K.eq K.is_clone
+            V.is_clone cache.old state.old calls.items result.items cache.new state.new }
+        ensures same { KeepsTerms cache.old cache.new }
+        ensures answered { AlwaysClones V.is_infallible → AreAnswered calls.items result.items }
+    {
+        for call in calls {
+            Self::make(&mut replies, cache, call, state);
+        }
+        replies
+    }
 }
 
 /// Makes the calls in their order, and gives their replies. The hooks are handed the one request
@@ -119,17 +107,12 @@ pub fn run<
     requires keys { All (IfLoads (ClonesAreEqual K.eq K.is_clone)) calls.items }
     requires callable { All (IfAsks (λ asked. F.IsAlwaysCallable asked)) calls.items }
 
-    // Where pinning is steady, and each predicate answers as a pure test does, the calls are a run
-    // of the definition.
-    ensures runs { L.steady cache.old.lifecycle → (answers : F → K → V → Bool)
-        → All (IfAsks (λ asked. IsAnsweredAs F.Fn asked (answers asked))) calls.items
-        → RunsCallsBy ⟦<Cache<K, V, We, B, L, A> as Going>⟧.goes K.eq K.is_clone V.is_clone answers
-        cache.old state.old calls.items result cache.new state.new }
+    // Where pinning is steady, and each predicate answers as a pure test does.
+    ensures runs { RunsCallsBy F.Fn ⟦<Cache<K, V, We, B, L, A> as Going>⟧.goes K.eq K.is_clone
+        V.is_clone cache.old state.old calls.items result cache.new state.new }
     // So no pair is lost, made, or told of twice.
-    ensures conserves { L.steady cache.old.lifecycle → (answers : F → K → V → Bool)
-        → All (IfAsks (λ asked. IsAnsweredAs F.Fn asked (answers asked))) calls.items
-        → ConservesCallsBy ⟦<Cache<K, V, We, B, L, A> as Going>⟧.goes K.eq K.is_clone V.is_clone answers
-        cache.old state.old calls.items result cache.new state.new }
+    ensures conserves { ConservesCallsBy F.Fn ⟦<Cache<K, V, We, B, L, A> as Going>⟧.goes K.eq
+        K.is_clone V.is_clone cache.old state.old calls.items result cache.new state.new }
     ensures same { KeepsTerms cache.old cache.new }
     // A look is refused only where a clone fails.
     ensures answered { AlwaysClones V.is_infallible → AreAnswered calls.items (replies_of result) }
@@ -139,5 +122,5 @@ pub fn run<
     let Ok(()) = replies.reserve(calls.len()) else {
         return Err((replies, calls));
     };
-    Ok(make_all(replies, cache, calls, state))
+    Ok(CallMaker::<F, M, K, V, We, B, L, A>::make_all(replies, cache, calls, state))
 }

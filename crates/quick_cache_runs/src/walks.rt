@@ -7,6 +7,7 @@ ghost use Rattle.quick_cache_model.specs.declared.refusal.Refusal.TheVariants.{M
 ghost use Rattle.quick_cache_shard.specs.Shard.{KeepsWork};
 ghost use Rattle.quick_cache_runs.specs.Made.{StepsBy};
 
+use crate::calls::CallMaker;
 use quick_cache_calls::{Call, Reply};
 use quick_cache_model::{Lifecycle, Refusal, Weighter};
 use quick_cache_shard::Going;
@@ -47,29 +48,6 @@ fn shown<M: Allocator, K: Eq + Hash + Clone + Drop, V: Clone + Drop>(
     Ok(pairs)
 }
 
-/// Shows clones of all pairs, in no order. They are made first, and room for them before.
-pub(crate) fn walk<
-    F,
-    M: Allocator + Clone,
-    K: Eq + Hash + Clone + Drop,
-    V: Clone + Drop,
-    We: Weighter<K, V>,
-    B: BuildHasher,
-    L: Lifecycle<K, V>,
-    A: Allocator,
->(alloc: &M, cache: &Cache<K, V, We, B, L, A>) -> Reply<K, V, M>
-    ensures step { StepsBy F ⟦<Cache<K, V, We, B, L, A> as Going>⟧.goes K.eq K.is_clone
-        V.is_clone cache.now (Call.Iter) result cache.now }
-{
-    let Ok(alloc) = alloc.clone() else {
-        return Reply::Refused(Refusal::Memory);
-    };
-    match shown(alloc, cache.iter()) {
-        Ok(pairs) => Reply::Pairs(pairs),
-        Err(refusal) => Reply::Refused(refusal),
-    }
-}
-
 /// Takes all pairs out, in no order, into this list, which is empty and has room for them, and
 /// drops all else.
 fn given_out<M: Allocator, K: Eq + Hash + Drop, V: Drop, We, B: BuildHasher, L, A: Allocator>(
@@ -87,8 +65,7 @@ fn given_out<M: Allocator, K: Eq + Hash + Drop, V: Drop, We, B: BuildHasher, L, 
     pairs
 }
 
-/// Takes all pairs out, in no order, and drops all else. Room for them is made first.
-pub(crate) fn drain<
+impl<
     F,
     M: Allocator + Clone,
     K: Eq + Hash + Clone + Drop,
@@ -97,17 +74,34 @@ pub(crate) fn drain<
     B: BuildHasher,
     L: Lifecycle<K, V>,
     A: Allocator,
->(alloc: &M, cache: &mut Cache<K, V, We, B, L, A>) -> Reply<K, V, M>
-    ensures step { StepsBy F ⟦<Cache<K, V, We, B, L, A> as Going>⟧.goes K.eq K.is_clone
-        V.is_clone cache.old (Call.Drain) result cache.new }
-    ensures same { KeepsWork cache.old cache.new }
-{
-    let Ok(alloc) = alloc.clone() else {
-        return Reply::Refused(Refusal::Memory);
-    };
-    let mut pairs = Vec::new(alloc);
-    let Ok(()) = pairs.reserve(cache.len()) else {
-        return Reply::Refused(Refusal::Memory);
-    };
-    Reply::Pairs(given_out(pairs, cache))
+> CallMaker<F, M, K, V, We, B, L, A> {
+    /// Shows clones of all pairs, in no order. They are made first, and room for them before.
+    pub(crate) fn walk(alloc: &M, cache: &Cache<K, V, We, B, L, A>) -> Reply<K, V, M>
+        ensures step { StepsBy F ⟦<Cache<K, V, We, B, L, A> as Going>⟧.goes K.eq K.is_clone
+            V.is_clone cache.now (Call.Iter) result cache.now }
+    {
+        let Ok(alloc) = alloc.clone() else {
+            return Reply::Refused(Refusal::Memory);
+        };
+        match shown(alloc, cache.iter()) {
+            Ok(pairs) => Reply::Pairs(pairs),
+            Err(refusal) => Reply::Refused(refusal),
+        }
+    }
+
+    /// Takes all pairs out, in no order, and drops all else. Room for them is made first.
+    pub(crate) fn drain(alloc: &M, cache: &mut Cache<K, V, We, B, L, A>) -> Reply<K, V, M>
+        ensures step { StepsBy F ⟦<Cache<K, V, We, B, L, A> as Going>⟧.goes K.eq K.is_clone
+            V.is_clone cache.old (Call.Drain) result cache.new }
+        ensures same { KeepsWork cache.old cache.new }
+    {
+        let Ok(alloc) = alloc.clone() else {
+            return Reply::Refused(Refusal::Memory);
+        };
+        let mut pairs = Vec::new(alloc);
+        let Ok(()) = pairs.reserve(cache.len()) else {
+            return Reply::Refused(Refusal::Memory);
+        };
+        Reply::Pairs(given_out(pairs, cache))
+    }
 }

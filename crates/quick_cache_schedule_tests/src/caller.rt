@@ -2,6 +2,7 @@
 ghost use Rattle.std.specs.Prelude.{◌%◌};
 
 use crate::board::{Found, KEYS};
+use crate::later::Later;
 use futures::task::Poll;
 use futures::test::MockTask;
 use quick_cache_guard::{EntryResult, GuardResult, PlaceholderGuard};
@@ -56,8 +57,10 @@ pub fn make<R: Wait + Clock + RandomSource + AllocGlobal>(
         3 => item(cache.remove(rt, &call.key).map(|pair| pair.1)),
         4 | 5 => write(rt, cache, call),
         6 | 7 | 8 => ask(rt, cache, call),
-        9 | 10 => load(rt, cache, call),
-        11 | 12 => act(rt, cache, call),
+        9 => load(rt, cache, call),
+        10 => load_by_task(rt, cache, call),
+        11 => act(rt, cache, call),
+        12 => act_by_task(rt, cache, call),
         13 | 14 => wait(rt, cache, call),
         _ => on_all(rt, cache, call),
     }
@@ -180,6 +183,48 @@ fn wait<R: Wait + RandomSource + AllocGlobal>(rt: &R, cache: &Weighed, call: Cal
             Poll::Ready(Ok(Ok(value))) => return came(turn, value),
             Poll::Ready(Ok(Err(guard))) => return end(guard, call),
             Poll::Ready(Err(_)) => return Found::Unknown,
+            Poll::Pending => yield_now(),
+        }
+    }
+    Found::Nothing
+}
+
+/// The same by a future that loads, with a loader that comes late or fails. A guard came where the
+/// value is the loader's.
+fn load_by_task<R: Wait + RandomSource + AllocGlobal>(
+    rt: &R,
+    cache: &Weighed,
+    call: Call,
+) -> Found {
+    let Ok(task) = MockTask::new(rt) else {
+        return Found::Unknown;
+    };
+    let loader = Later {
+        turns: call.coin >> 44 & 3,
+        given: (call.coin >> 52 & 3 > 0).then_some(call.value),
+    };
+    let mut future = cache.get_or_insert_async(rt, &call.key, loader);
+    for turn in 0..20u64 {
+        match task.poll(&mut future) {
+            Poll::Ready(Ok(Ok(value))) if value != call.value => return came(turn, value),
+            Poll::Ready(Ok(_)) => return Found::Nothing,
+            Poll::Ready(Err(_)) => return Found::Unknown,
+            Poll::Pending => yield_now(),
+        }
+    }
+    Found::Nothing
+}
+
+/// The same by a future that acts on the entry.
+fn act_by_task<R: Wait + RandomSource + AllocGlobal>(rt: &R, cache: &Weighed, call: Call) -> Found {
+    let Ok(task) = MockTask::new(rt) else {
+        return Found::Unknown;
+    };
+    let callback = |_: &u64, value: &mut u64| choose(call, value);
+    let mut future = cache.entry_async(rt, &call.key, callback);
+    for _ in 0..20 {
+        match task.poll(&mut future) {
+            Poll::Ready(answer) => return acted(answer, call),
             Poll::Pending => yield_now(),
         }
     }

@@ -9,6 +9,8 @@ mod caller;
 #[cfg(test)]
 mod generator;
 #[cfg(test)]
+mod later;
+#[cfg(test)]
 mod lists;
 #[cfg(test)]
 mod overlap;

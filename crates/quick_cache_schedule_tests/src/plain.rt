@@ -27,14 +27,26 @@ struct Waits {
     at: Option<(usize, u64)>,
 }
 
+/// A future with a loader: whether it waits, the load whose guard it holds, and how often the loader
+/// is polled before it gives its value, or fails.
+#[derive(Clone, Copy)]
+struct Loads {
+    waits: Option<Waits>,
+    held: Option<(u64, usize)>,
+    turns: u64,
+    given: Option<u64>,
+}
+
 /// The model: what stands under four keys, the stages of all loads that ever began, the guards, each
-/// with its key and its load, and the futures.
+/// with its key and its load, the futures that ask, and one each that acts on an entry and that loads.
 #[derive(Drop)]
 pub struct Plain {
     places: [Place; 4],
     loads: Vec<Stage>,
     guards: Vec<(u64, usize)>,
     futures: Vec<Waits>,
+    acts: Option<Waits>,
+    loader: Loads,
     waiters: u64,
 }
 
@@ -46,7 +58,45 @@ impl Plain {
             loads: Vec::new(alloc),
             guards: Vec::new(alloc),
             futures: Vec::new(alloc),
+            acts: None,
+            loader: Loads {
+                waits: None,
+                held: None,
+                turns: 0,
+                given: None,
+            },
             waiters: 0,
+        }
+    }
+
+    /// A future that acts on an entry comes, and one that loads, with a loader that is polled so
+    /// often before it gives this.
+    pub fn come_two(&mut self, acts: u64, loads: u64, turns: u64, given: Option<u64>) {
+        self.acts = Some(Waits {
+            key: acts,
+            at: None,
+        });
+        self.loader = Loads {
+            waits: Some(Waits {
+                key: loads,
+                at: None,
+            }),
+            held: None,
+            turns,
+            given,
+        };
+    }
+
+    /// These two are dropped, in this order.
+    pub fn drop_two(&mut self) {
+        if let Some(waits) = self.acts.take() {
+            self.leave(waits);
+        }
+        if let Some(waits) = self.loader.waits.take() {
+            self.leave(waits);
+        }
+        if let Some((key, load)) = self.loader.held.take() {
+            self.pass_on(key, load);
         }
     }
 
@@ -76,6 +126,8 @@ impl Plain {
             Step::Begin(key) => self.wait(key, None),
             Step::Poll(at) => self.poll(at),
             Step::Cancel(at) => Ok(self.cancel(at)),
+            Step::PollActs => self.poll_acts(),
+            Step::PollLoads => self.poll_loads(),
         }
     }
 
@@ -210,13 +262,9 @@ impl Plain {
     }
 
     fn last_waiter(&self, load: usize) -> Option<u64> {
-        let mut last = None;
+        let mut last = waits_for(self.acts, load).max(waits_for(self.loader.waits, load));
         for waits in &self.futures {
-            if let Some((at, waiter)) = waits.at {
-                if at == load {
-                    last = last.max(Some(waiter));
-                }
-            }
+            last = last.max(waits_for(Some(*waits), load));
         }
         last
     }
@@ -237,43 +285,143 @@ impl Plain {
         if at >= self.futures.len() {
             return Ok(Told::Nothing);
         }
-        let Waits { key, at } = self.futures.swap_remove(at);
-        let Some((load, waiter)) = at else {
-            return self.come(key);
-        };
-        match self.stage(load) {
-            Stage::Filled(value) => Ok(Told::Value(value)),
-            Stage::HandedTo(number) if number == waiter => {
-                self.set_stage(load, Stage::Held);
-                self.guards.push((key, load))?;
-                Ok(Told::Guard)
-            }
-            _ => self.wait(key, at),
+        let waits = self.futures.swap_remove(at);
+        match self.come(waits)? {
+            Came::Value(value) => Ok(Told::Value(value)),
+            Came::Guard(load) => self.hold(waits.key, load),
+            Came::Waits(at) => self.wait(waits.key, Some(at)),
         }
     }
 
-    /// A future comes to the key, and waits where another loads it.
-    fn come(&mut self, key: u64) -> Result<Told, AllocError> {
-        let Place::Loading(load) = self.place(key) else {
-            return self.ask(key);
-        };
-        self.waiters = self.waiters.wrapping_add(1);
-        self.wait(key, Some((load, self.waiters)))
+    /// A guard is held.
+    fn hold(&mut self, key: u64, load: usize) -> Result<Told, AllocError> {
+        self.guards.push((key, load))?;
+        Ok(Told::Guard)
     }
 
-    /// A future waits no more. A guard that was on its way to it goes on.
+    /// What comes to a future that waits, or that looks for the first time.
+    fn come(&mut self, waits: Waits) -> Result<Came, AllocError> {
+        let Some((load, waiter)) = waits.at else {
+            return self.look(waits.key);
+        };
+        match self.stage(load) {
+            Stage::Filled(value) => Ok(Came::Value(value)),
+            Stage::HandedTo(number) if number == waiter => {
+                self.set_stage(load, Stage::Held);
+                Ok(Came::Guard(load))
+            }
+            _ => Ok(Came::Waits((load, waiter))),
+        }
+    }
+
+    /// What comes to one who looks: a value, the guard of a load that begins, or a wait for another's
+    /// load.
+    fn look(&mut self, key: u64) -> Result<Came, AllocError> {
+        match self.place(key) {
+            Place::Item(value) => Ok(Came::Value(value)),
+            Place::Empty => Ok(Came::Guard(self.begin(key)?)),
+            Place::Loading(load) => {
+                self.waiters = self.waiters.wrapping_add(1);
+                Ok(Came::Waits((load, self.waiters)))
+            }
+        }
+    }
+
+    /// The future that acts on an entry is polled. A value that came for it is acted on where it
+    /// stands then.
+    fn poll_acts(&mut self) -> Result<Told, AllocError> {
+        let Some(mut waits) = self.acts.take() else {
+            return Ok(Told::Refused);
+        };
+        if waits.at.is_some() {
+            match self.come(waits)? {
+                Came::Value(_) => waits.at = None,
+                Came::Guard(load) => return self.hold(waits.key, load),
+                Came::Waits(_) => {}
+            }
+        }
+        if waits.at.is_none() {
+            match self.place(waits.key) {
+                Place::Loading(load) => {
+                    self.waiters = self.waiters.wrapping_add(1);
+                    waits.at = Some((load, self.waiters));
+                }
+                _ => return self.act(waits.key),
+            }
+        }
+        self.acts = Some(waits);
+        Ok(Told::Pending)
+    }
+
+    /// The future that loads is polled.
+    fn poll_loads(&mut self) -> Result<Told, AllocError> {
+        if let Some((key, load)) = self.loader.held.take() {
+            return Ok(self.load(key, load));
+        }
+        let Some(Waits { key, at }) = self.loader.waits.take() else {
+            return Ok(Told::Refused);
+        };
+        match self.come(Waits { key, at })? {
+            Came::Value(value) => Ok(Told::Value(value)),
+            Came::Guard(load) => Ok(self.load(key, load)),
+            Came::Waits(at) => {
+                self.loader.waits = Some(Waits { key, at: Some(at) });
+                Ok(Told::Pending)
+            }
+        }
+    }
+
+    /// Its loader is polled, and then the load ends or is passed on.
+    fn load(&mut self, key: u64, load: usize) -> Told {
+        if self.loader.turns > 0 {
+            self.loader.turns -= 1;
+            self.loader.held = Some((key, load));
+            return Told::Pending;
+        }
+        match self.loader.given {
+            Some(value) => {
+                self.end(key, load, value);
+                Told::Value(value)
+            }
+            None => {
+                self.pass_on(key, load);
+                Told::Failed
+            }
+        }
+    }
+
     fn cancel(&mut self, at: usize) -> Told {
         if at >= self.futures.len() {
             return Told::Nothing;
         }
-        let Waits { key, at } = self.futures.swap_remove(at);
-        if let Some((load, waiter)) = at {
+        let waits = self.futures.swap_remove(at);
+        self.leave(waits)
+    }
+
+    /// A future waits no more. A guard that was on its way to it goes on.
+    fn leave(&mut self, waits: Waits) -> Told {
+        if let Some((load, waiter)) = waits.at {
             if let Stage::HandedTo(number) = self.stage(load) {
                 if number == waiter {
-                    return self.pass_on(key, load);
+                    return self.pass_on(waits.key, load);
                 }
             }
         }
         Told::Done
+    }
+}
+
+/// What comes to a future: a value, the guard of a load, or the load that it waits for.
+enum Came {
+    Value(u64),
+    Guard(usize),
+    Waits((usize, u64)),
+}
+
+/// The number by which one waits for this load, if it does.
+fn waits_for(waits: Option<Waits>, load: usize) -> Option<u64> {
+    match waits?.at {
+        Some((at, waiter)) if at == load => Some(waiter),
+        _ => None,
     }
 }

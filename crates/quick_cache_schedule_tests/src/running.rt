@@ -1,4 +1,5 @@
 //! The same steps on a running cache, whose futures are polled by hand.
+use crate::later::Polled;
 use crate::steps::{Step, Told};
 use futures::task::Poll;
 use futures::test::MockTask;
@@ -21,23 +22,22 @@ type Dropping = DefaultLifecycle<u64, u64>;
 
 type Shard = LockedShard<u64, u64, UnitWeighter, DefaultHashBuilder, Dropping>;
 
-type Guard<'a, R> = PlaceholderGuard<'a, u64, u64, Dropping, Shard, R>;
+pub type Guard<'a, R> = PlaceholderGuard<'a, u64, u64, Dropping, Shard, R>;
 
 type Asking<'a, R> = ValueOrGuard<'a, u64, u64, u64, Dropping, Shard, R>;
 
 /// A future with its task.
 #[derive(Drop)]
 struct Task<'a, R: Wait> {
-    task: MockTask,
-    was_pending: bool,
+    polled: Polled,
     future: Asking<'a, R>,
 }
 
 /// A cache with the guards and the futures of a schedule.
 #[derive(Drop)]
 pub struct Running<'a, R: Wait> {
-    rt: &'a R,
-    cache: &'a Numbers,
+    pub rt: &'a R,
+    pub cache: &'a Numbers,
     keys: &'a [u64; 4],
     guards: Vec<Guard<'a, R>>,
     tasks: Vec<Task<'a, R>>,
@@ -53,6 +53,12 @@ impl<'a, R: Wait + Clock + RandomSource + AllocGlobal> Running<'a, R> {
             guards: Vec::new(rt.alloc()),
             tasks: Vec::new(rt.alloc()),
         }
+    }
+
+    /// The key of a number.
+    pub fn key(&self, number: u64) -> &'a u64 {
+        let keys = self.keys;
+        &keys[(number % 4) as usize]
     }
 
     /// Makes a step.
@@ -114,7 +120,16 @@ impl<'a, R: Wait + Clock + RandomSource + AllocGlobal> Running<'a, R> {
     fn act(&mut self, key: u64, millis: u64) -> Result<Told, Fail> {
         let limit = Some(Duration::from_millis(millis));
         let mut callback = |_: &u64, value: &mut u64| chosen(value);
-        match self.cache.entry(self.rt, &key, limit, &mut callback) {
+        let answer = self.cache.entry(self.rt, &key, limit, &mut callback);
+        self.acted(answer)
+    }
+
+    /// What an entry call tells. Its guard is held.
+    pub fn acted(
+        &mut self,
+        answer: EntryResult<u64, u64, u64, Guard<'a, R>>,
+    ) -> Result<Told, Fail> {
+        match answer {
             EntryResult::Retained(value) => Ok(Told::Retained(value)),
             EntryResult::Removed(_, value) => Ok(Told::Removed(value)),
             EntryResult::Replaced(guard, value) => {
@@ -154,13 +169,18 @@ impl<'a, R: Wait + Clock + RandomSource + AllocGlobal> Running<'a, R> {
         if self.tasks.len() >= 8 {
             return Ok(Told::Nothing);
         }
-        let key = &self.keys[(key % 4) as usize];
-        self.tasks.push(Task {
+        let future = self.cache.get_value_or_guard_async(self.rt, self.key(key));
+        let polled = self.unpolled()?;
+        self.tasks.push(Task { polled, future })?;
+        Ok(Told::Done)
+    }
+
+    /// A task whose future has not been polled.
+    pub fn unpolled(&self) -> Result<Polled, Fail> {
+        Ok(Polled {
             task: MockTask::new(self.rt)?,
             was_pending: false,
-            future: self.cache.get_value_or_guard_async(self.rt, key),
-        })?;
-        Ok(Told::Done)
+        })
     }
 
     /// Polls a future. One that waited and has something to say was woken.
@@ -169,12 +189,11 @@ impl<'a, R: Wait + Clock + RandomSource + AllocGlobal> Running<'a, R> {
             return Ok(Told::Nothing);
         }
         let Task {
-            task,
-            was_pending,
+            mut polled,
             mut future,
         } = self.tasks.swap_remove(at);
-        let is_unwoken = was_pending && !task.is_woken();
-        let told = match task.poll(&mut future) {
+        let is_asleep = polled.is_asleep();
+        let told = match polled.task.poll(&mut future) {
             Poll::Ready(Ok(Ok(value))) => Told::Value(value),
             Poll::Ready(Ok(Err(guard))) => {
                 self.guards.push(guard)?;
@@ -182,19 +201,12 @@ impl<'a, R: Wait + Clock + RandomSource + AllocGlobal> Running<'a, R> {
             }
             Poll::Ready(Err(_)) => Told::Refused,
             Poll::Pending => {
-                self.tasks.push(Task {
-                    task,
-                    was_pending: true,
-                    future,
-                })?;
+                polled.was_pending = true;
+                self.tasks.push(Task { polled, future })?;
                 return Ok(Told::Pending);
             }
         };
-        if is_unwoken {
-            Ok(Told::Unwoken)
-        } else {
-            Ok(told)
-        }
+        Ok(unless(is_asleep, told))
     }
 
     fn cancel(&mut self, at: usize) -> Told {
@@ -206,13 +218,18 @@ impl<'a, R: Wait + Clock + RandomSource + AllocGlobal> Running<'a, R> {
     }
 }
 
+/// What was told, unless it came to a task that nobody woke.
+pub fn unless(is_asleep: bool, told: Told) -> Told {
+    if is_asleep { Told::Unwoken } else { told }
+}
+
 fn done_if(is_done: bool) -> Told {
     if is_done { Told::Done } else { Told::Nothing }
 }
 
 /// What the callback of an entry call chooses: to write the value and keep it, to let it go, or to
 /// leave a guard.
-fn chosen(value: &mut u64) -> EntryAction<u64> {
+pub fn chosen(value: &mut u64) -> EntryAction<u64> {
     let found = *value;
     match found % 3 {
         0 => {

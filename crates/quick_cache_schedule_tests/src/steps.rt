@@ -21,6 +21,10 @@ pub enum Step {
     /// Polls a future. One that goes on waiting comes last.
     Poll(usize),
     Cancel(usize),
+    /// Polls the future that acts on an entry.
+    PollActs,
+    /// Polls the future that loads.
+    PollLoads,
 }
 
 /// What a step is told.
@@ -36,6 +40,8 @@ pub enum Told {
     Replaced(u64),
     Gone(u64),
     Pending,
+    /// The loader gave no value.
+    Failed,
     Count(usize),
     Refused,
     /// It had something to say, and its task was not woken.

@@ -12,6 +12,7 @@ use Rattle.quick_cache_shard.specs.Inserts.{Inserts}
 use Rattle.quick_cache_shard.specs.Replaces.{Replaces}
 use Rattle.quick_cache_shard.specs.SetsCapacity.{SetsCapacityTo}
 use Rattle.quick_cache_shard.specs.Shard.{Shard, terms_of}
+use Rattle.quick_cache_shard.specs.TokenValues.{ReweighsToken}
 pub use Rattle.quick_cache_shard.specs.Goes.{Goes, goes_by}
 
 -- what it says of a shard: whether pinning is steady, the hooks that are called, and the rules
@@ -66,3 +67,7 @@ module _ {K V We B L S : Type 0} (goes : Goes K V We B L S)
   abbrev pub ReweighsBy : (stands_for : K → Bool) → (new : Shard K V We B L) → Type 0
   ReweighsBy stands_for new =
       ReweighsUnder stands_for (rules_in goes may_count old) old.state new.state
+
+  -- the item of the token was weighed anew
+  abbrev pub ReweighsTokenBy : (token : ℕ) → (new : Shard K V We B L) → Type 0
+  ReweighsTokenBy token new = ReweighsToken (rules_in goes may_count old) old token new.state

@@ -1,11 +1,12 @@
 //! Takes all items out of a shard, one after another.
-ghost use Rattle.std.specs.Prelude.{◌≡◌, ◌≤◌, length, MatchOption, IfSome, Some};
+ghost use Rattle.std.specs.Prelude.{◌≡◌, length, MatchOption, IfSome, Some};
 ghost use Rattle.std.specs.Int.NonZero.{non_zero_u32_get as number};
 ghost use Rattle.std.specs.Iterator.{at_most, UpTo};
 ghost use Rattle.std.specs.Iterator.SizeHint.{IsWithinCount};
 ghost use Rattle.quick_cache_policy.specs.Tokens.{TakesItem};
-ghost use Rattle.quick_cache_shard.specs.Shard.{IsSoundShard, LeavesPlace, KeepsWork};
+ghost use Rattle.quick_cache_shard.specs.Shard.{LeavesPlace};
 ghost use Rattle.quick_cache_shard.specs.ShardDrain.{drained, drain_lender, DrainsInAll};
+ghost use Rattle.quick_cache_shard.specs.Stays.{IdlesWithin};
 
 use crate::shard::CacheShard;
 use quick_cache_model::Token;
@@ -133,13 +134,11 @@ impl<K: Eq + Hash, V, We, B: BuildHasher, L, P: SharedPlaceholder<K>, A: Allocat
             (λ taken. TakesItem self.old.state taken.1 self.new.state) }
         ensures leaves { IfSome result
             (λ taken. LeavesPlace self.old (number taken.0) taken.1.0 self.new) }
-        ensures room { self.old.room ≤ self.new.room }
-        ensures same { KeepsWork self.old self.new }
-        ensures sound { IsSoundShard K.eq self.new }
+        ensures stays { IdlesWithin K.eq 0 self.old self.new }
     {
         self.contents.lists.apart();
         let taken = self.contents.take_next(after);
-        self.contents.lists.apart();
+        self.validate();
         taken
     }
 

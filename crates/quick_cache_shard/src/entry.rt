@@ -1,7 +1,8 @@
 //! A call that shows an item to a callback of the caller's, and does what that chooses.
-ghost use Rattle.std.specs.Prelude.{◌≡◌, ◌≤◌, ◌+◌, true};
+ghost use Rattle.std.specs.Prelude.{◌≡◌, true};
 ghost use Rattle.quick_cache_policy.specs.Entering.{AnswersEntry, IsNewUnder};
-ghost use Rattle.quick_cache_shard.specs.Shard.{LosesOnly, IsSoundShard, KeepsWork};
+ghost use Rattle.quick_cache_shard.specs.Shard.{LosesOnly};
+ghost use Rattle.quick_cache_shard.specs.Stays.{IdlesWithin};
 ghost use Rattle.quick_cache_shard.specs.Steps.{rules_in};
 
 use crate::shard::CacheShard;
@@ -14,9 +15,9 @@ use std::hash::{BuildHasher, Hash};
 impl<
     K: Eq + Hash + Drop,
     V: Drop,
-    We,
+    We: Weighter<K, V>,
     B: BuildHasher,
-    L,
+    L: Lifecycle<K, V>,
     P: SharedPlaceholder<K>,
     A: Allocator,
 > CacheShard<K, V, We, B, L, P, A> {
@@ -46,9 +47,6 @@ impl<
         query: &Q,
         callback: &mut F,
     ) -> Result<EntryOrPlaceholder<K, V, P, T>, Refusal>
-    where
-        We: Weighter<K, V>,
-        L: Lifecycle<K, V>,
         requires hash_is { hash ≡ ⟦<Self as Keyed>⟧.hash self.old.builder (Q.hash_input query.now) }
         requires stands { (key : K) → Q.to_key_gives query.now key
             → Q.equivalent query.now key ≡ true }
@@ -57,19 +55,14 @@ impl<
             (rules_in ⟦<Self as Going>⟧.goes P.Touch.may_count self.old)
             (Q.equivalent query.now) callback.old self.old.state P.own_ticket
             (Q.to_key_gives query.now) hash result callback.new self.new.state }
-        // A new placeholder has the hash of its key.
         ensures hash { IsNewUnder P.hash_of hash result }
-        // No item moves that stays.
         ensures places { LosesOnly self.old.places self.new.places }
-        // It takes room for one entry at most.
-        ensures room { self.old.room ≤ self.new.room + 1 }
-        ensures same { KeepsWork self.old self.new }
-        ensures sound { IsSoundShard K.eq self.new }
+        ensures stays { IdlesWithin K.eq 1 self.old self.new }
     {
         let answer = self
             .contents
             .entry_or_placeholder(maker, hash, query, &self.terms, callback);
-        self.contents.lists.apart();
+        self.validate();
         answer
     }
 }

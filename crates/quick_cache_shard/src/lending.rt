@@ -5,7 +5,7 @@ ghost use Rattle.quick_cache_model.specs.Finding.{HasNoItem};
 ghost use Rattle.quick_cache_model.specs.Hashing.{hash_of};
 ghost use Rattle.quick_cache_model.specs.Lookups.{LooksUp};
 ghost use Rattle.quick_cache_policy.specs.References.{count_under, IsValueUnder, NotesLookUp};
-ghost use Rattle.quick_cache_shard.specs.Shard.{LosesOnly, UpToOrder, IsSoundShard};
+ghost use Rattle.quick_cache_shard.specs.Shard.{LosesOnly, UpToOrder, IsSoundShard, KeepsRoom};
 ghost use Rattle.quick_cache_shard.specs.Steps.{ReweighsBy};
 
 use crate::shard::CacheShard;
@@ -55,10 +55,7 @@ impl<
             P.Touch.may_count self.entry.shard.now (Q.equivalent self.entry.query.now)
             self.exit.0.now }
         ensures places { LosesOnly self.entry.shard.now.places self.exit.0.now.places }
-        ensures same { self.exit.0.now ≡ record self.entry.shard.now {
-          state = self.exit.0.now.state;
-          places = self.exit.0.now.places;
-        } }
+        ensures same { KeepsRoom self.entry.shard.now self.exit.0.now }
     {
         let RefMut {
             shard,
@@ -208,5 +205,21 @@ impl<
             hash,
             slot: token.get(),
         })
+    }
+
+    /// Weighs the item under the query anew, which is known to be there, and is found as by
+    /// `value_under`. One that lost its weight leaves its ring, which begins behind it; one that
+    /// gained weight is put last in the ring of its queue; and any other keeps its place. Nothing
+    /// is evicted, whatever the weight.
+    pub fn reweigh<Q: Equivalent<K>>(&mut self, thought: Option<Token>, hash: u64, query: &Q)
+        requires hash_is { hash ≡ ⟦<Self as Keyed>⟧.hash self.old.builder (Q.hash_input query.now) }
+        requires there { 0 < count_under (Q.equivalent query.now) self.old.state }
+        ensures reweighs { ReweighsBy ⟦<Self as Going>⟧.goes P.Touch.may_count self.old
+            (Q.equivalent query.now) self.new }
+        ensures places { LosesOnly self.old.places self.new.places }
+        ensures there { 0 < count_under (Q.equivalent query.now) self.new.state }
+        ensures same { KeepsRoom self.old self.new }
+    {
+        self.contents.reweigh(thought, hash, query, &self.terms);
     }
 }

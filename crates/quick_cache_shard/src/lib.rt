@@ -1,9 +1,9 @@
 //! One cache: each call is the step of its definition.
 #![tactic(auto)]
 
-mod capacity;
 mod drain;
 mod entry;
+mod evicting;
 mod lending;
 mod loading;
 mod parts;

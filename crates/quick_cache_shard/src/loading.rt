@@ -1,14 +1,14 @@
 //! Placeholders: made or met by a look-up, filled, or given up.
-ghost use Rattle.std.specs.Prelude.{◌≡◌, ◌≤◌, ◌+◌, true, MatchOption};
+ghost use Rattle.std.specs.Prelude.{◌≡◌, true, MatchOption};
 ghost use Rattle.quick_cache_model.specs.Placeholders.{GivesUpPlaceholder, HasNoTicket};
 ghost use Rattle.quick_cache_policy.specs.Filling.{AwaitsKey};
 ghost use Rattle.quick_cache_shard.specs.Loading.{FindsToken, IsMadeUnder, LooksUpOrMakes};
-ghost use Rattle.quick_cache_shard.specs.Shard.{KeepsPlaces, LosesOnly, UpToOrder, IsSoundShard, KeepsTerms, KeepsWork, WorksAsWrite};
-ghost use Rattle.quick_cache_shard.specs.Steps.{FillsBy};
+ghost use Rattle.quick_cache_shard.specs.Shard.{LosesOnly, UpToOrder, IsSoundShard};
+ghost use Rattle.quick_cache_shard.specs.Stays.{IdlesWithin};
 
 use crate::shard::CacheShard;
-use crate::words::{Going, Keyed};
-use quick_cache_model::{Lifecycle, Refusal, ToKey, Token, Weighter};
+use crate::words::Keyed;
+use quick_cache_model::{Refusal, ToKey, Token};
 use quick_cache_policy::{MakesPlaceholders, SharedPlaceholder};
 use std::alloc::Allocator;
 use std::hash::{BuildHasher, Hash};
@@ -44,55 +44,13 @@ impl<
             → Q.equivalent query.now key ≡ true }
         ensures answers { LooksUpOrMakes P.own_ticket (Q.equivalent query.now)
             (Q.to_key_gives query.now) hash self.old.state result self.new.state }
-        // A new placeholder has the hash of its key.
         ensures hash { IsMadeUnder P.hash_of hash result }
-        // The token of an item that was found is where it stands. No item moves.
         ensures token { FindsToken (Q.equivalent query.now) self.new result }
-        // It takes room for one entry at most.
-        ensures room { self.old.room ≤ self.new.room + 1 }
-        ensures same { self.new ≡ record self.old { state = self.new.state; room = self.new.room } }
-        ensures sound { IsSoundShard K.eq self.new }
+        ensures places { self.new.places ≡ self.old.places }
+        ensures stays { IdlesWithin K.eq 1 self.old self.new }
     {
         let answer = self.contents.get_or_placeholder(maker, hash, query);
-        self.contents.lists.apart();
-        answer
-    }
-
-    /// Fills the placeholder of that ticket with a value, which is marked where others waited for
-    /// it. The value passes the admission check: one that is too heavy is told to the cold hook,
-    /// and the placeholder goes. Room is made for what weighs something.
-    ///
-    /// It asks for no memory. It looks for the placeholder in the slot that this names, and where
-    /// it is not there and some key is being loaded, in each slot.
-    ///
-    /// # Errors
-    ///
-    /// The value, where the placeholder is gone. Nothing has changed then, and no hook was called.
-    #[inline(always)]
-    pub fn replace_placeholder(
-        &mut self,
-        state: &mut L::RequestState,
-        placeholder: &P,
-        referenced: bool,
-        value: V,
-    ) -> Result<(), V>
-    where
-        We: Weighter<K, V>,
-        L: Lifecycle<K, V>,
-        // Where pinning is steady, the fill is a step of its definition.
-        ensures fills { FillsBy ⟦<Self as Going>⟧.goes P.Touch.may_count self.old
-            (P.own_ticket placeholder.now) referenced value result self.new state.old state.new }
-        ensures places { KeepsPlaces K.eq self.old.places self.new.places }
-        ensures room { self.old.room ≤ self.new.room }
-        // How much work it takes, whatever is pinned.
-        ensures work { WorksAsWrite self.old self.new }
-        ensures same { KeepsTerms self.old self.new }
-        ensures sound { IsSoundShard K.eq self.new }
-    {
-        let answer = self
-            .contents
-            .replace_placeholder(&self.terms, state, placeholder, referenced, value);
-        self.contents.lists.apart();
+        self.validate();
         answer
     }
 
@@ -104,7 +62,7 @@ impl<
             (λ key. AwaitsKey (P.own_ticket placeholder.now) self.now.state key.now) }
         ensures sound { IsSoundShard K.eq self.now }
     {
-        self.contents.lists.apart();
+        self.validate();
         self.contents.awaited_key(placeholder)
     }
 
@@ -114,11 +72,9 @@ impl<
         ensures gives_up { UpToOrder
             (GivesUpPlaceholder (P.own_ticket placeholder.now) self.old.state) self.new.state }
         ensures places { LosesOnly self.old.places self.new.places }
-        ensures room { self.old.room ≤ self.new.room }
-        ensures same { KeepsWork self.old self.new }
-        ensures sound { IsSoundShard K.eq self.new }
+        ensures stays { IdlesWithin K.eq 0 self.old self.new }
     {
         self.contents.remove_placeholder(placeholder);
-        self.contents.lists.apart();
+        self.validate();
     }
 }

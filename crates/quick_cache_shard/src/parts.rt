@@ -2,6 +2,7 @@
 ghost use Rattle.std.specs.Prelude.{◌≡◌};
 ghost use Rattle.quick_cache_model.specs.Hashing.{hash_of};
 ghost use Rattle.quick_cache_policy.specs.Contents.{IsSound, state_of};
+ghost use Rattle.quick_cache_shard.specs.Shard.{terms_of};
 
 use crate::shard::CacheShard;
 use quick_cache_policy::{Contents, SharedPlaceholder, Terms};
@@ -24,9 +25,7 @@ impl<K: Eq + Hash, V, We, B: BuildHasher, L, P: SharedPlaceholder<K>, A: Allocat
             (λ key. hash_of B.BuildHasher B.Hasher.Hasher terms.builder (K.hash_input key))
             contents }
         ensures state { result.state ≡ state_of P.ticket_of contents }
-        ensures weigher { result.weigher ≡ terms.weigher }
-        ensures builder { result.builder ≡ terms.builder }
-        ensures lifecycle { result.lifecycle ≡ terms.lifecycle }
+        ensures terms { terms_of result ≡ terms }
     {
         CacheShard { contents, terms }
     }

@@ -4,12 +4,11 @@ ghost use Rattle.std.specs.Borrow.{sem, Lends};
 ghost use Rattle.std.specs.Int.NonZero.{non_zero_u32_get as number};
 ghost use Rattle.quick_cache_model.specs.Finding.{HasNoItem};
 ghost use Rattle.quick_cache_policy.specs.References.{count_under, IsValueUnder, NotesLookUp};
-ghost use Rattle.quick_cache_shard.specs.Shard.{LosesOnly, IsSoundShard, HasTokenUnder};
-ghost use Rattle.quick_cache_shard.specs.Steps.{ReweighsBy};
+ghost use Rattle.quick_cache_shard.specs.Shard.{IsSoundShard, HasTokenUnder};
 
 use crate::shard::CacheShard;
-use crate::words::{Going, Keyed, Rowed};
-use quick_cache_model::{Equivalent, Lifecycle, Token, Weighter};
+use crate::words::{Keyed, Rowed};
+use quick_cache_model::{Equivalent, Token};
 use quick_cache_policy::SharedPlaceholder;
 use std::alloc::Allocator;
 use std::hash::{BuildHasher, Hash};
@@ -40,7 +39,7 @@ impl<K: Eq + Hash, V, We, B: BuildHasher, L, P: SharedPlaceholder<K>, A: Allocat
         ensures sound { IsSoundShard K.eq self.new }
     {
         let found = self.contents.look_up(hash, query);
-        self.contents.lists.apart();
+        self.validate();
         found
     }
 
@@ -55,7 +54,7 @@ impl<K: Eq + Hash, V, We, B: BuildHasher, L, P: SharedPlaceholder<K>, A: Allocat
         ensures absent { IfNone result (HasNoItem (Q.equivalent query.now) self.now.state) }
         ensures sound { IsSoundShard K.eq self.now }
     {
-        self.contents.lists.apart();
+        self.validate();
         self.contents.token_of(hash, query)
     }
 
@@ -90,27 +89,5 @@ impl<K: Eq + Hash, V, We, B: BuildHasher, L, P: SharedPlaceholder<K>, A: Allocat
         self.contents.lists.apart();
         let token = self.contents.token_under(thought, hash, query);
         self.contents.value_mut(token)
-    }
-
-    /// Weighs the item under the query anew, which is known to be there, and is found as by
-    /// `value_under`. One that lost its weight leaves its ring, which begins behind it; one that
-    /// gained weight is put last in the ring of its queue; and any other keeps its place. Nothing
-    /// is evicted, whatever the weight.
-    pub fn reweigh<Q: Equivalent<K>>(&mut self, thought: Option<Token>, hash: u64, query: &Q)
-    where
-        K: Drop,
-        V: Drop,
-        We: Weighter<K, V>,
-        L: Lifecycle<K, V>,
-        requires hash_is { hash ≡ ⟦<Self as Keyed>⟧.hash self.old.builder (Q.hash_input query.now) }
-        requires there { 0 < count_under (Q.equivalent query.now) self.old.state }
-        ensures reweighs { ReweighsBy ⟦<Self as Going>⟧.goes P.Touch.may_count self.old
-            (Q.equivalent query.now) self.new }
-        ensures places { LosesOnly self.old.places self.new.places }
-        ensures there { 0 < count_under (Q.equivalent query.now) self.new.state }
-        ensures same { self.new
-            ≡ record self.old { state = self.new.state; places = self.new.places } }
-    {
-        self.contents.reweigh(thought, hash, query, &self.terms);
     }
 }

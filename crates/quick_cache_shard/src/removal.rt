@@ -1,10 +1,11 @@
-//! Removals by a predicate of the caller, and of all that there is.
-ghost use Rattle.std.specs.Prelude.{◌≡◌, ◌≤◌, ◌+◌, [], Bool};
+//! Removals: of one item, by a predicate of the caller, and of all that there is.
+ghost use Rattle.std.specs.Prelude.{◌≡◌, Bool};
 ghost use Rattle.std.specs.Fn.{FnOnceReturnsAt};
-ghost use Rattle.quick_cache_model.specs.Refusals.{slots_taken};
-ghost use Rattle.quick_cache_model.specs.Removal.{RemovesIf, Retains, cleared};
+ghost use Rattle.quick_cache_model.specs.Removal.{Removes, RemovesIf, Retains};
 ghost use Rattle.quick_cache_policy.specs.Predicates.{Answers, IsAnsweredAs, IsTestedAs, MayBeAskedUnder, MayBeAskedOfEach, RemovesAsked, RetainsAsked};
-ghost use Rattle.quick_cache_shard.specs.Shard.{LosesOnly, UpToOrder, IsSoundShard, KeepsWork};
+ghost use Rattle.quick_cache_shard.specs.Shard.{LosesOnly, UpToOrder, IsSoundShard};
+ghost use Rattle.quick_cache_shard.specs.ShardDrain.{emptied};
+ghost use Rattle.quick_cache_shard.specs.Stays.{IdlesWithin};
 
 use crate::shard::CacheShard;
 use crate::words::Keyed;
@@ -34,22 +35,42 @@ impl<K: Eq + Hash, V, We, B: BuildHasher, L, P: SharedPlaceholder<K>, A: Allocat
         requires hash_is { hash ≡ ⟦<Self as Keyed>⟧.hash self.old.builder (Q.hash_input query.now) }
         requires callable { MayBeAskedUnder F.FnOnce wanted (Q.equivalent query.now)
             self.old.state }
-
         // Where the predicate answers as a pure test does, it is the removal by that test.
         ensures removes { (passes : V → Bool) → IsTestedAs F.FnOnce wanted passes
             → UpToOrder (RemovesIf (Q.equivalent query.now) self.old.state passes result)
             self.new.state }
-
         // Whatever it answers, the item goes or stays by that.
         ensures asks { UpToOrder (RemovesAsked (Q.equivalent query.now) self.old.state
             (FnOnceReturnsAt F.FnOnce wanted) result) self.new.state }
         ensures places { LosesOnly self.old.places self.new.places }
-        ensures room { self.old.room ≤ self.new.room }
-        ensures same { KeepsWork self.old self.new }
-        ensures sound { IsSoundShard K.eq self.new }
+        ensures stays { IdlesWithin K.eq 0 self.old self.new }
     {
         let taken = self.contents.remove_if(hash, query, wanted);
-        self.contents.lists.apart();
+        self.validate();
+        taken
+    }
+}
+
+impl<
+    K: Eq + Hash + Drop,
+    V: Drop,
+    We,
+    B: BuildHasher,
+    L,
+    P: SharedPlaceholder<K>,
+    A: Allocator,
+> CacheShard<K, V, We, B, L, P, A> {
+    /// Takes the item under the query out and gives its pair, or takes out a ghost of its hash. No
+    /// hook is called, and no memory is asked for.
+    pub fn remove<Q: Equivalent<K>>(&mut self, hash: u64, query: &Q) -> Option<(K, V)>
+        requires hash_is { hash ≡ ⟦<Self as Keyed>⟧.hash self.old.builder (Q.hash_input query.now) }
+        ensures removes { UpToOrder (Removes (Q.equivalent query.now) self.old.state hash result)
+            self.new.state }
+        ensures places { LosesOnly self.old.places self.new.places }
+        ensures stays { IdlesWithin K.eq 0 self.old self.new }
+    {
+        let taken = self.contents.remove(hash, query);
+        self.validate();
         taken
     }
 
@@ -57,40 +78,26 @@ impl<K: Eq + Hash, V, We, B: BuildHasher, L, P: SharedPlaceholder<K>, A: Allocat
     /// order of the rest; placeholders and ghosts stay. No hook is called, and no memory is asked
     /// for.
     pub fn retain<F: Fn(&K, &V) -> bool>(&mut self, keep: F)
-    where
-        K: Drop,
-        V: Drop,
         requires callable { MayBeAskedOfEach F.Fn keep self.old.state }
-
         // Where the predicate answers as a pure test does, it is the retain by that test.
         ensures retains { (keeps : K → V → Bool) → IsAnsweredAs F.Fn keep keeps
             → UpToOrder (Retains keeps self.old.state) self.new.state }
-
         // Whatever it answers, each item goes or stays by that.
         ensures asks { UpToOrder (RetainsAsked (Answers F.Fn keep) self.old.state) self.new.state }
         ensures places { LosesOnly self.old.places self.new.places }
-        ensures room { self.old.room ≤ self.new.room }
-        ensures same { KeepsWork self.old self.new }
-        ensures sound { IsSoundShard K.eq self.new }
+        ensures stays { IdlesWithin K.eq 0 self.old self.new }
     {
         self.contents.retain(keep);
-        self.contents.lists.apart();
+        self.validate();
     }
 
     /// Drops all items, placeholders and ghosts. The counts, the sizes and the memory stay. No hook
     /// is called.
     pub fn clear(&mut self)
-    where
-        K: Drop,
-        V: Drop,
-        ensures clears { self.new ≡ record self.old {
-          state = cleared self.old.state;
-          places = [];
-          room = self.old.room + slots_taken self.old.state;
-        } }
+        ensures clears { self.new ≡ emptied self.old }
         ensures sound { IsSoundShard K.eq self.new }
     {
         self.contents.clear();
-        self.contents.lists.apart();
+        self.validate();
     }
 }

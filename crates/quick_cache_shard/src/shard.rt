@@ -1,5 +1,5 @@
-//! The shard: its calls, and what a contract sees of it.
-ghost use Rattle.std.specs.Prelude.{◌≡◌, IfOk, IfErr, IsOk, option_copied, ◌≤◌, ◌+◌, Some, min, max, ◌-◌, OnOk, IsSome, true, false, None};
+//! The shard, what a contract sees of it, and its look-ups.
+ghost use Rattle.std.specs.Prelude.{◌≡◌, IfOk, IfErr, IsOk, option_copied, ◌≤◌, ◌+◌, min, max, ◌-◌, OnOk};
 ghost use Rattle.std.specs.Bool.{OnTrue, OnFalse};
 ghost use Rattle.std.specs.Borrow.{sem};
 ghost use Rattle.std.specs.Option.{option_map};
@@ -10,19 +10,17 @@ ghost use Rattle.quick_cache_model.specs.CacheState.{empty_state};
 ghost use Rattle.quick_cache_model.specs.Finding.{HasNoItem};
 ghost use Rattle.quick_cache_model.specs.Hashing.{hash_of};
 ghost use Rattle.quick_cache_model.specs.Lookups.{LooksUp, Sees};
-ghost use Rattle.quick_cache_model.specs.Removal.{Removes, pair_of};
+ghost use Rattle.quick_cache_model.specs.Removal.{pair_of};
 ghost use Rattle.quick_cache_model.specs.Sizes.{hot_target_of, ghost_limit_of};
 ghost use Rattle.quick_cache_policy.specs.Work.{no_work};
-ghost use Rattle.quick_cache_policy.specs.Writing.{strategy_of, is_insert};
 ghost use Rattle.quick_cache_policy.specs.Copies.{ClonesAreEqual, IsCopyOf};
-ghost use Rattle.quick_cache_shard.specs.Shard.{KeepsPlaces, LosesOnly, UpToOrder, IsSoundShard, HasItem, KeepsTerms, KeepsWork, WorksAsWrite, made_with};
+ghost use Rattle.quick_cache_shard.specs.Shard.{UpToOrder, IsSoundShard, HasItem, made_with};
 ghost use Rattle.quick_cache_model.specs.Refusals.{slots_taken, slot_count};
-ghost use Rattle.quick_cache_shard.specs.Steps.{AnswersWriteBy};
 
 use crate::words::{Going, Keyed, Rowed};
 use quick_cache_model::{Equivalent, Lifecycle, Refusal, Token, Weighter, hash_of};
 use quick_cache_options::sizes::{ghost_limit, hot_target};
-use quick_cache_policy::{Contents, InsertStrategy, SharedPlaceholder, Terms};
+use quick_cache_policy::{Contents, SharedPlaceholder, Terms};
 use std::alloc::{Allocator, Global};
 use std::hash::{BuildHasher, Hash};
 use std::marker::Model;
@@ -208,7 +206,6 @@ impl<K: Eq + Hash, V, We, B: BuildHasher, L, P: SharedPlaceholder<K>, A: Allocat
         ensures grows { self.old.room ≤ self.new.room }
         ensures at_most { self.new.room ≤ max self.old.room (most_room
             (slots_taken self.old.state) (additional + min additional self.old.state.ghost_limit)) }
-
         // Where there is that room already it succeeds.
         ensures succeeds { min (additional + min additional self.old.state.ghost_limit)
             (slot_count - slots_taken self.old.state) ≤ self.old.room → IsOk result }
@@ -226,52 +223,12 @@ impl<K: Eq + Hash, V, We, B: BuildHasher, L, P: SharedPlaceholder<K>, A: Allocat
         hash_of(&self.terms.builder, query)
     }
 
-    /// Writes a pair, whose hash is handed in, and makes room for it.
-    ///
-    /// Room is made first: with 4294967294 items, ghosts and placeholders, and where there is no
-    /// memory, an insert of what is not found gives the pair back with the refusal, and has changed
-    /// nothing and called no hook. A pair that comes back with no refusal was not admitted: only a
-    /// replace gives one back so.
-    pub fn insert(
-        &mut self,
-        state: &mut L::RequestState,
-        hash: u64,
-        key: K,
-        value: V,
-        strategy: InsertStrategy,
-    ) -> Result<(), (K, V, Option<Refusal>)>
-    where
-        K: Drop,
-        V: Drop,
-        We: Weighter<K, V>,
-        L: Lifecycle<K, V>,
-        requires hash_is { hash ≡ ⟦<Self as Keyed>⟧.hash self.old.builder (K.hash_input key) }
-        // Where pinning is steady, the write is a step of its definition.
-        ensures answers { AnswersWriteBy ⟦<Self as Going>⟧.goes P.Touch.may_count self.old K.eq
-            (strategy_of strategy) key value result self.new state.old state.new }
-        // No item that stays moves.
-        ensures places { KeepsPlaces K.eq self.old.places self.new.places }
-        // Only a replace gives a pair back with no refusal, and it is never refused.
-        ensures taken { is_insert (strategy_of strategy) ≡ true
-            → IfErr result (λ back. IsSome back.2) }
-        ensures unrefused { is_insert (strategy_of strategy) ≡ false
-            → IfErr result (λ back. back.2 ≡ None) }
-        // It takes room for one entry at most, and asks for memory only where there is no room. A
-        // replace takes none.
-        ensures room { self.old.room ≤ self.new.room + 1 }
-        ensures keeps_room { is_insert (strategy_of strategy) ≡ false
-            → self.old.room ≤ self.new.room }
-        ensures asks { IfErr result (λ back. back.2 ≡ Some Memory → self.old.room ≡ 0) }
-        // How much work it takes, whatever is pinned.
-        ensures work { WorksAsWrite self.old self.new }
-        ensures same { KeepsTerms self.old self.new }
-        ensures sound { IsSoundShard K.eq self.new }
+    /// Does nothing: what it promises always holds of a shard.
+    #[inline(always)]
+    pub fn validate(&self)
+        ensures { IsSoundShard K.eq self.now }
     {
-        let answer = self
-            .contents
-            .insert(&self.terms, state, hash, key, value, strategy);
         self.contents.lists.apart();
-        answer
     }
 
     /// The value under the query, which is handed in with its hash. A find counts a hit, marks the
@@ -310,7 +267,7 @@ impl<K: Eq + Hash, V, We, B: BuildHasher, L, P: SharedPlaceholder<K>, A: Allocat
             (option_copied result) }
         ensures sound { IsSoundShard K.eq self.now }
     {
-        self.contents.lists.apart();
+        self.validate();
         let item = self.contents.peek(hash, query)?;
         Some(item.value())
     }
@@ -322,7 +279,7 @@ impl<K: Eq + Hash, V, We, B: BuildHasher, L, P: SharedPlaceholder<K>, A: Allocat
         ensures absent { OnFalse result (HasNoItem (Q.equivalent query.now) self.now.state) }
         ensures sound { IsSoundShard K.eq self.now }
     {
-        self.contents.lists.apart();
+        self.validate();
         self.contents.peek(hash, query).is_some()
     }
 
@@ -335,26 +292,7 @@ impl<K: Eq + Hash, V, We, B: BuildHasher, L, P: SharedPlaceholder<K>, A: Allocat
         ensures absent { OnFalse result (HasNoItem (Q.equivalent query.now) self.now.state) }
         ensures sound { IsSoundShard K.eq self.now }
     {
-        self.contents.lists.apart();
+        self.validate();
         self.contents.peek_from(token, hash, query).is_some()
-    }
-
-    /// Takes the item under the query out and gives its pair, or takes out a ghost of its hash. No
-    /// hook is called, and no memory is asked for.
-    pub fn remove<Q: Equivalent<K>>(&mut self, hash: u64, query: &Q) -> Option<(K, V)>
-    where
-        K: Drop,
-        V: Drop,
-        requires hash_is { hash ≡ ⟦<Self as Keyed>⟧.hash self.old.builder (Q.hash_input query.now) }
-        ensures removes { UpToOrder (Removes (Q.equivalent query.now) self.old.state hash result)
-            self.new.state }
-        ensures places { LosesOnly self.old.places self.new.places }
-        ensures room { self.old.room ≤ self.new.room }
-        ensures same { KeepsWork self.old self.new }
-        ensures sound { IsSoundShard K.eq self.new }
-    {
-        let taken = self.contents.remove(hash, query);
-        self.contents.lists.apart();
-        taken
     }
 }

@@ -30,14 +30,13 @@ impl<K: Eq + Hash, V, We, B: BuildHasher, L, P: SharedPlaceholder<K>, A: Allocat
             (HasNoItem (Q.equivalent query.now) self.now.state)
             (λ stats. ShowsReads P.Touch.may_count (Q.equivalent query.now) self.now.state
             stats.access_count) }
-
         // Where readers count nothing, it is what the cache counted.
         ensures exact { ((n : ℕ) → P.Touch.may_count n → n ≡ 0)
             → Sees (Q.equivalent query.now) self.now.state (λ item. item.reads)
             (option_map (λ stats. stats.access_count) result) }
         ensures sound { IsSoundShard K.eq self.now }
     {
-        self.contents.lists.apart();
+        self.validate();
         let access_count = self.contents.reads(hash, query)?;
         Some(ItemStats { access_count })
     }

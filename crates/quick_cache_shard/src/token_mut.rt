@@ -2,9 +2,9 @@
 ghost use Rattle.std.specs.Prelude.{◌≡◌, ◌<◌, IfSome, IfNone};
 ghost use Rattle.std.specs.Borrow.{sem, Lends, RestsIfNone};
 ghost use Rattle.std.specs.Int.NonZero.{non_zero_u32_get as number};
-ghost use Rattle.quick_cache_shard.specs.Shard.{IsFree, IsSoundShard, LosesOnly};
-ghost use Rattle.quick_cache_shard.specs.TokenValues.{IsTaken, IsValueOf, ReweighsToken};
-ghost use Rattle.quick_cache_shard.specs.Steps.{rules_in};
+ghost use Rattle.quick_cache_shard.specs.Shard.{IsFree, IsSoundShard, LosesOnly, KeepsRoom};
+ghost use Rattle.quick_cache_shard.specs.TokenValues.{IsTaken, IsValueOf};
+ghost use Rattle.quick_cache_shard.specs.Steps.{ReweighsTokenBy};
 
 use crate::shard::CacheShard;
 use crate::words::{Going, Rowed};
@@ -55,15 +55,10 @@ impl<
     A: Allocator,
 > Drop for TokenMut<'_, K, V, We, B, L, P, A> {
     fn drop(self)
-        ensures reweighs { ReweighsToken
-            (rules_in ⟦<CacheShard<K, V, We, B, L, P, A> as Going>⟧.goes P.Touch.may_count
-            self.entry.shard.now)
-            self.entry.shard.now self.entry.slot self.exit.0.now.state }
+        ensures reweighs { ReweighsTokenBy ⟦<CacheShard<K, V, We, B, L, P, A> as Going>⟧.goes
+            P.Touch.may_count self.entry.shard.now self.entry.slot self.exit.0.now }
         ensures places { LosesOnly self.entry.shard.now.places self.exit.0.now.places }
-        ensures same { self.exit.0.now ≡ record self.entry.shard.now {
-          state = self.exit.0.now.state;
-          places = self.exit.0.now.places;
-        } }
+        ensures same { KeepsRoom self.entry.shard.now self.exit.0.now }
     {
         let TokenMut { shard, slot } = self;
         shard.reweigh_at(token_of(slot));
@@ -160,5 +155,17 @@ impl<
             shard: self,
             slot: token.get(),
         })
+    }
+
+    /// Weighs the item of the token anew, which is known to be there, as `reweigh` does.
+    pub(crate) fn reweigh_at(&mut self, token: Token)
+        requires there { IsTaken self.old (number token) }
+        ensures reweighs { ReweighsTokenBy ⟦<Self as Going>⟧.goes P.Touch.may_count self.old
+            (number token) self.new }
+        ensures there { IsTaken self.new (number token) }
+        ensures places { LosesOnly self.old.places self.new.places }
+        ensures same { KeepsRoom self.old self.new }
+    {
+        self.contents.reweigh_token(token, &self.terms);
     }
 }

@@ -1,14 +1,11 @@
 //! The value of the item of a token, which is written where it stands.
-ghost use Rattle.std.specs.Prelude.{◌≡◌};
 ghost use Rattle.std.specs.Borrow.{sem, Lends};
 ghost use Rattle.std.specs.Int.NonZero.{non_zero_u32_get as number};
-ghost use Rattle.quick_cache_shard.specs.Shard.{LosesOnly};
-ghost use Rattle.quick_cache_shard.specs.TokenValues.{IsTaken, IsValueOf, ReweighsToken};
-ghost use Rattle.quick_cache_shard.specs.Steps.{rules_in};
+ghost use Rattle.quick_cache_shard.specs.TokenValues.{IsTaken, IsValueOf};
 
 use crate::shard::CacheShard;
-use crate::words::{Going, Rowed};
-use quick_cache_model::{Lifecycle, Token, Weighter};
+use crate::words::Rowed;
+use quick_cache_model::Token;
 use quick_cache_policy::SharedPlaceholder;
 use std::alloc::Allocator;
 use std::hash::{BuildHasher, Hash};
@@ -44,24 +41,5 @@ impl<K: Eq + Hash, V, We, B: BuildHasher, L, P: SharedPlaceholder<K>, A: Allocat
     {
         self.contents.lists.apart();
         self.contents.value_mut(token)
-    }
-
-    /// Weighs the item of the token anew, which is known to be there, as `reweigh` does.
-    pub(crate) fn reweigh_at(&mut self, token: Token)
-    where
-        K: Drop,
-        V: Drop,
-        We: Weighter<K, V>,
-        L: Lifecycle<K, V>,
-        requires there { IsTaken self.old (number token) }
-        ensures reweighs { ReweighsToken
-            (rules_in ⟦<Self as Going>⟧.goes P.Touch.may_count self.old)
-            self.old (number token) self.new.state }
-        ensures there { IsTaken self.new (number token) }
-        ensures places { LosesOnly self.old.places self.new.places }
-        ensures same { self.new
-            ≡ record self.old { state = self.new.state; places = self.new.places } }
-    {
-        self.contents.reweigh_token(token, &self.terms);
     }
 }

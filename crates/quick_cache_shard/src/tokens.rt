@@ -1,10 +1,11 @@
 //! Items by their tokens.
-ghost use Rattle.std.specs.Prelude.{◌≡◌, ◌≤◌, IfSome, MatchOption};
+ghost use Rattle.std.specs.Prelude.{◌≡◌, IfSome, MatchOption};
 ghost use Rattle.std.specs.Int.NonZero.{non_zero_u32_get as number};
 ghost use Rattle.quick_cache_lists.specs.Lists.{number_or_zero};
 ghost use Rattle.quick_cache_policy.specs.Tokens.{TakesItem};
 ghost use Rattle.quick_cache_shard.specs.PlaceWalks.{EndsAt, GivesOnce, IsNextPlace};
-ghost use Rattle.quick_cache_shard.specs.Shard.{IsSoundShard, IsFree, StandsAt, LeavesPlace, KeepsWork};
+ghost use Rattle.quick_cache_shard.specs.Shard.{IsSoundShard, IsFree, StandsAt, LeavesPlace};
+ghost use Rattle.quick_cache_shard.specs.Stays.{IdlesWithin};
 
 use crate::shard::CacheShard;
 use quick_cache_model::Token;
@@ -30,7 +31,7 @@ impl<K: Eq + Hash, V, We, B: BuildHasher, L, P: SharedPlaceholder<K>, A: Allocat
             × (value.now ≡ item.value)) }
         ensures sound { IsSoundShard K.eq self.now }
     {
-        self.contents.lists.apart();
+        self.validate();
         let item = self.contents.peek_token(token)?;
         Some(item.value())
     }
@@ -44,13 +45,11 @@ impl<K: Eq + Hash, V, We, B: BuildHasher, L, P: SharedPlaceholder<K>, A: Allocat
         ensures leaves { MatchOption result
             (IsFree self.old (number token) × (self.new ≡ self.old))
             (λ pair. LeavesPlace self.old (number token) pair.0 self.new) }
-        ensures room { self.old.room ≤ self.new.room }
-        ensures same { KeepsWork self.old self.new }
-        ensures sound { IsSoundShard K.eq self.new }
+        ensures stays { IdlesWithin K.eq 0 self.old self.new }
     {
         self.contents.lists.apart();
         let taken = self.contents.remove_token(token);
-        self.contents.lists.apart();
+        self.validate();
         taken
     }
 
@@ -65,19 +64,17 @@ impl<K: Eq + Hash, V, We, B: BuildHasher, L, P: SharedPlaceholder<K>, A: Allocat
             × LeavesPlace self.old (number taken.0) taken.1 self.new) }
         ensures takes { IfSome result
             (λ taken. TakesItem self.old.state (taken.1, taken.2) self.new.state) }
-        ensures room { self.old.room ≤ self.new.room }
-        ensures same { KeepsWork self.old self.new }
-        ensures sound { IsSoundShard K.eq self.new }
+        ensures stays { IdlesWithin K.eq 0 self.old self.new }
     {
         self.contents.lists.apart();
         let taken = self.contents.remove_next(after);
-        self.contents.lists.apart();
+        self.validate();
         taken
     }
 }
 
-/// A walk by tokens gives each key that stays exactly once, whatever steps come between that move
-/// no item that stays.
+/// Does nothing: what it promises is a law. A walk by tokens gives each key that stays exactly once,
+/// whatever steps come between that move no item that stays.
 pub fn gives_each_once<K: Eq>()
     ensures { (key : K) → GivesOnce K.eq key }
 {}

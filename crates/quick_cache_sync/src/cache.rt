@@ -200,7 +200,16 @@ impl<K: Eq + Hash + Drop, V: Drop, We, B: BuildHasher, L: Lifecycle<K, V>, A: Al
         }
         Ok(Cache { shards, builder })
     }
+}
 
+impl<
+    K: Eq + Hash + Drop,
+    V: Drop,
+    We: Weighter<K, V>,
+    B: BuildHasher,
+    L: Lifecycle<K, V>,
+    A: Allocator,
+> Cache<K, V, We, B, L, A> {
     /// Inserts a pair, and hands what leaves to the lifecycle, with a request state of its own,
     /// which is made before the lock is taken and dropped once it is released.
     ///
@@ -208,8 +217,6 @@ impl<K: Eq + Hash + Drop, V: Drop, We, B: BuildHasher, L: Lifecycle<K, V>, A: Al
     ///
     /// As `insert_with_lifecycle`.
     pub fn insert<R: Wait>(&self, rt: &R, key: K, value: V) -> Result<(), (K, V, Refusal)>
-    where
-        We: Weighter<K, V>,
         requires fits { L.fits key value }
         ensures answers { FromSome L.Lifecycle K.eq (λ shard.
             InsertsAloneBy ⟦<Self as Going>⟧.goes K.eq shard
@@ -234,8 +241,6 @@ impl<K: Eq + Hash + Drop, V: Drop, We, B: BuildHasher, L: Lifecycle<K, V>, A: Al
         value: V,
         state: &mut L::RequestState,
     ) -> Result<(), (K, V, Refusal)>
-    where
-        We: Weighter<K, V>,
         requires fits { L.fits key value }
         ensures answers { FromSome L.Lifecycle K.eq (λ shard.
             InsertsSoBy ⟦<Self as Going>⟧.goes K.eq shard

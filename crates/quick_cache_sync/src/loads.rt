@@ -1,9 +1,11 @@
-//! Calls of a cache that load a value where none is there, and make others wait for it.
-ghost use Rattle.std.specs.Prelude.{◌≡◌, true, Ok, Err, IfOk, IfErr};
+//! Calls of a cache that load a value where none is there, and make others wait for it. Whatever
+//! other threads do, what they give fits a key that the query stands for.
+ghost use Rattle.std.specs.Prelude.{◌≡◌, Ok, Err, IfOk, IfErr};
 ghost use Rattle.quick_cache_guard.specs.Answers.{IfGuard, IfValue};
 ghost use Rattle.quick_cache_entries.specs.Acts.{LeavesFit, MayTell};
 ghost use Rattle.quick_cache_entries.specs.Entries.{AnswersAsChosen, IfGivenBack, IfGuarded, IfRetained};
 ghost use Rattle.quick_cache_locked.specs.Fitting.{ClonesFit, FitsQuery};
+ghost use Rattle.quick_cache_locked.specs.Loads.{StandsForGiven};
 
 use crate::cache::Cache;
 use quick_cache_entries as entries;
@@ -37,9 +39,7 @@ impl<
         query: &Q,
         limit: Option<Duration>,
     ) -> GuardResult<V, PlaceholderGuard<'a, K, V, L, LockedShard<K, V, We, B, L, A>, R, A>>
-        requires stands { (key : K) → Q.to_key_gives query.now key
-            → Q.equivalent query.now key ≡ true }
-        // Whatever other threads do, the value fits a key that the query stands for.
+        requires stands { StandsForGiven (Q.to_key_gives query.now) (Q.equivalent query.now) }
         ensures fits { ClonesFit L.fits V.is_clone
             → IfValue result (λ value. FitsQuery L.fits (Q.equivalent query.now) value) }
         // The guard is for a key that the query becomes.
@@ -62,14 +62,12 @@ impl<
         query: &Q,
         loader: F,
     ) -> Result<Result<V, E>, Refusal>
-        requires stands { (key : K) → Q.to_key_gives query.now key
-            → Q.equivalent query.now key ≡ true }
+        requires stands { StandsForGiven (Q.to_key_gives query.now) (Q.equivalent query.now) }
         requires loader { F.pre loader }
         // What it gives fits each key that the query becomes, and so do the clones of what fits.
         requires loads { (value : V) → F.post loader (Ok value)
             → (key : K) → Q.to_key_gives query.now key → L.fits key value }
         requires clones { ClonesFit L.fits V.is_clone }
-        // Whatever other threads do, the value fits a key that the query stands for.
         ensures fits { IfOk result (λ loaded. IfOk loaded
             (λ value. FitsQuery L.fits (Q.equivalent query.now) value)) }
         ensures error { IfOk result (λ loaded. IfErr loaded (λ error. F.post loader (Err error))) }
@@ -92,13 +90,11 @@ impl<
         limit: Option<Duration>,
         callback: &mut F,
     ) -> EntryResult<T, K, V, PlaceholderGuard<'a, K, V, L, LockedShard<K, V, We, B, L, A>, R, A>>
-        requires stands { (key : K) → Q.to_key_gives query.now key
-            → Q.equivalent query.now key ≡ true }
+        requires stands { StandsForGiven (Q.to_key_gives query.now) (Q.equivalent query.now) }
         requires callable { F.IsAlwaysCallable callback.old }
         // What the callback leaves fits.
         requires leaves { LeavesFit F.FnMut L.fits callback.old }
-        // Whatever other threads do, a value that is given back fits a key that the query stands
-        // for, and what is told was told of such a value.
+        // What is told was told of a value that fits, too.
         ensures fits { IfGivenBack result (λ value. FitsQuery L.fits (Q.equivalent query.now) value) }
         ensures told { IfRetained result (λ told. MayTell F.FnMut L.fits
             (Q.equivalent query.now) callback.old told) }

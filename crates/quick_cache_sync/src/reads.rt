@@ -1,11 +1,11 @@
-//! Reads of a cache, each under a read lock.
-ghost use Rattle.std.specs.Prelude.{IsOk, IfOk, IfSome, MatchOption};
+//! Reads of a cache, each under a read lock. Whatever other threads do, a value that is given fits
+//! a key that the query stands for.
+ghost use Rattle.std.specs.Prelude.{IsOk, MatchOption};
 ghost use Rattle.std.specs.Bool.{OnTrue, OnFalse};
 ghost use Rattle.quick_cache_model.specs.Finding.{HasNoItem};
 ghost use Rattle.quick_cache_shard.specs.Shard.{Shard, HasItem};
 ghost use Rattle.quick_cache_shard.specs.Stats.{ShowsReads};
-ghost use Rattle.quick_cache_locked.specs.Peeks.{Peeks};
-ghost use Rattle.quick_cache_locked.specs.Fitting.{ClonesFit, FitsQuery};
+ghost use Rattle.quick_cache_locked.specs.Peeks.{Peeks, ShowsFitting};
 ghost use Rattle.quick_cache_locked.specs.Locked.{FromSome};
 ghost use Rattle.quick_cache_locked.specs.Touches.{any_touches};
 
@@ -15,7 +15,7 @@ use std::alloc::Allocator;
 use std::hash::{BuildHasher, Hash};
 use std::sync::Wait;
 
-impl<K: Eq + Hash + Drop, V: Drop, We, B: BuildHasher, L: Lifecycle<K, V>, A: Allocator> Cache<
+impl<K: Eq + Hash + Drop, V: Clone, We, B: BuildHasher, L: Lifecycle<K, V>, A: Allocator> Cache<
     K,
     V,
     We,
@@ -32,13 +32,9 @@ impl<K: Eq + Hash + Drop, V: Drop, We, B: BuildHasher, L: Lifecycle<K, V>, A: Al
     ///
     /// `Memory` where the clone failed. Nothing was counted then.
     pub fn get<Q: Equivalent<K>, R: Wait>(&self, rt: &R, query: &Q) -> Result<Option<V>, Refusal>
-    where
-        V: Clone,
         ensures answers { FromSome L.Lifecycle K.eq (λ (shard : Shard K V We B L).
             Peeks (Q.equivalent query.now) V.is_clone shard.state result) }
-        // Whatever other threads do, the value fits a key that the query stands for.
-        ensures fits { ClonesFit L.fits V.is_clone → IfOk result
-            (λ found. IfSome found (λ v. FitsQuery L.fits (Q.equivalent query.now) v)) }
+        ensures fits { ShowsFitting L.fits (Q.equivalent query.now) V.is_clone result }
         ensures succeeds { ((value : V) → V.is_infallible value) → IsOk result }
     {
         self.reading(rt, query).get(query)
@@ -51,18 +47,23 @@ impl<K: Eq + Hash + Drop, V: Drop, We, B: BuildHasher, L: Lifecycle<K, V>, A: Al
     ///
     /// `Memory` where the clone failed.
     pub fn peek<Q: Equivalent<K>, R: Wait>(&self, rt: &R, query: &Q) -> Result<Option<V>, Refusal>
-    where
-        V: Clone,
         ensures answers { FromSome L.Lifecycle K.eq (λ (shard : Shard K V We B L).
             Peeks (Q.equivalent query.now) V.is_clone shard.state result) }
-        // Whatever other threads do, the value fits a key that the query stands for.
-        ensures fits { ClonesFit L.fits V.is_clone → IfOk result
-            (λ found. IfSome found (λ v. FitsQuery L.fits (Q.equivalent query.now) v)) }
+        ensures fits { ShowsFitting L.fits (Q.equivalent query.now) V.is_clone result }
         ensures succeeds { ((value : V) → V.is_infallible value) → IsOk result }
     {
         self.reading(rt, query).peek(query)
     }
+}
 
+impl<K: Eq + Hash + Drop, V: Drop, We, B: BuildHasher, L: Lifecycle<K, V>, A: Allocator> Cache<
+    K,
+    V,
+    We,
+    B,
+    L,
+    A,
+> {
     /// Whether an item stands under the query's key. It is no use of the item, and nothing changes.
     /// It takes the read lock of the key's shard, and no memory.
     pub fn contains_key<Q: Equivalent<K>, R: Wait>(&self, rt: &R, query: &Q) -> bool

@@ -1,6 +1,7 @@
 //! Calls of a cache for tasks, which wait without a thread.
-ghost use Rattle.std.specs.Prelude.{◌≡◌, true, false, Ok};
+ghost use Rattle.std.specs.Prelude.{◌≡◌, false, Ok};
 ghost use Rattle.quick_cache_locked.specs.Fitting.{ClonesFit};
+ghost use Rattle.quick_cache_locked.specs.Loads.{StandsForGiven};
 
 use crate::cache::Cache;
 use futures::Future;
@@ -29,8 +30,7 @@ impl<
         rt: &'a R,
         query: &'a Q,
     ) -> ValueOrGuard<'a, Q, K, V, L, LockedShard<K, V, We, B, L, A>, R, A>
-        requires stands { (key : K) → Q.to_key_gives query.now key
-            → Q.equivalent query.now key ≡ true }
+        requires stands { StandsForGiven (Q.to_key_gives query.now) (Q.equivalent query.now) }
         ensures query { result.query ≡ query.now }
     {
         ValueOrGuard::new(rt, self.shard_of(query), query)
@@ -45,8 +45,7 @@ impl<
         query: &'a Q,
         loader: F,
     ) -> GetOrInsert<'a, Q, K, V, L, LockedShard<K, V, We, B, L, A>, R, F, E, A>
-        requires stands { (key : K) → Q.to_key_gives query.now key
-            → Q.equivalent query.now key ≡ true }
+        requires stands { StandsForGiven (Q.to_key_gives query.now) (Q.equivalent query.now) }
         requires loader { F.can_poll loader }
         // What it gives fits each key that the query becomes, and so do the clones of what fits.
         requires loads { (value : V) → F.gives loader (Ok value) → (key : K)
@@ -68,8 +67,7 @@ impl<
         query: &'a Q,
         callback: F,
     ) -> EntryFuture<'a, Q, K, V, L, LockedShard<K, V, We, B, L, A>, R, T, F, A>
-        requires stands { (key : K) → Q.to_key_gives query.now key
-            → Q.equivalent query.now key ≡ true }
+        requires stands { StandsForGiven (Q.to_key_gives query.now) (Q.equivalent query.now) }
         ensures query { result.query ≡ query.now }
         ensures callback { result.callback ≡ callback }
         ensures begins { result.is_finished ≡ false }

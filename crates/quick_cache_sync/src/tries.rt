@@ -1,13 +1,14 @@
-//! Calls that do not wait for a lock.
+//! Calls that do not wait for a lock. Whatever other threads do, a value that is given fits a key
+//! that the query stands for.
 ghost use Rattle.std.specs.Prelude.{IsOk, ◌≡◌, IfOk, IfSome, MatchOption};
 ghost use Rattle.std.specs.Bool.{OnTrue, OnFalse};
 ghost use Rattle.quick_cache_model.specs.Finding.{HasNoItem};
 ghost use Rattle.quick_cache_model.specs.Hashing.{hash_of};
 ghost use Rattle.quick_cache_shard.specs.Stats.{ShowsReads};
 ghost use Rattle.quick_cache_shard.specs.Shard.{Shard, HasItem};
-ghost use Rattle.quick_cache_locked.specs.Peeks.{Peeks};
+ghost use Rattle.quick_cache_locked.specs.Peeks.{Peeks, ShowsFitting};
 ghost use Rattle.quick_cache_sync.specs.Answers.{RemovesSo, InsertsAloneBy, InsertsSoBy};
-ghost use Rattle.quick_cache_locked.specs.Fitting.{ClonesFit, FitsQuery};
+ghost use Rattle.quick_cache_locked.specs.Fitting.{FitsQuery};
 ghost use Rattle.quick_cache_locked.specs.Locked.{FromSome};
 ghost use Rattle.quick_cache_locked.specs.Touches.{any_touches};
 ghost use Rattle.quick_cache_sync.specs.Tries.{IsTried, IsTriedWith, IfContended};
@@ -19,7 +20,7 @@ use quick_cache_shard::Going;
 use std::alloc::Allocator;
 use std::hash::{BuildHasher, Hash};
 
-impl<K: Eq + Hash + Drop, V: Drop, We, B: BuildHasher, L: Lifecycle<K, V>, A: Allocator> Cache<
+impl<K: Eq + Hash + Drop, V: Clone, We, B: BuildHasher, L: Lifecycle<K, V>, A: Allocator> Cache<
     K,
     V,
     We,
@@ -34,14 +35,10 @@ impl<K: Eq + Hash + Drop, V: Drop, We, B: BuildHasher, L: Lifecycle<K, V>, A: Al
     /// `Contended` where a call that writes had the lock or waited for it; `Refused` with `Memory`
     /// where the clone failed. Nothing was counted then.
     pub fn try_get<Q: Equivalent<K>>(&self, query: &Q) -> Result<Option<V>, TryError>
-    where
-        V: Clone,
         ensures answers { IsTried (λ answer. FromSome L.Lifecycle K.eq
             (λ (shard : Shard K V We B L).
             Peeks (Q.equivalent query.now) V.is_clone shard.state answer)) result }
-        // Whatever other threads do, the value fits a key that the query stands for.
-        ensures fits { ClonesFit L.fits V.is_clone → IfOk result
-            (λ found. IfSome found (λ v. FitsQuery L.fits (Q.equivalent query.now) v)) }
+        ensures fits { ShowsFitting L.fits (Q.equivalent query.now) V.is_clone result }
         ensures succeeds { ((value : V) → V.is_infallible value) → IsTried IsOk result }
     {
         let Some(shard) = self.shard_of(query).try_read() else {
@@ -60,14 +57,10 @@ impl<K: Eq + Hash + Drop, V: Drop, We, B: BuildHasher, L: Lifecycle<K, V>, A: Al
     /// `Contended` where a call that writes had the lock or waited for it; `Refused` with `Memory`
     /// where the clone failed.
     pub fn try_peek<Q: Equivalent<K>>(&self, query: &Q) -> Result<Option<V>, TryError>
-    where
-        V: Clone,
         ensures answers { IsTried (λ answer. FromSome L.Lifecycle K.eq
             (λ (shard : Shard K V We B L).
             Peeks (Q.equivalent query.now) V.is_clone shard.state answer)) result }
-        // Whatever other threads do, the value fits a key that the query stands for.
-        ensures fits { ClonesFit L.fits V.is_clone → IfOk result
-            (λ found. IfSome found (λ v. FitsQuery L.fits (Q.equivalent query.now) v)) }
+        ensures fits { ShowsFitting L.fits (Q.equivalent query.now) V.is_clone result }
         ensures succeeds { ((value : V) → V.is_infallible value) → IsTried IsOk result }
     {
         let Some(shard) = self.shard_of(query).try_read() else {
@@ -78,7 +71,16 @@ impl<K: Eq + Hash + Drop, V: Drop, We, B: BuildHasher, L: Lifecycle<K, V>, A: Al
             Err(refused) => Err(TryError::Refused(refused)),
         }
     }
+}
 
+impl<K: Eq + Hash + Drop, V: Drop, We, B: BuildHasher, L: Lifecycle<K, V>, A: Allocator> Cache<
+    K,
+    V,
+    We,
+    B,
+    L,
+    A,
+> {
     /// As `contains_key`, without waiting: it tries the read lock of the key's shard once. It takes
     /// no memory.
     ///
@@ -119,6 +121,34 @@ impl<K: Eq + Hash + Drop, V: Drop, We, B: BuildHasher, L: Lifecycle<K, V>, A: Al
         }
     }
 
+    /// As `remove`, without waiting: it tries the write lock of the key's shard once. It takes no
+    /// memory.
+    ///
+    /// # Errors
+    ///
+    /// `LockContention` where another call had the lock or waited for it.
+    pub fn try_remove<Q: Equivalent<K>>(&self, query: &Q) -> Result<Option<(K, V)>, LockContention>
+        ensures answers { IfOk result (λ found. FromSome L.Lifecycle K.eq
+            (λ (shard : Shard K V We B L). RemovesSo (Q.equivalent query.now) shard.state
+            (hash_of B.BuildHasher B.Hasher.Hasher shard.builder (Q.hash_input query.now)) found)) }
+        ensures fits { IfOk result (λ found. IfSome found
+            (λ pair. FitsQuery L.fits (Q.equivalent query.now) pair.1)) }
+    {
+        match self.shard_of(query).try_write() {
+            Some(mut shard) => Ok(shard.remove(query)),
+            None => Err(LockContention),
+        }
+    }
+}
+
+impl<
+    K: Eq + Hash + Drop,
+    V: Drop,
+    We: Weighter<K, V>,
+    B: BuildHasher,
+    L: Lifecycle<K, V>,
+    A: Allocator,
+> Cache<K, V, We, B, L, A> {
     /// As `insert`, without waiting: it tries the write lock of the key's shard once. The request
     /// state is made before that, and dropped once the lock is released.
     ///
@@ -126,8 +156,6 @@ impl<K: Eq + Hash + Drop, V: Drop, We, B: BuildHasher, L: Lifecycle<K, V>, A: Al
     ///
     /// As `try_insert_with_lifecycle`.
     pub fn try_insert(&self, key: K, value: V) -> Result<(), (K, V, TryError)>
-    where
-        We: Weighter<K, V>,
         requires fits { L.fits key value }
         ensures answers { IsTriedWith (λ answer. FromSome L.Lifecycle K.eq (λ shard.
             InsertsAloneBy ⟦<Self as Going>⟧.goes K.eq shard
@@ -153,8 +181,6 @@ impl<K: Eq + Hash + Drop, V: Drop, We, B: BuildHasher, L: Lifecycle<K, V>, A: Al
         value: V,
         state: &mut L::RequestState,
     ) -> Result<(), (K, V, TryError)>
-    where
-        We: Weighter<K, V>,
         requires fits { L.fits key value }
         ensures answers { IsTriedWith (λ answer. FromSome L.Lifecycle K.eq (λ shard.
             InsertsSoBy ⟦<Self as Going>⟧.goes K.eq shard
@@ -168,26 +194,6 @@ impl<K: Eq + Hash + Drop, V: Drop, We, B: BuildHasher, L: Lifecycle<K, V>, A: Al
         match shard.insert(key, value, state) {
             Ok(()) => Ok(()),
             Err((key, value, refusal)) => Err((key, value, TryError::Refused(refusal))),
-        }
-    }
-
-    /// As `remove`, without waiting: it tries the write lock of the key's shard once. It takes no
-    /// memory.
-    ///
-    /// # Errors
-    ///
-    /// `LockContention` where another call had the lock or waited for it.
-    pub fn try_remove<Q: Equivalent<K>>(&self, query: &Q) -> Result<Option<(K, V)>, LockContention>
-        ensures answers { IfOk result (λ found. FromSome L.Lifecycle K.eq
-            (λ (shard : Shard K V We B L). RemovesSo (Q.equivalent query.now) shard.state
-            (hash_of B.BuildHasher B.Hasher.Hasher shard.builder (Q.hash_input query.now)) found)) }
-        // Whatever other threads do, the value fits a key that the query stands for.
-        ensures fits { IfOk result (λ found. IfSome found
-            (λ pair. FitsQuery L.fits (Q.equivalent query.now) pair.1)) }
-    {
-        match self.shard_of(query).try_write() {
-            Some(mut shard) => Ok(shard.remove(query)),
-            None => Err(LockContention),
         }
     }
 }

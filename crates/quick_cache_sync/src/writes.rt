@@ -1,4 +1,5 @@
-//! Replaces and removals.
+//! Replaces and removals. Whatever other threads do, a pair that comes back fits, and a value that
+//! is taken out fits a key that the query stands for.
 ghost use Rattle.std.specs.Prelude.{IfErr, IfSome};
 ghost use Rattle.std.specs.Fn.{FnOnceReturnsAt};
 ghost use Rattle.quick_cache_model.specs.Hashing.{hash_of};
@@ -15,14 +16,14 @@ use std::alloc::Allocator;
 use std::hash::{BuildHasher, Hash};
 use std::sync::Wait;
 
-impl<K: Eq + Hash + Drop, V: Drop, We, B: BuildHasher, L: Lifecycle<K, V>, A: Allocator> Cache<
-    K,
-    V,
-    We,
-    B,
-    L,
-    A,
-> {
+impl<
+    K: Eq + Hash + Drop,
+    V: Drop,
+    We: Weighter<K, V>,
+    B: BuildHasher,
+    L: Lifecycle<K, V>,
+    A: Allocator,
+> Cache<K, V, We, B, L, A> {
     /// Replaces the item under the key by the pair, and hands what leaves to the lifecycle, with a
     /// request state of its own, which is made before the lock is taken and dropped once it is
     /// released.
@@ -31,13 +32,10 @@ impl<K: Eq + Hash + Drop, V: Drop, We, B: BuildHasher, L: Lifecycle<K, V>, A: Al
     ///
     /// As `replace_with_lifecycle`.
     pub fn replace<R: Wait>(&self, rt: &R, key: K, value: V, soft: bool) -> Result<(), (K, V)>
-    where
-        We: Weighter<K, V>,
         requires fits { L.fits key value }
         ensures answers { FromSome L.Lifecycle K.eq (λ shard.
             ReplacesAloneBy ⟦<Self as Going>⟧.goes K.eq shard
             L.RequestState.is_default soft key value result) }
-        // Whatever other threads do, the pair that comes back fits.
         ensures fits { IfErr result (λ pair. L.fits pair.0 pair.1) }
     {
         let mut state = L::RequestState::default();
@@ -60,29 +58,33 @@ impl<K: Eq + Hash + Drop, V: Drop, We, B: BuildHasher, L: Lifecycle<K, V>, A: Al
         soft: bool,
         state: &mut L::RequestState,
     ) -> Result<(), (K, V)>
-    where
-        We: Weighter<K, V>,
         requires fits { L.fits key value }
         ensures answers { FromSome L.Lifecycle K.eq (λ shard.
             ReplacesSoBy ⟦<Self as Going>⟧.goes K.eq shard
             soft state.old key value result state.new) }
-        // Whatever other threads do, the pair that comes back fits.
         ensures fits { IfErr result (λ pair. L.fits pair.0 pair.1) }
     {
         self.shard_of(&key)
             .write(rt)
             .replace(key, value, soft, state)
     }
+}
 
+impl<K: Eq + Hash + Drop, V: Drop, We, B: BuildHasher, L: Lifecycle<K, V>, A: Allocator> Cache<
+    K,
+    V,
+    We,
+    B,
+    L,
+    A,
+> {
     /// Takes the item under the query's key out, or a ghost of its hash. No hook is called. It takes
     /// the write lock of the key's shard, and no memory.
     pub fn remove<Q: Equivalent<K>, R: Wait>(&self, rt: &R, query: &Q) -> Option<(K, V)>
         ensures answers { FromSome L.Lifecycle K.eq (λ (shard : Shard K V We B L).
             RemovesSo (Q.equivalent query.now) shard.state
             (hash_of B.BuildHasher B.Hasher.Hasher shard.builder (Q.hash_input query.now)) result) }
-        // Whatever other threads do, the value fits a key that the query stands for.
-        ensures fits { IfSome result
-            (λ pair. FitsQuery L.fits (Q.equivalent query.now) pair.1) }
+        ensures fits { IfSome result (λ pair. FitsQuery L.fits (Q.equivalent query.now) pair.1) }
     {
         self.shard_of(query).write(rt).remove(query)
     }
@@ -103,8 +105,7 @@ impl<K: Eq + Hash + Drop, V: Drop, We, B: BuildHasher, L: Lifecycle<K, V>, A: Al
         ensures answers { FromSome L.Lifecycle K.eq (λ (shard : Shard K V We B L).
             RemovesAskedSo (Q.equivalent query.now) shard.state
             (FnOnceReturnsAt F.FnOnce wanted) result) }
-        ensures fits { IfSome result
-            (λ pair. FitsQuery L.fits (Q.equivalent query.now) pair.1) }
+        ensures fits { IfSome result (λ pair. FitsQuery L.fits (Q.equivalent query.now) pair.1) }
     {
         self.shard_of(query).write(rt).remove_if(query, wanted)
     }

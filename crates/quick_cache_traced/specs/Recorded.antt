@@ -1,11 +1,7 @@
 -- What a lock keeps: a cache, and the list of its calls and replies.
 use Rattle.std.specs.Prelude.{◌≡◌, ℕ, ◌+◌, ◌⊎◌, Bool, List, [], ◌∷◌, ◌++◌, length, Option}
 use Rattle.std.specs.Prelude.{Some, None}
-use Rattle.std.specs.declared.hash.Hasher as hasher
-use Rattle.std.specs.declared.hash.BuildHasher as builder
 use Rattle.quick_cache_options.specs.Options.{Settings}
-use Rattle.quick_cache_model.specs.declared.weighter.Weighter as weighter
-use Rattle.quick_cache_model.specs.declared.lifecycle.Lifecycle as lifecycle
 use Rattle.quick_cache_model.specs.CacheState.{CacheState, empty_state}
 use Rattle.quick_cache_model.specs.Lookups.{Sees, LooksUp}
 use Rattle.quick_cache_model.specs.declared.refusal.Refusal.{Refusal}
@@ -15,7 +11,8 @@ use Rattle.quick_cache_model.specs.Refusals.{MayRefuse, needs_of_insert}
 use Rattle.quick_cache_model.specs.Removal.{Removes, pair_of}
 use Rattle.quick_cache_model.specs.Sizes.{hot_target_of, ghost_limit_of}
 use Rattle.quick_cache_calls.specs.Shown.{IsShown}
-use Rattle.quick_cache_shard.specs.Shard.{Shard, UpToOrder, rules_of, hooks_of, ClonesExactly}
+use Rattle.quick_cache_shard.specs.Shard.{Shard, UpToOrder, ClonesExactly}
+use Rattle.quick_cache_shard.specs.Steps.{Goes, steady_in, hooks_in, rules_in}
 use Rattle.quick_cache_unsync.specs.Touches.{no_touches}
 use Rattle.quick_cache_calls.specs.declared.reply.Reply.TheVariants.{Done, Value, Pair}
 use Rattle.quick_cache_traced.specs.declared.call.TraceCall.TheVariants.{Insert, Get, Remove}
@@ -116,22 +113,20 @@ abbrev pub MayRefuseInsert : {K V : Type 0} → Rules K V → (K → K → Bool)
 MayRefuseInsert rules equal key state refusal = (refusal ≡ Memory)
     ⊎ MayRefuse (needs_of_insert (equal key) (rules.hash key) state) state refusal
 
-module _ {K V We B L S H M : Type 0} (writes : K → List (List ℕ)) (weigh : weighter.Ghosts We K V)
-    (make : builder.Ghosts B H) (hashes : hasher.Ghosts H) (life : lifecycle.Ghosts L K V S)
-    (is_default : S → Type 0) (equal : K → K → Bool) (shows_key : K → K → Type 0)
-    (shows : V → V → Type 0) where
+module _ {K V We B L S M : Type 0} (goes : Goes K V We B L S) (is_default : S → Type 0)
+    (equal : K → K → Bool) (shows_key : K → K → Type 0) (shows : V → V → Type 0) where
   -- the list is one of a run of its cache from an empty one of its options to its state
   abbrev pub IsTraceOf : Recorded K V We B L M → Type 0
   IsTraceOf recorded =
-      IsTrace (rules_of no_touches writes weigh make hashes life recorded.cache) equal shows_key
-      shows (hooks_of life recorded.cache) is_default (empty_of recorded.options) recorded.entries
+      IsTrace (rules_in goes no_touches recorded.cache) equal shows_key shows
+      (hooks_in goes recorded.cache) is_default (empty_of recorded.options) recorded.entries
       recorded.cache.state
 
   -- What the lock keeps true: as many calls were made as stand in the list, pinning is steady, and
   -- the list is such a one.
   pub record IsKept (recorded : Recorded K V We B L M) : Type 0 where
     pub counted : recorded.calls ≡ length recorded.entries
-    pub steady : life.steady recorded.cache.lifecycle
+    pub steady : steady_in goes recorded.cache
     pub trace : IsTraceOf recorded
 
   -- What the list of the cache behind the lock is: it shows the calls of a run of the cache for one
@@ -139,11 +134,11 @@ module _ {K V We B L S H M : Type 0} (writes : K → List (List ℕ)) (weigh : w
   pub record Shows (recorded : Recorded K V We B L M) (entries : List (Entry K V M)) : Type 0 where
     pub same : entries ≡ recorded.entries
     pub kept : IsKept recorded
-    pub shows_run : ShowsRun (rules_of no_touches writes weigh make hashes life recorded.cache)
-        equal shows_key shows (empty_of recorded.options) entries recorded.cache.state
+    pub shows_run : ShowsRun (rules_in goes no_touches recorded.cache) equal shows_key shows
+        (empty_of recorded.options) entries recorded.cache.state
     pub is_run : ClonesExactly shows_key → ClonesExactly shows
-        → IsRunItself (rules_of no_touches writes weigh make hashes life recorded.cache) equal
-        shows_key shows (empty_of recorded.options) entries recorded.cache.state
+        → IsRunItself (rules_in goes no_touches recorded.cache) equal shows_key shows
+        (empty_of recorded.options) entries recorded.cache.state
 
   -- there was such a cache, whose list this is
   pub record FromSome (entries : List (Entry K V M)) : Type 0 where

@@ -3,13 +3,13 @@ ghost use Rattle.std.specs.Prelude.{◌≡◌, ◌+◌, ◌<◌, ◌++◌, ◌�
 ghost use Rattle.std.specs.Prelude.{vec_len, vec_capacity};
 ghost use Rattle.quick_cache_model.specs.declared.refusal.Refusal.TheVariants.{Memory};
 ghost use Rattle.quick_cache_model.specs.Hashing.{hash_of};
-ghost use Rattle.quick_cache_shard.specs.Shard.{no_work, rules_of};
+ghost use Rattle.quick_cache_shard.specs.Shard.{KeepsTerms, KeepsWork, made_with};
 ghost use Rattle.quick_cache_unsync.specs.Touches.{no_touches};
 ghost use Rattle.quick_cache_traced.specs.Recorded.{GetsTwice, NotesInsert, RemovesTwice};
 ghost use Rattle.quick_cache_traced.specs.Recorded.{MayRefuseInsert, Adds, Unmade, IsKept, Shows};
 ghost use Rattle.quick_cache_traced.specs.Recorded.{empty_of};
 ghost use Rattle.quick_cache_shard.specs.Alone.{IsDoneAlone};
-ghost use Rattle.quick_cache_shard.specs.Steps.{InsertsBy, goes_by};
+ghost use Rattle.quick_cache_shard.specs.Steps.{InsertsBy, rules_in};
 
 use crate::call::TraceCall;
 use crate::looks::{copy_of, look_at_pair, look_twice};
@@ -17,6 +17,7 @@ use crate::seat::Seat;
 use quick_cache_calls::Reply;
 use quick_cache_model::{Lifecycle, Refusal, Weighter};
 use quick_cache_options::options::Options;
+use quick_cache_shard::Going;
 use quick_cache_unsync::Cache;
 use std::alloc::{Allocator, Global};
 use std::hash::{BuildHasher, Hash};
@@ -49,6 +50,7 @@ impl<
     G: Ledger,
     A: Allocator,
 > Model for Recorder<K, V, We, B, L, G, A> {
+    ghost use Rattle.quick_cache_shard.specs.Goes.{goes_by};
     ghost use Rattle.quick_cache_traced.specs.Recorded.{Recorded, IsKept};
 
     ghost Value = { Recorded K V We B L A };
@@ -60,8 +62,10 @@ impl<
       calls = r.calls.total;
     } };
 
-    ghost invariant = { λ r. IsKept K.Hash.hash_input We.Weighter B.BuildHasher B.Hasher.Hasher
-        L.Lifecycle L.RequestState.is_default K.eq K.is_clone V.is_clone (record {
+    // An invariant cannot quote an impl at type parameters, so what the cache goes by is written out.
+    ghost invariant = { λ r. IsKept
+        (goes_by K.Hash.hash_input We.Weighter B.BuildHasher B.Hasher.Hasher L.Lifecycle)
+        L.RequestState.is_default K.eq K.is_clone V.is_clone (record {
           cache = r.cache;
           options = r.options;
           entries = r.entries.items;
@@ -117,15 +121,7 @@ impl<
         requires steady { L.steady lifecycle }
         requires none { calls.total ≡ 0 }
         ensures makes { IfOk result (λ recorder. recorder ≡ record {
-          cache = record {
-            state = empty_of options;
-            places = [];
-            weigher = weigher;
-            builder = builder;
-            lifecycle = lifecycle;
-            room = 0;
-            work = no_work;
-          };
+          cache = made_with (empty_of options) weigher builder lifecycle;
           options = options;
           entries = [];
           calls = 0;
@@ -153,9 +149,8 @@ impl<
         L: Drop,
         ensures entries { result.0.items ≡ self.entries }
         ensures calls { result.1.total ≡ self.calls }
-        ensures trace { Shows K.Hash.hash_input We.Weighter B.BuildHasher B.Hasher.Hasher
-            L.Lifecycle L.RequestState.is_default K.eq K.is_clone V.is_clone self
-            result.0.items }
+        ensures trace { Shows ⟦<Cache<K, V, We, B, L, A> as Going>⟧.goes L.RequestState.is_default
+            K.eq K.is_clone V.is_clone self result.0.items }
         ensures counted { result.1.total ≡ vec_len result.0 }
     {
         let Recorder {
@@ -169,8 +164,8 @@ impl<
 
     /// Tells what always holds of it.
     fn is_kept(&self)
-        ensures { IsKept K.Hash.hash_input We.Weighter B.BuildHasher B.Hasher.Hasher
-            L.Lifecycle L.RequestState.is_default K.eq K.is_clone V.is_clone self.now }
+        ensures { IsKept ⟦<Cache<K, V, We, B, L, A> as Going>⟧.goes L.RequestState.is_default K.eq
+            K.is_clone V.is_clone self.now }
     {
         let _ = &self.calls;
     }
@@ -179,18 +174,15 @@ impl<
     /// for them are made first.
     pub fn get(&mut self, seat: &mut Seat<G>, key: &K) -> Result<Option<V>, Refusal>
         // The answer and the recorded reply both show the value that was found.
-        ensures kept { IsKept K.Hash.hash_input We.Weighter B.BuildHasher B.Hasher.Hasher
-            L.Lifecycle L.RequestState.is_default K.eq K.is_clone V.is_clone self.old }
+        ensures kept { IsKept ⟦<Cache<K, V, We, B, L, A> as Going>⟧.goes L.RequestState.is_default
+            K.eq K.is_clone V.is_clone self.old }
         ensures gets { IfOk result (λ answer. GetsTwice (K.eq key.now) K.is_clone V.is_clone
             key.now self.old self.new answer) }
         ensures counts { OnOk result (Adds self.old self.new seat.old seat.new) }
         ensures refused { OnErr result (Unmade self.old self.new × (seat.new ≡ seat.old)) }
         ensures memory { IfErr result (λ refusal. refusal ≡ Memory) }
-        ensures same { self.new ≡ record self.old {
-          cache = record self.old.cache { state = self.new.cache.state };
-          entries = self.new.entries;
-          calls = self.new.calls;
-        } }
+        ensures options { self.new.options ≡ self.old.options }
+        ensures same { self.new.cache ≡ record self.old.cache { state = self.new.cache.state } }
     {
         self.is_kept();
         let kept: Result<_, _> = key.clone();
@@ -219,31 +211,21 @@ impl<
     ///
     /// The pair and why. No call was made then, and none is counted.
     pub fn insert(&mut self, seat: &mut Seat<G>, key: K, value: V) -> Result<(), (K, V, Refusal)>
-        ensures kept { IsKept K.Hash.hash_input We.Weighter B.BuildHasher B.Hasher.Hasher
-            L.Lifecycle L.RequestState.is_default K.eq K.is_clone V.is_clone self.old }
+        ensures kept { IsKept ⟦<Cache<K, V, We, B, L, A> as Going>⟧.goes L.RequestState.is_default
+            K.eq K.is_clone V.is_clone self.old }
         ensures inserts { OnOk result (IsDoneAlone L.RequestState.is_default
-            (InsertsBy
-            (goes_by K.Hash.hash_input We.Weighter B.BuildHasher B.Hasher.Hasher L.Lifecycle)
-            no_touches self.old.cache K.eq key value result self.new.cache)) }
+            (InsertsBy ⟦<Cache<K, V, We, B, L, A> as Going>⟧.goes no_touches self.old.cache K.eq key
+            value result self.new.cache)) }
         ensures notes { OnOk result
             (NotesInsert K.is_clone V.is_clone key value self.old self.new) }
         ensures counts { OnOk result (Adds self.old self.new seat.old seat.new) }
         ensures back { IfErr result (λ back. (back.0 ≡ key) × (back.1 ≡ value)) }
         ensures why { IfErr result (λ back. MayRefuseInsert
-            (rules_of no_touches K.Hash.hash_input We.Weighter B.BuildHasher B.Hasher.Hasher
-            L.Lifecycle self.old.cache)
-            K.eq key self.old.cache.state back.2) }
+            (rules_in ⟦<Cache<K, V, We, B, L, A> as Going>⟧.goes no_touches self.old.cache) K.eq key
+            self.old.cache.state back.2) }
         ensures refused { OnErr result (Unmade self.old self.new × (seat.new ≡ seat.old)) }
-        ensures same { self.new ≡ record self.old {
-          cache = record self.old.cache {
-            state = self.new.cache.state;
-            places = self.new.cache.places;
-            room = self.new.cache.room;
-            work = self.new.cache.work;
-          };
-          entries = self.new.entries;
-          calls = self.new.calls;
-        } }
+        ensures options { self.new.options ≡ self.old.options }
+        ensures same { KeepsTerms self.old.cache self.new.cache }
     {
         self.is_kept();
         let kept: Result<_, _> = key.clone();
@@ -268,8 +250,8 @@ impl<
     /// Takes the item under the key out. The clones and room for the entry are made first. The list
     /// has the pair itself, and the answer clones of its key and of its value.
     pub fn remove(&mut self, seat: &mut Seat<G>, key: &K) -> Result<Option<(K, V)>, Refusal>
-        ensures kept { IsKept K.Hash.hash_input We.Weighter B.BuildHasher B.Hasher.Hasher
-            L.Lifecycle L.RequestState.is_default K.eq K.is_clone V.is_clone self.old }
+        ensures kept { IsKept ⟦<Cache<K, V, We, B, L, A> as Going>⟧.goes L.RequestState.is_default
+            K.eq K.is_clone V.is_clone self.old }
         ensures removes { IfOk result (λ answer. RemovesTwice (K.eq key.now)
             (hash_of B.BuildHasher B.Hasher.Hasher self.old.cache.builder
             (K.Hash.hash_input key.now))
@@ -277,15 +259,8 @@ impl<
         ensures counts { OnOk result (Adds self.old self.new seat.old seat.new) }
         ensures refused { OnErr result (Unmade self.old self.new × (seat.new ≡ seat.old)) }
         ensures memory { IfErr result (λ refusal. refusal ≡ Memory) }
-        ensures same { self.new ≡ record self.old {
-          cache = record self.old.cache {
-            state = self.new.cache.state;
-            places = self.new.cache.places;
-            room = self.new.cache.room;
-          };
-          entries = self.new.entries;
-          calls = self.new.calls;
-        } }
+        ensures options { self.new.options ≡ self.old.options }
+        ensures same { KeepsWork self.old.cache self.new.cache }
     {
         self.is_kept();
         let kept: Result<_, _> = key.clone();

@@ -2,13 +2,12 @@
 ghost use Rattle.std.specs.Prelude.{◌≡◌, ◌≢◌, ◌+◌, IfOk, IfErr, OnOk, OnErr, vec_len};
 ghost use Rattle.quick_cache_model.specs.declared.refusal.Refusal.TheVariants.{Memory};
 ghost use Rattle.quick_cache_model.specs.Hashing.{hash_of};
-ghost use Rattle.quick_cache_shard.specs.Shard.{rules_of};
 ghost use Rattle.quick_cache_unsync.specs.Touches.{no_touches};
 ghost use Rattle.quick_cache_traced.specs.Recorded.{FromSome, WasMade, GetsTwice, NotesInsert};
 ghost use Rattle.quick_cache_traced.specs.Recorded.{RemovesTwice, MayRefuseInsert, Adds, Unmade};
 ghost use Rattle.quick_cache_traced.specs.Seats.{parts_of, calls_of};
 ghost use Rattle.quick_cache_shard.specs.Alone.{IsDoneAlone};
-ghost use Rattle.quick_cache_shard.specs.Steps.{InsertsBy, goes_by};
+ghost use Rattle.quick_cache_shard.specs.Steps.{InsertsBy, rules_in};
 
 use crate::call::TraceCall;
 use crate::gathering::{has_all, merged};
@@ -17,6 +16,8 @@ use crate::seat::{PARTS, Seat};
 use quick_cache_calls::Reply;
 use quick_cache_model::{Lifecycle, Refusal, Weighter};
 use quick_cache_options::options::Options;
+use quick_cache_shard::Going;
+use quick_cache_unsync::Cache;
 use std::alloc::{Allocator, Global};
 use std::hash::{BuildHasher, Hash};
 use std::sync::ledger::{Blank, Ledger};
@@ -87,11 +88,10 @@ impl<
     pub fn get<R: Wait>(&self, rt: &R, seat: &mut Seat<G>, key: &K) -> Result<Option<V>, Refusal>
         // The answer is that of a step on the cache behind the lock, whose recorded reply shows the
         // same value.
-        ensures answers { IfOk result (λ answer. WasMade {M = A} K.Hash.hash_input We.Weighter
-            B.BuildHasher B.Hasher.Hasher L.Lifecycle L.RequestState.is_default K.eq K.is_clone
-            V.is_clone
-            (λ old new. GetsTwice (K.eq key.now) K.is_clone V.is_clone key.now old new answer
-            × Adds old new seat.old seat.new)) }
+        ensures answers { IfOk result (λ answer. WasMade {M = A}
+            ⟦<Cache<K, V, We, B, L, A> as Going>⟧.goes L.RequestState.is_default K.eq K.is_clone
+            V.is_clone (λ old new. GetsTwice (K.eq key.now) K.is_clone V.is_clone key.now old new
+            answer × Adds old new seat.old seat.new)) }
         ensures counts { OnOk result (seat.new ≡ record seat.old { calls = seat.old.calls + 1 }) }
         ensures refused { OnErr result (seat.new ≡ seat.old) }
         ensures memory { IfErr result (λ refusal. refusal ≡ Memory) }
@@ -111,25 +111,21 @@ impl<
         key: K,
         value: V,
     ) -> Result<(), (K, V, Refusal)>
-        ensures answers { OnOk result (WasMade {M = A} K.Hash.hash_input We.Weighter B.BuildHasher
-            B.Hasher.Hasher L.Lifecycle L.RequestState.is_default K.eq K.is_clone V.is_clone
-            (λ old new. IsDoneAlone L.RequestState.is_default
-            (InsertsBy
-            (goes_by K.Hash.hash_input We.Weighter B.BuildHasher B.Hasher.Hasher L.Lifecycle)
-            no_touches old.cache K.eq key value result new.cache)
-            × NotesInsert K.is_clone V.is_clone key value old new
+        ensures answers { OnOk result (WasMade {M = A}
+            ⟦<Cache<K, V, We, B, L, A> as Going>⟧.goes L.RequestState.is_default K.eq K.is_clone
+            V.is_clone (λ old new. IsDoneAlone L.RequestState.is_default
+            (InsertsBy ⟦<Cache<K, V, We, B, L, A> as Going>⟧.goes no_touches old.cache K.eq key
+            value result new.cache) × NotesInsert K.is_clone V.is_clone key value old new
             × Adds old new seat.old seat.new)) }
         ensures counts { OnOk result (seat.new ≡ record seat.old { calls = seat.old.calls + 1 }) }
         ensures refused { OnErr result (seat.new ≡ seat.old) }
         ensures back { IfErr result (λ back. (back.0 ≡ key) × (back.1 ≡ value)) }
         // There was no memory for the entry, or the cache behind the lock refused the pair.
-        ensures why { IfErr result (λ back. WasMade {M = A} K.Hash.hash_input We.Weighter
-            B.BuildHasher B.Hasher.Hasher L.Lifecycle L.RequestState.is_default K.eq K.is_clone
-            V.is_clone
-            (λ old new. Unmade old new × MayRefuseInsert
-            (rules_of no_touches K.Hash.hash_input We.Weighter B.BuildHasher B.Hasher.Hasher
-            L.Lifecycle old.cache)
-            K.eq key old.cache.state back.2)) }
+        ensures why { IfErr result (λ back. WasMade {M = A}
+            ⟦<Cache<K, V, We, B, L, A> as Going>⟧.goes L.RequestState.is_default K.eq K.is_clone
+            V.is_clone (λ old new. Unmade old new × MayRefuseInsert
+            (rules_in ⟦<Cache<K, V, We, B, L, A> as Going>⟧.goes no_touches old.cache) K.eq key
+            old.cache.state back.2)) }
     {
         self.recorder.lock(rt).insert(seat, key, value)
     }
@@ -146,10 +142,9 @@ impl<
         seat: &mut Seat<G>,
         key: &K,
     ) -> Result<Option<(K, V)>, Refusal>
-        ensures answers { IfOk result (λ answer. WasMade {M = A} K.Hash.hash_input We.Weighter
-            B.BuildHasher B.Hasher.Hasher L.Lifecycle L.RequestState.is_default K.eq K.is_clone
-            V.is_clone
-            (λ old new. RemovesTwice (K.eq key.now)
+        ensures answers { IfOk result (λ answer. WasMade {M = A}
+            ⟦<Cache<K, V, We, B, L, A> as Going>⟧.goes L.RequestState.is_default K.eq K.is_clone
+            V.is_clone (λ old new. RemovesTwice (K.eq key.now)
             (hash_of B.BuildHasher B.Hasher.Hasher old.cache.builder (K.Hash.hash_input key.now))
             K.is_clone V.is_clone key.now old new answer
             × Adds old new seat.old seat.new)) }
@@ -175,9 +170,8 @@ impl<
         L: Drop,
         requires { G.parts ≡ PARTS }
         // The list is one of a run of the cache for one thread, from an empty cache.
-        ensures trace { IfOk result (λ list. FromSome K.Hash.hash_input We.Weighter B.BuildHasher
-            B.Hasher.Hasher L.Lifecycle L.RequestState.is_default K.eq K.is_clone V.is_clone
-            list.items) }
+        ensures trace { IfOk result (λ list. FromSome ⟦<Cache<K, V, We, B, L, A> as Going>⟧.goes
+            L.RequestState.is_default K.eq K.is_clone V.is_clone list.items) }
         // It is as long as the seats' counts together.
         ensures calls { IfOk result (λ list. vec_len list ≡ calls_of seats.items) }
         ensures whole { OnOk result (parts_of seats.items ≡ PARTS) }

@@ -7,15 +7,11 @@ ghost use Rattle.std.specs.Bool.{OnTrue, OnFalse};
 ghost use Rattle.quick_cache_model.specs.Finding.{HasNoItem};
 ghost use Rattle.quick_cache_model.specs.Hashing.{hash_of};
 ghost use Rattle.quick_cache_model.specs.Lookups.{Sees, LooksUp};
-ghost use Rattle.quick_cache_model.specs.Removal.{Removes};
 ghost use Rattle.quick_cache_model.specs.Sizes.{hot_target_of, ghost_limit_of, default_hot_share, default_ghost_share};
 ghost use Rattle.quick_cache_shard.specs.Copies.{ClonesAreEqual, IsCopyOf};
-ghost use Rattle.quick_cache_shard.specs.Shard.{no_work, HasItem, IsSoundShard, UpToOrder, KeepsTerms, KeepsWork, WorksAsWrite, made_with};
+ghost use Rattle.quick_cache_shard.specs.Shard.{no_work, HasItem, IsSoundShard, UpToOrder, made_with};
 ghost use Rattle.quick_cache_shard.specs.Room.{most_room};
-ghost use Rattle.quick_cache_unsync.specs.Touches.{no_touches};
 ghost use Rattle.quick_cache_model.specs.Refusals.{slots_taken, slot_count};
-ghost use Rattle.quick_cache_shard.specs.Steps.{InsertsBy};
-ghost use Rattle.quick_cache_shard.specs.Alone.{IsDoneAlone};
 
 use crate::lifecycle::DefaultLifecycle;
 use crate::placeholder::Placeholder;
@@ -25,7 +21,7 @@ use quick_cache_model::{
 use quick_cache_options::options::{
     DEFAULT_GHOST_ALLOCATION, DEFAULT_HOT_ALLOCATION, DEFAULT_MARK_CUT,
 };
-use quick_cache_shard::{CacheShard, Going, InsertStrategy, Keyed, Rowed};
+use quick_cache_shard::{CacheShard, Going, Keyed, Rowed};
 use std::alloc::{Allocator, Global};
 use std::fmt::{Debug, Formatter, Write};
 use std::hash::{BuildHasher, Hash};
@@ -234,7 +230,6 @@ impl<K: Eq + Hash, V, We, B: BuildHasher, L, A: Allocator> Cache<K, V, We, B, L,
         ensures grows { self.old.room ≤ self.new.room }
         ensures at_most { self.new.room ≤ max self.old.room (most_room
             (slots_taken self.old.state) (additional + min additional self.old.state.ghost_limit)) }
-
         // Where there is that room already it succeeds.
         ensures succeeds { min (additional + min additional self.old.state.ghost_limit)
             (slot_count - slots_taken self.old.state) ≤ self.old.room → IsOk result }
@@ -281,86 +276,6 @@ impl<K: Eq + Hash, V, We, B: BuildHasher, L, A: Allocator> Cache<K, V, We, B, L,
     {
         let hash = self.shard.hash(query);
         self.shard.contains(hash, query)
-    }
-
-    /// Takes the item under the query's key out, or a ghost of its hash. No hook is called, and no
-    /// memory taken.
-    pub fn remove<Q: Equivalent<K>>(&mut self, query: &Q) -> Option<(K, V)>
-    where
-        K: Drop,
-        V: Drop,
-        ensures removes { let hash = hash_of B.BuildHasher B.Hasher.Hasher self.old.builder
-            (Q.hash_input query.now) in
-            UpToOrder (Removes (Q.equivalent query.now) self.old.state hash result) self.new.state }
-        ensures room { self.old.room ≤ self.new.room }
-        ensures same { KeepsWork self.old self.new }
-    {
-        let hash = self.shard.hash(query);
-        self.shard.remove(hash, query)
-    }
-
-    /// Inserts a pair, and hands what leaves to the lifecycle, with a request state of its own.
-    ///
-    /// # Errors
-    ///
-    /// As `insert_with_lifecycle`.
-    pub fn insert(&mut self, key: K, value: V) -> Result<(), (K, V, Refusal)>
-    where
-        K: Drop,
-        V: Drop,
-        We: Weighter<K, V>,
-        L: Lifecycle<K, V>,
-        // Where pinning is steady, the write is a step of its definition.
-        ensures inserts { IsDoneAlone L.RequestState.is_default
-            (InsertsBy ⟦<Self as Going>⟧.goes no_touches self.old K.eq key value result self.new) }
-        // It takes room for one entry at most, and asks for memory only where there is no room.
-        ensures room { self.old.room ≤ self.new.room + 1 }
-        ensures asks { IfErr result (λ back. back.2 ≡ Memory → self.old.room ≡ 0) }
-        // How much work it takes, whatever is pinned.
-        ensures work { WorksAsWrite self.old self.new }
-        ensures same { KeepsTerms self.old self.new }
-    {
-        let mut state = L::RequestState::default();
-        self.insert_with_lifecycle(key, value, &mut state)
-    }
-
-    /// Inserts a pair, and hands what leaves to the lifecycle, with this request state. A pair that
-    /// is heavier than the hot target is turned away and told to the cold hook, and the answer is
-    /// `Ok`.
-    ///
-    /// # Errors
-    ///
-    /// The pair and why: `SlotsFull` or `Memory`, only where nothing stood under its key. Nothing
-    /// changed then, and no hook was called.
-    pub fn insert_with_lifecycle(
-        &mut self,
-        key: K,
-        value: V,
-        state: &mut L::RequestState,
-    ) -> Result<(), (K, V, Refusal)>
-    where
-        K: Drop,
-        V: Drop,
-        We: Weighter<K, V>,
-        L: Lifecycle<K, V>,
-        // Where pinning is steady, the write is a step of its definition.
-        ensures inserts { InsertsBy ⟦<Self as Going>⟧.goes no_touches self.old K.eq key value result
-            self.new state.old state.new }
-        // It takes room for one entry at most, and asks for memory only where there is no room.
-        ensures room { self.old.room ≤ self.new.room + 1 }
-        ensures asks { IfErr result (λ back. back.2 ≡ Memory → self.old.room ≡ 0) }
-        // How much work it takes, whatever is pinned.
-        ensures work { WorksAsWrite self.old self.new }
-        ensures same { KeepsTerms self.old self.new }
-    {
-        let hash = self.shard.hash(&key);
-        match self
-            .shard
-            .insert(state, hash, key, value, InsertStrategy::Insert)
-        {
-            Ok(()) => Ok(()),
-            Err((key, value, refusal)) => Err((key, value, refusal.unwrap())),
-        }
     }
 
     /// How many items there are.

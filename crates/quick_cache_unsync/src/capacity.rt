@@ -1,6 +1,6 @@
 //! Setting the capacity of a cache.
-ghost use Rattle.std.specs.Prelude.{◌≡◌, ◌+◌, ◌≤◌};
-ghost use Rattle.quick_cache_model.specs.Sizes.{rescaled_target, rescaled_limit};
+ghost use Rattle.std.specs.Prelude.{◌≤◌};
+ghost use Rattle.quick_cache_shard.specs.SetsCapacity.{Rescales};
 ghost use Rattle.quick_cache_shard.specs.Shard.{KeepsTerms, WorksAsWrite};
 ghost use Rattle.quick_cache_shard.specs.Alone.{IsDoneAlone};
 ghost use Rattle.quick_cache_unsync.specs.Touches.{no_touches};
@@ -28,16 +28,7 @@ impl<
         // Where pinning is steady, it is a step of its definition.
         ensures sets { IsDoneAlone L.RequestState.is_default
             (SetsCapacityBy ⟦<Self as Going>⟧.goes no_touches self.old capacity self.new) }
-        // The sizes, whatever is pinned.
-        ensures capacity { self.new.state.capacity ≡ capacity }
-        ensures target { self.new.state.hot_target
-            ≡ rescaled_target self.old.state.capacity capacity self.old.state.hot_target }
-        ensures limit { self.new.state.ghost_limit
-            ≡ rescaled_limit self.old.state.capacity capacity self.old.state.ghost_limit }
-        // The present capacity changes none of them.
-        ensures present { capacity ≡ self.old.state.capacity
-            → (self.new.state.hot_target ≡ self.old.state.hot_target)
-            × (self.new.state.ghost_limit ≡ self.old.state.ghost_limit) }
+        ensures sizes { Rescales capacity self.old.state self.new.state }
         ensures room { self.old.room ≤ self.new.room }
         // How much work it takes, whatever is pinned.
         ensures work { WorksAsWrite self.old self.new }
@@ -52,14 +43,7 @@ impl<
     pub fn set_capacity_with_lifecycle(&mut self, capacity: u64, state: &mut L::RequestState)
         ensures sets { SetsCapacityBy ⟦<Self as Going>⟧.goes no_touches self.old capacity
             self.new state.old state.new }
-        ensures capacity { self.new.state.capacity ≡ capacity }
-        ensures target { self.new.state.hot_target
-            ≡ rescaled_target self.old.state.capacity capacity self.old.state.hot_target }
-        ensures limit { self.new.state.ghost_limit
-            ≡ rescaled_limit self.old.state.capacity capacity self.old.state.ghost_limit }
-        ensures present { capacity ≡ self.old.state.capacity
-            → (self.new.state.hot_target ≡ self.old.state.hot_target)
-            × (self.new.state.ghost_limit ≡ self.old.state.ghost_limit) }
+        ensures sizes { Rescales capacity self.old.state self.new.state }
         ensures room { self.old.room ≤ self.new.room }
         ensures work { WorksAsWrite self.old self.new }
         ensures same { KeepsTerms self.old self.new }

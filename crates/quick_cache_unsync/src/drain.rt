@@ -1,9 +1,9 @@
 //! Takes all items out of the cache, one after another.
-ghost use Rattle.std.specs.Prelude.{◌≡◌, ◌≤◌, length, MatchOption, IfSome, Some, codes};
+ghost use Rattle.std.specs.Prelude.{◌≡◌, length, MatchOption, IfSome, Some, codes};
 ghost use Rattle.std.specs.Iterator.{at_most, UpTo};
 ghost use Rattle.std.specs.Iterator.SizeHint.{IsWithinCount};
 ghost use Rattle.quick_cache_shard.specs.Tokens.{TakesItem};
-ghost use Rattle.quick_cache_shard.specs.Shard.{KeepsWork};
+ghost use Rattle.quick_cache_shard.specs.Stays.{IdlesWithin};
 ghost use Rattle.quick_cache_unsync.specs.CacheDrain.{drained, drain_lender, DrainsInAll};
 
 use crate::cache::Cache;
@@ -90,8 +90,7 @@ impl<K: Eq + Hash, V, We, B: BuildHasher, L, A: Allocator> Cache<K, V, We, B, L,
         ensures takes { MatchOption result
             ((item_count self.old.state ≡ 0) × (self.new ≡ self.old))
             (λ taken. TakesItem self.old.state taken.1 self.new.state) }
-        ensures room { self.old.room ≤ self.new.room }
-        ensures same { KeepsWork self.old self.new }
+        ensures stays { IdlesWithin K.eq 0 self.old self.new }
     {
         self.shard.take_next(after)
     }

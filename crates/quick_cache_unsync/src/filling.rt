@@ -1,7 +1,7 @@
 //! Placeholders that this crate made, which are filled where they stand.
-ghost use Rattle.std.specs.Prelude.{◌≤◌, ◌+◌, false};
 ghost use Rattle.quick_cache_model.specs.Placeholders.{GivesUpPlaceholder};
-ghost use Rattle.quick_cache_shard.specs.Shard.{UpToOrder, IsSoundShard, KeepsTerms, KeepsWork, WorksAsWrite};
+ghost use Rattle.quick_cache_shard.specs.Shard.{UpToOrder};
+ghost use Rattle.quick_cache_shard.specs.Stays.{IdlesWithin, WritesWithin};
 ghost use Rattle.quick_cache_unsync.specs.Loads.{IsAwaited};
 ghost use Rattle.quick_cache_unsync.specs.Touches.{no_touches};
 ghost use Rattle.quick_cache_unsync.specs.Steps.{FillsThereBy, FillsIfThereBy};
@@ -24,13 +24,9 @@ impl<
     /// Fills the placeholder, which is there. It asks for no memory.
     pub(crate) fn fill(&mut self, state: &mut L::RequestState, placeholder: &Placeholder, value: V)
         requires awaited { IsAwaited placeholder.now.ticket self.old.state }
-        // Where pinning is steady, the fill is a step of its definition.
         ensures fills { FillsThereBy ⟦<Self as Going>⟧.goes no_touches self.old
             placeholder.now.ticket value self.new state.old state.new }
-        ensures room { self.old.room ≤ self.new.room }
-        ensures work { WorksAsWrite self.old self.new }
-        ensures same { KeepsTerms self.old self.new }
-        ensures sound { IsSoundShard K.eq self.new }
+        ensures stays { WritesWithin K.eq 0 self.old self.new }
     {
         let _ = self
             .shard
@@ -46,10 +42,7 @@ impl<
     )
         ensures fills { FillsIfThereBy ⟦<Self as Going>⟧.goes no_touches self.old
             placeholder.now.ticket value self.new state.old state.new }
-        ensures room { self.old.room ≤ self.new.room }
-        ensures work { WorksAsWrite self.old self.new }
-        ensures same { KeepsTerms self.old self.new }
-        ensures sound { IsSoundShard K.eq self.new }
+        ensures stays { WritesWithin K.eq 0 self.old self.new }
     {
         let _ = self
             .shard
@@ -60,9 +53,7 @@ impl<
     pub(crate) fn give_up(&mut self, placeholder: &Placeholder)
         ensures gives_up { UpToOrder
             (GivesUpPlaceholder placeholder.now.ticket self.old.state) self.new.state }
-        ensures room { self.old.room ≤ self.new.room }
-        ensures same { KeepsWork self.old self.new }
-        ensures sound { IsSoundShard K.eq self.new }
+        ensures stays { IdlesWithin K.eq 0 self.old self.new }
     {
         self.shard.remove_placeholder(placeholder);
     }

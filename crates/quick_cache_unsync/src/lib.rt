@@ -17,9 +17,9 @@ mod placeholder;
 mod reading;
 mod reference;
 mod removal;
-mod replace;
 mod stats;
 mod writes_through;
+mod writing;
 
 pub use cache::Cache;
 pub use drain::Drain;

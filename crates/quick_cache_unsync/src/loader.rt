@@ -2,7 +2,8 @@
 ghost use Rattle.std.specs.Prelude.{◌≡◌, ◌<◌, ◌+◌, ◌≤◌, true};
 ghost use Rattle.quick_cache_model.specs.Hashing.{hash_of};
 ghost use Rattle.quick_cache_shard.specs.References.{count_under};
-ghost use Rattle.quick_cache_shard.specs.Shard.{IsSoundShard, KeepsTerms, KeepsWork};
+ghost use Rattle.quick_cache_shard.specs.Shard.{IsSoundShard, KeepsTerms};
+ghost use Rattle.quick_cache_shard.specs.Stays.{IdlesWithin, StaysWithin};
 ghost use Rattle.quick_cache_unsync.specs.Loads.{IsAwaited, LooksUpOrTakes, OnResident};
 ghost use Rattle.quick_cache_calls.specs.References.{TellsItem};
 ghost use Rattle.quick_cache_unsync.specs.Touches.{no_touches};
@@ -54,9 +55,7 @@ impl<
             → Q.equivalent query.now key ≡ true }
         ensures takes { LooksUpOrTakes (Q.equivalent query.now) (Q.to_key_gives query.now) hash
             self.old.state (λ placeholder. placeholder.ticket) result self.new.state }
-        ensures room { self.old.room ≤ self.new.room + 1 }
-        ensures same { KeepsWork self.old self.new }
-        ensures sound { IsSoundShard K.eq self.new }
+        ensures stays { IdlesWithin K.eq 1 self.old self.new }
     {
         match self.shard.get_or_placeholder(&Plainly, hash, query) {
             Ok(Ok(token)) => Ok(Ok(token)),
@@ -79,9 +78,7 @@ impl<
         ensures ends { EndsLoadBy ⟦<Self as Going>⟧.goes no_touches self.old
             L.RequestState.is_default (Q.equivalent query.now) placeholder.now.ticket
             (F.post loader) result self.new }
-        ensures room { self.old.room ≤ self.new.room }
-        ensures same { KeepsTerms self.old self.new }
-        ensures sound { IsSoundShard K.eq self.new }
+        ensures stays { StaysWithin K.eq 0 self.old self.new }
     {
         match loader() {
             Ok(value) => {
@@ -114,9 +111,7 @@ impl<
             hash (F.post loader) result.1 self.new }
         ensures there { OnResident result.1
             (0 < count_under (Q.equivalent query.now) self.new.state) }
-        ensures room { self.old.room ≤ self.new.room + 1 }
-        ensures same { KeepsTerms self.old self.new }
-        ensures sound { IsSoundShard K.eq self.new }
+        ensures stays { StaysWithin K.eq 1 self.old self.new }
     {
         match self.begin_load(hash, query) {
             Ok(Ok(token)) => (token.get(), Ok(Ok(true))),

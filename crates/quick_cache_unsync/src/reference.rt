@@ -5,7 +5,7 @@ ghost use Rattle.quick_cache_model.specs.Finding.{HasNoItem};
 ghost use Rattle.quick_cache_model.specs.Hashing.{hash_of};
 ghost use Rattle.quick_cache_model.specs.Lookups.{LooksUp};
 ghost use Rattle.quick_cache_shard.specs.References.{count_under, IsValueUnder, NotesLookUp};
-ghost use Rattle.quick_cache_shard.specs.Shard.{UpToOrder, IsSoundShard};
+ghost use Rattle.quick_cache_shard.specs.Shard.{UpToOrder, IsSoundShard, KeepsRoom};
 ghost use Rattle.quick_cache_unsync.specs.Touches.{no_touches};
 ghost use Rattle.quick_cache_shard.specs.Steps.{ReweighsBy};
 
@@ -51,10 +51,7 @@ impl<
     fn drop(self)
         ensures reweighs { ReweighsBy ⟦<Cache<K, V, We, B, L, A> as Going>⟧.goes no_touches
             self.entry.cache.now (Q.equivalent self.entry.query.now) self.exit.0.now }
-        ensures same { self.exit.0.now ≡ record self.entry.cache.now {
-          state = self.exit.0.now.state;
-          places = self.exit.0.now.places;
-        } }
+        ensures same { KeepsRoom self.entry.cache.now self.exit.0.now }
     {
         let RefMut {
             cache,
@@ -160,24 +157,6 @@ impl<K: Eq + Hash, V, We, B: BuildHasher, L, A: Allocator> Cache<K, V, We, B, L,
     {
         self.shard.value_mut(thought, hash, query)
     }
-
-    // Weighs the item under the query anew, which is known to be there.
-    fn reweigh<Q: Equivalent<K>>(&mut self, thought: Option<Token>, hash: u64, query: &Q)
-    where
-        K: Drop,
-        V: Drop,
-        We: Weighter<K, V>,
-        L: Lifecycle<K, V>,
-        requires hash_is { hash ≡ ⟦<Self as Keyed>⟧.hash self.old.builder (Q.hash_input query.now) }
-        requires there { 0 < count_under (Q.equivalent query.now) self.old.state }
-        ensures reweighs { ReweighsBy ⟦<Self as Going>⟧.goes no_touches self.old
-            (Q.equivalent query.now) self.new }
-        ensures there { 0 < count_under (Q.equivalent query.now) self.new.state }
-        ensures same { self.new
-            ≡ record self.old { state = self.new.state; places = self.new.places } }
-    {
-        self.shard.reweigh(thought, hash, query);
-    }
 }
 
 impl<
@@ -248,5 +227,17 @@ impl<
             hash,
             slot: token.get(),
         })
+    }
+
+    // Weighs the item under the query anew, which is known to be there.
+    fn reweigh<Q: Equivalent<K>>(&mut self, thought: Option<Token>, hash: u64, query: &Q)
+        requires hash_is { hash ≡ ⟦<Self as Keyed>⟧.hash self.old.builder (Q.hash_input query.now) }
+        requires there { 0 < count_under (Q.equivalent query.now) self.old.state }
+        ensures reweighs { ReweighsBy ⟦<Self as Going>⟧.goes no_touches self.old
+            (Q.equivalent query.now) self.new }
+        ensures there { 0 < count_under (Q.equivalent query.now) self.new.state }
+        ensures same { KeepsRoom self.old self.new }
+    {
+        self.shard.reweigh(thought, hash, query);
     }
 }

@@ -1,5 +1,5 @@
 //! Values that are written through references.
-ghost use Rattle.std.specs.Prelude.{◌≡◌};
+ghost use Rattle.quick_cache_shard.specs.Shard.{KeepsRoom};
 ghost use Rattle.quick_cache_unsync.specs.Touches.{no_touches};
 ghost use Rattle.quick_cache_unsync.specs.Steps.{SetsBy, PokesBy};
 
@@ -20,8 +20,7 @@ pub fn set<
 >(cache: &mut Cache<K, V, We, B, L, A>, key: &K, value: V) -> bool
     ensures sets { SetsBy ⟦<Cache<K, V, We, B, L, A> as Going>⟧.goes no_touches cache.old
         (K.eq key.now) value result cache.new }
-    ensures same { cache.new
-        ≡ record cache.old { state = cache.new.state; places = cache.new.places } }
+    ensures same { KeepsRoom cache.old cache.new }
 {
     match cache.get_mut(key) {
         Some(mut reference) => {
@@ -43,8 +42,7 @@ pub fn poke<
 >(cache: &mut Cache<K, V, We, B, L, A>, key: &K, value: V) -> bool
     ensures writes { PokesBy ⟦<Cache<K, V, We, B, L, A> as Going>⟧.goes no_touches cache.old
         (K.eq key.now) value result cache.new }
-    ensures same { cache.new
-        ≡ record cache.old { state = cache.new.state; places = cache.new.places } }
+    ensures same { KeepsRoom cache.old cache.new }
 {
     match cache.peek_mut(key) {
         Some(mut reference) => {

@@ -1,10 +1,10 @@
 //! Entry calls on a shard behind its lock.
-ghost use Rattle.std.specs.Prelude.{◌≡◌, true};
-ghost use Rattle.quick_cache_model.specs.Hashing.{hash_of};
+ghost use Rattle.std.specs.Prelude.{◌≡◌};
 ghost use Rattle.quick_cache_entries.specs.Acts.{DoesAsChosen, IfAbsent, IfGone, IfKept, LeavesFit, MayTell};
 ghost use Rattle.quick_cache_shard.specs.Entering.{AnswersEntry};
 ghost use Rattle.quick_cache_shard.specs.Shard.{LosesOnly, KeepsWork};
 ghost use Rattle.quick_cache_locked.specs.Fitting.{FitsQuery};
+ghost use Rattle.quick_cache_locked.specs.Loads.{StandsForGiven};
 ghost use Rattle.quick_cache_locked.specs.Locked.{IsKept};
 ghost use Rattle.quick_cache_locked.specs.Touches.{any_touches};
 ghost use Rattle.quick_cache_shard.specs.Steps.{rules_in};
@@ -12,7 +12,7 @@ ghost use Rattle.quick_cache_shard.specs.Steps.{rules_in};
 use crate::locked::LockedShard;
 use quick_cache_entries::EntryShard;
 use quick_cache_model::{Lifecycle, Refusal, ToKey, Weighter};
-use quick_cache_shard::{EntryAction, EntryOrPlaceholder, Going};
+use quick_cache_shard::{EntryAction, EntryOrPlaceholder, Going, Keyed};
 use quick_cache_sharing::SharedPlaceholder;
 use std::alloc::Allocator;
 use std::hash::{BuildHasher, Hash};
@@ -32,24 +32,19 @@ impl<
         query: &Q,
         callback: &mut F,
     ) -> Result<EntryOrPlaceholder<K, V, SharedPlaceholder<K, V, L, A>, T>, Refusal>
-        requires stands { (key : K) → Q.to_key_gives query.now key
-            → Q.equivalent query.now key ≡ true }
+        requires stands { StandsForGiven (Q.to_key_gives query.now) (Q.equivalent query.now) }
         requires callable { F.IsAlwaysCallable callback.old }
         requires leaves { LeavesFit F.FnMut L.fits callback.old }
-        ensures acts { let hash = hash_of B.BuildHasher B.Hasher.Hasher self.old.builder
-            (Q.hash_input query.now) in
-            AnswersEntry F.FnMut (rules_in ⟦<Self as Going>⟧.goes any_touches self.old)
-            (Q.equivalent query.now) callback.old self.old.state
-            (λ placeholder. placeholder.ticket) (Q.to_key_gives query.now) hash result callback.new
-            self.new.state }
+        ensures acts { AnswersEntry F.FnMut (rules_in ⟦<Self as Going>⟧.goes any_touches self.old)
+            (Q.equivalent query.now) callback.old self.old.state (λ placeholder. placeholder.ticket)
+            (Q.to_key_gives query.now) (⟦<Self as Keyed>⟧.hash self.old.builder
+            (Q.hash_input query.now)) result callback.new self.new.state }
         ensures fits { IfGone result (λ value. FitsQuery L.fits (Q.equivalent query.now) value) }
         ensures tells { IfKept result (λ told. MayTell F.FnMut L.fits
             (Q.equivalent query.now) callback.old told) }
         ensures uncalled { IfAbsent result (callback.new ≡ callback.old) }
-        // What comes of it is what the callback chose, by its one call.
         ensures chosen { DoesAsChosen F.FnMut L.fits
             (Q.equivalent query.now) callback.old result callback.new }
-        // No item moves that stays.
         ensures places { LosesOnly self.old.places self.new.places }
         ensures same { KeepsWork self.old self.new }
         ensures kept { IsKept L.Lifecycle K.eq self.old }

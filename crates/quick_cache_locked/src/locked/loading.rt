@@ -1,18 +1,17 @@
 //! Keys that are being loaded in a shard behind its lock.
-ghost use Rattle.std.specs.Prelude.{◌≡◌, true, IfOk};
-ghost use Rattle.quick_cache_model.specs.Hashing.{hash_of};
+ghost use Rattle.std.specs.Prelude.{◌≡◌, IfOk};
 ghost use Rattle.quick_cache_model.specs.Placeholders.{GivesUpPlaceholder};
 ghost use Rattle.quick_cache_shard.specs.Shard.{KeepsPlaces, LosesOnly, UpToOrder};
 ghost use Rattle.quick_cache_guard.specs.Begins.{IfFound};
 ghost use Rattle.quick_cache_locked.specs.Fitting.{ClonesFit, FitsQuery};
-ghost use Rattle.quick_cache_locked.specs.Loads.{BeginsLoad, EndsLoadBy};
+ghost use Rattle.quick_cache_locked.specs.Loads.{BeginsLoad, EndsLoadBy, StandsForGiven};
 ghost use Rattle.quick_cache_locked.specs.Locked.{IsKept};
 ghost use Rattle.quick_cache_locked.specs.Touches.{any_touches};
 
 use crate::locked::LockedShard;
 use quick_cache_guard::{Begun, LoadingShard};
 use quick_cache_model::{Equivalent, Lifecycle, Refusal, ToKey, Weighter};
-use quick_cache_shard::Going;
+use quick_cache_shard::{Going, Keyed};
 use quick_cache_sharing::SharedPlaceholder;
 use std::alloc::Allocator;
 use std::hash::{BuildHasher, Hash};
@@ -31,12 +30,10 @@ impl<
         &mut self,
         query: &Q,
     ) -> Result<Begun<V, SharedPlaceholder<K, V, L, A>>, Refusal>
-        requires stands { (key : K) → Q.to_key_gives query.now key
-            → Q.equivalent query.now key ≡ true }
-        ensures begins { let hash = hash_of B.BuildHasher B.Hasher.Hasher self.old.builder
-            (Q.hash_input query.now) in
-            BeginsLoad (λ placeholder. placeholder.ticket) (Q.equivalent query.now)
-            (Q.to_key_gives query.now) hash V.is_clone self.old.state result self.new.state }
+        requires stands { StandsForGiven (Q.to_key_gives query.now) (Q.equivalent query.now) }
+        ensures begins { BeginsLoad (λ placeholder. placeholder.ticket) (Q.equivalent query.now)
+            (Q.to_key_gives query.now) (⟦<Self as Keyed>⟧.hash self.old.builder
+            (Q.hash_input query.now)) V.is_clone self.old.state result self.new.state }
         ensures fits { ClonesFit L.fits V.is_clone → IfOk result
             (λ begun. IfFound begun (λ value. FitsQuery L.fits (Q.equivalent query.now) value)) }
         ensures same { self.new ≡ record self.old { state = self.new.state; room = self.new.room } }
@@ -84,7 +81,6 @@ impl<
         requires fits { L.fits key.now value }
         ensures ends { EndsLoadBy ⟦<Self as Going>⟧.goes any_touches self.old K.eq
             placeholder.now.ticket waited key.now value result self.new state.old state.new }
-        // No item moves that stays.
         ensures places { KeepsPlaces K.eq self.old.places self.new.places }
         ensures kept { IsKept L.Lifecycle K.eq self.old }
     {
@@ -106,7 +102,6 @@ impl<
     pub fn give_up_load(&mut self, placeholder: &SharedPlaceholder<K, V, L, A>)
         ensures gives_up { UpToOrder
             (GivesUpPlaceholder placeholder.now.ticket self.old.state) self.new.state }
-        // No item moves that stays.
         ensures places { LosesOnly self.old.places self.new.places }
         ensures kept { IsKept L.Lifecycle K.eq self.old }
     {

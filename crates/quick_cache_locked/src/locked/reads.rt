@@ -1,11 +1,10 @@
 //! Reads of a shard behind its lock, which change neither its lists nor its marks.
-ghost use Rattle.std.specs.Prelude.{IsOk, IfOk, IfSome, MatchOption};
+ghost use Rattle.std.specs.Prelude.{IsOk, MatchOption};
 ghost use Rattle.std.specs.Bool.{OnTrue, OnFalse};
 ghost use Rattle.quick_cache_model.specs.Finding.{HasNoItem};
 ghost use Rattle.quick_cache_shard.specs.Stats.{ShowsReads};
 ghost use Rattle.quick_cache_shard.specs.Shard.{HasItem};
-ghost use Rattle.quick_cache_locked.specs.Peeks.{Peeks};
-ghost use Rattle.quick_cache_locked.specs.Fitting.{ClonesFit, FitsQuery};
+ghost use Rattle.quick_cache_locked.specs.Peeks.{Peeks, ShowsFitting};
 ghost use Rattle.quick_cache_locked.specs.Locked.{IsKept};
 ghost use Rattle.quick_cache_locked.specs.Counts.{Shows};
 ghost use Rattle.quick_cache_locked.specs.Touches.{any_touches};
@@ -18,7 +17,7 @@ use std::hash::{BuildHasher, Hash};
 
 impl<
     K: Eq + Hash + Drop,
-    V: Drop,
+    V: Clone,
     We,
     B: BuildHasher,
     L: Lifecycle<K, V>,
@@ -28,11 +27,8 @@ impl<
     /// first, so that a refused one counts nothing. Where clones fit as their values do, the
     /// clone fits a key that the query stands for.
     pub fn get<Q: Equivalent<K>>(&self, query: &Q) -> Result<Option<V>, Refusal>
-    where
-        V: Clone,
         ensures gets { Peeks (Q.equivalent query.now) V.is_clone self.now.state result }
-        ensures fits { ClonesFit L.fits V.is_clone → IfOk result
-            (λ found. IfSome found (λ v. FitsQuery L.fits (Q.equivalent query.now) v)) }
+        ensures fits { ShowsFitting L.fits (Q.equivalent query.now) V.is_clone result }
         ensures succeeds { ((value : V) → V.is_infallible value) → IsOk result }
         ensures kept { IsKept L.Lifecycle K.eq self.now }
     {
@@ -44,11 +40,8 @@ impl<
     /// As `get`, but where nothing is found no miss is counted: it is for a call that goes on to
     /// begin a load.
     pub fn find<Q: Equivalent<K>>(&self, query: &Q) -> Result<Option<V>, Refusal>
-    where
-        V: Clone,
         ensures finds { Peeks (Q.equivalent query.now) V.is_clone self.now.state result }
-        ensures fits { ClonesFit L.fits V.is_clone → IfOk result
-            (λ found. IfSome found (λ v. FitsQuery L.fits (Q.equivalent query.now) v)) }
+        ensures fits { ShowsFitting L.fits (Q.equivalent query.now) V.is_clone result }
         ensures succeeds { ((value : V) → V.is_infallible value) → IsOk result }
         ensures kept { IsKept L.Lifecycle K.eq self.now }
     {
@@ -60,11 +53,8 @@ impl<
     /// Clones the value under the query's key. It is no use of the item. What it gives fits as what
     /// `get` gives.
     pub fn peek<Q: Equivalent<K>>(&self, query: &Q) -> Result<Option<V>, Refusal>
-    where
-        V: Clone,
         ensures peeks { Peeks (Q.equivalent query.now) V.is_clone self.now.state result }
-        ensures fits { ClonesFit L.fits V.is_clone → IfOk result
-            (λ found. IfSome found (λ v. FitsQuery L.fits (Q.equivalent query.now) v)) }
+        ensures fits { ShowsFitting L.fits (Q.equivalent query.now) V.is_clone result }
         ensures succeeds { ((value : V) → V.is_infallible value) → IsOk result }
         ensures kept { IsKept L.Lifecycle K.eq self.now }
     {
@@ -78,7 +68,16 @@ impl<
             },
         }
     }
+}
 
+impl<
+    K: Eq + Hash + Drop,
+    V: Drop,
+    We,
+    B: BuildHasher,
+    L: Lifecycle<K, V>,
+    A: Allocator,
+> LockedShard<K, V, We, B, L, A> {
     /// Whether an item stands under the query's key.
     pub fn contains_key<Q: Equivalent<K>>(&self, query: &Q) -> bool
         ensures there { OnTrue result (HasItem (Q.equivalent query.now) self.now.state) }

@@ -1,7 +1,6 @@
 //! Removals from a shard behind its lock.
 ghost use Rattle.std.specs.Prelude.{[], ◌≡◌, IfSome};
 ghost use Rattle.std.specs.Fn.{FnOnceReturnsAt};
-ghost use Rattle.quick_cache_model.specs.Hashing.{hash_of};
 ghost use Rattle.quick_cache_model.specs.Removal.{Removes, cleared};
 ghost use Rattle.quick_cache_shard.specs.Predicates.{Answers, RemovesAsked, RetainsAsked};
 ghost use Rattle.quick_cache_shard.specs.Shard.{LosesOnly, UpToOrder, KeepsWork};
@@ -11,6 +10,7 @@ ghost use Rattle.quick_cache_locked.specs.Locked.{IsKept};
 
 use crate::locked::LockedShard;
 use quick_cache_model::{Equivalent, Lifecycle};
+use quick_cache_shard::Keyed;
 use std::alloc::Allocator;
 use std::hash::{BuildHasher, Hash};
 
@@ -25,11 +25,10 @@ impl<
     /// Takes the item under the query's key out, or a ghost of its hash. The value that it gives
     /// fits a key that the query stands for.
     pub fn remove<Q: Equivalent<K>>(&mut self, query: &Q) -> Option<(K, V)>
-        ensures removes { let hash = hash_of B.BuildHasher B.Hasher.Hasher self.old.builder
-            (Q.hash_input query.now) in
-            UpToOrder (Removes (Q.equivalent query.now) self.old.state hash result) self.new.state }
-        ensures fits { IfSome result
-            (λ pair. FitsQuery L.fits (Q.equivalent query.now) pair.1) }
+        ensures removes { UpToOrder (Removes (Q.equivalent query.now) self.old.state
+            (⟦<Self as Keyed>⟧.hash self.old.builder (Q.hash_input query.now)) result)
+            self.new.state }
+        ensures fits { IfSome result (λ pair. FitsQuery L.fits (Q.equivalent query.now) pair.1) }
         ensures places { LosesOnly self.old.places self.new.places }
         ensures same { KeepsWork self.old self.new }
         ensures kept { IsKept L.Lifecycle K.eq self.old }
@@ -49,8 +48,7 @@ impl<
         requires callable { MayBeAskedOfFittingUnder L.fits (Q.equivalent query.now) F.FnOnce wanted }
         ensures asks { UpToOrder (RemovesAsked (Q.equivalent query.now) self.old.state
             (FnOnceReturnsAt F.FnOnce wanted) result) self.new.state }
-        ensures fits { IfSome result
-            (λ pair. FitsQuery L.fits (Q.equivalent query.now) pair.1) }
+        ensures fits { IfSome result (λ pair. FitsQuery L.fits (Q.equivalent query.now) pair.1) }
         ensures places { LosesOnly self.old.places self.new.places }
         ensures same { KeepsWork self.old self.new }
         ensures kept { IsKept L.Lifecycle K.eq self.old }

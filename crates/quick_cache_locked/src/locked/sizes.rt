@@ -1,16 +1,12 @@
-//! The sizes of a shard behind its lock.
+//! Room in a shard behind its lock.
 ghost use Rattle.std.specs.Prelude.{◌≡◌, ◌-◌, ◌≤◌, ◌+◌, IfErr, OnOk, min, max};
 ghost use Rattle.quick_cache_model.specs.declared.refusal.Refusal.TheVariants.{Memory};
 ghost use Rattle.quick_cache_model.specs.Refusals.{slots_taken, slot_count};
 ghost use Rattle.quick_cache_shard.specs.Room.{most_room};
-ghost use Rattle.quick_cache_shard.specs.Shard.{LosesOnly, KeepsTerms};
 ghost use Rattle.quick_cache_locked.specs.Locked.{IsKept};
-ghost use Rattle.quick_cache_locked.specs.Touches.{any_touches};
-ghost use Rattle.quick_cache_shard.specs.Steps.{SetsCapacityBy};
 
 use crate::locked::LockedShard;
-use quick_cache_model::{Lifecycle, Refusal, Weighter};
-use quick_cache_shard::Going;
+use quick_cache_model::{Lifecycle, Refusal};
 use std::alloc::Allocator;
 use std::hash::{BuildHasher, Hash};
 
@@ -22,22 +18,6 @@ impl<
     L: Lifecycle<K, V>,
     A: Allocator,
 > LockedShard<K, V, We, B, L, A> {
-    /// Sets the weight that it may hold, and evicts what is too much, with this request state.
-    pub fn set_capacity(&mut self, capacity: u64, state: &mut L::RequestState)
-    where
-        We: Weighter<K, V>,
-        // Where pinning is steady, it is a step of its definition.
-        ensures sets { SetsCapacityBy ⟦<Self as Going>⟧.goes any_touches self.old capacity
-            self.new state.old state.new }
-        ensures capacity { self.new.state.capacity ≡ capacity }
-        ensures places { LosesOnly self.old.places self.new.places }
-        ensures same { KeepsTerms self.old self.new }
-        ensures kept { IsKept L.Lifecycle K.eq self.old }
-    {
-        self.is_kept();
-        self.shard.set_capacity(capacity, state);
-    }
-
     /// Makes room for so many more entries, and for the ghosts that as many inserts can leave.
     pub fn reserve(&mut self, additional: usize) -> Result<(), Refusal>
         ensures room { OnOk result (min additional (slot_count - slots_taken self.old.state)

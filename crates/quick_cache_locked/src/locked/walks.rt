@@ -14,8 +14,8 @@ use std::alloc::Allocator;
 use std::hash::{BuildHasher, Hash};
 
 impl<
-    K: Eq + Hash + Drop,
-    V: Drop,
+    K: Eq + Hash + Clone,
+    V: Clone,
     We,
     B: BuildHasher,
     L: Lifecycle<K, V>,
@@ -25,12 +25,8 @@ impl<
     /// is given. It is no use of the item. Where clones are as their keys and values are, what it
     /// gives fits its key.
     pub fn show_next(&self, after: Option<Token>) -> Result<Option<(Token, K, V)>, Refusal>
-    where
-        K: Clone,
-        V: Clone,
         ensures shows { ShowsNext self.now (number_or_zero after) K.is_clone V.is_clone result }
-        ensures fits { ClonesAreEqual K.eq K.is_clone
-            → ClonesFit L.fits V.is_clone → IfOk result
+        ensures fits { ClonesAreEqual K.eq K.is_clone → ClonesFit L.fits V.is_clone → IfOk result
             (λ found. IfSome found (λ shown. L.fits shown.1 shown.2)) }
         ensures kept { IsKept L.Lifecycle K.eq self.now }
     {
@@ -49,13 +45,21 @@ impl<
             }
         }
     }
+}
 
+impl<
+    K: Eq + Hash + Drop,
+    V: Drop,
+    We,
+    B: BuildHasher,
+    L: Lifecycle<K, V>,
+    A: Allocator,
+> LockedShard<K, V, We, B, L, A> {
     /// Takes out the item of the least token above this one, or of the least token of all where
     /// none is given. Its value fits its key.
     pub fn take_next(&mut self, after: Option<Token>) -> Option<(Token, K, V)>
         ensures takes { TakesNext self.old (number_or_zero after) result self.new }
-        ensures fits { IfSome result
-            (λ taken. L.fits taken.1 taken.2) }
+        ensures fits { IfSome result (λ taken. L.fits taken.1 taken.2) }
         ensures same { KeepsWork self.old self.new }
         ensures kept { IsKept L.Lifecycle K.eq self.old }
     {

@@ -1,4 +1,3 @@
-use Rattle.std.proofs.Common.{◌≡◌}
 use Rattle.promises.proofs.OneThreadLemmas.{asked-alike}
 use Rattle.promises.proofs.one_thread.peek_and_ask.Goals as goal
 

@@ -1,4 +1,4 @@
-use Rattle.std.proofs.Common.{◌≡◌, ◌∙◌, sym}
+use Rattle.std.proofs.Common.{◌∙◌, sym}
 use Rattle.quick_cache_model.specs.CacheState.{Item}
 use Rattle.quick_cache_model.proofs.LookupLaws.{Sees-Sees, Sees-LooksUp}
 use Rattle.promises.proofs.one_thread.peek_twice_and_get.Goals as goal

@@ -1,4 +1,4 @@
-use Rattle.std.proofs.Common.{◌≡◌, ◌∙◌, ap, sym}
+use Rattle.std.proofs.Common.{◌∙◌, ap, sym}
 use Rattle.quick_cache_model.specs.Hashing.{hash_of}
 use Rattle.quick_cache_sync.specs.Shards.{shard_of_hash}
 use Rattle.promises.proofs.shared.share_a_shard.Goals as goal

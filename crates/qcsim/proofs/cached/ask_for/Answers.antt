@@ -1,7 +1,7 @@
 use Rattle.std.proofs.Common.{◌∷◌, [], sym, ◌∙◌, subst}
 use Rattle.quick_cache_model.specs.CacheState.{UpToOrder}
 use Rattle.quick_cache_model.specs.Lookups.{LooksUp}
-use Rattle.quick_cache_shard.specs.Shard.{Shard, rules_of}
+use Rattle.quick_cache_shard.specs.Steps.{goes_by, rules_in, steady_in}
 use Rattle.quick_cache_unsync.specs.Touches.{no_touches}
 use Rattle.qcsim.specs.Simulation.{Simulates}
 use Rattle.qcsim.proofs.SimulationLemmas.{found_one, put_one, copied_some, copied_none}
@@ -24,12 +24,11 @@ returns-in-Ok-clause-asks g c = λ steady.
     let same = c.get.follows.holds-at-none.1 in
     let mid = c.get.follows.lender-at-none in
     let wrote = c.in-Ok.ensures.inserts.does in
-    let is_steady = subst (λ (x : Shard _ _ _ _ _). g.L.Lifecycle.steady x.lifecycle) (sym same)
-    steady in
-    subst (λ (x : Shard _ _ _ _ _). Simulates
-    (rules_of no_touches g.K.Hash.hash_input g.We.Weighter g.B.BuildHasher g.B.Hasher.Hasher
-    g.L.Lifecycle x) g.K.PartialEq.eq c.args.cache.now.state (c.args.key ∷ []) 0
-    c.insert.new.self.state) same
+    let goes = goes_by g.K.Hash.hash_input g.We.Weighter g.B.BuildHasher g.B.Hasher.Hasher
+    g.L.Lifecycle in
+    let is_steady = subst (λ x. steady_in goes x) (sym same) steady in
+    subst (λ x. Simulates (rules_in goes no_touches x) g.K.PartialEq.eq c.args.cache.now.state
+    (c.args.key ∷ []) 0 c.insert.new.self.state) same
     (put_one _ g.K.PartialEq.eq c.args.key c.args.cache.now.state mid.state wrote.step.calls
     c.insert.new.self.state
     (subst (λ found. UpToOrder (LooksUp (g.K.PartialEq.eq c.args.key) c.args.cache.now.state

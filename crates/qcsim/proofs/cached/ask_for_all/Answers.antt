@@ -1,6 +1,6 @@
 use Rattle.std.proofs.Common.{rules, ◌≡◌, ◌+◌, ◌∷◌, [], ◌++◌, length, refl, sym, ap, subst, ◌∙◌}
 use Rattle.std.proofs.Common.{append_assoc, arith}
-use Rattle.quick_cache_shard.specs.Shard.{rules_of}
+use Rattle.quick_cache_shard.specs.Steps.{goes_by, rules_in}
 use Rattle.quick_cache_unsync.specs.Touches.{no_touches}
 use Rattle.qcsim.specs.Simulation.{Simulates, counted}
 use Rattle.qcsim.proofs.SimulationLemmas.{asked_none, asked_one}
@@ -27,8 +27,8 @@ loop-key-preserved-then-branch g c =
       asked = λ steady.
           let before = so_far.asked steady in
           let one = subst (λ (x : _ × _ × _). Simulates
-          (rules_of no_touches g.K.Hash.hash_input g.We.Weighter g.B.BuildHasher
-          g.B.Hasher.Hasher g.L.Lifecycle
+          (rules_in (goes_by g.K.Hash.hash_input g.We.Weighter g.B.BuildHasher
+          g.B.Hasher.Hasher g.L.Lifecycle) no_touches
           (record c.loop-key.cache { weigher = x.0; builder = x.1; lifecycle = x.2 }))
           g.K.PartialEq.eq c.loop-key.cache.state (c.in-Some.key.now ∷ [])
           (counted c.in_ok-ask_for.field-0) c.ask_for.new.cache.state)
@@ -56,8 +56,8 @@ loop-key-preserved g c =
       asked = λ steady.
           let before = so_far.asked steady in
           let one = subst (λ (x : _ × _ × _). Simulates
-          (rules_of no_touches g.K.Hash.hash_input g.We.Weighter g.B.BuildHasher
-          g.B.Hasher.Hasher g.L.Lifecycle
+          (rules_in (goes_by g.K.Hash.hash_input g.We.Weighter g.B.BuildHasher
+          g.B.Hasher.Hasher g.L.Lifecycle) no_touches
           (record c.loop-key.cache { weigher = x.0; builder = x.1; lifecycle = x.2 }))
           g.K.PartialEq.eq c.loop-key.cache.state (c.in-Some.key.now ∷ [])
           (counted c.in_ok-ask_for.field-0) c.ask_for.new.cache.state)

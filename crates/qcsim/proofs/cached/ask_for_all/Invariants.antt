@@ -1,5 +1,5 @@
 use Rattle.std.proofs.Common.{◌≡◌, ◌+◌, ◌≤◌, ◌++◌, List, length}
-use Rattle.quick_cache_shard.specs.Shard.{rules_of}
+use Rattle.quick_cache_shard.specs.Steps.{goes_by, rules_in}
 use Rattle.quick_cache_unsync.specs.Touches.{no_touches}
 use Rattle.qcsim.specs.Simulation.{Simulates}
 use Rattle.qcsim.proofs.cached.ask_for_all.Given as goal
@@ -13,8 +13,8 @@ invariant-loop-key g l = record {
   lifecycle : l.cache.lifecycle ≡ l.initial.cache.lifecycle;
   asked : g.L.Lifecycle.steady l.initial.cache.lifecycle → (done : List _)
       × (done ++ l.rest ≡ l.fn.keys) × Simulates
-      (rules_of no_touches g.K.Hash.hash_input g.We.Weighter g.B.BuildHasher g.B.Hasher.Hasher
-      g.L.Lifecycle l.initial.cache) g.K.PartialEq.eq l.initial.cache.state done l.hits
+      (rules_in (goes_by g.K.Hash.hash_input g.We.Weighter g.B.BuildHasher g.B.Hasher.Hasher
+      g.L.Lifecycle) no_touches l.initial.cache) g.K.PartialEq.eq l.initial.cache.state done l.hits
       l.cache.state;
 }
 

@@ -1,4 +1,3 @@
-use Rattle.quick_cache_shard.specs.Shard.{hooks_of}
 use Rattle.quick_cache_calls.specs.Shown.{IsItself}
 use Rattle.quick_cache_runs.proofs.CallerLemmas.{RunsCalls-wider}
 use Rattle.quick_cache_copy_tests.proofs.exactly.run_exactly.Goals as goal
@@ -7,8 +6,8 @@ use Rattle.quick_cache_copy_tests.proofs.exactly.run_exactly.Goals as goal
 pub returns : goal.returns
 returns g c = record {
   runs = λ steady answers asked. RunsCalls-wider g.K.Clone.is_clone IsItself g.V.Clone.is_clone
-      IsItself c.requires.key_clones c.requires.clones _ g.K.PartialEq.eq answers
-      (hooks_of g.L.Lifecycle c.args.cache.now) c.args.cache.now.state c.args.state.now
+      IsItself c.requires.key_clones c.requires.clones _ g.K.PartialEq.eq answers _
+      c.args.cache.now.state c.args.state.now
       c.args.calls.items c.run.result c.run.new.cache.state c.run.new.state
       (c.run.ensures.runs steady answers asked);
 }

@@ -1,7 +1,7 @@
 use Rattle.std.proofs.Common.{arith, ◌∙◌, Ok, Err}
 use Rattle.quick_cache_calls.proofs.RunLemmas.{stops_at_first}
 use Rattle.quick_cache_lives.proofs.CallerLemmas.{RunsCalls-conserves}
-use Rattle.quick_cache_shard.specs.Shard.{hooks_of}
+use Rattle.quick_cache_shard.specs.Lifecycles.{hooks_by}
 use Rattle.quick_cache_runs.proofs.RunLemmas.{AreAnswered-none}
 use Rattle.quick_cache_runs.proofs.runs.run.Goals as goal
 
@@ -9,7 +9,7 @@ use Rattle.quick_cache_runs.proofs.runs.run.Goals as goal
 pub returns-in_default-clause-runs : goal.returns-in_default-clause-runs
 returns-in_default-clause-runs g c = λ steady answers asked.
     stops_at_first _ g.K.PartialEq.eq g.K.Clone.is_clone g.V.Clone.is_clone answers
-    (hooks_of g.L.Lifecycle c.args.cache.now) c.args.cache.now.state c.args.state.now
+    (hooks_by g.L.Lifecycle c.args.cache.now.lifecycle) c.args.cache.now.state c.args.state.now
     c.reserve.new.self c.args.calls (c.reserve.ensures.items ∙ c.new-replies.ensures.items)
     (omega (
       arith,
@@ -23,7 +23,7 @@ returns-in_default-clause-runs g c = λ steady answers asked.
 pub returns-in_default-clause-conserves : goal.returns-in_default-clause-conserves
 returns-in_default-clause-conserves g c = λ steady answers asked.
     RunsCalls-conserves _ g.K.PartialEq.eq g.met.K.Eq.laws g.K.Clone.is_clone g.V.Clone.is_clone
-    answers (hooks_of g.L.Lifecycle c.args.cache.now) c.args.cache.now.state c.args.state.now
+    answers (hooks_by g.L.Lifecycle c.args.cache.now.lifecycle) c.args.cache.now.state c.args.state.now
     c.args.calls.items (Err (c.reserve.new.self, c.args.calls)) c.args.cache.now.state
     c.args.state.now (returns-in_default-clause-runs g c steady answers asked) c.valid.ensures
 
@@ -42,6 +42,6 @@ make_all-requires-clause-room g c =
 pub returns-clause-conserves : goal.returns-clause-conserves
 returns-clause-conserves g c = λ steady answers asked.
     RunsCalls-conserves _ g.K.PartialEq.eq g.met.K.Eq.laws g.K.Clone.is_clone g.V.Clone.is_clone
-    answers (hooks_of g.L.Lifecycle c.args.cache.now) c.args.cache.now.state c.args.state.now
+    answers (hooks_by g.L.Lifecycle c.args.cache.now.lifecycle) c.args.cache.now.state c.args.state.now
     c.args.calls.items (Ok c.make_all.result) c.make_all.new.cache.state c.make_all.new.state
     (c.make_all.ensures.runs steady answers asked) c.valid.ensures

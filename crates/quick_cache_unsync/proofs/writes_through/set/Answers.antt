@@ -1,7 +1,7 @@
 use Rattle.std.proofs.Common.{rules, subst}
 use Rattle.quick_cache_model.specs.Hooks.{Rules}
 use Rattle.quick_cache_shard.specs.References.{with_value_under, ReweighsUnder}
-use Rattle.quick_cache_shard.specs.Shard.{Shard, rules_of}
+use Rattle.quick_cache_shard.specs.Steps.{goes_by, rules_in}
 use Rattle.quick_cache_unsync.specs.Touches.{no_touches}
 use Rattle.quick_cache_unsync.proofs.ReferenceLemmas.{sets-final, sets-nothing}
 use Rattle.quick_cache_unsync.proofs.writes_through.set.Goals as goal
@@ -11,9 +11,8 @@ pub returns-in-Some-clause-sets : goal.returns-in-Some-clause-sets
 returns-in-Some-clause-sets g c =
     let e = c.in-Some.ensures in
     let r = c.in-Some.reference in
-    let by = λ (x : Shard g.row.K.Denot g.row.V.Denot g.row.We.Denot g.row.B.Denot g.row.L.Denot).
-    rules_of no_touches g.K.Hash.hash_input g.We.Weighter g.B.BuildHasher g.B.Hasher.Hasher
-    g.L.Lifecycle x in
+    let by = rules_in (goes_by g.K.Hash.hash_input g.We.Weighter g.B.BuildHasher g.B.Hasher.Hasher
+    g.L.Lifecycle) no_touches in
     let equal = g.K.PartialEq.eq in
     sets-final (by c.args.cache.now) (equal c.args.key.now) c.args.value c.cache-1.given.0
     c.drop-reference.new.self.0 (search rules) c.args.cache.now.state r.cache.now.state

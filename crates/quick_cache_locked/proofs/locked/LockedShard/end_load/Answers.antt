@@ -1,7 +1,5 @@
 use Rattle.std.proofs.Common.{◌≡◌, false, refl, rules}
 use Rattle.std.specs.Prelude.{IsTrue}
-use Rattle.quick_cache_shard.specs.Shard.{rules_of}
-use Rattle.quick_cache_locked.specs.Touches.{any_touches}
 use Rattle.quick_cache_locked.proofs.FitLoads.{EndsLoad-filled, AllFit-filled}
 use Rattle.quick_cache_locked.proofs.TicketLemmas.{awaits_none, awaits_other, of_ticket}
 use Rattle.quick_cache_locked.proofs.locked.LockedShard.end_load.Goals as goal
@@ -35,9 +33,7 @@ invariant_of-self g c =
     let equal : IsTrue (g.K.PartialEq.eq c.args.key.now c.in-Some.own.now) = search rules in
     AllFit-filled g.L.Lifecycle
     (λ l was k v now left. g.met.L.Lifecycle.keeps_fits l was k v now left)
-    c.self.inside.shard c.replace_placeholder.new.self
-    (rules_of any_touches g.K.Hash.hash_input g.We.Weighter g.B.BuildHasher g.B.Hasher.Hasher
-    g.L.Lifecycle c.self.inside.shard)
+    c.self.inside.shard.lifecycle c.self.inside.shard.state c.replace_placeholder.new.self.state _
     c.args.placeholder.now.ticket c.args.waited c.args.value c.replace_placeholder.result _ _
     c.replace_placeholder.ensures.fills
     (of_ticket c.args.placeholder.now.ticket (λ k. g.L.Lifecycle.fits k c.args.value)

@@ -1,5 +1,3 @@
-use Rattle.quick_cache_shard.specs.Shard.{rules_of}
-use Rattle.quick_cache_locked.specs.Touches.{any_touches}
 use Rattle.quick_cache_locked.proofs.FitWrites.{AllFit-written}
 use Rattle.quick_cache_locked.proofs.locked.LockedShard.insert.Goals as goal
 
@@ -7,9 +5,7 @@ use Rattle.quick_cache_locked.proofs.locked.LockedShard.insert.Goals as goal
 pub invariant_of-self : goal.invariant_of-self
 invariant_of-self g c = AllFit-written g.L.Lifecycle
     (λ l was k v now left. g.met.L.Lifecycle.keeps_fits l was k v now left)
-    c.self.inside.shard c.insert.new.self
-    (rules_of any_touches g.K.Hash.hash_input g.We.Weighter g.B.BuildHasher g.B.Hasher.Hasher
-    g.L.Lifecycle c.self.inside.shard)
+    c.self.inside.shard.lifecycle c.self.inside.shard.state c.insert.new.self.state _
     g.K.PartialEq.eq _ _ c.args.key c.args.value _ _ c.insert.ensures.answers
     c.requires.fits c.self.invariant
 

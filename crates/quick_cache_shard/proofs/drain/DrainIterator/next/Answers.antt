@@ -11,7 +11,7 @@ returns-clause-steps g c =
       record {
         lender = refl;
         shard = TakesItem-keeps old c.take_next.new.self c.in_ok-token.pair taken.takes
-            taken.room taken.same;
+            (omega (arith, taken.stays.room)) taken.stays.same;
       },
     )
 

@@ -7,16 +7,10 @@ use Rattle.quick_cache_policy.specs.Contents.{work_of}
 use Rattle.quick_cache_policy.proofs.AnswerLemmas.{entry_count-taken}
 use Rattle.quick_cache_shard.specs.Shard.{Shard}
 use Rattle.quick_cache_shard.proofs.PlaceLemmas.{places_of-none}
-use Rattle.quick_cache_shard.proofs.ShardLemmas.{IsSound-shard}
 use Rattle.quick_cache_shard.proofs.shard.CacheShard.clear.Goals as goal
 
 pub invariant_of-self : goal.invariant_of-self
 invariant_of-self g c = c.clear.ensures.sound _ c.self.invariant
-
-pub returns-clause-sound : goal.returns-clause-sound
-returns-clause-sound g c =
-    IsSound-shard g.P.SharedPlaceholder.ticket_of g.K.PartialEq.eq _ c.clear.new.self
-    (c.clear.ensures.sound _ c.self.invariant) c.apart.ensures.within c.apart.ensures.apart g.met.K.Eq.laws _ _ _
 
 -- where no item is left, no place is
 pub returns-clause-clears : goal.returns-clause-clears

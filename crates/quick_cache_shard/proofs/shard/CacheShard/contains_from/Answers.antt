@@ -3,7 +3,7 @@ use Rattle.std.proofs.lemmas.Bool.{OnTrue_from}
 use Rattle.quick_cache_policy.specs.Contents.{state_of}
 use Rattle.quick_cache_policy.specs.Finding.{IsThere}
 use Rattle.quick_cache_shard.specs.Shard.{HasItem}
-use Rattle.quick_cache_shard.proofs.ShardLemmas.{IsSound-shard, MatchOption-some}
+use Rattle.quick_cache_shard.proofs.ShardLemmas.{MatchOption-some}
 use Rattle.quick_cache_shard.proofs.shard.CacheShard.contains_from.Goals as goal
 
 pub returns-clause-there : goal.returns-clause-there
@@ -21,9 +21,3 @@ returns-clause-there g c =
       after = there.after;
       at = there.at;
     })))
-
-pub returns-clause-sound : goal.returns-clause-sound
-returns-clause-sound g c =
-    rw (← c.self.view_is)
-    (IsSound-shard g.P.SharedPlaceholder.ticket_of g.K.PartialEq.eq _ c.self.inside.contents
-    c.self.invariant c.apart.ensures.within c.apart.ensures.apart g.met.K.Eq.laws _ _ _)

@@ -1,7 +1,6 @@
 use Rattle.std.proofs.Common.{sym, ap, ◌∙◌}
 use Rattle.quick_cache_model.specs.Hashing.{hash_of}
 use Rattle.quick_cache_policy.proofs.FindLemmas.{AreHashed-under}
-use Rattle.quick_cache_shard.proofs.ShardLemmas.{IsSound-shard}
 use Rattle.quick_cache_shard.proofs.shard.CacheShard.entry_or_placeholder.Goals as goal
 
 -- the keys that the query stands for have its hash
@@ -22,12 +21,6 @@ entry_or_placeholder-answer-requires-clause-under g c =
 pub returns-clause-answers : goal.returns-clause-answers
 returns-clause-answers g c =
     rw (← c.self.view_is) c.entry_or_placeholder-answer.ensures.answers
-
-pub returns-clause-sound : goal.returns-clause-sound
-returns-clause-sound g c =
-    IsSound-shard g.P.SharedPlaceholder.ticket_of g.K.PartialEq.eq _
-    c.entry_or_placeholder-answer.new.self c.entry_or_placeholder-answer.ensures.sound
-    c.apart.ensures.within c.apart.ensures.apart g.met.K.Eq.laws _ _ _
 
 pub returns-clause-places : goal.returns-clause-places
 returns-clause-places g c = rw (← c.self.view_is) c.entry_or_placeholder-answer.ensures.places

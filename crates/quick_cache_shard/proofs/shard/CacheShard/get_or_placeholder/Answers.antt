@@ -2,7 +2,6 @@ use Rattle.std.proofs.Common.{sym, ap, ◌∙◌}
 use Rattle.quick_cache_model.specs.Hashing.{hash_of}
 use Rattle.quick_cache_shard.specs.Shard.{Shard}
 use Rattle.quick_cache_shard.proofs.LoadingLemmas.{FindsToken-looked}
-use Rattle.quick_cache_shard.proofs.ShardLemmas.{IsSound-shard}
 use Rattle.quick_cache_shard.proofs.shard.CacheShard.get_or_placeholder.Goals as goal
 
 -- keys that the query stands for have the hash that is handed in
@@ -15,18 +14,6 @@ invariant_of-self g c =
     (g.Q.Hash.hash_input c.args.query.now)) c.self.view_is
     ∙ sym c.requires.hash_is)
     c.self.invariant
-
-pub returns-clause-sound : goal.returns-clause-sound
-returns-clause-sound g c =
-    IsSound-shard g.P.SharedPlaceholder.ticket_of g.K.PartialEq.eq _
-    c.get_or_placeholder-answer.new.self
-    (c.get_or_placeholder-answer.ensures.sound _
-    (λ key stands. ap (hash_of g.B.BuildHasher g.B.Hasher.Hasher c.self.inside.terms.builder)
-    (sym (g.met.Q.Equivalent.same_hash c.args.query.now key stands))
-    ∙ ap (λ (s : Shard _ _ _ _ _). hash_of g.B.BuildHasher g.B.Hasher.Hasher s.builder
-    (g.Q.Hash.hash_input c.args.query.now)) c.self.view_is
-    ∙ sym c.requires.hash_is)
-    c.self.invariant) c.apart.ensures.within c.apart.ensures.apart g.met.K.Eq.laws _ _ _
 
 -- an item that was found stands at the token
 pub returns-clause-token : goal.returns-clause-token

@@ -1,18 +1,11 @@
 use Rattle.std.proofs.Common.{Some, subst, sym}
 use Rattle.quick_cache_model.specs.Lookups.{Sees}
 use Rattle.quick_cache_policy.specs.Contents.{state_of}
-use Rattle.quick_cache_shard.proofs.ShardLemmas.{IsSound-shard}
 use Rattle.quick_cache_shard.proofs.shard.CacheShard.get_shared.Goals as goal
 
 pub returns-in_err-item-clause-sees : goal.returns-in_err-item-clause-sees
 returns-in_err-item-clause-sees g c =
     rw (← c.self.view_is, c.from_residual.ensures) (Sees.is_absent c.in_err-item.ensures)
-
-pub returns-in_err-item-clause-sound : goal.returns-in_err-item-clause-sound
-returns-in_err-item-clause-sound g c =
-    rw (← c.self.view_is)
-    (IsSound-shard g.P.SharedPlaceholder.ticket_of g.K.PartialEq.eq _ c.self.inside.contents
-    c.self.invariant c.apart.ensures.within c.apart.ensures.apart g.met.K.Eq.laws _ _ _)
 
 -- the value that is shown is that of the item that is there
 pub returns-clause-sees : goal.returns-clause-sees
@@ -23,9 +16,3 @@ returns-clause-sees g c =
     (state_of g.P.SharedPlaceholder.ticket_of c.self.inside.contents) (λ item. item.value)
     (Some shown)) (sym c.value.ensures)
     (Sees.is_there there.place there.before c.in_ok-item.item there.after there.at))
-
-pub returns-clause-sound : goal.returns-clause-sound
-returns-clause-sound g c =
-    rw (← c.self.view_is)
-    (IsSound-shard g.P.SharedPlaceholder.ticket_of g.K.PartialEq.eq _ c.self.inside.contents
-    c.self.invariant c.apart.ensures.within c.apart.ensures.apart g.met.K.Eq.laws _ _ _)

@@ -1,7 +1,6 @@
 use Rattle.quick_cache_model.specs.Lookups.{Sees}
 use Rattle.quick_cache_policy.specs.Contents.{state_of}
 use Rattle.quick_cache_shard.proofs.StatsLemmas.{ShowsReads-exact}
-use Rattle.quick_cache_shard.proofs.ShardLemmas.{IsSound-shard}
 use Rattle.quick_cache_shard.proofs.shard.CacheShard.item_stats.Goals as goal
 
 pub returns-in_err-access_count-clause-exact : goal.returns-in_err-access_count-clause-exact
@@ -14,15 +13,3 @@ returns-clause-exact g c = λ none.
     (ShowsReads-exact g.P.Touch.Touches.may_count (g.Q.Equivalent.equivalent c.args.query.now)
     (state_of g.P.SharedPlaceholder.ticket_of c.self.inside.contents)
     c.in_ok-access_count.access_count none c.in_ok-access_count.ensures)
-
-pub returns-in_err-access_count-clause-sound : goal.returns-in_err-access_count-clause-sound
-returns-in_err-access_count-clause-sound g c =
-    rw (← c.self.view_is)
-    (IsSound-shard g.P.SharedPlaceholder.ticket_of g.K.PartialEq.eq _ c.self.inside.contents
-    c.self.invariant c.apart.ensures.within c.apart.ensures.apart g.met.K.Eq.laws _ _ _)
-
-pub returns-clause-sound : goal.returns-clause-sound
-returns-clause-sound g c =
-    rw (← c.self.view_is)
-    (IsSound-shard g.P.SharedPlaceholder.ticket_of g.K.PartialEq.eq _ c.self.inside.contents
-    c.self.invariant c.apart.ensures.within c.apart.ensures.apart g.met.K.Eq.laws _ _ _)

@@ -1,7 +1,6 @@
 use Rattle.std.specs.Int.NonZero.{non_zero_u32_get as number}
 use Rattle.quick_cache_lists.specs.Lists.{HeldItem}
 use Rattle.quick_cache_shard.proofs.PlaceLemmas.{HasItem-place, HasItem-resident, place-item}
-use Rattle.quick_cache_shard.proofs.ShardLemmas.{IsSound-shard}
 use Rattle.quick_cache_shard.proofs.shard.CacheShard.peek_token.Goals as goal
 
 -- no item has the token
@@ -25,15 +24,3 @@ returns-clause-shown g c =
       },
       c.value.ensures,
     )
-
-pub returns-in_err-item-clause-sound : goal.returns-in_err-item-clause-sound
-returns-in_err-item-clause-sound g c =
-    rw (← c.self.view_is)
-    (IsSound-shard g.P.SharedPlaceholder.ticket_of g.K.PartialEq.eq _ c.self.inside.contents
-    c.self.invariant c.apart.ensures.within c.apart.ensures.apart g.met.K.Eq.laws _ _ _)
-
-pub returns-clause-sound : goal.returns-clause-sound
-returns-clause-sound g c =
-    rw (← c.self.view_is)
-    (IsSound-shard g.P.SharedPlaceholder.ticket_of g.K.PartialEq.eq _ c.self.inside.contents
-    c.self.invariant c.apart.ensures.within c.apart.ensures.apart g.met.K.Eq.laws _ _ _)

@@ -1,7 +1,6 @@
 use Rattle.std.specs.Fn.{FnOnceReturnsAt}
 use Rattle.quick_cache_model.proofs.OrderLaws.{UpToOrder-map}
 use Rattle.quick_cache_policy.proofs.TokenLemmas.{RemovesAsked-test}
-use Rattle.quick_cache_shard.proofs.ShardLemmas.{IsSound-shard}
 use Rattle.quick_cache_shard.proofs.shard.CacheShard.remove_if.Goals as goal
 
 pub invariant_of-self : goal.invariant_of-self
@@ -17,11 +16,6 @@ returns-clause-removes g c = λ passes as_test.
     (λ state. RemovesAsked-test (g.Q.Equivalent.equivalent c.args.query.now)
     (FnOnceReturnsAt g.F.FnOnce c.args.wanted) passes as_test _ state c.remove_if-taken.result)
     c.remove_if-taken.ensures.removes)
-
-pub returns-clause-sound : goal.returns-clause-sound
-returns-clause-sound g c =
-    IsSound-shard g.P.SharedPlaceholder.ticket_of g.K.PartialEq.eq _ c.remove_if-taken.new.self
-    (c.remove_if-taken.ensures.sound _ c.self.invariant) c.apart.ensures.within c.apart.ensures.apart g.met.K.Eq.laws _ _ _
 
 pub returns-clause-places : goal.returns-clause-places
 returns-clause-places g c = rw (← c.self.view_is) c.remove_if-taken.ensures.places

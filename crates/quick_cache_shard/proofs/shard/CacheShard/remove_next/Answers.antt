@@ -4,7 +4,6 @@ use Rattle.quick_cache_policy.specs.Contents.{state_of, work_of}
 use Rattle.quick_cache_policy.specs.Places.{places_of}
 use Rattle.quick_cache_policy.specs.declared.contents.Contents.{Contents}
 use Rattle.quick_cache_shard.proofs.NextLemmas.{removed-next}
-use Rattle.quick_cache_shard.proofs.ShardLemmas.{IsSound-shard}
 use Rattle.quick_cache_shard.proofs.shard.CacheShard.remove_next.Goals as goal
 
 pub invariant_of-self : goal.invariant_of-self
@@ -26,8 +25,3 @@ returns-clause-next g c =
       work = work_of r;
     }) same)
     c.remove_next-taken.result c.remove_next-taken.ensures.first c.remove_next-taken.ensures.token)
-
-pub returns-clause-sound : goal.returns-clause-sound
-returns-clause-sound g c =
-    IsSound-shard g.P.SharedPlaceholder.ticket_of g.K.PartialEq.eq _ c.remove_next-taken.new.self
-    (c.remove_next-taken.ensures.sound _ c.self.invariant) c.apart-2.ensures.within c.apart-2.ensures.apart g.met.K.Eq.laws _ _ _

@@ -4,7 +4,6 @@ use Rattle.quick_cache_policy.specs.Contents.{state_of, work_of}
 use Rattle.quick_cache_policy.specs.Places.{places_of}
 use Rattle.quick_cache_policy.specs.declared.contents.Contents.{Contents}
 use Rattle.quick_cache_shard.proofs.PlaceLemmas.{MatchOption-map, place-item, place-leaves}
-use Rattle.quick_cache_shard.proofs.ShardLemmas.{IsSound-shard}
 use Rattle.quick_cache_shard.proofs.shard.CacheShard.remove_token.Goals as goal
 
 pub invariant_of-self : goal.invariant_of-self
@@ -31,8 +30,3 @@ returns-clause-leaves g c =
     (λ pair takes. (rw (takes.gives, takes.rest)
     (place-leaves old.lists c.apart.ensures.apart t takes.item takes.stood)))
     c.remove_token-taken.ensures.removes)
-
-pub returns-clause-sound : goal.returns-clause-sound
-returns-clause-sound g c =
-    IsSound-shard g.P.SharedPlaceholder.ticket_of g.K.PartialEq.eq _ c.remove_token-taken.new.self
-    (c.remove_token-taken.ensures.sound _ c.self.invariant) c.apart-2.ensures.within c.apart-2.ensures.apart g.met.K.Eq.laws _ _ _

@@ -1,7 +1,6 @@
 use Rattle.quick_cache_model.proofs.OrderLaws.{UpToOrder-map}
 use Rattle.quick_cache_policy.specs.Predicates.{Answers}
 use Rattle.quick_cache_policy.proofs.RetainLemmas.{RetainsAsked-test}
-use Rattle.quick_cache_shard.proofs.ShardLemmas.{IsSound-shard}
 use Rattle.quick_cache_shard.proofs.shard.CacheShard.retain.Goals as goal
 
 pub invariant_of-self : goal.invariant_of-self
@@ -16,11 +15,6 @@ returns-clause-retains g c = λ keeps as_test.
     rw (← c.self.view_is) (UpToOrder-map _ _ _
     (λ state. RetainsAsked-test (Answers g.F.Fn c.args.keep) keeps as_test _ state)
     c.retain.ensures.retains)
-
-pub returns-clause-sound : goal.returns-clause-sound
-returns-clause-sound g c =
-    IsSound-shard g.P.SharedPlaceholder.ticket_of g.K.PartialEq.eq _ c.retain.new.self
-    (c.retain.ensures.sound _ c.self.invariant) c.apart.ensures.within c.apart.ensures.apart g.met.K.Eq.laws _ _ _
 
 pub returns-clause-places : goal.returns-clause-places
 returns-clause-places g c = rw (← c.self.view_is) c.retain.ensures.places

@@ -1,4 +1,3 @@
-use Rattle.quick_cache_shard.proofs.ShardLemmas.{IsSound-shard}
 use Rattle.quick_cache_shard.proofs.shard.CacheShard.set_capacity.Goals as goal
 
 -- the rules and the hooks are those of what the shard was made with
@@ -7,8 +6,3 @@ returns-clause-sets g c = rw (← c.self.view_is) c.set_capacity.ensures.sets
 
 pub returns-clause-places : goal.returns-clause-places
 returns-clause-places g c = rw (← c.self.view_is) c.set_capacity.ensures.places
-
-pub returns-clause-sound : goal.returns-clause-sound
-returns-clause-sound g c =
-    IsSound-shard g.P.SharedPlaceholder.ticket_of g.K.PartialEq.eq _ c.set_capacity.new.self
-    c.set_capacity.ensures.sound c.apart.ensures.within c.apart.ensures.apart g.met.K.Eq.laws _ _ _

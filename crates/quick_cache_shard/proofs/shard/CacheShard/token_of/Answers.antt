@@ -1,7 +1,6 @@
 use Rattle.std.specs.Int.NonZero.{non_zero_u32_get as number}
 use Rattle.quick_cache_lists.specs.Lists.{HeldItem, FindsItem}
 use Rattle.quick_cache_shard.proofs.PlaceLemmas.{IfSome-map, HasItem-place, HasItem-resident}
-use Rattle.quick_cache_shard.proofs.ShardLemmas.{IsSound-shard}
 use Rattle.quick_cache_shard.proofs.shard.CacheShard.token_of.Goals as goal
 
 -- the item that was found stands at the token
@@ -22,9 +21,3 @@ returns-clause-token g c =
       };
       passes = finds.passes;
     }) c.token_of.ensures.finds)
-
-pub returns-clause-sound : goal.returns-clause-sound
-returns-clause-sound g c =
-    rw (← c.self.view_is)
-    (IsSound-shard g.P.SharedPlaceholder.ticket_of g.K.PartialEq.eq _ c.self.inside.contents
-    c.self.invariant c.apart.ensures.within c.apart.ensures.apart g.met.K.Eq.laws _ _ _)

@@ -1,5 +1,4 @@
 use Rattle.std.proofs.Common.{◌∷◌, [], ◌++◌, ◌∙◌, ap}
-use Rattle.quick_cache_shard.specs.Shard.{hooks_of}
 use Rattle.quick_cache_calls.specs.declared.reply.Reply.TheVariants.{Value}
 use Rattle.quick_cache_traced.specs.declared.call.TraceCall.TheVariants.{Get}
 use Rattle.quick_cache_traced.specs.Recorded.{Recorded}
@@ -19,9 +18,8 @@ invariant_of-self-2 g c =
     } in
     let sees = c.in_ok-answer.ensures.sees in
     let new = c.get.follows.lender-at-none in
-    goes_on g.K.Hash.hash_input g.We.Weighter g.B.BuildHasher g.B.Hasher.Hasher g.L.Lifecycle
-    g.L.RequestState.Default.is_default g.K.PartialEq.eq g.K.Clone.is_clone g.V.Clone.is_clone
-    old c.self.invariant new new.state inside.cache.places inside.cache.room
+    goes_on _ g.L.RequestState.Default.is_default g.K.PartialEq.eq g.K.Clone.is_clone
+    g.V.Clone.is_clone old c.self.invariant new new.state inside.cache.places inside.cache.room
     inside.cache.work
     c.get.follows.holds-at-none.1 c.note.new.entries.items c.note.new.calls.total
     (Get c.in-Ok.kept, Value c.in_ok-answer.shown)
@@ -30,7 +28,7 @@ invariant_of-self-2 g c =
     c.reserve.ensures.items)
     c.note.ensures.calls
     (gets _ g.K.PartialEq.eq g.K.Clone.is_clone g.V.Clone.is_clone
-    (hooks_of g.L.Lifecycle inside.cache) g.L.RequestState.Default.is_default inside.cache.state
+    _ g.L.RequestState.Default.is_default inside.cache.state
     new.state c.args.key.now c.in-Ok.kept sees.found c.in_ok-answer.shown
     c.in-Ok.ensures.cases
     (LooksUp-seen (g.K.PartialEq.eq c.args.key.now) inside.cache.state (λ item. item.value)

@@ -1,5 +1,4 @@
 use Rattle.std.proofs.Common.{◌∷◌, [], ◌++◌, ◌∙◌, ap}
-use Rattle.quick_cache_shard.specs.Shard.{hooks_of}
 use Rattle.quick_cache_calls.specs.declared.reply.Reply.TheVariants.{Done}
 use Rattle.quick_cache_traced.specs.declared.call.TraceCall.TheVariants.{Insert}
 use Rattle.quick_cache_traced.specs.Recorded.{Recorded}
@@ -19,9 +18,8 @@ invariant_of-self-in_err-insert g c =
     } in
     let new = c.insert.new.self in
     rw c.reserve.ensures.items
-    (stays g.K.Hash.hash_input g.We.Weighter g.B.BuildHasher g.B.Hasher.Hasher g.L.Lifecycle
-    g.L.RequestState.Default.is_default g.K.PartialEq.eq g.K.Clone.is_clone g.V.Clone.is_clone
-    old c.self.invariant new new.state new.places new.room new.work
+    (stays _ g.L.RequestState.Default.is_default g.K.PartialEq.eq g.K.Clone.is_clone
+    g.V.Clone.is_clone old c.self.invariant new new.state new.places new.room new.work
     c.insert.ensures.same
     c.in_err-insert.ensures.inserts.does.unchanged)
 
@@ -39,9 +37,8 @@ invariant_of-self-2 g c =
     let done = c.in_ok-insert.ensures.inserts in
     let is_key = c.clone-kept.ensures.cases in
     let is_value = c.clone-copy.ensures.cases in
-    goes_on g.K.Hash.hash_input g.We.Weighter g.B.BuildHasher g.B.Hasher.Hasher g.L.Lifecycle
-    g.L.RequestState.Default.is_default g.K.PartialEq.eq g.K.Clone.is_clone g.V.Clone.is_clone
-    old c.self.invariant new new.state new.places new.room new.work
+    goes_on _ g.L.RequestState.Default.is_default g.K.PartialEq.eq g.K.Clone.is_clone
+    g.V.Clone.is_clone old c.self.invariant new new.state new.places new.room new.work
     c.insert.ensures.same
     c.note.new.entries.items c.note.new.calls.total
     (Insert c.in-Ok-Ok.kept c.in-Ok-Ok.copy, Done)
@@ -50,7 +47,7 @@ invariant_of-self-2 g c =
     c.reserve.ensures.items)
     c.note.ensures.calls
     (inserts _ g.K.PartialEq.eq g.K.Clone.is_clone g.V.Clone.is_clone
-    (hooks_of g.L.Lifecycle inside.cache) g.L.RequestState.Default.is_default inside.cache.state
+    _ g.L.RequestState.Default.is_default inside.cache.state
     new.state (g.L.Lifecycle.steady inside.cache.lifecycle) c.self.invariant.steady c.args.key
     c.in-Ok-Ok.kept c.args.value c.in-Ok-Ok.copy (rw c.in-Ok-Ok.is-0 at is_key)
     (rw c.in-Ok-Ok.is-1 at is_value) done.first done.last done.begins done.does)

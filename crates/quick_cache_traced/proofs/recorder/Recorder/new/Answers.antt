@@ -10,9 +10,9 @@ pub invariant_of-result : goal.invariant_of-result
 invariant_of-result g c =
     let X = Shard g.row.K.Denot g.row.V.Denot g.row.We.Denot g.row.B.Denot g.row.L.Denot in
     let makes = c.in_ok-with_options.ensures.makes in
-    begins g.K.Hash.hash_input g.We.Weighter g.B.BuildHasher g.B.Hasher.Hasher g.L.Lifecycle
-    g.L.RequestState.Default.is_default g.K.PartialEq.eq g.K.Clone.is_clone g.V.Clone.is_clone
-    c.in_ok-with_options.field-0 c.in_ok-kept.kept c.new.result.items c.args.calls.total
+    begins _ g.L.RequestState.Default.is_default g.K.PartialEq.eq g.K.Clone.is_clone
+    g.V.Clone.is_clone c.in_ok-with_options.field-0 c.in_ok-kept.kept c.new.result.items
+    c.args.calls.total
     (subst (λ (x : X). g.L.Lifecycle.steady x.lifecycle) (sym makes) c.requires.steady)
     (ap (λ (x : X). x.state) makes
     ∙ ap (λ (o : Settings). empty_of o) (sym c.in_ok-kept.ensures.same))

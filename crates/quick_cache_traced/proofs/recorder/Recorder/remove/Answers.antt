@@ -1,5 +1,4 @@
 use Rattle.std.proofs.Common.{◌∷◌, [], ◌++◌, ◌∙◌, ap}
-use Rattle.quick_cache_shard.specs.Shard.{hooks_of}
 use Rattle.quick_cache_calls.specs.declared.reply.Reply.TheVariants.{Pair}
 use Rattle.quick_cache_traced.specs.declared.call.TraceCall.TheVariants.{Remove}
 use Rattle.quick_cache_traced.specs.Recorded.{Recorded}
@@ -18,9 +17,8 @@ invariant_of-self-2 g c =
       calls = inside.calls.total;
     } in
     let new = c.remove-pair.new.self in
-    goes_on g.K.Hash.hash_input g.We.Weighter g.B.BuildHasher g.B.Hasher.Hasher g.L.Lifecycle
-    g.L.RequestState.Default.is_default g.K.PartialEq.eq g.K.Clone.is_clone g.V.Clone.is_clone
-    old c.self.invariant new new.state new.places new.room inside.cache.work
+    goes_on _ g.L.RequestState.Default.is_default g.K.PartialEq.eq g.K.Clone.is_clone
+    g.V.Clone.is_clone old c.self.invariant new new.state new.places new.room inside.cache.work
     c.remove-pair.ensures.same
     c.note.new.entries.items c.note.new.calls.total
     (Remove c.in-Ok.kept, Pair c.remove-pair.result)
@@ -29,7 +27,7 @@ invariant_of-self-2 g c =
     c.reserve.ensures.items)
     c.note.ensures.calls
     (removes _ g.K.PartialEq.eq g.K.Clone.is_clone g.V.Clone.is_clone
-    (hooks_of g.L.Lifecycle inside.cache) g.L.RequestState.Default.is_default inside.cache.state
+    _ g.L.RequestState.Default.is_default inside.cache.state
     new.state c.args.key.now c.in-Ok.kept c.remove-pair.result c.in-Ok.ensures.cases
     c.remove-pair.ensures.removes)
 

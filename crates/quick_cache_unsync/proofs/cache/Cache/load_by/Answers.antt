@@ -1,4 +1,4 @@
-use Rattle.quick_cache_shard.specs.Shard.{Shard, rules_of, hooks_of}
+use Rattle.quick_cache_shard.specs.Steps.{goes_by, steady_in, hooks_in, rules_in}
 use Rattle.quick_cache_unsync.specs.Loads.{AnswersLoad}
 use Rattle.quick_cache_unsync.specs.Touches.{no_touches}
 use Rattle.quick_cache_unsync.proofs.LoadLemmas.{Takes-awaited, ends-load-by, counted-found, counted-end}
@@ -22,11 +22,10 @@ pub returns-in-Ok-Err-clause-loads : goal.returns-in-Ok-Err-clause-loads
 returns-in-Ok-Err-clause-loads g c =
     let stands_for = g.Q.Equivalent.equivalent c.args.query.now in
     let gives = g.Q.ToKey.to_key_gives c.args.query.now in
-    ends-load-by
-    (λ (s : Shard g.row.K.Denot g.row.V.Denot g.row.We.Denot g.row.B.Denot g.row.L.Denot).
-    g.L.Lifecycle.steady s.lifecycle) (hooks_of g.L.Lifecycle)
-    (rules_of no_touches g.K.Hash.hash_input g.We.Weighter g.B.BuildHasher g.B.Hasher.Hasher
-    g.L.Lifecycle) _ _ c.begin_load.ensures.same
+    let goes = goes_by g.K.Hash.hash_input g.We.Weighter g.B.BuildHasher g.B.Hasher.Hasher
+    g.L.Lifecycle in
+    ends-load-by (steady_in goes) (hooks_in goes) (rules_in goes no_touches) _ _
+    c.begin_load.ensures.stays.same
     g.L.RequestState.Default.is_default stands_for gives _ _ c.args.self.now.state
     c.begin_load.new.self.state c.end_load-ended.new.self.state c.in-Ok-Err.placeholder.ticket
     c.end_load-ended.result
@@ -47,10 +46,10 @@ returns-in-Ok-Ok-clause-there g c =
 pub returns-in-Ok-Err-clause-there : goal.returns-in-Ok-Err-clause-there
 returns-in-Ok-Err-clause-there g c =
     let now = c.begin_load.new.self in
-    counted-end (g.Q.Equivalent.equivalent c.args.query.now) (g.L.Lifecycle.steady now.lifecycle)
-    (hooks_of g.L.Lifecycle now)
-    (rules_of no_touches g.K.Hash.hash_input g.We.Weighter g.B.BuildHasher g.B.Hasher.Hasher
-    g.L.Lifecycle now)
+    let goes = goes_by g.K.Hash.hash_input g.We.Weighter g.B.BuildHasher g.B.Hasher.Hasher
+    g.L.Lifecycle in
+    counted-end (g.Q.Equivalent.equivalent c.args.query.now) (steady_in goes now)
+    (hooks_in goes now) (rules_in goes no_touches now)
     g.L.RequestState.Default.is_default c.in-Ok-Err.placeholder.ticket
     (λ given. g.F.FnOnce.post c.args.loader tt given) now.state c.end_load-ended.new.self.state
     c.end_load-ended.result c.end_load-ended.ensures.ends

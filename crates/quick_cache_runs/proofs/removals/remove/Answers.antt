@@ -1,6 +1,0 @@
-use Rattle.quick_cache_calls.specs.CacheStep.{CacheStep}
-use Rattle.quick_cache_runs.proofs.removals.remove.Goals as goal
-
-pub returns-clause-step : goal.returns-clause-step
-returns-clause-step g c = λ answers.
-    CacheStep.removes c.args.key c.remove.result _ c.remove.ensures.removes

@@ -1,6 +1,0 @@
-use Rattle.quick_cache_calls.specs.CacheStep.{CacheStep}
-use Rattle.quick_cache_runs.proofs.writes.poke.Goals as goal
-
-pub returns-clause-step : goal.returns-clause-step
-returns-clause-step g c = λ answers.
-    CacheStep.peeks_mut c.args.key c.args.value c.poke.result _ c.poke.ensures.writes

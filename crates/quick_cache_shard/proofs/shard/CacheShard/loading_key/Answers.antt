@@ -1,8 +1,0 @@
-use Rattle.quick_cache_shard.proofs.ShardLemmas.{IsSound-shard}
-use Rattle.quick_cache_shard.proofs.shard.CacheShard.loading_key.Goals as goal
-
-pub returns-clause-sound : goal.returns-clause-sound
-returns-clause-sound g c =
-    rw (← c.self.view_is)
-    (IsSound-shard g.P.SharedPlaceholder.ticket_of g.K.PartialEq.eq _ c.self.inside.contents
-    c.self.invariant c.apart.ensures.within c.apart.ensures.apart g.met.K.Eq.laws _ _ _)
