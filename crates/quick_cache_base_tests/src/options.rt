@@ -1,4 +1,5 @@
 //! The options: each default, each error, and each boundary of the sizes.
+use expect::{expect, expect_eq, expect_ok};
 use quick_cache_base::options::{
     DEFAULT_GHOST_ALLOCATION, DEFAULT_HOT_ALLOCATION, DEFAULT_MARK_CUT, Error, Options,
 };
@@ -6,7 +7,6 @@ use quick_cache_base::sizes::{
     ghost_limit, hot_target, rescaled_limit, rescaled_target, shard_sizes,
 };
 use quick_cache_base::{ItemStats, MemoryUsed, OptionsBuilder};
-use std::test::Fail;
 
 const MOST: u64 = 18446744073709551615;
 
@@ -38,33 +38,32 @@ fn build(
 }
 
 #[test]
-fn a_number_is_the_one_set_last_or_its_default(rt: HostRuntime) -> Result<(), Fail> {
+fn a_number_is_the_one_set_last_or_its_default(rt: HostRuntime) {
     let mut builder = OptionsBuilder::default();
     builder.estimated_items_capacity(1).weight_capacity(2);
     builder.estimated_items_capacity(7).weight_capacity(9);
-    let options = builder.clone()?.build()?;
-    assert_eq!(rt; options.shards(), 16);
-    assert_eq!(rt; options.estimated_items_capacity(), 7);
-    assert_eq!(rt; options.weight_capacity(), 9);
-    assert_eq!(rt; options.hot_allocation(), DEFAULT_HOT_ALLOCATION);
-    assert_eq!(rt; options.ghost_allocation(), DEFAULT_GHOST_ALLOCATION);
-    assert_eq!(rt;
+    let options = expect_ok!(rt; expect_ok!(rt; builder.clone()).build());
+    expect_eq!(rt; options.shards(), 16);
+    expect_eq!(rt; options.estimated_items_capacity(), 7);
+    expect_eq!(rt; options.weight_capacity(), 9);
+    expect_eq!(rt; options.hot_allocation(), DEFAULT_HOT_ALLOCATION);
+    expect_eq!(rt; options.ghost_allocation(), DEFAULT_GHOST_ALLOCATION);
+    expect_eq!(rt;
         (DEFAULT_HOT_ALLOCATION, DEFAULT_GHOST_ALLOCATION),
         (970000, 500000)
     );
-    let options = builder
+    let options = expect_ok!(rt; builder
         .shards(3)
         .hot_allocation(0)
         .ghost_allocation(1000000)
-        .build()?;
-    assert_eq!(rt; options.shards(), 3);
-    assert_eq!(rt; options.hot_allocation(), 0);
-    assert_eq!(rt; options.ghost_allocation(), 1000000);
-    Ok(())
+        .build());
+    expect_eq!(rt; options.shards(), 3);
+    expect_eq!(rt; options.hot_allocation(), 0);
+    expect_eq!(rt; options.ghost_allocation(), 1000000);
 }
 
 #[test]
-fn the_first_error_is_told(rt: HostRuntime) -> Result<(), Fail> {
+fn the_first_error_is_told(rt: HostRuntime) {
     let hot = "hot_allocation is out of range";
     let cold = "ghost_allocation is out of range";
     let shards = "shards is out of range";
@@ -138,28 +137,28 @@ fn the_first_error_is_told(rt: HostRuntime) -> Result<(), Fail> {
     ];
     for (i, (shards, items, weight, hot_share, ghost_share, want)) in rows.into_iter().enumerate() {
         let text = match build(shards, items, weight, hot_share, ghost_share) {
-            Ok(_) => format!(in rt.alloc(); "none")?,
-            Err(error) => format!(in rt.alloc(); "{error}")?,
+            Ok(_) => expect_ok!(rt; format!(in rt.alloc(); "none")),
+            Err(error) => expect_ok!(rt; format!(in rt.alloc(); "{error}")),
         };
         assert_eq!(rt; text.as_str(), want, "at row {i}");
     }
-    Ok(())
 }
 
 #[test]
-fn the_greatest_mark_is_tested_last(rt: HostRuntime) -> Result<(), Fail> {
+fn the_greatest_mark_is_tested_last(rt: HostRuntime) {
     let mark = "mark_cut is out of range";
     // The greatest mark, and the text where nothing else is wrong.
     for (cut, want) in [(0, mark), (1, "none"), (3, "none"), (4, mark), (255, mark)] {
         let mut builder = OptionsBuilder::new();
         let unset = match builder.mark_cut(cut).weight_capacity(1).build() {
-            Ok(_) => format!(in rt.alloc(); "none")?,
-            Err(error) => format!(in rt.alloc(); "{error}")?,
+            Ok(_) => expect_ok!(rt; format!(in rt.alloc(); "none")),
+            Err(error) => expect_ok!(rt; format!(in rt.alloc(); "{error}")),
         };
         let text = match builder.estimated_items_capacity(1).build() {
-            Ok(options) if options.mark_cut() == cut => format!(in rt.alloc(); "none")?,
-            Ok(_) => format!(in rt.alloc(); "another")?,
-            Err(error) => format!(in rt.alloc(); "{error}")?,
+            Ok(options) if options.mark_cut() == cut =>
+                expect_ok!(rt; format!(in rt.alloc(); "none")),
+            Ok(_) => expect_ok!(rt; format!(in rt.alloc(); "another")),
+            Err(error) => expect_ok!(rt; format!(in rt.alloc(); "{error}")),
         };
         assert_eq!(rt;
             (unset.as_str(), text.as_str()),
@@ -167,12 +166,11 @@ fn the_greatest_mark_is_tested_last(rt: HostRuntime) -> Result<(), Fail> {
             "at {cut}"
         );
     }
-    assert_eq!(rt; DEFAULT_MARK_CUT, 2);
-    Ok(())
+    expect_eq!(rt; DEFAULT_MARK_CUT, 2);
 }
 
 #[test]
-fn a_cache_is_divided_into_shards_of_32_items(rt: HostRuntime) -> Result<(), Fail> {
+fn a_cache_is_divided_into_shards_of_32_items(rt: HostRuntime) {
     // The shards, items and weight, and then the shards and the items and weight of each.
     let rows = [
         (Some(0), 1000, 10, (1, 1000, 10)),
@@ -202,15 +200,16 @@ fn a_cache_is_divided_into_shards_of_32_items(rt: HostRuntime) -> Result<(), Fai
         ),
     ];
     for (shards, items, weight, want) in rows {
-        let sizes = shard_sizes(&build(shards, Some(items), Some(weight), None, None)?);
+        let sizes = shard_sizes(
+            &expect_ok!(rt; build(shards, Some(items), Some(weight), None, None)),
+        );
         let found = (sizes.shards, sizes.items, sizes.weight);
         assert_eq!(rt; found, want, "at {shards:?} {items} {weight}");
     }
-    Ok(())
 }
 
 #[test]
-fn a_target_is_a_clamped_share(rt: HostRuntime) -> Result<(), Fail> {
+fn a_target_is_a_clamped_share(rt: HostRuntime) {
     // The capacity and the share, and the hot target.
     let rows = [
         (0, 970000, 0),
@@ -228,11 +227,10 @@ fn a_target_is_a_clamped_share(rt: HostRuntime) -> Result<(), Fail> {
     for (capacity, share, want) in rows {
         assert_eq!(rt; hot_target(capacity, share), want, "at {capacity} {share}");
     }
-    Ok(())
 }
 
 #[test]
-fn a_limit_is_a_share(rt: HostRuntime) -> Result<(), Fail> {
+fn a_limit_is_a_share(rt: HostRuntime) {
     // The items and the share, and the ghost limit.
     let rows = [
         (0, 500000, 0),
@@ -248,11 +246,10 @@ fn a_limit_is_a_share(rt: HostRuntime) -> Result<(), Fail> {
     for (items, share, want) in rows {
         assert_eq!(rt; ghost_limit(items, share), want, "at {items} {share}");
     }
-    Ok(())
 }
 
 #[test]
-fn a_new_capacity_rescales_both(rt: HostRuntime) -> Result<(), Fail> {
+fn a_new_capacity_rescales_both(rt: HostRuntime) {
     // The old and the new capacity, target and limit before, target and limit after.
     let rows = [
         (100, 50, 97, 50, 48, 25),
@@ -276,7 +273,6 @@ fn a_new_capacity_rescales_both(rt: HostRuntime) -> Result<(), Fail> {
             "at {old} {new} {target} {limit}"
         );
     }
-    Ok(())
 }
 
 #[test]
@@ -293,5 +289,5 @@ fn memory_adds_up_and_saturates(rt: HostRuntime) {
             "at {entries} {map}"
         );
     }
-    assert!(rt; ItemStats { access_count: 2 } == ItemStats { access_count: 2 });
+    expect!(rt; ItemStats { access_count: 2 } == ItemStats { access_count: 2 });
 }

@@ -1,8 +1,8 @@
 //! The loading core on whole schedules: each begins with a new core, and its answers are known.
 use bumpalo::Bump;
+use expect::{expect, expect_eq, expect_ok};
 use quick_cache_base::Refusal;
 use quick_cache_base::protocol::{Answer, Core, Event, abandon, cancel, run, step};
-use std::test::Fail;
 
 /// An event of these schedules, which can be written down in a table.
 #[derive(Clone, Copy)]
@@ -155,10 +155,10 @@ struct Unique(u64);
 #[test]
 fn abandon_and_cancel_need_no_clone(rt: HostRuntime) {
     let mut core: Core<Unique> = Core::new(rt.alloc());
-    assert!(rt; !core.is_held());
-    assert!(rt; !core.has_waiters());
-    assert_eq!(rt; abandon(&mut core), Answer::NotNow);
-    assert_eq!(rt; cancel(&mut core, 1), Answer::NotNow);
+    expect!(rt; !core.is_held());
+    expect!(rt; !core.has_waiters());
+    expect_eq!(rt; abandon(&mut core), Answer::NotNow);
+    expect_eq!(rt; cancel(&mut core, 1), Answer::NotNow);
 }
 
 /// An arena whose limit is 0 refuses all memory.
@@ -167,44 +167,43 @@ fn a_join_without_memory_changes_nothing(rt: HostRuntime) {
     let arena = Bump::new(rt.alloc());
     arena.set_allocation_limit(Some(0));
     let mut core: Core<u64, &Bump> = Core::new(&arena);
-    assert_eq!(rt; step(&mut core, Event::Create), Answer::Created);
-    assert_eq!(rt;
+    expect_eq!(rt; step(&mut core, Event::Create), Answer::Created);
+    expect_eq!(rt;
         step(&mut core, Event::Join(1)),
         Answer::Refused(Refusal::Memory)
     );
-    assert!(rt; !core.has_waiters());
+    expect!(rt; !core.has_waiters());
     arena.set_allocation_limit(None);
-    assert_eq!(rt; step(&mut core, Event::Join(1)), Answer::Joined);
-    assert_eq!(rt; abandon(&mut core), Answer::HandedTo(1));
+    expect_eq!(rt; step(&mut core, Event::Join(1)), Answer::Joined);
+    expect_eq!(rt; abandon(&mut core), Answer::HandedTo(1));
 }
 
 #[test]
-fn a_run_without_room_makes_no_event_happen(rt: HostRuntime) -> Result<(), Fail> {
+fn a_run_without_room_makes_no_event_happen(rt: HostRuntime) {
     let arena = Bump::new(rt.alloc());
-    let events = vec![in &arena; Event::Create]?;
+    let events = expect_ok!(rt; vec![in &arena; Event::Create]);
     arena.set_allocation_limit(Some(0));
     for _ in 0..1000 {
         let _ = arena.try_alloc(0u64);
     }
     let mut core: Core<u64, &Bump> = Core::new(&arena);
-    assert_eq!(rt; run(&mut core, events).err(), Some(Refusal::Memory));
-    assert!(rt; !core.is_held());
-    Ok(())
+    expect_eq!(rt; run(&mut core, events).err(), Some(Refusal::Memory));
+    expect!(rt; !core.is_held());
 }
 
 /// A life that is begun, joined, left and given up, over and over.
 #[test]
-fn ten_thousand_events_have_as_many_answers(rt: HostRuntime) -> Result<(), Fail> {
+fn ten_thousand_events_have_as_many_answers(rt: HostRuntime) {
     let mut events = Vec::new(rt.alloc());
     for _ in 0..2500 {
-        events.push(Event::Create)?;
-        events.push(Event::Join(1))?;
-        events.push(Event::Cancel(1))?;
-        events.push(Event::Abandon)?;
+        expect_ok!(rt; events.push(Event::Create));
+        expect_ok!(rt; events.push(Event::Join(1)));
+        expect_ok!(rt; events.push(Event::Cancel(1)));
+        expect_ok!(rt; events.push(Event::Abandon));
     }
     let mut core: Core<u64> = Core::new(rt.alloc());
-    let answers = run(&mut core, events)?;
-    assert_eq!(rt; answers.len(), 10_000);
+    let answers = expect_ok!(rt; run(&mut core, events));
+    expect_eq!(rt; answers.len(), 10_000);
     for at in 0..answers.len() {
         let wanted = match at % 4 {
             0 => Answer::Created,
@@ -214,21 +213,20 @@ fn ten_thousand_events_have_as_many_answers(rt: HostRuntime) -> Result<(), Fail>
         };
         assert_eq!(rt; answers[at], wanted, "answer {at}");
     }
-    Ok(())
 }
 
 #[test]
 fn a_hundred_waiters_get_the_guard_from_the_last_to_the_first(rt: HostRuntime) {
     let mut core: Core<u64> = Core::new(rt.alloc());
-    assert_eq!(rt; step(&mut core, Event::Create), Answer::Created);
+    expect_eq!(rt; step(&mut core, Event::Create), Answer::Created);
     for waiter in 1..=100 {
-        assert_eq!(rt; step(&mut core, Event::Join(waiter)), Answer::Joined);
+        expect_eq!(rt; step(&mut core, Event::Join(waiter)), Answer::Joined);
     }
     for turn in 0..100 {
         let waiter = 100 - turn;
-        assert_eq!(rt; abandon(&mut core), Answer::HandedTo(waiter));
-        assert_eq!(rt; step(&mut core, Event::Take(waiter)), Answer::Guard);
+        expect_eq!(rt; abandon(&mut core), Answer::HandedTo(waiter));
+        expect_eq!(rt; step(&mut core, Event::Take(waiter)), Answer::Guard);
     }
-    assert!(rt; !core.has_waiters());
-    assert_eq!(rt; abandon(&mut core), Answer::GivenUp);
+    expect!(rt; !core.has_waiters());
+    expect_eq!(rt; abandon(&mut core), Answer::GivenUp);
 }

@@ -1,9 +1,9 @@
 //! What the slab and the table ask of their allocator as they grow: not much more than they need.
 use crate::table::put;
 use bumpalo::Bump;
+use expect::{expect, expect_ok};
 use quick_cache_base::linked_slab::LinkedSlab;
 use quick_cache_base::{Table, Token};
-use std::test::Fail;
 
 /// The bytes of the arena, which has room for all that a test asks for.
 const ARENA: usize = 1 << 24;
@@ -15,15 +15,15 @@ const SLOT: usize = 24;
 const PAIR: usize = 16;
 
 #[test]
-fn a_growth_of_the_slab_asks_for_at_most_four_times_its_need(rt: HostRuntime) -> Result<(), Fail> {
-    let arena = Bump::try_with_capacity(rt.alloc(), ARENA)?;
+fn a_growth_of_the_slab_asks_for_at_most_four_times_its_need(rt: HostRuntime) {
+    let arena = expect_ok!(rt; Bump::try_with_capacity(rt.alloc(), ARENA));
     let first = arena.chunk_capacity();
     let Ok(mut slab) = LinkedSlab::with_capacity(&arena, 0) else {
         panic!(rt; "there is memory");
     };
     for slots in 1..=10000usize {
         let before = arena.chunk_capacity();
-        assert!(rt; slab.insert(slots).is_ok());
+        expect!(rt; slab.insert(slots).is_ok());
         let asked = before.saturating_sub(arena.chunk_capacity());
         let needed = slots.saturating_add(4).saturating_mul(SLOT);
         assert!(rt;
@@ -32,13 +32,12 @@ fn a_growth_of_the_slab_asks_for_at_most_four_times_its_need(rt: HostRuntime) ->
         );
     }
     // The arena counts: it has given at least the slots' own bytes.
-    assert!(rt; first.saturating_sub(arena.chunk_capacity()) >= 10000 * SLOT);
-    Ok(())
+    expect!(rt; first.saturating_sub(arena.chunk_capacity()) >= 10000 * SLOT);
 }
 
 #[test]
-fn a_growth_of_the_table_asks_for_at_most_four_times_its_need(rt: HostRuntime) -> Result<(), Fail> {
-    let arena = Bump::try_with_capacity(rt.alloc(), ARENA)?;
+fn a_growth_of_the_table_asks_for_at_most_four_times_its_need(rt: HostRuntime) {
+    let arena = expect_ok!(rt; Bump::try_with_capacity(rt.alloc(), ARENA));
     let first = arena.chunk_capacity();
     let Ok(mut table) = Table::new(&arena) else {
         panic!(rt; "there is memory");
@@ -48,7 +47,7 @@ fn a_growth_of_the_table_asks_for_at_most_four_times_its_need(rt: HostRuntime) -
             panic!(rt; "a token is not 0");
         };
         let before = arena.chunk_capacity();
-        put(&mut table, u64::from(number) * 1000003, token)?;
+        expect_ok!(rt; put(&mut table, u64::from(number) * 1000003, token));
         let asked = before.saturating_sub(arena.chunk_capacity());
         // The least table has one group of sixteen places.
         let needed = (number as usize).saturating_add(16).saturating_mul(PAIR);
@@ -57,6 +56,5 @@ fn a_growth_of_the_table_asks_for_at_most_four_times_its_need(rt: HostRuntime) -
             "{asked} bytes at {number}"
         );
     }
-    assert!(rt; first.saturating_sub(arena.chunk_capacity()) >= 120000);
-    Ok(())
+    expect!(rt; first.saturating_sub(arena.chunk_capacity()) >= 120000);
 }

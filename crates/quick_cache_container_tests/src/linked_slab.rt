@@ -1,4 +1,5 @@
 //! The slab's row, and ten thousand items in one ring.
+use expect::{expect, expect_eq};
 use quick_cache_base::linked_slab::{LinkedSlab, Token};
 use std::alloc::Global;
 use std::process::Abort;
@@ -70,16 +71,16 @@ fn validate(rt: &impl Abort, alloc: Global, slab: &Slab) -> Result<(), Fail> {
     for item in slab.iter_entries() {
         items.push(*item)?;
     }
-    assert_eq!(rt; items.len(), slab.len());
+    expect_eq!(rt; items.len(), slab.len());
     let mut seen = Vec::new(alloc);
     for (token, item) in slab.iter_from(None) {
-        assert_eq!(rt; look(slab, token.get()).map(|found| found.0), Some(*item));
+        expect_eq!(rt; look(slab, token.get()).map(|found| found.0), Some(*item));
         if !seen.contains(&token.get()) {
             walk(rt, slab, token, &mut seen)?;
         }
     }
-    assert_eq!(rt; seen.len(), slab.len());
-    assert!(rt; slab.get(slab.next_free()).is_none());
+    expect_eq!(rt; seen.len(), slab.len());
+    expect!(rt; slab.get(slab.next_free()).is_none());
     Ok(())
 }
 
@@ -88,7 +89,7 @@ fn filled(rt: &impl Abort, alloc: Global) -> Result<Slab, Fail> {
         return Err("refused")?;
     };
     for (item, token) in [(10, 1), (20, 2), (30, 3)] {
-        assert_eq!(rt; store(&mut slab, item)?, token);
+        expect_eq!(rt; store(&mut slab, item)?, token);
     }
     Ok(slab)
 }
@@ -96,8 +97,8 @@ fn filled(rt: &impl Abort, alloc: Global) -> Result<Slab, Fail> {
 #[test]
 fn links_unlinks_and_removes(rt: HostRuntime) -> Result<(), Fail> {
     let mut slab = filled(&rt, rt.alloc())?;
-    assert_eq!(rt; join(&mut slab, 2, 1), Some(1));
-    assert_eq!(rt; join(&mut slab, 3, 1), Some(1));
+    expect_eq!(rt; join(&mut slab, 2, 1), Some(1));
+    expect_eq!(rt; join(&mut slab, 3, 1), Some(1));
     validate(&rt, rt.alloc(), &slab)?;
     for (token, item, next) in [(1, 10, 2), (2, 20, 3), (3, 30, 1)] {
         assert_eq!(rt;
@@ -106,8 +107,8 @@ fn links_unlinks_and_removes(rt: HostRuntime) -> Result<(), Fail> {
             "the ring at {token}"
         );
     }
-    assert_eq!(rt; part(&mut slab, 1), Some(Some(2)));
-    assert_eq!(rt; look(&slab, 1), Some((10, 1)));
+    expect_eq!(rt; part(&mut slab, 1), Some(Some(2)));
+    expect_eq!(rt; look(&slab, 1), Some((10, 1)));
     for (token, taken) in [
         (2, Some((20, Some(3)))),
         (3, Some((30, None))),
@@ -118,10 +119,10 @@ fn links_unlinks_and_removes(rt: HostRuntime) -> Result<(), Fail> {
         validate(&rt, rt.alloc(), &slab)?;
     }
     for (item, token) in [(40, 3), (50, 2)] {
-        assert_eq!(rt; store(&mut slab, item)?, token);
+        expect_eq!(rt; store(&mut slab, item)?, token);
     }
     validate(&rt, rt.alloc(), &slab)?;
-    assert_eq!(rt; slab.next_free().get(), 4);
+    expect_eq!(rt; slab.next_free().get(), 4);
     Ok(())
 }
 
@@ -134,9 +135,9 @@ fn many(rt: &impl Abort, alloc: Global) -> Result<Slab, Fail> {
         return Err("refused")?;
     };
     for item in 1..=MANY {
-        assert_eq!(rt; store(&mut slab, item)?, item);
+        expect_eq!(rt; store(&mut slab, item)?, item);
         if item > 1 {
-            assert_eq!(rt; join(&mut slab, item, 1), Some(1));
+            expect_eq!(rt; join(&mut slab, item, 1), Some(1));
         }
     }
     Ok(slab)
@@ -145,10 +146,10 @@ fn many(rt: &impl Abort, alloc: Global) -> Result<Slab, Fail> {
 #[test]
 fn ten_thousand_items_stand_in_one_ring(rt: HostRuntime) -> Result<(), Fail> {
     let slab = many(&rt, rt.alloc())?;
-    assert_eq!(rt; slab.len(), MANY as usize);
+    expect_eq!(rt; slab.len(), MANY as usize);
     for token in 1..=MANY {
         let next = if token == MANY { 1 } else { token + 1 };
-        assert_eq!(rt; look(&slab, token), Some((token, next)));
+        expect_eq!(rt; look(&slab, token), Some((token, next)));
     }
     Ok(())
 }

@@ -1,6 +1,7 @@
 //! Each allocation of the containers refused in turn: what they held stays, and the call succeeds
 //! once there is memory.
 use crate::table::put;
+use expect::{expect, expect_eq};
 use quick_cache_base::linked_slab::LinkedSlab;
 use quick_cache_base::{Refusal, Table, Token};
 use rationed::Rationed;
@@ -12,17 +13,17 @@ fn a_slab_that_cannot_grow_keeps_its_items(rt: HostRuntime) -> Result<(), Fail> 
     let Ok(mut slab) = LinkedSlab::with_capacity(&ration, 1) else {
         panic!(rt; "there is memory");
     };
-    assert!(rt; slab.insert(10u64).is_ok());
+    expect!(rt; slab.insert(10u64).is_ok());
     let Err((item, refusal)) = slab.insert(20) else {
         panic!(rt; "there is no memory");
     };
-    assert_eq!(rt; item, 20);
-    assert!(rt; refusal == Refusal::Memory);
-    assert!(rt; slab.reserve(1).is_err());
-    assert_eq!(rt; slab.len(), 1);
+    expect_eq!(rt; item, 20);
+    expect!(rt; refusal == Refusal::Memory);
+    expect!(rt; slab.reserve(1).is_err());
+    expect_eq!(rt; slab.len(), 1);
     ration.allow(1);
-    assert!(rt; slab.insert(20).is_ok());
-    assert_eq!(rt; slab.len(), 2);
+    expect!(rt; slab.insert(20).is_ok());
+    expect_eq!(rt; slab.len(), 2);
     Ok(())
 }
 
@@ -35,12 +36,12 @@ fn a_table_that_cannot_grow_keeps_its_pairs(rt: HostRuntime) -> Result<(), Fail>
     // A growth asks for the tags, the reaches, the hashes and the tokens, and keeps what it got.
     for blocks in 0..3 {
         ration.allow(blocks);
-        assert!(rt; table.reserve(1) == Err(Refusal::Memory));
-        assert_eq!(rt; table.len(), 0);
-        assert!(rt; table.find(5, |_| true).is_none());
+        expect!(rt; table.reserve(1) == Err(Refusal::Memory));
+        expect_eq!(rt; table.len(), 0);
+        expect!(rt; table.find(5, |_| true).is_none());
     }
     ration.allow(1);
-    assert!(rt; table.reserve(1).is_ok());
+    expect!(rt; table.reserve(1).is_ok());
     Ok(())
 }
 
@@ -50,8 +51,8 @@ fn a_table_asks_for_no_more_room_than_there_are_tokens(rt: HostRuntime) -> Resul
     let Ok(mut table) = Table::new(&ration) else {
         panic!(rt; "an empty table takes no memory");
     };
-    assert!(rt; table.reserve(usize::MAX) == Err(Refusal::Memory));
-    assert_eq!(rt; table.allocation_size(), 0);
-    assert!(rt; table.reserve(0).is_ok());
+    expect!(rt; table.reserve(usize::MAX) == Err(Refusal::Memory));
+    expect_eq!(rt; table.allocation_size(), 0);
+    expect!(rt; table.reserve(0).is_ok());
     Ok(())
 }

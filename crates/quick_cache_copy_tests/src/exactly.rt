@@ -10,6 +10,7 @@ ghost use Rattle.quick_cache_shard.specs.Shard.{ClonesExactly};
 ghost use Rattle.quick_cache_shard.specs.Steps.{rules_in, hooks_in};
 ghost use Rattle.quick_cache_unsync.specs.Touches.{no_touches};
 
+use expect::{expect_eq, expect_ok};
 use quick_cache_base::protocol::{Answer, Core, Event, run as run_loading};
 use quick_cache_base::{Lifecycle, Refusal, Weighter};
 use quick_cache_runs::{Call, Reply, run};
@@ -17,7 +18,6 @@ use quick_cache_shard::Going;
 use quick_cache_unsync::Cache;
 use std::alloc::{Allocator, Global};
 use std::hash::{BuildHasher, Hash};
-use std::test::Fail;
 
 /// A predicate that a call may ask.
 type Predicate = fn(&u64, &u64) -> bool;
@@ -98,43 +98,43 @@ fn load_exactly<V: Clone>(
 }
 
 #[test]
-fn a_run_shows_the_numbers_that_it_finds(rt: HostRuntime) -> Result<(), Fail> {
+fn a_run_shows_the_numbers_that_it_finds(rt: HostRuntime) {
     let alloc = rt.alloc();
-    let mut cache: Cache<u64, u64> = Cache::new(alloc, 5)?;
-    let calls: Vec<Call<u64, u64, Predicate>> = vec![in alloc; Call::Insert(1, 10), Call::Get(1)]?;
+    let mut cache: Cache<u64, u64> = expect_ok!(rt; Cache::new(alloc, 5));
+    let calls: Vec<Call<u64, u64, Predicate>> =
+        expect_ok!(rt; vec![in alloc; Call::Insert(1, 10), Call::Get(1)]);
     let Ok(replies) = run_exactly(alloc, &mut cache, calls, &mut ()) else {
         panic!(rt; "there is memory");
     };
-    assert_eq!(rt;
+    expect_eq!(rt;
         replies.as_slice(),
         [Reply::Done, Reply::Value(Some(10))].as_slice()
     );
-    let calls: Vec<Call<u64, u64, Predicate>> = vec![in alloc; Call::Remove(1), Call::Get(1)]?;
+    let calls: Vec<Call<u64, u64, Predicate>> =
+        expect_ok!(rt; vec![in alloc; Call::Remove(1), Call::Get(1)]);
     let Ok(replies) = run_numbers(alloc, &mut cache, calls, &mut ()) else {
         panic!(rt; "there is memory");
     };
     let wanted = [Reply::Pair(Some((1, 10))), Reply::Value(None)];
-    assert_eq!(rt; replies.as_slice(), wanted.as_slice());
-    Ok(())
+    expect_eq!(rt; replies.as_slice(), wanted.as_slice());
 }
 
 #[test]
-fn a_copy_of_numbers_counts_what_was_counted(rt: HostRuntime) -> Result<(), Fail> {
-    let mut cache: Cache<u64, u64> = Cache::new(rt.alloc(), 5)?;
-    cache.insert(1, 10)?;
+fn a_copy_of_numbers_counts_what_was_counted(rt: HostRuntime) {
+    let mut cache: Cache<u64, u64> = expect_ok!(rt; Cache::new(rt.alloc(), 5));
+    expect_ok!(rt; cache.insert(1, 10));
     let _ = cache.get(&1);
-    let copy = copy_numbers(&cache)?;
-    assert_eq!(rt; (copy.len(), copy.weight(), copy.hits()), (1, 1, 1));
-    assert_eq!(rt; copy.peek(&1).copied(), Some(10));
-    Ok(())
+    let copy = expect_ok!(rt; copy_numbers(&cache));
+    expect_eq!(rt; (copy.len(), copy.weight(), copy.hits()), (1, 1, 1));
+    expect_eq!(rt; copy.peek(&1).copied(), Some(10));
 }
 
 #[test]
-fn a_loaded_number_is_shown_as_it_is(rt: HostRuntime) -> Result<(), Fail> {
+fn a_loaded_number_is_shown_as_it_is(rt: HostRuntime) {
     let mut core: Core<u64> = Core::new(rt.alloc());
-    let events = vec![in rt.alloc(); Event::Create, Event::Fill(10), Event::Join(1)]?;
-    let answers = load_exactly(&mut core, events)?;
+    let events =
+        expect_ok!(rt; vec![in rt.alloc(); Event::Create, Event::Fill(10), Event::Join(1)]);
+    let answers = expect_ok!(rt; load_exactly(&mut core, events));
     let wanted = [Answer::Created, Answer::Done, Answer::Value(10)];
-    assert_eq!(rt; answers.as_slice(), wanted.as_slice());
-    Ok(())
+    expect_eq!(rt; answers.as_slice(), wanted.as_slice());
 }

@@ -7,13 +7,13 @@ ghost use Rattle.quick_cache_shard.specs.Predicates.{IsAnsweredAs};
 ghost use Rattle.quick_cache_shard.specs.Steps.{rules_in, hooks_in};
 ghost use Rattle.quick_cache_unsync.specs.Touches.{no_touches};
 
+use expect::{expect_eq, expect_ok};
 use quick_cache_base::{DefaultHashBuilder, Lifecycle, UnitWeighter, Weighter};
 use quick_cache_runs::{Call, Reply, run};
 use quick_cache_shard::Going;
 use quick_cache_unsync::Cache;
 use std::alloc::Global;
 use std::hash::{BuildHasher, Hash};
-use std::test::Fail;
 
 /// A value, and a number that tells it from others which are equal to it.
 #[derive(Clone, Drop)]
@@ -109,13 +109,13 @@ fn given_out<K, V>(reply: &Reply<K, Numbered<V>>) -> u64 {
 }
 
 #[test]
-fn each_numbered_value_comes_out_once(rt: HostRuntime) -> Result<(), Fail> {
+fn each_numbered_value_comes_out_once(rt: HostRuntime) {
     let alloc = rt.alloc();
     let mut cache: Cache<u64, Numbered<u64>, UnitWeighter, DefaultHashBuilder, AddsUp> =
-        Cache::with(alloc, 3, 3, UnitWeighter, DefaultHashBuilder::new(), AddsUp)?;
+        expect_ok!(rt; Cache::with(alloc, 3, 3, UnitWeighter, DefaultHashBuilder::new(), AddsUp));
     // Equal values, each with a decimal place of its own.
     let one = |number| Numbered { value: 7, number };
-    let calls: Vec<Call<u64, Numbered<u64>, Predicate>> = vec![in alloc;
+    let calls: Vec<Call<u64, Numbered<u64>, Predicate>> = expect_ok!(rt; vec![in alloc;
         Call::Insert(1, one(1)),
         Call::Insert(1, one(10)),
         Call::Insert(2, one(100)),
@@ -126,15 +126,14 @@ fn each_numbered_value_comes_out_once(rt: HostRuntime) -> Result<(), Fail> {
         Call::Get(5),
         Call::Remove(5),
         Call::Drain,
-    ]?;
+    ]);
     let mut sum = 0;
     let Ok(replies) = run_numbered(alloc, &mut cache, calls, &mut sum) else {
         panic!(rt; "there is memory");
     };
-    assert_eq!(rt; replies.len(), 10);
+    expect_eq!(rt; replies.len(), 10);
     for reply in &replies {
         sum = sum.saturating_add(given_out(reply));
     }
-    assert_eq!(rt; sum, 1111111);
-    Ok(())
+    expect_eq!(rt; sum, 1111111);
 }

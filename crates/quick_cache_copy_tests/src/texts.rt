@@ -10,6 +10,7 @@ ghost use Rattle.quick_cache_shard.specs.Steps.{rules_in, hooks_in};
 ghost use Rattle.quick_cache_copy_tests.specs.Shown.{HasSameBytes, IsShownUnder};
 ghost use Rattle.quick_cache_unsync.specs.Touches.{no_touches};
 
+use expect::{expect, expect_eq, expect_ok};
 use quick_cache_base::protocol::{Answer, Core, Event, run as run_loading, step};
 use quick_cache_base::{Lifecycle, Refusal, Weighter};
 use quick_cache_runs::{Call, Reply, run};
@@ -102,38 +103,40 @@ fn a_cache_with_a_square(alloc: Global) -> Result<Cache<String, String>, Fail> {
 }
 
 #[test]
-fn a_run_shows_the_texts_that_it_finds(rt: HostRuntime) -> Result<(), Fail> {
+fn a_run_shows_the_texts_that_it_finds(rt: HostRuntime) {
     let alloc = rt.alloc();
-    let mut cache: Cache<String, String> = Cache::new(alloc, 5)?;
-    let calls: Vec<Call<String, String, Predicate>> = vec![in alloc;
-        Call::Insert(text(alloc, "square")?, text(alloc, "blue")?),
-        Call::Get(text(alloc, "square")?),
-        Call::Get(text(alloc, "circle")?),
-        Call::Remove(text(alloc, "square")?),
-        Call::Get(text(alloc, "square")?),
-    ]?;
+    let mut cache: Cache<String, String> = expect_ok!(rt; Cache::new(alloc, 5));
+    let calls: Vec<Call<String, String, Predicate>> = expect_ok!(rt; vec![in alloc;
+        Call::Insert(expect_ok!(rt; text(alloc, "square")), expect_ok!(rt; text(alloc, "blue"))),
+        Call::Get(expect_ok!(rt; text(alloc, "square"))),
+        Call::Get(expect_ok!(rt; text(alloc, "circle"))),
+        Call::Remove(expect_ok!(rt; text(alloc, "square"))),
+        Call::Get(expect_ok!(rt; text(alloc, "square"))),
+    ]);
     let Ok(replies) = run_texts(alloc, &mut cache, calls, &mut ()) else {
         panic!(rt; "there is memory");
     };
     let wanted = [
         Reply::Done,
-        Reply::Value(Some(text(alloc, "blue")?)),
+        Reply::Value(Some(expect_ok!(rt; text(alloc, "blue")))),
         Reply::Value(None),
-        Reply::Pair(Some((text(alloc, "square")?, text(alloc, "blue")?))),
+        Reply::Pair(Some((
+            expect_ok!(rt; text(alloc, "square")),
+            expect_ok!(rt; text(alloc, "blue")),
+        ))),
         Reply::Value(None),
     ];
-    assert_eq!(rt; replies.as_slice(), wanted.as_slice());
-    Ok(())
+    expect_eq!(rt; replies.as_slice(), wanted.as_slice());
 }
 
 #[test]
 fn a_text_is_looked_up_and_stays(rt: HostRuntime) -> Result<(), Fail> {
     let alloc = rt.alloc();
     let mut cache = a_cache_with_a_square(alloc)?;
-    let found = get_text(alloc, &mut cache, text(alloc, "square")?);
-    assert_eq!(rt; found, Some(text(alloc, "blue")?));
-    assert!(rt; get_text(alloc, &mut cache, text(alloc, "circle")?).is_none());
-    assert_eq!(rt; (cache.len(), cache.hits(), cache.misses()), (1, 1, 1));
+    let found = get_text(alloc, &mut cache, expect_ok!(rt; text(alloc, "square")));
+    expect_eq!(rt; found, Some(expect_ok!(rt; text(alloc, "blue"))));
+    expect!(rt; get_text(alloc, &mut cache, expect_ok!(rt; text(alloc, "circle"))).is_none());
+    expect_eq!(rt; (cache.len(), cache.hits(), cache.misses()), (1, 1, 1));
     Ok(())
 }
 
@@ -141,34 +144,33 @@ fn a_text_is_looked_up_and_stays(rt: HostRuntime) -> Result<(), Fail> {
 fn a_copy_has_texts_of_its_own(rt: HostRuntime) -> Result<(), Fail> {
     let alloc = rt.alloc();
     let cache = a_cache_with_a_square(alloc)?;
-    let mut copy = copy_texts(&cache)?;
-    let square = text(alloc, "square")?;
-    assert_eq!(rt;
+    let mut copy = expect_ok!(rt; copy_texts(&cache));
+    let square = expect_ok!(rt; text(alloc, "square"));
+    expect_eq!(rt;
         copy.remove(&square),
-        Some((text(alloc, "square")?, text(alloc, "blue")?))
+        Some((expect_ok!(rt; text(alloc, "square")), expect_ok!(rt; text(alloc, "blue"))))
     );
-    assert_eq!(rt; copy.len(), 0);
-    assert!(rt; cache.contains_key(&square));
+    expect_eq!(rt; copy.len(), 0);
+    expect!(rt; cache.contains_key(&square));
     Ok(())
 }
 
 #[test]
-fn a_loaded_text_is_shown_to_who_comes_later(rt: HostRuntime) -> Result<(), Fail> {
+fn a_loaded_text_is_shown_to_who_comes_later(rt: HostRuntime) {
     let alloc = rt.alloc();
     let mut core: Core<String> = Core::new(alloc);
-    let events = vec![in alloc;
+    let events = expect_ok!(rt; vec![in alloc;
         Event::Create,
-        Event::Fill(text(alloc, "blue")?),
+        Event::Fill(expect_ok!(rt; text(alloc, "blue"))),
         Event::Join(1),
-    ]?;
-    let answers = load_texts(&mut core, events)?;
+    ]);
+    let answers = expect_ok!(rt; load_texts(&mut core, events));
     let wanted = [
         Answer::Created,
         Answer::Done,
-        Answer::Value(text(alloc, "blue")?),
+        Answer::Value(expect_ok!(rt; text(alloc, "blue"))),
     ];
-    assert_eq!(rt; answers.as_slice(), wanted.as_slice());
+    expect_eq!(rt; answers.as_slice(), wanted.as_slice());
     let answer = load_text(&mut core, Event::Join(2));
-    assert_eq!(rt; answer, Answer::Value(text(alloc, "blue")?));
-    Ok(())
+    expect_eq!(rt; answer, Answer::Value(expect_ok!(rt; text(alloc, "blue"))));
 }

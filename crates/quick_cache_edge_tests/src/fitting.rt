@@ -4,10 +4,10 @@ ghost use Rattle.std.proofs.Common.{ap, ◌∙◌};
 ghost use Rattle.std.proofs.lemmas.Bool.{eqb-true};
 
 use crate::listeners::Odd;
+use expect::{expect, expect_eq, expect_ok};
 use quick_cache::{DefaultHashBuilder, Lifecycle, Refusal, UnitWeighter, sync, unsync};
 use quick_cache_listeners::PinBy;
 use std::sync::Wait;
-use std::test::Fail;
 
 /// Says that each value is ten times its key, and drops what leaves.
 #[derive(Debug, Clone, Drop)]
@@ -73,33 +73,32 @@ fn store<R: Wait>(rt: &R, cache: &SharedTens, key: u32) -> bool {
 }
 
 #[test]
-fn an_odd_pair_stays_in_either_cache(rt: HostRuntime) -> Result<(), Fail> {
+fn an_odd_pair_stays_in_either_cache(rt: HostRuntime) {
     let alloc = rt.alloc();
     let builder = DefaultHashBuilder::new;
-    let mut cache: TenCache = unsync::Cache::with(
+    let mut cache: TenCache = expect_ok!(rt; unsync::Cache::with(
         alloc,
         2,
         2,
         UnitWeighter,
         builder(),
         steady(PinBy(Odd, Tens)),
-    )?;
-    let shared: SharedTens = sync::Cache::with(
+    ));
+    let shared: SharedTens = expect_ok!(rt; sync::Cache::with(
         alloc,
         2,
         2,
         UnitWeighter,
         builder(),
         steady(PinBy(Odd, Tens)),
-    )?;
+    ));
     for key in [2, 1, 4u32] {
         let number = u64::from(key);
-        assert_eq!(rt; cache.insert(number, 10 * number), Ok(()));
-        assert!(rt; store(&rt, &shared, key));
+        expect_eq!(rt; cache.insert(number, 10 * number), Ok(()));
+        expect!(rt; store(&rt, &shared, key));
     }
     for (key, wanted) in [(2, None), (1, Some(10)), (4, Some(40))] {
-        assert_eq!(rt; cache.get(&key).copied(), wanted);
-        assert_eq!(rt; stored(&rt, &shared, key), Ok(wanted));
+        expect_eq!(rt; cache.get(&key).copied(), wanted);
+        expect_eq!(rt; stored(&rt, &shared, key), Ok(wanted));
     }
-    Ok(())
 }

@@ -1,11 +1,11 @@
 //! What leaves either cache is collected and handed on, weights are lengths, and a test pins.
 ghost use Rattle.std.specs.Prelude.{◌==◌, ◌%◌};
 
+use expect::{expect, expect_eq, expect_ok};
 use quick_cache::{DefaultHashBuilder, Refusal, Weighter, sync, unsync};
 use quick_cache_listeners::{ByLength, Collect, Collected, Listener, OnLeave, Pin, PinBy};
 use std::alloc::{AllocError, Global};
 use std::sync::Wait;
-use std::test::Fail;
 
 /// Pins the pairs of odd keys.
 #[derive(Debug, Clone, Drop)]
@@ -74,34 +74,33 @@ fn handed_on(left: Left) -> (u64, u64) {
 }
 
 #[test]
-fn what_leaves_either_cache_is_handed_on(rt: HostRuntime) -> Result<(), Fail> {
+fn what_leaves_either_cache_is_handed_on(rt: HostRuntime) {
     let alloc = rt.alloc();
     let keeping = || PinBy(Odd, OnLeave(Collect));
-    let mut texts: Texts = unsync::Cache::with(
+    let mut texts: Texts = expect_ok!(rt; unsync::Cache::with(
         alloc,
         10,
         10,
         ByLength,
         DefaultHashBuilder::new(),
         keeping(),
-    )?;
-    let shared: SharedTexts = sync::Cache::with(
+    ));
+    let shared: SharedTexts = expect_ok!(rt; sync::Cache::with(
         alloc,
         10,
         10,
         ByLength,
         DefaultHashBuilder::new(),
         keeping(),
-    )?;
+    ));
     let mut left = Left::with(Vec::new(alloc));
-    put(alloc, &mut texts, &mut left, &[2, 1, 4, 6, 8])?;
+    expect_ok!(rt; put(alloc, &mut texts, &mut left, &[2, 1, 4, 6, 8]));
     let mut others = Left::with(Vec::new(alloc));
-    share(&rt, alloc, &shared, &mut others, &[2, 1, 4, 6, 8])?;
-    assert_eq!(rt; handed_on(left), (246, 12));
-    assert_eq!(rt; handed_on(others), (246, 12));
-    assert_eq!(rt; (texts.len(), texts.weight()), (2, 8));
-    assert_eq!(rt; (shared.len(&rt), shared.weight(&rt)), (2, 8));
-    Ok(())
+    expect_ok!(rt; share(&rt, alloc, &shared, &mut others, &[2, 1, 4, 6, 8]));
+    expect_eq!(rt; handed_on(left), (246, 12));
+    expect_eq!(rt; handed_on(others), (246, 12));
+    expect_eq!(rt; (texts.len(), texts.weight()), (2, 8));
+    expect_eq!(rt; (shared.len(&rt), shared.weight(&rt)), (2, 8));
 }
 
 /// Adds up how long the texts are that leave.
@@ -122,35 +121,34 @@ type Borrowed = unsync::Cache<u64, &'static str, ByLength, DefaultHashBuilder, O
 type SharedBorrowed = sync::Cache<u64, &'static str, ByLength, DefaultHashBuilder, OnLeave<Bytes>>;
 
 #[test]
-fn a_listener_of_ones_own_is_told_by_either_cache(rt: HostRuntime) -> Result<(), Fail> {
+fn a_listener_of_ones_own_is_told_by_either_cache(rt: HostRuntime) {
     let alloc = rt.alloc();
     let builder = DefaultHashBuilder::new;
-    let mut texts: Borrowed = unsync::Cache::with(
+    let mut texts: Borrowed = expect_ok!(rt; unsync::Cache::with(
         alloc,
         10,
         10,
         ByLength,
         builder(),
         OnLeave(Bytes),
-    )?;
-    let shared: SharedBorrowed = sync::Cache::with(
+    ));
+    let shared: SharedBorrowed = expect_ok!(rt; sync::Cache::with(
         alloc,
         10,
         10,
         ByLength,
         builder(),
         OnLeave(Bytes),
-    )?;
+    ));
     let (mut left, mut others) = (0, 0);
     for (key, text) in [(1, "one"), (2, "three"), (3, "four")] {
-        assert!(rt; texts.insert_with_lifecycle(key, text, &mut left).is_ok());
-        assert!(rt;
+        expect!(rt; texts.insert_with_lifecycle(key, text, &mut left).is_ok());
+        expect!(rt;
             shared
                 .insert_with_lifecycle(&rt, key, text, &mut others)
                 .is_ok()
         );
     }
-    assert_eq!(rt; (left, texts.weight()), (3, 9));
-    assert_eq!(rt; (others, shared.weight(&rt)), (3, 9));
-    Ok(())
+    expect_eq!(rt; (left, texts.weight()), (3, 9));
+    expect_eq!(rt; (others, shared.weight(&rt)), (3, 9));
 }

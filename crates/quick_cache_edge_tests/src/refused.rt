@@ -1,6 +1,7 @@
 //! Calls of a traced cache whose growths are refused in turn: they are not made, and not counted.
 ghost use Rattle.std.specs.Prelude.{◌≡◌};
 
+use expect::expect_ok;
 use quick_cache::sync::{PARTS, Seat, TraceCall, Traced};
 use quick_cache::unsync::{DefaultLifecycle, Reply};
 use quick_cache::{DefaultHashBuilder, OptionsBuilder, Refusal, UnitWeighter};
@@ -183,7 +184,7 @@ fn a_refused_call_changes_neither_cache_nor_list(rt: HostRuntime) -> Result<(), 
             assert!(rt; list.as_slice() == wanted, "{kind:?} with {blocks} blocks");
             refused = refused.saturating_add(u64::from(!made));
         }
-        println!(rt; "{kind:?} was refused {refused} times")?;
+        expect_ok!(rt; println!(rt; "{kind:?} was refused {refused} times"));
         assert!(rt; refused > 1 && refused < 20, "{kind:?}");
     }
     Ok(())

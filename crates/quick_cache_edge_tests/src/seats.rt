@@ -2,6 +2,7 @@
 ghost use Rattle.std.specs.Prelude.{◌≡◌};
 
 use crate::history::{History, Numbers, history_of, is_replayed, traced_numbers};
+use expect::{expect, expect_eq};
 use quick_cache::Refusal;
 use quick_cache::sync::{PARTS, Seat, TraceCall};
 use quick_cache::unsync::Reply;
@@ -73,13 +74,13 @@ fn three_calls<G: Ledger, R: Wait>(
 #[test]
 fn two_seats_gather_what_one_cannot(rt: HostRuntime) -> Result<(), Fail> {
     let (answers, history) = three_calls::<Brand, _>(&rt, rt.alloc(), Blank::new(PARTS))?;
-    assert_eq!(rt; answers, (Some(10), Some((1, 10))));
+    expect_eq!(rt; answers, (Some(10), Some((1, 10))));
     let wanted = [
         (TraceCall::Insert(1, 10), Reply::Done),
         (TraceCall::Get(1), Reply::Value(Some(10))),
         (TraceCall::Remove(1), Reply::Pair(Some((1, 10)))),
     ];
-    assert!(rt; history.as_slice() == wanted.as_slice());
+    expect!(rt; history.as_slice() == wanted.as_slice());
     Ok(())
 }
 
@@ -164,11 +165,11 @@ fn is_odd(call: &TraceCall<u64, u64>) -> bool {
 fn a_history_has_the_calls_of_each_thread_in_its_order(rt: HostRuntime) -> Result<(), Fail> {
     let made = two_thousand::<Brand, _>(&rt, rt.alloc(), Blank::new(PARTS))?;
     let (even, odd, history) = made;
-    assert_eq!(rt; history.len(), 2000);
+    expect_eq!(rt; history.len(), 2000);
     let evens = history.iter().filter(|entry| !is_odd(&entry.0));
-    assert!(rt; evens.eq(even.iter()));
+    expect!(rt; evens.eq(even.iter()));
     let odds = history.iter().filter(|entry| is_odd(&entry.0));
-    assert!(rt; odds.eq(odd.iter()));
-    assert!(rt; is_replayed(rt.alloc(), 60, history)?);
+    expect!(rt; odds.eq(odd.iter()));
+    expect!(rt; is_replayed(rt.alloc(), 60, history)?);
     Ok(())
 }

@@ -1,4 +1,5 @@
 //! Entry calls that are refused, and that change weights.
+use expect::{expect, expect_eq, expect_ok};
 use quick_cache_guard::{EntryResult, GuardResult};
 use quick_cache_listeners::ByLength;
 use quick_cache_model::{DefaultHashBuilder, Refusal, UnitWeighter};
@@ -7,7 +8,6 @@ use quick_cache_sync::{Cache, DefaultLifecycle};
 use rationed::Rationed;
 use std::alloc::Global;
 use std::sync::Wait;
-use std::test::Fail;
 use std::time::Clock;
 
 /// A cache of texts, by their length.
@@ -24,10 +24,10 @@ type RationedCache<'a> = Cache<
 >;
 
 #[test]
-fn a_refused_replace_leaves_what_the_callback_wrote(rt: HostRuntime) -> Result<(), Fail> {
+fn a_refused_replace_leaves_what_the_callback_wrote(rt: HostRuntime) {
     let ration = Rationed::new(rt.alloc(), 1000);
-    let cache: RationedCache<'_> = Cache::new(&ration, 100)?;
-    assert_eq!(rt; cache.insert(&rt, 1, 10), Ok(()));
+    let cache: RationedCache<'_> = expect_ok!(rt; Cache::new(&ration, 100));
+    expect_eq!(rt; cache.insert(&rt, 1, 10), Ok(()));
     let mut replaces = |_: &u64, value: &mut u64| -> EntryAction<u64> {
         *value = 11;
         EntryAction::ReplaceWithGuard
@@ -43,21 +43,19 @@ fn a_refused_replace_leaves_what_the_callback_wrote(rt: HostRuntime) -> Result<(
         let stands = (cache.peek(&rt, &1), cache.len(&rt));
         assert_eq!(rt; stands, (Ok(Some(11)), 1), "at {blocks} blocks");
     }
-    println!(rt; "{refused} requests were refused")?;
-    assert!(rt; refused > 0 && cache.is_empty(&rt));
-    Ok(())
+    expect_ok!(rt; println!(rt; "{refused} requests were refused"));
+    expect!(rt; refused > 0 && cache.is_empty(&rt));
 }
 
 #[test]
-fn a_hit_asks_for_no_memory(rt: HostRuntime) -> Result<(), Fail> {
+fn a_hit_asks_for_no_memory(rt: HostRuntime) {
     let ration = Rationed::new(rt.alloc(), 1000);
-    let cache: RationedCache<'_> = Cache::new(&ration, 100)?;
-    assert_eq!(rt; cache.insert(&rt, 1, 10), Ok(()));
+    let cache: RationedCache<'_> = expect_ok!(rt; Cache::new(&ration, 100));
+    expect_eq!(rt; cache.insert(&rt, 1, 10), Ok(()));
     ration.allow(0);
     let loaded: Result<Result<u64, ()>, Refusal> = cache.get_or_insert_with(&rt, &1, || Err(()));
     let found = cache.get_value_or_guard(&rt, &1, None);
-    assert!(rt; loaded == Ok(Ok(10)) && matches!(found, GuardResult::Value(10)));
-    Ok(())
+    expect!(rt; loaded == Ok(Ok(10)) && matches!(found, GuardResult::Value(10)));
 }
 
 /// Appends to the text under a key, or clears it where there is nothing to append, and keeps it.
@@ -76,20 +74,19 @@ fn writes<R: Wait + Clock>(rt: &R, cache: &Texts, key: u64, more: &str) -> bool 
 }
 
 #[test]
-fn an_entry_is_weighed_anew(rt: HostRuntime) -> Result<(), Fail> {
-    let cache: Texts = Cache::with_weighter(rt.alloc(), 100, 100000, ByLength)?;
+fn an_entry_is_weighed_anew(rt: HostRuntime) {
+    let cache: Texts = expect_ok!(rt; Cache::with_weighter(rt.alloc(), 100, 100000, ByLength));
     for (key, text) in [(1, "hello"), (2, "world")] {
-        let inserted = cache.insert(&rt, key, String::from_str(rt.alloc(), text)?);
-        assert!(rt; inserted.is_ok());
+        let inserted = cache.insert(&rt, key, expect_ok!(rt; String::from_str(rt.alloc(), text)));
+        expect!(rt; inserted.is_ok());
     }
-    assert_eq!(rt; cache.weight(&rt), 10);
+    expect_eq!(rt; cache.weight(&rt), 10);
     for (more, weight) in [(" world", 16), ("", 5)] {
-        assert!(rt; writes(&rt, &cache, 1, more));
+        expect!(rt; writes(&rt, &cache, 1, more));
         assert_eq!(rt; cache.weight(&rt), weight, "{more}");
     }
     let mut goes = |_: &u64, _: &mut String| -> EntryAction<u64> { EntryAction::Remove };
     let gone = cache.entry(&rt, &2, None, &mut goes);
-    assert!(rt; matches!(gone, EntryResult::Removed(2, _)));
-    assert_eq!(rt; (cache.weight(&rt), cache.len(&rt)), (0, 1));
-    Ok(())
+    expect!(rt; matches!(gone, EntryResult::Removed(2, _)));
+    expect_eq!(rt; (cache.weight(&rt), cache.len(&rt)), (0, 1));
 }

@@ -1,10 +1,10 @@
 //! What loads answer, by one thread and by two.
+use expect::{expect, expect_eq, expect_ok};
 use quick_cache_guard::{EntryResult, FillError, GuardResult};
 use quick_cache_model::Refusal;
 use quick_cache_shard::EntryAction;
 use quick_cache_sync::Cache;
 use std::sync::Wait;
-use std::test::Fail;
 use std::thread::{join, yield_now};
 use std::time::{Clock, Duration};
 
@@ -42,31 +42,30 @@ fn loaded<R: Wait>(
 }
 
 #[test]
-fn the_loader_is_called_until_it_gives_a_value(rt: HostRuntime) -> Result<(), Fail> {
-    let cache: Numbers = Cache::new(rt.alloc(), 100)?;
+fn the_loader_is_called_until_it_gives_a_value(rt: HostRuntime) {
+    let cache: Numbers = expect_ok!(rt; Cache::new(rt.alloc(), 100));
     let mut calls = 0;
-    assert_eq!(rt; loaded(&rt, &cache, &mut calls, 0), Ok(Err(())));
-    assert_eq!(rt; loaded(&rt, &cache, &mut calls, 4), Ok(Ok(4)));
-    assert_eq!(rt; loaded(&rt, &cache, &mut calls, 5), Ok(Ok(4)));
-    assert_eq!(rt; outcome(&rt, &cache, 4, None), 4);
-    assert_eq!(rt; (calls, cache.hits(&rt), cache.misses(&rt)), (2, 2, 2));
-    Ok(())
+    expect_eq!(rt; loaded(&rt, &cache, &mut calls, 0), Ok(Err(())));
+    expect_eq!(rt; loaded(&rt, &cache, &mut calls, 4), Ok(Ok(4)));
+    expect_eq!(rt; loaded(&rt, &cache, &mut calls, 5), Ok(Ok(4)));
+    expect_eq!(rt; outcome(&rt, &cache, 4, None), 4);
+    expect_eq!(rt; (calls, cache.hits(&rt), cache.misses(&rt)), (2, 2, 2));
 }
 
 #[test]
-fn a_guard_whose_placeholder_left_is_gone(rt: HostRuntime) -> Result<(), Fail> {
-    let cache: Numbers = Cache::new(rt.alloc(), 100)?;
+fn a_guard_whose_placeholder_left_is_gone(rt: HostRuntime) {
+    let cache: Numbers = expect_ok!(rt; Cache::new(rt.alloc(), 100));
     let GuardResult::Guard(guard) = cache.get_value_or_guard(&rt, &1, None) else {
         panic!(rt; "the key is absent");
     };
     cache.clear(&rt);
     // The other key comes to the slot that the placeholder had.
-    assert_eq!(rt; cache.insert(&rt, 2, 22), Ok(()));
-    assert!(rt; matches!(guard.insert(5), Err(FillError::Gone(5))));
-    assert_eq!(rt;
+    expect_eq!(rt; cache.insert(&rt, 2, 22), Ok(()));
+    expect!(rt; matches!(guard.insert(5), Err(FillError::Gone(5))));
+    expect_eq!(rt;
         (
-            cache.peek(&rt, &1)?,
-            cache.peek(&rt, &2)?,
+            expect_ok!(rt; cache.peek(&rt, &1)),
+            expect_ok!(rt; cache.peek(&rt, &2)),
             cache.misses(&rt)
         ),
         (None, Some(22), 1)
@@ -74,14 +73,13 @@ fn a_guard_whose_placeholder_left_is_gone(rt: HostRuntime) -> Result<(), Fail> {
     let GuardResult::Guard(guard) = cache.get_value_or_guard(&rt, &1, None) else {
         panic!(rt; "the key is absent");
     };
-    assert_eq!(rt; cache.insert(&rt, 1, 3), Ok(()));
+    expect_eq!(rt; cache.insert(&rt, 1, 3), Ok(()));
     // Dropped or filled, a guard whose placeholder is gone leaves what stands under its key.
     drop(guard);
-    assert_eq!(rt;
-        (cache.get(&rt, &1)?, cache.len(&rt), cache.misses(&rt)),
+    expect_eq!(rt;
+        (expect_ok!(rt; cache.get(&rt, &1)), cache.len(&rt), cache.misses(&rt)),
         (Some(3), 2, 2)
     );
-    Ok(())
 }
 
 // Lets others go on until so many hits are counted: each who meets the placeholder counts one.
@@ -95,20 +93,20 @@ fn await_hits<R: Wait>(rt: &R, cache: &Numbers, hits: u64) {
 }
 
 #[test]
-fn one_of_two_threads_loads_what_a_third_gave_up(rt: HostRuntime) -> Result<(), Fail> {
-    let cache: Numbers = Cache::new(rt.alloc(), 100)?;
+fn one_of_two_threads_loads_what_a_third_gave_up(rt: HostRuntime) {
+    let cache: Numbers = expect_ok!(rt; Cache::new(rt.alloc(), 100));
     let (rt, cache) = (&rt, &cache);
     let GuardResult::Guard(guard) = cache.get_value_or_guard(rt, &1, None) else {
         panic!(rt; "the key is absent");
     };
-    let text = format!(in rt.alloc(); "{guard:?}")?;
-    assert_eq!(rt; text.as_str(), "PlaceholderGuard { .. }");
+    let text = expect_ok!(rt; format!(in rt.alloc(); "{guard:?}"));
+    expect_eq!(rt; text.as_str(), "PlaceholderGuard { .. }");
     let mut keeps = |_: &u64, _: &mut u64| -> EntryAction<u64> { EntryAction::Retain(0) };
     let timed = cache.entry(rt, &1, Some(Duration::from_millis(0)), &mut keeps);
-    assert!(rt; matches!(timed, EntryResult::Timeout));
-    assert_eq!(rt; outcome(rt, cache, 1, Some(2)), 300);
+    expect!(rt; matches!(timed, EntryResult::Timeout));
+    expect_eq!(rt; outcome(rt, cache, 1, Some(2)), 300);
     // One miss for the placeholder, and a hit for each time that it was met.
-    assert_eq!(rt; (cache.hits(rt), cache.misses(rt)), (2, 1));
+    expect_eq!(rt; (cache.hits(rt), cache.misses(rt)), (2, 1));
     let (first, (second, ())) = join(
         rt,
         move || outcome(rt, cache, 1, None),
@@ -121,7 +119,6 @@ fn one_of_two_threads_loads_what_a_third_gave_up(rt: HostRuntime) -> Result<(), 
             },
         ),
     );
-    assert_eq!(rt; (first.min(second), first.max(second)), (7, 100));
-    assert_eq!(rt; cache.get(rt, &1), Ok(Some(7)));
-    Ok(())
+    expect_eq!(rt; (first.min(second), first.max(second)), (7, 100));
+    expect_eq!(rt; cache.get(rt, &1), Ok(Some(7)));
 }

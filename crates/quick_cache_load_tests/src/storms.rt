@@ -1,9 +1,9 @@
 //! Four threads that load two thousand keys, in orders that a generator makes of a seed.
+use expect::{expect_eq, expect_ok};
 use quick_cache_guard::GuardResult;
 use quick_cache_sync::Cache;
 use std::sync::Wait;
 use std::sync::atomic::{AtomicU64, Ordering};
-use std::test::Fail;
 use std::thread::join;
 use std::time::Clock;
 
@@ -76,10 +76,10 @@ fn drops_some<R: Wait + Clock>(
 }
 
 #[test]
-fn each_key_is_loaded_once(rt: HostRuntime) -> Result<(), Fail> {
-    let cache: Cache<u64, u64> = Cache::new(rt.alloc(), 8000)?;
+fn each_key_is_loaded_once(rt: HostRuntime) {
+    let cache: Cache<u64, u64> = expect_ok!(rt; Cache::new(rt.alloc(), 8000));
     let (rt, cache, loads) = (&rt, &cache, &AtomicU64::new(0));
-    println!(rt; "seeds 11, 22, 33, 44")?;
+    expect_ok!(rt; println!(rt; "seeds 11, 22, 33, 44"));
     let (first, second) = join(
         rt,
         || join(
@@ -93,19 +93,18 @@ fn each_key_is_loaded_once(rt: HostRuntime) -> Result<(), Fail> {
             || loads_each(rt, cache, loads, 44),
         ),
     );
-    assert_eq!(rt; (first, second), ((KEYS, KEYS), (KEYS, KEYS)));
-    assert_eq!(rt;
+    expect_eq!(rt; (first, second), ((KEYS, KEYS), (KEYS, KEYS)));
+    expect_eq!(rt;
         (loads.load(Ordering::SeqCst), cache.len(rt)),
         (KEYS, KEYS as usize)
     );
-    Ok(())
 }
 
 #[test]
-fn each_key_is_loaded_once_where_guards_are_dropped(rt: HostRuntime) -> Result<(), Fail> {
-    let cache: Cache<u64, u64> = Cache::new(rt.alloc(), 8000)?;
+fn each_key_is_loaded_once_where_guards_are_dropped(rt: HostRuntime) {
+    let cache: Cache<u64, u64> = expect_ok!(rt; Cache::new(rt.alloc(), 8000));
     let (rt, cache, loads) = (&rt, &cache, &AtomicU64::new(0));
-    println!(rt; "seeds 55, 66, 77, 88")?;
+    expect_ok!(rt; println!(rt; "seeds 55, 66, 77, 88"));
     let (first, second) = join(
         rt,
         || join(
@@ -119,10 +118,9 @@ fn each_key_is_loaded_once_where_guards_are_dropped(rt: HostRuntime) -> Result<(
             || drops_some(rt, cache, loads, 88),
         ),
     );
-    assert_eq!(rt; (first, second), ((KEYS, KEYS), (KEYS, KEYS)));
-    assert_eq!(rt;
+    expect_eq!(rt; (first, second), ((KEYS, KEYS), (KEYS, KEYS)));
+    expect_eq!(rt;
         (loads.load(Ordering::SeqCst), cache.len(rt)),
         (KEYS, KEYS as usize)
     );
-    Ok(())
 }

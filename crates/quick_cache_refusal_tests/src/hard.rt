@@ -1,6 +1,7 @@
 //! Weights that together pass a `u64`, and pins that change from one question to the next.
 ghost use Rattle.std.specs.Prelude.{◌≡◌};
 
+use expect::expect;
 use quick_cache_model::{DefaultHashBuilder, Lifecycle, UnitWeighter, Weighter};
 use quick_cache_options::OptionsBuilder;
 use quick_cache_unsync::Cache;
@@ -116,7 +117,7 @@ fn two_pinned_items_of_the_greatest_weight_stay(rt: HostRuntime) -> Result<(), F
         cache.remove(&key);
         is_right = is_right && sizes(&cache) == left;
     }
-    assert!(rt; is_right);
+    expect!(rt; is_right);
     Ok(())
 }
 

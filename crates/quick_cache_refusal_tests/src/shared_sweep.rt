@@ -7,6 +7,7 @@ use crate::drawn::Drawn;
 use crate::shared_rows::{ROWS, Row, Step};
 use crate::slip::{ByDigits, ByHundreds, Slip};
 use crate::stage::{AMPLE, Outcome, Slips, Stage, next_shown};
+use expect::{expect, expect_ok};
 use futures::test::MockTask;
 use quick_cache_sync::Cache;
 use quick_cache_test_parts::thousand::Thousand;
@@ -271,7 +272,7 @@ fn is_right<R: Wait + Clock>(
 
 #[test]
 fn a_refused_call_is_as_if_it_had_not_been_made(rt: HostRuntime) -> Result<(), Fail> {
-    let polls = MockTask::new(&rt)?;
+    let polls = expect_ok!(rt; MockTask::new(&rt));
     for row in &ROWS {
         let whole = whole_of(row);
         let wanted = go(&rt, rt.alloc(), &polls, row, whole)?;
@@ -289,7 +290,7 @@ fn a_refused_call_is_as_if_it_had_not_been_made(rt: HostRuntime) -> Result<(), F
                 stopped.refused
             );
             if stopped.refused.is_none() {
-                println!(rt; "{}: {blocks} requests were refused in turn", row.0)?;
+                expect_ok!(rt; println!(rt; "{}: {blocks} requests were refused in turn", row.0));
                 break;
             }
         }
@@ -298,9 +299,10 @@ fn a_refused_call_is_as_if_it_had_not_been_made(rt: HostRuntime) -> Result<(), F
 }
 
 #[test]
-fn a_walk_goes_on_where_a_clone_was_refused(rt: HostRuntime) -> Result<(), Fail> {
+fn a_walk_goes_on_where_a_clone_was_refused(rt: HostRuntime) {
     let ration = Rationed::new(rt.alloc(), AMPLE);
-    let cache: Slips<'_> = Cache::with(&ration, 8, 8, ByDigits, Thousand, ByHundreds)?;
+    let cache: Slips<'_> =
+        expect_ok!(rt; Cache::with(&ration, 8, 8, ByDigits, Thousand, ByHundreds));
     for key in 1..4 {
         drop(cache.insert(&rt, Slip::new(&ration, key), Slip::new(&ration, 401)));
     }
@@ -317,6 +319,5 @@ fn a_walk_goes_on_where_a_clone_was_refused(rt: HostRuntime) -> Result<(), Fail>
     }
     let given = [keys[0], keys[3], keys[4]];
     let each_once = (1..4).all(|key| given.contains(&key));
-    assert!(rt; each_once && keys[1] == 100 && keys[2] == 100 && keys[5] == 200);
-    Ok(())
+    expect!(rt; each_once && keys[1] == 100 && keys[2] == 100 && keys[5] == 200);
 }

@@ -1,4 +1,5 @@
 //! Whole lists of events of the loading core, which a generator makes, and the guards of each.
+use expect::expect_eq;
 use quick_cache_loading::protocol::{Answer, Core, Event, run};
 use std::alloc::Global;
 use std::test::Fail;
@@ -79,6 +80,6 @@ fn guards_given_are_taken_back_or_held(rt: HostRuntime) -> Result<(), Fail> {
         all.2 = all.2.saturating_add(held);
     }
     // The sums are those of another program, which has the core's table in another language.
-    assert_eq!(rt; (wrong, all), (None, (5699, 4028, 1671)));
+    expect_eq!(rt; (wrong, all), (None, (5699, 4028, 1671)));
     Ok(())
 }

@@ -1,4 +1,5 @@
 //! Entry calls of two threads: each inside its callback while the other is, and one beside a guard.
+use expect::{expect_eq, expect_ok};
 use quick_cache_guard::{EntryResult, GuardResult};
 use quick_cache_model::{DefaultHashBuilder, UnitWeighter};
 use quick_cache_options::OptionsBuilder;
@@ -6,7 +7,6 @@ use quick_cache_shard::EntryAction;
 use quick_cache_sync::{Cache, DefaultLifecycle};
 use std::sync::Wait;
 use std::sync::atomic::{AtomicBool, Ordering};
-use std::test::Fail;
 use std::thread::{join, yield_now};
 use std::time::{Clock, Duration};
 
@@ -47,20 +47,20 @@ fn first_of(cache: &Numbers, shard: usize) -> u64 {
 }
 
 #[test]
-fn callbacks_of_two_shards_overlap(rt: HostRuntime) -> Result<(), Fail> {
+fn callbacks_of_two_shards_overlap(rt: HostRuntime) {
     let mut options = OptionsBuilder::new();
     options
         .estimated_items_capacity(64)
         .weight_capacity(64)
         .shards(2);
     let (builder, lifecycle) = (DefaultHashBuilder::new(), DefaultLifecycle::new());
-    let cache: Numbers = Cache::with_options(
+    let cache: Numbers = expect_ok!(rt; Cache::with_options(
         rt.alloc(),
-        options.build()?,
+        expect_ok!(rt; options.build()),
         UnitWeighter,
         builder,
         lifecycle,
-    )?;
+    ));
     let (cache, first, second) = (&cache, first_of(&cache, 0), first_of(&cache, 1));
     let inserted = (cache.insert(&rt, first, 1), cache.insert(&rt, second, 2));
     let mut both = false;
@@ -76,8 +76,7 @@ fn callbacks_of_two_shards_overlap(rt: HostRuntime) -> Result<(), Fail> {
         );
         both = both || met == (true, true);
     }
-    assert_eq!(rt; (inserted, both), ((Ok(()), Ok(())), true));
-    Ok(())
+    expect_eq!(rt; (inserted, both), ((Ok(()), Ok(())), true));
 }
 
 /// What an entry call tells that waits for a millisecond at most, and keeps what it finds: nothing
@@ -92,10 +91,10 @@ fn found_in_time<R: Wait + Clock>(rt: &R, cache: &Numbers) -> Option<u64> {
 }
 
 #[test]
-fn a_guard_fills_beside_an_entry_call(rt: HostRuntime) -> Result<(), Fail> {
+fn a_guard_fills_beside_an_entry_call(rt: HostRuntime) {
     let mut right = 0u64;
     for _ in 0..100 {
-        let cache: Numbers = Cache::new(rt.alloc(), 8)?;
+        let cache: Numbers = expect_ok!(rt; Cache::new(rt.alloc(), 8));
         let (rt, cache) = (&rt, &cache);
         if let GuardResult::Guard(guard) = cache.get_value_or_guard(rt, &1, None) {
             let (found, filled) = join(
@@ -104,10 +103,9 @@ fn a_guard_fills_beside_an_entry_call(rt: HostRuntime) -> Result<(), Fail> {
                 move || guard.insert(7).is_ok(),
             );
             let is_right = filled && (found.is_none() || found == Some(7));
-            let stays = cache.get(rt, &1)? == Some(7);
+            let stays = expect_ok!(rt; cache.get(rt, &1)) == Some(7);
             right = right.saturating_add(u64::from(is_right && stays));
         }
     }
-    assert_eq!(rt; right, 100);
-    Ok(())
+    expect_eq!(rt; right, 100);
 }

@@ -4,6 +4,7 @@ use crate::later::Later;
 use crate::plain::Plain;
 use crate::running::{Numbers, Running, chosen, unless};
 use crate::steps::{Step, Told};
+use expect::{expect_eq, expect_ok};
 use futures::task::Poll;
 use quick_cache_model::Refusal;
 use quick_cache_sync::Cache;
@@ -142,9 +143,9 @@ fn first_difference<R: Wait + Clock + RandomSource + AllocGlobal>(
 
 #[test]
 fn random_schedules_are_told_what_the_model_says(rt: HostRuntime) -> Result<(), Fail> {
-    println!(rt; "seed 45")?;
-    let cache: Numbers = Cache::new(rt.alloc(), 8)?;
+    expect_ok!(rt; println!(rt; "seed 45"));
+    let cache: Numbers = expect_ok!(rt; Cache::new(rt.alloc(), 8));
     let found = first_difference(&rt, &cache, 45)?;
-    assert_eq!(rt; found, None);
+    expect_eq!(rt; found, None);
     Ok(())
 }

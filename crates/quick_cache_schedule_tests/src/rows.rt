@@ -2,6 +2,7 @@
 use crate::plain::Plain;
 use crate::running::{Numbers, Running};
 use crate::steps::{Step, Told};
+use expect::expect_ok;
 use quick_cache_sync::Cache;
 use std::alloc::AllocGlobal;
 use std::random::RandomSource;
@@ -138,7 +139,7 @@ fn wrong<R: Wait + Clock + RandomSource + AllocGlobal>(
 #[test]
 fn rows_are_told_what_they_say(rt: HostRuntime) -> Result<(), Fail> {
     for (shown, steps) in ROWS {
-        let cache: Numbers = Cache::new(rt.alloc(), 8)?;
+        let cache: Numbers = expect_ok!(rt; Cache::new(rt.alloc(), 8));
         let found = wrong(&rt, &cache, steps)?;
         assert_eq!(rt; found, None, "{shown}");
     }

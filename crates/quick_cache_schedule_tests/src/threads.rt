@@ -3,12 +3,12 @@
 use crate::board::{Board, Found, KEYS, may_be, value_of};
 use crate::caller::{ByValue, Call, Weighed, make, next_pair};
 use crate::generator::next;
+use expect::{expect_eq, expect_ok};
 use quick_cache_guard::GuardResult;
 use quick_cache_sync::Cache;
 use std::alloc::AllocGlobal;
 use std::random::RandomSource;
 use std::sync::Wait;
-use std::test::Fail;
 use std::thread::join;
 use std::time::{Clock, Duration, Instant};
 
@@ -116,9 +116,9 @@ fn fault<R: Wait + Clock>(rt: &R, cache: &Weighed) -> Option<&'static str> {
 }
 
 #[test]
-fn calls_of_four_threads_leave_a_sound_cache(rt: HostRuntime) -> Result<(), Fail> {
-    let cache: Weighed = Cache::with_weighter(rt.alloc(), 100, 120, ByValue)?;
-    let board = Board::new(rt.alloc())?;
+fn calls_of_four_threads_leave_a_sound_cache(rt: HostRuntime) {
+    let cache: Weighed = expect_ok!(rt; Cache::with_weighter(rt.alloc(), 100, 120, ByValue));
+    let board = expect_ok!(rt; Board::new(rt.alloc()));
     let (rt, cache, board) = (&rt, &cache, &board);
     let ((first, second), (third, fourth)) = join(
         rt,
@@ -139,7 +139,6 @@ fn calls_of_four_threads_leave_a_sound_cache(rt: HostRuntime) -> Result<(), Fail
         waited = waited.saturating_add(seen.waited);
         wrong = wrong.or(seen.wrong);
     }
-    println!(rt; "{turns} turns, and {waited} values to those who waited")?;
-    assert_eq!(rt; (wrong, fault(rt, cache), waited > 0), (None, None, true));
-    Ok(())
+    expect_ok!(rt; println!(rt; "{turns} turns, and {waited} values to those who waited"));
+    expect_eq!(rt; (wrong, fault(rt, cache), waited > 0), (None, None, true));
 }

@@ -4,11 +4,11 @@ ghost use Rattle.std.specs.Cmp.Rules.{comparing, hashing};
 ghost use Rattle.std.proofs.Common.{rules};
 
 use crate::rows::{Tested, empty};
+use expect::{expect, expect_eq, expect_ok};
 use quick_cache_base::Equivalent;
 use quick_cache_shard::InsertStrategy;
 use quick_cache_test_parts::counting::Told;
 use std::hash::Hash;
-use std::test::Fail;
 
 /// A letter. Its case is kept, and is no part of what is compared.
 #[derive_where(PartialEq, Eq, Hash)]
@@ -38,8 +38,8 @@ impl Equivalent<Letter> for Small {
 }
 
 #[test]
-fn a_query_may_stand_for_one_of_two_equal_keys(rt: HostRuntime) -> Result<(), Fail> {
-    let mut shard: Tested<Letter, u64> = empty(rt.alloc(), 4)?;
+fn a_query_may_stand_for_one_of_two_equal_keys(rt: HostRuntime) {
+    let mut shard: Tested<Letter, u64> = expect_ok!(rt; empty(rt.alloc(), 4));
     let mut told = Told::default();
     let small = Letter {
         number: 3,
@@ -49,25 +49,24 @@ fn a_query_may_stand_for_one_of_two_equal_keys(rt: HostRuntime) -> Result<(), Fa
         number: 3,
         capital: true,
     };
-    assert!(rt; small == capital);
+    expect!(rt; small == capital);
     let query = Small { number: 3 };
-    assert!(rt; query.equivalent(&small));
-    assert!(rt; !query.equivalent(&capital));
+    expect!(rt; query.equivalent(&small));
+    expect!(rt; !query.equivalent(&capital));
     let hash = shard.hash(&query);
-    assert_eq!(rt; hash, shard.hash(&small));
-    assert!(rt;
+    expect_eq!(rt; hash, shard.hash(&small));
+    expect!(rt;
         shard
             .insert(&mut told, hash, small, 12, InsertStrategy::Insert)
             .is_ok()
     );
-    assert_eq!(rt; shard.get(hash, &query).copied(), Some(12));
+    expect_eq!(rt; shard.get(hash, &query).copied(), Some(12));
     // Under an equal key of the other case it finds nothing.
-    assert!(rt; shard.remove(hash, &query).is_some());
-    assert!(rt;
+    expect!(rt; shard.remove(hash, &query).is_some());
+    expect!(rt;
         shard
             .insert(&mut told, hash, capital, 13, InsertStrategy::Insert)
             .is_ok()
     );
-    assert_eq!(rt; shard.get(hash, &query).copied(), None);
-    Ok(())
+    expect_eq!(rt; shard.get(hash, &query).copied(), None);
 }

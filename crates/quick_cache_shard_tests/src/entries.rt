@@ -3,10 +3,10 @@ ghost use Rattle.std.specs.Cmp.Rules.{comparing, hashing};
 ghost use Rattle.std.proofs.Common.{rules};
 
 use crate::rows::{Tested, empty, put, seen};
+use expect::{expect, expect_eq, expect_ok};
 use quick_cache_shard::{EntryAction, EntryOrPlaceholder};
 use quick_cache_test_parts::counting::Told;
 use quick_cache_test_parts::placeholder::Plainly;
-use std::test::Fail;
 
 /// What a callback chooses.
 #[derive(Clone, Copy)]
@@ -49,11 +49,11 @@ fn enter(shard: &mut Tested<u64, u64>, key: u64, written: u64, choice: Choice) -
 }
 
 #[test]
-fn an_entry_call_keeps_removes_and_replaces(rt: HostRuntime) -> Result<(), Fail> {
-    let mut shard: Tested<u64, u64> = empty(rt.alloc(), 4)?;
+fn an_entry_call_keeps_removes_and_replaces(rt: HostRuntime) {
+    let mut shard: Tested<u64, u64> = expect_ok!(rt; empty(rt.alloc(), 4));
     let mut told = Told::default();
     for key in 1..=3u64 {
-        assert!(rt; put(&mut shard, &mut told, key, key));
+        expect!(rt; put(&mut shard, &mut told, key, key));
     }
     // The key, what is written and chosen, what comes of it; and hits, misses and items then.
     let rows = [
@@ -68,6 +68,5 @@ fn an_entry_call_keeps_removes_and_replaces(rt: HostRuntime) -> Result<(), Fail>
         let found = (shard.hits(), shard.misses(), shard.len());
         assert_eq!(rt; found, counts, "key {key}");
     }
-    assert_eq!(rt; seen(&shard, 1), (Some(11), true));
-    Ok(())
+    expect_eq!(rt; seen(&shard, 1), (Some(11), true));
 }

@@ -3,9 +3,9 @@ ghost use Rattle.std.specs.Cmp.Rules.{comparing, hashing};
 ghost use Rattle.std.proofs.Common.{rules};
 
 use crate::rows::{Tested, empty, put, seen};
+use expect::{expect, expect_eq, expect_ok};
 use quick_cache_test_parts::counting::Told;
 use quick_cache_test_parts::placeholder::{Placeholder, Plainly};
-use std::test::Fail;
 
 /// Begins to load a key under which no item stands. The flag says that the placeholder is new.
 fn begins(shard: &mut Tested<u64, u64>, key: u64) -> Option<(Placeholder, bool)> {
@@ -26,39 +26,37 @@ fn is_new(shard: &mut Tested<u64, u64>, key: u64) -> Option<bool> {
 }
 
 #[test]
-fn a_placeholder_is_made_once_and_then_met(rt: HostRuntime) -> Result<(), Fail> {
-    let mut shard: Tested<u64, u64> = empty(rt.alloc(), 4)?;
-    assert_eq!(rt; is_new(&mut shard, 1), Some(true));
-    assert_eq!(rt; is_new(&mut shard, 1), Some(false));
-    assert_eq!(rt; is_new(&mut shard, 2), Some(true));
-    assert_eq!(rt; (shard.hits(), shard.misses(), shard.len()), (1, 2, 0));
-    Ok(())
+fn a_placeholder_is_made_once_and_then_met(rt: HostRuntime) {
+    let mut shard: Tested<u64, u64> = expect_ok!(rt; empty(rt.alloc(), 4));
+    expect_eq!(rt; is_new(&mut shard, 1), Some(true));
+    expect_eq!(rt; is_new(&mut shard, 1), Some(false));
+    expect_eq!(rt; is_new(&mut shard, 2), Some(true));
+    expect_eq!(rt; (shard.hits(), shard.misses(), shard.len()), (1, 2, 0));
 }
 
 #[test]
-fn a_placeholder_is_filled_once(rt: HostRuntime) -> Result<(), Fail> {
-    let mut shard: Tested<u64, u64> = empty(rt.alloc(), 4)?;
+fn a_placeholder_is_filled_once(rt: HostRuntime) {
+    let mut shard: Tested<u64, u64> = expect_ok!(rt; empty(rt.alloc(), 4));
     let mut told = Told::default();
     let Some((placeholder, _)) = begins(&mut shard, 1) else {
         panic!(rt; "no item stands under the key");
     };
-    assert_eq!(rt;
+    expect_eq!(rt;
         shard.replace_placeholder(&mut told, &placeholder, false, 10),
         Ok(())
     );
-    assert_eq!(rt; is_new(&mut shard, 1), None);
-    assert_eq!(rt;
+    expect_eq!(rt; is_new(&mut shard, 1), None);
+    expect_eq!(rt;
         shard.replace_placeholder(&mut told, &placeholder, false, 11),
         Err(11)
     );
-    assert_eq!(rt; seen(&shard, 1), (Some(10), true));
-    assert_eq!(rt; told, Told::default());
-    Ok(())
+    expect_eq!(rt; seen(&shard, 1), (Some(10), true));
+    expect_eq!(rt; told, Told::default());
 }
 
 #[test]
-fn a_placeholder_that_was_written_over_is_gone(rt: HostRuntime) -> Result<(), Fail> {
-    let mut shard: Tested<u64, u64> = empty(rt.alloc(), 4)?;
+fn a_placeholder_that_was_written_over_is_gone(rt: HostRuntime) {
+    let mut shard: Tested<u64, u64> = expect_ok!(rt; empty(rt.alloc(), 4));
     let mut told = Told::default();
     let Some((first, _)) = begins(&mut shard, 1) else {
         panic!(rt; "no item stands under the key");
@@ -66,15 +64,14 @@ fn a_placeholder_that_was_written_over_is_gone(rt: HostRuntime) -> Result<(), Fa
     let Some((second, _)) = begins(&mut shard, 2) else {
         panic!(rt; "no item stands under the key");
     };
-    assert!(rt; put(&mut shard, &mut told, 1, 10));
-    assert_eq!(rt;
+    expect!(rt; put(&mut shard, &mut told, 1, 10));
+    expect_eq!(rt;
         shard.replace_placeholder(&mut told, &first, false, 11),
         Err(11)
     );
     shard.remove_placeholder(&first);
-    assert_eq!(rt; is_new(&mut shard, 2), Some(false));
+    expect_eq!(rt; is_new(&mut shard, 2), Some(false));
     shard.remove_placeholder(&second);
-    assert_eq!(rt; is_new(&mut shard, 2), Some(true));
-    assert_eq!(rt; shard.len(), 1);
-    Ok(())
+    expect_eq!(rt; is_new(&mut shard, 2), Some(true));
+    expect_eq!(rt; shard.len(), 1);
 }

@@ -1,4 +1,5 @@
 //! The shard of these tests, its calls, and what a copy of it keeps.
+use expect::{expect, expect_eq, expect_ok};
 use quick_cache_base::{Refusal, UnitWeighter};
 use quick_cache_shard::{CacheShard, InsertStrategy, Touches};
 use quick_cache_test_parts::counting::{Counting, Told};
@@ -7,7 +8,6 @@ use quick_cache_test_parts::thousand::Thousand;
 use quick_cache_test_parts::walks::shows;
 use std::alloc::Global;
 use std::hash::Hash;
-use std::test::Fail;
 
 /// A shard of unit weights, whose items count touches so.
 pub(crate) type Tested<K, V, T = NoTouches> = CacheShard<
@@ -81,15 +81,14 @@ pub(crate) fn taken(shard: &mut Tested<u64, u64>, key: u64) -> Option<(u64, u64)
 }
 
 #[test]
-fn a_clone_keeps_marks_and_counts(rt: HostRuntime) -> Result<(), Fail> {
-    let mut shard: Tested<u64, u64> = empty(rt.alloc(), 4)?;
+fn a_clone_keeps_marks_and_counts(rt: HostRuntime) {
+    let mut shard: Tested<u64, u64> = expect_ok!(rt; empty(rt.alloc(), 4));
     let mut told = Told::default();
-    assert!(rt; put(&mut shard, &mut told, 1, 10));
-    assert_eq!(rt; got(&mut shard, 1), Some(10));
-    let copy = shard.try_clone()?;
-    assert_eq!(rt; taken(&mut shard, 1), Some((1, 10)));
-    assert!(rt; shows(copy.iter_hot(), &[(1, 1)]));
-    assert_eq!(rt; (copy.weight(), copy.capacity(), copy.hits()), (1, 4, 1));
-    assert_eq!(rt; (copy.hot_target(), copy.ghost_limit()), (3, 2));
-    Ok(())
+    expect!(rt; put(&mut shard, &mut told, 1, 10));
+    expect_eq!(rt; got(&mut shard, 1), Some(10));
+    let copy = expect_ok!(rt; shard.try_clone());
+    expect_eq!(rt; taken(&mut shard, 1), Some((1, 10)));
+    expect!(rt; shows(copy.iter_hot(), &[(1, 1)]));
+    expect_eq!(rt; (copy.weight(), copy.capacity(), copy.hits()), (1, 4, 1));
+    expect_eq!(rt; (copy.hot_target(), copy.ghost_limit()), (3, 2));
 }

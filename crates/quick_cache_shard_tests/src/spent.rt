@@ -3,6 +3,7 @@ ghost use Rattle.std.specs.Cmp.Rules.{comparing, hashing};
 ghost use Rattle.std.proofs.Common.{rules};
 
 use crate::rows::{Tested, put, seen};
+use expect::{expect, expect_eq, expect_ok};
 use quick_cache_base::{Refusal, UnitWeighter};
 use quick_cache_policy::{Contents, Terms};
 use quick_cache_shard::{CacheShard, EntryAction, EntryOrPlaceholder};
@@ -10,7 +11,6 @@ use quick_cache_test_parts::counting::{Counting, Told};
 use quick_cache_test_parts::placeholder::Plainly;
 use quick_cache_test_parts::thousand::Thousand;
 use std::alloc::Global;
-use std::test::Fail;
 
 /// An empty shard for four items, whose next ticket is this one.
 fn with_ticket(alloc: Global, ticket: u64) -> Result<Tested<u64, u64>, Refusal> {
@@ -37,18 +37,17 @@ fn enters(shard: &mut Tested<u64, u64>, key: u64) -> Result<bool, Refusal> {
 }
 
 #[test]
-fn spent_tickets_refuse_placeholders_alone(rt: HostRuntime) -> Result<(), Fail> {
-    let mut shard = with_ticket(rt.alloc(), u64::MAX - 1)?;
+fn spent_tickets_refuse_placeholders_alone(rt: HostRuntime) {
+    let mut shard = expect_ok!(rt; with_ticket(rt.alloc(), u64::MAX - 1));
     let mut told = Told::default();
     // The last ticket goes to a key that is then being loaded, and is met.
-    assert_eq!(rt; enters(&mut shard, 2), Ok(false));
-    assert_eq!(rt; enters(&mut shard, 1), Err(Refusal::TicketsSpent));
-    assert_eq!(rt; enters(&mut shard, 2), Ok(true));
+    expect_eq!(rt; enters(&mut shard, 2), Ok(false));
+    expect_eq!(rt; enters(&mut shard, 1), Err(Refusal::TicketsSpent));
+    expect_eq!(rt; enters(&mut shard, 2), Ok(true));
     let hash = shard.hash(&1u64);
     let begun = shard.get_or_placeholder(&Plainly, hash, &1u64);
-    assert_eq!(rt; begun.err(), Some(Refusal::TicketsSpent));
-    assert_eq!(rt; (shard.misses(), shard.len()), (1, 0));
-    assert!(rt; put(&mut shard, &mut told, 1, 10));
-    assert_eq!(rt; seen(&shard, 1), (Some(10), true));
-    Ok(())
+    expect_eq!(rt; begun.err(), Some(Refusal::TicketsSpent));
+    expect_eq!(rt; (shard.misses(), shard.len()), (1, 0));
+    expect!(rt; put(&mut shard, &mut told, 1, 10));
+    expect_eq!(rt; seen(&shard, 1), (Some(10), true));
 }

@@ -1,5 +1,6 @@
 //! Touches that readers left at an item become marks of it, each one.
 use crate::rows::{Tested, empty, put, replaced};
+use expect::{expect, expect_eq, expect_ok};
 use quick_cache_shard::Touches;
 use quick_cache_test_parts::counting::Told;
 use quick_cache_test_parts::placeholder::Touched;
@@ -16,53 +17,51 @@ fn check_mark<T: Touches>(
 ) -> Result<(), Fail> {
     let mut shard = shard;
     let mut told = Told::default();
-    assert!(rt; put(&mut shard, &mut told, 1, 10));
-    assert!(rt; shows(shard.iter_hot(), &[(1, 0)]));
-    assert_eq!(rt; replaced(&mut shard, &mut told, 1, 11, true), Ok(()));
+    expect!(rt; put(&mut shard, &mut told, 1, 10));
+    expect!(rt; shows(shard.iter_hot(), &[(1, 0)]));
+    expect_eq!(rt; replaced(&mut shard, &mut told, 1, 11, true), Ok(()));
     assert!(rt; shows(shard.iter_hot(), &[(1, mark)]), "mark {mark}");
     // They were taken, so they count once.
-    assert_eq!(rt; replaced(&mut shard, &mut told, 1, 12, true), Ok(()));
+    expect_eq!(rt; replaced(&mut shard, &mut told, 1, 12, true), Ok(()));
     assert!(rt; shows(shard.iter_hot(), &[(1, mark)]), "mark {mark} again");
     Ok(())
 }
 
 #[test]
 fn an_overwrite_takes_touches_in_up_to_two(rt: HostRuntime) -> Result<(), Fail> {
-    check_mark::<Touched<0>>(&rt, empty(rt.alloc(), 4)?, 0)?;
-    check_mark::<Touched<1>>(&rt, empty(rt.alloc(), 4)?, 1)?;
-    check_mark::<Touched<2>>(&rt, empty(rt.alloc(), 4)?, 2)?;
-    check_mark::<Touched<18446744073709551615>>(&rt, empty(rt.alloc(), 4)?, 2)
+    check_mark::<Touched<0>>(&rt, expect_ok!(rt; empty(rt.alloc(), 4)), 0)?;
+    check_mark::<Touched<1>>(&rt, expect_ok!(rt; empty(rt.alloc(), 4)), 1)?;
+    check_mark::<Touched<2>>(&rt, expect_ok!(rt; empty(rt.alloc(), 4)), 2)?;
+    check_mark::<Touched<18446744073709551615>>(&rt, expect_ok!(rt; empty(rt.alloc(), 4)), 2)
 }
 
 #[test]
-fn touched_items_outlive_an_eviction(rt: HostRuntime) -> Result<(), Fail> {
-    let mut shard: Tested<u64, u64, Touched<1>> = empty(rt.alloc(), 2)?;
+fn touched_items_outlive_an_eviction(rt: HostRuntime) {
+    let mut shard: Tested<u64, u64, Touched<1>> = expect_ok!(rt; empty(rt.alloc(), 2));
     let mut told = Told::default();
     for key in [1, 2, 3] {
-        assert!(rt; put(&mut shard, &mut told, key, key));
+        expect!(rt; put(&mut shard, &mut told, key, key));
     }
     // The cold item 2 was touched, so it is promoted. Then the hot item 1, touched too, outlives
     // it.
-    assert!(rt; shows(shard.iter_hot(), &[(1, 0)]));
-    assert!(rt; shows(shard.iter_cold(), &[(3, 0)]));
-    assert!(rt; shows_ghosts(shard.iter_ghosts(), &[]));
-    assert_eq!(rt; (told.hot, told.cold), (1, 0));
-    Ok(())
+    expect!(rt; shows(shard.iter_hot(), &[(1, 0)]));
+    expect!(rt; shows(shard.iter_cold(), &[(3, 0)]));
+    expect!(rt; shows_ghosts(shard.iter_ghosts(), &[]));
+    expect_eq!(rt; (told.hot, told.cold), (1, 0));
 }
 
 #[test]
-fn a_shared_look_up_finds_an_item_and_leaves_its_mark(rt: HostRuntime) -> Result<(), Fail> {
-    let mut shard: Tested<u64, u64> = empty(rt.alloc(), 4)?;
+fn a_shared_look_up_finds_an_item_and_leaves_its_mark(rt: HostRuntime) {
+    let mut shard: Tested<u64, u64> = expect_ok!(rt; empty(rt.alloc(), 4));
     let mut told = Told::default();
-    assert!(rt; put(&mut shard, &mut told, 1, 10));
+    expect!(rt; put(&mut shard, &mut told, 1, 10));
     let hash = shard.hash(&1u64);
-    assert_eq!(rt; shard.get_shared(hash, &1).copied(), Some(10));
-    assert_eq!(rt; shard.get_clone(hash, &1), Ok(Some(10)));
+    expect_eq!(rt; shard.get_shared(hash, &1).copied(), Some(10));
+    expect_eq!(rt; shard.get_clone(hash, &1), Ok(Some(10)));
     let hash = shard.hash(&2u64);
-    assert_eq!(rt; shard.get_shared(hash, &2).copied(), None);
-    assert_eq!(rt; shard.get_clone(hash, &2), Ok(None));
-    assert!(rt; shows(shard.iter_hot(), &[(1, 0)]));
+    expect_eq!(rt; shard.get_shared(hash, &2).copied(), None);
+    expect_eq!(rt; shard.get_clone(hash, &2), Ok(None));
+    expect!(rt; shows(shard.iter_hot(), &[(1, 0)]));
     // Touches of one thread count nothing.
-    assert_eq!(rt; (shard.hits(), shard.misses()), (0, 0));
-    Ok(())
+    expect_eq!(rt; (shard.hits(), shard.misses()), (0, 0));
 }

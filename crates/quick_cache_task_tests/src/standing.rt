@@ -1,5 +1,6 @@
 //! A placeholder that is filled and still stands in its shard, as between the two steps of a guard
 //! that puts its value in.
+use expect::{expect, expect_ok};
 use futures::task::Poll;
 use futures::test::MockTask;
 use quick_cache_entry_futures::EntryFuture;
@@ -14,7 +15,6 @@ use quick_cache_sync::DefaultLifecycle;
 use quick_cache_waiting::Waited;
 use std::alloc::Allocator;
 use std::sync::{RwLock, Wait};
-use std::test::Fail;
 
 /// Loads the key 1 as 5, and gives that to those who wait. Nothing is put into the shard.
 fn load_and_tell<R: Wait, A: Allocator>(
@@ -32,7 +32,7 @@ fn load_and_tell<R: Wait, A: Allocator>(
 }
 
 #[test]
-fn an_entry_call_asks_for_another_poll(rt: HostRuntime) -> Result<(), Fail> {
+fn an_entry_call_asks_for_another_poll(rt: HostRuntime) {
     let mut options = OptionsBuilder::new();
     options.estimated_items_capacity(100).weight_capacity(100);
     let Ok(options) = options.build() else {
@@ -40,14 +40,14 @@ fn an_entry_call_asks_for_another_poll(rt: HostRuntime) -> Result<(), Fail> {
     };
     let sizes = shard_sizes(&options);
     let (builder, lifecycle) = (DefaultHashBuilder::new(), DefaultLifecycle::new());
-    let locked = LockedShard::new(
+    let locked = expect_ok!(rt; LockedShard::new(
         rt.alloc(),
         &options,
         sizes,
         UnitWeighter,
         builder,
         lifecycle,
-    )?;
+    ));
     let shard = RwLock::new(locked);
     let rt = &rt;
     let Ok(Begun::Loading(shared)) = shard.write(rt).begin(&1) else {
@@ -56,22 +56,21 @@ fn an_entry_call_asks_for_another_poll(rt: HostRuntime) -> Result<(), Fail> {
     let Some(placeholder) = shared.placeholder() else {
         panic!(rt; "it has few owners");
     };
-    assert!(rt; load_and_tell(rt, &placeholder));
+    expect!(rt; load_and_tell(rt, &placeholder));
     let mut acts = EntryFuture::new(
         rt,
         &shard,
         &1,
         |_: &u64, v: &mut u64| EntryAction::Retain(*v),
     );
-    let task = MockTask::new(rt)?;
-    assert!(rt; task.poll(&mut acts).is_pending() && task.is_woken());
+    let task = expect_ok!(rt; MockTask::new(rt));
+    expect!(rt; task.poll(&mut acts).is_pending() && task.is_woken());
     let mut state = [None, None];
-    assert!(rt;
+    expect!(rt;
         shard
             .write(rt)
             .fill(&shared, &1, false, 5, &mut state)
             .is_ok()
     );
-    assert!(rt; matches!(task.poll(&mut acts), Poll::Ready(EntryResult::Retained(5))));
-    Ok(())
+    expect!(rt; matches!(task.poll(&mut acts), Poll::Ready(EntryResult::Retained(5))));
 }

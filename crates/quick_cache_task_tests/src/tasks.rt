@@ -1,46 +1,44 @@
 //! Tasks that wait for a value, and one that loads it.
+use expect::{expect, expect_eq, expect_ok};
 use futures::channel::oneshot;
 use futures::task::Poll;
 use futures::test::MockTask;
 use quick_cache_guard::GuardResult;
 use quick_cache_model::Refusal;
 use quick_cache_sync::Cache;
-use std::test::Fail;
 
 #[test]
-fn dropped_future_hands_the_guard_on(rt: HostRuntime) -> Result<(), Fail> {
-    let cache: Cache<u64, u64> = Cache::new(rt.alloc(), 100)?;
+fn dropped_future_hands_the_guard_on(rt: HostRuntime) {
+    let cache: Cache<u64, u64> = expect_ok!(rt; Cache::new(rt.alloc(), 100));
     let rt = &rt;
     let GuardResult::Guard(guard) = cache.get_value_or_guard(rt, &1, None) else {
         panic!(rt; "the key is absent");
     };
     let mut first = cache.get_value_or_guard_async(rt, &1);
     let mut second = cache.get_value_or_guard_async(rt, &1);
-    let task = MockTask::new(rt)?;
-    assert!(rt; task.poll(&mut first).is_pending() && task.poll(&mut second).is_pending());
+    let task = expect_ok!(rt; MockTask::new(rt));
+    expect!(rt; task.poll(&mut first).is_pending() && task.poll(&mut second).is_pending());
     // The guard goes to the second, which came last, and from there to the first.
     drop(guard);
     drop(second);
     let Poll::Ready(Ok(Err(guard))) = task.poll(&mut first) else {
         panic!(rt; "the guard was handed on");
     };
-    assert!(rt; guard.insert(9).is_ok());
-    assert!(rt; matches!(task.poll(&mut first), Poll::Ready(Err(Refusal::Finished))));
-    assert_eq!(rt; cache.get(rt, &1), Ok(Some(9)));
-    Ok(())
+    expect!(rt; guard.insert(9).is_ok());
+    expect!(rt; matches!(task.poll(&mut first), Poll::Ready(Err(Refusal::Finished))));
+    expect_eq!(rt; cache.get(rt, &1), Ok(Some(9)));
 }
 
 #[test]
-fn a_task_loads_what_a_channel_sends(rt: HostRuntime) -> Result<(), Fail> {
-    let cache: Cache<u64, u64> = Cache::new(rt.alloc(), 100)?;
+fn a_task_loads_what_a_channel_sends(rt: HostRuntime) {
+    let cache: Cache<u64, u64> = expect_ok!(rt; Cache::new(rt.alloc(), 100));
     let rt = &rt;
-    let (sender, receiver) = oneshot::channel(rt.alloc())?;
+    let (sender, receiver) = expect_ok!(rt; oneshot::channel(rt.alloc()));
     let mut loads = cache.get_or_insert_async(rt, &4, receiver);
-    let task = MockTask::new(rt)?;
-    assert!(rt; task.poll(&mut loads).is_pending());
-    assert!(rt; sender.send(6).is_ok());
-    assert!(rt; matches!(task.poll(&mut loads), Poll::Ready(Ok(Ok(6)))));
-    assert!(rt; matches!(task.poll(&mut loads), Poll::Ready(Err(Refusal::Finished))));
-    assert_eq!(rt; cache.get(rt, &4), Ok(Some(6)));
-    Ok(())
+    let task = expect_ok!(rt; MockTask::new(rt));
+    expect!(rt; task.poll(&mut loads).is_pending());
+    expect!(rt; sender.send(6).is_ok());
+    expect!(rt; matches!(task.poll(&mut loads), Poll::Ready(Ok(Ok(6)))));
+    expect!(rt; matches!(task.poll(&mut loads), Poll::Ready(Err(Refusal::Finished))));
+    expect_eq!(rt; cache.get(rt, &4), Ok(Some(6)));
 }

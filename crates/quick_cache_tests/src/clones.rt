@@ -1,11 +1,11 @@
 //! A call that shows a value makes one clone of it.
 ghost use Rattle.std.specs.Prelude.{⊤};
 
+use expect::{expect, expect_eq, expect_ok};
 use quick_cache_runs::{Call, Reply, run};
 use quick_cache_unsync::Cache;
 use std::alloc::AllocError;
 use std::cell::Cell;
-use std::test::Fail;
 
 /// A value that can be cloned as often as is left.
 #[derive(Drop)]
@@ -26,12 +26,12 @@ impl Clone for Scarce<'_> {
 }
 
 #[test]
-fn a_call_makes_one_clone_of_what_it_shows(rt: HostRuntime) -> Result<(), Fail> {
+fn a_call_makes_one_clone_of_what_it_shows(rt: HostRuntime) {
     let alloc = rt.alloc();
     let left = Cell::new(7);
-    let mut cache: Cache<u64, Scarce<'_>> = Cache::new(alloc, 2)?;
-    assert!(rt; cache.insert(1, Scarce { left: &left }).is_ok());
-    let calls = vec![in alloc;
+    let mut cache: Cache<u64, Scarce<'_>> = expect_ok!(rt; Cache::new(alloc, 2));
+    expect!(rt; cache.insert(1, Scarce { left: &left }).is_ok());
+    let calls = expect_ok!(rt; vec![in alloc;
         Call::Get(1),
         Call::Peek(1),
         Call::Load(1, None),
@@ -40,15 +40,14 @@ fn a_call_makes_one_clone_of_what_it_shows(rt: HostRuntime) -> Result<(), Fail> 
         Call::GuardedMut(1, None, Scarce { left: &left }),
         Call::Iter,
         Call::Retain(|_: &u64, _: &Scarce<'_>| true),
-    ]?;
+    ]);
     let Ok(replies) = run(alloc, &mut cache, calls, &mut ()) else {
         panic!(rt; "there is memory");
     };
-    assert!(rt;
+    expect!(rt;
         !replies
             .iter()
             .any(|reply| matches!(reply, Reply::Refused(_)))
     );
-    assert_eq!(rt; (replies.len(), left.get()), (8, 0));
-    Ok(())
+    expect_eq!(rt; (replies.len(), left.get()), (8, 0));
 }

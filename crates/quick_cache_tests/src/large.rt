@@ -3,6 +3,7 @@ ghost use Rattle.std.specs.Prelude.{All, IfOk};
 ghost use Rattle.quick_cache_runs.specs.Asked.{IfAsks};
 
 use crate::Predicate;
+use expect::{expect, expect_eq, expect_ok};
 use quick_cache_runs::{Call, Reply, run};
 use quick_cache_unsync::Cache;
 use rationed::Rationed;
@@ -25,27 +26,27 @@ fn doubles(alloc: Global, count: u64) -> Result<Cache<u64, u64>, Fail> {
 #[test]
 fn ten_thousand_entries_are_found_and_taken_out(rt: HostRuntime) -> Result<(), Fail> {
     let mut cache = doubles(rt.alloc(), MANY)?;
-    assert_eq!(rt; cache.len(), MANY as usize);
+    expect_eq!(rt; cache.len(), MANY as usize);
     for key in 0..MANY {
         let double = key.saturating_mul(2);
-        assert_eq!(rt; cache.get(&key).copied(), Some(double));
-        assert_eq!(rt; cache.insert(key, double), Ok(()));
-        assert_eq!(rt; cache.remove(&key), Some((key, double)));
+        expect_eq!(rt; cache.get(&key).copied(), Some(double));
+        expect_eq!(rt; cache.insert(key, double), Ok(()));
+        expect_eq!(rt; cache.remove(&key), Some((key, double)));
     }
-    assert!(rt; cache.is_empty());
-    assert_eq!(rt; (cache.hits(), cache.misses()), (MANY, 0));
+    expect!(rt; cache.is_empty());
+    expect_eq!(rt; (cache.hits(), cache.misses()), (MANY, 0));
     Ok(())
 }
 
 #[test]
 fn a_clone_has_ten_thousand_entries(rt: HostRuntime) -> Result<(), Fail> {
     let cache = doubles(rt.alloc(), MANY)?;
-    let mut copy = cache.try_clone()?;
-    assert_eq!(rt; copy.len(), MANY as usize);
+    let mut copy = expect_ok!(rt; cache.try_clone());
+    expect_eq!(rt; copy.len(), MANY as usize);
     for key in 0..MANY {
-        assert_eq!(rt; copy.remove(&key), Some((key, key.saturating_mul(2))));
+        expect_eq!(rt; copy.remove(&key), Some((key, key.saturating_mul(2))));
     }
-    assert_eq!(rt; (cache.len(), copy.len()), (MANY as usize, 0));
+    expect_eq!(rt; (cache.len(), copy.len()), (MANY as usize, 0));
     Ok(())
 }
 
@@ -76,7 +77,7 @@ fn run_by_threes(rt: &impl Abort, alloc: Global, count: u64) -> Result<(), Fail>
     let Ok(replies) = run(alloc, &mut cache, calls, &mut ()) else {
         panic!(rt; "there is memory");
     };
-    assert_eq!(rt; replies.len() as u64, count);
+    expect_eq!(rt; replies.len() as u64, count);
     for (at, reply) in replies.into_iter().enumerate() {
         let key = at as u64 / 3;
         let value = key.saturating_mul(3);
@@ -97,16 +98,15 @@ fn twenty_and_ten_thousand_calls_are_made(rt: HostRuntime) -> Result<(), Fail> {
 }
 
 #[test]
-fn a_list_of_replies_asks_for_memory_once(rt: HostRuntime) -> Result<(), Fail> {
+fn a_list_of_replies_asks_for_memory_once(rt: HostRuntime) {
     let ration = Rationed::new(rt.alloc(), 100);
-    let mut cache: Cache<u64, u64> = Cache::new(rt.alloc(), 3)?;
-    let calls = threes(&ration, MANY)?;
+    let mut cache: Cache<u64, u64> = expect_ok!(rt; Cache::new(rt.alloc(), 3));
+    let calls = expect_ok!(rt; threes(&ration, MANY));
     ration.allow(1);
     let Ok(replies) = run(&ration, &mut cache, calls, &mut ()) else {
         panic!(rt; "there is room for the replies");
     };
-    assert_eq!(rt; (replies.len() as u64, ration.left()), (MANY, 0));
-    Ok(())
+    expect_eq!(rt; (replies.len() as u64, ration.left()), (MANY, 0));
 }
 
 /// How many pairs a reply shows, each a number and its double, and the sum of the numbers.
@@ -128,17 +128,17 @@ fn doubles_in<M: Allocator>(reply: &Reply<u64, u64, M>) -> Option<(u64, u64)> {
 fn a_walk_and_a_drain_give_ten_thousand_pairs(rt: HostRuntime) -> Result<(), Fail> {
     let alloc = rt.alloc();
     let mut cache = doubles(alloc, MANY)?;
-    let calls: Vec<Call<u64, u64, Predicate>> = vec![in alloc;
+    let calls: Vec<Call<u64, u64, Predicate>> = expect_ok!(rt; vec![in alloc;
         Call::Iter,
         Call::Drain,
         Call::Iter,
-    ]?;
+    ]);
     let Ok(replies) = run(alloc, &mut cache, calls, &mut ()) else {
         panic!(rt; "there is memory");
     };
     let wanted = [(MANY, 49995000), (MANY, 49995000), (0, 0)];
     for (reply, wanted) in replies.iter().zip(wanted) {
-        assert_eq!(rt; doubles_in(reply), Some(wanted));
+        expect_eq!(rt; doubles_in(reply), Some(wanted));
     }
     Ok(())
 }

@@ -1,4 +1,5 @@
 //! Room that was reserved: so many inserts ask for no memory, and a refused one can be made again.
+use expect::{expect, expect_eq, expect_ok};
 use quick_cache_unsync::{Cache, DefaultHashBuilder, DefaultLifecycle, Refusal, UnitWeighter};
 use rationed::Rationed;
 use std::alloc::Global;
@@ -61,23 +62,23 @@ fn first_refused(cache: &mut RationedCache<'_>) -> Option<(u64, bool)> {
 #[test]
 fn reserved_room_needs_no_memory(rt: HostRuntime) -> Result<(), Fail> {
     let ration = Rationed::new(rt.alloc(), 100);
-    let mut cache: RationedCache<'_> = Cache::new(&ration, 1000)?;
-    assert_eq!(rt; cache.reserve(3), Ok(()));
+    let mut cache: RationedCache<'_> = expect_ok!(rt; Cache::new(&ration, 1000));
+    expect_eq!(rt; cache.reserve(3), Ok(()));
     ration.allow(0);
     for key in 1..=3 {
-        assert_eq!(rt; cache.insert(key, key), Ok(()));
+        expect_eq!(rt; cache.insert(key, key), Ok(()));
     }
     let Some((refused, same)) = first_refused(&mut cache) else {
         return Err(Fail::new("no insert was refused"));
     };
     assert!(rt; same, "the refusal changed something");
     let len = cache.len();
-    assert_eq!(rt; len as u64, refused.saturating_sub(97));
-    assert!(rt; !cache.contains_key(&refused));
-    assert_eq!(rt; cache.peek(&3).copied(), Some(3));
-    assert_eq!(rt; cache.reserve(1), Err(Refusal::Memory));
+    expect_eq!(rt; len as u64, refused.saturating_sub(97));
+    expect!(rt; !cache.contains_key(&refused));
+    expect_eq!(rt; cache.peek(&3).copied(), Some(3));
+    expect_eq!(rt; cache.reserve(1), Err(Refusal::Memory));
     ration.allow(100);
-    assert_eq!(rt; cache.insert(refused, 7), Ok(()));
-    assert_eq!(rt; cache.peek(&refused).copied(), Some(7));
+    expect_eq!(rt; cache.insert(refused, 7), Ok(()));
+    expect_eq!(rt; cache.peek(&refused).copied(), Some(7));
     Ok(())
 }

@@ -1,5 +1,6 @@
 //! Lists of calls: one of each kind, and calls that come back.
 use crate::Predicate;
+use expect::{expect, expect_eq, expect_ok};
 use quick_cache_base::Refusal;
 use quick_cache_runs::{Call, Reply, run};
 use quick_cache_unsync::Cache;
@@ -8,16 +9,16 @@ use std::alloc::Global;
 use std::test::Fail;
 
 #[test]
-fn a_list_of_calls_is_made_in_order(rt: HostRuntime) -> Result<(), Fail> {
-    let mut cache: Cache<u64, u64> = Cache::new(rt.alloc(), 1)?;
-    let calls: Vec<Call<u64, u64, Predicate>> = vec![in rt.alloc();
+fn a_list_of_calls_is_made_in_order(rt: HostRuntime) {
+    let mut cache: Cache<u64, u64> = expect_ok!(rt; Cache::new(rt.alloc(), 1));
+    let calls: Vec<Call<u64, u64, Predicate>> = expect_ok!(rt; vec![in rt.alloc();
         Call::Insert(1, 10),
         Call::Get(1),
         Call::Insert(2, 20),
         Call::Get(2),
         Call::Get(1),
         Call::Remove(2),
-    ]?;
+    ]);
     let Ok(replies) = run(rt.alloc(), &mut cache, calls, &mut ()) else {
         panic!(rt; "there is memory");
     };
@@ -29,16 +30,15 @@ fn a_list_of_calls_is_made_in_order(rt: HostRuntime) -> Result<(), Fail> {
         Reply::Value(None),
         Reply::Pair(Some((2, 20))),
     ];
-    assert_eq!(rt; replies.as_slice(), wanted.as_slice());
-    Ok(())
+    expect_eq!(rt; replies.as_slice(), wanted.as_slice());
 }
 
 #[test]
 fn each_kind_of_call_has_its_reply(rt: HostRuntime) -> Result<(), Fail> {
     let alloc = rt.alloc();
     let small = |_: &u64, value: &u64| *value < 25;
-    let mut cache: Cache<u64, u64> = Cache::new(alloc, 5)?;
-    let calls = vec![in alloc;
+    let mut cache: Cache<u64, u64> = expect_ok!(rt; Cache::new(alloc, 5));
+    let calls = expect_ok!(rt; vec![in alloc;
         Call::Insert(1, 10),
         Call::Replace(1, 11, false),
         Call::Replace(2, 20, true),
@@ -71,7 +71,7 @@ fn each_kind_of_call_has_its_reply(rt: HostRuntime) -> Result<(), Fail> {
         Call::Drain,
         Call::Clear,
         Call::Counts,
-    ]?;
+    ]);
     let Ok(replies) = run(alloc, &mut cache, calls, &mut ()) else {
         panic!(rt; "there is memory");
     };
@@ -107,11 +107,11 @@ fn each_kind_of_call_has_its_reply(rt: HostRuntime) -> Result<(), Fail> {
         Reply::Pair(None),
         Reply::Pair(Some((1, 12))),
         Reply::Done,
-        Reply::Pairs(vec![in alloc; (2, 20)]?),
+        Reply::Pairs(expect_ok!(rt; vec![in alloc; (2, 20)])),
         Reply::Pair(None),
         Reply::Done,
         Reply::Done,
-        Reply::Pairs(vec![in alloc; (2, 20)]?),
+        Reply::Pairs(expect_ok!(rt; vec![in alloc; (2, 20)])),
         Reply::Done,
         Reply::Counts {
             len: 0,
@@ -121,49 +121,48 @@ fn each_kind_of_call_has_its_reply(rt: HostRuntime) -> Result<(), Fail> {
             misses: 8,
         },
     ];
-    assert_eq!(rt; replies.as_slice(), wanted.as_slice());
+    expect_eq!(rt; replies.as_slice(), wanted.as_slice());
     Ok(())
 }
 
 #[test]
-fn calls_come_back_where_replies_have_no_room(rt: HostRuntime) -> Result<(), Fail> {
+fn calls_come_back_where_replies_have_no_room(rt: HostRuntime) {
     let ration = Rationed::new(rt.alloc(), 1);
-    let mut cache: Cache<u64, u64> = Cache::new(rt.alloc(), 5)?;
-    let calls = vec![in &ration;
+    let mut cache: Cache<u64, u64> = expect_ok!(rt; Cache::new(rt.alloc(), 5));
+    let calls = expect_ok!(rt; vec![in &ration;
         Call::Insert(1, 10),
         Call::Get(1),
         Call::Retain(|_: &u64, _: &u64| true),
-    ]?;
+    ]);
     ration.allow(0);
     let Err((replies, calls)) = run(&ration, &mut cache, calls, &mut ()) else {
         panic!(rt; "there is no room");
     };
-    assert_eq!(rt; replies.len(), 0);
-    assert!(rt;
+    expect_eq!(rt; replies.len(), 0);
+    expect!(rt;
         matches!(
             calls.as_slice(),
             [Call::Insert(1, 10), Call::Get(1), Call::Retain(_)]
         )
     );
-    assert!(rt; cache.is_empty());
-    Ok(())
+    expect!(rt; cache.is_empty());
 }
 
 #[test]
-fn a_list_of_a_reply_may_be_refused(rt: HostRuntime) -> Result<(), Fail> {
+fn a_list_of_a_reply_may_be_refused(rt: HostRuntime) {
     let ration = Rationed::new(rt.alloc(), 1);
-    let mut cache: Cache<u64, u64> = Cache::new(rt.alloc(), 5)?;
-    let calls: Vec<Call<u64, u64, Predicate>, &Rationed<Global>> = vec![in &ration;
+    let mut cache: Cache<u64, u64> = expect_ok!(rt; Cache::new(rt.alloc(), 5));
+    let calls: Vec<Call<u64, u64, Predicate>, &Rationed<Global>> = expect_ok!(rt; vec![in &ration;
         Call::Insert(1, 10),
         Call::Iter,
         Call::Drain,
         Call::Get(1),
-    ]?;
+    ]);
     ration.allow(1);
     let Ok(replies) = run(&ration, &mut cache, calls, &mut ()) else {
         panic!(rt; "there is room for the replies");
     };
-    assert!(rt;
+    expect!(rt;
         matches!(
             replies.as_slice(),
             [
@@ -174,5 +173,4 @@ fn a_list_of_a_reply_may_be_refused(rt: HostRuntime) -> Result<(), Fail> {
             ]
         )
     );
-    Ok(())
 }

@@ -1,15 +1,15 @@
 //! The traits of the cache: queries that stand for keys, the weigher, the hash builder.
 use crate::halves::{Halves, Shape};
+use expect::{expect, expect_eq, expect_ok};
 use quick_cache_base::{
     DefaultHashBuilder, Equivalent, Refusal, ToKey, UnitWeighter, Weighter, hash_of,
 };
 use quick_cache_unsync::Cache;
-use std::test::Fail;
 
 #[test]
-fn borrowed_halves_stand_for_a_pair(rt: HostRuntime) -> Result<(), Fail> {
+fn borrowed_halves_stand_for_a_pair(rt: HostRuntime) {
     let square = Shape {
-        name: String::from_str(rt.alloc(), "square")?,
+        name: expect_ok!(rt; String::from_str(rt.alloc(), "square")),
         year: 2022,
     };
     let halves = Halves {
@@ -17,25 +17,24 @@ fn borrowed_halves_stand_for_a_pair(rt: HostRuntime) -> Result<(), Fail> {
         year: 2022,
     };
     let builder = DefaultHashBuilder::new();
-    assert!(rt; halves.equivalent(&square));
-    assert_eq!(rt; hash_of(&builder, &halves), hash_of(&builder, &square));
-    assert!(rt;
+    expect!(rt; halves.equivalent(&square));
+    expect_eq!(rt; hash_of(&builder, &halves), hash_of(&builder, &square));
+    expect!(rt;
         !Halves {
             name: "square",
             year: 2023
         }
         .equivalent(&square)
     );
-    Ok(())
 }
 
 #[test]
-fn two_pairs_of_one_name_are_two_keys(rt: HostRuntime) -> Result<(), Fail> {
+fn two_pairs_of_one_name_are_two_keys(rt: HostRuntime) {
     let alloc = rt.alloc();
-    let mut cache: Cache<Shape, &str> = Cache::new(alloc, 5)?;
+    let mut cache: Cache<Shape, &str> = expect_ok!(rt; Cache::new(alloc, 5));
     for (year, colour) in [(2022, "blue"), (2023, "black")] {
-        let name = String::from_str(alloc, "square")?;
-        cache.insert(Shape { name, year }, colour)?;
+        let name = expect_ok!(rt; String::from_str(alloc, "square"));
+        expect_ok!(rt; cache.insert(Shape { name, year }, colour));
     }
     let rows = [
         ("square", 2022, Some("blue")),
@@ -47,26 +46,23 @@ fn two_pairs_of_one_name_are_two_keys(rt: HostRuntime) -> Result<(), Fail> {
         let found = cache.get(&Halves { name, year }).copied();
         assert_eq!(rt; found, colour, "{name} of {year}");
     }
-    Ok(())
 }
 
 #[test]
-fn a_key_stands_for_its_equals_and_gives_its_clone(rt: HostRuntime) -> Result<(), Fail> {
+fn a_key_stands_for_its_equals_and_gives_its_clone(rt: HostRuntime) {
     let key: u64 = 7;
-    assert!(rt; Equivalent::<u64>::equivalent(&key, &7));
-    assert!(rt; !Equivalent::<u64>::equivalent(&key, &8));
-    assert!(rt; key.to_key() == Ok(7));
-    Ok(())
+    expect!(rt; Equivalent::<u64>::equivalent(&key, &7));
+    expect!(rt; !Equivalent::<u64>::equivalent(&key, &8));
+    expect!(rt; key.to_key() == Ok(7));
 }
 
 #[test]
-fn defaults_are_told_plainly(rt: HostRuntime) -> Result<(), Fail> {
+fn defaults_are_told_plainly(rt: HostRuntime) {
     let weigher = UnitWeighter;
-    assert_eq!(rt; weigher.weight(&1u64, &"any"), 1);
+    expect_eq!(rt; weigher.weight(&1u64, &"any"), 1);
     let builder: DefaultHashBuilder = Default::default();
-    let text = format!(in rt.alloc(); "{builder:?}")?;
-    assert_eq!(rt; text.as_str(), "DefaultHashBuilder { .. }");
-    Ok(())
+    let text = expect_ok!(rt; format!(in rt.alloc(); "{builder:?}"));
+    expect_eq!(rt; text.as_str(), "DefaultHashBuilder { .. }");
 }
 
 #[test]
@@ -78,6 +74,6 @@ fn refusals_are_numbered_from_one(rt: HostRuntime) {
         Refusal::Finished,
     ];
     for (at, refusal) in refusals.into_iter().enumerate() {
-        assert_eq!(rt; refusal as usize, at.saturating_add(1));
+        expect_eq!(rt; refusal as usize, at.saturating_add(1));
     }
 }

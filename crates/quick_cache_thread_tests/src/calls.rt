@@ -1,7 +1,7 @@
 //! The calls of a cache that threads share, each once and by one thread.
+use expect::{expect, expect_eq, expect_ok};
 use quick_cache::sync::Cache;
 use std::sync::Wait;
-use std::test::Fail;
 
 /// A cache of 100 items that holds three pairs.
 fn three_pairs<R: Wait>(rt: &R, cache: &Cache<u64, u64>) -> bool {
@@ -11,67 +11,64 @@ fn three_pairs<R: Wait>(rt: &R, cache: &Cache<u64, u64>) -> bool {
 }
 
 #[test]
-fn each_call_acts(rt: HostRuntime) -> Result<(), Fail> {
-    let cache: Cache<u64, u64> = Cache::new(rt.alloc(), 100)?;
-    assert!(rt; cache.is_empty(&rt));
-    assert!(rt; three_pairs(&rt, &cache));
-    assert_eq!(rt; cache.len(&rt), 3);
-    assert!(rt; !cache.is_empty(&rt));
-    assert_eq!(rt; cache.get(&rt, &3), Ok(Some(30)));
-    assert!(rt; cache.contains_key(&rt, &1));
-    assert!(rt; !cache.contains_key(&rt, &4));
-    assert_eq!(rt; cache.peek(&rt, &2), Ok(Some(20)));
-    assert_eq!(rt; cache.peek(&rt, &4), Ok(None));
-    assert_eq!(rt; cache.replace(&rt, 2, 21, false), Ok(()));
-    assert_eq!(rt; cache.replace(&rt, 9, 1, false), Err((9, 1)));
+fn each_call_acts(rt: HostRuntime) {
+    let cache: Cache<u64, u64> = expect_ok!(rt; Cache::new(rt.alloc(), 100));
+    expect!(rt; cache.is_empty(&rt));
+    expect!(rt; three_pairs(&rt, &cache));
+    expect_eq!(rt; cache.len(&rt), 3);
+    expect!(rt; !cache.is_empty(&rt));
+    expect_eq!(rt; cache.get(&rt, &3), Ok(Some(30)));
+    expect!(rt; cache.contains_key(&rt, &1));
+    expect!(rt; !cache.contains_key(&rt, &4));
+    expect_eq!(rt; cache.peek(&rt, &2), Ok(Some(20)));
+    expect_eq!(rt; cache.peek(&rt, &4), Ok(None));
+    expect_eq!(rt; cache.replace(&rt, 2, 21, false), Ok(()));
+    expect_eq!(rt; cache.replace(&rt, 9, 1, false), Err((9, 1)));
     let mut gone = [None, None];
-    assert_eq!(rt;
+    expect_eq!(rt;
         cache.replace_with_lifecycle(&rt, 3, 31, true, &mut gone),
         Ok(())
     );
-    assert_eq!(rt; gone, [Some((3, 30)), None]);
-    assert_eq!(rt; cache.remove_if(&rt, &2, |value| *value == 20), None);
-    assert_eq!(rt;
+    expect_eq!(rt; gone, [Some((3, 30)), None]);
+    expect_eq!(rt; cache.remove_if(&rt, &2, |value| *value == 20), None);
+    expect_eq!(rt;
         cache.remove_if(&rt, &2, |value| *value == 21),
         Some((2, 21))
     );
-    assert_eq!(rt; (cache.hits(&rt), cache.misses(&rt)), (1, 0));
-    assert_eq!(rt; cache.weight(&rt), 2);
+    expect_eq!(rt; (cache.hits(&rt), cache.misses(&rt)), (1, 0));
+    expect_eq!(rt; cache.weight(&rt), 2);
     cache.retain(&rt, |key, _| *key == 1);
-    assert_eq!(rt; cache.len(&rt), 1);
-    assert_eq!(rt; cache.remove(&rt, &3), None);
-    assert_eq!(rt; cache.remove(&rt, &1), Some((1, 10)));
-    assert_eq!(rt; cache.insert(&rt, 1, 10), Ok(()));
-    assert_eq!(rt; cache.capacity(&rt), 100);
+    expect_eq!(rt; cache.len(&rt), 1);
+    expect_eq!(rt; cache.remove(&rt, &3), None);
+    expect_eq!(rt; cache.remove(&rt, &1), Some((1, 10)));
+    expect_eq!(rt; cache.insert(&rt, 1, 10), Ok(()));
+    expect_eq!(rt; cache.capacity(&rt), 100);
     cache.set_capacity(&rt, 40);
-    assert_eq!(rt; cache.capacity(&rt), 40);
-    assert_eq!(rt; cache.shard_capacity(&rt), 20);
+    expect_eq!(rt; cache.capacity(&rt), 40);
+    expect_eq!(rt; cache.shard_capacity(&rt), 20);
     cache.clear(&rt);
-    assert!(rt; cache.is_empty(&rt));
-    Ok(())
+    expect!(rt; cache.is_empty(&rt));
 }
 
 #[test]
-fn reads_are_counted_and_looks_are_not(rt: HostRuntime) -> Result<(), Fail> {
-    let cache: Cache<u64, u64> = Cache::new(rt.alloc(), 100)?;
-    assert!(rt; three_pairs(&rt, &cache));
+fn reads_are_counted_and_looks_are_not(rt: HostRuntime) {
+    let cache: Cache<u64, u64> = expect_ok!(rt; Cache::new(rt.alloc(), 100));
+    expect!(rt; three_pairs(&rt, &cache));
     for _ in 0..3 {
-        assert_eq!(rt; cache.get(&rt, &1), Ok(Some(10)));
+        expect_eq!(rt; cache.get(&rt, &1), Ok(Some(10)));
     }
-    assert_eq!(rt; cache.peek(&rt, &1), Ok(Some(10)));
+    expect_eq!(rt; cache.peek(&rt, &1), Ok(Some(10)));
     let reads = cache.item_stats(&rt, &1).map(|stats| stats.access_count);
-    assert_eq!(rt; reads, Some(3));
-    assert!(rt; cache.item_stats(&rt, &4).is_none());
-    assert_eq!(rt; cache.get(&rt, &4), Ok(None));
-    assert_eq!(rt; (cache.hits(&rt), cache.misses(&rt)), (3, 1));
-    Ok(())
+    expect_eq!(rt; reads, Some(3));
+    expect!(rt; cache.item_stats(&rt, &4).is_none());
+    expect_eq!(rt; cache.get(&rt, &4), Ok(None));
+    expect_eq!(rt; (cache.hits(&rt), cache.misses(&rt)), (3, 1));
 }
 
 #[test]
-fn memory_is_reserved_in_each_shard(rt: HostRuntime) -> Result<(), Fail> {
-    let cache: Cache<u64, u64> = Cache::new(rt.alloc(), 100)?;
-    assert_eq!(rt; cache.memory_used(&rt).entries, 0);
-    assert_eq!(rt; cache.reserve(&rt, 100), Ok(()));
-    assert!(rt; cache.memory_used(&rt).total() > 0);
-    Ok(())
+fn memory_is_reserved_in_each_shard(rt: HostRuntime) {
+    let cache: Cache<u64, u64> = expect_ok!(rt; Cache::new(rt.alloc(), 100));
+    expect_eq!(rt; cache.memory_used(&rt).entries, 0);
+    expect_eq!(rt; cache.reserve(&rt, 100), Ok(()));
+    expect!(rt; cache.memory_used(&rt).total() > 0);
 }

@@ -1,8 +1,8 @@
 //! A value that leaves a cache is dropped once, whatever makes it leave.
+use expect::{expect_eq, expect_ok};
 use quick_cache::{Weighter, sync, unsync};
 use std::cell::Cell;
 use std::sync::Wait;
-use std::test::Fail;
 
 /// A value of some weight, which counts how many values were dropped.
 struct Counted<'a> {
@@ -53,9 +53,10 @@ fn put<'a>(cache: &mut OneThread<'a>, drops: &'a Cell<u64>, key: u64, weight: u6
 }
 
 #[test]
-fn one_thread_drops_what_leaves_once(rt: HostRuntime) -> Result<(), Fail> {
+fn one_thread_drops_what_leaves_once(rt: HostRuntime) {
     let drops = Cell::new(0);
-    let mut cache: OneThread<'_> = unsync::Cache::with_weighter(rt.alloc(), 10, 10, ByValue)?;
+    let mut cache: OneThread<'_> =
+        expect_ok!(rt; unsync::Cache::with_weighter(rt.alloc(), 10, 10, ByValue));
     for (key, weight, dropped) in INSERTS {
         assert_eq!(rt; put(&mut cache, &drops, key, weight), dropped, "at {key}");
     }
@@ -72,11 +73,10 @@ fn one_thread_drops_what_leaves_once(rt: HostRuntime) -> Result<(), Fail> {
     drop(drain);
     let drained = put(&mut cache, &drops, 1, 1);
     drop(cache);
-    assert_eq!(rt;
+    expect_eq!(rt;
         [removed, kept, cleared, again, given, drained, drops.get()],
         [6, 7, 9, 9, 10, 11, 12]
     );
-    Ok(())
 }
 
 type Shared<'a> = sync::Cache<u64, Counted<'a>, ByValue>;
@@ -94,9 +94,9 @@ fn put_shared<'a, R: Wait>(
 }
 
 #[test]
-fn a_shared_cache_drops_what_leaves_once(rt: HostRuntime) -> Result<(), Fail> {
+fn a_shared_cache_drops_what_leaves_once(rt: HostRuntime) {
     let drops = Cell::new(0);
-    let cache: Shared<'_> = sync::Cache::with_weighter(rt.alloc(), 10, 10, ByValue)?;
+    let cache: Shared<'_> = expect_ok!(rt; sync::Cache::with_weighter(rt.alloc(), 10, 10, ByValue));
     for (key, weight, dropped) in INSERTS {
         assert_eq!(rt;
             put_shared(&rt, &cache, &drops, key, weight),
@@ -111,6 +111,5 @@ fn a_shared_cache_drops_what_leaves_once(rt: HostRuntime) -> Result<(), Fail> {
     cache.clear(&rt);
     let cleared = put_shared(&rt, &cache, &drops, 1, 1);
     drop(cache);
-    assert_eq!(rt; [removed, kept, cleared, drops.get()], [6, 7, 9, 10]);
-    Ok(())
+    expect_eq!(rt; [removed, kept, cleared, drops.get()], [6, 7, 9, 10]);
 }

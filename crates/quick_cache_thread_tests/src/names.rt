@@ -6,6 +6,7 @@ mod lending;
 mod one_thread;
 mod parts;
 
+use expect::{expect, expect_eq, expect_ok};
 use quick_cache::shard::{
     CacheShard, Drain, EntryAction, EntryOrPlaceholder, GhostIter, InsertStrategy, Iter, IterFrom,
     MakesPlaceholders, RingIter, SharedPlaceholder, Touches,
@@ -13,7 +14,6 @@ use quick_cache::shard::{
 use quick_cache::sync::{Cache, DefaultLifecycle, LockContention, TryError};
 use quick_cache::unsync::{DefaultLifecycle as Dropping, Placeholder};
 use quick_cache::{DefaultHashBuilder, UnitWeighter};
-use std::test::Fail;
 
 type Shard = CacheShard<
     u64,
@@ -79,8 +79,8 @@ fn touches_by<P: SharedPlaceholder<u64>>() -> u64 {
 }
 
 #[test]
-fn shard_has_its_names(rt: HostRuntime) -> Result<(), Fail> {
-    let mut shard: Shard = CacheShard::new(
+fn shard_has_its_names(rt: HostRuntime) {
+    let mut shard: Shard = expect_ok!(rt; CacheShard::new(
         rt.alloc(),
         970000,
         500000,
@@ -90,10 +90,10 @@ fn shard_has_its_names(rt: HostRuntime) -> Result<(), Fail> {
         UnitWeighter,
         DefaultHashBuilder::new(),
         Dropping::new(),
-    )?;
+    ));
     let done = puts(&mut shard, 1, 10);
     let counts = counts_of(&shard);
-    assert_eq!(rt;
+    expect_eq!(rt;
         (
             done,
             touches_by::<Placeholder>(),
@@ -102,7 +102,6 @@ fn shard_has_its_names(rt: HostRuntime) -> Result<(), Fail> {
         ),
         (true, 0, ([1, 1, 0], Some(1)), Some((1, 10)))
     );
-    Ok(())
 }
 
 /// Whether a call did not get its lock.
@@ -111,19 +110,18 @@ fn is_contended(error: &TryError) -> bool {
 }
 
 #[test]
-fn sync_has_its_names(rt: HostRuntime) -> Result<(), Fail> {
-    let cache: Cache<u64, u64> = Cache::with(
+fn sync_has_its_names(rt: HostRuntime) {
+    let cache: Cache<u64, u64> = expect_ok!(rt; Cache::with(
         rt.alloc(),
         2,
         2,
         UnitWeighter,
         DefaultHashBuilder::new(),
         DefaultLifecycle::new(),
-    )?;
+    ));
     let in_vain = match cache.try_get(&1) {
         Ok(found) => found.is_some(),
         Err(error) => is_contended(&error),
     };
-    assert!(rt; !in_vain);
-    Ok(())
+    expect!(rt; !in_vain);
 }

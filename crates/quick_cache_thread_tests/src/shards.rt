@@ -1,9 +1,9 @@
 //! The shards of a cache: how many there are, how much each may hold, and which one a key has.
 use crate::upper::Upper;
+use expect::{expect_eq, expect_ok};
 use quick_cache::sync::{Cache, DefaultLifecycle};
 use quick_cache::{DefaultHashBuilder, Options, OptionsBuilder, UnitWeighter};
 use std::alloc::Global;
-use std::test::Fail;
 
 /// The options of so many items and so much weight, and of so many shards where that is told.
 fn options(shards: Option<usize>, items: usize, weight: u64) -> Option<Options> {
@@ -18,7 +18,7 @@ fn options(shards: Option<usize>, items: usize, weight: u64) -> Option<Options> 
 }
 
 #[test]
-fn the_options_tell_how_a_cache_is_divided(rt: HostRuntime) -> Result<(), Fail> {
+fn the_options_tell_how_a_cache_is_divided(rt: HostRuntime) {
     let rows: [(Option<usize>, usize, u64, usize, u64, u64); 6] = [
         (Some(0), 1000, 10, 1, 10, 10),
         (Some(3), 1000, 10, 4, 3, 12),
@@ -31,51 +31,49 @@ fn the_options_tell_how_a_cache_is_divided(rt: HostRuntime) -> Result<(), Fail> 
         let Some(options) = options(asked, items, weight) else {
             panic!(rt; "the options are in range");
         };
-        let cache: Cache<u64, u64> = Cache::with_options(
+        let cache: Cache<u64, u64> = expect_ok!(rt; Cache::with_options(
             rt.alloc(),
             options,
             UnitWeighter,
             DefaultHashBuilder::new(),
             DefaultLifecycle::new(),
-        )?;
-        assert_eq!(rt; cache.num_shards(), shards);
-        assert_eq!(rt; cache.shard_capacity(&rt), shard_capacity);
-        assert_eq!(rt; cache.capacity(&rt), capacity);
+        ));
+        expect_eq!(rt; cache.num_shards(), shards);
+        expect_eq!(rt; cache.shard_capacity(&rt), shard_capacity);
+        expect_eq!(rt; cache.capacity(&rt), capacity);
     }
-    Ok(())
 }
 
 #[test]
-fn the_greatest_mark_decides_who_leaves(rt: HostRuntime) -> Result<(), Fail> {
+fn the_greatest_mark_decides_who_leaves(rt: HostRuntime) {
     // The greatest mark, and which of two keys stays: one read once, and one read three times.
     for (cut, stays) in [(1, 1), (2, 2), (3, 2)] {
-        let options = OptionsBuilder::new()
+        let options = expect_ok!(rt; OptionsBuilder::new()
             .estimated_items_capacity(2)
             .weight_capacity(2)
             .mark_cut(cut)
-            .build()?;
-        let cache: Cache<u64, u64> = Cache::with_options(
+            .build());
+        let cache: Cache<u64, u64> = expect_ok!(rt; Cache::with_options(
             rt.alloc(),
             options,
             UnitWeighter,
             DefaultHashBuilder::new(),
             DefaultLifecycle::new(),
-        )?;
-        assert_eq!(rt; cache.insert(&rt, 1, 10), Ok(()));
-        assert_eq!(rt; cache.get(&rt, &1), Ok(Some(10)));
-        assert_eq!(rt; cache.insert(&rt, 2, 20), Ok(()));
+        ));
+        expect_eq!(rt; cache.insert(&rt, 1, 10), Ok(()));
+        expect_eq!(rt; cache.get(&rt, &1), Ok(Some(10)));
+        expect_eq!(rt; cache.insert(&rt, 2, 20), Ok(()));
         for _ in 0..3 {
-            assert_eq!(rt; cache.get(&rt, &2), Ok(Some(20)));
+            expect_eq!(rt; cache.get(&rt, &2), Ok(Some(20)));
         }
-        assert_eq!(rt; cache.insert(&rt, 3, 30), Ok(()));
+        expect_eq!(rt; cache.insert(&rt, 3, 30), Ok(()));
         let found = (cache.contains_key(&rt, &1), cache.contains_key(&rt, &2));
         assert_eq!(rt; found, (stays == 1, stays == 2), "at {cut}");
     }
-    Ok(())
 }
 
 #[test]
-fn too_many_shards_are_refused(rt: HostRuntime) -> Result<(), Fail> {
+fn too_many_shards_are_refused(rt: HostRuntime) {
     let mut options = OptionsBuilder::new();
     options
         .estimated_items_capacity(100)
@@ -84,33 +82,32 @@ fn too_many_shards_are_refused(rt: HostRuntime) -> Result<(), Fail> {
     let Err(error) = options.build() else {
         panic!(rt; "there are too many");
     };
-    let text = format!(in rt.alloc(); "{error}")?;
-    assert_eq!(rt; text.as_str(), "shards is out of range");
-    Ok(())
+    let text = expect_ok!(rt; format!(in rt.alloc(); "{error}"));
+    expect_eq!(rt; text.as_str(), "shards is out of range");
 }
 
 /// A cache whose shards a test can foresee.
 type UpperCache = Cache<u64, u64, UnitWeighter, Upper, DefaultLifecycle<u64, u64>, Global>;
 
 #[test]
-fn calls_reach_the_shard_that_the_hash_tells(rt: HostRuntime) -> Result<(), Fail> {
+fn calls_reach_the_shard_that_the_hash_tells(rt: HostRuntime) {
     let Some(options) = options(Some(4), 1000, 1000) else {
         panic!(rt; "the options are in range");
     };
-    let cache: UpperCache = Cache::with_options(
+    let cache: UpperCache = expect_ok!(rt; Cache::with_options(
         rt.alloc(),
         options,
         UnitWeighter,
         Upper,
         DefaultLifecycle::new(),
-    )?;
-    assert_eq!(rt; cache.num_shards(), 4);
+    ));
+    expect_eq!(rt; cache.num_shards(), 4);
     for key in 0..8 {
-        assert_eq!(rt; cache.shard_index(&key), key as usize % 4);
-        assert_eq!(rt; cache.insert(&rt, key, key + 1), Ok(()));
+        expect_eq!(rt; cache.shard_index(&key), key as usize % 4);
+        expect_eq!(rt; cache.insert(&rt, key, key + 1), Ok(()));
     }
     for key in 0..8 {
-        assert_eq!(rt; cache.get(&rt, &key), Ok(Some(key + 1)));
+        expect_eq!(rt; cache.get(&rt, &key), Ok(Some(key + 1)));
     }
     // Of the keys below 4 one lies in each shard, and of those above too.
     cache.retain(&rt, |key, _| *key < 4);
@@ -125,5 +122,4 @@ fn calls_reach_the_shard_that_the_hash_tells(rt: HostRuntime) -> Result<(), Fail
     for key in 0..8 {
         assert!(rt; !cache.contains_key(&rt, &key), "after clear, {key}");
     }
-    Ok(())
 }

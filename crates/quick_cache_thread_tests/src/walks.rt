@@ -1,9 +1,9 @@
 //! Walks over the shared cache, and drains of it.
+use expect::{expect, expect_eq, expect_ok};
 use quick_cache::sync::Cache;
 use std::alloc::Global;
 use std::sync::Wait;
 use std::sync::atomic::{AtomicBool, Ordering};
-use std::test::Fail;
 use std::thread::join;
 
 /// The keys that a walk shows, or that a drain takes, in ascending order, where each value is as
@@ -46,19 +46,18 @@ fn begin_with_numbers(keys: &Vec<u64>, count: usize) -> bool {
 }
 
 #[test]
-fn a_walk_shows_each_item_once_and_a_drain_takes_it(rt: HostRuntime) -> Result<(), Fail> {
-    let cache: Cache<u64, u64> = Cache::new(rt.alloc(), 1000)?;
+fn a_walk_shows_each_item_once_and_a_drain_takes_it(rt: HostRuntime) {
+    let cache: Cache<u64, u64> = expect_ok!(rt; Cache::new(rt.alloc(), 1000));
     for number in 0..500 {
-        assert!(rt; cache.insert(&rt, number, number).is_ok());
+        expect!(rt; cache.insert(&rt, number, number).is_ok());
     }
     for drains in [false, true] {
         let Some(keys) = met(&rt, rt.alloc(), &cache, drains) else {
             panic!(rt; "each value is as its key");
         };
-        assert!(rt; begin_with_numbers(&keys, 500) && keys.len() == 500);
+        expect!(rt; begin_with_numbers(&keys, 500) && keys.len() == 500);
     }
-    assert_eq!(rt; cache.len(&rt), 0);
-    Ok(())
+    expect_eq!(rt; cache.len(&rt), 0);
 }
 
 /// Walks twenty times, and counts the walks that show each of the keys 0 to 499 once.
@@ -92,10 +91,10 @@ fn comes_and_goes<R: Wait>(rt: &R, cache: &Cache<u64, u64>, is_over: &AtomicBool
 }
 
 #[test]
-fn a_walk_beside_a_thread_shows_what_stays_once(rt: HostRuntime) -> Result<(), Fail> {
-    let cache: Cache<u64, u64> = Cache::new(rt.alloc(), 4000)?;
+fn a_walk_beside_a_thread_shows_what_stays_once(rt: HostRuntime) {
+    let cache: Cache<u64, u64> = expect_ok!(rt; Cache::new(rt.alloc(), 4000));
     for number in 0..500 {
-        assert!(rt; cache.insert(&rt, number, number).is_ok());
+        expect!(rt; cache.insert(&rt, number, number).is_ok());
     }
     let is_over = AtomicBool::new(false);
     let (shared, is_over, alloc) = (&cache, &is_over, rt.alloc());
@@ -108,9 +107,8 @@ fn a_walk_beside_a_thread_shows_what_stays_once(rt: HostRuntime) -> Result<(), F
         },
         || comes_and_goes(&rt, shared, is_over),
     );
-    println!(rt; "{rounds} rounds beside the walks")?;
-    assert_eq!(rt; (right, cache.len(&rt)), (20, 500));
-    Ok(())
+    expect_ok!(rt; println!(rt; "{rounds} rounds beside the walks"));
+    expect_eq!(rt; (right, cache.len(&rt)), (20, 500));
 }
 
 /// The two of the keys 1 to 3 that are not this one.
@@ -123,18 +121,18 @@ fn others_than(key: u64) -> (u64, u64) {
 }
 
 #[test]
-fn a_walk_goes_on_beside_other_calls(rt: HostRuntime) -> Result<(), Fail> {
-    let cache: Cache<u64, u64> = Cache::new(rt.alloc(), 8)?;
+fn a_walk_goes_on_beside_other_calls(rt: HostRuntime) {
+    let cache: Cache<u64, u64> = expect_ok!(rt; Cache::new(rt.alloc(), 8));
     for number in 1..4u64 {
-        assert!(rt; cache.insert(&rt, number, number).is_ok());
+        expect!(rt; cache.insert(&rt, number, number).is_ok());
     }
     let mut walk = cache.iter(&rt);
     let Some((first, _)) = walk.next().and_then(|step| step.ok()) else {
         panic!(rt; "there are three items");
     };
     let (gone, stays) = others_than(first);
-    assert_eq!(rt; cache.remove(&rt, &gone), Some((gone, gone)));
-    assert!(rt; cache.insert(&rt, 9, 9).is_ok());
+    expect_eq!(rt; cache.remove(&rt, &gone), Some((gone, gone)));
+    expect!(rt; cache.insert(&rt, 9, 9).is_ok());
     let second = walk.next().and_then(|step| step.ok());
     let third = walk.next().and_then(|step| step.ok());
     let fourth = walk.next().and_then(|step| step.ok());
@@ -142,6 +140,5 @@ fn a_walk_goes_on_beside_other_calls(rt: HostRuntime) -> Result<(), Fail> {
     // The new item has the slot that became free, which is behind the walk or ahead of it.
     let is_right = (second == kept && (third.is_none() || third == new))
         || (second == new && third == kept);
-    assert!(rt; is_right && fourth.is_none());
-    Ok(())
+    expect!(rt; is_right && fourth.is_none());
 }

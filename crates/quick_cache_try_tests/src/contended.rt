@@ -1,6 +1,7 @@
 //! The calls that do not wait, while another call has a lock to write. A predicate of `remove_if`
 //! runs under that lock, and tries them on the same cache: an item that leaves says that each of
 //! them gave the answer that is wanted.
+use expect::expect_eq;
 use quick_cache::sync::{Cache, DefaultLifecycle, LockContention, TryError};
 use quick_cache::{DefaultHashBuilder, OptionsBuilder, UnitWeighter};
 use std::alloc::Global;
@@ -44,16 +45,16 @@ fn each_call_answers_contention_under_a_lock_to_write(rt: HostRuntime) -> Result
         panic!(rt; "there is memory");
     };
     let shared = &cache;
-    assert_eq!(rt; cache.insert(&rt, 1, 10), Ok(()));
-    assert_eq!(rt; cache.insert(&rt, 2, 20), Ok(()));
-    assert_eq!(rt;
+    expect_eq!(rt; cache.insert(&rt, 1, 10), Ok(()));
+    expect_eq!(rt; cache.insert(&rt, 2, 20), Ok(()));
+    expect_eq!(rt;
         cache.remove_if(&rt, &2, |_| each_is_contended(shared)),
         Some((2, 20))
     );
     // Nothing changed, and the lock is free again.
-    assert_eq!(rt; cache.try_contains_key(&3), Ok(false));
-    assert_eq!(rt; cache.try_peek(&1), Ok(Some(10)));
-    assert_eq!(rt;
+    expect_eq!(rt; cache.try_contains_key(&3), Ok(false));
+    expect_eq!(rt; cache.try_peek(&1), Ok(Some(10)));
+    expect_eq!(rt;
         (cache.len(&rt), cache.hits(&rt), cache.misses(&rt)),
         (1, 0, 0)
     );
@@ -70,7 +71,7 @@ fn a_lock_is_of_its_shard_alone(rt: HostRuntime) -> Result<(), Fail> {
     else {
         panic!(rt; "each shard has keys");
     };
-    assert_eq!(rt; cache.insert(&rt, 1, 10), Ok(()));
+    expect_eq!(rt; cache.insert(&rt, 1, 10), Ok(()));
     let acts_on_the_other = |_: &u64| {
         shared.try_contains_key(&1) == Err(LockContention)
             && shared.try_insert(other, 20) == Ok(())
@@ -79,6 +80,6 @@ fn a_lock_is_of_its_shard_alone(rt: HostRuntime) -> Result<(), Fail> {
             && shared.try_contains_key(&other) == Ok(true)
             && shared.try_remove(&other) == Ok(Some((other, 20)))
     };
-    assert_eq!(rt; cache.remove_if(&rt, &1, acts_on_the_other), Some((1, 10)));
+    expect_eq!(rt; cache.remove_if(&rt, &1, acts_on_the_other), Some((1, 10)));
     Ok(())
 }

@@ -1,10 +1,10 @@
 //! A mixed run of calls on a cache that threads share, every second one by its form that does not
 //! wait, beside the same calls on a cache for one thread.
 use crate::recording::{Recording, Reported};
+use expect::{expect, expect_eq, expect_ok};
 use quick_cache::{UnitWeighter, sync, unsync};
 use quick_cache_test_parts::thousand::Thousand;
 use std::sync::Wait;
-use std::test::Fail;
 
 /// The cache that threads share.
 type Shared = sync::Cache<u64, u64, UnitWeighter, Thousand, Recording>;
@@ -114,16 +114,17 @@ fn call_tried<R: Wait>(
 }
 
 #[test]
-fn both_caches_answer_and_report_the_same(rt: HostRuntime) -> Result<(), Fail> {
-    let shared: Shared = sync::Cache::with(rt.alloc(), 8, 8, UnitWeighter, Thousand, Recording)?;
-    let mut alone: Alone = unsync::Cache::with(
+fn both_caches_answer_and_report_the_same(rt: HostRuntime) {
+    let shared: Shared =
+        expect_ok!(rt; sync::Cache::with(rt.alloc(), 8, 8, UnitWeighter, Thousand, Recording));
+    let mut alone: Alone = expect_ok!(rt; unsync::Cache::with(
         rt.alloc(),
         8,
         8,
         UnitWeighter,
         Thousand,
         Recording,
-    )?;
+    ));
     let mut drawn: u64 = 1;
     let mut left = 0u64;
     for value in 0..CALLS {
@@ -142,15 +143,14 @@ fn both_caches_answer_and_report_the_same(rt: HostRuntime) -> Result<(), Fail> {
         } else {
             call_tried(&rt, &shared, call, &mut reported_shared)
         };
-        assert!(rt; wanted.is_some());
-        assert_eq!(rt; answer, wanted);
-        assert_eq!(rt; reported_shared, reported_alone);
+        expect!(rt; wanted.is_some());
+        expect_eq!(rt; answer, wanted);
+        expect_eq!(rt; reported_shared, reported_alone);
         left = left.saturating_add(reported_alone.count() as u64);
     }
-    assert!(rt; left > 0);
-    assert_eq!(rt; shared.len(&rt), alone.len());
-    assert_eq!(rt; shared.weight(&rt), alone.weight());
-    assert_eq!(rt; shared.hits(&rt), alone.hits());
-    assert_eq!(rt; shared.misses(&rt), alone.misses());
-    Ok(())
+    expect!(rt; left > 0);
+    expect_eq!(rt; shared.len(&rt), alone.len());
+    expect_eq!(rt; shared.weight(&rt), alone.weight());
+    expect_eq!(rt; shared.hits(&rt), alone.hits());
+    expect_eq!(rt; shared.misses(&rt), alone.misses());
 }

@@ -4,11 +4,11 @@ ghost use Rattle.std.specs.Prelude.{◌==◌};
 ghost use Rattle.std.specs.Cmp.Rules.{comparing, hashing};
 ghost use Rattle.std.proofs.Common.{rules};
 
+use expect::{expect, expect_eq, expect_ok};
 use quick_cache::Equivalent;
 use quick_cache::sync::{Cache, LockContention, TryError};
 use std::hash::Hash;
 use std::sync::atomic::{AtomicU64, Ordering};
-use std::test::Fail;
 
 /// Stands for a number. Where it is compared, it counts whether the calls that read answer and those
 /// that write are contended.
@@ -49,17 +49,16 @@ fn readers_share(cache: &Cache<u64, u64>) -> bool {
 }
 
 #[test]
-fn a_lock_to_read_is_shared_by_calls_that_read(rt: HostRuntime) -> Result<(), Fail> {
-    let cache: Cache<u64, u64> = Cache::new(rt.alloc(), 10)?;
-    assert_eq!(rt; cache.insert(&rt, 1, 10), Ok(()));
+fn a_lock_to_read_is_shared_by_calls_that_read(rt: HostRuntime) {
+    let cache: Cache<u64, u64> = expect_ok!(rt; Cache::new(rt.alloc(), 10));
+    expect_eq!(rt; cache.insert(&rt, 1, 10), Ok(()));
     let right = AtomicU64::new(0);
     let query = Trying {
         number: 1,
         cache: &cache,
         right: &right,
     };
-    assert!(rt; cache.contains_key(&rt, &query));
-    assert_eq!(rt; right.load(Ordering::SeqCst), 1);
-    assert_eq!(rt; cache.get(&rt, &1), Ok(Some(10)));
-    Ok(())
+    expect!(rt; cache.contains_key(&rt, &query));
+    expect_eq!(rt; right.load(Ordering::SeqCst), 1);
+    expect_eq!(rt; cache.get(&rt, &1), Ok(Some(10)));
 }

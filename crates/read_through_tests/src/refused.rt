@@ -2,17 +2,18 @@
 ghost use Rattle.std.specs.Prelude.{◌≡◌};
 
 use crate::hundreds::hundreds;
+use expect::{expect_eq, expect_ok};
 use rationed::Rationed;
 use read_through::{AnySource, ReadThrough, Refusal};
 use std::alloc::{AllocError, Global};
 use std::sync::atomic::{AtomicU64, Ordering};
-use std::test::Fail;
 
 #[test]
-fn without_an_entry_nothing_is_loaded(rt: HostRuntime) -> Result<(), Fail> {
+fn without_an_entry_nothing_is_loaded(rt: HostRuntime) {
     let ration = Rationed::new(rt.alloc(), 1000);
     let calls = AtomicU64::new(0);
-    let loaded: ReadThrough<u64, u64, _, AnySource, &Rationed<Global>> = ReadThrough::new(
+    let loaded: ReadThrough<u64, u64, _, AnySource, &Rationed<Global>> =
+        expect_ok!(rt; ReadThrough::new(
         &ration,
         8,
         10,
@@ -20,13 +21,12 @@ fn without_an_entry_nothing_is_loaded(rt: HostRuntime) -> Result<(), Fail> {
             calls.fetch_add(1, Ordering::SeqCst);
             hundreds(*key, now)
         },
-    )?;
+    ));
     ration.allow(0);
-    assert_eq!(rt; loaded.get(&rt, &1, 5), Err(Refusal::Memory));
+    expect_eq!(rt; loaded.get(&rt, &1, 5), Err(Refusal::Memory));
     ration.allow(1000);
     let before = calls.load(Ordering::SeqCst);
-    assert_eq!(rt; (before, loaded.get(&rt, &1, 5)), (0, Ok(105)));
-    Ok(())
+    expect_eq!(rt; (before, loaded.get(&rt, &1, 5)), (0, Ok(105)));
 }
 
 /// A number of which so many clones can be made.
@@ -55,9 +55,9 @@ impl Clone for Fragile<'_> {
 }
 
 #[test]
-fn what_cannot_be_stored_is_answered(rt: HostRuntime) -> Result<(), Fail> {
+fn what_cannot_be_stored_is_answered(rt: HostRuntime) {
     let left = AtomicU64::new(0);
-    let loaded: ReadThrough<u64, Fragile<'_>, _> = ReadThrough::new(
+    let loaded: ReadThrough<u64, Fragile<'_>, _> = expect_ok!(rt; ReadThrough::new(
         rt.alloc(),
         8,
         10,
@@ -65,7 +65,7 @@ fn what_cannot_be_stored_is_answered(rt: HostRuntime) -> Result<(), Fail> {
             number: hundreds(*key, now),
             left: &left,
         },
-    )?;
+    ));
     // The clones that can be made, a moment, the answer, and how many are stored then.
     let rows = [
         (0, 5, Ok(105), 0),
@@ -82,5 +82,4 @@ fn what_cannot_be_stored_is_answered(rt: HostRuntime) -> Result<(), Fail> {
         };
         assert_eq!(rt; (got, loaded.len(&rt)), (answer, len), "at {now}");
     }
-    Ok(())
 }

@@ -1,13 +1,13 @@
 //! What a loader with its cache answers, and how often it is called.
 use crate::hundreds::{first_wrong, hundreds};
+use expect::{expect, expect_eq, expect_ok};
 use read_through::{Loaded, ReadThrough};
 use std::sync::Barrier;
 use std::sync::atomic::{AtomicU64, Ordering};
-use std::test::Fail;
 use std::thread::join;
 
 #[test]
-fn loads_once_while_fresh(rt: HostRuntime) -> Result<(), Fail> {
+fn loads_once_while_fresh(rt: HostRuntime) {
     // The capacity, the life, and gets of the key 1: the moment, the answer, the loads so far.
     let rows: [(usize, u64, &[(u64, u64, u64)]); 4] = [
         (
@@ -28,7 +28,7 @@ fn loads_once_while_fresh(rt: HostRuntime) -> Result<(), Fail> {
     ];
     for (capacity, life, gets) in rows {
         let calls = AtomicU64::new(0);
-        let loaded: ReadThrough<u64, u64, _> = ReadThrough::new(
+        let loaded: ReadThrough<u64, u64, _> = expect_ok!(rt; ReadThrough::new(
             rt.alloc(),
             capacity,
             life,
@@ -36,17 +36,16 @@ fn loads_once_while_fresh(rt: HostRuntime) -> Result<(), Fail> {
                 calls.fetch_add(1, Ordering::SeqCst);
                 hundreds(*key, now)
             },
-        )?;
+        ));
         let wrong = first_wrong(&rt, &loaded, &calls, gets);
         assert_eq!(rt; wrong, None, "capacity {capacity}, life {life}");
     }
-    Ok(())
 }
 
 #[test]
-fn two_threads_that_ask_at_once_load_once(rt: HostRuntime) -> Result<(), Fail> {
+fn two_threads_that_ask_at_once_load_once(rt: HostRuntime) {
     let calls = AtomicU64::new(0);
-    let loaded: ReadThrough<u64, u64, _> = ReadThrough::new(
+    let loaded: ReadThrough<u64, u64, _> = expect_ok!(rt; ReadThrough::new(
         rt.alloc(),
         8,
         10,
@@ -54,44 +53,42 @@ fn two_threads_that_ask_at_once_load_once(rt: HostRuntime) -> Result<(), Fail> {
             calls.fetch_add(1, Ordering::SeqCst);
             hundreds(*key, now)
         },
-    )?;
+    ));
     let both = Barrier::new(2);
     let (rt, loaded, both) = (&rt, &loaded, &both);
     let ask = || {
         both.wait(rt);
         loaded.get(rt, &2, 1)
     };
-    assert_eq!(rt; join(rt, ask, ask), (Ok(201), Ok(201)));
-    assert_eq!(rt; calls.load(Ordering::SeqCst), 1);
-    Ok(())
+    expect_eq!(rt; join(rt, ask, ask), (Ok(201), Ok(201)));
+    expect_eq!(rt; calls.load(Ordering::SeqCst), 1);
 }
 
 #[test]
-fn what_is_removed_is_loaded_anew(rt: HostRuntime) -> Result<(), Fail> {
-    let loaded: ReadThrough<u64, u64, _> = ReadThrough::new(
+fn what_is_removed_is_loaded_anew(rt: HostRuntime) {
+    let loaded: ReadThrough<u64, u64, _> = expect_ok!(rt; ReadThrough::new(
         rt.alloc(),
         8,
         10,
         |key: &u64, now: u64| hundreds(*key, now),
-    )?;
+    ));
     for now in [5, 6, 15] {
-        loaded.get(&rt, &1, now)?;
+        expect_ok!(rt; loaded.get(&rt, &1, now));
     }
     // The first found nothing, the second was a hit, and the third found what is too old.
     let counts = (loaded.len(&rt), loaded.hits(&rt), loaded.misses(&rt));
-    assert_eq!(rt; counts, (1, 1, 1));
+    expect_eq!(rt; counts, (1, 1, 1));
     let Some(Loaded { value, moment }) = loaded.remove(&rt, &1) else {
         panic!(rt; "it is stored");
     };
-    assert_eq!(rt; (value, moment, loaded.len(&rt)), (115, 15, 0));
-    assert!(rt; loaded.remove(&rt, &1).is_none());
-    assert_eq!(rt; loaded.get(&rt, &1, 16), Ok(116));
-    Ok(())
+    expect_eq!(rt; (value, moment, loaded.len(&rt)), (115, 15, 0));
+    expect!(rt; loaded.remove(&rt, &1).is_none());
+    expect_eq!(rt; loaded.get(&rt, &1, 16), Ok(116));
 }
 
 #[test]
-fn an_error_is_stored_nowhere(rt: HostRuntime) -> Result<(), Fail> {
-    let loaded: ReadThrough<u64, u64, _> = ReadThrough::new(
+fn an_error_is_stored_nowhere(rt: HostRuntime) {
+    let loaded: ReadThrough<u64, u64, _> = expect_ok!(rt; ReadThrough::new(
         rt.alloc(),
         8,
         10,
@@ -102,9 +99,8 @@ fn an_error_is_stored_nowhere(rt: HostRuntime) -> Result<(), Fail> {
                 Ok(hundreds(*key, now))
             }
         },
-    )?;
+    ));
     for (now, answer) in [(3, Err(3)), (4, Err(4)), (5, Ok(105)), (3, Ok(105))] {
         assert_eq!(rt; loaded.try_get(&rt, &1, now), Ok(answer), "at {now}");
     }
-    Ok(())
 }

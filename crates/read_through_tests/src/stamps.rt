@@ -1,6 +1,7 @@
 //! A plain function as the loader, whose source is its graph.
 ghost use Rattle.std.specs.Prelude.{◌≡◌, ◌<◌, ◌+◌, IfOk};
 
+use expect::expect_eq;
 use read_through::{ReadThrough, Refusal, Source};
 use std::alloc::Global;
 use std::sync::Wait;
@@ -60,8 +61,8 @@ mod tests {
 
     #[test]
     fn a_plain_function_is_a_loader(rt: HostRuntime) -> Result<(), Fail> {
-        assert_eq!(rt; stamp_of_now(&rt, rt.alloc(), 1, 5), Ok((1, 5)));
-        assert_eq!(rt; stamp_of_late(&rt, rt.alloc(), 1, 16), Ok((1, 8)));
+        expect_eq!(rt; stamp_of_now(&rt, rt.alloc(), 1, 5), Ok((1, 5)));
+        expect_eq!(rt; stamp_of_late(&rt, rt.alloc(), 1, 16), Ok((1, 8)));
         Ok(())
     }
 }

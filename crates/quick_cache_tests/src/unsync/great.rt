@@ -1,6 +1,7 @@
 //! Great numbers, weights of an item and reads of one, and weights that change with a text.
 ghost use Rattle.std.specs.Prelude.{length};
 
+use expect::{expect_eq, expect_ok};
 use quick_cache_unsync::{Cache, DefaultHashBuilder, DefaultLifecycle, Weighter};
 use std::test::Fail;
 
@@ -17,47 +18,46 @@ impl Weighter<u64, u64> for AsItself {
 }
 
 #[test]
-fn seventy_thousand_gets_are_as_many_reads(rt: HostRuntime) -> Result<(), Fail> {
-    let mut cache: Cache<u64, u64> = Cache::new(rt.alloc(), 10)?;
-    cache.insert(1, 10)?;
+fn seventy_thousand_gets_are_as_many_reads(rt: HostRuntime) {
+    let mut cache: Cache<u64, u64> = expect_ok!(rt; Cache::new(rt.alloc(), 10));
+    expect_ok!(rt; cache.insert(1, 10));
     for _ in 0..70000 {
         cache.get(&1);
     }
     let reads = cache.item_stats(&1).map(|stats| stats.access_count);
-    assert_eq!(rt; reads, Some(70000));
-    let copy = cache.try_clone()?;
+    expect_eq!(rt; reads, Some(70000));
+    let copy = expect_ok!(rt; cache.try_clone());
     let reads = copy.item_stats(&1).map(|stats| stats.access_count);
-    assert_eq!(rt; reads, Some(70000));
-    Ok(())
+    expect_eq!(rt; reads, Some(70000));
 }
 
 #[test]
 fn great_weights_are_kept_whole(rt: HostRuntime) -> Result<(), Fail> {
-    let mut cache: Cache<u64, u64, AsItself> = Cache::with(
+    let mut cache: Cache<u64, u64, AsItself> = expect_ok!(rt; Cache::with(
         rt.alloc(),
         100,
         1000000000000,
         AsItself,
         DefaultHashBuilder::new(),
         DefaultLifecycle::new(),
-    )?;
-    cache.insert(1, 1)?;
+    ));
+    expect_ok!(rt; cache.insert(1, 1));
     for (weight, beside_one, twice) in [
         (65534, 65535, 131068),
         (65535, 65536, 131070),
         (65536, 65537, 131072),
         (4294967296, 4294967297, 8589934592),
     ] {
-        cache.insert(2, weight)?;
-        assert_eq!(rt; cache.weight(), beside_one);
+        expect_ok!(rt; cache.insert(2, weight));
+        expect_eq!(rt; cache.weight(), beside_one);
         match cache.get_mut(&1) {
             Some(mut value) => *value = weight,
             None => return Err(Fail::new("nothing was found")),
         }
-        assert_eq!(rt; cache.weight(), twice);
-        cache.insert(1, 1)?;
+        expect_eq!(rt; cache.weight(), twice);
+        expect_ok!(rt; cache.insert(1, 1));
         cache.remove(&2);
-        assert_eq!(rt; cache.weight(), 1);
+        expect_eq!(rt; cache.weight(), 1);
     }
     Ok(())
 }
@@ -76,16 +76,16 @@ impl Weighter<u64, &'static str> for ByLength {
 
 #[test]
 fn a_text_that_grows_and_goes_is_weighed_each_time(rt: HostRuntime) -> Result<(), Fail> {
-    let mut cache: Cache<u64, &'static str, ByLength> = Cache::with(
+    let mut cache: Cache<u64, &'static str, ByLength> = expect_ok!(rt; Cache::with(
         rt.alloc(),
         100,
         100000,
         ByLength,
         DefaultHashBuilder::new(),
         DefaultLifecycle::new(),
-    )?;
-    cache.insert(1, "1")?;
-    assert_eq!(rt; cache.weight(), 1);
+    ));
+    expect_ok!(rt; cache.insert(1, "1"));
+    expect_eq!(rt; cache.weight(), 1);
     for (text, weight) in [("11", 2), ("", 0)] {
         match cache.get_mut(&1) {
             Some(mut value) => *value = text,
@@ -93,7 +93,7 @@ fn a_text_that_grows_and_goes_is_weighed_each_time(rt: HostRuntime) -> Result<()
         }
         assert_eq!(rt; cache.weight(), weight, "{text}");
     }
-    assert_eq!(rt; cache.get(&1).copied(), Some(""));
-    assert_eq!(rt; (cache.hits(), cache.misses()), (3, 0));
+    expect_eq!(rt; cache.get(&1).copied(), Some(""));
+    expect_eq!(rt; (cache.hits(), cache.misses()), (3, 0));
     Ok(())
 }

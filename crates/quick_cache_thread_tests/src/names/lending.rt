@@ -1,8 +1,8 @@
 //! The names of `quick_cache::shard` that lend a value, and make placeholders and items.
+use expect::{expect, expect_eq, expect_ok};
 use quick_cache::shard::{CacheShard, InsertStrategy, RefMut, Resident, TokenMut};
 use quick_cache::unsync::{DefaultLifecycle, Placeholder, Plainly};
 use quick_cache::{DefaultHashBuilder, Queue, UnitWeighter};
-use std::test::Fail;
 
 type Dropping = DefaultLifecycle<u64, u64>;
 
@@ -75,8 +75,8 @@ fn told(item: &Resident<u64, u64, ()>) -> (u64, u64, u64, u8, u64, Queue) {
 }
 
 #[test]
-fn shard_lends(rt: HostRuntime) -> Result<(), Fail> {
-    let mut shard: Shard = CacheShard::new(
+fn shard_lends(rt: HostRuntime) {
+    let mut shard: Shard = expect_ok!(rt; CacheShard::new(
         rt.alloc(),
         970000,
         500000,
@@ -86,7 +86,7 @@ fn shard_lends(rt: HostRuntime) -> Result<(), Fail> {
         UnitWeighter,
         DefaultHashBuilder::new(),
         Dropping::new(),
-    )?;
+    ));
     let absent = add_two(&mut shard, 1);
     let hash = shard.hash(&1u64);
     let done = shard
@@ -94,13 +94,12 @@ fn shard_lends(rt: HostRuntime) -> Result<(), Fail> {
         .is_ok();
     let added = add_two(&mut shard, 1);
     let doubled = double_first(&mut shard);
-    assert_eq!(rt;
+    expect_eq!(rt;
         (absent, done, added, doubled),
         (false, true, true, Some(24))
     );
-    assert_eq!(rt; (shard.hits(), shard.misses(), shard.weight()), (1, 1, 1));
-    assert!(rt; begins(&mut shard, 2));
+    expect_eq!(rt; (shard.hits(), shard.misses(), shard.weight()), (1, 1, 1));
+    expect!(rt; begins(&mut shard, 2));
     let item = Resident::new(1u64, 10u64, 1, 0, Queue::Cold, ());
-    assert_eq!(rt; told(&item), (1, 10, 1, 0, 0, Queue::Cold));
-    Ok(())
+    expect_eq!(rt; told(&item), (1, 10, 1, 0, 0, Queue::Cold));
 }

@@ -1,4 +1,5 @@
 //! The names of `quick_cache::unsync`.
+use expect::{expect_eq, expect_ok};
 use quick_cache::unsync::{
     Cache, Call, DefaultLifecycle, Drain, Guard, Iter, NotLoaded, Ref, RefMut, Reply, run,
 };
@@ -55,16 +56,16 @@ type Predicate = fn(&u64, &u64) -> bool;
 #[test]
 fn unsync_has_its_names(rt: HostRuntime) -> Result<(), Fail> {
     let alloc = rt.alloc();
-    let mut cache: Cache<u64, u64> = Cache::new(alloc, 2)?;
+    let mut cache: Cache<u64, u64> = expect_ok!(rt; Cache::new(alloc, 2));
     let absent = read(&mut cache, 1);
-    fill(&mut cache, 1, 10)?;
+    expect_ok!(rt; fill(&mut cache, 1, 10));
     write(&mut cache, 1, 11);
-    let calls: Vec<Call<u64, u64, Predicate>> = vec![in alloc; Call::Peek(1)]?;
+    let calls: Vec<Call<u64, u64, Predicate>> = expect_ok!(rt; vec![in alloc; Call::Peek(1)]);
     let Ok(replies) = run(alloc, &mut cache, calls, &mut ()) else {
         panic!(rt; "there is memory");
     };
-    assert_eq!(rt; replies.as_slice(), [Reply::Value(Some(11))].as_slice());
-    assert_eq!(rt;
+    expect_eq!(rt; replies.as_slice(), [Reply::Value(Some(11))].as_slice());
+    expect_eq!(rt;
         (absent, read(&mut cache, 1), walk(&mut cache)),
         (
             Err(NotLoaded::Failed(Refusal::Finished)),

@@ -1,4 +1,5 @@
 //! The names at the top of `quick_cache`, and of its modules of options, sizes and loading.
+use expect::{expect_eq, expect_ok};
 use quick_cache::options::Error;
 use quick_cache::protocol::{Answer, Core, Event, step};
 use quick_cache::sizes::{hot_target, shard_count};
@@ -10,7 +11,6 @@ use quick_cache::{
 };
 use std::alloc::Global;
 use std::hash::BuildHasher;
-use std::test::Fail;
 
 /// Whether a query finds the key that it gives, and its weight.
 fn by_traits<Q: ToKey<u64>, We: Weighter<u64, u64>>(
@@ -62,17 +62,17 @@ fn told(cache: &Cache<u64, u64>) -> (Option<ItemStats>, MemoryUsed) {
 }
 
 #[test]
-fn the_top_has_its_names(rt: HostRuntime) -> Result<(), Fail> {
-    let traits = by_traits(&7u64, &UnitWeighter)?;
+fn the_top_has_its_names(rt: HostRuntime) {
+    let traits = expect_ok!(rt; by_traits(&7u64, &UnitWeighter));
     let hashes = hashes_alike(&DefaultHashBuilder::new());
     let pinned = is_pinned(&DefaultLifecycle::<u64, u64>::new());
-    assert_eq!(rt; (traits, hashes, pinned), ((true, 1), true, false));
+    expect_eq!(rt; (traits, hashes, pinned), ((true, 1), true, false));
     let shards = options(3).map(|options| options.shards()).ok();
-    let (token, places) = containers(rt.alloc())?;
-    let (stats, memory) = told(&Cache::new(rt.alloc(), 2)?);
+    let (token, places) = expect_ok!(rt; containers(rt.alloc()));
+    let (stats, memory) = told(&expect_ok!(rt; Cache::new(rt.alloc(), 2)));
     let mut core: Core<u64> = Core::new(rt.alloc());
     let created = step(&mut core, Event::Create) == Answer::Created && Queue::Hot != Queue::Cold;
-    assert_eq!(rt;
+    expect_eq!(rt;
         (
             shards,
             shard_count(3, 100),
@@ -85,5 +85,4 @@ fn the_top_has_its_names(rt: HostRuntime) -> Result<(), Fail> {
         ),
         (Some(3), 2, 97, 1, 0, true, 0, true)
     );
-    Ok(())
 }
