@@ -1,6 +1,6 @@
-//! What a test expects. `expect!`, `expect_eq!` and `expect_ok!` are calls and do not branch, so that a
-//! test of them takes less than half to prove of what one of `assert!`, `assert_eq!` and `?` takes.
-ghost use Rattle.std.specs.Prelude.{◌↔◌, IsTrue, IsOk};
+//! What a test expects. `expect!`, `expect_eq!` and `expect_ok!` are calls and do not branch, so that each
+//! takes less than half of what `assert!`, `assert_eq!` and `?` take to prove.
+ghost use Rattle.std.specs.Prelude.{◌≡◌, ◌↔◌, IsTrue, IsOk, IfErr};
 
 use std::fmt::{Debug, Formatter, Write};
 
@@ -11,10 +11,6 @@ pub struct Unlike<T> {
     pub wanted: T,
 }
 
-/// That a condition did not hold.
-#[derive(Debug, Drop)]
-pub struct NotSo;
-
 /// Whether the two are equal.
 ///
 /// # Errors
@@ -22,6 +18,7 @@ pub struct NotSo;
 /// Both, where they are not.
 pub fn equal<T: PartialEq + Drop>(found: T, wanted: T) -> Result<(), Unlike<T>>
     ensures equal { IsOk result ↔ IsTrue (T.eq found wanted) }
+    ensures both { IfErr result (λ unlike. unlike ≡ record { found = found; wanted = wanted }) }
 {
     if found == wanted {
         return Ok(());
@@ -29,25 +26,11 @@ pub fn equal<T: PartialEq + Drop>(found: T, wanted: T) -> Result<(), Unlike<T>>
     Err(Unlike { found, wanted })
 }
 
-/// Whether that is so.
-///
-/// # Errors
-///
-/// `NotSo`, where it is not.
-pub fn holds(so: bool) -> Result<(), NotSo>
-    ensures so { IsOk result ↔ IsTrue so }
-{
-    if so {
-        return Ok(());
-    }
-    Err(NotSo)
-}
-
 /// Goes on where the condition holds, and stops the test else, with its text.
 #[macro_export]
 macro_rules! expect {
     ($rt:expr; $so:expr) => {
-        std::panic::Expect::expect($crate::holds($so), &$rt, stringify!($so))
+        std::panic::Expect::expect(($so).then_some(()), &$rt, stringify!($so))
     };
 }
 

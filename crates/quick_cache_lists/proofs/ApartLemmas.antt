@@ -1,19 +1,18 @@
 -- Each token has one entry at most.
 use Rattle.std.proofs.Common.{◌≡◌, ◌≢◌, ℕ, zero, suc, ◌≤◌, ◌==◌, if◌then◌else◌, Bool, true, false, List, [], ◌∷◌, map, length, Option, Some, None, refl, sym, ap, ◌∙◌, inl, inr, arith}
-use Rattle.std.specs.declared.num.NonZeroU32.{NonZeroU32 as Token}
-use Rattle.std.specs.Int.NonZero.{non_zero_u32_get}
 use Rattle.std.proofs.lemmas.Bool.{cases_eq, cases_lt}
-use Rattle.quick_cache_slab.specs.LinkedSlab.{LinkedSlab, times, item_at, IsParted}
+use Rattle.quick_cache_model.specs.Sequences.{times}
+use Rattle.quick_cache_pool.specs.Pool.{Pool, item_at}
 use Rattle.quick_cache_index.specs.Index.{Index}
 use Rattle.quick_cache_model.specs.declared.queue.Queue.{Queue}
-use Rattle.quick_cache_slab.proofs.TokenCounts.{times-append, times-other}
+use Rattle.quick_cache_pool.proofs.TokenCounts.{times-append, times-other}
 use Rattle.quick_cache_slots.specs.declared.entry.Entry.{Entry}
 use Rattle.quick_cache_slots.specs.declared.entry.Entry.TheVariants.{Item as item_variant, Loading as loading_variant, Ghost as ghost_variant}
 use Rattle.quick_cache_slots.specs.declared.entry.Slot.{Slot}
-use Rattle.quick_cache_lists.specs.declared.ring.Ring.{Ring}
+use Rattle.quick_cache_rings.specs.Rings.{Ring, Rings}
 use Rattle.quick_cache_lists.specs.Lists.{HeldItem, AreApart, entries_of}
 use Rattle.quick_cache_lists.specs.Slots.{Stand, AmongHot, AmongCold, AmongStill, AmongLoading, AmongGhosts, ring_stand, stand_of, item_of, still_of, loading_of, ghost_of}
-use Rattle.quick_cache_lists.specs.Sound.{put, gather, upto, tokens_of, lists_of, IsStanding}
+use Rattle.quick_cache_lists.specs.Sound.{put, gather, upto, lists_of, IsStanding}
 use Rattle.quick_cache_lists.proofs.GatherLemmas.{times-upto, times-upto_past}
 use Rattle.quick_cache_lists.proofs.SoundLemmas.{out_of_ring}
 use Rattle.quick_cache_lists.proofs.TakeLemmas.{named_item, named_still, named_loading, named_ghost}
@@ -97,27 +96,22 @@ module _ {K V P T : Type 0} where
       by_entry hash (loading_variant awaited) off' = absurd (off' refl)
       by_entry hash ghost_variant off' = refl
 
-module _ {K V P T : Type 0} (slab : LinkedSlab (Slot K V P T)) (index : Index)
-    (hot cold ghosts : Ring) (parted : IsParted slab)
-    (sound : IsStanding slab hot cold ghosts) where
-  once_ring : (o : Option Token) (t : ℕ) → times t (tokens_of slab o) ≤ 1
-  once_ring None t = omega arith
-  once_ring (Some head) t = parted.once (non_zero_u32_get head) t
-
-  pub apart_by : AreApart (lists_of slab index hot cold ghosts)
+module _ {K V P T : Type 0} (slab : Pool (Slot K V P T)) (index : Index)
+    (rings : Rings) (sound : IsStanding slab rings) where
+  pub apart_by : AreApart (lists_of slab index rings)
   apart_by t = by_stand (stand_of (item_at slab t)) refl
     where
       held_le : (ring : Ring) → times t
-          (map (λ h. h.token) (gather (λ u. item_of u (item_at slab u)) (tokens_of slab ring.head)))
-          ≤ times t (tokens_of slab ring.head)
+          (map (λ h. h.token) (gather (λ u. item_of u (item_at slab u)) ring.tokens))
+          ≤ times t ring.tokens
       held_le ring = times-gather (λ h. h.token) (λ u. item_of u (item_at slab u))
-          (λ u y is. named_item u (item_at slab u) y is) t (tokens_of slab ring.head)
+          (λ u y is. named_item u (item_at slab u) y is) t ring.tokens
 
       shade_le : times t (map (λ h. h.token)
-          (gather (λ u. ghost_of u (item_at slab u)) (tokens_of slab ghosts.head)))
-          ≤ times t (tokens_of slab ghosts.head)
+          (gather (λ u. ghost_of u (item_at slab u)) rings.ghosts.tokens))
+          ≤ times t rings.ghosts.tokens
       shade_le = times-gather (λ h. h.token) (λ u. ghost_of u (item_at slab u))
-          (λ u y is. named_ghost u (item_at slab u) y is) t (tokens_of slab ghosts.head)
+          (λ u y is. named_ghost u (item_at slab u) y is) t rings.ghosts.tokens
 
       still_le : times t (map (λ h. h.token)
           (gather (λ u. still_of u (item_at slab u)) (upto (length slab.slots))))
@@ -146,43 +140,43 @@ module _ {K V P T : Type 0} (slab : LinkedSlab (Slot K V P T)) (index : Index)
           (upto (length slab.slots))
 
       by_stand : (o : Option Stand) → stand_of (item_at slab t) ≡ o
-          → entries_of t (lists_of slab index hot cold ghosts) ≤ 1
+          → entries_of t (lists_of slab index rings) ≤ 1
       by_stand None e = omega (
         arith,
-        held_le hot,
-        held_le cold,
+        held_le rings.hot,
+        held_le rings.cold,
         shade_le,
-        out_of_ring slab hot _ t
+        out_of_ring slab rings.hot _ t
             sound.hot_ring (λ f. cc),
-        out_of_ring slab cold _ t sound.cold_ring
+        out_of_ring slab rings.cold _ t sound.cold_ring
             (λ f. cc),
-        out_of_ring slab ghosts _ t sound.ghost_ring (λ f. cc),
+        out_of_ring slab rings.ghosts _ t sound.ghost_ring (λ f. cc),
         no_still
             (λ f. cc),
         no_loading (λ f. cc),
       )
       by_stand (Some AmongHot) e = omega (
         arith,
-        held_le hot,
-        once_ring hot.head t,
-        held_le cold,
+        held_le rings.hot,
+        sound.hot_ring.once t,
+        held_le rings.cold,
         shade_le,
-        out_of_ring slab cold _
+        out_of_ring slab rings.cold _
             t sound.cold_ring (λ f. cc),
-        out_of_ring slab ghosts _ t sound.ghost_ring
+        out_of_ring slab rings.ghosts _ t sound.ghost_ring
             (λ f. cc),
         no_still (λ f. cc),
         no_loading (λ f. cc),
       )
       by_stand (Some AmongCold) e = omega (
         arith,
-        held_le hot,
-        held_le cold,
-        once_ring cold.head t,
+        held_le rings.hot,
+        held_le rings.cold,
+        sound.cold_ring.once t,
         shade_le,
-        out_of_ring slab hot _
+        out_of_ring slab rings.hot _
             t sound.hot_ring (λ f. cc),
-        out_of_ring slab ghosts _ t sound.ghost_ring
+        out_of_ring slab rings.ghosts _ t sound.ghost_ring
             (λ f. cc),
         no_still (λ f. cc),
         no_loading (λ f. cc),
@@ -190,45 +184,44 @@ module _ {K V P T : Type 0} (slab : LinkedSlab (Slot K V P T)) (index : Index)
       by_stand (Some AmongStill) e =
           omega (
             arith,
-            held_le hot,
-            held_le cold,
+            held_le rings.hot,
+            held_le rings.cold,
             shade_le,
             still_le,
             once_upto t
                 (length slab.slots),
-            out_of_ring slab hot _ t sound.hot_ring
+            out_of_ring slab rings.hot _ t sound.hot_ring
                 (λ f. cc),
-            out_of_ring slab cold _ t sound.cold_ring
+            out_of_ring slab rings.cold _ t sound.cold_ring
                 (λ f. cc),
-            out_of_ring slab ghosts _ t sound.ghost_ring (λ f. cc),
+            out_of_ring slab rings.ghosts _ t sound.ghost_ring (λ f. cc),
             no_loading (λ f. cc),
           )
       by_stand (Some AmongLoading) e =
           omega (
             arith,
-            held_le hot,
-            held_le cold,
+            held_le rings.hot,
+            held_le rings.cold,
             shade_le,
             loading_le,
             once_upto t
                 (length slab.slots),
-            out_of_ring slab hot _ t sound.hot_ring
+            out_of_ring slab rings.hot _ t sound.hot_ring
                 (λ f. cc),
-            out_of_ring slab cold _ t sound.cold_ring
+            out_of_ring slab rings.cold _ t sound.cold_ring
                 (λ f. cc),
-            out_of_ring slab ghosts _ t sound.ghost_ring (λ f. cc),
+            out_of_ring slab rings.ghosts _ t sound.ghost_ring (λ f. cc),
             no_still (λ f. cc),
           )
       by_stand (Some AmongGhosts) e =
           omega (
             arith,
-            held_le hot,
-            held_le cold,
+            held_le rings.hot,
+            held_le rings.cold,
             shade_le,
-            once_ring ghosts.head t,
-            out_of_ring
-                slab hot _ t sound.hot_ring (λ f. cc),
-            out_of_ring slab cold _ t sound.cold_ring
+            sound.ghost_ring.once t,
+            out_of_ring slab rings.hot _ t sound.hot_ring (λ f. cc),
+            out_of_ring slab rings.cold _ t sound.cold_ring
                 (λ f. cc),
             no_still (λ f. cc),
             no_loading (λ f. cc),

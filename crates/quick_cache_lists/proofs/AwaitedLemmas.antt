@@ -1,17 +1,17 @@
 -- What stands at a token, seen as an item, as a key that is being loaded or as a ghost.
 use Rattle.std.proofs.Common.{◌≡◌, ℕ, Option, Some, None, MatchOption, length, refl, sym, ap, subst, ◌∙◌, inl, inr}
 use Rattle.quick_cache_model.specs.CacheState.{Item}
-use Rattle.quick_cache_slab.specs.LinkedSlab.{LinkedSlab, item_at}
+use Rattle.quick_cache_pool.specs.Pool.{Pool, item_at}
 use Rattle.quick_cache_index.specs.Index.{Index}
 use Rattle.quick_cache_slots.specs.declared.entry.Awaited.{Awaited}
 use Rattle.quick_cache_slots.specs.declared.entry.Entry.{Entry}
 use Rattle.quick_cache_slots.specs.declared.entry.Entry.TheVariants.{Item as item_variant, Loading as loading_variant, Ghost as ghost_variant}
 use Rattle.quick_cache_slots.specs.declared.entry.Slot.{Slot}
 use Rattle.quick_cache_slots.specs.Slots.{HasLoading}
-use Rattle.quick_cache_lists.specs.declared.ring.Ring.{Ring}
+use Rattle.quick_cache_rings.specs.Rings.{Rings}
 use Rattle.quick_cache_lists.specs.Lists.{HeldLoading, HeldGhost, HasGhostToken, HasItemToken, IsItemOf, HasLoadingToken, IsAwaitedOf}
 use Rattle.quick_cache_lists.specs.Slots.{entry_awaited, loading_of, ghost_of}
-use Rattle.quick_cache_lists.specs.Sound.{upto, tokens_of, lists_of, IsStanding}
+use Rattle.quick_cache_lists.specs.Sound.{upto, lists_of, IsStanding}
 use Rattle.quick_cache_lists.specs.Walks.{entry_item}
 use Rattle.quick_cache_lists.proofs.GatherLemmas.{gather-from}
 use Rattle.quick_cache_lists.proofs.ItemLemmas.{item_by_token, item_is}
@@ -68,10 +68,10 @@ module _ {K V P T : Type 0} where
       by_entry hash (loading_variant awaited) e = absurd (cc)
       by_entry hash ghost_variant e = refl
 
-module _ {K V P T : Type 0} (slab : LinkedSlab (Slot K V P T)) (index : Index)
-    (hot cold ghosts : Ring) where
+module _ {K V P T : Type 0} (slab : Pool (Slot K V P T)) (index : Index)
+    (rings : Rings) where
   -- what has the token of a placeholder is one
-  pub awaited_by_token : (t : ℕ) → HasLoadingToken (lists_of slab index hot cold ghosts) t
+  pub awaited_by_token : (t : ℕ) → HasLoadingToken (lists_of slab index rings) t
       → (slot : Slot K V P T) → item_at slab t ≡ Some slot
       → (awaited : Awaited K P) × (slot.entry ≡ loading_variant awaited)
   awaited_by_token t has slot at =
@@ -83,11 +83,11 @@ module _ {K V P T : Type 0} (slab : LinkedSlab (Slot K V P T)) (index : Index)
       (ap (λ n. item_at slab n) named ∙ at)
 
   -- and so it stands in its slot
-  pub loading_by_token : (t : ℕ) → HasLoadingToken (lists_of slab index hot cold ghosts) t
+  pub loading_by_token : (t : ℕ) → HasLoadingToken (lists_of slab index rings) t
       → HasLoading slab t
   loading_by_token t has =
       let there = occupied-some (item_at slab t)
-      (occupied_by_entry slab index hot cold ghosts t (inr (inl has))) in
+      (occupied_by_entry slab index rings t (inr (inl has))) in
       let is = awaited_by_token t has there.0 there.1 in (
         there.0.hash,
         is.0,
@@ -95,49 +95,49 @@ module _ {K V P T : Type 0} (slab : LinkedSlab (Slot K V P T)) (index : Index)
       )
 
   -- what has the token of a ghost is one
-  pub ghost_by_token : (t : ℕ) → HasGhostToken (lists_of slab index hot cold ghosts) t
+  pub ghost_by_token : (t : ℕ) → HasGhostToken (lists_of slab index rings) t
       → (slot : Slot K V P T) → item_at slab t ≡ Some slot → slot.entry ≡ ghost_variant
   ghost_by_token t has slot at =
-      let there = gather-from (λ u. ghost_of u (item_at slab u)) (tokens_of slab ghosts.head)
+      let there = gather-from (λ u. ghost_of u (item_at slab u)) rings.ghosts.tokens
       has.0 has.1 in
       let named : there.0 ≡ t =
       sym (named_ghost there.0 (item_at slab there.0) has.0 there.2) ∙ has.2 in
       ghost_in_slot there.0 (item_at slab there.0) has.0 there.2 slot
       (ap (λ n. item_at slab n) named ∙ at)
 
-  module _ (standing : IsStanding slab hot cold ghosts) where
+  module _ (standing : IsStanding slab rings) where
     pub IsAwaitedOf-from : (t : ℕ) (slot : Slot K V P T) (awaited : Awaited K P)
         → item_at slab t ≡ Some slot → slot.entry ≡ loading_variant awaited
-        → IsAwaitedOf (lists_of slab index hot cold ghosts) t awaited
+        → IsAwaitedOf (lists_of slab index rings) t awaited
     IsAwaitedOf-from t slot awaited at is =
         let here : item_at slab t
         ≡ Some (record { hash = slot.hash; entry = loading_variant awaited }) =
         at ∙ ap (λ (e : Entry K V P T). Some (record slot { entry = e })) is in
-        (slot.hash, StandsIn-loading slab index hot cold ghosts standing t _ _ here refl)
+        (slot.hash, StandsIn-loading slab index rings standing t _ _ here refl)
 
     -- what a slot shows as its item is the item of its token, and where it shows none there is none
     pub IsItemOf-shown : (t : ℕ) (slot : Slot K V P T) → item_at slab t ≡ Some slot
         → (result : Option (Item K V)) → result ≡ entry_item slot.entry
-        → MatchOption result (¬ HasItemToken (lists_of slab index hot cold ghosts) t)
-        (λ item. IsItemOf (lists_of slab index hot cold ghosts) t item)
+        → MatchOption result (¬ HasItemToken (lists_of slab index rings) t)
+        (λ item. IsItemOf (lists_of slab index rings) t item)
     IsItemOf-shown t slot at result is =
         subst (λ (r : Option (Item K V)).
-        MatchOption r (¬ HasItemToken (lists_of slab index hot cold ghosts) t)
-        (λ item. IsItemOf (lists_of slab index hot cold ghosts) t item)) (sym is)
+        MatchOption r (¬ HasItemToken (lists_of slab index rings) t)
+        (λ item. IsItemOf (lists_of slab index rings) t item)) (sym is)
         (by_entry slot.hash slot.entry at)
       where
         by_entry : (hash : ℕ) (entry : Entry K V P T)
             → item_at slab t ≡ Some (record { hash = hash; entry = entry })
             → MatchOption (entry_item entry)
-            (¬ HasItemToken (lists_of slab index hot cold ghosts) t)
-            (λ item. IsItemOf (lists_of slab index hot cold ghosts) t item)
+            (¬ HasItemToken (lists_of slab index rings) t)
+            (λ item. IsItemOf (lists_of slab index rings) t item)
         by_entry hash (item_variant item) here =
-            (hash, HasItem-from slab index hot cold ghosts standing t hash item here)
+            (hash, HasItem-from slab index rings standing t hash item here)
         by_entry hash (loading_variant awaited) here = λ has.
-            let there = item_by_token slab index hot cold ghosts t has in
+            let there = item_by_token slab index rings t has in
             let entry = item_is (item_at slab t) _ there.0 there.1 there.2 here in
             absurd (cc entry)
         by_entry hash ghost_variant here = λ has.
-            let there = item_by_token slab index hot cold ghosts t has in
+            let there = item_by_token slab index rings t has in
             let entry = item_is (item_at slab t) _ there.0 there.1 there.2 here in
             absurd (cc entry)

@@ -4,8 +4,8 @@ use Rattle.std.proofs.lemmas.Bool.{cases_eq, eq-eqb, ne_eqb}
 use Rattle.std.proofs.lemmas.List.{map-append}
 use Rattle.std.proofs.lemmas.List.Sums.{sum_by-cons}
 use Rattle.quick_cache_model.specs.CacheState.{Item, weight_of}
-use Rattle.quick_cache_slab.specs.LinkedSlab.{times}
-use Rattle.quick_cache_slab.proofs.TokenCounts.{times-here, times-other, times-append}
+use Rattle.quick_cache_pool.specs.Pool.{times}
+use Rattle.quick_cache_pool.proofs.TokenCounts.{times-here, times-other, times-append}
 use Rattle.quick_cache_lists.specs.Lists.{HeldItem, HeldLoading, HeldGhost, Lists, AreApart, dropped, ahead_of, behind, restarted, left_by, without_entry, changed_held, with_change}
 use Rattle.quick_cache_lists.specs.Views.{items_of, joined_around}
 

@@ -1,26 +1,24 @@
 -- An item that is written in its place.
-use Rattle.std.proofs.Common.{◌≡◌, ◌≢◌, ◌<◌, ◌≤◌, ◌+◌, [], ◌∷◌, arith, ℕ, zero, suc, subst, ◌==◌, if◌then◌else◌, Bool, true, false, cond, eqb, List, map, length, Option, Some, None, is_some, IfSome, refl, sym, ap, ◌∙◌, inl, inr}
-use Rattle.std.specs.Int.NonZero.{non_zero_u32_get}
-use Rattle.std.specs.declared.num.NonZeroU32.{NonZeroU32 as Token}
+use Rattle.std.proofs.Common.{◌≡◌, ◌≢◌, ◌<◌, ◌≤◌, ◌+◌, [], ◌∷◌, arith, ℕ, zero, suc, subst, ◌==◌, if◌then◌else◌, Bool, true, false, cond, eqb, List, map, length, Option, Some, None, is_some, refl, sym, ap, ◌∙◌, inl, inr}
 use Rattle.std.proofs.lemmas.Bool.{cases_eq}
 use Rattle.std.proofs.lemmas.List.{set-get_or}
 use Rattle.quick_cache_model.specs.CacheState.{Item}
-use Rattle.quick_cache_slab.specs.LinkedSlab.{LinkedSlab, times, ring_from, at_token, with_token, item_at, next_token, with_item}
-use Rattle.quick_cache_index.specs.Index.{Index}
-use Rattle.quick_cache_slab.proofs.AtTokens.{at_token-with_same, at_token-with_other, length-with_token}
+use Rattle.quick_cache_model.specs.Sequences.{times}
+use Rattle.quick_cache_pool.specs.Pool.{Pool, at_token, with_token, item_at, next_token, with_item}
+use Rattle.quick_cache_index.specs.Index.{Index, token_count}
+use Rattle.quick_cache_pool.proofs.AtTokens.{at_token-with_same, at_token-with_other, length-with_token}
 use Rattle.quick_cache_slots.specs.declared.entry.Entry.TheVariants.{Item as item_variant}
 use Rattle.quick_cache_slots.specs.declared.entry.Slot.{Slot}
 use Rattle.quick_cache_slots.specs.Writes.{Writes, changed_at, changed_to}
-use Rattle.quick_cache_lists.specs.declared.ring.Ring.{Ring}
-use Rattle.quick_cache_lists.specs.declared.rings.Rings.{Rings}
-use Rattle.quick_cache_slab.proofs.TokenCounts.{times-here, times-other}
-use Rattle.quick_cache_lists.specs.Frames.{ReweighsRing}
+use Rattle.quick_cache_rings.specs.Rings.{Ring, Rings, ring_reweighed, reweighed}
+use Rattle.quick_cache_pool.proofs.TokenCounts.{times-here, times-other}
 use Rattle.quick_cache_lists.specs.Lists.{HeldItem, Lists, with_change, entry_count}
 use Rattle.quick_cache_lists.specs.Slots.{Stand, AmongHot, AmongCold, AmongStill, AmongLoading, AmongGhosts, stand_of, weight_at, has_hash, item_of, still_of, loading_of, ghost_of, slot_changed, is_item}
-use Rattle.quick_cache_lists.specs.Sound.{weigh, gather, upto, tokens_of, lists_of, room_of, IsRingOf, IsKeyed, IsStanding, IsSound}
+use Rattle.quick_cache_lists.specs.Sound.{weigh, gather, upto, lists_of, room_of, IsRingOf, IsKeyed, IsStanding, IsSound}
 use Rattle.quick_cache_lists.proofs.CountLemmas.{entry_count-change}
-use Rattle.quick_cache_lists.proofs.GatherLemmas.{weigh-same, gather-changed, gather-neither}
+use Rattle.quick_cache_lists.proofs.GatherLemmas.{weigh-same, weigh-member, gather-changed, gather-neither}
 use Rattle.quick_cache_lists.proofs.SlabFrames.{occupied_within}
+use Rattle.quick_cache_lists.proofs.SoundLemmas.{IsRingOf-kept}
 use Rattle.quick_cache_lists.proofs.TakeLemmas.{not_ghosts, named_item, named_still}
 
 module _ {K V : Type 0} where
@@ -56,12 +54,12 @@ module _ {K V P T : Type 0} where
       let same : slot ≡ record { hash = hash; entry = item_variant item } = cc in
       (ap is_item same, ap (slot_changed change) same)
 
-  abbrev pub written : (hash : ℕ) (item : Item K V) (t : ℕ) → LinkedSlab (Slot K V P T)
-      → LinkedSlab (Slot K V P T)
+  abbrev pub written : (hash : ℕ) (item : Item K V) (t : ℕ) → Pool (Slot K V P T)
+      → Pool (Slot K V P T)
   written hash item t old = with_item old t (record { hash = hash; entry = item_variant item })
 
   -- what a write leaves where this item stood
-  pub written-by : (old new : LinkedSlab (Slot K V P T)) (t hash : ℕ) (item : Item K V)
+  pub written-by : (old new : Pool (Slot K V P T)) (t hash : ℕ) (item : Item K V)
       (change : Item K V → Item K V) → Writes old new t (slot_changed change)
       → item_at old t ≡ Some (record { hash = hash; entry = item_variant item })
       → new ≡ written hash (change item) t old
@@ -69,14 +67,14 @@ module _ {K V P T : Type 0} where
       (changed_slot (item_at old t) writes.slot hash item change at writes.was).1
 
   -- the same, where the slot is changed if it is there
-  pub changed_at-item : (old : LinkedSlab (Slot K V P T)) (t hash : ℕ) (item : Item K V)
+  pub changed_at-item : (old : Pool (Slot K V P T)) (t hash : ℕ) (item : Item K V)
       (change : Item K V → Item K V)
       → item_at old t ≡ Some (record { hash = hash; entry = item_variant item })
       → changed_at (slot_changed change) t old ≡ written hash (change item) t old
   changed_at-item old t hash item change at =
       ap (λ o. changed_to (slot_changed change) t o old) at
 
-  module _ (old : LinkedSlab (Slot K V P T)) (t hash : ℕ) (item : Item K V)
+  module _ (old : Pool (Slot K V P T)) (t hash : ℕ) (item : Item K V)
       (change : Item K V → Item K V) (heavy : ((change item).weight == 0) ≡ (item.weight == 0))
       (queue : (change item).queue ≡ item.queue)
       (at : item_at old t ≡ Some (record { hash = hash; entry = item_variant item })) where
@@ -114,31 +112,20 @@ module _ {K V P T : Type 0} where
     IsRingOf-changed : (change item).weight ≡ item.weight → (ring : Ring) (s : Stand)
         → IsRingOf old ring s → IsRingOf (written hash (change item) t old) ring s
     IsRingOf-changed weight ring s is = record {
-      headed = by_head ring.head is.headed;
       members = λ u some. alike stand_of stand_same u ∙ is.members u some;
       all = λ u stands. is.all u (sym (alike stand_of stand_same u) ∙ stands);
+      once = is.once;
       weighed = is.weighed ∙ sym (weigh-same (λ u. weight_at (item_at old u))
-          (λ u. weight_at (item_at (written hash (change item) t old) u)) (tokens_of old ring.head)
+          (λ u. weight_at (item_at (written hash (change item) t old) u)) ring.tokens
           (λ u some. alike weight_at weight u));
-      counted = is.counted;
     }
-      where
-        by_head : (o : Option Token) → IfSome o
-            (λ head. stand_of (item_at old (non_zero_u32_get head)) ≡ Some s)
-            → IfSome o (λ head. stand_of (item_at (written hash (change item) t old)
-            (non_zero_u32_get head)) ≡ Some s)
-        by_head None headed = tt
-        by_head (Some h) headed = alike stand_of stand_same (non_zero_u32_get h) ∙ headed
 
-    pub IsStanding-changed : (change item).weight ≡ item.weight → (hot cold ghosts : Ring)
-        → IsStanding old hot cold ghosts
-        → IsStanding (written hash (change item) t old) hot cold ghosts
-    IsStanding-changed weight hot cold ghosts sound = record {
-      hot_ring = IsRingOf-changed weight hot _ sound.hot_ring;
-      cold_ring = IsRingOf-changed weight cold _ sound.cold_ring;
-      ghost_ring = IsRingOf-changed weight ghosts _ sound.ghost_ring;
-      still = λ u stands. sound.still u (sym (alike stand_of stand_same u) ∙ stands);
-      loading = λ u stands. sound.loading u (sym (alike stand_of stand_same u) ∙ stands);
+    pub IsStanding-changed : (change item).weight ≡ item.weight → (rings : Rings)
+        → IsStanding old rings → IsStanding (written hash (change item) t old) rings
+    IsStanding-changed weight rings sound = record {
+      hot_ring = IsRingOf-changed weight rings.hot _ sound.hot_ring;
+      cold_ring = IsRingOf-changed weight rings.cold _ sound.cold_ring;
+      ghost_ring = IsRingOf-changed weight rings.ghosts _ sound.ghost_ring;
     }
 
     pub IsKeyed-changed : (change item).weight < 18446744073709551616 → (index : Index)
@@ -189,12 +176,12 @@ module _ {K V P T : Type 0} where
         (sym (ap (still_of t) at) ∙ none))
         tokens
 
-    pub lists-changed : (index : Index) (hot cold ghosts : Ring)
-        → lists_of (written hash (change item) t old) index hot cold ghosts
-        ≡ with_change t change (lists_of old index hot cold ghosts)
-    lists-changed index hot cold ghosts =
-        let hot_is = view-changed (tokens_of old hot.head) in
-        let cold_is = view-changed (tokens_of old cold.head) in
+    pub lists-changed : (index : Index) (rings : Rings)
+        → lists_of (written hash (change item) t old) index rings
+        ≡ with_change t change (lists_of old index rings)
+    lists-changed index rings =
+        let hot_is = view-changed rings.hot.tokens in
+        let cold_is = view-changed rings.cold.tokens in
         let still_is = ap (λ n. gather
         (λ u. still_of u (item_at (written hash (change item) t old) u)) (upto n)) long
         ∙ view-still (upto (length old.slots)) in
@@ -206,11 +193,12 @@ module _ {K V P T : Type 0} where
         (ap (loading_of t) at) (ap (loading_of t) here) in
         let ghosts_is = gather-neither (λ u. ghost_of u (item_at old u))
         (λ u. ghost_of u (item_at (written hash (change item) t old) u)) t
-        (tokens_of old ghosts.head) (λ u differs. ap (ghost_of u) (others u differs))
+        rings.ghosts.tokens (λ u differs. ap (ghost_of u) (others u differs))
         (ap (ghost_of t) at) (ap (ghost_of t) here) in
         let next_is : next_token (written hash (change item) t old) ≡ next_token old =
         rw long refl in
-        let room_is : room_of (written hash (change item) t old) index ≡ room_of old index = refl in
+        let room_is : room_of (written hash (change item) t old) index rings
+        ≡ room_of old index rings = refl in
         λ i. record {
           hot = hot_is i;
           cold = cold_is i;
@@ -225,194 +213,155 @@ module _ {K V P T : Type 0} where
         → (index : Index) (rings : Rings) (loading : ℕ) → IsSound old index rings loading
         → IsSound (written hash (change item) t old) index rings loading
     IsSound-changed weight index rings loading sound =
-        let same = lists-changed index rings.hot rings.cold rings.ghosts in
-        let before = lists_of old index rings.hot rings.cold rings.ghosts in
+        let same = lists-changed index rings in
+        let before = lists_of old index rings in
         let waiting = ap (λ (l : Lists K V P). length l.loading) same in
         let all = ap entry_count same in
         record {
-          standing = IsStanding-changed weight rings.hot rings.cold rings.ghosts sound.standing;
+          standing = IsStanding-changed weight rings sound.standing;
           keyed = IsKeyed-changed (omega (arith, weight, sound.keyed.light t, ap weight_at at))
               index sound.keyed;
           loading_counted = sound.loading_counted ∙ sym waiting;
           all_counted = all ∙ entry_count-change t change before ∙ sound.all_counted;
+          within = sound.within;
         }
 
     -- ---- another weight, in the same list
 
-    module _ (single : (u w : ℕ) → times w (ring_from old u) ≤ 1) where
-      once_in : (o : Option Token) → times t (tokens_of old o) ≤ 1
-      once_in None = omega arith
-      once_in (Some h) = single (non_zero_u32_get h) t
+    weigh-one : (xs : List ℕ) → times t xs ≡ 1
+        → weigh (λ u. weight_at (item_at (written hash (change item) t old) u)) xs + item.weight
+        ≡ weigh (λ u. weight_at (item_at old u)) xs + (change item).weight
+    weigh-one [] one = absurd (omega (arith, one))
+    weigh-one (x ∷ xs) one = elim (cases_eq x t) [
+      | inl is ↦
+          let out : times t xs ≡ 0 = omega
+          (arith, one, ap (times t) (ap (λ (n : ℕ). n ∷ xs) is), times-here t xs) in
+          let rest = weigh-same (λ u. weight_at (item_at old u))
+          (λ u. weight_at (item_at (written hash (change item) t old) u)) xs
+          (λ u some. ap weight_at (others u
+          (λ e. omega (arith, some, subst (λ (w : ℕ). times w xs ≡ 0) (sym e) out)))) in
+          omega (
+            arith,
+            rest,
+            ap (λ u. weight_at (item_at old u)) is,
+            ap weight_at at,
+            ap
+                (λ u. weight_at (item_at (written hash (change item) t old) u)) is,
+            ap weight_at
+                here,
+          )
+      | inr differs ↦ omega (
+        arith,
+        weigh-one xs
+            (omega (arith, one, times-other t x xs differs)),
+        ap weight_at (others x differs),
+      )
+    ]
 
-      weigh-one : (xs : List ℕ) → times t xs ≡ 1
-          → weigh (λ u. weight_at (item_at (written hash (change item) t old) u)) xs + item.weight
-          ≡ weigh (λ u. weight_at (item_at old u)) xs + (change item).weight
-      weigh-one [] one = absurd (omega (arith, one))
-      weigh-one (x ∷ xs) one = elim (cases_eq x t) [
-        | inl is ↦
-            let out : times t xs ≡ 0 = omega
-            (arith, one, ap (times t) (ap (λ (n : ℕ). n ∷ xs) is), times-here t xs) in
-            let rest = weigh-same (λ u. weight_at (item_at old u))
-            (λ u. weight_at (item_at (written hash (change item) t old) u)) xs
-            (λ u some. ap weight_at (others u
-            (λ e. omega (arith, some, subst (λ (w : ℕ). times w xs ≡ 0) (sym e) out)))) in
-            omega (
-              arith,
-              rest,
-              ap (λ u. weight_at (item_at old u)) is,
-              ap weight_at at,
-              ap
-                  (λ u. weight_at (item_at (written hash (change item) t old) u)) is,
-              ap weight_at
-                  here,
-            )
-        | inr differs ↦ omega (
-          arith,
-          weigh-one xs
-              (omega (arith, one, times-other t x xs differs)),
-          ap weight_at (others x differs),
-        )
-      ]
+    IsRingOf-own : (ring : Ring) (s : Stand) → stand_of (item_at old t) ≡ Some s
+        → IsRingOf old ring s → IsRingOf (written hash (change item) t old)
+        (ring_reweighed item.weight (change item).weight ring) s
+    IsRingOf-own ring s own is = record {
+      members = λ u some. alike stand_of stand_same u ∙ is.members u some;
+      all = λ u stands. is.all u (sym (alike stand_of stand_same u) ∙ stands);
+      once = is.once;
+      weighed =
+          let one : times t ring.tokens ≡ 1 = omega (arith, is.all t own, is.once t) in
+          omega (
+            arith,
+            weigh-one ring.tokens one,
+            is.weighed,
+            weigh-member (λ u. weight_at (item_at old u)) t ring.tokens (is.all t own),
+            ap weight_at at,
+          );
+    }
 
-      IsRingOf-own : (ring after : Ring) (s : Stand) → stand_of (item_at old t) ≡ Some s
-          → after.head ≡ ring.head → after.count ≡ ring.count
-          → after.weight + item.weight ≡ ring.weight + (change item).weight → IsRingOf old ring s
-          → IsRingOf (written hash (change item) t old) after s
-      IsRingOf-own ring after s own head count weighs is =
-          let tokens : tokens_of old after.head ≡ tokens_of old ring.head =
-          ap (tokens_of old) head in
-          record {
-            headed = rw head (by_head ring.head is.headed);
-            members = λ u some. alike stand_of stand_same u ∙ is.members u (rw tokens at some);
-            all = λ u stands. rw tokens (is.all u (sym (alike stand_of stand_same u) ∙ stands));
-            counted = count ∙ is.counted ∙ ap length (sym tokens);
-            weighed =
-                let one : times t (tokens_of old ring.head) ≡ 1 =
-                omega (arith, is.all t own, once_in ring.head) in
-                let same = ap (weigh (λ u. weight_at
-                (item_at (written hash (change item) t old) u))) tokens in
-                omega (arith, weigh-one (tokens_of old ring.head) one, weighs, is.weighed, same);
-          }
-        where
-          by_head : (o : Option Token) → IfSome o
-              (λ head. stand_of (item_at old (non_zero_u32_get head)) ≡ Some s)
-              → IfSome o (λ head. stand_of (item_at (written hash (change item) t old)
-              (non_zero_u32_get head)) ≡ Some s)
-          by_head None headed = tt
-          by_head (Some h) headed = alike stand_of stand_same (non_zero_u32_get h) ∙ headed
+    IsRingOf-off : (ring : Ring) (s : Stand) → stand_of (item_at old t) ≢ Some s
+        → IsRingOf old ring s → IsRingOf (written hash (change item) t old) ring s
+    IsRingOf-off ring s off is = IsRingOf-kept old (written hash (change item) t old) t others ring
+        s off (λ same. off (sym (alike stand_of stand_same t) ∙ same)) is
 
-      IsRingOf-off : (ring : Ring) (s : Stand) → stand_of (item_at old t) ≢ Some s
-          → IsRingOf old ring s → IsRingOf (written hash (change item) t old) ring s
-      IsRingOf-off ring s off is = record {
-        headed = by_head ring.head is.headed;
-        members = λ u some. alike stand_of stand_same u ∙ is.members u some;
-        all = λ u stands. is.all u (sym (alike stand_of stand_same u) ∙ stands);
-        counted = is.counted;
-        weighed = is.weighed ∙ sym (weigh-same (λ u. weight_at (item_at old u))
-            (λ u. weight_at (item_at (written hash (change item) t old) u))
-            (tokens_of old ring.head) (λ u some. ap weight_at
-            (others u (λ e. off (subst (λ (w : ℕ). stand_of (item_at old w) ≡ Some s) e
-            (is.members u some))))));
-      }
-        where
-          by_head : (o : Option Token) → IfSome o
-              (λ head. stand_of (item_at old (non_zero_u32_get head)) ≡ Some s)
-              → IfSome o (λ head. stand_of (item_at (written hash (change item) t old)
-              (non_zero_u32_get head)) ≡ Some s)
-          by_head None headed = tt
-          by_head (Some h) headed = alike stand_of stand_same (non_zero_u32_get h) ∙ headed
+    off_of : (s r : Stand) → stand_of (item_at old t) ≡ Some s → s ≢ r
+        → stand_of (item_at old t) ≢ Some r
+    off_of s r is differs same = differs (some_stand s r (sym is ∙ same))
+      where
+        some_stand : (a b : Stand) → Some a ≡ Some b → a ≡ b
+        some_stand a b e = cc
 
-      off_of : (s r : Stand) → stand_of (item_at old t) ≡ Some s → s ≢ r
-          → stand_of (item_at old t) ≢ Some r
-      off_of s r is differs same = differs (some_stand s r (sym is ∙ same))
-        where
-          some_stand : (a b : Stand) → Some a ≡ Some b → a ≡ b
-          some_stand a b e = cc
-
-      beside : {rings : Rings} {s : Stand} → stand_of (item_at old t) ≡ Some s
-          → IsStanding old rings.hot rings.cold rings.ghosts → s ≢ AmongHot → s ≢ AmongCold
-          → s ≢ AmongGhosts → IsStanding
-          (written hash (change item) t old) rings.hot rings.cold rings.ghosts
-      beside {rings = rings} {s = s} is sound off_hot off_cold off_ghosts = record {
-        hot_ring = IsRingOf-off rings.hot AmongHot (off_of s AmongHot is off_hot) sound.hot_ring;
-        cold_ring = IsRingOf-off rings.cold AmongCold
-            (off_of s AmongCold is off_cold) sound.cold_ring;
-        ghost_ring = IsRingOf-off rings.ghosts AmongGhosts
-            (off_of s AmongGhosts is off_ghosts) sound.ghost_ring;
-        still = λ u stands. sound.still u (sym (alike stand_of stand_same u) ∙ stands);
-        loading = λ u stands. sound.loading u (sym (alike stand_of stand_same u) ∙ stands);
-      }
-
-      pub IsStanding-reweighed : (rings after : Rings) (s : Stand)
-          → stand_of (item_at old t) ≡ Some s
-          → ReweighsRing rings after item.weight (change item).weight s
-          → IsStanding old rings.hot rings.cold rings.ghosts
-          → IsStanding (written hash (change item) t old) after.hot after.cold after.ghosts
-      IsStanding-reweighed rings after AmongHot is same sound = rw (same.1) (record {
-        hot_ring = IsRingOf-own rings.hot
-            (record rings.hot { weight = after.hot.weight }) AmongHot is refl refl same.0
-            sound.hot_ring;
-        cold_ring = IsRingOf-off rings.cold AmongCold
-            (off_of AmongHot AmongCold is (λ e. cc)) sound.cold_ring;
-        ghost_ring = IsRingOf-off rings.ghosts AmongGhosts
-            (off_of AmongHot AmongGhosts is (λ e. cc)) sound.ghost_ring;
-        still = λ u stands. sound.still u (sym (alike stand_of stand_same u) ∙ stands);
-        loading = λ u stands. sound.loading u (sym (alike stand_of stand_same u) ∙ stands);
-      })
-      IsStanding-reweighed rings after AmongCold is same sound = rw (same.1) (record {
-        hot_ring = IsRingOf-off rings.hot AmongHot
-            (off_of AmongCold AmongHot is (λ e. cc)) sound.hot_ring;
-        cold_ring = IsRingOf-own rings.cold
-            (record rings.cold { weight = after.cold.weight }) AmongCold is refl refl same.0
-            sound.cold_ring;
-        ghost_ring = IsRingOf-off rings.ghosts AmongGhosts
-            (off_of AmongCold AmongGhosts is (λ e. cc)) sound.ghost_ring;
-        still = λ u stands. sound.still u (sym (alike stand_of stand_same u) ∙ stands);
-        loading = λ u stands. sound.loading u (sym (alike stand_of stand_same u) ∙ stands);
-      })
-      IsStanding-reweighed rings after AmongGhosts is same sound =
-          absurd (not_ghosts (item.weight == 0) item.queue (some_stand (sym (ap stand_of at) ∙ is)))
-        where
-          some_stand : {a b : Stand} → Some a ≡ Some b → a ≡ b
-          some_stand e = cc
-      IsStanding-reweighed rings after AmongStill is same sound =
-          rw same (beside is sound (λ e. cc) (λ e. cc) (λ e. cc))
-      IsStanding-reweighed rings after AmongLoading is same sound =
-          rw same (beside is sound (λ e. cc) (λ e. cc) (λ e. cc))
+    IsStanding-reweighed : (rings : Rings) (s : Stand) → stand_of (item_at old t) ≡ Some s
+        → IsStanding old rings → IsStanding (written hash (change item) t old)
+        (reweighed item.weight (change item).weight s rings)
+    IsStanding-reweighed rings AmongHot is sound = record {
+      hot_ring = IsRingOf-own rings.hot AmongHot is sound.hot_ring;
+      cold_ring = IsRingOf-off rings.cold AmongCold
+          (off_of AmongHot AmongCold is (λ e. cc)) sound.cold_ring;
+      ghost_ring = IsRingOf-off rings.ghosts AmongGhosts
+          (off_of AmongHot AmongGhosts is (λ e. cc)) sound.ghost_ring;
+    }
+    IsStanding-reweighed rings AmongCold is sound = record {
+      hot_ring = IsRingOf-off rings.hot AmongHot
+          (off_of AmongCold AmongHot is (λ e. cc)) sound.hot_ring;
+      cold_ring = IsRingOf-own rings.cold AmongCold is sound.cold_ring;
+      ghost_ring = IsRingOf-off rings.ghosts AmongGhosts
+          (off_of AmongCold AmongGhosts is (λ e. cc)) sound.ghost_ring;
+    }
+    IsStanding-reweighed rings AmongGhosts is sound =
+        absurd (not_ghosts (item.weight == 0) item.queue (some_stand (sym (ap stand_of at) ∙ is)))
+      where
+        some_stand : {a b : Stand} → Some a ≡ Some b → a ≡ b
+        some_stand e = cc
+    IsStanding-reweighed rings AmongStill is sound = record {
+      hot_ring = IsRingOf-off rings.hot AmongHot
+          (off_of AmongStill AmongHot is (λ e. cc)) sound.hot_ring;
+      cold_ring = IsRingOf-off rings.cold AmongCold
+          (off_of AmongStill AmongCold is (λ e. cc)) sound.cold_ring;
+      ghost_ring = IsRingOf-off rings.ghosts AmongGhosts
+          (off_of AmongStill AmongGhosts is (λ e. cc)) sound.ghost_ring;
+    }
+    IsStanding-reweighed rings AmongLoading is sound = record {
+      hot_ring = IsRingOf-off rings.hot AmongHot
+          (off_of AmongLoading AmongHot is (λ e. cc)) sound.hot_ring;
+      cold_ring = IsRingOf-off rings.cold AmongCold
+          (off_of AmongLoading AmongCold is (λ e. cc)) sound.cold_ring;
+      ghost_ring = IsRingOf-off rings.ghosts AmongGhosts
+          (off_of AmongLoading AmongGhosts is (λ e. cc)) sound.ghost_ring;
+    }
 
     -- no list changes but for the item
-    pub lists-reweighed : (index : Index) (rings after : Rings) (s : Stand)
-        → ReweighsRing rings after item.weight (change item).weight s
-        → lists_of (written hash (change item) t old) index after.hot after.cold after.ghosts
-        ≡ with_change t change (lists_of old index rings.hot rings.cold rings.ghosts)
-    lists-reweighed index rings after AmongHot same =
-        rw same.1 (lists-changed index rings.hot rings.cold rings.ghosts)
-    lists-reweighed index rings after AmongCold same =
-        rw same.1 (lists-changed index rings.hot rings.cold rings.ghosts)
-    lists-reweighed index rings after AmongGhosts same =
-        rw same (lists-changed index rings.hot rings.cold rings.ghosts)
-    lists-reweighed index rings after AmongStill same =
-        rw same (lists-changed index rings.hot rings.cold rings.ghosts)
-    lists-reweighed index rings after AmongLoading same =
-        rw same (lists-changed index rings.hot rings.cold rings.ghosts)
+    pub lists-reweighed : (index : Index) (rings : Rings) (s : Stand)
+        → lists_of (written hash (change item) t old) index
+        (reweighed item.weight (change item).weight s rings)
+        ≡ with_change t change (lists_of old index rings)
+    lists-reweighed index rings AmongHot = lists-changed index rings
+    lists-reweighed index rings AmongCold = lists-changed index rings
+    lists-reweighed index rings AmongGhosts = lists-changed index rings
+    lists-reweighed index rings AmongStill = lists-changed index rings
+    lists-reweighed index rings AmongLoading = lists-changed index rings
 
-    pub IsSound-reweighed : ((u w : ℕ) → times w (ring_from old u) ≤ 1)
-        → (change item).weight < 18446744073709551616
-        → (index : Index) (rings after : Rings) (loading : ℕ) (s : Stand)
-        → stand_of (item_at old t) ≡ Some s
-        → ReweighsRing rings after item.weight (change item).weight s
-        → IsSound old index rings loading
-        → IsSound (written hash (change item) t old) index after loading
-    IsSound-reweighed single light index rings after loading s is reweighs sound =
-        let same = lists-reweighed index rings after s reweighs in
-        let before = lists_of old index rings.hot rings.cold rings.ghosts in
+    within-reweighed : (count : ℕ) (rings : Rings) (s : Stand) → count ≤ rings.capacity
+        → count ≤ (reweighed item.weight (change item).weight s rings).capacity
+    within-reweighed count rings AmongHot within = within
+    within-reweighed count rings AmongCold within = within
+    within-reweighed count rings AmongGhosts within = within
+    within-reweighed count rings AmongStill within = within
+    within-reweighed count rings AmongLoading within = within
+
+    pub IsSound-reweighed : (change item).weight < 18446744073709551616
+        → (index : Index) (rings : Rings) (loading : ℕ) (s : Stand)
+        → stand_of (item_at old t) ≡ Some s → IsSound old index rings loading
+        → IsSound (written hash (change item) t old) index
+        (reweighed item.weight (change item).weight s rings) loading
+    IsSound-reweighed light index rings loading s is sound =
+        let same = lists-reweighed index rings s in
+        let before = lists_of old index rings in
         record {
-          standing = IsStanding-reweighed single rings after s is reweighs sound.standing;
+          standing = IsStanding-reweighed rings s is sound.standing;
           keyed = IsKeyed-changed light index sound.keyed;
           loading_counted = sound.loading_counted
               ∙ sym (ap (λ (l : Lists K V P). length l.loading) same);
           all_counted = ap entry_count same ∙ entry_count-change t change before
               ∙ sound.all_counted;
+          within = within-reweighed (token_count index) rings s sound.within;
         }
 
 module _ {S : Type 0} where
@@ -423,14 +372,14 @@ module _ {S : Type 0} where
       subst (λ (y : Option S). with_token slots (suc i) y ≡ slots) is (set-get_or slots i None)
 
   -- an item that is written as it was
-  pub with_item-same : (slab : LinkedSlab S) (t : ℕ) (x : S) → item_at slab t ≡ Some x
+  pub with_item-same : (slab : Pool S) (t : ℕ) (x : S) → item_at slab t ≡ Some x
       → with_item slab t x ≡ slab
   with_item-same slab t x is = λ i. record slab { slots = slots_same slab.slots t (Some x) is i }
 
 module _ {K V P T : Type 0} where
-  pub lists-same : (slab : LinkedSlab (Slot K V P T)) (index : Index) (hot cold ghosts : Ring)
+  pub lists-same : (slab : Pool (Slot K V P T)) (index : Index) (rings : Rings)
       (t : ℕ) (x y : Slot K V P T) → item_at slab t ≡ Some x → y ≡ x
-      → lists_of (with_item slab t y) index hot cold ghosts ≡ lists_of slab index hot cold ghosts
-  lists-same slab index hot cold ghosts t x y at same =
-      ap (λ (s : LinkedSlab (Slot K V P T)). lists_of s index hot cold ghosts)
+      → lists_of (with_item slab t y) index rings ≡ lists_of slab index rings
+  lists-same slab index rings t x y at same =
+      ap (λ (s : Pool (Slot K V P T)). lists_of s index rings)
       (ap (λ (z : Slot K V P T). with_item slab t z) same ∙ with_item-same slab t x at)

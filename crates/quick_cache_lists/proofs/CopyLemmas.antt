@@ -1,24 +1,22 @@
 -- Copied slots under the hashes of a new index are copies of the lists.
-use Rattle.std.proofs.Common.{◌≡◌, ◌≢◌, ℕ, zero, suc, ◌+◌, ◌<◌, ◌≤◌, ◌==◌, if◌then◌else◌, Bool, true, false, List, [], ◌∷◌, cond, map, length, count_by, Option, Some, None, IfSome, is_some, ◌||◌, IsTrue, refl, sym, ap, subst, ◌∙◌, inl, inr, arith}
+use Rattle.std.proofs.Common.{◌≡◌, ◌≢◌, ℕ, zero, suc, ◌+◌, ◌<◌, ◌≤◌, ◌==◌, if◌then◌else◌, Bool, true, false, List, [], ◌∷◌, cond, map, length, count_by, Option, Some, None, is_some, ◌||◌, IsTrue, refl, sym, ap, subst, ◌∙◌, inl, inr, arith}
 use Rattle.std.proofs.lemmas.Bool.{cases_eq, eq-eqb, eqb-true, ne_eqb}
 use Rattle.std.proofs.lemmas.List.Sums.{sum_by-cons}
 use Rattle.std.specs.List.{AllZip}
-use Rattle.std.specs.Int.NonZero.{non_zero_u32_get}
-use Rattle.std.specs.declared.num.NonZeroU32.{NonZeroU32 as Token}
 use Rattle.quick_cache_model.specs.CacheState.{Item}
-use Rattle.quick_cache_slab.specs.LinkedSlab.{LinkedSlab, AreItemCopies, at_token, entries_after, entries_past, item_at, next_token, ring_from, times}
-use Rattle.quick_cache_slab.specs.LinkedSlab.{IsSlotCopy as IsCopyAt}
-use Rattle.quick_cache_slab.proofs.TokenCounts.{times-cons_le, times-here, times-other}
+use Rattle.quick_cache_model.specs.Sequences.{times}
+use Rattle.quick_cache_pool.specs.Pool.{Pool, AreItemCopies, at_token, entries_after, entries_past, item_at, next_token}
+use Rattle.quick_cache_pool.specs.Pool.{IsSlotCopy as IsCopyAt}
+use Rattle.quick_cache_pool.proofs.TokenCounts.{times-cons_le, times-here, times-other}
 use Rattle.quick_cache_index.specs.Index.{Index, GainsToken, HasNone, HasToken, KeepsAllLeads, Leads, has_token, token_count}
 use Rattle.quick_cache_slots.specs.declared.entry.Entry.{Entry}
 use Rattle.quick_cache_slots.specs.declared.entry.Entry.TheVariants.{Item as item_variant, Loading as loading_variant, Ghost as ghost_variant}
 use Rattle.quick_cache_slots.specs.declared.entry.Slot.{Slot}
-use Rattle.quick_cache_lists.specs.declared.ring.Ring.{Ring}
-use Rattle.quick_cache_lists.specs.declared.rings.Rings.{Rings}
+use Rattle.quick_cache_rings.specs.Rings.{Ring, Rings}
 use Rattle.quick_cache_lists.specs.Copies.{AreCopies, IsEntryCopy, IsHeldCopy, IsItemCopy, IsSlotCopy, IsWaitingCopy}
 use Rattle.quick_cache_lists.specs.Lists.{HeldItem, HeldLoading}
 use Rattle.quick_cache_lists.specs.Slots.{Stand, ghost_of, has_hash, if_still, item_of, loading_of, stand_of, stand_of_item, still_of, weight_at}
-use Rattle.quick_cache_lists.specs.Sound.{AddsTokens, AreAlone, HasHash, IsKeyed, IsRingOf, IsSound, IsStanding, gather, lists_of, put, tokens_of, upto, weigh}
+use Rattle.quick_cache_lists.specs.Sound.{AddsTokens, HasHash, IsKeyed, IsRingOf, IsSound, IsStanding, gather, lists_of, put, upto}
 use Rattle.quick_cache_lists.proofs.GatherLemmas.{weigh-same}
 
 -- ---- lists, place by place
@@ -204,19 +202,12 @@ module _ {K V P : Type 0} (clones_key : K → K → Type 0) (clones_value : V �
     ghost-at t (Some x) None is = absurd is
     ghost-at t (Some x) (Some y) is = ghost-entry t x.hash y.hash x.entry y.entry is
 
-    module _ (slab copy : LinkedSlab (Slot K V P T)) (are : AreItemCopies Copied slab copy) where
+    module _ (slab copy : Pool (Slot K V P T)) (are : AreItemCopies Copied slab copy) where
       pub at-copied : (t : ℕ) → IsCopyAt Copied (item_at slab t) (item_at copy t)
       at-copied t = at_token-copied Copied slab.slots copy.slots are.slots t
 
       pub slots-copied : length copy.slots ≡ length slab.slots
       slots-copied = length-zip (IsCopyAt Copied) slab.slots copy.slots are.slots
-
-      ring_from-copied : (t : ℕ) → ring_from copy t ≡ ring_from slab t
-      ring_from-copied t = ap (λ (s : LinkedSlab (Slot K V P T)). ring_from s t) are.same
-
-      tokens_of-copied : (head : Option Token) → tokens_of copy head ≡ tokens_of slab head
-      tokens_of-copied None = refl
-      tokens_of-copied (Some head) = ring_from-copied (non_zero_u32_get head)
 
       stand-copied : (t : ℕ) → stand_of (item_at copy t) ≡ stand_of (item_at slab t)
       stand-copied t = stand-at (item_at slab t) (item_at copy t) (at-copied t)
@@ -227,46 +218,33 @@ module _ {K V P : Type 0} (clones_key : K → K → Type 0) (clones_value : V �
       IsRingOf-copied : (ring : Ring) (stand : Stand) → IsRingOf slab ring stand
           → IsRingOf copy ring stand
       IsRingOf-copied ring stand is = record {
-        headed = by_head ring.head is.headed;
-        members = λ t some. stand-copied t
-            ∙ is.members t (rw (← tokens_of-copied ring.head) some);
-        all = λ t stands. rw (tokens_of-copied ring.head)
-            (is.all t (sym (stand-copied t) ∙ stands));
-        counted = is.counted ∙ ap length (sym (tokens_of-copied ring.head));
+        members = λ t some. stand-copied t ∙ is.members t some;
+        all = λ t stands. is.all t (sym (stand-copied t) ∙ stands);
+        once = is.once;
         weighed = is.weighed
             ∙ sym (weigh-same (λ t. weight_at (item_at slab t)) (λ t. weight_at (item_at copy t))
-            (tokens_of slab ring.head) (λ t some. weight-copied t))
-            ∙ ap (weigh (λ t. weight_at (item_at copy t))) (sym (tokens_of-copied ring.head));
+            ring.tokens (λ t some. weight-copied t));
       }
-        where
-          by_head : (head : Option Token)
-              → IfSome head (λ h. stand_of (item_at slab (non_zero_u32_get h)) ≡ Some stand)
-              → IfSome head (λ h. stand_of (item_at copy (non_zero_u32_get h)) ≡ Some stand)
-          by_head None headed = tt
-          by_head (Some head) headed = stand-copied (non_zero_u32_get head) ∙ headed
 
-      AreAlone-copied : (stand : Stand) → AreAlone slab stand → AreAlone copy stand
-      AreAlone-copied stand alone = λ t stands.
-          ring_from-copied t ∙ alone t (sym (stand-copied t) ∙ stands)
-
-      IsStanding-copied : (hot cold ghosts : Ring) → IsStanding slab hot cold ghosts
-          → IsStanding copy hot cold ghosts
-      IsStanding-copied hot cold ghosts is = record {
-        hot_ring = IsRingOf-copied hot _ is.hot_ring;
-        cold_ring = IsRingOf-copied cold _ is.cold_ring;
-        ghost_ring = IsRingOf-copied ghosts _ is.ghost_ring;
-        still = AreAlone-copied _ is.still;
-        loading = AreAlone-copied _ is.loading;
+      IsStanding-copied : (rings : Rings) → IsStanding slab rings → IsStanding copy rings
+      IsStanding-copied rings is = record {
+        hot_ring = IsRingOf-copied rings.hot _ is.hot_ring;
+        cold_ring = IsRingOf-copied rings.cold _ is.cold_ring;
+        ghost_ring = IsRingOf-copied rings.ghosts _ is.ghost_ring;
       }
 
       -- ---- the lists
 
-      module _ (index keyed : Index) (hot cold ghosts : Ring) where
+      -- the copy of the rings has room for as many tokens
+      module _ (index keyed : Index) (rings : Rings) (room : ℕ) where
+        abbrev pub rings_copy : Rings
+        rings_copy = record rings { capacity = room }
+
         pub lists_of-copied : AreCopies clones_key clones_value hash_of shares
-            (lists_of slab index hot cold ghosts) (lists_of copy keyed hot cold ghosts)
+            (lists_of slab index rings) (lists_of copy keyed rings_copy)
         lists_of-copied = record {
-          hot = ring hot;
-          cold = ring cold;
+          hot = ring rings.hot;
+          cold = ring rings.cold;
           still = rw slots-copied
               (gather-copied Held (λ t. still_of t (item_at slab t)) (λ t. still_of t (item_at copy t))
               (upto (length slab.slots))
@@ -275,9 +253,8 @@ module _ {K V P : Type 0} (clones_key : K → K → Type 0) (clones_value : V �
               (gather-copied Waiting (λ t. loading_of t (item_at slab t))
               (λ t. loading_of t (item_at copy t)) (upto (length slab.slots))
               (λ t. loading-at t (item_at slab t) (item_at copy t) (at-copied t)));
-          ghosts = ap (gather (λ t. ghost_of t (item_at copy t))) (tokens_of-copied ghosts.head)
-              ∙ gather-equal (λ t. ghost_of t (item_at slab t)) (λ t. ghost_of t (item_at copy t))
-              (tokens_of slab ghosts.head)
+          ghosts = gather-equal (λ t. ghost_of t (item_at slab t))
+              (λ t. ghost_of t (item_at copy t)) rings.ghosts.tokens
               (λ t. ghost-at t (item_at slab t) (item_at copy t) (at-copied t));
           next = ap next_token are.same ∙ by_free slab.free;
         }
@@ -286,11 +263,10 @@ module _ {K V P : Type 0} (clones_key : K → K → Type 0) (clones_value : V �
             items t = item-at t (item_at slab t) (item_at copy t) (at-copied t)
 
             ring : (r : Ring) → AllZip Held
-                (gather (λ t. item_of t (item_at slab t)) (tokens_of slab r.head))
-                (gather (λ t. item_of t (item_at copy t)) (tokens_of copy r.head))
-            ring r = rw (tokens_of-copied r.head)
-                (gather-copied Held (λ t. item_of t (item_at slab t))
-                (λ t. item_of t (item_at copy t)) (tokens_of slab r.head) items)
+                (gather (λ t. item_of t (item_at slab t)) r.tokens)
+                (gather (λ t. item_of t (item_at copy t)) r.tokens)
+            ring r = gather-copied Held (λ t. item_of t (item_at slab t))
+                (λ t. item_of t (item_at copy t)) r.tokens items
 
             by_free : (free : List ℕ) → next_token {T = Slot K V P T}
                 (record slab { slots = copy.slots; free = free; room = copy.room })
@@ -308,13 +284,14 @@ module _ {K V P : Type 0} (clones_key : K → K → Type 0) (clones_value : V �
       module _ (index keyed : Index) (rings : Rings) (loading : ℕ) where
         -- once its entries are keyed, the copy is as sound as the lists are
         pub IsSound-copied : IsSound slab index rings loading → IsKeyed copy keyed
-            → IsSound copy keyed rings loading
+            → IsSound copy keyed (record rings { capacity = token_count index }) loading
         IsSound-copied sound are_keyed =
-            let lists = lists_of-copied index keyed rings.hot rings.cold rings.ghosts in
+            let lists = lists_of-copied index keyed rings (token_count index) in
             let waiting = length-zip Waiting _ _ lists.loading in
-            let free = ap (λ (s : LinkedSlab (Slot K V P T)). length s.free) are.same in
+            let free = ap (λ (s : Pool (Slot K V P T)). length s.free) are.same in
             record {
-              standing = IsStanding-copied rings.hot rings.cold rings.ghosts sound.standing;
+              standing = IsStanding-copied (record rings { capacity = token_count index })
+                  (IsStanding-room rings (token_count index) sound.standing);
               keyed = are_keyed;
               loading_counted = sound.loading_counted ∙ sym waiting;
               all_counted = omega (
@@ -330,6 +307,21 @@ module _ {K V P : Type 0} (clones_key : K → K → Type 0) (clones_value : V �
                 length-zip Held _ _ lists.still,
                 ap length lists.ghosts,
               );
+              within = omega (
+                arith,
+                sound.keyed.counted,
+                are_keyed.counted,
+                slots-copied,
+                free,
+              );
+            }
+          where
+            IsStanding-room : (rings : Rings) (room : ℕ) → IsStanding slab rings
+                → IsStanding slab (record rings { capacity = room })
+            IsStanding-room rings room is = record {
+              hot_ring = is.hot_ring;
+              cold_ring = is.cold_ring;
+              ghost_ring = is.ghost_ring;
             }
 
 -- ---- the tokens of all entries
@@ -479,7 +471,7 @@ module _ {K V P T : Type 0} where
       led rest hash (suc i) t is has = rest.leads hash i t (omega (arith, is)) has
 
   -- an empty index that got the token of each entry leads to each by its hash
-  pub IsKeyed-all : (slab : LinkedSlab (Slot K V P T)) (empty index : Index)
+  pub IsKeyed-all : (slab : Pool (Slot K V P T)) (empty index : Index)
       → AddsTokens (entries_after slab 0) empty index → HasNone empty → token_count empty ≡ 0
       → length slab.slots ≤ 4294967295
       → ((t : ℕ) → weight_at (item_at slab t) < 18446744073709551616)

@@ -3,20 +3,20 @@ use Rattle.std.proofs.Common.{◌≡◌, ◌≢◌, ℕ, ◌+◌, ◌<◌, ◌==
 use Rattle.std.specs.Int.NonZero.{non_zero_u32_get}
 use Rattle.std.specs.declared.num.NonZeroU32.{NonZeroU32 as Token}
 use Rattle.std.proofs.lemmas.Bool.{cases_eq, cases_Bool, eqb-true, eq-eqb}
-use Rattle.quick_cache_slab.specs.LinkedSlab.{LinkedSlab, times, item_at, IsOccupied}
+use Rattle.quick_cache_pool.specs.Pool.{Pool, times, item_at, IsOccupied}
 use Rattle.std.proofs.lemmas.List.Sums.{sum_by-cons}
 use Rattle.quick_cache_index.proofs.CountedTokens.{bit}
-use Rattle.quick_cache_slab.proofs.TokenCounts.{times-here, times-other}
+use Rattle.quick_cache_pool.proofs.TokenCounts.{times-here, times-other}
 use Rattle.quick_cache_index.specs.Index.{Index, HasToken, AreCandidates}
 use Rattle.quick_cache_slots.specs.declared.entry.Entry.{Entry}
 use Rattle.quick_cache_slots.specs.declared.entry.Entry.TheVariants.{Item as item_variant, Loading as loading_variant, Ghost as ghost_variant}
 use Rattle.quick_cache_slots.specs.declared.entry.Slot.{Slot}
 use Rattle.quick_cache_lists.specs.declared.found.Found.{Found}
 use Rattle.quick_cache_lists.specs.declared.found.Found.TheVariants.{Item as found_item, Loading as found_loading, Ghost as found_ghost, Nothing as found_nothing}
-use Rattle.quick_cache_lists.specs.declared.ring.Ring.{Ring}
+use Rattle.quick_cache_rings.specs.Rings.{Rings}
 use Rattle.quick_cache_lists.specs.Lists.{Lists, HeldItem, HeldLoading, HeldGhost, StandsIn, Finds, FindsByKey, HasNoItem, HasNoKey, HasNothing, FindsItem, FindsItemOfAnyHash, FindsLoading}
 use Rattle.quick_cache_lists.specs.Slots.{has_hash, hash_in, item_of, if_still, still_of, loading_of, ghost_of, is_under_at, is_item_under_at, is_ghost_at, is_item_at}
-use Rattle.quick_cache_lists.specs.Sound.{gather, upto, tokens_of, lists_of, HasHash, IsKeyed, IsStanding, IsWalked, PassesNoItem}
+use Rattle.quick_cache_lists.specs.Sound.{gather, upto, lists_of, HasHash, IsKeyed, IsStanding, IsWalked, PassesNoItem}
 use Rattle.quick_cache_lists.proofs.GatherLemmas.{gather-all}
 use Rattle.quick_cache_lists.proofs.StandLemmas.{HasItem-from, StandsIn-loading, StandsIn-ghosts}
 
@@ -147,8 +147,8 @@ module _ {K V P T : Type 0} where
       by_entry hash ghost_variant e = let same : record { token = t; hash = hash } ≡ shade =
           cc in (refl, λ h. ap (λ (y : HeldGhost). eqb y.hash h) same)
 
-  module _ (slab : LinkedSlab (Slot K V P T)) (index : Index) (hot cold ghosts : Ring)
-      (sound : IsStanding slab hot cold ghosts) (keyed : IsKeyed slab index) (stands_for : K → Bool)
+  module _ (slab : Pool (Slot K V P T)) (index : Index) (rings : Rings)
+      (sound : IsStanding slab rings) (keyed : IsKeyed slab index) (stands_for : K → Bool)
       (hash : ℕ) where
     hashed : (t h : ℕ) (o : Option (Slot K V P T)) → item_at slab t ≡ o
         → has_hash hash o ≡ eqb h hash → h ≡ hash → HasHash slab hash t
@@ -156,13 +156,13 @@ module _ {K V P T : Type 0} where
 
     pub HasNoKey-from : ((t : ℕ) → HasHash slab hash t
         → is_under_at stands_for (item_at slab t) ≡ false)
-        → HasNoKey stands_for hash (lists_of slab index hot cold ghosts)
+        → HasNoKey stands_for hash (lists_of slab index rings)
     HasNoKey-from none = record {
       hot = gather-all (λ held. held.hash ≡ hash → stands_for held.item.key ≡ false)
-          (λ token. item_of token (item_at slab token)) (tokens_of slab hot.head)
+          (λ token. item_of token (item_at slab token)) rings.hot.tokens
           (λ t y some is. of_held t y is);
       cold = gather-all (λ held. held.hash ≡ hash → stands_for held.item.key ≡ false)
-          (λ token. item_of token (item_at slab token)) (tokens_of slab cold.head)
+          (λ token. item_of token (item_at slab token)) rings.cold.tokens
           (λ t y some is. of_held t y is);
       still = gather-all (λ held. held.hash ≡ hash → stands_for held.item.key ≡ false)
           (λ token. still_of token (item_at slab token)) (upto (length slab.slots))
@@ -182,13 +182,13 @@ module _ {K V P T : Type 0} where
 
     pub HasNoItem-from : ((t : ℕ) → HasHash slab hash t
         → is_item_under_at stands_for (item_at slab t) ≡ false)
-        → HasNoItem stands_for hash (lists_of slab index hot cold ghosts)
+        → HasNoItem stands_for hash (lists_of slab index rings)
     HasNoItem-from none = record {
       hot = gather-all (λ held. held.hash ≡ hash → stands_for held.item.key ≡ false)
-          (λ token. item_of token (item_at slab token)) (tokens_of slab hot.head)
+          (λ token. item_of token (item_at slab token)) rings.hot.tokens
           (λ t y some is. of_held t y is);
       cold = gather-all (λ held. held.hash ≡ hash → stands_for held.item.key ≡ false)
-          (λ token. item_of token (item_at slab token)) (tokens_of slab cold.head)
+          (λ token. item_of token (item_at slab token)) rings.cold.tokens
           (λ t y some is. of_held t y is);
       still = gather-all (λ held. held.hash ≡ hash → stands_for held.item.key ≡ false)
           (λ token. still_of token (item_at slab token)) (upto (length slab.slots))
@@ -205,11 +205,11 @@ module _ {K V P T : Type 0} where
     pub HasNothing-from : ((t : ℕ) → HasHash slab hash t
         → is_under_at stands_for (item_at slab t) ≡ false)
         → ((t : ℕ) → HasHash slab hash t → is_ghost_at (item_at slab t) ≡ false)
-        → HasNothing stands_for hash (lists_of slab index hot cold ghosts)
+        → HasNothing stands_for hash (lists_of slab index rings)
     HasNothing-from none no_ghost = record {
       keys = HasNoKey-from none;
       ghosts = gather-all (λ shade. shade.hash ≢ hash)
-          (λ token. ghost_of token (item_at slab token)) (tokens_of slab ghosts.head)
+          (λ token. ghost_of token (item_at slab token)) rings.ghosts.tokens
           (λ t y some is same.
           let meant = ghost_shade t (item_at slab t) y is in
           true≢false (sym meant.0 ∙ no_ghost t
@@ -218,7 +218,7 @@ module _ {K V P T : Type 0} where
 
     pub FindsItem-from : (t : ℕ) → HasHash slab hash t
         → is_under_at stands_for (item_at slab t) ≡ true → is_item_at (item_at slab t) ≡ true
-        → FindsItem stands_for hash (lists_of slab index hot cold ghosts) t
+        → FindsItem stands_for hash (lists_of slab index rings) t
     FindsItem-from t has passes item =
         by_slot (item_at slab t) refl has passes item
       where
@@ -226,10 +226,10 @@ module _ {K V P T : Type 0} where
             → item_at slab t ≡ Some (record { hash = h; entry = entry }) → eqb h hash ≡ true
             → is_under_at stands_for (Some (record { hash = h; entry = entry })) ≡ true
             → is_item_at (Some (record { hash = h; entry = entry })) ≡ true
-            → FindsItem stands_for hash (lists_of slab index hot cold ghosts) t
+            → FindsItem stands_for hash (lists_of slab index rings) t
         by_entry h (item_variant i) at same under is = record {
           item = i;
-          stands = HasItem-from slab index hot cold ghosts sound t hash i
+          stands = HasItem-from slab index rings sound t hash i
               (at ∙ ap (λ n. Some (record { hash = n; entry = item_variant i }))
               (eqb-true h hash same));
           passes = under;
@@ -239,13 +239,13 @@ module _ {K V P T : Type 0} where
 
         by_slot : (o : Option (Slot K V P T)) → item_at slab t ≡ o → has_hash hash o ≡ true
             → is_under_at stands_for o ≡ true → is_item_at o ≡ true
-            → FindsItem stands_for hash (lists_of slab index hot cold ghosts) t
+            → FindsItem stands_for hash (lists_of slab index rings) t
         by_slot None at same under is = absurd (true≢false (sym is))
         by_slot (Some slot) at same under is = by_entry slot.hash slot.entry at same under is
 
     pub FindsLoading-from : (t : ℕ) → HasHash slab hash t
         → is_under_at stands_for (item_at slab t) ≡ true → is_item_at (item_at slab t) ≡ false
-        → FindsLoading stands_for hash (lists_of slab index hot cold ghosts) t
+        → FindsLoading stands_for hash (lists_of slab index rings) t
     FindsLoading-from t has passes item =
         by_slot (item_at slab t) refl has passes item
       where
@@ -253,7 +253,7 @@ module _ {K V P T : Type 0} where
             → item_at slab t ≡ Some (record { hash = h; entry = entry }) → eqb h hash ≡ true
             → is_under_at stands_for (Some (record { hash = h; entry = entry })) ≡ true
             → is_item_at (Some (record { hash = h; entry = entry })) ≡ false
-            → FindsLoading stands_for hash (lists_of slab index hot cold ghosts) t
+            → FindsLoading stands_for hash (lists_of slab index rings) t
         by_entry h (item_variant i) at same under is = absurd (true≢false is)
         by_entry h (loading_variant w) at same under is = record {
           waiting = record {
@@ -265,20 +265,20 @@ module _ {K V P T : Type 0} where
           };
           named = refl;
           hashed = eqb-true h hash same;
-          stands = StandsIn-loading slab index hot cold ghosts sound t _ _ at refl;
+          stands = StandsIn-loading slab index rings sound t _ _ at refl;
           passes = under;
         }
         by_entry h ghost_variant at same under is = absurd (true≢false (sym under))
 
         by_slot : (o : Option (Slot K V P T)) → item_at slab t ≡ o → has_hash hash o ≡ true
             → is_under_at stands_for o ≡ true → is_item_at o ≡ false
-            → FindsLoading stands_for hash (lists_of slab index hot cold ghosts) t
+            → FindsLoading stands_for hash (lists_of slab index rings) t
         by_slot None at same under is = absurd (true≢false (sym under))
         by_slot (Some slot) at same under is = by_entry slot.hash slot.entry at same under is
 
     pub StandsIn-found : (t : ℕ) → HasHash slab hash t → is_ghost_at (item_at slab t) ≡ true
         → StandsIn (gather (λ token. ghost_of token (item_at slab token))
-        (tokens_of slab ghosts.head)) (record { token = t; hash = hash })
+        rings.ghosts.tokens) (record { token = t; hash = hash })
     StandsIn-found t has is_ghost =
         by_slot (item_at slab t) refl has is_ghost
       where
@@ -286,36 +286,36 @@ module _ {K V P T : Type 0} where
             → item_at slab t ≡ Some (record { hash = h; entry = entry }) → eqb h hash ≡ true
             → is_ghost_at (Some (record { hash = h; entry = entry })) ≡ true
             → StandsIn (gather (λ token. ghost_of token (item_at slab token))
-            (tokens_of slab ghosts.head)) (record { token = t; hash = hash })
+            rings.ghosts.tokens) (record { token = t; hash = hash })
         by_entry h (item_variant i) at same is = absurd (true≢false (sym is))
         by_entry h (loading_variant w) at same is = absurd (true≢false (sym is))
         by_entry h ghost_variant at same is =
-            StandsIn-ghosts slab index hot cold ghosts sound t hash
+            StandsIn-ghosts slab index rings sound t hash
             (at ∙ ap (λ n. Some (record { hash = n; entry = ghost_variant }))
             (eqb-true h hash same))
 
         by_slot : (o : Option (Slot K V P T)) → item_at slab t ≡ o → has_hash hash o ≡ true
             → is_ghost_at o ≡ true → StandsIn
-            (gather (λ token. ghost_of token (item_at slab token)) (tokens_of slab ghosts.head))
+            (gather (λ token. ghost_of token (item_at slab token)) rings.ghosts.tokens)
             (record { token = t; hash = hash })
         by_slot None at same is = absurd (true≢false (sym is))
         by_slot (Some slot) at same is = by_entry slot.hash slot.entry at same is
 
   -- an item under the query is found under its hash
-  pub FindsItemOfAnyHash-from : (slab : LinkedSlab (Slot K V P T)) (index : Index)
-      (hot cold ghosts : Ring) → IsStanding slab hot cold ghosts → IsKeyed slab index
+  pub FindsItemOfAnyHash-from : (slab : Pool (Slot K V P T)) (index : Index)
+      (rings : Rings) → IsStanding slab rings → IsKeyed slab index
       → (stands_for : K → Bool) (t : ℕ)
       → is_item_under_at stands_for (item_at slab t) ≡ true
-      → FindsItemOfAnyHash stands_for (lists_of slab index hot cold ghosts) t
-  FindsItemOfAnyHash-from slab index hot cold ghosts sound keyed stands_for t passes =
+      → FindsItemOfAnyHash stands_for (lists_of slab index rings) t
+  FindsItemOfAnyHash-from slab index rings sound keyed stands_for t passes =
       let is = item_under-is stands_for (item_at slab t) passes in
       let hash = hash_in (item_at slab t) in (
         hash,
-        FindsItem-from slab index hot cold ghosts sound keyed stands_for hash t
+        FindsItem-from slab index rings sound keyed stands_for hash t
             (under_has_hash stands_for (item_at slab t) is.0) is.0 is.1,
       )
 
-  module _ (slab : LinkedSlab (Slot K V P T)) (index : Index) (hash : ℕ)
+  module _ (slab : Pool (Slot K V P T)) (index : Index) (hash : ℕ)
       (stands_for : K → Bool) where
     pub IsWalked-start : (tokens : List ℕ) → IsKeyed slab index
         → AreCandidates index hash tokens
@@ -431,13 +431,13 @@ module _ {K V P T : Type 0} where
   is_some-some (Some slot) is = refl
 
   -- a token of the index has an entry
-  pub occupied_by_token : (slab : LinkedSlab (Slot K V P T)) (index : Index) → IsKeyed slab index
+  pub occupied_by_token : (slab : Pool (Slot K V P T)) (index : Index) → IsKeyed slab index
       → (t : ℕ) → HasToken index t → IsOccupied slab t
   occupied_by_token slab index keyed t has =
       is_some-some (item_at slab t) (sym (keyed.tokens t) ∙ has)
 
   -- without a candidate no entry has the hash
-  pub none_of_hash : (slab : LinkedSlab (Slot K V P T)) (index : Index) → IsKeyed slab index
+  pub none_of_hash : (slab : Pool (Slot K V P T)) (index : Index) → IsKeyed slab index
       → (hash : ℕ) (tokens : List ℕ) → AreCandidates index hash tokens → tokens ≡ []
       → (t : ℕ) → HasHash slab hash t → ⊥
   none_of_hash slab index keyed hash tokens are none t has =

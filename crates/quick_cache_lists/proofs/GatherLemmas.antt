@@ -1,12 +1,12 @@
 -- What stands at tokens, and what becomes of it where one token changes.
-use Rattle.std.proofs.Common.{◌≡◌, ◌≢◌, ℕ, zero, suc, ◌<◌, ◌≤◌, cond, eqb, List, [], ◌∷◌, ◌++◌, ◌*◌, sum_by, length, map, Option, Some, None, refl, sym, ap, subst, ◌∙◌, inl, inr, arith, append-nil, ◌+◌}
+use Rattle.std.proofs.Common.{◌≡◌, ◌≢◌, ℕ, zero, suc, ◌<◌, ◌≤◌, cond, eqb, Bool, true, false, List, [], ◌∷◌, ◌++◌, ◌*◌, sum_by, length, map, Option, Some, None, refl, sym, ap, subst, ◌∙◌, inl, inr, arith, append-nil, ◌+◌}
 use Rattle.std.proofs.lemmas.Bool.{cases_eq, cases_lt, cases_Bool, eqb-true, eq-eqb, ne_eqb}
 use Rattle.std.proofs.lemmas.List.Sums.{sum_by-cons}
 use Rattle.std.specs.List.{AllByRecursion}
 use Rattle.std.specs.List.Sorted.{IsPermutation}
 use Rattle.std.proofs.lemmas.List.Sorted.{IsPermutation-refl, IsPermutation-trans, IsPermutation-cons, IsPermutation-to_front, IsPermutation-append_left}
-use Rattle.quick_cache_slab.specs.LinkedSlab.{times, without}
-use Rattle.quick_cache_slab.proofs.TokenCounts.{times-here, times-other, times-append}
+use Rattle.quick_cache_model.specs.Sequences.{times, joined_around}
+use Rattle.quick_cache_pool.proofs.TokenCounts.{times-here, times-other, times-append}
 use Rattle.quick_cache_lists.specs.Lists.{StandsIn, dropped, ahead_of, behind, restarted}
 use Rattle.quick_cache_lists.specs.Sound.{put, gather, upto, weigh}
 
@@ -196,14 +196,6 @@ module _ {Y : Type 0} where
   module _ (name : Y → ℕ) (f g : ℕ → Option Y) (t : ℕ)
       (named : (u : ℕ) (y : Y) → f u ≡ Some y → name y ≡ u) (others : (u : ℕ) → u ≢ t → g u ≡ f u)
       (gone : g t ≡ None) where
-    pub gather-without : (xs : List ℕ) → gather g (without t xs) ≡ gather g xs
-    gather-without [] = refl
-    gather-without (x ∷ xs) =
-        elim (cases_Bool (eqb x t)) [
-          | inl hit ↦ rw (hit, eqb-true x t hit, gone) (gather-without xs)
-          | inr miss ↦ rw miss (ap (put (g x)) (gather-without xs))
-        ]
-
     pub gather-dropped : (xs : List ℕ) → gather g xs ≡ dropped name t (gather f xs)
     gather-dropped [] = refl
     gather-dropped (x ∷ xs) = by_here (gather-dropped xs) (f x) refl
@@ -374,6 +366,17 @@ weigh-same f g (x ∷ xs) same =
       weigh-same f g xs
           (λ t some. same t (omega arith)),
     )
+
+-- a list without the token between these two, in its order or begun behind it
+pub weigh-around : (f : ℕ → ℕ) (restarts : Bool) (before after : List ℕ)
+    → weigh f (joined_around restarts before after) ≡ weigh f before + weigh f after
+weigh-around f false before after = weigh-append f before after
+weigh-around f true before after = omega (arith, weigh-append f after before)
+
+pub times-around : (u : ℕ) (restarts : Bool) (before after : List ℕ)
+    → times u (joined_around restarts before after) ≡ times u before + times u after
+times-around u false before after = times-append u before after
+times-around u true before after = omega (arith, times-append u after before)
 
 pub weigh-member : (f : ℕ → ℕ) (t : ℕ) (xs : List ℕ) → 0 < times t xs → f t ≤ weigh f xs
 weigh-member f t [] some = absurd (omega (arith, some))

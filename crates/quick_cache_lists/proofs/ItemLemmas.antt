@@ -1,18 +1,17 @@
 -- The item of a token, and room that grew.
-use Rattle.std.proofs.Common.{◌≡◌, ℕ, [], Option, Some, None, length, refl, sym, ap, subst, ◌∙◌, arith}
+use Rattle.std.proofs.Common.{◌≡◌, ℕ, ◌≤◌, [], Option, Some, None, length, refl, sym, ap, subst, ◌∙◌, arith}
 use Rattle.quick_cache_model.specs.CacheState.{Item, Place, InHot, InCold, InStill}
-use Rattle.quick_cache_slab.specs.LinkedSlab.{LinkedSlab, item_at, next_token}
+use Rattle.quick_cache_pool.specs.Pool.{Pool, item_at, next_token}
 use Rattle.quick_cache_index.specs.Index.{Index, token_count}
 use Rattle.quick_cache_slots.specs.declared.entry.Entry.{Entry}
 use Rattle.quick_cache_slots.specs.declared.entry.Entry.TheVariants.{Item as item_variant, Loading as loading_variant, Ghost as ghost_variant}
 use Rattle.quick_cache_slots.specs.declared.entry.Slot.{Slot}
-use Rattle.quick_cache_lists.specs.declared.ring.Ring.{Ring}
-use Rattle.quick_cache_lists.specs.declared.rings.Rings.{Rings}
+use Rattle.quick_cache_rings.specs.Rings.{Ring, Rings}
 use Rattle.std.specs.Int.NonZero.{non_zero_u32_get}
 use Rattle.std.specs.declared.num.NonZeroU32.{NonZeroU32 as Token}
 use Rattle.quick_cache_lists.specs.Lists.{HeldItem, StandsIn, items_at, HasItem, HasItemToken, IsFirstOf}
-use Rattle.quick_cache_lists.specs.Slots.{Stand, AmongHot, AmongCold, AmongGhosts, stand_of, weight_at, item_of, still_of, loading_of, ghost_of}
-use Rattle.quick_cache_lists.specs.Sound.{weigh, gather, upto, tokens_of, lists_of, room_of, IsKeyed, IsRingOf, IsSound}
+use Rattle.quick_cache_lists.specs.Slots.{Stand, AmongHot, AmongCold, AmongGhosts, stand_of, item_of, still_of, loading_of, ghost_of}
+use Rattle.quick_cache_lists.specs.Sound.{gather, upto, lists_of, room_of, IsKeyed, IsRingOf, IsSound}
 use Rattle.quick_cache_lists.proofs.GatherLemmas.{gather-from}
 use Rattle.quick_cache_lists.proofs.FindLemmas.{held_still}
 use Rattle.quick_cache_lists.proofs.TakeLemmas.{named_item}
@@ -33,8 +32,8 @@ module _ {K V P T : Type 0} where
       by_entry hash (loading_variant awaited) e = absurd (cc)
       by_entry hash ghost_variant e = absurd (cc)
 
-  module _ (slab : LinkedSlab (Slot K V P T)) (index : Index) (hot cold ghosts : Ring) where
-    pub item_by_token : (t : ℕ) → HasItemToken (lists_of slab index hot cold ghosts) t → (hash : ℕ)
+  module _ (slab : Pool (Slot K V P T)) (index : Index) (rings : Rings) where
+    pub item_by_token : (t : ℕ) → HasItemToken (lists_of slab index rings) t → (hash : ℕ)
         × (item : Item K V) × (item_at slab t
         ≡ Some (record { hash = hash; entry = item_variant item }))
     item_by_token t has = by_place has.0 has.1.place has.1.stands has.2
@@ -46,16 +45,16 @@ module _ {K V P T : Type 0} where
             (slot_by_held u (item_at slab u) held is)
 
         by_place : (held : HeldItem K V) (place : Place)
-            → StandsIn (items_at place (lists_of slab index hot cold ghosts)) held → held.token ≡ t
+            → StandsIn (items_at place (lists_of slab index rings)) held → held.token ≡ t
             → (hash : ℕ) × (item : Item K V)
             × (item_at slab t ≡ Some (record { hash = hash; entry = item_variant item }))
         by_place held InHot there e =
             let at = gather-from (λ u. item_of u (item_at slab u))
-            (tokens_of slab hot.head) held there in
+            rings.hot.tokens held there in
             found at.0 held at.2 e
         by_place held InCold there e =
             let at = gather-from (λ u. item_of u (item_at slab u))
-            (tokens_of slab cold.head) held there in
+            rings.cold.tokens held there in
             found at.0 held at.2 e
         by_place held InStill there e =
             let at = gather-from (λ u. still_of u (item_at slab u))
@@ -63,12 +62,12 @@ module _ {K V P T : Type 0} where
             found at.0 held (held_still (item_of at.0 (item_at slab at.0)) held at.2) e
 
     -- the first cold item stands in the cold ring
-    pub stand_of-first_cold : IsRingOf slab cold AmongCold → (token : Token)
+    pub stand_of-first_cold : IsRingOf slab rings.cold AmongCold → (token : Token)
         → IsFirstOf (λ (held : HeldItem K V). held.token)
-        (lists_of slab index hot cold ghosts).cold (Some token)
+        (lists_of slab index rings).cold (Some token)
         → stand_of (item_at slab (non_zero_u32_get token)) ≡ Some AmongCold
     stand_of-first_cold ring token first =
-        let at = gather-from (λ u. item_of u (item_at slab u)) (tokens_of slab cold.head) first.0
+        let at = gather-from (λ u. item_of u (item_at slab u)) rings.cold.tokens first.0
         (record { before = []; after = first.1; split = first.2 }) in
         let is : at.0 ≡ non_zero_u32_get token =
         sym (named_item at.0 (item_at slab at.0) first.0 at.2) ∙ first.3 in
@@ -76,11 +75,11 @@ module _ {K V P T : Type 0} where
 
     -- and its slot has an item
     pub first_cold-item : (token : Token) → IsFirstOf (λ (held : HeldItem K V). held.token)
-        (lists_of slab index hot cold ghosts).cold (Some token) → (hash : ℕ) × (item : Item K V)
+        (lists_of slab index rings).cold (Some token) → (hash : ℕ) × (item : Item K V)
         × (item_at slab (non_zero_u32_get token)
         ≡ Some (record { hash = hash; entry = item_variant item }))
     first_cold-item token first =
-        let at = gather-from (λ u. item_of u (item_at slab u)) (tokens_of slab cold.head) first.0
+        let at = gather-from (λ u. item_of u (item_at slab u)) rings.cold.tokens first.0
         (record { before = []; after = first.1; split = first.2 }) in
         let is : at.0 ≡ non_zero_u32_get token =
         sym (named_item at.0 (item_at slab at.0) first.0 at.2) ∙ first.3 in
@@ -105,25 +104,26 @@ module _ {K V P T : Type 0} where
       → slot ≡ record { hash = hash; entry = item_variant item }
   slot_is o slot hash item is at = cc
 
-  pub lists-reserved : (old new : LinkedSlab (Slot K V P T)) (told tnew : Index)
-      (hot cold ghosts : Ring) → new ≡ record old { room = new.room }
-      → lists_of new tnew hot cold ghosts
-      ≡ record (lists_of old told hot cold ghosts) { room = room_of new tnew }
-  lists-reserved old new told tnew hot cold ghosts kept = λ i. record {
-    hot = gather (λ u. item_of u (item_at (kept i) u)) (tokens_of (kept i) hot.head);
-    cold = gather (λ u. item_of u (item_at (kept i) u)) (tokens_of (kept i) cold.head);
+  pub lists-reserved : (old new : Pool (Slot K V P T)) (told tnew : Index)
+      (rings grown : Rings) → new ≡ record old { room = new.room }
+      → grown ≡ record rings { capacity = grown.capacity }
+      → lists_of new tnew grown
+      ≡ record (lists_of old told rings) { room = room_of new tnew grown }
+  lists-reserved old new told tnew rings grown kept same = λ i. record {
+    hot = gather (λ u. item_of u (item_at (kept i) u)) (same i).hot.tokens;
+    cold = gather (λ u. item_of u (item_at (kept i) u)) (same i).cold.tokens;
     still = gather (λ u. still_of u (item_at (kept i) u)) (upto (length (kept i).slots));
     loading = gather (λ u. loading_of u (item_at (kept i) u)) (upto (length (kept i).slots));
-    ghosts = gather (λ u. ghost_of u (item_at (kept i) u)) (tokens_of (kept i) ghosts.head);
+    ghosts = gather (λ u. ghost_of u (item_at (kept i) u)) (same i).ghosts.tokens;
     next = next_token (kept i);
-    room = room_of new tnew;
+    room = room_of new tnew grown;
   }
 
   -- the room of the slots is nothing to the tokens of an index
-  pub IsKeyed-grown : (old new : LinkedSlab (Slot K V P T)) (index : Index)
+  pub IsKeyed-grown : (old new : Pool (Slot K V P T)) (index : Index)
       → new ≡ record old { room = new.room } → IsKeyed old index → IsKeyed new index
   IsKeyed-grown old new index kept keyed =
-      subst (λ (s : LinkedSlab (Slot K V P T)). IsKeyed s index) (sym kept) (record {
+      subst (λ (s : Pool (Slot K V P T)). IsKeyed s index) (sym kept) (record {
         leads = keyed.leads;
         tokens = keyed.tokens;
         few = keyed.few;
@@ -132,7 +132,7 @@ module _ {K V P T : Type 0} where
       })
 
   -- as many tokens are in each index that has those of all slots
-  pub token_count-keyed : (old new : LinkedSlab (Slot K V P T)) (told tnew : Index)
+  pub token_count-keyed : (old new : Pool (Slot K V P T)) (told tnew : Index)
       → new ≡ record old { room = new.room } → IsKeyed old told → IsKeyed new tnew
       → token_count tnew ≡ token_count told
   token_count-keyed old new told tnew kept was is =
@@ -140,60 +140,48 @@ module _ {K V P T : Type 0} where
         arith,
         was.counted,
         is.counted,
-        ap (λ (s : LinkedSlab (Slot K V P T)). length s.free) kept,
-        ap (λ (s : LinkedSlab (Slot K V P T)). length s.slots) kept,
+        ap (λ (s : Pool (Slot K V P T)). length s.free) kept,
+        ap (λ (s : Pool (Slot K V P T)). length s.slots) kept,
       )
 
-  IsSound-room : (slab : LinkedSlab (Slot K V P T)) (room : ℕ) (told tnew : Index)
-      (rings : Rings) (loading : ℕ) → IsKeyed (record slab { room = room }) tnew
-      → token_count tnew ≡ token_count told → IsSound slab told rings loading
-      → IsSound (record slab { room = room }) tnew rings loading
-  IsSound-room slab room told tnew rings loading keyed count sound = record {
+  IsSound-room : (slab : Pool (Slot K V P T)) (room : ℕ) (told tnew : Index)
+      (rings : Rings) (capacity loading : ℕ) → IsKeyed (record slab { room = room }) tnew
+      → token_count tnew ≡ token_count told → rings.capacity ≤ capacity
+      → IsSound slab told rings loading
+      → IsSound (record slab { room = room }) tnew (record rings { capacity = capacity }) loading
+  IsSound-room slab room told tnew rings capacity loading keyed count grows sound = record {
     standing = record {
       hot_ring = kept rings.hot AmongHot sound.standing.hot_ring;
       cold_ring = kept rings.cold AmongCold sound.standing.cold_ring;
       ghost_ring = kept rings.ghosts AmongGhosts sound.standing.ghost_ring;
-      still = sound.standing.still;
-      loading = sound.standing.loading;
     };
     keyed = keyed;
     loading_counted = sound.loading_counted;
-    all_counted = omega (
-      arith,
-      sound.all_counted,
-      count,
-      ap
-          (λ xs. length (gather (λ t. item_of t (item_at slab t)) xs)) (same rings.hot.head),
-      ap
-          (λ xs. length (gather (λ t. item_of t (item_at slab t)) xs)) (same rings.cold.head),
-      ap
-          (λ xs. length (gather (λ t. ghost_of t (item_at slab t)) xs)) (same rings.ghosts.head),
-    );
+    all_counted = sound.all_counted ∙ sym count;
+    within = omega (arith, sound.within, count, grows);
   }
     where
-      same : (o : Option Token) → tokens_of (record slab { room = room }) o ≡ tokens_of slab o
-      same None = refl
-      same (Some head) = refl
-
       kept : (ring : Ring) (s : Stand) → IsRingOf slab ring s
           → IsRingOf (record slab { room = room }) ring s
       kept ring s is = record {
-        headed = is.headed;
-        members = λ t some. is.members t (rw (same ring.head) at some);
-        all = λ t at. rw (same ring.head) (is.all t at);
-        counted = is.counted ∙ ap length (sym (same ring.head));
-        weighed = is.weighed ∙ ap (weigh (λ t. weight_at (item_at slab t))) (sym (same ring.head));
+        members = is.members;
+        all = is.all;
+        once = is.once;
+        weighed = is.weighed;
       }
 
   -- what holds of the slots holds with more room, and with another index that has their tokens
-  pub IsSound-grown : (old new : LinkedSlab (Slot K V P T)) (told tnew : Index) (rings : Rings)
-      (loading : ℕ) → new ≡ record old { room = new.room } → IsKeyed new tnew
-      → IsSound old told rings loading → IsSound new tnew rings loading
-  IsSound-grown old new told tnew rings loading kept keyed sound =
+  pub IsSound-grown : (old new : Pool (Slot K V P T)) (told tnew : Index)
+      (rings grown : Rings) (loading : ℕ) → new ≡ record old { room = new.room }
+      → grown ≡ record rings { capacity = grown.capacity } → rings.capacity ≤ grown.capacity
+      → IsKeyed new tnew → IsSound old told rings loading → IsSound new tnew grown loading
+  IsSound-grown old new told tnew rings grown loading kept same grows keyed sound =
       let count = token_count-keyed old new told tnew kept sound.keyed keyed in
-      subst (λ (s : LinkedSlab (Slot K V P T)). IsSound s tnew rings loading) (sym kept)
-      (IsSound-room old new.room told tnew rings loading
-      (subst (λ (s : LinkedSlab (Slot K V P T)). IsKeyed s tnew) kept keyed) count sound)
+      subst (λ (r : Rings). IsSound new tnew r loading) (sym same)
+      (subst (λ (s : Pool (Slot K V P T)). IsSound s tnew
+      (record rings { capacity = grown.capacity }) loading) (sym kept)
+      (IsSound-room old new.room told tnew rings grown.capacity loading
+      (subst (λ (s : Pool (Slot K V P T)). IsKeyed s tnew) kept keyed) count grows sound))
 
   slot_of_held : (u : ℕ) (o : Option (Slot K V P T)) (held : HeldItem K V) → item_of u o ≡ Some held
       → o ≡ Some (record { hash = held.hash; entry = item_variant held.item })
@@ -212,10 +200,10 @@ module _ {K V P T : Type 0} where
       by_entry hash ghost_variant e = absurd (cc)
 
   -- an item is in the slot of its token
-  pub item_at-held : (slab : LinkedSlab (Slot K V P T)) (index : Index) (hot cold ghosts : Ring)
-      (held : HeldItem K V) → HasItem (lists_of slab index hot cold ghosts) held
+  pub item_at-held : (slab : Pool (Slot K V P T)) (index : Index) (rings : Rings)
+      (held : HeldItem K V) → HasItem (lists_of slab index rings) held
       → item_at slab held.token ≡ Some (record { hash = held.hash; entry = item_variant held.item })
-  item_at-held slab index hot cold ghosts held has = by_place has.place has.stands
+  item_at-held slab index rings held has = by_place has.place has.stands
     where
       found : (u : ℕ) → item_of u (item_at slab u) ≡ Some held
           → item_at slab held.token ≡ Some
@@ -224,15 +212,15 @@ module _ {K V P T : Type 0} where
           ∙ slot_of_held u (item_at slab u) held is
 
       by_place : (place : Place) → StandsIn
-          (items_at place (lists_of slab index hot cold ghosts)) held
+          (items_at place (lists_of slab index rings)) held
           → item_at slab held.token ≡ Some
           (record { hash = held.hash; entry = item_variant held.item })
       by_place InHot there =
           let at = gather-from (λ u. item_of u (item_at slab u))
-          (tokens_of slab hot.head) held there in found at.0 at.2
+          rings.hot.tokens held there in found at.0 at.2
       by_place InCold there =
           let at = gather-from (λ u. item_of u (item_at slab u))
-          (tokens_of slab cold.head) held there in found at.0 at.2
+          rings.cold.tokens held there in found at.0 at.2
       by_place InStill there =
           let at = gather-from (λ u. still_of u (item_at slab u))
           (upto (length slab.slots)) held there in

@@ -1,229 +1,160 @@
 -- An entry left its list, and another came to its token and was put last. It is told by way of a
 -- slab that has nothing at the token.
-use Rattle.std.proofs.Common.{◌≡◌, ◌≢◌, ℕ, ◌+◌, ◌-◌, ◌<◌, ◌≤◌, length, Bool, eqb, map, [], ◌∷◌, Option, Some, None, is_some, true, refl, sym, ap, subst, ◌∙◌, inl, inr, arith}
-use Rattle.std.specs.Int.NonZero.{non_zero_u32_get}
-use Rattle.std.specs.declared.num.NonZeroU32.{NonZeroU32 as Token}
+use Rattle.std.proofs.Common.{◌≡◌, ◌≢◌, ℕ, ◌+◌, ◌-◌, ◌<◌, ◌≤◌, length, Bool, eqb, [], Option, Some, None, is_some, true, refl, sym, ap, subst, ◌∙◌, inl, inr, arith}
 use Rattle.std.proofs.lemmas.Bool.{cases_eq}
-use Rattle.std.proofs.lemmas.List.{length-map}
-use Rattle.quick_cache_slab.specs.LinkedSlab.{LinkedSlab, at_token, times, first_or, next_token, without, item_at, ring_from, with_item, removed, unlinked, IsAlone, IsNextOf, IsParted}
-use Rattle.quick_cache_slab.proofs.AtTokens.{length-with_token, at_token-with_same, at_token-with_other, at_token-map}
+use Rattle.quick_cache_pool.specs.Pool.{Pool, first_or, next_token, item_at, with_item, removed}
+use Rattle.quick_cache_pool.proofs.AtTokens.{length-with_token, at_token-with_same, at_token-with_other}
 use Rattle.quick_cache_index.specs.Index.{Index, Leads, has_token}
+use Rattle.quick_cache_rings.specs.Rings.{Rings, CanEnter, entered, LeavesRingOf}
 use Rattle.quick_cache_slots.specs.declared.entry.Slot.{Slot}
-use Rattle.quick_cache_lists.specs.declared.rings.Rings.{Rings}
-use Rattle.quick_cache_lists.specs.Frames.{IsPlaced, IsRemoved, CanEnter, EntersRing, LeavesRingOf}
-use Rattle.quick_cache_lists.specs.Lists.{Lists, PutsLast, Replaces, without_entry}
+use Rattle.quick_cache_lists.specs.Frames.{IsPlaced, IsRemoved}
+use Rattle.quick_cache_lists.specs.Lists.{Lists, PutsLast, Replaces, without_entry, entry_count}
 use Rattle.quick_cache_lists.specs.Slots.{Stand, stand_of, stand_in, has_hash, weight_in, weight_at, loading_in}
 use Rattle.quick_cache_lists.specs.Sound.{lists_of, room_of, HasHash, IsKeyed, IsStanding, IsSound}
 use Rattle.quick_cache_lists.proofs.ApartLemmas.{apart_by}
-use Rattle.quick_cache_lists.proofs.CountLemmas.{IsMore-put, IsLess-without}
-use Rattle.quick_cache_lists.proofs.LeaveLemmas.{IsGone, IsGone-by}
-use Rattle.quick_cache_lists.proofs.PutLemmas.{can_enter, IsPut-by, IsKeyed-entered, room-entered, next-entered}
-use Rattle.quick_cache_lists.proofs.SlabFrames.{occupied_within, IsRemoved-from, times-without_same, times-without_other}
-use Rattle.quick_cache_lists.proofs.TakeLemmas.{IsEntry-from}
+use Rattle.quick_cache_lists.proofs.CountLemmas.{IsLess, IsMore-put, IsLess-without}
+use Rattle.quick_cache_lists.proofs.PutLemmas.{can_enter, capacity-entered, IsPut, IsPut-by}
+use Rattle.quick_cache_lists.proofs.SlabFrames.{occupied_within, IsRemoved-from}
+use Rattle.quick_cache_lists.proofs.TakeLemmas.{IsEntry-from, IsStanding-taken, lists-taken, capacity-taken}
 
-module _ {K V P T : Type 0} (old alone : LinkedSlab (Slot K V P T)) (told : Index) (token : Token)
-    (next : Option Token) (restarts : Bool) (rings left : Rings) (loading : ℕ)
-    (sound : IsSound old told rings loading) (parted : IsParted old)
-    (is_next : IsNextOf old (non_zero_u32_get token) next) (x y : Slot K V P T)
-    (at : item_at old (non_zero_u32_get token) ≡ Some x) (same_hash : y.hash ≡ x.hash)
-    (unlinks : alone ≡ unlinked old (non_zero_u32_get token))
-    (is_alone : IsAlone alone (non_zero_u32_get token))
+module _ {K V P T : Type 0} (old : Pool (Slot K V P T)) (told : Index) (t : ℕ)
+    (restarts : Bool) (rings left : Rings) (loading : ℕ)
+    (sound : IsSound old told rings loading) (x y : Slot K V P T)
+    (at : item_at old t ≡ Some x) (same_hash : y.hash ≡ x.hash)
     (light : weight_in y.entry < 18446744073709551616) (s : Stand) (v : ℕ)
     (s_is : s ≡ stand_in x.entry) (v_is : v ≡ weight_in x.entry)
-    (leaves : LeavesRingOf rings left token next restarts v s) where
-  t : ℕ
-  t = non_zero_u32_get token
-
+    (leaves : LeavesRingOf rings left t restarts v s) where
   -- nothing at the token
-  abbrev mid : LinkedSlab (Slot K V P T)
-  mid = removed old (non_zero_u32_get token)
+  abbrev mid : Pool (Slot K V P T)
+  mid = removed old t
 
+  -- an index of which only the room is looked at
   abbrev tmid : Index
-  tmid = record told { room = told.room + 1 }
+  tmid = record told { tokens = []; room = room_of old told rings + 1 }
 
   -- the other entry at the token
-  abbrev other : LinkedSlab (Slot K V P T)
-  other = with_item alone (non_zero_u32_get token) y
+  abbrev other : Pool (Slot K V P T)
+  other = with_item old t y
 
-  gone_from : IsRemoved old mid (non_zero_u32_get token)
-  gone_from = IsRemoved-from old mid (non_zero_u32_get token) x at refl
+  gone_from : IsRemoved old mid t
+  gone_from = IsRemoved-from old mid t x at refl
 
-  room_mid : room_of mid tmid ≡ room_of old told + 1
-  room_mid = omega arith
-
-  stands : stand_of (item_at old (non_zero_u32_get token)) ≡ Some s
+  stands : stand_of (item_at old t) ≡ Some s
   stands = ap stand_of at ∙ ap (λ (r : Stand). Some r) (sym s_is)
 
-  is_gone : IsGone old mid told tmid token next restarts rings left sound.standing parted gone_from
-      is_next room_mid left
-  is_gone =
-      let weighs : v ≡ weight_at (item_at old (non_zero_u32_get token)) = v_is
-      ∙ sym (ap weight_at at) in
-      IsGone-by old mid told tmid token next restarts rings left sound.standing parted gone_from
-      is_next room_mid s stands (subst
-      (λ (w : ℕ). LeavesRingOf rings left token next restarts w s) weighs leaves)
+  weighs : v ≡ weight_at (item_at old t)
+  weighs = v_is ∙ sym (ap weight_at at)
 
-  slots_are : alone.slots ≡ old.slots
-  slots_are = ap (λ (l : LinkedSlab (Slot K V P T)). l.slots) unlinks
+  less : IsLess (lists_of old told rings) (without_entry restarts t (lists_of old told rings))
+      (loading_in (stand_in x.entry))
+  less = IsLess-without (lists_of old told rings) t x.hash x.entry restarts
+      (apart_by old told rings sound.standing)
+      (IsEntry-from old told rings sound.standing t x at)
 
-  free_are : alone.free ≡ old.free
-  free_are = ap (λ (l : LinkedSlab (Slot K V P T)). l.free) unlinks
+  capacity : left.capacity ≡ rings.capacity
+  capacity = capacity-taken old mid told tmid t restarts rings left v sound.standing gone_from
+      weighs s stands leaves
 
-  within : (0 < non_zero_u32_get token) × (non_zero_u32_get token ≤ length old.slots)
-  within = occupied_within old.slots (non_zero_u32_get token) x at
+  room_mid : room_of mid tmid left ≡ room_of old told rings + 1
+  room_mid = omega (arith, capacity, sound.within, less.all, sound.all_counted)
 
-  here : item_at other (non_zero_u32_get token) ≡ Some y
-  here = at_token-with_same alone.slots (non_zero_u32_get token) (Some y) None within.0
-      (rw slots_are within.1)
+  lists_mid : lists_of mid tmid left ≡ without_entry restarts t (lists_of old told rings)
+  lists_mid = lists-taken old mid told tmid t restarts rings left v sound.standing gone_from
+      weighs s stands leaves room_mid
 
-  others : (u : ℕ) → u ≢ non_zero_u32_get token → item_at other u ≡ item_at old u
-  others u differs = at_token-with_other alone.slots (non_zero_u32_get token) u
-      (Some y) None differs ∙ ap (λ ss. at_token ss u None) slots_are
+  standing_mid : IsStanding mid left
+  standing_mid = IsStanding-taken old mid told tmid t restarts rings left v sound.standing
+      gone_from weighs s stands leaves
 
-  placed : IsPlaced mid other (non_zero_u32_get token) y
+  within : (0 < t) × (t ≤ length old.slots)
+  within = occupied_within old.slots t x at
+
+  here : item_at other t ≡ Some y
+  here = at_token-with_same old.slots t (Some y) None within.0 within.1
+
+  others : (u : ℕ) → u ≢ t → item_at other u ≡ item_at old u
+  others u differs = at_token-with_other old.slots t u (Some y) None differs
+
+  long : length other.slots ≡ length old.slots
+  long = length-with_token old.slots t (Some y)
+
+  placed : IsPlaced mid other t y
   placed = record {
     vacant = gone_from.here;
     here = here;
     others = λ u differs. others u differs ∙ sym (gone_from.others u differs);
-    alone = is_alone;
-    rings = λ u differs.
-        ap (λ (l : LinkedSlab (Slot K V P T)). ring_from l u) unlinks
-        ∙ at_token-with_other (map (without (non_zero_u32_get token)) old.rings)
-        (non_zero_u32_get token) u (non_zero_u32_get token ∷ []) [] differs
-        ∙ at_token-map (without (non_zero_u32_get token)) old.rings u []
-        ∙ sym (gone_from.rings u differs);
     grows = inl (
-      length-with_token alone.slots (non_zero_u32_get token) (Some y) ∙ ap length slots_are
-          ∙ sym gone_from.long,
+      long ∙ sym gone_from.long,
       within.0,
       omega (arith, within.1, gone_from.long),
-      omega (arith, ap length free_are),
+      omega arith,
     );
   }
 
-  single : (u w : ℕ) → times w (ring_from mid u) ≤ 1
-  single u w = elim (cases_eq u (non_zero_u32_get token)) [
-    | inl same ↦ subst (λ (z : ℕ). times w (ring_from mid z) ≤ 1) (sym same)
-        (rw (at_token-with_here) (omega arith))
-    | inr differs ↦ rw (gone_from.rings u differs) (fewer w)
-  ]
-    where
-      at_token-with_here : ring_from mid (non_zero_u32_get token) ≡ []
-      at_token-with_here = at_token-with_same (map (without (non_zero_u32_get token)) old.rings)
-          (non_zero_u32_get token) [] [] within.0
-          (omega (
-            arith,
-            within.1,
-            parted.ring_each,
-            length-map old.rings
-                (without (non_zero_u32_get token)),
-          ))
-
-      fewer : (w : ℕ) → times w (without (non_zero_u32_get token) (ring_from old u)) ≤ 1
-      fewer w = elim (cases_eq w (non_zero_u32_get token)) [
-        | inl same ↦ subst (λ (z : ℕ). times z (without (non_zero_u32_get token) (ring_from old u))
-            ≤ 1) (sym same) (omega (
-              arith,
-              times-without_same (non_zero_u32_get token)
-                  (ring_from old u),
-            ))
-        | inr differs ↦ omega (
-          arith,
-          times-without_other (non_zero_u32_get token) w
-              (ring_from old u) differs,
-          parted.once u w,
-        )
-      ]
-
   lean : (u : ℕ) → weight_at (item_at mid u) < 18446744073709551616
-  lean u = elim (cases_eq u (non_zero_u32_get token)) [
+  lean u = elim (cases_eq u t) [
     | inl same ↦ rw (same, gone_from.here) (omega arith)
     | inr differs ↦ rw (gone_from.others u differs) (sound.keyed.light u)
   ]
 
-  pub can_enter-moved : (w : ℕ) → w < 18446744073709551616 → (r : Stand)
-      → CanEnter other left token w r
-  can_enter-moved w lightly r = can_enter mid other token y left is_gone.0 single
-      (omega (arith, gone_from.long, sound.keyed.few)) lean placed w lightly r
+  -- without the entry each ring is shorter than what it has room for
+  pub can_enter-moved : (w : ℕ) → w < 18446744073709551616 → (r : Stand) → CanEnter left w r
+  can_enter-moved w lightly r = can_enter mid tmid left standing_mid
+      (omega (arith, gone_from.long, sound.keyed.few)) lean
+      (omega (arith, ap entry_count lists_mid, less.all, sound.all_counted, sound.within, capacity))
+      w lightly r
 
   keyed : IsKeyed other told
   keyed = record {
-    leads = λ h u has. elim (cases_eq u (non_zero_u32_get token)) [
+    leads = λ h u has. elim (cases_eq u t) [
       | inl same ↦
-          let had : HasHash old h (non_zero_u32_get token) =
+          let had : HasHash old h t =
           ap (has_hash h) at ∙ ap (λ n. eqb n h) (sym same_hash) ∙ ap (has_hash h) (sym here)
           ∙ subst (λ (z : ℕ). has_hash h (item_at other z) ≡ true) same has in
-          subst (λ (z : ℕ). Leads told h z) (sym same)
-          (sound.keyed.leads h (non_zero_u32_get token) had)
+          subst (λ (z : ℕ). Leads told h z) (sym same) (sound.keyed.leads h t had)
       | inr differs ↦ sound.keyed.leads h u (sym (ap (has_hash h) (others u differs)) ∙ has)
     ];
-    tokens = λ u. elim (cases_eq u (non_zero_u32_get token)) [
+    tokens = λ u. elim (cases_eq u t) [
       | inl same ↦ subst (λ (z : ℕ). has_token told z ≡ is_some (item_at other z)) (sym same)
-          (sound.keyed.tokens (non_zero_u32_get token) ∙ ap is_some at ∙ sym (ap is_some here))
+          (sound.keyed.tokens t ∙ ap is_some at ∙ sym (ap is_some here))
       | inr differs ↦ sound.keyed.tokens u ∙ ap is_some (sym (others u differs))
     ];
-    few = omega (
-      arith,
-      sound.keyed.few,
-      length-with_token alone.slots (non_zero_u32_get token)
-          (Some y),
-      ap length slots_are,
-    );
-    light = λ u. elim (cases_eq u (non_zero_u32_get token)) [
+    few = omega (arith, sound.keyed.few, long);
+    light = λ u. elim (cases_eq u t) [
       | inl same ↦ rw (same, here) light
       | inr differs ↦ rw (others u differs) (sound.keyed.light u)
     ];
-    counted = omega (
-      arith,
-      sound.keyed.counted,
-      length-with_token alone.slots
-          (non_zero_u32_get token) (Some y),
-      ap length slots_are,
-      ap length free_are,
-    );
+    counted = omega (arith, sound.keyed.counted, long);
   }
 
-  module _ (new : LinkedSlab (Slot K V P T)) (grown : Rings) (r : Stand) (w : ℕ)
-      (r_is : r ≡ stand_in y.entry) (w_is : w ≡ weight_in y.entry)
-      (enters : EntersRing other new left grown token w r) where
-    is_put : IsStanding new grown.hot grown.cold grown.ghosts
-        × PutsLast (lists_of mid tmid left.hot left.cold left.ghosts)
-        (non_zero_u32_get token) y.hash y.entry
-        (lists_of new told grown.hot grown.cold grown.ghosts)
-    is_put = IsPut-by mid other new tmid told token y.hash left grown is_gone.0 y.entry placed
-        (rw (r_is, w_is) at enters)
+  module _ (grown : Rings) (r : Stand) (w : ℕ) (r_is : r ≡ stand_in y.entry)
+      (w_is : w ≡ weight_in y.entry) (enters : grown ≡ entered t w r left) where
+    is_put : IsPut mid other tmid told t y.hash left y.entry grown
+    is_put = rw (enters, r_is, w_is)
+        (IsPut-by mid other tmid told t y.hash left standing_mid y.entry placed)
 
-    pub last-moved : PutsLast (without_entry restarts (non_zero_u32_get token)
-        (lists_of old told rings.hot rings.cold rings.ghosts))
-        (non_zero_u32_get token) y.hash y.entry
-        (lists_of new told grown.hot grown.cold grown.ghosts)
-    last-moved = subst (λ (l : Lists K V P). PutsLast l (non_zero_u32_get token) y.hash y.entry
-        (lists_of new told grown.hot grown.cold grown.ghosts)) is_gone.1 is_put.1
+    capacity_grown : grown.capacity ≡ rings.capacity
+    capacity_grown =
+        ap (λ (g : Rings). g.capacity) enters ∙ capacity-entered t w r left ∙ capacity
 
-    pub room-moved : room_of new told ≡ room_of old told
-    room-moved =
-        let room_are = ap (λ (l : LinkedSlab (Slot K V P T)). l.room) unlinks in
-        room-entered other new told left grown token w r enters ∙ rw (free_are, room_are) refl
+    pub last-moved : PutsLast (without_entry restarts t (lists_of old told rings))
+        t y.hash y.entry (lists_of (with_item old t y) told grown)
+    last-moved = subst (λ (l : Lists K V P). PutsLast l t y.hash y.entry
+        (lists_of (with_item old t y) told grown)) lists_mid is_put.1
 
-    pub next-moved : next_token new ≡ next_token old
-    next-moved =
-        next-entered other new told left grown token w r enters
-        ∙ ap (λ n. first_or (n + 1) alone.free) (length-with_token alone.slots
-        (non_zero_u32_get token) (Some y) ∙ ap length slots_are)
-        ∙ ap (first_or (length old.slots + 1)) free_are
+    pub room-moved : room_of (with_item old t y) told grown ≡ room_of old told rings
+    room-moved = omega (arith, capacity_grown)
+
+    pub next-moved : next_token (with_item old t y) ≡ next_token old
+    next-moved = ap (λ n. first_or (n + 1) old.free) long
 
     pub IsSound-moved : (fewer more : ℕ) → fewer ≡ loading_in s → more ≡ loading_in r
-        → IsSound new told grown (loading - fewer + more)
+        → IsSound (with_item old t y) told grown (loading - fewer + more)
     IsSound-moved fewer more fewer_is more_is =
-        let before = lists_of old told rings.hot rings.cold rings.ghosts in
-        let less = IsLess-without before (non_zero_u32_get token) x.hash x.entry restarts
-        (apart_by old told rings.hot rings.cold rings.ghosts parted sound.standing)
-        (IsEntry-from old told rings.hot rings.cold rings.ghosts sound.standing
-        (non_zero_u32_get token) x at) in
-        let counted = IsMore-put _ _ (non_zero_u32_get token) y.hash y.entry last-moved in
+        let counted = IsMore-put _ _ t y.hash y.entry last-moved in
         record {
           standing = is_put.0;
-          keyed = IsKeyed-entered other new told left grown token w r enters keyed;
+          keyed = keyed;
           loading_counted = omega (
             arith,
             sound.loading_counted,
@@ -235,26 +166,24 @@ module _ {K V P T : Type 0} (old alone : LinkedSlab (Slot K V P T)) (told : Inde
             ap loading_in r_is,
           );
           all_counted = omega (arith, sound.all_counted, less.all, counted.all);
+          within = omega (arith, sound.within, capacity_grown);
         }
 
     -- the lists say that the other took its place
-    pub Replaces-moved : Replaces (lists_of old told rings.hot rings.cold rings.ghosts)
-        (non_zero_u32_get token) restarts y.entry x.entry
-        (lists_of new told grown.hot grown.cold grown.ghosts)
+    pub Replaces-moved : Replaces (lists_of old told rings) t restarts y.entry x.entry
+        (lists_of (with_item old t y) told grown)
     Replaces-moved = record {
       hash = x.hash;
-      taken = IsEntry-from old told rings.hot rings.cold rings.ghosts sound.standing
-          (non_zero_u32_get token) x at;
-      last = subst (λ (h : ℕ). PutsLast (without_entry restarts (non_zero_u32_get token)
-          (lists_of old told rings.hot rings.cold rings.ghosts))
-          (non_zero_u32_get token) h y.entry
-          (lists_of new told grown.hot grown.cold grown.ghosts)) same_hash last-moved;
+      taken = IsEntry-from old told rings sound.standing t x at;
+      last = subst (λ (h : ℕ). PutsLast (without_entry restarts t (lists_of old told rings))
+          t h y.entry (lists_of (with_item old t y) told grown)) same_hash last-moved;
       room = room-moved;
       next = next-moved;
     }
 
     -- neither is a placeholder
-    pub IsSound-requeued : loading_in s ≡ 0 → loading_in r ≡ 0 → IsSound new told grown loading
+    pub IsSound-requeued : loading_in s ≡ 0 → loading_in r ≡ 0
+        → IsSound (with_item old t y) told grown loading
     IsSound-requeued none none' =
         let sound' = IsSound-moved 0 0 (sym none) (sym none') in
         record {
@@ -262,13 +191,8 @@ module _ {K V P T : Type 0} (old alone : LinkedSlab (Slot K V P T)) (told : Inde
           keyed = sound'.keyed;
           loading_counted = omega (arith, sound'.loading_counted);
           all_counted = sound'.all_counted;
+          within = sound'.within;
         }
 
   pub loading-kept : loading_in s ≤ loading
-  loading-kept =
-      let before = lists_of old told rings.hot rings.cold rings.ghosts in
-      let less = IsLess-without before (non_zero_u32_get token) x.hash x.entry restarts
-      (apart_by old told rings.hot rings.cold rings.ghosts parted sound.standing)
-      (IsEntry-from old told rings.hot rings.cold rings.ghosts sound.standing
-      (non_zero_u32_get token) x at) in
-      omega (arith, less.waiting, sound.loading_counted, ap loading_in s_is)
+  loading-kept = omega (arith, less.waiting, sound.loading_counted, ap loading_in s_is)

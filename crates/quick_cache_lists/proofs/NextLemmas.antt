@@ -3,12 +3,12 @@ use Rattle.std.proofs.Common.{◌≡◌, ℕ, zero, suc, ◌+◌, ◌-◌, ◌<�
 use Rattle.std.specs.Int.NonZero.{non_zero_u32_get}
 use Rattle.std.specs.declared.num.NonZeroU32.{NonZeroU32 as Token}
 use Rattle.std.proofs.lemmas.List.{get_or-drop}
-use Rattle.quick_cache_slab.specs.LinkedSlab.{LinkedSlab, entries_past, entries_after, item_at}
+use Rattle.quick_cache_pool.specs.Pool.{Pool, entries_past, entries_after, item_at}
 use Rattle.quick_cache_index.specs.Index.{Index}
 use Rattle.quick_cache_slots.specs.declared.entry.Entry.{Entry}
 use Rattle.quick_cache_slots.specs.declared.entry.Entry.TheVariants.{Item as item_variant, Loading as loading_variant, Ghost as ghost_variant}
 use Rattle.quick_cache_slots.specs.declared.entry.Slot.{Slot}
-use Rattle.quick_cache_lists.specs.declared.ring.Ring.{Ring}
+use Rattle.quick_cache_rings.specs.Rings.{Rings}
 use Rattle.quick_cache_lists.specs.Lists.{HasItemToken, number_or_zero, IsFirstAbove}
 use Rattle.quick_cache_lists.specs.Slots.{is_item, first_item}
 use Rattle.quick_cache_lists.specs.Sound.{lists_of, IsStanding}
@@ -103,8 +103,8 @@ module _ {K V P T : Type 0} where
             earlier = λ j y below at. by_index isnt f.earlier j y below at;
           }
 
-module _ {K V P T : Type 0} (slab : LinkedSlab (Slot K V P T)) (index : Index)
-    (hot cold ghosts : Ring) (standing : IsStanding slab hot cold ghosts) (k : ℕ) where
+module _ {K V P T : Type 0} (slab : Pool (Slot K V P T)) (index : Index)
+    (rings : Rings) (standing : IsStanding slab rings) (k : ℕ) where
   shown_at : (u : ℕ) → k < u → item_at slab u ≡ get_or (drop k slab.slots) (u - k - 1) None
   shown_at zero below = absurd (omega (arith, below))
   shown_at (suc i) below =
@@ -113,22 +113,22 @@ module _ {K V P T : Type 0} (slab : LinkedSlab (Slot K V P T)) (index : Index)
 
   -- an item shows at its token
   not_item : (u : ℕ) → ((x : Slot K V P T) → item_at slab u ≡ Some x → is_item x ≡ false)
-      → ¬ HasItemToken (lists_of slab index hot cold ghosts) u
+      → ¬ HasItemToken (lists_of slab index rings) u
   not_item u isnt has =
-      let item = item_by_token slab index hot cold ghosts u has in
+      let item = item_by_token slab index rings u has in
       true≢false (isnt _ item.2)
 
   HasItem-at : (u : ℕ) (x : Slot K V P T) → item_at slab u ≡ Some x → is_item x ≡ true
-      → HasItemToken (lists_of slab index hot cold ghosts) u
+      → HasItemToken (lists_of slab index rings) u
   HasItem-at u x at is = by_entry x.hash x.entry at is
     where
       by_entry : (hash : ℕ) (entry : Entry K V P T)
           → item_at slab u ≡ Some (record { hash = hash; entry = entry })
           → is_item (record { hash = hash; entry = entry }) ≡ true
-          → HasItemToken (lists_of slab index hot cold ghosts) u
+          → HasItemToken (lists_of slab index rings) u
       by_entry hash (item_variant item) here item_is = (
         record { token = u; hash = hash; item = item },
-        HasItem-from slab index hot cold ghosts
+        HasItem-from slab index rings
             standing u hash item here,
         refl,
       )
@@ -136,7 +136,7 @@ module _ {K V P T : Type 0} (slab : LinkedSlab (Slot K V P T)) (index : Index)
       by_entry hash ghost_variant here item_is = absurd (true≢false (sym item_is))
 
   pub IsFirstAbove-none : first_item (entries_after slab k) ≡ None
-      → IsFirstAbove (lists_of slab index hot cold ghosts) k None
+      → IsFirstAbove (lists_of slab index rings) k None
   IsFirstAbove-none e = record {
     none = λ _ u below. not_item u
         (λ x at. none_past k (drop k slab.slots) e (u - k - 1) x (sym (shown_at u below) ∙ at));
@@ -146,11 +146,11 @@ module _ {K V P T : Type 0} (slab : LinkedSlab (Slot K V P T)) (index : Index)
 
   pub IsFirstAbove-some : (token : Token)
       → first_item (entries_after slab k) ≡ Some (non_zero_u32_get token)
-      → IsFirstAbove (lists_of slab index hot cold ghosts) k (Some token)
+      → IsFirstAbove (lists_of slab index rings) k (Some token)
   IsFirstAbove-some token e = record {
     none = λ nothing. absurd (cc);
     found = λ first some. subst (λ (t : Token). (k < non_zero_u32_get t)
-        × HasItemToken (lists_of slab index hot cold ghosts) (non_zero_u32_get t))
+        × HasItemToken (lists_of slab index rings) (non_zero_u32_get t))
         (token_same first some) (above, HasItem-at (non_zero_u32_get token) f.slot there f.is);
     least = λ first u some below before.
         let under : u < non_zero_u32_get token =
@@ -173,7 +173,7 @@ module _ {K V P T : Type 0} (slab : LinkedSlab (Slot K V P T)) (index : Index)
       token_same first some = cc
 
 module _ {S : Type 0} where
-  pub entries_from : (slab : LinkedSlab S) (token : Option Token) (result : List (ℕ × S))
+  pub entries_from : (slab : Pool S) (token : Option Token) (result : List (ℕ × S))
       → MatchOption token (result ≡ entries_after slab 0)
       (λ t. result ≡ entries_after slab (non_zero_u32_get t))
       → result ≡ entries_after slab (number_or_zero token)

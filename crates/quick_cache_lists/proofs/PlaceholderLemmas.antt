@@ -3,12 +3,12 @@ use Rattle.std.proofs.Common.{◌≡◌, ℕ, zero, suc, ◌+◌, Bool, true, fa
 use Rattle.std.specs.Bool.{OnTrue}
 use Rattle.std.specs.List.{AllByRecursion}
 use Rattle.quick_cache_model.proofs.EachElement.{all-push}
-use Rattle.quick_cache_slab.specs.LinkedSlab.{LinkedSlab, entries_past, entries_after, item_at}
+use Rattle.quick_cache_pool.specs.Pool.{Pool, entries_past, entries_after, item_at}
 use Rattle.quick_cache_index.specs.Index.{Index}
 use Rattle.quick_cache_slots.specs.declared.entry.Entry.{Entry}
 use Rattle.quick_cache_slots.specs.declared.entry.Entry.TheVariants.{Item as item_variant, Loading as loading_variant, Ghost as ghost_variant}
 use Rattle.quick_cache_slots.specs.declared.entry.Slot.{Slot}
-use Rattle.quick_cache_lists.specs.declared.ring.Ring.{Ring}
+use Rattle.quick_cache_rings.specs.Rings.{Rings}
 use Rattle.quick_cache_lists.specs.Lists.{HeldLoading, Lists}
 use Rattle.quick_cache_lists.specs.Placeholders.{HasNoPlaceholder, FindsPlaceholder, is_meant, PassesNoneMeant}
 use Rattle.quick_cache_lists.specs.Slots.{loading_of}
@@ -84,18 +84,18 @@ module _ {K V P T : Type 0} (means : P → Bool) where
       push [] = refl
       push (x ∷ xs) = ap (λ ys. x ∷ ys) (push xs)
 
-module _ {K V P T : Type 0} (slab : LinkedSlab (Slot K V P T)) (index : Index)
-    (hot cold ghosts : Ring) (standing : IsStanding slab hot cold ghosts) (means : P → Bool) where
+module _ {K V P T : Type 0} (slab : Pool (Slot K V P T)) (index : Index)
+    (rings : Rings) (standing : IsStanding slab rings) (means : P → Bool) where
   -- a slot with a placeholder that is meant
   pub FindsPlaceholder-at : (t : ℕ) (slot : Slot K V P T) → item_at slab t ≡ Some slot
       → is_meant means slot ≡ true
-      → FindsPlaceholder means (lists_of slab index hot cold ghosts) t
+      → FindsPlaceholder means (lists_of slab index rings) t
   FindsPlaceholder-at t slot at is = by_entry slot.hash slot.entry at is
     where
       by_entry : (hash : ℕ) (entry : Entry K V P T)
           → item_at slab t ≡ Some (record { hash = hash; entry = entry })
           → is_meant means (record { hash = hash; entry = entry }) ≡ true
-          → FindsPlaceholder means (lists_of slab index hot cold ghosts) t
+          → FindsPlaceholder means (lists_of slab index rings) t
       by_entry hash (item_variant item) here meant = absurd (true≢false (sym meant))
       by_entry hash (loading_variant awaited) here meant = record {
         waiting = record {
@@ -106,7 +106,7 @@ module _ {K V P T : Type 0} (slab : LinkedSlab (Slot K V P T)) (index : Index)
           placeholder = awaited.placeholder;
         };
         named = refl;
-        stands = StandsIn-loading slab index hot cold ghosts standing t _ _ here refl;
+        stands = StandsIn-loading slab index rings standing t _ _ here refl;
         passes = meant;
       }
       by_entry hash ghost_variant here meant = absurd (true≢false (sym meant))
@@ -115,7 +115,7 @@ module _ {K V P T : Type 0} (slab : LinkedSlab (Slot K V P T)) (index : Index)
   pub FindsPlaceholder-walk : (all left rest : List (ℕ × Slot K V P T)) (t : ℕ)
       (slot : Slot K V P T) → all ≡ entries_after slab 0 → left ≡ (t, slot) ∷ rest
       → PassesNoneMeant means all left → is_meant means slot ≡ true
-      → FindsPlaceholder means (lists_of slab index hot cold ghosts) t
+      → FindsPlaceholder means (lists_of slab index rings) t
   FindsPlaceholder-walk all left rest t slot are step walk is =
       let f = entry-past 0 slab.slots walk.passed t slot rest
       (sym are ∙ walk.split ∙ ap (λ xs. walk.passed ++ xs) step) in
@@ -148,7 +148,7 @@ module _ {K V P T : Type 0} (slab : LinkedSlab (Slot K V P T)) (index : Index)
   -- the walk came to no other slot
   pub HasNoPlaceholder-walk : (all left : List (ℕ × Slot K V P T))
       → all ≡ entries_after slab 0 → left ≡ [] → PassesNoneMeant means all left
-      → HasNoPlaceholder means (lists_of slab index hot cold ghosts)
+      → HasNoPlaceholder means (lists_of slab index rings)
   HasNoPlaceholder-walk all left are ends walk =
       gather-all (λ (waiting : HeldLoading K P). means waiting.placeholder ≡ false)
       (λ token. loading_of token (item_at slab token)) (upto (length slab.slots))

@@ -1,24 +1,22 @@
 -- An entry was put last.
-use Rattle.std.proofs.Common.{◌≡◌, ◌≢◌, ℕ, ◌+◌, ◌<◌, ◌≤◌, List, [], ◌∷◌, ◌++◌, length, ◌==◌, if◌then◌else◌, Bool, true, false, Option, Some, None, IfSome, MatchOption, refl, sym, ap, subst, ◌∙◌, arith, true≢false}
-use Rattle.std.specs.Int.NonZero.{non_zero_u32_get}
-use Rattle.std.specs.declared.num.NonZeroU32.{NonZeroU32 as Token}
+use Rattle.std.proofs.Common.{◌≡◌, ℕ, ◌+◌, ◌<◌, ◌≤◌, List, [], ◌∷◌, ◌++◌, length, ◌==◌, if◌then◌else◌, Bool, true, false, refl, sym, ap, subst, ◌∙◌, arith, true≢false}
 use Rattle.std.proofs.lemmas.List.Sorted.{IsPermutation-refl}
 use Rattle.quick_cache_model.specs.CacheState.{Place, InHot, InCold, InStill, place_of_item, ring_place}
 use Rattle.quick_cache_model.specs.declared.queue.Queue.{Queue}
 use Rattle.quick_cache_model.specs.declared.queue.Queue.TheVariants.{Hot, Cold}
-use Rattle.quick_cache_slab.specs.LinkedSlab.{LinkedSlab, item_at, ring_from, times, next_token, IsOccupied}
+use Rattle.quick_cache_pool.specs.Pool.{Pool, item_at, next_token}
 use Rattle.quick_cache_index.specs.Index.{Index, token_count}
+use Rattle.quick_cache_rings.specs.Rings.{Ring, Rings, CanJoin, CanEnter, entered}
 use Rattle.quick_cache_slots.specs.declared.entry.Entry.{Entry}
 use Rattle.quick_cache_slots.specs.declared.entry.Entry.TheVariants.{Item as item_variant, Loading as loading_variant, Ghost as ghost_variant}
+use Rattle.quick_cache_lists.specs.Frames.{IsPlaced}
 use Rattle.quick_cache_slots.specs.declared.entry.Slot.{Slot}
-use Rattle.quick_cache_lists.specs.declared.ring.Ring.{Ring}
-use Rattle.quick_cache_lists.specs.declared.rings.Rings.{Rings}
-use Rattle.quick_cache_lists.specs.Frames.{IsPlaced, IsLinked, IsJoined, CanJoin, CanEnter, EntersRing}
-use Rattle.quick_cache_lists.specs.Lists.{HeldItem, Lists, items_at, with_items, with_last, is_placeholder, is_weightless, PutsLast}
-use Rattle.quick_cache_lists.specs.Slots.{Stand, AmongHot, AmongCold, AmongStill, AmongLoading, AmongGhosts, stand_of, stand_in, weight_in, weight_at, loading_in}
-use Rattle.quick_cache_lists.specs.Sound.{lists_of, room_of, IsRingOf, IsKeyed, IsStanding, IsSound}
+use Rattle.quick_cache_lists.specs.Lists.{HeldItem, Lists, items_at, with_items, with_last, is_placeholder, is_weightless, PutsLast, entry_count}
+use Rattle.quick_cache_lists.specs.Slots.{Stand, AmongHot, AmongCold, AmongStill, AmongLoading, AmongGhosts, stand_in, weight_in, weight_at, loading_in}
+use Rattle.quick_cache_lists.specs.Sound.{lists_of, room_of, slot_room, IsRingOf, IsKeyed, IsStanding, IsSound}
 use Rattle.quick_cache_lists.proofs.CountLemmas.{IsMore-put}
-use Rattle.quick_cache_lists.proofs.SoundLemmas.{stand-some, stand-placed, vacant-stand, ring_light, ring_short, IsKeyed-joined, room-joined}
+use Rattle.quick_cache_lists.proofs.SoundLemmas.{ring_light}
+use Rattle.quick_cache_lists.proofs.TurnLemmas.{count_held, count_ghosts}
 use Rattle.quick_cache_lists.proofs.ViewLemmas.{same_lists, IsStanding-put_hot, IsStanding-put_cold, IsStanding-put_still, IsStanding-put_loading, IsStanding-put_ghost, lists-put_hot, lists-put_cold, lists-put_ghost, SameButOrder-put_still, SameButOrder-put_loading, loading-put_still, still-put_loading}
 
 module _ {K V P : Type 0} where
@@ -36,91 +34,46 @@ module _ {K V P : Type 0} where
   with_items-still false Hot xs lists weighs = refl
   with_items-still false Cold xs lists weighs = refl
 
+-- the room of the rings stays
+pub capacity-entered : (t w : ℕ) (s : Stand) (rings : Rings)
+    → (entered t w s rings).capacity ≡ rings.capacity
+capacity-entered t w AmongHot rings = refl
+capacity-entered t w AmongCold rings = refl
+capacity-entered t w AmongGhosts rings = refl
+capacity-entered t w AmongStill rings = refl
+capacity-entered t w AmongLoading rings = refl
+
 module _ {K V P T : Type 0} where
-  -- ---- the index knows nothing of rings
+  -- ---- it can enter its ring: no ring is longer than all lists together
 
-  module _ (mid new : LinkedSlab (Slot K V P T)) (index : Index) (rings grown : Rings)
-      (token : Token) (w : ℕ) where
-    pub IsKeyed-entered : (s : Stand) → EntersRing mid new rings grown token w s → IsKeyed mid index
-        → IsKeyed new index
-    IsKeyed-entered AmongHot enters keyed =
-        IsKeyed-joined mid new index rings.hot grown.hot token w enters.0 keyed
-    IsKeyed-entered AmongCold enters keyed =
-        IsKeyed-joined mid new index rings.cold grown.cold token w enters.0 keyed
-    IsKeyed-entered AmongGhosts enters keyed =
-        IsKeyed-joined mid new index rings.ghosts grown.ghosts token w enters.0 keyed
-    IsKeyed-entered AmongStill enters keyed = rw enters.0 keyed
-    IsKeyed-entered AmongLoading enters keyed = rw enters.0 keyed
-
-    pub room-entered : (s : Stand) → EntersRing mid new rings grown token w s
-        → room_of new index ≡ room_of mid index
-    room-entered AmongHot enters = room-joined mid new index rings.hot grown.hot token w enters.0
-    room-entered AmongCold enters = room-joined mid new index rings.cold grown.cold token w enters.0
-    room-entered AmongGhosts enters =
-        room-joined mid new index rings.ghosts grown.ghosts token w enters.0
-    room-entered AmongStill enters =
-        ap (λ (s : LinkedSlab (Slot K V P T)). room_of s index) enters.0
-    room-entered AmongLoading enters =
-        ap (λ (s : LinkedSlab (Slot K V P T)). room_of s index) enters.0
-
-    -- the next token is that of the free tokens and the slots
-    next-joined : (ring after : Ring) → IsJoined mid new ring after token w
-        → next_token new ≡ next_token mid
-    next-joined ring after joined = by_head ring.head joined.by_head
-      where
-        by_head : (o : Option Token) → MatchOption o
-            ((new ≡ mid) × (non_zero_u32_get joined.head ≡ non_zero_u32_get token))
-            (λ h. IsLinked mid new (non_zero_u32_get token) (non_zero_u32_get h)
-            × (non_zero_u32_get joined.head ≡ non_zero_u32_get h))
-            → next_token new ≡ next_token mid
-        by_head None done = ap next_token done.0
-        by_head (Some h) done = rw (done.0.slots, done.0.free) refl
-
-    pub next-entered : (s : Stand) → EntersRing mid new rings grown token w s
-        → next_token new ≡ next_token mid
-    next-entered AmongHot enters = next-joined rings.hot grown.hot enters.0
-    next-entered AmongCold enters = next-joined rings.cold grown.cold enters.0
-    next-entered AmongGhosts enters = next-joined rings.ghosts grown.ghosts enters.0
-    next-entered AmongStill enters = ap next_token enters.0
-    next-entered AmongLoading enters = ap next_token enters.0
-
-  -- ---- it can enter its ring
-
-  module _ (old mid : LinkedSlab (Slot K V P T)) (token : Token) (x : Slot K V P T) (rings : Rings)
-      (standing : IsStanding old rings.hot rings.cold rings.ghosts)
-      (single : (t u : ℕ) → times u (ring_from old t) ≤ 1) (short : length old.slots ≤ 4294967295)
-      (lean : (t : ℕ) → weight_at (item_at old t) < 18446744073709551616)
-      (placed : IsPlaced old mid (non_zero_u32_get token) x) (w : ℕ)
+  module _ (slab : Pool (Slot K V P T)) (index : Index) (rings : Rings)
+      (standing : IsStanding slab rings) (short : length slab.slots ≤ 4294967295)
+      (lean : (t : ℕ) → weight_at (item_at slab t) < 18446744073709551616)
+      (few : entry_count (lists_of slab index rings) < rings.capacity) (w : ℕ)
       (light : w < 18446744073709551616) where
-    can_join : (ring : Ring) (r : Stand) → IsRingOf old ring r → CanJoin mid ring token w
-    can_join ring r is = record {
-      occupied = rw placed.here refl;
-      alone = placed.alone;
-      head = heads ring.head is.headed;
-      apart = aparts ring.head is.headed;
-      few = omega (arith, ring_short old ring r single is, short);
-      light = omega (arith, ring_light old ring r single short lean is, light);
+    can_join : (ring : Ring) (r : Stand) → IsRingOf slab ring r
+        → length ring.tokens < rings.capacity → CanJoin ring rings.capacity w
+    can_join ring r is fewer = record {
+      few = fewer;
+      light = omega (arith, ring_light slab ring r short lean is, light);
     }
-      where
-        heads : (o : Option Token) → IfSome o
-            (λ head. stand_of (item_at old (non_zero_u32_get head)) ≡ Some r)
-            → IfSome o (λ head. IsOccupied mid (non_zero_u32_get head))
-        heads None headed = tt
-        heads (Some h) headed = stand-some (item_at mid (non_zero_u32_get h)) r
-            (stand-placed old mid (non_zero_u32_get token) x placed (non_zero_u32_get h) r headed)
 
-        aparts : (o : Option Token) → IfSome o
-            (λ head. stand_of (item_at old (non_zero_u32_get head)) ≡ Some r)
-            → IfSome o (λ head. non_zero_u32_get head ≢ non_zero_u32_get token)
-        aparts None headed = tt
-        aparts (Some h) headed =
-            λ same. vacant-stand old (non_zero_u32_get token) r placed.vacant
-            (subst (λ (u : ℕ). stand_of (item_at old u) ≡ Some r) same headed)
-
-    pub can_enter : (s : Stand) → CanEnter mid rings token w s
-    can_enter AmongHot = can_join rings.hot AmongHot standing.hot_ring
-    can_enter AmongCold = can_join rings.cold AmongCold standing.cold_ring
-    can_enter AmongGhosts = can_join rings.ghosts AmongGhosts standing.ghost_ring
+    pub can_enter : (s : Stand) → CanEnter rings w s
+    can_enter AmongHot = can_join rings.hot AmongHot standing.hot_ring (omega (
+      arith,
+      few,
+      count_held slab rings.hot AmongHot (λ e. cc) (λ e. cc) standing.hot_ring,
+    ))
+    can_enter AmongCold = can_join rings.cold AmongCold standing.cold_ring (omega (
+      arith,
+      few,
+      count_held slab rings.cold AmongCold (λ e. cc) (λ e. cc) standing.cold_ring,
+    ))
+    can_enter AmongGhosts = can_join rings.ghosts AmongGhosts standing.ghost_ring (omega (
+      arith,
+      few,
+      count_ghosts slab rings.ghosts standing.ghost_ring,
+    ))
     can_enter AmongStill = tt
     can_enter AmongLoading = tt
 
@@ -143,150 +96,136 @@ module _ {K V P T : Type 0} where
 
   -- ---- it stands last
 
-  module _ (old new : LinkedSlab (Slot K V P T)) (told tnew : Index) (token : Token) (hash : ℕ)
+  module _ (old new : Pool (Slot K V P T)) (told tnew : Index) (t hash : ℕ)
       (rings : Rings) where
     abbrev before : Lists K V P
-    before = lists_of old told rings.hot rings.cold rings.ghosts
-
-    abbrev after : Rings → Lists K V P
-    after grown = lists_of new tnew grown.hot grown.cold grown.ghosts
+    before = lists_of old told rings
 
     abbrev pub IsPut : Entry K V P T → Rings → Type 0
     IsPut entry grown =
-        IsStanding new grown.hot grown.cold grown.ghosts
-        × PutsLast before (non_zero_u32_get token) hash entry (after grown)
+        IsStanding new grown × PutsLast before t hash entry (lists_of new tnew grown)
 
     in_ring : (entry : Entry K V P T) (grown : Rings)
-        → after grown ≡ record (with_last (non_zero_u32_get token) hash entry before)
-        { next = next_token new; room = room_of new tnew }
-        → PutsLast before (non_zero_u32_get token) hash entry (after grown)
+        → lists_of new tnew grown ≡ record (with_last t hash entry before)
+        { next = next_token new; room = room_of new tnew grown }
+        → PutsLast before t hash entry (lists_of new tnew grown)
     in_ring entry grown same =
-        let last = with_last (non_zero_u32_get token) hash entry before in
+        let last = with_last t hash entry before in
         record {
           put = record {
             still = rw (ap (λ (l : Lists K V P). l.still) same) (IsPermutation-refl last.still);
             loading = rw (ap (λ (l : Lists K V P). l.loading) same)
                 (IsPermutation-refl last.loading);
-            same = same_lists (record last { next = next_token new; room = room_of new tnew })
-                (after grown) (ap (λ (l : Lists K V P). l.hot) same)
+            same = same_lists (record last { next = next_token new; room = room_of new tnew grown })
+                (lists_of new tnew grown) (ap (λ (l : Lists K V P). l.hot) same)
                 (ap (λ (l : Lists K V P). l.cold) same)
                 (ap (λ (l : Lists K V P). l.ghosts) same) refl refl;
           };
           in_ring = λ _. same;
           still_stays = λ is. ap (λ (l : Lists K V P). l.still) same
-              ∙ with_last-still (non_zero_u32_get token) hash entry before is;
+              ∙ with_last-still t hash entry before is;
           loading_stays = λ is. ap (λ (l : Lists K V P). l.loading) same
-              ∙ with_last-loading (non_zero_u32_get token) hash entry before is;
+              ∙ with_last-loading t hash entry before is;
         }
 
-  module _ (old mid new : LinkedSlab (Slot K V P T)) (told tnew : Index) (token : Token) (hash : ℕ)
-      (rings grown : Rings) (standing : IsStanding old rings.hot rings.cold rings.ghosts) where
+  module _ (old new : Pool (Slot K V P T)) (told tnew : Index) (t hash : ℕ)
+      (rings : Rings) (standing : IsStanding old rings) where
     pub IsPut-by : (entry : Entry K V P T)
-        → IsPlaced old mid (non_zero_u32_get token) (record { hash = hash; entry = entry })
-        → EntersRing mid new rings grown token (weight_in entry) (stand_in entry)
-        → IsPut old new told tnew token hash rings entry grown
-    IsPut-by (item_variant item) placed enters = by_weight (item.weight == 0) refl
+        → IsPlaced old new t (record { hash = hash; entry = entry })
+        → IsPut old new told tnew t hash rings entry
+        (entered t (weight_in entry) (stand_in entry) rings)
+    IsPut-by (item_variant item) placed = by_weight (item.weight == 0) refl
       where
+        at_stand : (s : Stand)
+            → stand_in {K = K} {V = V} {P = P} {T = T} (item_variant item) ≡ s
+            → IsPut old new told tnew t hash rings (item_variant item)
+            (entered t item.weight s rings)
+            → IsPut old new told tnew t hash rings (item_variant item)
+            (entered t item.weight (stand_in {K = K} {V = V} {P = P} {T = T} (item_variant item))
+            rings)
+        at_stand s is put = subst (λ (r : Stand). IsPut old new told tnew t hash rings
+            (item_variant item) (entered t item.weight r rings)) (sym is) put
+
         by_queue : (q : Queue) → item.queue ≡ q → (item.weight == 0) ≡ false
-            → IsPut old new told tnew token hash rings (item_variant item) grown
-        by_queue Hot of weighs =
-            let joins : EntersRing mid new rings grown token item.weight AmongHot =
-            rw (weighs, of) at enters in
-            subst (λ (r : Rings). IsPut old new told tnew token hash rings (item_variant item) r)
-            (sym joins.1) (
-              IsStanding-put_hot old mid new told tnew token hash item rings.hot rings.cold
-                  rings.ghosts grown.hot standing placed weighs of joins.0,
-              in_ring old new told tnew token hash rings (item_variant item)
-                  (record rings { hot = grown.hot })
-                  (lists-put_hot old mid new told tnew token hash item rings.hot rings.cold
-                  rings.ghosts grown.hot standing placed weighs of joins.0),
-            )
-        by_queue Cold of weighs =
-            let joins : EntersRing mid new rings grown token item.weight AmongCold =
-            rw (weighs, of) at enters in
-            subst (λ (r : Rings). IsPut old new told tnew token hash rings (item_variant item) r)
-            (sym joins.1) (
-              IsStanding-put_cold old mid new told tnew token hash item rings.hot rings.cold
-                  rings.ghosts grown.cold standing placed weighs of joins.0,
-              in_ring old new told tnew token hash rings (item_variant item)
-                  (record rings { cold = grown.cold })
-                  (lists-put_cold old mid new told tnew token hash item rings.hot rings.cold
-                  rings.ghosts grown.cold standing placed weighs of joins.0),
-            )
+            → IsPut old new told tnew t hash rings (item_variant item)
+            (entered t item.weight (stand_in {K = K} {V = V} {P = P} {T = T} (item_variant item))
+            rings)
+        by_queue Hot of weighs = at_stand AmongHot (rw (weighs, of) refl) (
+          IsStanding-put_hot old new told tnew t hash item rings standing placed weighs of,
+          in_ring old new told tnew t hash rings (item_variant item)
+              (entered t item.weight AmongHot rings)
+              (lists-put_hot old new told tnew t hash item rings standing placed weighs of),
+        )
+        by_queue Cold of weighs = at_stand AmongCold (rw (weighs, of) refl) (
+          IsStanding-put_cold old new told tnew t hash item rings standing placed weighs of,
+          in_ring old new told tnew t hash rings (item_variant item)
+              (entered t item.weight AmongCold rings)
+              (lists-put_cold old new told tnew t hash item rings standing placed weighs of),
+        )
 
         by_weight : (b : Bool) → (item.weight == 0) ≡ b
-            → IsPut old new told tnew token hash rings (item_variant item) grown
+            → IsPut old new told tnew t hash rings (item_variant item)
+            (entered t item.weight (stand_in {K = K} {V = V} {P = P} {T = T} (item_variant item))
+            rings)
         by_weight false weighs = by_queue item.queue refl weighs
-        by_weight true none =
-            let beside : EntersRing mid new rings grown token item.weight AmongStill =
-            rw none at enters in
-            let here : IsPlaced old new (non_zero_u32_get token)
-            (record { hash = hash; entry = item_variant item }) = rw beside.0 placed in
-            rw beside.1 (
-              IsStanding-put_still old new told tnew token hash item rings.hot rings.cold
-                  rings.ghosts standing here none,
-              record {
-                put = SameButOrder-put_still old new told tnew token hash item rings.hot rings.cold
-                    rings.ghosts standing here none;
-                in_ring = λ is. absurd (true≢false (sym (rw none at is)));
-                still_stays = λ is. absurd (true≢false (sym none ∙ is));
-                loading_stays = λ _. loading-put_still old new told tnew token hash item rings.hot
-                    rings.cold rings.ghosts standing here none;
-              },
-            )
-    IsPut-by (loading_variant awaited) placed enters =
-        let here : IsPlaced old new (non_zero_u32_get token)
-        (record { hash = hash; entry = loading_variant awaited }) = rw enters.0 placed in
-        rw enters.1 (
-          IsStanding-put_loading old new told tnew token hash awaited rings.hot rings.cold
-              rings.ghosts standing here,
+        by_weight true none = at_stand AmongStill (rw none refl) (
+          IsStanding-put_still old new told tnew t hash item rings standing placed none,
           record {
-            put = SameButOrder-put_loading old new told tnew token hash awaited rings.hot rings.cold
-                rings.ghosts standing here;
-            in_ring = λ is. absurd (true≢false (sym is));
-            still_stays = λ _. still-put_loading old new told tnew token hash awaited rings.hot
-                rings.cold rings.ghosts standing here;
-            loading_stays = λ is. absurd (true≢false is);
+            put = SameButOrder-put_still old new told tnew t hash item rings standing placed none;
+            in_ring = λ is. absurd (true≢false (sym (rw none at is)));
+            still_stays = λ is. absurd (true≢false (sym none ∙ is));
+            loading_stays = λ _. loading-put_still old new told tnew t hash item rings standing
+                placed none;
           },
         )
-    IsPut-by ghost_variant placed enters =
-        subst (λ (r : Rings). IsPut old new told tnew token hash rings ghost_variant r)
-        (sym enters.1) (
-          IsStanding-put_ghost old mid new told tnew token hash rings.hot rings.cold rings.ghosts
-              grown.ghosts standing placed enters.0,
-          in_ring old new told tnew token hash rings ghost_variant
-              (record rings { ghosts = grown.ghosts })
-              (lists-put_ghost old mid new told tnew token hash rings.hot rings.cold rings.ghosts
-              grown.ghosts standing placed enters.0),
-        )
+    IsPut-by (loading_variant awaited) placed = (
+      IsStanding-put_loading old new told tnew t hash awaited rings standing placed,
+      record {
+        put = SameButOrder-put_loading old new told tnew t hash awaited rings standing placed;
+        in_ring = λ is. absurd (true≢false (sym is));
+        still_stays = λ _. still-put_loading old new told tnew t hash awaited rings standing placed;
+        loading_stays = λ is. absurd (true≢false is);
+      },
+    )
+    IsPut-by ghost_variant placed = (
+      IsStanding-put_ghost old new told tnew t hash rings standing placed,
+      in_ring old new told tnew t hash rings ghost_variant (entered t 0 AmongGhosts rings)
+          (lists-put_ghost old new told tnew t hash rings standing placed),
+    )
 
   -- ---- and is counted
 
-  module _ (old mid new : LinkedSlab (Slot K V P T)) (told tnew : Index) (token : Token) (hash : ℕ)
+  module _ (old new : Pool (Slot K V P T)) (told tnew : Index) (t hash : ℕ)
       (rings grown : Rings) (loading : ℕ) (sound : IsSound old told rings loading)
-      (entry : Entry K V P T) (placed : IsPlaced old mid (non_zero_u32_get token)
-      (record { hash = hash; entry = entry })) (keyed : IsKeyed mid tnew)
-      (count : token_count tnew ≡ token_count told + 1) (s : Stand) (w : ℕ)
-      (stands : s ≡ stand_in entry) (weighs : w ≡ weight_in entry)
-      (enters : EntersRing mid new rings grown token w s) where
-    pub IsPut-entered : IsPut old new told tnew token hash rings entry grown
-    IsPut-entered = IsPut-by old mid new told tnew token hash rings grown sound.standing entry
-        placed (rw (stands, weighs) at enters)
+      (entry : Entry K V P T) (placed : IsPlaced old new t (record { hash = hash; entry = entry }))
+      (keyed : IsKeyed new tnew) (count : token_count tnew ≡ token_count told + 1)
+      (some : 0 < room_of old told rings) (s : Stand) (w : ℕ) (stands : s ≡ stand_in entry)
+      (weighs : w ≡ weight_in entry) (enters : grown ≡ entered t w s rings) where
+    pub IsPut-entered : IsPut old new told tnew t hash rings entry grown
+    IsPut-entered = rw (enters, stands, weighs)
+        (IsPut-by old new told tnew t hash rings sound.standing entry placed)
+
+    capacity : grown.capacity ≡ rings.capacity
+    capacity = ap (λ (r : Rings). r.capacity) enters ∙ capacity-entered t w s rings
+
+    pub room-put : slot_room new tnew + 1 ≡ slot_room old told
+        → room_of new tnew grown + 1 ≡ room_of old told rings
+    room-put room = omega (arith, room, some, capacity, count)
 
     pub IsSound-put : (more : ℕ) → more ≡ loading_in s → IsSound new tnew grown (loading + more)
     IsSound-put more is =
         let put = IsPut-entered in
-        let counted = IsMore-put _ _ (non_zero_u32_get token) hash entry put.1 in
+        let counted = IsMore-put _ _ t hash entry put.1 in
         record {
           standing = put.0;
-          keyed = IsKeyed-entered mid new tnew rings grown token w s enters keyed;
+          keyed = keyed;
           loading_counted = omega (
             arith,
             sound.loading_counted,
             counted.waiting,
             is,
-            ap
-                loading_in stands,
+            ap loading_in stands,
           );
           all_counted = omega (arith, sound.all_counted, counted.all, count);
+          within = omega (arith, some, capacity, count);
         }

@@ -1,23 +1,22 @@
 -- A walk over all slots comes to each item once.
 use Rattle.std.proofs.Common.{◌≡◌, ◌≢◌, ◌⊎◌, ℕ, zero, suc, ◌+◌, ◌≤◌, ◌==◌, if◌then◌else◌, Bool, true, false, List, [], ◌∷◌, ◌++◌, length, filter_map, get_or, Option, Some, None, refl, sym, ap, subst, ◌∙◌, inl, inr, arith}
 use Rattle.std.proofs.lemmas.List.{map-append, length-append, length-map}
-use Rattle.std.specs.Int.NonZero.{non_zero_u32_get}
-use Rattle.std.specs.declared.num.NonZeroU32.{NonZeroU32 as Token}
 use Rattle.std.specs.List.Sorted.{IsPermutation}
 use Rattle.std.proofs.lemmas.List.Sorted.{IsPermutation-refl, IsPermutation-trans, IsPermutation-sym, IsPermutation-cons, IsPermutation-middle, IsPermutation-map, IsPermutation-append_left}
 use Rattle.quick_cache_model.specs.CacheState.{Item}
 use Rattle.quick_cache_model.specs.declared.queue.Queue.{Queue}
 use Rattle.quick_cache_model.specs.declared.queue.Queue.TheVariants.{Hot, Cold}
-use Rattle.quick_cache_slab.specs.LinkedSlab.{LinkedSlab, times, item_at, items, IsParted}
-use Rattle.quick_cache_slab.proofs.TokenCounts.{times-here, times-other, times-append}
+use Rattle.quick_cache_model.specs.Sequences.{times}
+use Rattle.quick_cache_pool.specs.Pool.{Pool, item_at, items}
+use Rattle.quick_cache_pool.proofs.TokenCounts.{times-here, times-other, times-append}
 use Rattle.quick_cache_index.specs.Index.{Index}
 use Rattle.quick_cache_slots.specs.declared.entry.Entry.{Entry}
 use Rattle.quick_cache_slots.specs.declared.entry.Entry.TheVariants.{Item as item_variant, Loading as loading_variant, Ghost as ghost_variant}
 use Rattle.quick_cache_slots.specs.declared.entry.Slot.{Slot}
-use Rattle.quick_cache_lists.specs.declared.ring.Ring.{Ring}
+use Rattle.quick_cache_rings.specs.Rings.{Ring, Rings}
 use Rattle.quick_cache_lists.specs.Lists.{HeldItem, Lists, item_count}
 use Rattle.quick_cache_lists.specs.Slots.{Stand, AmongHot, AmongCold, AmongStill, ring_stand, stand_of, if_still, item_of, still_of}
-use Rattle.quick_cache_lists.specs.Sound.{put, gather, upto, tokens_of, lists_of, IsRingOf, IsStanding}
+use Rattle.quick_cache_lists.specs.Sound.{put, gather, upto, lists_of, IsRingOf, IsStanding}
 use Rattle.quick_cache_lists.specs.Views.{items_of, residents}
 use Rattle.quick_cache_lists.specs.Walks.{items_in}
 use Rattle.quick_cache_lists.proofs.GatherLemmas.{gather-append, gather-same, times-upto}
@@ -210,9 +209,8 @@ module _ {K V P T : Type 0} where
       by_entry hash (loading_variant awaited) there = absurd (cc)
       by_entry hash ghost_variant there = absurd (cc)
 
-module _ {K V P T : Type 0} (slab : LinkedSlab (Slot K V P T)) (index : Index)
-    (hot cold ghosts : Ring) (parted : IsParted slab)
-    (standing : IsStanding slab hot cold ghosts) where
+module _ {K V P T : Type 0} (slab : Pool (Slot K V P T)) (index : Index)
+    (rings : Rings) (standing : IsStanding slab rings) where
   in_all : (t : ℕ) (o : Option (Slot K V P T)) (s : Stand) → item_at slab t ≡ o
       → stand_of o ≡ Some s → times t (upto (length slab.slots)) ≡ 1
   in_all t None s at stands = absurd (cc)
@@ -220,49 +218,45 @@ module _ {K V P T : Type 0} (slab : LinkedSlab (Slot K V P T)) (index : Index)
       let within = occupied_within slab.slots t slot at in
       times-upto t (length slab.slots) within.0 within.1
 
-  once_ring : (o : Option Token) (t : ℕ) → times t (tokens_of slab o) ≤ 1
-  once_ring None t = omega arith
-  once_ring (Some head) t = parted.once (non_zero_u32_get head) t
-
   -- an item that weighs something stands once in the two rings
   once_in_rings : (t : ℕ) (held : HeldItem K V) → heavy_of t (item_at slab t) ≡ Some held
-      → times t (tokens_of slab hot.head ++ tokens_of slab cold.head)
+      → times t (rings.hot.tokens ++ rings.cold.tokens)
       ≡ times t (upto (length slab.slots))
   once_in_rings t held is =
       by_queue held.item.queue (heavy-stands t (item_at slab t) held is)
     where
       by_queue : (q : Queue) → stand_of (item_at slab t) ≡ Some (ring_stand q)
-          → times t (tokens_of slab hot.head ++ tokens_of slab cold.head)
+          → times t (rings.hot.tokens ++ rings.cold.tokens)
           ≡ times t (upto (length slab.slots))
       by_queue Hot stands = omega (
         arith,
-        times-append t (tokens_of slab hot.head) (tokens_of slab cold.head),
+        times-append t rings.hot.tokens rings.cold.tokens,
         standing.hot_ring.all t stands,
-        once_ring hot.head t,
-        out_of_ring slab cold AmongCold t standing.cold_ring (λ e. let f = sym stands ∙ e in cc),
+        standing.hot_ring.once t,
+        out_of_ring slab rings.cold AmongCold t standing.cold_ring (λ e. let f = sym stands ∙ e in cc),
         in_all t (item_at slab t) AmongHot refl stands,
       )
       by_queue Cold stands = omega (
         arith,
-        times-append t (tokens_of slab hot.head) (tokens_of slab cold.head),
+        times-append t rings.hot.tokens rings.cold.tokens,
         standing.cold_ring.all t stands,
-        once_ring cold.head t,
-        out_of_ring slab hot AmongHot t standing.hot_ring (λ e. let f = sym stands ∙ e in cc),
+        standing.cold_ring.once t,
+        out_of_ring slab rings.hot AmongHot t standing.hot_ring (λ e. let f = sym stands ∙ e in cc),
         in_all t (item_at slab t) AmongCold refl stands,
       )
 
   ring-heavy : (ring : Ring) (q : Queue) → IsRingOf slab ring (ring_stand q)
-      → gather (λ t. heavy_of t (item_at slab t)) (tokens_of slab ring.head)
-      ≡ gather (λ t. item_of t (item_at slab t)) (tokens_of slab ring.head)
+      → gather (λ t. heavy_of t (item_at slab t)) ring.tokens
+      ≡ gather (λ t. item_of t (item_at slab t)) ring.tokens
   ring-heavy ring q is = gather-same (λ t. item_of t (item_at slab t))
-      (λ t. heavy_of t (item_at slab t)) (tokens_of slab ring.head)
+      (λ t. heavy_of t (item_at slab t)) ring.tokens
       (λ t some. heavy-in_ring t (item_at slab t) q (is.members t some))
 
   -- the slots have the items of the two rings and those of weight 0, and no others
   held_by_slots : IsPermutation
       (gather (λ t. item_of t (item_at slab t)) (upto (length slab.slots)))
-      (gather (λ t. item_of t (item_at slab t)) (tokens_of slab hot.head)
-      ++ gather (λ t. item_of t (item_at slab t)) (tokens_of slab cold.head)
+      (gather (λ t. item_of t (item_at slab t)) rings.hot.tokens
+      ++ gather (λ t. item_of t (item_at slab t)) rings.cold.tokens
       ++ gather (λ t. still_of t (item_at slab t)) (upto (length slab.slots)))
   held_by_slots =
       let parts = gather-parted (λ t. item_of t (item_at slab t))
@@ -270,14 +264,14 @@ module _ {K V P T : Type 0} (slab : LinkedSlab (Slot K V P T)) (index : Index)
       (λ t held is. heavy-or_still (item_of t (item_at slab t)) held is)
       (λ t is. neither-nothing (item_of t (item_at slab t)) is)
       (upto (length slab.slots)) in
-      let rings = gather-permuted (λ t. heavy_of t (item_at slab t)) (upto (length slab.slots))
-      (tokens_of slab hot.head ++ tokens_of slab cold.head) once_in_rings in
-      let apart = gather-append (λ t. heavy_of t (item_at slab t)) (tokens_of slab hot.head)
-      (tokens_of slab cold.head) in
+      let both_rings = gather-permuted (λ t. heavy_of t (item_at slab t)) (upto (length slab.slots))
+      (rings.hot.tokens ++ rings.cold.tokens) once_in_rings in
+      let apart = gather-append (λ t. heavy_of t (item_at slab t)) rings.hot.tokens
+      rings.cold.tokens in
       let both = subst (IsPermutation
       (gather (λ t. heavy_of t (item_at slab t)) (upto (length slab.slots))))
-      (apart ∙ (λ i. ring-heavy hot Hot standing.hot_ring i ++ ring-heavy cold Cold standing.cold_ring i))
-      rings in
+      (apart ∙ (λ i. ring-heavy rings.hot Hot standing.hot_ring i ++ ring-heavy rings.cold Cold standing.cold_ring i))
+      both_rings in
       IsPermutation-trans _ _ _ parts (IsPermutation-append_left
       (gather (λ t. still_of t (item_at slab t)) (upto (length slab.slots))) _ _ both)
 
@@ -286,14 +280,14 @@ module _ {K V P T : Type 0} (slab : LinkedSlab (Slot K V P T)) (index : Index)
       (slots-gather slab.slots 0 (λ t. item_at slab t)
       (λ i. let e : 0 + i ≡ i = omega arith in ap (λ m. item_at slab (suc m)) e))
 
-  pub IsPermutation-items_in : IsPermutation (residents (lists_of slab index hot cold ghosts))
+  pub IsPermutation-items_in : IsPermutation (residents (lists_of slab index rings))
       (items_in (items slab))
   IsPermutation-items_in =
       let is : items_in (items slab)
       ≡ items_of (gather (λ t. item_of t (item_at slab t)) (upto (length slab.slots))) =
       ap items_in items-gather ∙ items_in-gather slab (upto (length slab.slots)) in
-      let H = gather (λ t. item_of t (item_at slab t)) (tokens_of slab hot.head) in
-      let C = gather (λ t. item_of t (item_at slab t)) (tokens_of slab cold.head) in
+      let H = gather (λ t. item_of t (item_at slab t)) rings.hot.tokens in
+      let C = gather (λ t. item_of t (item_at slab t)) rings.cold.tokens in
       let S = gather (λ t. still_of t (item_at slab t)) (upto (length slab.slots)) in
       let apart : items_of (H ++ C ++ S) ≡ items_of H ++ items_of C ++ items_of S =
       map-append (λ held. held.item) (H ++ C) S

@@ -6,16 +6,14 @@ use Rattle.quick_cache_model.specs.CacheState.{Item, Place, InHot, InCold, InSti
 use Rattle.quick_cache_model.specs.declared.queue.Queue.{Queue}
 use Rattle.quick_cache_model.specs.declared.queue.Queue.TheVariants.{Hot, Cold}
 use Rattle.quick_cache_lists.specs.Lists.{HeldItem, Lists, StandsIn, items_at, with_items, entered, AreApart, without_entry, with_change, SameButOrder, PutsItem, Replaces, Requeues, IsEntry, IsItemOf, HasItemOfQueue, with_weight, requeued, held_rewritten, Rewrites, Reweighs}
-use Rattle.quick_cache_slab.specs.LinkedSlab.{LinkedSlab, item_at, IsParted}
+use Rattle.quick_cache_pool.specs.Pool.{Pool, item_at}
 use Rattle.quick_cache_index.specs.Index.{Index}
 use Rattle.quick_cache_slots.specs.declared.entry.Awaited.{Awaited}
 use Rattle.quick_cache_slots.specs.declared.entry.Entry.TheVariants.{Item as item_variant, Loading as loading_variant, Ghost as ghost_variant}
 use Rattle.quick_cache_slots.specs.declared.entry.Slot.{Slot}
-use Rattle.quick_cache_lists.specs.declared.ring.Ring.{Ring}
-use Rattle.quick_cache_lists.specs.declared.rings.Rings.{Rings}
-use Rattle.quick_cache_lists.specs.Frames.{CanReweigh, ReweighsRing}
+use Rattle.quick_cache_rings.specs.Rings.{Rings, CanReweigh, reweighed}
 use Rattle.quick_cache_lists.specs.Slots.{Stand, stand_of, stand_of_item, item_of, weight_at, loading_of, ghost_of}
-use Rattle.quick_cache_lists.specs.Sound.{upto, tokens_of, lists_of, IsStanding, IsSound}
+use Rattle.quick_cache_lists.specs.Sound.{upto, lists_of, IsStanding, IsSound}
 use Rattle.quick_cache_lists.proofs.ApartLemmas.{apart_by}
 use Rattle.quick_cache_lists.proofs.CountLemmas.{PutsItem-from}
 use Rattle.quick_cache_lists.proofs.GatherLemmas.{gather-from}
@@ -226,15 +224,15 @@ module _ {K V P T : Type 0} where
       → o ≡ Some (record { hash = h'; entry = item_variant other }) → item.weight ≡ other.weight
   same_weight o h h' item other is is' = sym (ap weight_at is) ∙ ap weight_at is'
 
-  module _ (slab : LinkedSlab (Slot K V P T)) (index : Index) (hot cold ghosts : Ring) (t : ℕ)
-      (seen : Item K V) (has : IsItemOf (lists_of slab index hot cold ghosts) t seen) where
+  module _ (slab : Pool (Slot K V P T)) (index : Index) (rings : Rings) (t : ℕ)
+      (seen : Item K V) (has : IsItemOf (lists_of slab index rings) t seen) where
     pub item_at-token : item_at slab t ≡ Some (record { hash = has.0; entry = item_variant seen })
-    item_at-token = item_at-held slab index hot cold ghosts
+    item_at-token = item_at-held slab index rings
         (record { token = t; hash = has.0; item = seen }) has.1
 
     -- no placeholder and no ghost has the token
     pub no_placeholder : (hash : ℕ) (awaited : Awaited K P) → IsEntry {T = T}
-        (lists_of slab index hot cold ghosts) t hash (loading_variant awaited) → ⊥
+        (lists_of slab index rings) t hash (loading_variant awaited) → ⊥
     no_placeholder hash awaited stands =
         let found = gather-from (λ u. loading_of u (item_at slab u)) (upto (length slab.slots))
         _ stands in
@@ -243,9 +241,9 @@ module _ {K V P T : Type 0} where
         (named_loading found.0 (item_at slab found.0) _ found.2) ∙ found.2)
 
     pub no_ghost : (hash : ℕ)
-        → IsEntry {T = T} (lists_of slab index hot cold ghosts) t hash ghost_variant → ⊥
+        → IsEntry {T = T} (lists_of slab index rings) t hash ghost_variant → ⊥
     no_ghost hash stands =
-        let found = gather-from (λ u. ghost_of u (item_at slab u)) (tokens_of slab ghosts.head)
+        let found = gather-from (λ u. ghost_of u (item_at slab u)) rings.ghosts.tokens
         _ stands in
         none_of (ghost_of t (item_at slab t)) (ap (ghost_of t) item_at-token)
         (ap (λ u. ghost_of u (item_at slab u))
@@ -253,26 +251,26 @@ module _ {K V P T : Type 0} where
 
   -- ---- it is moved by its weight
 
-  module _ (slab : LinkedSlab (Slot K V P T)) (index : Index) (hot cold ghosts : Ring)
-      (parted : IsParted slab) (standing : IsStanding slab hot cold ghosts) (t : ℕ)
-      (seen : Item K V) (has : IsItemOf (lists_of slab index hot cold ghosts) t seen) where
+  module _ (slab : Pool (Slot K V P T)) (index : Index) (rings : Rings)
+      (standing : IsStanding slab rings) (t : ℕ)
+      (seen : Item K V) (has : IsItemOf (lists_of slab index rings) t seen) where
     abbrev lists : Lists K V P
-    lists = lists_of slab index hot cold ghosts
+    lists = lists_of slab index rings
 
     seen_at : item_at slab t ≡ Some (record { hash = has.0; entry = item_variant seen })
-    seen_at = item_at-token slab index hot cold ghosts t seen has
+    seen_at = item_at-token slab index rings t seen has
 
     module _ (new : Lists K V P) (v w : ℕ) (v_is : v ≡ seen.weight) where
       pub Rewrites-replaced : (item was : Item K V)
           → Replaces {T = T} lists t true (item_variant item) (item_variant was) new
           → w ≡ item.weight → not (beq (v == 0) (w == 0)) ≡ true → Rewrites lists t item was new
       Rewrites-replaced item was replaces w_is differs =
-          let at = item_at-held slab index hot cold ghosts
+          let at = item_at-held slab index rings
           (record { token = t; hash = replaces.hash; item = was }) replaces.taken in
           let weighs = v_is ∙ same_weight _ has.0 replaces.hash seen was seen_at at in
-          Rewrites-moved lists (apart_by slab index hot cold ghosts parted standing) t
+          Rewrites-moved lists (apart_by slab index rings standing) t
           replaces.hash was item
-          (StandsIn-item slab index hot cold ghosts standing t replaces.hash was at) new
+          (StandsIn-item slab index rings standing t replaces.hash was at) new
           (rw (← w_is, ← weighs) (differs_by (v == 0) (w == 0) differs))
           (PutsItem-from {T = T} _ new t replaces.hash item replaces.last) replaces.room
           replaces.next
@@ -282,16 +280,16 @@ module _ {K V P T : Type 0} where
           → not (beq (v == 0) (w == 0)) ≡ true → Reweighs lists t w new
       Reweighs-requeued queue mark queue_is mark_is requeues differs =
           let was = requeues.item in
-          let at = item_at-held slab index hot cold ghosts
+          let at = item_at-held slab index rings
           (record { token = t; hash = requeues.hash; item = was }) requeues.taken in
           let same : seen ≡ was = same_item (item_at slab t) has.0 requeues.hash seen was
           seen_at at in
           let made : requeued queue mark w was ≡ with_weight w was =
           rw (queue_is, mark_is) (ap (λ (i : Item K V). requeued i.queue i.mark w was) same) in (
             was,
-            Rewrites-moved lists (apart_by slab index hot cold ghosts parted standing) t
+            Rewrites-moved lists (apart_by slab index rings standing) t
                 requeues.hash was (with_weight w was)
-                (StandsIn-item slab index hot cold ghosts standing t requeues.hash was at) new
+                (StandsIn-item slab index rings standing t requeues.hash was at) new
                 (rw (← ap (λ (i : Item K V). i.weight) same, ← v_is)
                 (differs_by (v == 0) (w == 0) differs))
                 (subst (λ (i : Item K V). PutsItem (without_entry true t lists) t requeues.hash i new) made
@@ -306,18 +304,18 @@ module _ {K V P T : Type 0} where
   was_seen o slot hash seen was at is old =
       let same : slot ≡ record { hash = hash; entry = item_variant seen } = cc in cc
 
-  module _ (slab : LinkedSlab (Slot K V P T)) (index : Index) (rings : Rings) (loading : ℕ)
-      (sound : IsSound slab index rings loading) (parted : IsParted slab) (t : ℕ)
+  module _ (slab : Pool (Slot K V P T)) (index : Index) (rings : Rings) (loading : ℕ)
+      (sound : IsSound slab index rings loading) (t : ℕ)
       (seen : Item K V)
-      (has : IsItemOf (lists_of slab index rings.hot rings.cold rings.ghosts) t seen) where
+      (has : IsItemOf (lists_of slab index rings) t seen) where
     at : item_at slab t ≡ Some (record { hash = has.0; entry = item_variant seen })
-    at = item_at-token slab index rings.hot rings.cold rings.ghosts t seen has
+    at = item_at-token slab index rings t seen has
 
     pub queue_seen : (queue : Queue)
-        → HasItemOfQueue (lists_of slab index rings.hot rings.cold rings.ghosts) t queue
+        → HasItemOfQueue (lists_of slab index rings) t queue
         → queue ≡ seen.queue
     queue_seen queue of =
-        let found = item_at-held slab index rings.hot rings.cold rings.ghosts
+        let found = item_at-held slab index rings
         (record { token = t; hash = of.1.0; item = of.0 }) of.1.1 in
         sym of.2 ∙ ap (λ (i : Item K V). i.queue)
         (same_item (item_at slab t) of.1.0 has.0 of.0 seen found at)
@@ -329,28 +327,25 @@ module _ {K V P T : Type 0} where
 
       pub can_reweigh-seen : CanReweigh rings v w s
       can_reweigh-seen = subst (λ (u : ℕ). CanReweigh rings u w s) (ap weight_at at ∙ sym v_is)
-          (can_reweigh slab index rings sound.standing sound.keyed parted.once t w light s stands)
+          (can_reweigh slab index rings sound.standing sound.keyed t w light s stands)
 
-      module _ (item : Item K V) (after : Rings) (reweighs : ReweighsRing rings after v w s)
+      module _ (item : Item K V) (after : Rings) (reweighs : after ≡ reweighed v w s rings)
           (w_is : w ≡ item.weight) (queue : item.queue ≡ seen.queue)
           (same : not (beq (v == 0) (w == 0)) ≡ false) where
         heavy : (item.weight == 0) ≡ (seen.weight == 0)
         heavy = rw (← w_is, ← v_is) (same_by (v == 0) (w == 0) same)
 
-        reweighs_item : ReweighsRing rings after seen.weight item.weight s
-        reweighs_item = subst (λ (u : ℕ). ReweighsRing rings after u item.weight s) v_is
-            (subst (λ (u : ℕ). ReweighsRing rings after v u s) w_is reweighs)
+        after_is : after ≡ reweighed seen.weight item.weight s rings
+        after_is = rw (← w_is, ← v_is) reweighs
 
         pub IsSound-written : IsSound (written has.0 item t slab) index after loading
-        IsSound-written = IsSound-reweighed slab t has.0 seen (λ _. item) heavy queue at parted.once
-            (rw (← w_is) light) index rings after loading s stands reweighs_item sound
+        IsSound-written = rw after_is (IsSound-reweighed slab t has.0 seen (λ _. item) heavy queue
+            at (rw (← w_is) light) index rings loading s stands sound)
 
-        pub Rewrites-written : Rewrites
-            (lists_of slab index rings.hot rings.cold rings.ghosts) t item seen
-            (lists_of (written has.0 item t slab) index after.hot after.cold after.ghosts)
-        Rewrites-written = Rewrites-kept (lists_of slab index rings.hot rings.cold rings.ghosts)
-            (apart_by slab index rings.hot rings.cold rings.ghosts parted sound.standing) t has.0
-            seen item (StandsIn-item slab index rings.hot rings.cold rings.ghosts sound.standing t
-            has.0 seen at) _ heavy
-            (lists-reweighed slab t has.0 seen (λ _. item) heavy queue at index rings after s
-            reweighs_item)
+        pub Rewrites-written : Rewrites (lists_of slab index rings) t item seen
+            (lists_of (written has.0 item t slab) index after)
+        Rewrites-written = Rewrites-kept (lists_of slab index rings)
+            (apart_by slab index rings sound.standing) t has.0
+            seen item (StandsIn-item slab index rings sound.standing t has.0 seen at) _ heavy
+            (ap (lists_of (written has.0 item t slab) index) after_is
+            ∙ lists-reweighed slab t has.0 seen (λ _. item) heavy queue at index rings s)

@@ -1,21 +1,21 @@
 -- An entry stands in the list of its stand.
 use Rattle.std.proofs.Common.{◌≡◌, ℕ, ◌<◌, ◌==◌, Bool, true, false, length, Some, refl, sym, subst, arith}
 use Rattle.quick_cache_model.specs.CacheState.{Item, Place, InHot, InCold, InStill, place_of_item}
-use Rattle.quick_cache_slab.specs.LinkedSlab.{LinkedSlab, times, item_at}
+use Rattle.quick_cache_pool.specs.Pool.{Pool, times, item_at}
 use Rattle.quick_cache_index.specs.Index.{Index}
 use Rattle.quick_cache_model.specs.declared.queue.Queue.{Queue}
 use Rattle.quick_cache_model.specs.declared.queue.Queue.TheVariants.{Hot, Cold}
 use Rattle.quick_cache_slots.specs.declared.entry.Entry.TheVariants.{Item as item_variant, Ghost as ghost_variant}
 use Rattle.quick_cache_slots.specs.declared.entry.Slot.{Slot}
-use Rattle.quick_cache_lists.specs.declared.ring.Ring.{Ring}
+use Rattle.quick_cache_rings.specs.Rings.{Rings}
 use Rattle.quick_cache_lists.specs.Lists.{HeldLoading, items_at, StandsIn, HasItem}
 use Rattle.quick_cache_lists.specs.Slots.{item_of, still_of, loading_of, ghost_of}
-use Rattle.quick_cache_lists.specs.Sound.{gather, upto, tokens_of, lists_of, IsStanding}
+use Rattle.quick_cache_lists.specs.Sound.{gather, upto, lists_of, IsStanding}
 use Rattle.quick_cache_lists.proofs.GatherLemmas.{gather-has, times-upto}
 use Rattle.quick_cache_lists.proofs.SlabFrames.{occupied_within}
 
-module _ {K V P T : Type 0} (slab : LinkedSlab (Slot K V P T)) (index : Index)
-    (hot cold ghosts : Ring) (sound : IsStanding slab hot cold ghosts) where
+module _ {K V P T : Type 0} (slab : Pool (Slot K V P T)) (index : Index)
+    (rings : Rings) (sound : IsStanding slab rings) where
   in_upto : (t : ℕ) (slot : Slot K V P T) → item_at slab t ≡ Some slot
       → 0 < times t (upto (length slab.slots))
   in_upto t slot at =
@@ -23,13 +23,13 @@ module _ {K V P T : Type 0} (slab : LinkedSlab (Slot K V P T)) (index : Index)
       omega (arith, times-upto t (length slab.slots) within.0 within.1)
 
   abbrev StandsAt : ℕ → ℕ → Item K V → Place → Type 0
-  StandsAt t hash item p = StandsIn (items_at p (lists_of slab index hot cold ghosts))
+  StandsAt t hash item p = StandsIn (items_at p (lists_of slab index rings))
       (record { token = t; hash = hash; item = item })
 
   -- an item stands where its weight and its queue say
   pub StandsIn-item : (t hash : ℕ) (item : Item K V)
       → item_at slab t ≡ Some (record { hash = hash; entry = item_variant item })
-      → StandsIn (items_at (place_of_item item) (lists_of slab index hot cold ghosts))
+      → StandsIn (items_at (place_of_item item) (lists_of slab index rings))
       (record { token = t; hash = hash; item = item })
   StandsIn-item t hash item at = by_weight (item.weight == 0) refl
     where
@@ -53,7 +53,7 @@ module _ {K V P T : Type 0} (slab : LinkedSlab (Slot K V P T)) (index : Index)
 
   pub HasItem-from : (t hash : ℕ) (item : Item K V)
       → item_at slab t ≡ Some (record { hash = hash; entry = item_variant item })
-      → HasItem (lists_of slab index hot cold ghosts)
+      → HasItem (lists_of slab index rings)
       (record { token = t; hash = hash; item = item })
   HasItem-from t hash item at =
       record { place = place_of_item item; stands = StandsIn-item t hash item at }
@@ -68,7 +68,7 @@ module _ {K V P T : Type 0} (slab : LinkedSlab (Slot K V P T)) (index : Index)
   pub StandsIn-ghosts : (t hash : ℕ)
       → item_at slab t ≡ Some (record { hash = hash; entry = ghost_variant })
       → StandsIn (gather (λ token. ghost_of token (item_at slab token))
-      (tokens_of slab ghosts.head)) (record { token = t; hash = hash })
+      rings.ghosts.tokens) (record { token = t; hash = hash })
   StandsIn-ghosts t hash at =
       gather-has (λ token. ghost_of token (item_at slab token)) _ t _
       (sound.ghost_ring.all t (rw at refl)) (rw at refl)

@@ -2,8 +2,8 @@
 use Rattle.std.proofs.Common.{◌≡◌, ℕ, ◌+◌, List, [], ◌∷◌, ◌++◌, map, refl, sym, ap, ◌∙◌, arith}
 use Rattle.std.proofs.lemmas.List.{map-append, append_assoc}
 use Rattle.quick_cache_model.specs.CacheState.{Item, Place, InHot, InCold, InStill}
-use Rattle.quick_cache_slab.specs.LinkedSlab.{times}
-use Rattle.quick_cache_slab.proofs.TokenCounts.{times-append}
+use Rattle.quick_cache_pool.specs.Pool.{times}
+use Rattle.quick_cache_pool.proofs.TokenCounts.{times-append}
 use Rattle.quick_cache_slots.specs.declared.entry.Awaited.{Awaited}
 use Rattle.quick_cache_slots.specs.declared.entry.Entry.{Entry}
 use Rattle.quick_cache_slots.specs.declared.entry.Entry.TheVariants.{Item as item_variant, Loading as loading_variant, Ghost as ghost_variant}

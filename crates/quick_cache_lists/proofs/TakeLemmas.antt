@@ -1,25 +1,23 @@
 -- The lists once an entry was taken out.
-use Rattle.std.proofs.Common.{◌≡◌, ◌≢◌, ℕ, ◌+◌, ◌==◌, if◌then◌else◌, Bool, true, false, length, Option, Some, None, IsSome, refl, sym, ap, ◌∙◌, inl, inr}
-use Rattle.std.specs.Int.NonZero.{non_zero_u32_get}
-use Rattle.std.specs.declared.num.NonZeroU32.{NonZeroU32 as Token}
+use Rattle.std.proofs.Common.{◌≡◌, ◌≢◌, ◌⊎◌, ℕ, ◌+◌, ◌==◌, if◌then◌else◌, Bool, true, false, length, Option, Some, None, IsSome, refl, sym, ap, ◌∙◌, inl, inr}
 use Rattle.quick_cache_model.specs.CacheState.{Place, InHot, InCold, InStill}
-use Rattle.quick_cache_slab.specs.LinkedSlab.{LinkedSlab, item_at, next_token, IsOccupied, IsNextOf, IsParted}
+use Rattle.quick_cache_pool.specs.Pool.{Pool, item_at, next_token, IsOccupied}
 use Rattle.quick_cache_index.specs.Index.{Index}
 use Rattle.quick_cache_model.specs.declared.queue.Queue.{Queue}
 use Rattle.quick_cache_model.specs.declared.queue.Queue.TheVariants.{Hot, Cold}
+use Rattle.quick_cache_rings.specs.Rings.{Ring, Rings, IsLeft, LeavesRingOf}
 use Rattle.quick_cache_slots.specs.declared.entry.Entry.{Entry}
 use Rattle.quick_cache_slots.specs.declared.entry.Entry.TheVariants.{Item as item_variant, Loading as loading_variant, Ghost as ghost_variant}
 use Rattle.quick_cache_slots.specs.declared.entry.Slot.{Slot}
-use Rattle.quick_cache_lists.specs.declared.ring.Ring.{Ring}
-use Rattle.quick_cache_lists.specs.Frames.{IsRemoved, IsLeft}
-use Rattle.quick_cache_lists.specs.Lists.{HeldItem, HeldLoading, HeldGhost, items_at, StandsIn, HasEntry, IsEntry, dropped, left_by, without_entry}
+use Rattle.quick_cache_lists.specs.Frames.{IsRemoved}
+use Rattle.quick_cache_lists.specs.Lists.{HeldItem, HeldLoading, HeldGhost, items_at, StandsIn, HasEntry, IsEntry, left_by, without_entry}
 use Rattle.quick_cache_lists.specs.Slots.{Stand, AmongHot, AmongCold, AmongStill, AmongLoading, AmongGhosts, ring_stand, stand_of, weight_at, item_of, still_of, loading_of, ghost_of}
-use Rattle.quick_cache_lists.specs.Sound.{gather, upto, tokens_of, lists_of, room_of, IsRingOf, IsStanding}
+use Rattle.quick_cache_lists.specs.Sound.{gather, upto, lists_of, room_of, IsRingOf, IsStanding}
 use Rattle.quick_cache_lists.proofs.GatherLemmas.{gather-from}
 use Rattle.quick_cache_lists.proofs.FindLemmas.{held_still}
 use Rattle.quick_cache_lists.proofs.StandLemmas.{HasItem-from, StandsIn-loading, StandsIn-ghosts}
-use Rattle.quick_cache_lists.proofs.SoundLemmas.{out_of_ring}
-use Rattle.quick_cache_lists.proofs.RemoveLemmas.{LeavesRing, LeavesRing-by, IsRingOf-left, IsRingOf-removed, AreAlone-removed, tokens-removed, view-dropped, view-other, view-left}
+use Rattle.quick_cache_lists.proofs.SoundLemmas.{out_of_ring, vacant-stand, IsRingOf-left}
+use Rattle.quick_cache_lists.proofs.RemoveLemmas.{IsRingOf-removed, view-dropped, view-other, view-left}
 
 -- no item stands among the ghosts
 pub not_ghosts : (weightless : Bool) (queue : Queue)
@@ -110,8 +108,8 @@ module _ {K V P T : Type 0} where
       by_entry hash (loading_variant awaited) e = absurd (cc)
       by_entry hash ghost_variant e = (record { token = t; hash = hash }, refl)
 
-  module _ (slab : LinkedSlab (Slot K V P T)) (index : Index) (hot cold ghosts : Ring) where
-    pub occupied_by_entry : (t : ℕ) → HasEntry (lists_of slab index hot cold ghosts) t
+  module _ (slab : Pool (Slot K V P T)) (index : Index) (rings : Rings) where
+    pub occupied_by_entry : (t : ℕ) → HasEntry (lists_of slab index rings) t
         → IsOccupied slab t
     occupied_by_entry t has = elim has [
       | inl item ↦ by_item item.0 item.1.place item.1.stands item.2
@@ -123,7 +121,7 @@ module _ {K V P T : Type 0} where
             (shown_some loading_of (λ u. refl) at.0 (item_at slab at.0) loading.0 at.2)
         | inr ghost ↦
             let at = gather-from (λ u. ghost_of u (item_at slab u))
-            (tokens_of slab ghosts.head) ghost.0 ghost.1 in
+            rings.ghosts.tokens ghost.0 ghost.1 in
             occupied at.0 (sym (named_ghost at.0 (item_at slab at.0) ghost.0 at.2) ∙ ghost.2)
             (shown_some ghost_of (λ u. refl) at.0 (item_at slab at.0) ghost.0 at.2)
       ]
@@ -133,16 +131,16 @@ module _ {K V P T : Type 0} where
         occupied u same there = rw same at there
 
         by_item : (held : HeldItem K V) (place : Place)
-            → StandsIn (items_at place (lists_of slab index hot cold ghosts)) held → held.token ≡ t
+            → StandsIn (items_at place (lists_of slab index rings)) held → held.token ≡ t
             → IsOccupied slab t
         by_item held InHot there e =
             let at = gather-from (λ u. item_of u (item_at slab u))
-            (tokens_of slab hot.head) held there in
+            rings.hot.tokens held there in
             occupied at.0 (sym (named_item at.0 (item_at slab at.0) held at.2) ∙ e)
             (shown_some item_of (λ u. refl) at.0 (item_at slab at.0) held at.2)
         by_item held InCold there e =
             let at = gather-from (λ u. item_of u (item_at slab u))
-            (tokens_of slab cold.head) held there in
+            rings.cold.tokens held there in
             occupied at.0 (sym (named_item at.0 (item_at slab at.0) held at.2) ∙ e)
             (shown_some item_of (λ u. refl) at.0 (item_at slab at.0) held at.2)
         by_item held InStill there e =
@@ -151,236 +149,158 @@ module _ {K V P T : Type 0} where
             occupied at.0 (sym (named_still at.0 (item_at slab at.0) held at.2) ∙ e)
             (shown_some still_of (λ u. refl) at.0 (item_at slab at.0) held at.2)
 
-    pub IsEntry-from : (sound : IsStanding slab hot cold ghosts) (t : ℕ) (slot : Slot K V P T)
+    pub IsEntry-from : (sound : IsStanding slab rings) (t : ℕ) (slot : Slot K V P T)
         → item_at slab t ≡ Some slot → IsEntry
-        (lists_of slab index hot cold ghosts) t slot.hash slot.entry
+        (lists_of slab index rings) t slot.hash slot.entry
     IsEntry-from sound t slot at = by_entry slot.hash slot.entry at
       where
         by_entry : (hash : ℕ) (entry : Entry K V P T)
             → item_at slab t ≡ Some (record { hash = hash; entry = entry })
-            → IsEntry (lists_of slab index hot cold ghosts) t hash entry
+            → IsEntry (lists_of slab index rings) t hash entry
         by_entry hash (item_variant item) is =
-            HasItem-from slab index hot cold ghosts sound t hash item is
+            HasItem-from slab index rings sound t hash item is
         by_entry hash (loading_variant awaited) is =
-            StandsIn-loading slab index hot cold ghosts sound t _ _ is refl
-        by_entry hash ghost_variant is = StandsIn-ghosts slab index hot cold ghosts sound t hash is
+            StandsIn-loading slab index rings sound t _ _ is refl
+        by_entry hash ghost_variant is = StandsIn-ghosts slab index rings sound t hash is
 
-  module _ (old new : LinkedSlab (Slot K V P T)) (told tnew : Index) (token : Token)
-      (next : Option Token) (restarts : Bool) (hot cold ghosts left : Ring)
-      (sound : IsStanding old hot cold ghosts) (parted : IsParted old)
-      (removed : IsRemoved old new (non_zero_u32_get token))
-      (is_next : IsNextOf old (non_zero_u32_get token) next)
-      (room : room_of new tnew ≡ room_of old told + 1) where
-    t : ℕ
-    t = non_zero_u32_get token
+  -- ---- an entry left its list, and its ring, if it stood in one
 
-    differs : (s r : Stand) → stand_of (item_at old (non_zero_u32_get token)) ≡ Some s → s ≢ r
-        → stand_of (item_at old (non_zero_u32_get token)) ≢ Some r
+  module _ (old new : Pool (Slot K V P T)) (told tnew : Index) (t : ℕ) (restarts : Bool)
+      (rings left : Rings) (w : ℕ) (standing : IsStanding old rings)
+      (removed : IsRemoved old new t) (weighs : w ≡ weight_at (item_at old t)) where
+    -- the token left the ring, or never was in it
+    abbrev RingGoes : (ring after : Ring) → Stand → Type 0
+    RingGoes ring after r =
+        ((stand_of (item_at old t) ≡ Some r) × IsLeft ring after t restarts w)
+        ⊎ ((stand_of (item_at old t) ≢ Some r) × (after ≡ ring))
+
+    differs : (s r : Stand) → stand_of (item_at old t) ≡ Some s → s ≢ r
+        → stand_of (item_at old t) ≢ Some r
     differs s r is off same = off (some-same s r (sym is ∙ same))
       where
         some-same : (a b : Stand) → Some a ≡ Some b → a ≡ b
         some-same a b e = cc
 
-    next_is : next_token new ≡ non_zero_u32_get token
-    next_is = rw removed.free refl
+    stays : (ring after : Ring) (s r : Stand) → stand_of (item_at old t) ≡ Some s → s ≢ r
+        → after ≡ ring → RingGoes ring after r
+    stays ring after s r is off same = inr (differs s r is off, same)
 
-    slots_same : upto (length new.slots) ≡ upto (length old.slots)
-    slots_same = ap upto removed.long
+    record RingsGo : Type 0 where
+      hot : RingGoes rings.hot left.hot AmongHot
+      cold : RingGoes rings.cold left.cold AmongCold
+      ghosts : RingGoes rings.ghosts left.ghosts AmongGhosts
+      capacity : left.capacity ≡ rings.capacity
 
-    still_is : gather (λ u. still_of u (item_at new u)) (upto (length new.slots))
-        ≡ dropped (λ h. h.token) (non_zero_u32_get token)
-        (gather (λ u. still_of u (item_at old u)) (upto (length old.slots)))
-    still_is = view-dropped old new (non_zero_u32_get token) removed still_of (λ u. refl)
-        (λ h. h.token) named_still _ _ slots_same
+    rings_go : (s : Stand) → stand_of (item_at old t) ≡ Some s
+        → LeavesRingOf rings left t restarts w s → RingsGo
+    rings_go AmongHot is leaves = record {
+      hot = inl (is, leaves.0);
+      cold = stays rings.cold left.cold AmongHot AmongCold is (λ e. cc)
+          (ap (λ (r : Rings). r.cold) leaves.1);
+      ghosts = stays rings.ghosts left.ghosts AmongHot AmongGhosts is (λ e. cc)
+          (ap (λ (r : Rings). r.ghosts) leaves.1);
+      capacity = ap (λ (r : Rings). r.capacity) leaves.1;
+    }
+    rings_go AmongCold is leaves = record {
+      hot = stays rings.hot left.hot AmongCold AmongHot is (λ e. cc)
+          (ap (λ (r : Rings). r.hot) leaves.1);
+      cold = inl (is, leaves.0);
+      ghosts = stays rings.ghosts left.ghosts AmongCold AmongGhosts is (λ e. cc)
+          (ap (λ (r : Rings). r.ghosts) leaves.1);
+      capacity = ap (λ (r : Rings). r.capacity) leaves.1;
+    }
+    rings_go AmongGhosts is leaves = record {
+      hot = stays rings.hot left.hot AmongGhosts AmongHot is (λ e. cc)
+          (ap (λ (r : Rings). r.hot) leaves.1);
+      cold = stays rings.cold left.cold AmongGhosts AmongCold is (λ e. cc)
+          (ap (λ (r : Rings). r.cold) leaves.1);
+      ghosts = inl (is, leaves.0);
+      capacity = ap (λ (r : Rings). r.capacity) leaves.1;
+    }
+    rings_go AmongStill is leaves = record {
+      hot = stays rings.hot left.hot AmongStill AmongHot is (λ e. cc)
+          (ap (λ (r : Rings). r.hot) leaves);
+      cold = stays rings.cold left.cold AmongStill AmongCold is (λ e. cc)
+          (ap (λ (r : Rings). r.cold) leaves);
+      ghosts = stays rings.ghosts left.ghosts AmongStill AmongGhosts is (λ e. cc)
+          (ap (λ (r : Rings). r.ghosts) leaves);
+      capacity = ap (λ (r : Rings). r.capacity) leaves;
+    }
+    rings_go AmongLoading is leaves = record {
+      hot = stays rings.hot left.hot AmongLoading AmongHot is (λ e. cc)
+          (ap (λ (r : Rings). r.hot) leaves);
+      cold = stays rings.cold left.cold AmongLoading AmongCold is (λ e. cc)
+          (ap (λ (r : Rings). r.cold) leaves);
+      ghosts = stays rings.ghosts left.ghosts AmongLoading AmongGhosts is (λ e. cc)
+          (ap (λ (r : Rings). r.ghosts) leaves);
+      capacity = ap (λ (r : Rings). r.capacity) leaves;
+    }
 
-    loading_is : gather (λ u. loading_of u (item_at new u)) (upto (length new.slots))
-        ≡ dropped (λ w. w.token) (non_zero_u32_get token)
-        (gather (λ u. loading_of u (item_at old u)) (upto (length old.slots)))
-    loading_is = view-dropped old new (non_zero_u32_get token) removed loading_of (λ u. refl)
-        (λ w. w.token) named_loading _ _ slots_same
+    IsRingOf-gone : (ring after : Ring) (r : Stand) → RingGoes ring after r → IsRingOf old ring r
+        → IsRingOf new after r
+    IsRingOf-gone ring after r goes is = elim goes [
+      | inl leaves ↦ IsRingOf-left old new t removed.others ring after r restarts w
+          (vacant-stand new t r removed.here) weighs is leaves.1
+      | inr stayed ↦ rw stayed.1 (IsRingOf-removed old new t removed ring r is stayed.0)
+    ]
 
-    held_other : (ring : Ring) (r : Stand) → IsRingOf old ring r
-        → stand_of (item_at old (non_zero_u32_get token)) ≢ Some r
-        → gather (λ u. item_of u (item_at new u)) (tokens_of new ring.head)
-        ≡ left_by restarts (λ h. h.token) (non_zero_u32_get token)
-        (gather (λ u. item_of u (item_at old u)) (tokens_of old ring.head))
-    held_other ring r is off = view-other old new (non_zero_u32_get token) removed item_of
-        (λ u. refl) (λ h. h.token) named_item restarts _ _
-        (tokens-removed old new (non_zero_u32_get token) removed ring r is off)
-        (out_of_ring old ring r (non_zero_u32_get token) is off)
+    held-gone : (ring after : Ring) (r : Stand) → r ≢ AmongLoading → r ≢ AmongGhosts
+        → RingGoes ring after r → IsRingOf old ring r
+        → gather (λ u. item_of u (item_at new u)) after.tokens
+        ≡ left_by restarts (λ h. h.token) t (gather (λ u. item_of u (item_at old u)) ring.tokens)
+    held-gone ring after r off off' goes is = elim goes [
+      | inl leaves ↦
+          let held = is_held t (item_at old t) r off off' leaves.0 in
+          view-left old new t removed item_of (λ u. refl) (λ h. h.token) named_item ring after
+          restarts w held.0 held.1 (is.once t) leaves.1
+      | inr stayed ↦ rw stayed.1 (view-other old new t removed item_of (λ u. refl) (λ h. h.token)
+          named_item restarts ring.tokens (out_of_ring old ring r t is stayed.0))
+    ]
 
-    shade_other : stand_of (item_at old (non_zero_u32_get token)) ≢ Some AmongGhosts
-        → gather (λ u. ghost_of u (item_at new u)) (tokens_of new ghosts.head)
-        ≡ left_by restarts (λ h. h.token) (non_zero_u32_get token)
-        (gather (λ u. ghost_of u (item_at old u)) (tokens_of old ghosts.head))
-    shade_other off = view-other old new (non_zero_u32_get token) removed ghost_of (λ u. refl)
-        (λ h. h.token) named_ghost restarts _ _
-        (tokens-removed old new (non_zero_u32_get token) removed ghosts AmongGhosts sound.ghost_ring
-        off) (out_of_ring old ghosts AmongGhosts (non_zero_u32_get token) sound.ghost_ring off)
+    shade-gone : (ring after : Ring) → RingGoes ring after AmongGhosts
+        → IsRingOf old ring AmongGhosts
+        → gather (λ u. ghost_of u (item_at new u)) after.tokens
+        ≡ left_by restarts (λ h. h.token) t (gather (λ u. ghost_of u (item_at old u)) ring.tokens)
+    shade-gone ring after goes is = elim goes [
+      | inl leaves ↦
+          let shade = is_ghost_entry t (item_at old t) leaves.0 in
+          view-left old new t removed ghost_of (λ u. refl) (λ h. h.token) named_ghost ring after
+          restarts w shade.0 shade.1 (is.once t) leaves.1
+      | inr stayed ↦ rw stayed.1 (view-other old new t removed ghost_of (λ u. refl) (λ h. h.token)
+          named_ghost restarts ring.tokens (out_of_ring old ring AmongGhosts t is stayed.0))
+    ]
 
-    leaves : (ring : Ring) (s : Stand) → IsRingOf old ring s
-        → stand_of (item_at old (non_zero_u32_get token)) ≡ Some s
-        → IsLeft ring left token next restarts (weight_at (item_at old (non_zero_u32_get token)))
-        → LeavesRing old new (non_zero_u32_get token) removed ring left s restarts
-    leaves ring s is stands gone =
-        LeavesRing-by old new (non_zero_u32_get token) removed token refl ring left s next restarts
-        _ parted is stands is_next gone
+    module _ (s : Stand) (stands : stand_of (item_at old t) ≡ Some s)
+        (leaves : LeavesRingOf rings left t restarts w s) where
+      pub capacity-taken : left.capacity ≡ rings.capacity
+      capacity-taken = (rings_go s stands leaves).capacity
 
-    -- ---- from the hot ring
-
-    module _ (stands : stand_of (item_at old (non_zero_u32_get token)) ≡ Some AmongHot)
-        (gone : IsLeft hot left token next restarts
-        (weight_at (item_at old (non_zero_u32_get token)))) where
-      pub IsStanding-taken_hot : IsStanding new left cold ghosts
-      IsStanding-taken_hot = record {
-        hot_ring = IsRingOf-left old new
-            (non_zero_u32_get token) removed token hot left AmongHot next restarts sound.hot_ring
-            gone (leaves hot AmongHot sound.hot_ring stands gone);
-        cold_ring = IsRingOf-removed old new
-            (non_zero_u32_get token) removed cold AmongCold sound.cold_ring
-            (differs AmongHot AmongCold stands (λ e. cc));
-        ghost_ring = IsRingOf-removed old new
-            (non_zero_u32_get token) removed ghosts AmongGhosts sound.ghost_ring
-            (differs AmongHot AmongGhosts stands (λ e. cc));
-        still = AreAlone-removed old new (non_zero_u32_get token) removed AmongStill sound.still;
-        loading = AreAlone-removed old new
-            (non_zero_u32_get token) removed AmongLoading sound.loading;
-      }
-
-      pub lists-taken_hot : lists_of new tnew left cold ghosts
-          ≡ without_entry restarts (non_zero_u32_get token) (lists_of old told hot cold ghosts)
-      lists-taken_hot =
-          let held = is_held (non_zero_u32_get token)
-          (item_at old (non_zero_u32_get token)) AmongHot (λ e. cc) (λ e. cc) stands in
-          let hot_is = view-left old new (non_zero_u32_get token) removed item_of (λ u. refl)
-          (λ h. h.token) named_item hot left AmongHot restarts held.0 held.1
-          (leaves hot AmongHot sound.hot_ring stands gone) in
-          let cold_is = held_other cold AmongCold sound.cold_ring
-          (differs AmongHot AmongCold stands (λ e. cc)) in
-          let ghosts_is = shade_other (differs AmongHot AmongGhosts stands (λ e. cc)) in
-          λ i. record {
-            hot = hot_is i;
-            cold = cold_is i;
-            still = still_is i;
-            loading = loading_is i;
-            ghosts = ghosts_is i;
-            next = next_is i;
-            room = room i;
+      pub IsStanding-taken : IsStanding new left
+      IsStanding-taken =
+          let go = rings_go s stands leaves in
+          record {
+            hot_ring = IsRingOf-gone rings.hot left.hot AmongHot go.hot standing.hot_ring;
+            cold_ring = IsRingOf-gone rings.cold left.cold AmongCold go.cold standing.cold_ring;
+            ghost_ring = IsRingOf-gone rings.ghosts left.ghosts AmongGhosts go.ghosts
+                standing.ghost_ring;
           }
 
-    -- ---- from the cold ring
-
-    module _ (stands : stand_of (item_at old (non_zero_u32_get token)) ≡ Some AmongCold)
-        (gone : IsLeft cold left token next restarts
-        (weight_at (item_at old (non_zero_u32_get token)))) where
-      pub IsStanding-taken_cold : IsStanding new hot left ghosts
-      IsStanding-taken_cold = record {
-        hot_ring = IsRingOf-removed old new
-            (non_zero_u32_get token) removed hot AmongHot sound.hot_ring
-            (differs AmongCold AmongHot stands (λ e. cc));
-        cold_ring = IsRingOf-left old new
-            (non_zero_u32_get token) removed token cold left AmongCold next restarts sound.cold_ring
-            gone (leaves cold AmongCold sound.cold_ring stands gone);
-        ghost_ring = IsRingOf-removed old new
-            (non_zero_u32_get token) removed ghosts AmongGhosts sound.ghost_ring
-            (differs AmongCold AmongGhosts stands (λ e. cc));
-        still = AreAlone-removed old new (non_zero_u32_get token) removed AmongStill sound.still;
-        loading = AreAlone-removed old new
-            (non_zero_u32_get token) removed AmongLoading sound.loading;
-      }
-
-      pub lists-taken_cold : lists_of new tnew hot left ghosts
-          ≡ without_entry restarts (non_zero_u32_get token) (lists_of old told hot cold ghosts)
-      lists-taken_cold =
-          let held = is_held (non_zero_u32_get token)
-          (item_at old (non_zero_u32_get token)) AmongCold (λ e. cc) (λ e. cc) stands in
-          let hot_is = held_other hot AmongHot sound.hot_ring
-          (differs AmongCold AmongHot stands (λ e. cc)) in
-          let cold_is = view-left old new (non_zero_u32_get token) removed item_of (λ u. refl)
-          (λ h. h.token) named_item cold left AmongCold restarts held.0 held.1
-          (leaves cold AmongCold sound.cold_ring stands gone) in
-          let ghosts_is = shade_other (differs AmongCold AmongGhosts stands (λ e. cc)) in
-          λ i. record {
-            hot = hot_is i;
-            cold = cold_is i;
-            still = still_is i;
-            loading = loading_is i;
-            ghosts = ghosts_is i;
-            next = next_is i;
-            room = room i;
-          }
-
-    -- ---- from the ghosts
-
-    module _ (stands : stand_of (item_at old (non_zero_u32_get token)) ≡ Some AmongGhosts)
-        (gone : IsLeft ghosts left token next restarts
-        (weight_at (item_at old (non_zero_u32_get token)))) where
-      pub IsStanding-taken_ghosts : IsStanding new hot cold left
-      IsStanding-taken_ghosts = record {
-        hot_ring = IsRingOf-removed old new
-            (non_zero_u32_get token) removed hot AmongHot sound.hot_ring
-            (differs AmongGhosts AmongHot stands (λ e. cc));
-        cold_ring = IsRingOf-removed old new
-            (non_zero_u32_get token) removed cold AmongCold sound.cold_ring
-            (differs AmongGhosts AmongCold stands (λ e. cc));
-        ghost_ring = IsRingOf-left old new
-            (non_zero_u32_get token) removed token ghosts left AmongGhosts next restarts
-            sound.ghost_ring gone (leaves ghosts AmongGhosts sound.ghost_ring stands gone);
-        still = AreAlone-removed old new (non_zero_u32_get token) removed AmongStill sound.still;
-        loading = AreAlone-removed old new
-            (non_zero_u32_get token) removed AmongLoading sound.loading;
-      }
-
-      pub lists-taken_ghosts : lists_of new tnew hot cold left
-          ≡ without_entry restarts (non_zero_u32_get token) (lists_of old told hot cold ghosts)
-      lists-taken_ghosts =
-          let shade = is_ghost_entry (non_zero_u32_get token)
-          (item_at old (non_zero_u32_get token)) stands in
-          let hot_is = held_other hot AmongHot sound.hot_ring
-          (differs AmongGhosts AmongHot stands (λ e. cc)) in
-          let cold_is = held_other cold AmongCold sound.cold_ring
-          (differs AmongGhosts AmongCold stands (λ e. cc)) in
-          let ghosts_is = view-left old new (non_zero_u32_get token) removed ghost_of (λ u. refl)
-          (λ h. h.token) named_ghost ghosts left AmongGhosts restarts shade.0 shade.1
-          (leaves ghosts AmongGhosts sound.ghost_ring stands gone) in
-          λ i. record {
-            hot = hot_is i;
-            cold = cold_is i;
-            still = still_is i;
-            loading = loading_is i;
-            ghosts = ghosts_is i;
-            next = next_is i;
-            room = room i;
-          }
-
-    -- ---- from beside the rings
-
-    module _ (s : Stand) (off_hot : s ≢ AmongHot) (off_cold : s ≢ AmongCold)
-        (off_ghosts : s ≢ AmongGhosts)
-        (stands : stand_of (item_at old (non_zero_u32_get token)) ≡ Some s) where
-      pub IsStanding-taken_beside : IsStanding new hot cold ghosts
-      IsStanding-taken_beside = record {
-        hot_ring = IsRingOf-removed old new
-            (non_zero_u32_get token) removed hot AmongHot sound.hot_ring
-            (differs s AmongHot stands off_hot);
-        cold_ring = IsRingOf-removed old new
-            (non_zero_u32_get token) removed cold AmongCold sound.cold_ring
-            (differs s AmongCold stands off_cold);
-        ghost_ring = IsRingOf-removed old new
-            (non_zero_u32_get token) removed ghosts AmongGhosts sound.ghost_ring
-            (differs s AmongGhosts stands off_ghosts);
-        still = AreAlone-removed old new (non_zero_u32_get token) removed AmongStill sound.still;
-        loading = AreAlone-removed old new
-            (non_zero_u32_get token) removed AmongLoading sound.loading;
-      }
-
-      pub lists-taken_beside : lists_of new tnew hot cold ghosts
-          ≡ without_entry restarts (non_zero_u32_get token) (lists_of old told hot cold ghosts)
-      lists-taken_beside =
-          let hot_is = held_other hot AmongHot sound.hot_ring (differs s AmongHot stands off_hot) in
-          let cold_is = held_other cold AmongCold sound.cold_ring
-          (differs s AmongCold stands off_cold) in
-          let ghosts_is = shade_other (differs s AmongGhosts stands off_ghosts) in
+      pub lists-taken : room_of new tnew left ≡ room_of old told rings + 1
+          → lists_of new tnew left ≡ without_entry restarts t (lists_of old told rings)
+      lists-taken room =
+          let go = rings_go s stands leaves in
+          let hot_is = held-gone rings.hot left.hot AmongHot (λ e. cc) (λ e. cc) go.hot
+          standing.hot_ring in
+          let cold_is = held-gone rings.cold left.cold AmongCold (λ e. cc) (λ e. cc) go.cold
+          standing.cold_ring in
+          let ghosts_is = shade-gone rings.ghosts left.ghosts go.ghosts standing.ghost_ring in
+          let slots_same : upto (length new.slots) ≡ upto (length old.slots) =
+          ap upto removed.long in
+          let still_is = view-dropped old new t removed still_of (λ u. refl) (λ h. h.token)
+          named_still _ _ slots_same in
+          let loading_is = view-dropped old new t removed loading_of (λ u. refl) (λ w. w.token)
+          named_loading _ _ slots_same in
+          let next_is : next_token new ≡ t = rw removed.free refl in
           λ i. record {
             hot = hot_is i;
             cold = cold_is i;

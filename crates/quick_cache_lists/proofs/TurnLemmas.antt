@@ -1,192 +1,128 @@
--- A ring that begins one further on.
-use Rattle.std.proofs.Common.{◌≡◌, ◌≢◌, ℕ, ◌<◌, List, [], ◌∷◌, ◌++◌, sum_by, length, Option, Some, None, IfSome, MatchOption, refl, sym, ap, ◌∙◌, arith}
-use Rattle.std.specs.Int.NonZero.{non_zero_u32_get}
+-- The first of a ring, a ring that begins one further on, and what a ring counts.
+use Rattle.std.proofs.Common.{◌≡◌, ◌≢◌, ℕ, ◌<◌, ◌≤◌, List, [], ◌∷◌, ◌++◌, sum_by, length, Option, Some, None, MatchOption, refl, sym, ap, ◌∙◌, arith}
+use Rattle.std.specs.Int.NonZero.{non_zero_u32_get as number}
 use Rattle.std.specs.declared.num.NonZeroU32.{NonZeroU32 as Token}
-use Rattle.std.proofs.lemmas.Bool.{eq-eqb}
 use Rattle.std.proofs.lemmas.List.{length_push}
-use Rattle.quick_cache_slab.specs.LinkedSlab.{LinkedSlab, first_or, times, item_at, ring_from, successor, IsParted}
-use Rattle.quick_cache_slab.proofs.TokenCounts.{times-here, times-append, without_none}
+use Rattle.quick_cache_model.specs.Sequences.{times}
+use Rattle.quick_cache_pool.specs.Pool.{Pool, item_at}
+use Rattle.quick_cache_pool.proofs.TokenCounts.{times-here, times-append}
+use Rattle.quick_cache_queue.specs.Queues.{StandsAt}
+use Rattle.quick_cache_rings.specs.Rings.{Ring, Rings, ring_of, one_further, rings_turned, AreWithin}
 use Rattle.quick_cache_slots.specs.declared.entry.Entry.{Entry}
 use Rattle.quick_cache_slots.specs.declared.entry.Entry.TheVariants.{Item as item_variant, Loading as loading_variant, Ghost as ghost_variant}
 use Rattle.quick_cache_slots.specs.declared.entry.Slot.{Slot}
-use Rattle.quick_cache_lists.specs.declared.ring.Ring.{Ring}
-use Rattle.quick_cache_lists.specs.declared.rings.Rings.{Rings}
+use Rattle.quick_cache_model.specs.declared.queue.Queue.{Queue}
 use Rattle.quick_cache_model.specs.declared.queue.Queue.TheVariants.{Hot, Cold}
-use Rattle.quick_cache_index.specs.Index.{Index}
-use Rattle.quick_cache_lists.specs.Frames.{IsTurned}
-use Rattle.quick_cache_lists.specs.Lists.{HeldItem, Lists, IsFirstOf, turned, ring_turned}
-use Rattle.quick_cache_lists.specs.Slots.{Stand, AmongHot, AmongCold, AmongLoading, AmongGhosts, stand_of, weight_at, item_of, ghost_of}
-use Rattle.quick_cache_lists.specs.Sound.{weigh, gather, tokens_of, lists_of, IsRingOf, IsSound}
+use Rattle.quick_cache_index.specs.Index.{Index, token_count}
+use Rattle.quick_cache_model.specs.CacheState.{ring_place}
+use Rattle.quick_cache_lists.specs.Lists.{HeldItem, HeldGhost, Lists, IsFirstOf, turned, ring_turned, items_at}
+use Rattle.quick_cache_lists.specs.Views.{items_of}
+use Rattle.quick_cache_lists.specs.Slots.{Stand, AmongHot, AmongCold, AmongLoading, AmongGhosts, ring_stand, weight_at, item_of, ghost_of}
+use Rattle.quick_cache_lists.specs.Sound.{weigh, put, gather, lists_of, IsRingOf, IsStanding, IsSound}
 use Rattle.quick_cache_lists.proofs.GatherLemmas.{gather-append, length-gather, weigh-append, weigh-gather}
-use Rattle.quick_cache_lists.proofs.SoundLemmas.{stand-some}
-use Rattle.quick_cache_lists.proofs.TakeLemmas.{is_held, is_ghost_entry, named_item}
+use Rattle.quick_cache_lists.proofs.TakeLemmas.{is_held, is_ghost_entry, named_item, named_ghost}
 
-module _ {K V P T : Type 0} (slab : LinkedSlab (Slot K V P T)) (parted : IsParted slab) where
+module _ {K V P T : Type 0} (slab : Pool (Slot K V P T)) where
   -- ---- the first
 
-  pub IsFirstOf-by : {Y : Type 0} (shows : ℕ → Option Y) (name : Y → ℕ) (s : Stand)
-      (head : Option Token) → IfSome head
-      (λ h. stand_of (item_at slab (non_zero_u32_get h)) ≡ Some s)
-      → ((u : ℕ) → stand_of (item_at slab u) ≡ Some s → (y : Y) × (shows u ≡ Some y) × (name y ≡ u))
-      → IsFirstOf name (gather shows (tokens_of slab head)) head
-  IsFirstOf-by shows name s None headed is = refl
-  IsFirstOf-by shows name s (Some h) headed is =
-      let begins = parted.begins (non_zero_u32_get h)
-      (stand-some (item_at slab (non_zero_u32_get h)) s headed) in
-      let shown = is (non_zero_u32_get h) headed in
-      (shown.0, gather shows begins.0, rw (begins.1, shown.1) refl, shown.2)
+  -- what a queue tells of its first token is so of what stands at its tokens
+  first_of : {Y : Type 0} (shows : ℕ → Option Y) (name : Y → ℕ) (tokens : List ℕ)
+      → ((u : ℕ) → 0 < times u tokens → (y : Y) × (shows u ≡ Some y) × (name y ≡ u))
+      → (first : Option Token)
+      → MatchOption first (tokens ≡ []) (λ token. StandsAt tokens 0 (number token))
+      → IsFirstOf name (gather shows tokens) first
+  first_of shows name tokens each None none = ap (gather shows) none
+  first_of shows name tokens each (Some token) stands = by_list tokens each stands
+    where
+      by_before : (before after : List ℕ) → length before ≡ 0
+          → before ++ number token ∷ after ≡ number token ∷ after
+      by_before [] after none = refl
+      by_before (x ∷ xs) after none = absurd (omega (arith, none))
+
+      by_list : (xs : List ℕ)
+          → ((u : ℕ) → 0 < times u xs → (y : _) × (shows u ≡ Some y) × (name y ≡ u))
+          → StandsAt xs 0 (number token) → IsFirstOf name (gather shows xs) (Some token)
+      by_list xs each s =
+          let is : xs ≡ number token ∷ s.after =
+          s.split ∙ by_before s.before s.after s.far in
+          let shown = each (number token)
+          (omega (arith, ap (times (number token)) is, times-here (number token) s.after)) in (
+            shown.0,
+            gather shows s.after,
+            ap (gather shows) is ∙ ap (λ o. put o (gather shows s.after)) shown.1,
+            shown.2,
+          )
 
   pub IsFirstOf-held : (ring : Ring) (s : Stand) → s ≢ AmongLoading → s ≢ AmongGhosts
-      → IsRingOf slab ring s → IsFirstOf (λ held. held.token)
-      (gather (λ u. item_of u (item_at slab u)) (tokens_of slab ring.head)) ring.head
-  IsFirstOf-held ring s off off' is =
-      IsFirstOf-by (λ u. item_of u (item_at slab u)) (λ held. held.token) s ring.head is.headed
-      (λ u stands.
-      let held = is_held u (item_at slab u) s off off' stands in
-      (held.0, held.1, named_item u (item_at slab u) held.0 held.1))
+      → IsRingOf slab ring s → (first : Option Token)
+      → MatchOption first (ring.tokens ≡ []) (λ token. StandsAt ring.tokens 0 (number token))
+      → IsFirstOf (λ held. held.token)
+      (gather (λ u. item_of u (item_at slab u)) ring.tokens) first
+  IsFirstOf-held ring s off off' is first at =
+      first_of (λ u. item_of u (item_at slab u)) (λ held. held.token) ring.tokens
+      (λ u some.
+      let held = is_held u (item_at slab u) s off off' (is.members u some) in
+      (held.0, held.1, named_item u (item_at slab u) held.0 held.1)) first at
+
+  pub IsFirstOf-ghosts : (ring : Ring) → IsRingOf slab ring AmongGhosts → (first : Option Token)
+      → MatchOption first (ring.tokens ≡ []) (λ token. StandsAt ring.tokens 0 (number token))
+      → IsFirstOf (λ shade. shade.token)
+      (gather (λ u. ghost_of u (item_at slab u)) ring.tokens) first
+  IsFirstOf-ghosts ring is first at =
+      first_of (λ u. ghost_of u (item_at slab u)) (λ (shade : HeldGhost). shade.token) ring.tokens
+      (λ u some.
+      let shade = is_ghost_entry u (item_at slab u) (is.members u some) in
+      (shade.0, shade.1, named_ghost u (item_at slab u) shade.0 shade.1)) first at
 
   -- ---- one further on
 
-  record Turns (ring after : Ring) (h : ℕ) : Type 0 where
-    rest : List ℕ
-    was : tokens_of slab ring.head ≡ h ∷ rest
-    is : tokens_of slab after.head ≡ rest ++ h ∷ []
-    next : Token
-    head : after.head ≡ Some next
-    there : 0 < times (non_zero_u32_get next) (h ∷ rest)
+  times-turned : (u : ℕ) (xs : List ℕ) → times u (turned xs) ≡ times u xs
+  times-turned u [] = refl
+  times-turned u (x ∷ xs) = omega (arith, times-append u xs (x ∷ []))
 
-  turns_by : (ring after : Ring) (h next : Token) (s : Stand) → ring.head ≡ Some h
-      → after.head ≡ Some next → non_zero_u32_get next ≡ successor slab (non_zero_u32_get h)
-      → stand_of (item_at slab (non_zero_u32_get h)) ≡ Some s
-      → Turns ring after (non_zero_u32_get h)
-  turns_by ring after h next s at now follows stands = by_rest begins.0 begins.1
-    where
-      begins : (rest : List ℕ) × (ring_from slab (non_zero_u32_get h) ≡ non_zero_u32_get h ∷ rest)
-      begins = parted.begins (non_zero_u32_get h)
-          (stand-some (item_at slab (non_zero_u32_get h)) s stands)
+  weigh-turned : (f : ℕ → ℕ) (xs : List ℕ) → weigh f (turned xs) ≡ weigh f xs
+  weigh-turned f [] = refl
+  weigh-turned f (x ∷ xs) = omega (arith, weigh-append f xs (x ∷ []))
 
-      by_rest : (rest : List ℕ) → ring_from slab (non_zero_u32_get h) ≡ non_zero_u32_get h ∷ rest
-          → Turns ring after (non_zero_u32_get h)
-      by_rest rest ring_is =
-          let once = parted.once (non_zero_u32_get h) (non_zero_u32_get h) in
-          let out : times (non_zero_u32_get h) rest ≡ 0 =
-          omega (
-            arith,
-            once,
-            ap (times (non_zero_u32_get h)) ring_is,
-            times-here
-                (non_zero_u32_get h) rest,
-          ) in
-          let first : non_zero_u32_get next ≡ first_or (non_zero_u32_get h) rest = follows
-          ∙ rw (
-            ring_is,
-            eq-eqb (non_zero_u32_get h) (non_zero_u32_get h) refl,
-            without_none
-                (non_zero_u32_get h) rest out,
-          ) refl in
-          by_list rest ring_is first
-        where
-          by_list : (xs : List ℕ) → ring_from slab (non_zero_u32_get h) ≡ non_zero_u32_get h ∷ xs
-              → non_zero_u32_get next ≡ first_or (non_zero_u32_get h) xs
-              → Turns ring after (non_zero_u32_get h)
-          by_list [] e first = record {
-            rest = [];
-            was = ap (tokens_of slab) at ∙ e;
-            is = ap (tokens_of slab) now ∙ ap (ring_from slab) first ∙ e;
-            next = next;
-            head = now;
-            there = rw first (omega (arith, times-here (non_zero_u32_get h) []));
-          }
-          by_list (y ∷ ys) e first = record {
-            rest = y ∷ ys;
-            was = ap (tokens_of slab) at ∙ e;
-            is = ap (tokens_of slab) now ∙ ap (ring_from slab) first
-                ∙ parted.turned (non_zero_u32_get h) y (non_zero_u32_get h ∷ []) ys e;
-            next = next;
-            head = now;
-            there = rw first (omega (arith, times-here y ys));
-          }
+  IsRingOf-turned : (ring : Ring) (s : Stand) → IsRingOf slab ring s
+      → IsRingOf slab (one_further ring) s
+  IsRingOf-turned ring s is = record {
+    members = λ u some. is.members u (omega (arith, some, times-turned u ring.tokens));
+    all = λ u stands. omega (arith, is.all u stands, times-turned u ring.tokens);
+    once = λ u. omega (arith, is.once u, times-turned u ring.tokens);
+    weighed = is.weighed ∙ sym (weigh-turned (λ u. weight_at (item_at slab u)) ring.tokens);
+  }
 
-  pub IsRingOf-turned : (ring after : Ring) (s : Stand) → IsRingOf slab ring s
-      → IsTurned slab ring after → IsRingOf slab after s
-  IsRingOf-turned ring after s is turns = by_head ring.head refl turns.head is.headed
-    where
-      by_head : (o : Option Token) → ring.head ≡ o
-          → MatchOption o (after.head ≡ None)
-          (λ head. (next : Token) × (after.head ≡ Some next)
-          × (non_zero_u32_get next ≡ successor slab (non_zero_u32_get head)))
-          → IfSome o (λ h. stand_of (item_at slab (non_zero_u32_get h)) ≡ Some s)
-          → IsRingOf slab after s
-      by_head None none now headed =
-          let same : tokens_of slab after.head ≡ tokens_of slab ring.head =
-          ap (tokens_of slab) (now ∙ sym none) in
-          record {
-            headed = rw now tt;
-            members = λ u some. is.members u (rw same at some);
-            all = λ u at. rw same (is.all u at);
-            counted = turns.counted ∙ is.counted ∙ ap length (sym same);
-            weighed = turns.weighed ∙ is.weighed
-                ∙ ap (weigh (λ u. weight_at (item_at slab u))) (sym same);
-          }
-      by_head (Some h) at now headed =
-          let t = turns_by ring after h now.0 s at now.1 now.2 headed in
-          let counts : (u : ℕ) → times u (tokens_of slab after.head)
-          ≡ times u (tokens_of slab ring.head) = λ u. ap (times u) t.is
-          ∙ omega (arith, times-append u t.rest (non_zero_u32_get h ∷ []), ap (times u) t.was)
-          in
-          record {
-            headed = rw t.head (is.members (non_zero_u32_get t.next)
-                (omega (arith, t.there, ap (times (non_zero_u32_get t.next)) t.was)));
-            members = λ u some. is.members u (omega (arith, some, counts u));
-            all = λ u stands. omega (arith, is.all u stands, counts u);
-            weighed = turns.weighed ∙ is.weighed
-                ∙ omega (
-                  arith,
-                  ap (weigh (λ u. weight_at (item_at slab u))) t.was,
-                  ap
-                      (weigh (λ u. weight_at (item_at slab u))) t.is,
-                  weigh-append
-                      (λ u. weight_at (item_at slab u)) t.rest (non_zero_u32_get h ∷ []),
-                );
-            counted = turns.counted ∙ is.counted
-                ∙ omega (
-                  arith,
-                  ap length t.was,
-                  ap length t.is,
-                  length_push t.rest
-                      (non_zero_u32_get h),
-                );
-          }
+  -- each token of the ring shows something, so the first that is shown comes last
+  gather-turned : {Y : Type 0} (shows : ℕ → Option Y) (xs : List ℕ)
+      → ((u : ℕ) → 0 < times u xs → (y : Y) × (shows u ≡ Some y))
+      → gather shows (turned xs) ≡ turned (gather shows xs)
+  gather-turned shows [] each = refl
+  gather-turned shows (x ∷ xs) each =
+      let shown = each x (omega (arith, times-here x xs)) in
+      gather-append shows xs (x ∷ []) ∙ rw shown.1 refl
 
-  pub view-turned : (ring after : Ring) (s : Stand) → s ≢ AmongLoading → s ≢ AmongGhosts
-      → IsRingOf slab ring s → IsTurned slab ring after
-      → gather (λ u. item_of u (item_at slab u)) (tokens_of slab after.head)
-      ≡ turned (gather (λ u. item_of u (item_at slab u)) (tokens_of slab ring.head))
-  view-turned ring after s off off' is turns = by_head ring.head refl turns.head is.headed
-    where
-      by_head : (o : Option Token) → ring.head ≡ o
-          → MatchOption o (after.head ≡ None)
-          (λ head. (next : Token) × (after.head ≡ Some next)
-          × (non_zero_u32_get next ≡ successor slab (non_zero_u32_get head)))
-          → IfSome o (λ h. stand_of (item_at slab (non_zero_u32_get h)) ≡ Some s)
-          → gather (λ u. item_of u (item_at slab u)) (tokens_of slab after.head)
-          ≡ turned (gather (λ u. item_of u (item_at slab u)) (tokens_of slab ring.head))
-      by_head None none now headed = rw (none, now) refl
-      by_head (Some h) at now headed =
-          let t = turns_by ring after h now.0 s at now.1 now.2 headed in
-          let held = is_held (non_zero_u32_get h)
-          (item_at slab (non_zero_u32_get h)) s off off' headed in
-          rw (t.is, t.was, held.1) (gather-append (λ u. item_of u (item_at slab u)) t.rest
-          (non_zero_u32_get h ∷ []) ∙ rw held.1 refl)
+  view-turned : (ring : Ring) (s : Stand) → s ≢ AmongLoading → s ≢ AmongGhosts
+      → IsRingOf slab ring s
+      → gather (λ u. item_of u (item_at slab u)) (turned ring.tokens)
+      ≡ turned (gather (λ u. item_of u (item_at slab u)) ring.tokens)
+  view-turned ring s off off' is = gather-turned (λ u. item_of u (item_at slab u)) ring.tokens
+      (λ u some. is_held u (item_at slab u) s off off' (is.members u some))
 
   -- ---- how many there are
 
   pub count_held : (ring : Ring) (s : Stand) → s ≢ AmongLoading → s ≢ AmongGhosts
-      → IsRingOf slab ring s → ring.count
-      ≡ length (gather (λ u. item_of u (item_at slab u)) (tokens_of slab ring.head))
+      → IsRingOf slab ring s
+      → length ring.tokens ≡ length (gather (λ u. item_of u (item_at slab u)) ring.tokens)
   count_held ring s off off' is =
-      is.counted ∙ sym (length-gather (λ u. item_of u (item_at slab u)) (tokens_of slab ring.head)
+      sym (length-gather (λ u. item_of u (item_at slab u)) ring.tokens
       (λ u some. is_held u (item_at slab u) s off off' (is.members u some)))
+
+  pub count_ghosts : (ring : Ring) → IsRingOf slab ring AmongGhosts
+      → length ring.tokens ≡ length (gather (λ u. ghost_of u (item_at slab u)) ring.tokens)
+  count_ghosts ring is =
+      sym (length-gather (λ u. ghost_of u (item_at slab u)) ring.tokens
+      (λ u some. is_ghost_entry u (item_at slab u) (is.members u some)))
 
   weighs_held : (u : ℕ) (o : Option (Slot K V P T)) (held : HeldItem K V) → item_of u o ≡ Some held
       → held.item.weight ≡ weight_at o
@@ -205,84 +141,130 @@ module _ {K V P T : Type 0} (slab : LinkedSlab (Slot K V P T)) (parted : IsParte
   pub weight_held : (ring : Ring) (s : Stand) → s ≢ AmongLoading → s ≢ AmongGhosts
       → IsRingOf slab ring s → ring.weight
       ≡ sum_by (λ held. held.item.weight)
-      (gather (λ u. item_of u (item_at slab u)) (tokens_of slab ring.head))
+      (gather (λ u. item_of u (item_at slab u)) ring.tokens)
   weight_held ring s off off' is =
       is.weighed ∙ weigh-gather (λ u. item_of u (item_at slab u)) (λ held. held.item.weight)
-      (λ u. weight_at (item_at slab u)) (tokens_of slab ring.head) (λ u some.
+      (λ u. weight_at (item_at slab u)) ring.tokens (λ u some.
       let held = is_held u (item_at slab u) s off off' (is.members u some) in
       (held.0, held.1, weighs_held u (item_at slab u) held.0 held.1))
+
+-- ---- the same of the ring of a queue
+
+pub not_loading : (queue : Queue) → ring_stand queue ≢ AmongLoading
+not_loading Hot e = cc
+not_loading Cold e = cc
+
+pub not_ghost : (queue : Queue) → ring_stand queue ≢ AmongGhosts
+not_ghost Hot e = cc
+not_ghost Cold e = cc
+
+module _ {K V P T : Type 0} (slab : Pool (Slot K V P T)) (index : Index) (rings : Rings)
+    (standing : IsStanding slab rings) where
+  pub IsRingOf-queue : (queue : Queue) → IsRingOf slab (ring_of queue rings) (ring_stand queue)
+  IsRingOf-queue Hot = standing.hot_ring
+  IsRingOf-queue Cold = standing.cold_ring
+
+  pub first_queue : (queue : Queue) (first : Option Token)
+      → MatchOption first ((ring_of queue rings).tokens ≡ [])
+      (λ token. StandsAt (ring_of queue rings).tokens 0 (number token))
+      → IsFirstOf (λ held. held.token)
+      (items_at (ring_place queue) (lists_of slab index rings)) first
+  first_queue Hot = IsFirstOf-held slab rings.hot AmongHot (λ e. cc) (λ e. cc) standing.hot_ring
+  first_queue Cold = IsFirstOf-held slab rings.cold AmongCold (λ e. cc) (λ e. cc) standing.cold_ring
+
+  pub count_queue : (queue : Queue) → length (ring_of queue rings).tokens
+      ≡ length (items_at (ring_place queue) (lists_of slab index rings))
+  count_queue Hot = count_held slab rings.hot AmongHot (λ e. cc) (λ e. cc) standing.hot_ring
+  count_queue Cold = count_held slab rings.cold AmongCold (λ e. cc) (λ e. cc) standing.cold_ring
+
+  pub weight_queue : (queue : Queue) → (ring_of queue rings).weight
+      ≡ sum_by (λ held. held.item.weight)
+      (items_at (ring_place queue) (lists_of slab index rings))
+  weight_queue Hot = weight_held slab rings.hot AmongHot (λ e. cc) (λ e. cc) standing.hot_ring
+  weight_queue Cold = weight_held slab rings.cold AmongCold (λ e. cc) (λ e. cc) standing.cold_ring
+
+  -- what a walk along it shows
+  pub items_queue : (queue : Queue)
+      → items_of (gather (λ u. item_of u (item_at slab u)) (ring_of queue rings).tokens)
+      ≡ items_of (items_at (ring_place queue) (lists_of slab index rings))
+  items_queue Hot = refl
+  items_queue Cold = refl
+
+-- no ring has more tokens than there are entries
+module _ {K V P T : Type 0} (slab : Pool (Slot K V P T)) (index : Index) (rings : Rings)
+    (loading : ℕ) (sound : IsSound slab index rings loading) where
+  pub AreWithin-all : (tokens : ℕ) → token_count index ≤ tokens → AreWithin rings tokens
+  AreWithin-all tokens within =
+      let all = sound.all_counted in
+      record {
+        hot_few = omega (
+          arith,
+          within,
+          all,
+          count_held slab rings.hot AmongHot (λ e. cc)
+              (λ e. cc) sound.standing.hot_ring,
+        );
+        cold_few = omega (
+          arith,
+          within,
+          all,
+          count_held slab rings.cold AmongCold (λ e. cc)
+              (λ e. cc) sound.standing.cold_ring,
+        );
+        ghosts_few = omega (
+          arith,
+          within,
+          all,
+          count_ghosts slab rings.ghosts
+              sound.standing.ghost_ring,
+        );
+      }
 
 length-turned : {X : Type 0} (xs : List X) → length (turned xs) ≡ length xs
 length-turned [] = refl
 length-turned (x ∷ xs) = omega (arith, length_push xs x)
 
-module _ {K V P T : Type 0} (slab : LinkedSlab (Slot K V P T)) (index : Index) (rings : Rings)
-    (loading : ℕ) (parted : IsParted slab) (sound : IsSound slab index rings loading)
-    (after : Ring) where
-  pub lists-turned_hot : IsTurned slab rings.hot after
-      → lists_of slab index after rings.cold rings.ghosts
-      ≡ ring_turned Hot (lists_of slab index rings.hot rings.cold rings.ghosts)
-  lists-turned_hot turns =
-      let is = view-turned slab parted rings.hot after AmongHot (λ e. cc)
-      (λ e. cc) sound.standing.hot_ring turns in
-      λ j. record (lists_of slab index rings.hot rings.cold rings.ghosts) { hot = is j }
+module _ {K V P T : Type 0} (slab : Pool (Slot K V P T)) (index : Index) (rings : Rings)
+    (loading : ℕ) (sound : IsSound slab index rings loading) where
+  pub lists-turned : (queue : Queue) → lists_of slab index (rings_turned queue rings)
+      ≡ ring_turned queue (lists_of slab index rings)
+  lists-turned Hot =
+      let is = view-turned slab rings.hot AmongHot (λ e. cc) (λ e. cc) sound.standing.hot_ring in
+      λ j. record (lists_of slab index rings) { hot = is j }
+  lists-turned Cold =
+      let is = view-turned slab rings.cold AmongCold (λ e. cc) (λ e. cc) sound.standing.cold_ring in
+      λ j. record (lists_of slab index rings) { cold = is j }
 
-  pub lists-turned_cold : IsTurned slab rings.cold after
-      → lists_of slab index rings.hot after rings.ghosts
-      ≡ ring_turned Cold (lists_of slab index rings.hot rings.cold rings.ghosts)
-  lists-turned_cold turns =
-      let is = view-turned slab parted rings.cold after AmongCold (λ e. cc)
-      (λ e. cc) sound.standing.cold_ring turns in
-      λ j. record (lists_of slab index rings.hot rings.cold rings.ghosts) { cold = is j }
-
-  pub IsSound-turned_hot : IsTurned slab rings.hot after
-      → IsSound slab index (record rings { hot = after }) loading
-  IsSound-turned_hot turns = record {
+  pub IsSound-turned : (queue : Queue) → IsSound slab index (rings_turned queue rings) loading
+  IsSound-turned Hot = record {
     standing = record {
-      hot_ring = IsRingOf-turned slab parted rings.hot after AmongHot sound.standing.hot_ring turns;
+      hot_ring = IsRingOf-turned slab rings.hot AmongHot sound.standing.hot_ring;
       cold_ring = sound.standing.cold_ring;
       ghost_ring = sound.standing.ghost_ring;
-      still = sound.standing.still;
-      loading = sound.standing.loading;
     };
     keyed = sound.keyed;
     loading_counted = sound.loading_counted;
     all_counted = omega (
       arith,
       sound.all_counted,
-      ap (λ (l : Lists K V P). length l.hot)
-          (lists-turned_hot turns),
-      length-turned
-          (lists_of slab index rings.hot rings.cold rings.ghosts).hot,
+      ap (λ (l : Lists K V P). length l.hot) (lists-turned Hot),
+      length-turned (lists_of slab index rings).hot,
     );
+    within = sound.within;
   }
-
-  pub IsSound-turned_cold : IsTurned slab rings.cold after
-      → IsSound slab index (record rings { cold = after }) loading
-  IsSound-turned_cold turns = record {
+  IsSound-turned Cold = record {
     standing = record {
       hot_ring = sound.standing.hot_ring;
-      cold_ring = IsRingOf-turned slab parted rings.cold after AmongCold sound.standing.cold_ring
-          turns;
+      cold_ring = IsRingOf-turned slab rings.cold AmongCold sound.standing.cold_ring;
       ghost_ring = sound.standing.ghost_ring;
-      still = sound.standing.still;
-      loading = sound.standing.loading;
     };
     keyed = sound.keyed;
     loading_counted = sound.loading_counted;
     all_counted = omega (
       arith,
       sound.all_counted,
-      ap (λ (l : Lists K V P). length l.cold)
-          (lists-turned_cold turns),
-      length-turned
-          (lists_of slab index rings.hot rings.cold rings.ghosts).cold,
+      ap (λ (l : Lists K V P). length l.cold) (lists-turned Cold),
+      length-turned (lists_of slab index rings).cold,
     );
+    within = sound.within;
   }
-
-module _ {K V P T : Type 0} (slab : LinkedSlab (Slot K V P T)) where
-  pub count_ghosts : (ring : Ring) → IsRingOf slab ring AmongGhosts
-      → ring.count ≡ length (gather (λ u. ghost_of u (item_at slab u)) (tokens_of slab ring.head))
-  count_ghosts ring is =
-      is.counted ∙ sym (length-gather (λ u. ghost_of u (item_at slab u)) (tokens_of slab ring.head)
-      (λ u some. is_ghost_entry u (item_at slab u) (is.members u some)))

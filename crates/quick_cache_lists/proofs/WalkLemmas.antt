@@ -1,113 +1,49 @@
 -- A walk along a ring: a step comes to the next slot, and the whole is what the ring shows.
-use Rattle.std.proofs.Common.{◌≡◌, ◌≢◌, ℕ, zero, suc, ◌-◌, ◌<◌, ◌≤◌, ◌==◌, true, List, [], ◌∷◌, ◌++◌, take, length, Option, Some, None, refl, sym, ap, subst, ◌∙◌, arith}
-use Rattle.std.specs.Int.NonZero.{non_zero_u32_get}
-use Rattle.std.specs.declared.num.NonZeroU32.{NonZeroU32 as Token}
-use Rattle.std.proofs.lemmas.Bool.{eq-eqb}
-use Rattle.std.proofs.lemmas.List.{take_all}
+use Rattle.std.proofs.Common.{◌≡◌, ◌≢◌, ℕ, suc, ◌<◌, ◌≤◌, ◌==◌, true, List, [], ◌∷◌, length, Option, Some, None, refl, sym, ap, ◌∙◌, arith}
 use Rattle.std.specs.List.{AllByRecursion}
-use Rattle.quick_cache_slab.specs.LinkedSlab.{LinkedSlab, first_or, times, item_at, ring_from, successor, IsParted}
-use Rattle.quick_cache_slab.proofs.TokenCounts.{times-here, without_none}
+use Rattle.quick_cache_model.specs.Sequences.{times}
+use Rattle.quick_cache_pool.specs.Pool.{Pool, item_at, IsOccupied}
+use Rattle.quick_cache_pool.proofs.TokenCounts.{times-here}
+use Rattle.quick_cache_rings.specs.Rings.{Ring}
 use Rattle.quick_cache_slots.specs.declared.entry.Entry.{Entry}
 use Rattle.quick_cache_slots.specs.declared.entry.Entry.TheVariants.{Item as item_variant, Loading as loading_variant, Ghost as ghost_variant}
 use Rattle.quick_cache_slots.specs.declared.entry.Slot.{Slot}
-use Rattle.quick_cache_lists.specs.declared.ring.Ring.{Ring}
 use Rattle.quick_cache_lists.specs.Slots.{Stand, AmongLoading, AmongGhosts, stand_of, stand_in, is_item, item_of, ghost_of}
-use Rattle.quick_cache_lists.specs.Sound.{put, gather, tokens_of, IsRingOf}
+use Rattle.quick_cache_lists.specs.Sound.{put, gather, IsRingOf}
 use Rattle.quick_cache_lists.proofs.GatherLemmas.{gather-all, length-gather}
 use Rattle.quick_cache_lists.proofs.TakeLemmas.{not_ghosts}
 use Rattle.quick_cache_lists.specs.Views.{items_of, hashes_of}
-use Rattle.quick_cache_lists.specs.Walks.{walk_of, items_in, hashes_in}
+use Rattle.quick_cache_lists.specs.Walks.{walk_of, IsWalk, items_in, hashes_in}
 
--- ---- lists
-
-take-front : (n : ℕ) (xs ys : List ℕ) → n ≤ length xs → take n (xs ++ ys) ≡ take n xs
-take-front zero xs ys few = refl
-take-front (suc n) [] ys few = absurd (omega arith)
-take-front (suc n) (x ∷ xs) ys few = ap (λ zs. x ∷ zs) (take-front n xs ys (omega arith))
+-- ---- one step
 
 put-few : {Y : Type 0} (o : Option Y) (ys : List Y) (n : ℕ) → length ys ≤ n
     → length (put o ys) ≤ suc n
 put-few None ys n few = omega arith
 put-few (Some y) ys n few = omega arith
 
--- no more is found than there are tokens, nor than are taken
-gather-few : {Y : Type 0} (at : ℕ → Option Y) (n : ℕ) (xs : List ℕ)
-    → length (gather at (take n xs)) ≤ length xs
-gather-few at zero xs = omega arith
-gather-few at (suc n) [] = omega arith
-gather-few at (suc n) (x ∷ xs) = put-few (at x) (gather at (take n xs)) _ (gather-few at n xs)
+-- no more is found than there are tokens
+gather-few : {Y : Type 0} (at : ℕ → Option Y) (xs : List ℕ) → length (gather at xs) ≤ length xs
+gather-few at [] = omega arith
+gather-few at (x ∷ xs) = put-few (at x) (gather at xs) _ (gather-few at xs)
 
--- ---- one step
-
-module _ {S : Type 0} (slab : LinkedSlab S) (parted : IsParted slab) where
-  -- the walk has another slot, and goes on behind it
-  pub record WalksOn (t : ℕ) (n : ℕ) : Type 0 where
-    pub slot : S
-    pub here : item_at slab t ≡ Some slot
-    pub steps : (next : Token) → non_zero_u32_get next ≡ successor slab t
-        → gather (λ token. item_at slab token) (take (suc n) (ring_from slab t))
-        ≡ slot ∷ walk_of slab (Some next) n
-
-  pub walks_on : (t n : ℕ)
-      → length (gather (λ token. item_at slab token) (take (suc n) (ring_from slab t))) ≡ suc n
-      → WalksOn t n
-  walks_on t n long = by_here (item_at slab t) refl
+module _ {S : Type 0} (slab : Pool S) (tokens : List ℕ) (token : ℕ) (rest : List ℕ)
+    (is : tokens ≡ token ∷ rest) where
+  -- where each token that is left has a slot, the first has one
+  pub occupied-on_walk : (left : ℕ) → IsWalk slab tokens left → IsOccupied slab token
+  occupied-on_walk left walk = by_slot (item_at slab token) refl
     where
-      by_rest : (slot : S) → item_at slab t ≡ Some slot → (rest : List ℕ)
-          → ring_from slab t ≡ t ∷ rest → WalksOn t n
-      by_rest slot here rest ring_is = record {
-        slot = slot;
-        here = here;
-        steps = λ next follows.
-            ap (λ xs. gather (item_at slab) (take (suc n) xs)) ring_is ∙ rw here (ap (λ ys. slot ∷ ys)
-            (sym (by_list rest ring_is fits (follows ∙ first))));
-      }
-        where
-          out : times t rest ≡ 0
-          out = omega (arith, parted.once t t, ap (times t) ring_is, times-here t rest)
-
-          first : successor slab t ≡ first_or t rest
-          first = rw (ring_is, eq-eqb t t refl, without_none t rest out) refl
-
-          fits : length (gather (item_at slab) (take n rest)) ≡ n
-          fits =
-              let e : length (gather (item_at slab) (take (suc n) (t ∷ rest))) ≡ suc n =
-              subst (λ (xs : List ℕ). length (gather (item_at slab) (take (suc n) xs)) ≡ suc n) ring_is long in
-              let f : suc (length (gather (item_at slab) (take n rest))) ≡ suc n = rw here at e in
-              omega (arith, f)
-
-          by_list : (xs : List ℕ) → ring_from slab t ≡ t ∷ xs
-              → length (gather (item_at slab) (take n xs)) ≡ n → {m : ℕ} → m ≡ first_or t xs
-              → gather (item_at slab) (take n (ring_from slab m)) ≡ gather (item_at slab) (take n xs)
-          by_list [] e few {m} is =
-              let none : n ≡ 0 = omega (arith, few, gather-few (item_at slab) n []) in rw none refl
-          by_list (y ∷ ys) e few {m} is =
-              ap (λ u. gather (item_at slab) (take n (ring_from slab u))) is
-              ∙ ap (λ xs. gather (item_at slab) (take n xs)) (parted.turned t y (t ∷ []) ys e)
-              ∙ ap (gather (item_at slab)) (take-front n (y ∷ ys) (t ∷ [])
-              (omega (arith, few, gather-few (item_at slab) n (y ∷ ys))))
-
-      by_here : (o : Option S) → item_at slab t ≡ o → WalksOn t n
-      by_here None none =
-          let e = parted.ringless t none in
-          let f : length (gather (item_at slab) (take (suc n) [])) ≡ suc n =
-          subst (λ (xs : List ℕ). length (gather (item_at slab) (take (suc n) xs)) ≡ suc n) e long in
-          absurd (omega (arith, f))
-      by_here (Some slot) here =
-          let begins = parted.begins t (rw here refl) in by_rest slot here begins.0 begins.1
-
-  pub walk_of-steps : (at : Option Token) (token : Token) → at ≡ Some token → (left : ℕ)
-      → 0 < left → length (walk_of slab at left) ≡ left → (slot : S)
-      → item_at slab (non_zero_u32_get token) ≡ Some slot → (next : Token)
-      → non_zero_u32_get next ≡ successor slab (non_zero_u32_get token)
-      → walk_of slab at left ≡ slot ∷ walk_of slab (Some next) (left - 1)
-  walk_of-steps at token is zero some long slot here next follows = absurd (omega arith)
-  walk_of-steps at token is (suc n) some long slot here next follows =
-      let on = walks_on (non_zero_u32_get token) n (subst (λ (o : Option Token). length (walk_of slab o (suc n)) ≡ suc n) is long) in
-      let same : on.slot ≡ slot = let e = sym on.here ∙ here in cc in
-      let less : n ≡ suc n - 1 = omega arith in
-      ap (λ o. walk_of slab o (suc n)) is ∙ on.steps next follows
-      ∙ (λ k. same k ∷ walk_of slab (Some next) (less k))
+      by_slot : (o : Option S) → item_at slab token ≡ o → IsOccupied slab token
+      by_slot None none = absurd (omega (
+        arith,
+        walk.counted,
+        walk.slotted,
+        ap length is,
+        ap (λ xs. length (walk_of slab xs)) is,
+        ap (λ o. length (put o (walk_of slab rest))) none,
+        gather-few (λ u. item_at slab u) rest,
+      ))
+      by_slot (Some slot) some = rw some refl
 
 -- ---- the whole ring
 
@@ -136,7 +72,7 @@ module _ {K V P T : Type 0} where
           let e : AmongLoading ≡ AmongGhosts = sym (ap stand_in is) ∙ stands in absurd (cc)
       by_entry ghost_variant is = rw is refl
 
-  module _ (slab : LinkedSlab (Slot K V P T)) where
+  module _ (slab : Pool (Slot K V P T)) where
     -- the items of the slots at these tokens are those that the lists show
     pub items_in-gather : (xs : List ℕ)
         → items_in (gather (λ t. item_at slab t) xs)
@@ -182,18 +118,12 @@ module _ {K V P T : Type 0} where
             rw (ghost_by_stand x slot among) (ap (λ hashes. slot.hash ∷ hashes) rest)
 
     module _ (ring : Ring) (s : Stand) (is : IsRingOf slab ring s) where
-      pub walk_of-whole : walk_of slab ring.head ring.count
-          ≡ gather (λ t. item_at slab t) (tokens_of slab ring.head)
-      walk_of-whole =
-          ap (gather (λ t. item_at slab t)) (take_all ring.count (tokens_of slab ring.head)
-          (omega (arith, is.counted)))
-
-      pub length-walk_of : length (walk_of slab ring.head ring.count) ≡ ring.count
-      length-walk_of =
-          ap length walk_of-whole
-          ∙ length-gather (λ t. item_at slab t) (tokens_of slab ring.head)
-          (λ t some. some_slot (item_at slab t) (is.members t some))
-          ∙ sym is.counted
+      pub IsWalk-ring : IsWalk slab ring.tokens (length ring.tokens)
+      IsWalk-ring = record {
+        counted = refl;
+        slotted = length-gather (λ t. item_at slab t) ring.tokens
+            (λ t some. some_slot (item_at slab t) (is.members t some));
+      }
         where
           some_slot : (o : Option (Slot K V P T)) → stand_of o ≡ Some s
               → (slot : Slot K V P T) × (o ≡ Some slot)
@@ -201,27 +131,19 @@ module _ {K V P T : Type 0} where
           some_slot (Some slot) stands = (slot, refl)
 
       pub AllByRecursion-walk_of : s ≢ AmongLoading → s ≢ AmongGhosts
-          → AllByRecursion (λ slot. is_item slot ≡ true) (walk_of slab ring.head ring.count)
+          → AllByRecursion (λ slot. is_item slot ≡ true) (walk_of slab ring.tokens)
       AllByRecursion-walk_of off off' =
-          subst (AllByRecursion (λ slot. is_item slot ≡ true)) (sym walk_of-whole)
-          (gather-all (λ slot. is_item slot ≡ true) (λ t. item_at slab t)
-          (tokens_of slab ring.head) (λ t slot some at.
-          item_by_stand s off off' slot (of_some (ap stand_of (sym at) ∙ is.members t some))))
+          gather-all (λ slot. is_item slot ≡ true) (λ t. item_at slab t)
+          ring.tokens (λ t slot some at.
+          item_by_stand s off off' slot (of_some (ap stand_of (sym at) ∙ is.members t some)))
         where
           of_some : {a b : Stand} → Some a ≡ Some b → a ≡ b
           of_some e = cc
 
-      pub items_in-walk_of : items_in (walk_of slab ring.head ring.count)
-          ≡ items_of (gather (λ t. item_of t (item_at slab t)) (tokens_of slab ring.head))
-      items_in-walk_of =
-          ap items_in walk_of-whole ∙ items_in-gather (tokens_of slab ring.head)
-
     pub hashes_in-walk_of : (ring : Ring) → IsRingOf slab ring AmongGhosts
-        → hashes_in (walk_of slab ring.head ring.count)
-        ≡ hashes_of (gather (λ t. ghost_of t (item_at slab t)) (tokens_of slab ring.head))
-    hashes_in-walk_of ring is =
-        ap hashes_in (walk_of-whole ring AmongGhosts is)
-        ∙ hashes_in-gather (tokens_of slab ring.head) is.members
+        → hashes_in (walk_of slab ring.tokens)
+        ≡ hashes_of (gather (λ t. ghost_of t (item_at slab t)) ring.tokens)
+    hashes_in-walk_of ring is = hashes_in-gather ring.tokens is.members
 
   -- ---- items and hashes of walks
 

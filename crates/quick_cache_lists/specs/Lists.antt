@@ -1,6 +1,7 @@
 -- What a contract sees of `Lists`: plain lists, whose entries have tokens.
 use Rattle.std.specs.Prelude.{◌≡◌, ◌≢◌, ◌⊎◌, ℕ, ◌+◌, ◌-◌, Bool, true, false, cond, eqb, if◌then◌else◌, ◌==◌, List, [], ◌∷◌, ◌++◌, length, map, Option, Some, None, MatchOption, ◌<◌, ◌≤◌}
-use Rattle.quick_cache_slab.specs.LinkedSlab.{times}
+use Rattle.quick_cache_model.specs.Sequences.{times}
+pub use Rattle.quick_cache_model.specs.Sequences.{turned}
 use Rattle.std.specs.List.{AllByRecursion}
 use Rattle.std.specs.List.Sorted.{IsPermutation}
 use Rattle.std.specs.Int.NonZero.{non_zero_u32_get}
@@ -87,11 +88,6 @@ left_by true name token xs = restarted name token xs
 abbrev pub number_or_zero : Option Token → ℕ
 number_or_zero None = 0
 number_or_zero (Some token) = non_zero_u32_get token
-
--- the list begun one further on
-abbrev pub turned : {X : Type 0} → List X → List X
-turned [] = []
-turned (x ∷ xs) = xs ++ x ∷ []
 
 -- a token is that of the first element, if there is one
 abbrev pub IsFirstOf : {X : Type 0} → (X → ℕ) → List X → Option Token → Type 0

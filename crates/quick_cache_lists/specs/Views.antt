@@ -1,6 +1,7 @@
 -- What the lists stand for once tokens are dropped: the lists of a cache.
-use Rattle.std.specs.Prelude.{ℕ, Bool, true, false, List, ◌++◌, map}
+use Rattle.std.specs.Prelude.{ℕ, List, ◌++◌, map}
 use Rattle.quick_cache_model.specs.CacheState.{Item, LoadingEntry}
+pub use Rattle.quick_cache_model.specs.Sequences.{joined_around}
 use Rattle.quick_cache_lists.specs.Lists.{HeldItem, HeldLoading, HeldGhost, Lists}
 
 -- the items of these entries
@@ -24,8 +25,3 @@ loading_entry ticket_of waiting =
 abbrev pub loading_entries : {K P : Type 0} → (P → ℕ) → List (HeldLoading K P)
     → List (LoadingEntry K)
 loading_entries ticket_of entries = map (loading_entry ticket_of) entries
-
--- a list without the element between these two, in its order or begun behind that element
-abbrev pub joined_around : {X : Type 0} → Bool → List X → List X → List X
-joined_around false before after = before ++ after
-joined_around true before after = after ++ before

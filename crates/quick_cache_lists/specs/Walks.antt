@@ -1,15 +1,19 @@
 -- What a walk along a ring has yet to come to. No public clause cites this module.
-use Rattle.std.specs.Prelude.{ℕ, List, take, filter_map, map, Option}
-use Rattle.std.specs.declared.num.NonZeroU32.{NonZeroU32 as Token}
-use Rattle.quick_cache_slab.specs.LinkedSlab.{LinkedSlab, item_at}
+use Rattle.std.specs.Prelude.{◌≡◌, ℕ, List, length, filter_map, map}
+use Rattle.quick_cache_pool.specs.Pool.{Pool, item_at}
 use Rattle.quick_cache_model.specs.CacheState.{Item}
 pub use Rattle.quick_cache_slots.specs.Slots.{entry_item}
 use Rattle.quick_cache_slots.specs.declared.entry.Slot.{Slot}
-use Rattle.quick_cache_lists.specs.Sound.{gather, tokens_of}
+use Rattle.quick_cache_lists.specs.Sound.{gather}
 
--- the next so many slots of the ring with that head
-abbrev pub walk_of : {S : Type 0} → LinkedSlab S → Option Token → ℕ → List S
-walk_of slab at left = gather (λ token. item_at slab token) (take left (tokens_of slab at))
+-- the slots of these tokens
+abbrev pub walk_of : {S : Type 0} → Pool S → List ℕ → List S
+walk_of slab tokens = gather (λ token. item_at slab token) tokens
+
+-- so many tokens are left, and each has a slot
+pub record IsWalk {S : Type 0} (slab : Pool S) (tokens : List ℕ) (left : ℕ) : Type 0 where
+  pub counted : length tokens ≡ left
+  pub slotted : length (walk_of slab tokens) ≡ left
 
 module _ {K V P T : Type 0} where
   -- the items of these slots

@@ -1,4 +1,5 @@
-//! The representation of a shard: its entries in slots, linked into rings and found by their hashes.
+//! The representation of a shard: its entries in slots, their tokens in
+//! rings, found by their hashes.
 //!
 //! No policy stands here. It knows nothing of weighers, hooks or hash functions: weights and hashes
 //! are handed in, and a copy is handed what hashes its keys.
@@ -6,12 +7,10 @@
 
 mod found;
 mod lists;
-mod ring;
-mod rings;
 mod store;
 mod walk;
 
 pub use found::Found;
 pub use lists::{Lists, Meaning};
-pub use quick_cache_slots::{Awaited, AwaitedRef, Copying, Entry, ItemRef, Resident, Slot};
+pub use quick_cache_slots::{Awaited, AwaitedRef, Copying, Entry, ItemRef, Marked, Slot};
 pub use walk::{GhostIter, ItemIter, RingIter};

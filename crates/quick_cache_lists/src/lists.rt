@@ -14,11 +14,11 @@ mod tokens;
 mod values;
 mod walks;
 
-use crate::rings::Rings;
 use crate::store::grow_index;
 pub use placeholders::Meaning;
 use quick_cache_index::Index;
 use quick_cache_model::Refusal;
+use quick_cache_rings::Rings;
 use quick_cache_slots::Slots;
 use std::alloc::{Allocator, Global};
 use std::marker::Model;
@@ -32,7 +32,7 @@ const MOST_ENTRIES: usize = 4294967294;
 pub struct Lists<K, V, P, T, A: Allocator = Global> {
     slots: Slots<K, V, P, T, A>,
     index: Index<A>,
-    rings: Rings,
+    rings: Rings<A>,
     // How many placeholders there are.
     loading: usize,
 }
@@ -44,7 +44,7 @@ impl<K, V, P, T, A: Allocator> Model for Lists<K, V, P, T, A> {
 
     ghost use Rattle.quick_cache_lists.specs.Sound.{lists_of, IsSound};
 
-    ghost view = { λ l. lists_of l.slots l.index l.rings.hot l.rings.cold l.rings.ghosts };
+    ghost view = { λ l. lists_of l.slots l.index l.rings };
 
     ghost invariant = { λ l. IsSound l.slots l.index l.rings l.loading };
 }
@@ -61,23 +61,31 @@ impl<K, V, P, T, A: Allocator> Lists<K, V, P, T, A> {
         let Ok(for_slots) = alloc.clone() else {
             return Err(Refusal::Memory);
         };
+        let Ok(for_free) = alloc.clone() else {
+            return Err(Refusal::Memory);
+        };
         let Ok(for_asides) = alloc.clone() else {
             return Err(Refusal::Memory);
         };
+        let Ok(for_marks) = alloc.clone() else {
+            return Err(Refusal::Memory);
+        };
+        let rings = Rings::new(&alloc)?;
         let index = Index::new(alloc)?;
-        let slots = Slots::new(for_slots, for_asides)?;
+        let slots = Slots::new(for_slots, for_free, for_asides, for_marks);
         Ok(Lists {
             slots,
             index,
-            rings: Rings::empty(),
+            rings,
             loading: 0,
         })
     }
 
     /// Makes room for so many more entries, or for all that can still come.
     ///
-    /// The slots grow first, then the index, which takes the token of each slot anew. A refusal is
-    /// for want of memory: it may keep room that it got, and changes nothing else.
+    /// The slots grow first, then the rings, then the index, which takes the token of each slot
+    /// anew. A refusal is for want of memory: it may keep room that it got, and changes nothing
+    /// else.
     pub fn reserve(&mut self, additional: usize) -> Result<(), Refusal>
         ensures lists { self.new ≡ record self.old { room = self.new.room } }
         ensures room { OnOk result (min additional (slots_left self.old) ≤ self.new.room) }
@@ -92,6 +100,8 @@ impl<K, V, P, T, A: Allocator> Lists<K, V, P, T, A> {
     {
         self.slots.validate();
         self.slots.reserve(additional)?;
+        let entries = self.index.len().saturating_add(additional);
+        self.rings.grow(entries.min(MOST_ENTRIES))?;
         grow_index(&self.slots, &mut self.index, additional)
     }
 
@@ -109,7 +119,8 @@ impl<K, V, P, T, A: Allocator> Lists<K, V, P, T, A> {
         ensures refusals { IfErr result
             (λ refused. (refused ≡ Refusal.SlotsFull) ⊎ (refused ≡ Refusal.Memory)) }
     {
-        if self.slots.has_room() && self.index.has_room() {
+        let rings_have_room = self.index.len() < self.rings.capacity();
+        if rings_have_room && self.slots.has_room() && self.index.has_room() {
             return Ok(());
         }
         self.grow()
@@ -145,7 +156,7 @@ impl<K, V, P, T, A: Allocator> Lists<K, V, P, T, A> {
         self.slots.validate();
         self.slots.clear();
         self.index.clear();
-        self.rings = Rings::empty();
+        self.rings.clear();
         self.loading = 0;
     }
 

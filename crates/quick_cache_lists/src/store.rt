@@ -1,12 +1,13 @@
 //! The slots and the index in step: each entry is in a slot, and its hash leads to the slot.
-ghost use Rattle.std.specs.Prelude.{◌≡◌, ◌+◌, ◌*◌, ◌<◌, ◌≤◌, ℕ, min, max, length, map, Some, IsOk, IfErr, OnOk, OnErr};
+ghost use Rattle.std.specs.Prelude.{◌≡◌, ◌+◌, ◌*◌, ◌<◌, ◌≤◌, ℕ, min, max, length, map, Some, IsOk, IfOk, IfErr, OnOk, OnErr};
 ghost use Rattle.std.specs.Int.NonZero.{non_zero_u32_get as number};
-ghost use Rattle.quick_cache_slab.specs.LinkedSlab.{next_token, times, IsOccupied, IsNextOf, item_at};
+ghost use Rattle.quick_cache_model.specs.Sequences.{times};
+ghost use Rattle.quick_cache_pool.specs.Pool.{next_token, IsOccupied, item_at};
 ghost use Rattle.quick_cache_index.specs.Index.{token_count, wanted_room, HasToken};
 ghost use Rattle.quick_cache_lists.specs.Frames.{IsPlaced, IsRemoved};
 ghost use Rattle.quick_cache_lists.specs.Room.{most_room};
 ghost use Rattle.quick_cache_lists.specs.Slots.{weight_in, weight_at};
-ghost use Rattle.quick_cache_lists.specs.Sound.{AddsTokens, IsKeyed, room_of};
+ghost use Rattle.quick_cache_lists.specs.Sound.{AddsTokens, IsKeyed, slot_room};
 
 use quick_cache_index::Index;
 use quick_cache_model::{Refusal, Token};
@@ -21,13 +22,13 @@ pub(crate) fn place<K, V, P, T, A: Allocator>(
     slot: Slot<K, V, P, T>,
 ) -> Token
     requires keyed { IsKeyed slots.old index.old }
-    requires room { 0 < room_of slots.old index.old }
+    requires room { 0 < slot_room slots.old index.old }
     requires light { weight_in slot.entry < 18446744073709551616 }
     ensures token { number result ≡ next_token slots.old }
     ensures placed { IsPlaced slots.old slots.new (number result) slot }
     ensures keyed { IsKeyed slots.new index.new }
     ensures count { token_count index.new ≡ token_count index.old + 1 }
-    ensures room { room_of slots.new index.new + 1 ≡ room_of slots.old index.old }
+    ensures room { slot_room slots.new index.new + 1 ≡ slot_room slots.old index.old }
 {
     slots.validate();
     let hash = slot.hash;
@@ -36,25 +37,24 @@ pub(crate) fn place<K, V, P, T, A: Allocator>(
     token
 }
 
-/// Takes an entry out of its slot and its token out of the index, and answers the token behind it.
+/// Takes an entry out of its slot and its token out of the index.
 #[inline(always)]
 pub(crate) fn displace<K, V, P, T, A: Allocator>(
     slots: &mut Slots<K, V, P, T, A>,
     index: &mut Index<A>,
     token: Token,
-) -> (Slot<K, V, P, T>, Option<Token>)
+) -> Slot<K, V, P, T>
     requires keyed { IsKeyed slots.old index.old }
     requires occupied { IsOccupied slots.old (number token) }
-    ensures item { item_at slots.old (number token) ≡ Some result.0 }
-    ensures next { IsNextOf slots.old (number token) result.1 }
+    ensures item { item_at slots.old (number token) ≡ Some result }
     ensures removed { IsRemoved slots.old slots.new (number token) }
     ensures keyed { IsKeyed slots.new index.new }
     ensures count { token_count index.new + 1 ≡ token_count index.old }
-    ensures room { room_of slots.new index.new ≡ room_of slots.old index.old + 1 }
+    ensures room { slot_room slots.new index.new ≡ slot_room slots.old index.old + 1 }
 {
-    let (slot, next) = slots.remove(token);
+    let slot = slots.remove(token);
     index.remove(slot.hash, token);
-    (slot, next)
+    slot
 }
 
 // Puts the token of each of these entries into an index that has none of them.
@@ -97,6 +97,22 @@ pub(crate) fn rekey<K, V, P, T, A: Allocator>(
     index.clear_for(slots.len().saturating_add(additional))?;
     key_all(index, slots.iter_from(None));
     Ok(())
+}
+
+/// An index with the tokens of all slots. A refusal is for want of memory.
+pub(crate) fn index_of<K, V, P, T, A: Allocator>(
+    slots: &Slots<K, V, P, T, A>,
+    alloc: A,
+) -> Result<Index<A>, Refusal>
+where
+    A: Clone,
+    requires light { (token : ℕ) → weight_at (item_at slots.now token) < 18446744073709551616 }
+    ensures keyed { IfOk result (IsKeyed slots.now) }
+    ensures refused { IfErr result (λ refused. refused ≡ Refusal.Memory) }
+{
+    let mut index = Index::new(alloc)?;
+    rekey(slots, &mut index, 0)?;
+    Ok(index)
 }
 
 /// Makes room in the index for so many more entries, or for all that can still come.

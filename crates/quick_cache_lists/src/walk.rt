@@ -1,10 +1,10 @@
-//! Walks along a ring, from its head on, and over all items. A step along a ring is one look at a
-//! slot.
+//! Walks along a ring, from its first token on, and over all items. A step along a ring is one look
+//! at a slot.
 ghost use Rattle.std.specs.Prelude.{◌≡◌, length, IfSome, Some};
 ghost use Rattle.std.specs.Iterator.{YieldsFirst, item_count, at_most, UpTo};
 ghost use Rattle.std.specs.Iterator.SizeHint.{IsWithinCount};
 
-use quick_cache_model::Token;
+use quick_cache_queue::TokenQueue;
 use quick_cache_slots::{ItemRef, SlotIter, SlotRef, Slots};
 use std::alloc::{Allocator, Global};
 use std::iter::FusedIterator;
@@ -14,21 +14,25 @@ use std::marker::Model;
 #[derive(Drop)]
 pub(crate) struct Walk<'a, K, V, P, T, A: Allocator = Global> {
     pub(crate) slots: &'a Slots<K, V, P, T, A>,
-    pub(crate) at: Option<Token>,
+    pub(crate) queue: &'a TokenQueue<A>,
+    // How many places of the queue it has come past.
+    pub(crate) passed: usize,
+    // How many slots are left.
     pub(crate) left: usize,
 }
 
 impl<'a, K, V, P, T, A: Allocator> Model for Walk<'a, K, V, P, T, A> {
-    ghost use Rattle.std.specs.Prelude.{◌≡◌, List, length};
+    ghost use Rattle.std.specs.Prelude.{List};
     ghost use Rattle.quick_cache_slots.specs.declared.entry.Slot.{Slot};
 
     ghost Value = { List (Slot K V P T) };
 
-    ghost use Rattle.quick_cache_lists.specs.Walks.{walk_of};
+    ghost use Rattle.quick_cache_queue.specs.Queues.{tokens_from};
+    ghost use Rattle.quick_cache_lists.specs.Walks.{walk_of, IsWalk};
 
-    ghost view = { λ w. walk_of w.slots.now w.at w.left };
+    ghost view = { λ w. walk_of w.slots.now (tokens_from w.queue.now w.passed) };
 
-    ghost invariant = { λ w. length (walk_of w.slots.now w.at w.left) ≡ w.left };
+    ghost invariant = { λ w. IsWalk w.slots.now (tokens_from w.queue.now w.passed) w.left };
 }
 
 impl<'a, K, V, P, T, A: Allocator> Walk<'a, K, V, P, T, A> {
@@ -48,12 +52,8 @@ impl<'a, K, V, P, T, A: Allocator> Iterator for Walk<'a, K, V, P, T, A> {
     ghost remaining = { item_count (λ rest. rest) };
 
     fn next(&mut self) -> Option<SlotRef<'a, K, V, P, T>> {
-        if self.left == 0 {
-            return None;
-        }
-        let token = self.at?;
-        self.slots.validate();
-        self.at = Some(self.slots.next(token));
+        let (token, behind) = self.queue.first_from(self.passed)?;
+        self.passed = behind;
         self.left -= 1;
         Some(self.slots.slot(token))
     }

@@ -1,5 +1,6 @@
 pub mod Hashing
 pub mod CacheState
+pub mod Sequences
 pub mod Hooks
 pub mod Finding
 pub mod Touches

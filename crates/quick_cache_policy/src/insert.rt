@@ -15,7 +15,7 @@ use crate::admission::{Admission, Weighed};
 use crate::contents::Contents;
 use crate::policy::Policy;
 use crate::strategy::InsertStrategy;
-use quick_cache_lists::{Entry, Found, Resident};
+use quick_cache_lists::{Entry, Found, Marked};
 use quick_cache_model::{Queue, Refusal};
 use quick_cache_placeholder::SharedPlaceholder;
 use std::alloc::Allocator;
@@ -81,7 +81,7 @@ impl<K: Eq + Hash + Drop, V: Drop, P: SharedPlaceholder<K>, A: Allocator> Conten
             Queue::Cold
         };
         self.evict_to_capacity(weight, terms, state);
-        let item = Resident::new(key, value, weight, 0, queue, P::Touch::default());
+        let item = Marked::new(key, value, weight, 0, queue, P::Touch::default());
         let _ = self.lists.put(hash, Entry::Item(item));
     }
 

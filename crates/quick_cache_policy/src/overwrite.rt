@@ -13,7 +13,7 @@ use crate::admission::{Weighed, report};
 use crate::contents::Contents;
 use crate::policy::Policy;
 use crate::strategy::InsertStrategy;
-use quick_cache_lists::{Entry, Found, Resident};
+use quick_cache_lists::{Entry, Found, Marked};
 use quick_cache_model::{Queue, Token};
 use quick_cache_placeholder::SharedPlaceholder;
 use std::alloc::Allocator;
@@ -60,7 +60,7 @@ impl<K: Eq + Hash + Drop, V: Drop, P: SharedPlaceholder<K>, A: Allocator> Conten
         let mark = strategy.mark_after(self.mark_cut, touched);
         let Weighed { value, weight } = weighed;
         // It goes on with the old item's counter, which was emptied.
-        let item = Resident::new(key, value, weight, mark, queue, P::Touch::default());
+        let item = Marked::new(key, value, weight, mark, queue, P::Touch::default());
         let (old_key, old_value) = self.lists.rewrite(token, item).into_pair();
         report(queue, terms, state, old_key, old_value);
         self.evict_to_capacity(0, terms, state);
@@ -96,7 +96,7 @@ impl<K: Eq + Hash + Drop, V: Drop, P: SharedPlaceholder<K>, A: Allocator> Conten
     {
         self.lists.apart();
         let Weighed { value, weight } = weighed;
-        let item = Resident::new(key, value, weight, 0, Queue::Hot, P::Touch::default());
+        let item = Marked::new(key, value, weight, 0, Queue::Hot, P::Touch::default());
         let _ = self.lists.replace(token, false, Entry::Item(item));
         self.evict_to_capacity(0, terms, state);
     }
@@ -133,7 +133,7 @@ impl<K: Eq + Hash + Drop, V: Drop, P: SharedPlaceholder<K>, A: Allocator> Conten
         self.lists.apart();
         let queue = self.lists.awaited(token).queue();
         let Weighed { value, weight } = weighed;
-        let item = Resident::new(key, value, weight, 1, queue, P::Touch::default());
+        let item = Marked::new(key, value, weight, 1, queue, P::Touch::default());
         let _ = self.lists.replace(token, false, Entry::Item(item));
         self.evict_to_capacity(0, terms, state);
     }

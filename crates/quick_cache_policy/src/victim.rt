@@ -10,7 +10,7 @@ ghost use Rattle.quick_cache_policy.specs.Policies.{rules_by};
 
 use crate::contents::Contents;
 use crate::policy::Policy;
-use quick_cache_lists::{Entry, Resident};
+use quick_cache_lists::{Entry, Marked};
 use quick_cache_model::{Queue, Token};
 use quick_cache_placeholder::{SharedPlaceholder, Touches};
 use std::alloc::Allocator;
@@ -18,13 +18,13 @@ use std::hash::Hash;
 
 /// What becomes of a victim.
 enum Fate<K, V, T> {
-    Stays(Resident<K, V, T>),
+    Stays(Marked<K, V, T>),
     Leaves(K, V),
 }
 
 /// Tells an item to `before_evict`, which may change its value, and weighs it then.
 fn decide<K: Eq + Hash, V, T: Touches, M: Policy<K, V>>(
-    item: Resident<K, V, T>,
+    item: Marked<K, V, T>,
     terms: &M,
     state: &mut M::RequestState,
 ) -> Fate<K, V, T>
@@ -34,7 +34,7 @@ fn decide<K: Eq + Hash, V, T: Touches, M: Policy<K, V>>(
     let (key, mut value) = item.into_pair();
     terms.before_evict(state, &key, &mut value);
     if terms.weigh(&key, &value) == 0 {
-        let item = Resident::new(key, value, 0, mark, queue, T::default());
+        let item = Marked::new(key, value, 0, mark, queue, T::default());
         return Fate::Stays(item.with_reads(reads));
     }
     Fate::Leaves(key, value)

@@ -27,7 +27,6 @@ use std::marker::Model;
 
 /// One cache: the items of a hot and of a cold ring, and the hashes of what left the cold ring
 /// lately.
-#[derive(Drop)]
 pub struct CacheShard<
     K: Eq + Hash,
     V,
@@ -39,6 +38,24 @@ pub struct CacheShard<
 > {
     pub(crate) contents: Contents<K, V, P, A>,
     pub(crate) terms: Terms<We, B, L>,
+}
+
+// By hand, so that whoever drops a shard calls this, and its proof has nothing of what is inside.
+impl<
+    K: Eq + Hash + Drop,
+    V: Drop,
+    We: Drop,
+    B: BuildHasher + Drop,
+    L: Drop,
+    P: SharedPlaceholder<K>,
+    A: Allocator,
+> Drop for CacheShard<K, V, We, B, L, P, A> {
+    fn drop(self) {
+        let CacheShard {
+            contents: _,
+            terms: _,
+        } = self;
+    }
 }
 
 impl<K: Eq + Hash, V, We, B: BuildHasher, L, P: SharedPlaceholder<K>, A: Allocator> Model

@@ -3,6 +3,7 @@ use Rattle.std.specs.Prelude.{◌≡◌, ◌≢◌, ◌↔◌, ℕ, zero, suc, �
 use Rattle.std.specs.List.{AllZip}
 use Rattle.std.specs.Int.NonZero.{non_zero_u32_get}
 use Rattle.std.specs.declared.num.NonZeroU32.{NonZeroU32 as Token}
+pub use Rattle.quick_cache_model.specs.Sequences.{times}
 
 -- what stands at a token, where tokens count from 1
 abbrev pub at_token : {X : Type 0} → List X → ℕ → X → X
@@ -18,11 +19,6 @@ with_token xs (suc i) x = slice_set xs i x
 abbrev pub first_or : ℕ → List ℕ → ℕ
 first_or other [] = other
 first_or other (x ∷ xs) = x
-
--- how often a token stands in a list
-abbrev pub times : ℕ → List ℕ → ℕ
-times token [] = 0
-times token (x ∷ xs) = cond (eqb x token) 1 0 + times token xs
 
 -- the list without the token
 abbrev pub without : ℕ → List ℕ → List ℕ

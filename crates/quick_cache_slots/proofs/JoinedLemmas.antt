@@ -1,14 +1,14 @@
--- The slab of whole slots: what stands at a token of it, and what writes make of it.
+-- The pool of whole slots: what stands at a token of it, and what writes make of it.
 use Rattle.std.proofs.Common.{◌≡◌, ℕ, zero, suc, ◌<◌, ◌≤◌, List, [], ◌∷◌, length, Option, Some, None, IsSome, get_or, refl, arith}
-use Rattle.quick_cache_slab.specs.LinkedSlab.{LinkedSlab, at_token, item_at, IsOccupied}
-use Rattle.quick_cache_slots.specs.declared.aside.Aside.{Aside}
+use Rattle.quick_cache_pool.specs.Pool.{Pool, at_token, item_at, IsOccupied}
+use Rattle.quick_cache_slots.specs.declared.beside.Beside.{Beside}
 use Rattle.quick_cache_slots.specs.declared.stored.StoredEntry.{StoredEntry}
 use Rattle.quick_cache_slots.specs.Joined.{joined_slot, joined_slots, joined, AreBeside}
 use Rattle.quick_cache_slots.specs.Walks.{no_aside}
 
 module _ {K V P T : Type 0} where
   -- at a place: the slot of the entry there and of what stands beside it, or nothing past the end
-  get_or-joined : (slots : List (Option (StoredEntry K V P T))) (asides : List Aside) (i : ℕ)
+  get_or-joined : (slots : List (Option (StoredEntry K V P T))) (asides : List Beside) (i : ℕ)
       → length asides ≡ length slots
       → get_or (joined_slots slots asides) i None ≡ joined_slot (get_or slots i None)
       (get_or asides i no_aside)
@@ -18,7 +18,7 @@ module _ {K V P T : Type 0} where
   get_or-joined (stored ∷ slots) (aside ∷ asides) (suc i) beside =
       get_or-joined slots asides i (omega arith)
 
-  at_token-joined : (slots : List (Option (StoredEntry K V P T))) (asides : List Aside) (t : ℕ)
+  at_token-joined : (slots : List (Option (StoredEntry K V P T))) (asides : List Beside) (t : ℕ)
       → length asides ≡ length slots
       → at_token (joined_slots slots asides) t None ≡ joined_slot (at_token slots t None)
       (at_token asides t no_aside)
@@ -26,34 +26,34 @@ module _ {K V P T : Type 0} where
   at_token-joined slots asides (suc i) beside = get_or-joined slots asides i beside
 
   -- at a token: nothing at 0 and past the end
-  pub item_at-joined : (slab : LinkedSlab (StoredEntry K V P T)) (asides : List Aside) (left t : ℕ)
-      → AreBeside slab asides
-      → item_at (joined slab asides left) t ≡ joined_slot (item_at slab t)
+  pub item_at-joined : (pool : Pool (StoredEntry K V P T)) (asides : List Beside) (left t : ℕ)
+      → AreBeside pool asides
+      → item_at (joined pool asides left) t ≡ joined_slot (item_at pool t)
       (at_token asides t no_aside)
-  item_at-joined slab asides left t beside = at_token-joined slab.slots asides t beside
+  item_at-joined pool asides left t beside = at_token-joined pool.slots asides t beside
 
-  IsSome-joined : (stored : Option (StoredEntry K V P T)) (aside : Aside) → IsSome stored
+  IsSome-joined : (stored : Option (StoredEntry K V P T)) (aside : Beside) → IsSome stored
       → IsSome (joined_slot stored aside)
   IsSome-joined None aside some = some
   IsSome-joined (Some stored) aside some = refl
 
-  IsSome-apart : (stored : Option (StoredEntry K V P T)) (aside : Aside)
+  IsSome-apart : (stored : Option (StoredEntry K V P T)) (aside : Beside)
       → IsSome (joined_slot stored aside) → IsSome stored
   IsSome-apart None aside some = some
   IsSome-apart (Some stored) aside some = refl
 
-  -- an occupied token is so in the slab of whole slots
-  pub occupied-joined : (slab : LinkedSlab (StoredEntry K V P T)) (asides : List Aside)
-      (left t : ℕ) → AreBeside slab asides → IsOccupied slab t
-      → IsOccupied (joined slab asides left) t
-  occupied-joined slab asides left t beside some =
-      rw (item_at-joined slab asides left t beside) (IsSome-joined _ _ some)
+  -- an occupied token is so in the pool of whole slots
+  pub occupied-joined : (pool : Pool (StoredEntry K V P T)) (asides : List Beside)
+      (left t : ℕ) → AreBeside pool asides → IsOccupied pool t
+      → IsOccupied (joined pool asides left) t
+  occupied-joined pool asides left t beside some =
+      rw (item_at-joined pool asides left t beside) (IsSome-joined _ _ some)
 
   -- and the other way round
-  pub occupied-apart : (slab : LinkedSlab (StoredEntry K V P T)) (asides : List Aside) (left t : ℕ)
-      → AreBeside slab asides → IsOccupied (joined slab asides left) t → IsOccupied slab t
-  occupied-apart slab asides left t beside some =
-      IsSome-apart _ _ (rw (item_at-joined slab asides left t beside) at some)
+  pub occupied-apart : (pool : Pool (StoredEntry K V P T)) (asides : List Beside) (left t : ℕ)
+      → AreBeside pool asides → IsOccupied (joined pool asides left) t → IsOccupied pool t
+  occupied-apart pool asides left t beside some =
+      IsSome-apart _ _ (rw (item_at-joined pool asides left t beside) at some)
 
   within-list : (slots : List (Option (StoredEntry K V P T))) (i : ℕ)
       → IsSome (get_or slots i None) → i < length slots
@@ -68,8 +68,8 @@ module _ {K V P T : Type 0} where
       let less = within-list slots i some in (omega arith, omega arith)
 
   -- something stands beside an occupied token
-  pub occupied-within : (slab : LinkedSlab (StoredEntry K V P T)) (asides : List Aside) (t : ℕ)
-      → AreBeside slab asides → IsOccupied slab t → (0 < t) × (t ≤ length asides)
-  occupied-within slab asides t beside some =
-      let at = within-token slab.slots t some in let low = at.0 in let high = at.1 in
+  pub occupied-within : (pool : Pool (StoredEntry K V P T)) (asides : List Beside) (t : ℕ)
+      → AreBeside pool asides → IsOccupied pool t → (0 < t) × (t ≤ length asides)
+  occupied-within pool asides t beside some =
+      let at = within-token pool.slots t some in let low = at.0 in let high = at.1 in
       (omega arith, omega arith)

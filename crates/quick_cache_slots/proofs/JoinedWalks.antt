@@ -4,8 +4,8 @@ use Rattle.std.proofs.lemmas.Bool.{cases_lt}
 use Rattle.std.proofs.lemmas.List.{drop_more, drop_all}
 use Rattle.std.specs.Int.NonZero.{non_zero_u32_get}
 use Rattle.std.specs.declared.num.NonZeroU32.{NonZeroU32 as Token}
-use Rattle.quick_cache_slab.specs.LinkedSlab.{LinkedSlab, at_token, entries_past, entries_after}
-use Rattle.quick_cache_slots.specs.declared.aside.Aside.{Aside}
+use Rattle.quick_cache_pool.specs.Pool.{Pool, at_token, entries_past, entries_after}
+use Rattle.quick_cache_slots.specs.declared.beside.Beside.{Beside}
 use Rattle.quick_cache_slots.specs.declared.entry.Slot.{Slot}
 use Rattle.quick_cache_slots.specs.declared.stored.StoredEntry.{StoredEntry}
 use Rattle.quick_cache_slots.specs.Joined.{joined_slots, joined, AreBeside}
@@ -22,7 +22,7 @@ entries_past-items {X = X} passed (Some item ∷ rest) =
     ap (λ (xs : List X). item ∷ xs) (entries_past-items (passed + 1) rest)
 
 -- the first of those that are left stands under the token behind those that were passed
-first_beside : (all : List Aside) (passed : ℕ) (aside : Aside) (rest : List Aside)
+first_beside : (all : List Beside) (passed : ℕ) (aside : Beside) (rest : List Beside)
     → aside ∷ rest ≡ drop passed all
     → (passed < length all) × (at_token all (passed + 1) no_aside ≡ aside)
     × (rest ≡ drop (passed + 1) all)
@@ -44,7 +44,7 @@ first_beside all passed aside rest left =
 
 module _ {K V P T : Type 0} where
   -- the slots past a place are those of the entries there and of what stands beside them
-  joined_slots-drop : (n : ℕ) (slots : List (Option (StoredEntry K V P T))) (asides : List Aside)
+  joined_slots-drop : (n : ℕ) (slots : List (Option (StoredEntry K V P T))) (asides : List Beside)
       → drop n (joined_slots slots asides) ≡ joined_slots (drop n slots) (drop n asides)
   joined_slots-drop zero slots asides = refl
   joined_slots-drop (suc n) [] asides = refl
@@ -56,8 +56,8 @@ module _ {K V P T : Type 0} where
   joined_slots-drop (suc n) (stored ∷ slots) (aside ∷ asides) = joined_slots-drop n slots asides
 
   -- the entries of whole slots
-  entries-joined : (all : List Aside) (passed : ℕ) (slots : List (Option (StoredEntry K V P T)))
-      (asides : List Aside) → asides ≡ drop passed all → length asides ≡ length slots
+  entries-joined : (all : List Beside) (passed : ℕ) (slots : List (Option (StoredEntry K V P T)))
+      (asides : List Beside) → asides ≡ drop passed all → length asides ≡ length slots
       → entries_beside all (entries_past passed slots)
       ≡ entries_past passed (joined_slots slots asides)
   entries-joined all passed [] asides left beside = refl
@@ -73,8 +73,8 @@ module _ {K V P T : Type 0} where
       rw (first.1, others) refl
 
   -- something stands beside each
-  covered : (all : List Aside) (passed : ℕ) (slots : List (Option (StoredEntry K V P T)))
-      (asides : List Aside) → asides ≡ drop passed all → length asides ≡ length slots
+  covered : (all : List Beside) (passed : ℕ) (slots : List (Option (StoredEntry K V P T)))
+      (asides : List Beside) → asides ≡ drop passed all → length asides ≡ length slots
       → AreCovered all (entries_past passed slots)
   covered all passed [] asides left beside = tt
   covered all passed (stored ∷ slots) [] left beside = absurd (omega arith)
@@ -86,7 +86,7 @@ module _ {K V P T : Type 0} where
       let below = first.0 in
       ((omega arith, omega arith), covered all (passed + 1) slots asides first.2 (omega arith))
 
-  drop-beside : (n : ℕ) (slots : List (Option (StoredEntry K V P T))) (asides : List Aside)
+  drop-beside : (n : ℕ) (slots : List (Option (StoredEntry K V P T))) (asides : List Beside)
       → length asides ≡ length slots → length (drop n asides) ≡ length (drop n slots)
   drop-beside zero slots asides beside = beside
   drop-beside (suc n) [] [] beside = refl
@@ -96,44 +96,44 @@ module _ {K V P T : Type 0} where
       drop-beside n slots asides (omega arith)
 
   -- the entries past a token
-  pub entries_after-joined : (slab : LinkedSlab (StoredEntry K V P T)) (asides : List Aside)
-      (left t : ℕ) → AreBeside slab asides
-      → entries_beside asides (entries_after slab t) ≡ entries_after (joined slab asides left) t
-  entries_after-joined slab asides left t beside =
-      entries-joined asides t (drop t slab.slots) (drop t asides) refl
-      (drop-beside t slab.slots asides beside)
+  pub entries_after-joined : (pool : Pool (StoredEntry K V P T)) (asides : List Beside)
+      (left t : ℕ) → AreBeside pool asides
+      → entries_beside asides (entries_after pool t) ≡ entries_after (joined pool asides left) t
+  entries_after-joined pool asides left t beside =
+      entries-joined asides t (drop t pool.slots) (drop t asides) refl
+      (drop-beside t pool.slots asides beside)
       ∙ ap (λ (xs : List (Option (Slot K V P T))). entries_past t xs)
-      (sym (joined_slots-drop t slab.slots asides))
+      (sym (joined_slots-drop t pool.slots asides))
 
   -- and what stands beside each of them
-  pub entries_after-covered : (slab : LinkedSlab (StoredEntry K V P T)) (asides : List Aside)
-      (t : ℕ) → AreBeside slab asides → AreCovered asides (entries_after slab t)
-  entries_after-covered slab asides t beside =
-      covered asides t (drop t slab.slots) (drop t asides) refl
-      (drop-beside t slab.slots asides beside)
+  pub entries_after-covered : (pool : Pool (StoredEntry K V P T)) (asides : List Beside)
+      (t : ℕ) → AreBeside pool asides → AreCovered asides (entries_after pool t)
+  entries_after-covered pool asides t beside =
+      covered asides t (drop t pool.slots) (drop t asides) refl
+      (drop-beside t pool.slots asides beside)
 
   -- the entries past a token, or all of them
-  pub entries_from-joined : (slab : LinkedSlab (StoredEntry K V P T)) (asides : List Aside)
+  pub entries_from-joined : (pool : Pool (StoredEntry K V P T)) (asides : List Beside)
       (left : ℕ) (token : Option Token) (entries : List (ℕ × StoredEntry K V P T))
-      → AreBeside slab asides
-      → MatchOption token (entries ≡ entries_after slab 0)
-      (λ token. entries ≡ entries_after slab (non_zero_u32_get token))
+      → AreBeside pool asides
+      → MatchOption token (entries ≡ entries_after pool 0)
+      (λ token. entries ≡ entries_after pool (non_zero_u32_get token))
       → MatchOption token
-      (entries_beside asides entries ≡ entries_after (joined slab asides left) 0)
+      (entries_beside asides entries ≡ entries_after (joined pool asides left) 0)
       (λ token. entries_beside asides entries
-      ≡ entries_after (joined slab asides left) (non_zero_u32_get token))
-  entries_from-joined slab asides left None entries beside all =
-      rw all (entries_after-joined slab asides left 0 beside)
-  entries_from-joined slab asides left (Some token) entries beside all =
-      rw all (entries_after-joined slab asides left (non_zero_u32_get token) beside)
+      ≡ entries_after (joined pool asides left) (non_zero_u32_get token))
+  entries_from-joined pool asides left None entries beside all =
+      rw all (entries_after-joined pool asides left 0 beside)
+  entries_from-joined pool asides left (Some token) entries beside all =
+      rw all (entries_after-joined pool asides left (non_zero_u32_get token) beside)
 
   -- and what stands beside each of them
-  pub entries_from-covered : (slab : LinkedSlab (StoredEntry K V P T)) (asides : List Aside)
-      (token : Option Token) (entries : List (ℕ × StoredEntry K V P T)) → AreBeside slab asides
-      → MatchOption token (entries ≡ entries_after slab 0)
-      (λ token. entries ≡ entries_after slab (non_zero_u32_get token))
+  pub entries_from-covered : (pool : Pool (StoredEntry K V P T)) (asides : List Beside)
+      (token : Option Token) (entries : List (ℕ × StoredEntry K V P T)) → AreBeside pool asides
+      → MatchOption token (entries ≡ entries_after pool 0)
+      (λ token. entries ≡ entries_after pool (non_zero_u32_get token))
       → AreCovered asides entries
-  entries_from-covered slab asides None entries beside all =
-      rw all (entries_after-covered slab asides 0 beside)
-  entries_from-covered slab asides (Some token) entries beside all =
-      rw all (entries_after-covered slab asides (non_zero_u32_get token) beside)
+  entries_from-covered pool asides None entries beside all =
+      rw all (entries_after-covered pool asides 0 beside)
+  entries_from-covered pool asides (Some token) entries beside all =
+      rw all (entries_after-covered pool asides (non_zero_u32_get token) beside)

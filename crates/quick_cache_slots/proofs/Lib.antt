@@ -1,3 +1,4 @@
+mod BesideLemmas
 mod TokenEdits
 mod JoinedLemmas
 mod JoinedEdits

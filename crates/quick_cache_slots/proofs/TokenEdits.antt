@@ -2,7 +2,7 @@
 use Rattle.std.proofs.Common.{◌≡◌, ◌≢◌, ℕ, zero, suc, ◌+◌, ◌<◌, ◌≤◌, List, [], ◌∷◌, ◌++◌, length, get_or, set, refl, sym, ap, subst, ◌∙◌, inl, inr, arith, length-set}
 use Rattle.std.proofs.lemmas.Bool.{cases_lt}
 use Rattle.std.proofs.lemmas.List.{get_or-set_same, get_or-set_other, get_or_past, get_or_default, get_or_push, get_or_append_left, length_push}
-use Rattle.quick_cache_slab.specs.LinkedSlab.{at_token, with_token}
+use Rattle.quick_cache_pool.specs.Pool.{at_token, with_token}
 
 -- the place of a token comes one before it
 pub at_token-place : {X : Type 0} (xs : List X) (t i : ℕ) (d : X) → i + 1 ≡ t

@@ -1,7 +1,7 @@
 -- Copies of what slots have: clones stand in for keys and values.
 use Rattle.std.specs.Prelude.{◌≡◌, ℕ, List, [], ◌∷◌, Option, Some, None}
 use Rattle.quick_cache_model.specs.CacheState.{Item}
-use Rattle.quick_cache_slots.specs.declared.aside.Aside.{Aside}
+use Rattle.quick_cache_slots.specs.declared.beside.Beside.{Beside}
 use Rattle.quick_cache_slots.specs.declared.entry.Awaited.{Awaited}
 use Rattle.quick_cache_slots.specs.declared.entry.Entry.{Entry}
 use Rattle.quick_cache_slots.specs.declared.entry.Entry.TheVariants.{Item as item_variant, Loading as loading_variant, Ghost as ghost_variant}
@@ -53,29 +53,31 @@ module _ {K V P : Type 0} (clones_key : K → K → Type 0) (clones_value : V �
   IsStoredCopy (stored_item head body) (stored_item copied copy) =
       (copied ≡ head) × clones_key body.key copy.key × clones_value body.value copy.value
   IsStoredCopy (stored_item head body) (stored_loading queue key placeholder) = ⊥
-  IsStoredCopy (stored_item head body) stored_ghost = ⊥
+  IsStoredCopy (stored_item head body) (stored_ghost note) = ⊥
   IsStoredCopy (stored_loading queue key placeholder) (stored_item head body) = ⊥
   IsStoredCopy (stored_loading queue key placeholder) (stored_loading copied copy stand_in) =
       (copied ≡ queue) × clones_key key copy × shares placeholder stand_in
-  IsStoredCopy (stored_loading queue key placeholder) stored_ghost = ⊥
-  IsStoredCopy stored_ghost (stored_item head body) = ⊥
-  IsStoredCopy stored_ghost (stored_loading queue key placeholder) = ⊥
-  IsStoredCopy stored_ghost stored_ghost = Unit {0}
+  IsStoredCopy (stored_loading queue key placeholder) (stored_ghost note) = ⊥
+  IsStoredCopy (stored_ghost note) (stored_item head body) = ⊥
+  IsStoredCopy (stored_ghost note) (stored_loading queue key placeholder) = ⊥
+  IsStoredCopy (stored_ghost note) (stored_ghost copied) = Unit {0}
 
 module _ {K V P T : Type 0} (hash_of : K → ℕ) where
   -- what stands beside the copy of an entry: the hash of its key, or that of a ghost
-  abbrev pub aside_copy : (copy : StoredEntry K V P T) → Aside → Aside
-  aside_copy (stored_item head body) aside = record aside { hash = hash_of body.key }
-  aside_copy (stored_loading queue key placeholder) aside = record aside { hash = hash_of key }
-  aside_copy stored_ghost aside = aside
+  abbrev pub aside_copy : (copy : StoredEntry K V P T) → Beside → Beside
+  aside_copy (stored_item head body) beside =
+      record beside { aside = record beside.aside { hash = hash_of body.key } }
+  aside_copy (stored_loading queue key placeholder) beside =
+      record beside { aside = record beside.aside { hash = hash_of key } }
+  aside_copy (stored_ghost note) aside = aside
 
   -- what stands beside a slot of a copy
-  abbrev pub aside_for : Option (StoredEntry K V P T) → Aside → Aside
+  abbrev pub aside_for : Option (StoredEntry K V P T) → Beside → Beside
   aside_for None aside = aside
   aside_for (Some copy) aside = aside_copy copy aside
 
   -- what stands beside the slots of a copy
-  abbrev pub aside_copies : (copies : List (Option (StoredEntry K V P T))) → List Aside → List Aside
+  abbrev pub aside_copies : (copies : List (Option (StoredEntry K V P T))) → List Beside → List Beside
   aside_copies [] asides = []
   aside_copies (copy ∷ copies) [] = []
   aside_copies (copy ∷ copies) (aside ∷ asides) = aside_for copy aside ∷ aside_copies copies asides

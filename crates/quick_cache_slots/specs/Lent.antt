@@ -3,7 +3,7 @@
 use Rattle.std.specs.Prelude.{◌≡◌, ℕ}
 use Rattle.std.specs.Borrow.{Fml, RattleType, MutBor, Lends}
 use Rattle.std.specs.declared.alloc.Allocator.{Ghosts}
-use Rattle.quick_cache_slab.specs.LinkedSlab.{LinkedSlab}
+use Rattle.quick_cache_pool.specs.Pool.{Pool}
 use Rattle.quick_cache_slots.specs.declared.entry.Entry.{Entry}
 use Rattle.quick_cache_slots.specs.declared.entry.Entry.TheVariants.{Item as item_variant, Loading as loading_variant, Ghost as ghost_variant}
 use Rattle.quick_cache_slots.specs.declared.entry.Slot.{Slot}
@@ -28,7 +28,7 @@ IsValueOf ghost_variant value = ⊥
 abbrev pub IsStoredValue : {K V P T : Type 0} → StoredEntry K V P T → V → Type 0
 IsStoredValue (stored_item head body) value = value ≡ body.value
 IsStoredValue (stored_loading queue key placeholder) value = ⊥
-IsStoredValue stored_ghost value = ⊥
+IsStoredValue (stored_ghost note) value = ⊥
 
 module _ (K V T : RattleType) where
   -- the item ends with the last value written
@@ -45,7 +45,7 @@ module _ (K V P T : RattleType) where
 
 module _ (K V P T A : RattleType) (alloc : Ghosts A.Denot) where
   -- the slot of that token ends with the last value written
-  abbrev pub lends_slot_value : MutBor (LinkedSlab (Slot K.Denot V.Denot P.Denot T.Denot)) → ℕ
+  abbrev pub lends_slot_value : MutBor (Pool (Slot K.Denot V.Denot P.Denot T.Denot)) → ℕ
       → MutBor V.Denot → Fml
   lends_slot_value held token r =
       Lends (slots.the_row K V P T A alloc) V held r

@@ -1,7 +1,9 @@
 pub mod Items
+pub mod Residents
 pub mod Slots
 pub mod Stored
 pub mod Writes
+pub mod Asides
 pub mod Joined
 pub mod Lent
 pub mod Copies

@@ -3,7 +3,7 @@ use Rattle.std.specs.Prelude.{◌≡◌, ℕ, Some}
 use denote.Ref.{Bor, MutBor}
 use denote.Param.Members.{Called, Mut}
 use Rattle.quick_cache_model.specs.CacheState.{Item}
-use Rattle.quick_cache_slab.specs.LinkedSlab.{LinkedSlab, item_at}
+use Rattle.quick_cache_pool.specs.Pool.{Pool, item_at}
 use Rattle.quick_cache_slots.specs.declared.entry.Entry.TheVariants.{Item as item_variant}
 use Rattle.quick_cache_slots.specs.declared.entry.Slot.{Slot}
 use Rattle.quick_cache_slots.specs.declared.stored.StoredEntry.{StoredEntry}
@@ -17,7 +17,7 @@ use Rattle.quick_cache_slots.specs.Writes.{Writes}
 abbrev pub HoldsOfItem : {K V P T : Type 0} → StoredEntry K V P T → (K → V → Type 0) → Type 0
 HoldsOfItem (stored_item head body) Q = Q body.key body.value
 HoldsOfItem (stored_loading queue key placeholder) Q = ⊥
-HoldsOfItem stored_ghost Q = ⊥
+HoldsOfItem (stored_ghost note) Q = ⊥
 
 module _ {F K V R : Type 0}
     (calls : Mut F (Bor K × (MutBor V × Unit {0})) (R × (MutBor V × Unit {0}))) where
@@ -39,8 +39,8 @@ module _ {F K V R : Type 0}
     pub rest : new ≡ entry_with_value left old
 
   -- so was the item of the token
-  pub record ShowsSlot {P T : Type 0} (callback : F) (old : LinkedSlab (Slot K V P T)) (token : ℕ)
-      (answer : R) (next : F) (new : LinkedSlab (Slot K V P T)) : Type 0 where
+  pub record ShowsSlot {P T : Type 0} (callback : F) (old : Pool (Slot K V P T)) (token : ℕ)
+      (answer : R) (next : F) (new : Pool (Slot K V P T)) : Type 0 where
     pub hash : ℕ
     pub item : Item K V
     pub at : item_at old token ≡ Some (record { hash = hash; entry = item_variant item })

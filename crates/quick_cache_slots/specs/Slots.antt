@@ -1,6 +1,6 @@
 -- What stands in a slot.
 use Rattle.std.specs.Prelude.{◌≡◌, ℕ, Bool, true, false, Option, Some, None, if◌then◌else◌, ◌==◌, eqb}
-use Rattle.quick_cache_slab.specs.LinkedSlab.{LinkedSlab, item_at}
+use Rattle.quick_cache_pool.specs.Pool.{Pool, item_at}
 use Rattle.quick_cache_model.specs.CacheState.{Item}
 use Rattle.quick_cache_model.specs.declared.queue.Queue.{Queue}
 use Rattle.quick_cache_model.specs.declared.queue.Queue.TheVariants.{Hot, Cold}
@@ -126,26 +126,26 @@ module _ {K V P T : Type 0} where
   -- ---- at a token
 
   -- the slot of the token has that entry
-  abbrev pub HasEntry : LinkedSlab (Slot K V P T) → ℕ → Entry K V P T → Type 0
-  HasEntry slab token entry =
-      (hash : ℕ) × (item_at slab token ≡ Some (record { hash = hash; entry = entry }))
+  abbrev pub HasEntry : Pool (Slot K V P T) → ℕ → Entry K V P T → Type 0
+  HasEntry pool token entry =
+      (hash : ℕ) × (item_at pool token ≡ Some (record { hash = hash; entry = entry }))
 
   -- the slot of the token has that item
-  abbrev pub HasItemEntry : LinkedSlab (Slot K V P T) → ℕ → Item K V → Type 0
-  HasItemEntry slab token item = HasEntry slab token (item_variant item)
+  abbrev pub HasItemEntry : Pool (Slot K V P T) → ℕ → Item K V → Type 0
+  HasItemEntry pool token item = HasEntry pool token (item_variant item)
 
   -- the slot of the token has an item
-  abbrev pub HasItem : LinkedSlab (Slot K V P T) → ℕ → Type 0
-  HasItem slab token = (hash : ℕ) × (item : Item K V)
-      × (item_at slab token ≡ Some (record { hash = hash; entry = item_variant item }))
+  abbrev pub HasItem : Pool (Slot K V P T) → ℕ → Type 0
+  HasItem pool token = (hash : ℕ) × (item : Item K V)
+      × (item_at pool token ≡ Some (record { hash = hash; entry = item_variant item }))
 
   -- the slot of the token has a key that is being loaded
-  abbrev pub HasLoading : LinkedSlab (Slot K V P T) → ℕ → Type 0
-  HasLoading slab token = (hash : ℕ) × (awaited : Awaited K P)
-      × (item_at slab token ≡ Some (record { hash = hash; entry = loading_variant awaited }))
+  abbrev pub HasLoading : Pool (Slot K V P T) → ℕ → Type 0
+  HasLoading pool token = (hash : ℕ) × (awaited : Awaited K P)
+      × (item_at pool token ≡ Some (record { hash = hash; entry = loading_variant awaited }))
 
   -- the value is that of the item of the token
-  abbrev pub HasValue : LinkedSlab (Slot K V P T) → ℕ → V → Type 0
-  HasValue slab token value = (hash : ℕ) × (item : Item K V)
-      × (item_at slab token ≡ Some (record { hash = hash; entry = item_variant item }))
+  abbrev pub HasValue : Pool (Slot K V P T) → ℕ → V → Type 0
+  HasValue pool token value = (hash : ℕ) × (item : Item K V)
+      × (item_at pool token ≡ Some (record { hash = hash; entry = item_variant item }))
       × (value ≡ item.value)

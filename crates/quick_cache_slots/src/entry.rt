@@ -2,7 +2,7 @@
 ghost use Rattle.std.specs.Prelude.{◌≡◌};
 ghost use Rattle.quick_cache_slots.specs.Slots.{stand_by, weight_in, stand_in, loading_in};
 
-use crate::resident::Resident;
+use crate::resident::Marked;
 use quick_cache_model::Queue;
 
 /// A key that is being loaded.
@@ -16,7 +16,7 @@ pub struct Awaited<K, P> {
 /// What stands under a token.
 #[derive(Drop)]
 pub enum Entry<K, V, P, T> {
-    Item(Resident<K, V, T>),
+    Item(Marked<K, V, T>),
     Loading(Awaited<K, P>),
     Ghost,
 }
@@ -72,7 +72,7 @@ impl<K, V, P, T> Entry<K, V, P, T> {
         ensures { result ≡ weight_in self.now }
     {
         match self {
-            Entry::Item(resident) => resident.weight(),
+            Entry::Item(item) => item.weight(),
             Entry::Loading(_) => 0,
             Entry::Ghost => 0,
         }
@@ -84,7 +84,7 @@ impl<K, V, P, T> Entry<K, V, P, T> {
         ensures { result ≡ stand_in self.now }
     {
         match self {
-            Entry::Item(resident) => resident.stand(),
+            Entry::Item(item) => item.stand(),
             Entry::Loading(_) => Stand::AmongLoading,
             Entry::Ghost => Stand::AmongGhosts,
         }

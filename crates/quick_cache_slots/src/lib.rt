@@ -1,11 +1,13 @@
-//! The slots of a shard: each has an entry and its hash, under a token, in a ring of the slab.
+//! The slots of a shard: each has an entry and its hash, under a token.
 //!
-//! What a look-up reads of an entry stands in the slab, and what it does not read stands in a list
-//! beside it, so that a slot takes 32 bytes of the slab where a key and a value take 8 each. A
-//! caller sees one slab of whole slots.
+//! What a look-up reads of an entry stands in the pool, and what it does not read stands beside it,
+//! so that a slot takes 24 bytes of the pool where a key and a value take 8 each. The marks stand in
+//! a list of their own. A caller sees one pool of whole slots.
 #![tactic(auto)]
 
 mod aside;
+mod asides;
+mod beside;
 mod entry;
 mod refs;
 mod resident;
@@ -14,5 +16,5 @@ mod stored;
 
 pub use entry::{Awaited, Entry, Slot, Stand};
 pub use refs::{AwaitedRef, ItemRef, SlotRef};
-pub use resident::Resident;
+pub use resident::{Marked, Resident};
 pub use slots::{Copying, SlotIter, Slots, SlotsFrom};

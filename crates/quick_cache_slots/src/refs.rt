@@ -2,7 +2,7 @@
 ghost use Rattle.std.specs.Prelude.{◌≡◌, Some, true};
 ghost use Rattle.quick_cache_slots.specs.Slots.{has_hash, stand_in, stand_of_item, is_under, is_item_under, is_ghost, is_item, weight_in, entry_item, entry_awaited};
 
-use crate::aside::Aside;
+use crate::beside::BesideRef;
 use crate::entry::{Entry, Stand};
 use crate::stored::{Body, Head, StoredEntry};
 use quick_cache_model::{Equivalent, Queue};
@@ -14,7 +14,7 @@ use std::marker::Model;
 pub struct ItemRef<'a, K, V, T> {
     pub(crate) head: &'a Head,
     pub(crate) body: &'a Body<K, V, T>,
-    pub(crate) aside: &'a Aside,
+    pub(crate) beside: BesideRef<'a>,
 }
 
 impl<'a, K, V, T> Model for ItemRef<'a, K, V, T> {
@@ -22,9 +22,10 @@ impl<'a, K, V, T> Model for ItemRef<'a, K, V, T> {
 
     ghost Value = { Item K V };
 
+    ghost use Rattle.quick_cache_slots.specs.Asides.{seen};
     ghost use Rattle.quick_cache_slots.specs.Stored.{item_of_body};
 
-    ghost view = { λ i. item_of_body i.head.now i.body.now i.aside.now };
+    ghost view = { λ i. item_of_body i.head.now i.body.now (seen i.beside) };
 }
 
 impl<'a, K, V, T> ItemRef<'a, K, V, T> {
@@ -37,13 +38,13 @@ impl<'a, K, V, T> ItemRef<'a, K, V, T> {
     pub fn weight(&self) -> u64
         ensures { result ≡ self.now.weight }
     {
-        self.aside.weight_by(self.head.weight)
+        self.beside.aside.weight_by(self.head.weight)
     }
 
     pub fn mark(&self) -> u8
         ensures { result ≡ self.now.mark }
     {
-        self.head.mark
+        *self.beside.mark
     }
 
     pub fn key(&self) -> &'a K
@@ -74,7 +75,7 @@ impl<'a, K, V, T> ItemRef<'a, K, V, T> {
     pub fn reads(&self) -> u64
         ensures { result ≡ self.now.reads }
     {
-        self.aside.reads_by(self.head.late)
+        self.beside.aside.reads_by(self.head.late)
     }
 
     /// The list that it stands in.
@@ -130,7 +131,7 @@ impl<'a, K, P> AwaitedRef<'a, K, P> {
 #[derive(Drop)]
 pub struct SlotRef<'a, K, V, P, T> {
     pub(crate) entry: &'a StoredEntry<K, V, P, T>,
-    pub(crate) aside: &'a Aside,
+    pub(crate) beside: BesideRef<'a>,
 }
 
 impl<'a, K, V, P, T> Model for SlotRef<'a, K, V, P, T> {
@@ -138,9 +139,10 @@ impl<'a, K, V, P, T> Model for SlotRef<'a, K, V, P, T> {
 
     ghost Value = { Slot K V P T };
 
+    ghost use Rattle.quick_cache_slots.specs.Asides.{seen};
     ghost use Rattle.quick_cache_slots.specs.Stored.{slot_of};
 
-    ghost view = { λ s. slot_of s.entry.now s.aside.now };
+    ghost view = { λ s. slot_of s.entry.now (seen s.beside) };
 }
 
 impl<'a, K, V, P, T> SlotRef<'a, K, V, P, T> {
@@ -148,7 +150,7 @@ impl<'a, K, V, P, T> SlotRef<'a, K, V, P, T> {
     pub fn hash(&self) -> u64
         ensures { result ≡ self.now.hash }
     {
-        self.aside.hash
+        self.beside.aside.hash
     }
 
     /// What it weighs: only an item weighs something.
@@ -156,9 +158,9 @@ impl<'a, K, V, P, T> SlotRef<'a, K, V, P, T> {
         ensures { result ≡ weight_in self.now.entry }
     {
         match self.entry {
-            StoredEntry::Item(head, _) => self.aside.weight_by(head.weight),
+            StoredEntry::Item(head, _) => self.beside.aside.weight_by(head.weight),
             StoredEntry::Loading(_, _, _) => 0,
-            StoredEntry::Ghost => 0,
+            StoredEntry::Ghost(_) => 0,
         }
     }
 
@@ -168,10 +170,10 @@ impl<'a, K, V, P, T> SlotRef<'a, K, V, P, T> {
     {
         match self.entry {
             StoredEntry::Item(head, _) => {
-                Stand::of_item(self.aside.weight_by(head.weight), head.queue)
+                Stand::of_item(self.beside.aside.weight_by(head.weight), head.queue)
             }
             StoredEntry::Loading(_, _, _) => Stand::AmongLoading,
-            StoredEntry::Ghost => Stand::AmongGhosts,
+            StoredEntry::Ghost(_) => Stand::AmongGhosts,
         }
     }
 
@@ -180,7 +182,7 @@ impl<'a, K, V, P, T> SlotRef<'a, K, V, P, T> {
     pub fn is_of(&self, hash: u64) -> bool
         ensures { result ≡ has_hash hash (Some self.now) }
     {
-        self.aside.hash == hash
+        self.beside.aside.hash == hash
     }
 
     /// Whether the query stands for the key of an item or of a placeholder.
@@ -192,7 +194,7 @@ impl<'a, K, V, P, T> SlotRef<'a, K, V, P, T> {
         match self.entry {
             StoredEntry::Item(_, body) => query.equivalent(&body.key),
             StoredEntry::Loading(_, key, _) => query.equivalent(key),
-            StoredEntry::Ghost => false,
+            StoredEntry::Ghost(_) => false,
         }
     }
 
@@ -206,7 +208,7 @@ impl<'a, K, V, P, T> SlotRef<'a, K, V, P, T> {
         match self.entry {
             StoredEntry::Item(_, body) => query.equivalent(&body.key),
             StoredEntry::Loading(_, _, _) => false,
-            StoredEntry::Ghost => false,
+            StoredEntry::Ghost(_) => false,
         }
     }
 
@@ -229,7 +231,7 @@ impl<'a, K, V, P, T> SlotRef<'a, K, V, P, T> {
         ItemRef {
             head,
             body,
-            aside: self.aside,
+            beside: self.beside,
         }
     }
 
@@ -241,10 +243,10 @@ impl<'a, K, V, P, T> SlotRef<'a, K, V, P, T> {
             StoredEntry::Item(head, body) => Some(ItemRef {
                 head,
                 body,
-                aside: self.aside,
+                beside: self.beside,
             }),
             StoredEntry::Loading(_, _, _) => None,
-            StoredEntry::Ghost => None,
+            StoredEntry::Ghost(_) => None,
         }
     }
 
@@ -259,7 +261,7 @@ impl<'a, K, V, P, T> SlotRef<'a, K, V, P, T> {
                 key,
                 placeholder,
             }),
-            StoredEntry::Ghost => None,
+            StoredEntry::Ghost(_) => None,
         }
     }
 
@@ -267,7 +269,7 @@ impl<'a, K, V, P, T> SlotRef<'a, K, V, P, T> {
         ensures { result ≡ is_ghost self.now }
     {
         match self.entry {
-            StoredEntry::Ghost => true,
+            StoredEntry::Ghost(_) => true,
             _ => false,
         }
     }

@@ -1,8 +1,7 @@
 //! The slots of a shard, and room for them.
-ghost use Rattle.std.specs.Prelude.{◌≡◌, ◌≢◌, ◌+◌, ◌-◌, ◌*◌, ◌≤◌, ◌<◌, ◌↔◌, min, max, count_by, is_some, length, IsOk, IfOk, IfErr, IfSome, OnOk, OnErr, MatchOption, IsTrue, Some};
+ghost use Rattle.std.specs.Prelude.{◌≡◌, ◌+◌, ◌-◌, ◌*◌, ◌≤◌, ◌<◌, ◌↔◌, min, max, count_by, is_some, length, IsOk, IfOk, IfErr, OnOk, IsTrue, Some};
 ghost use Rattle.std.specs.Int.NonZero.{non_zero_u32_get as number};
-ghost use Rattle.quick_cache_slab.specs.LinkedSlab.{item_at, IsOccupied, next_token, spare, left, IsFull, placed, linked, unlinked, removed, IsNextOf, IsAlone, JoinsEnd, IsParted, emptied};
-ghost use Rattle.quick_cache_slab.specs.SlabEdits.{PlacesItem, LinksToken, UnlinksToken, RemovesItem};
+ghost use Rattle.quick_cache_pool.specs.Pool.{item_at, IsOccupied, next_token, spare, left, IsFull, placed, removed, IsParted, emptied};
 
 mod copies;
 mod fills;
@@ -11,51 +10,44 @@ mod looks;
 mod values;
 mod writes;
 
-use crate::aside::Aside;
+use crate::asides::Asides;
 use crate::entry::Slot;
 use crate::stored::{StoredEntry, store, unstore};
 pub use copies::Copying;
 pub use iter::{SlotIter, SlotsFrom};
 use quick_cache_model::{Refusal, Token};
-use quick_cache_slab::LinkedSlab;
-use quick_cache_slab::linked_slab::{TightNode, make_room};
+use quick_cache_pool::Pool;
 use std::alloc::{Allocator, Global};
 use std::marker::Model;
-use std::mem;
 
 /// How many slots there may be.
 const MAX_SLOTS: usize = 4294967294;
 
 /// The entries alone. A slot has no tag but theirs.
-pub(crate) type Entries<K, V, P, T, A> = LinkedSlab<
-    StoredEntry<K, V, P, T>,
-    A,
-    TightNode<StoredEntry<K, V, P, T>>,
->;
+pub(crate) type Entries<K, V, P, T, A> = Pool<StoredEntry<K, V, P, T>, A>;
 
-/// Entries under tokens, each with its hash. Each stands in a ring, at first alone.
+/// Entries under tokens, each with its hash. None is linked to another.
 ///
 /// A token keeps its entry until that is removed, and only then is it given out again.
 #[derive(Drop)]
 pub struct Slots<K, V, P, T, A: Allocator = Global> {
-    slab: Entries<K, V, P, T, A>,
+    pool: Entries<K, V, P, T, A>,
     // What stands beside each slot, in the order of the slots.
-    asides: Vec<Aside, A>,
+    asides: Asides<A>,
 }
 
 impl<K, V, P, T, A: Allocator> Model for Slots<K, V, P, T, A> {
-    ghost use Rattle.std.specs.Prelude.{vec_len, vec_capacity};
-    ghost use Rattle.quick_cache_slab.specs.LinkedSlab.{LinkedSlab as Slab};
+    ghost use Rattle.quick_cache_pool.specs.Pool.{Pool};
     ghost use Rattle.quick_cache_slots.specs.declared.entry.Slot.{Slot};
 
-    ghost Value = { Slab (Slot K V P T) };
+    ghost Value = { Pool (Slot K V P T) };
 
-    ghost use Rattle.quick_cache_slots.specs.Joined.{joined, room_beside, AreBeside};
+    ghost use Rattle.quick_cache_slots.specs.Asides.{besides_of, room_of};
+    ghost use Rattle.quick_cache_slots.specs.Joined.{joined, AreAllBeside};
 
-    ghost view = { λ s. joined s.slab s.asides.items
-        (room_beside (vec_capacity s.asides) (vec_len s.asides)) };
+    ghost view = { λ s. joined s.pool (besides_of s.asides) (room_of s.asides) };
 
-    ghost invariant = { λ s. AreBeside s.slab s.asides.items };
+    ghost invariant = { λ s. AreAllBeside s.pool s.asides };
 }
 
 /// Where in a list the things of a token stand.
@@ -68,18 +60,17 @@ fn place(token: Token) -> usize
 
 impl<K, V, P, T, A: Allocator> Slots<K, V, P, T, A> {
     /// No slots, and no room for any. It asks for no memory.
-    pub fn new(for_slots: A, for_asides: A) -> Result<Self, Refusal>
-        ensures empty { IfOk result (λ slots. slots ≡ emptied 0) }
-        ensures succeeds { IsOk result }
+    pub fn new(for_slots: A, for_free: A, for_asides: A, for_marks: A) -> Self
+        ensures { result ≡ emptied 0 }
     {
-        Ok(Slots {
-            slab: LinkedSlab::with_nodes(for_slots, 0)?,
-            asides: Vec::new(for_asides),
-        })
+        Slots {
+            pool: Pool::new(for_slots, for_free),
+            asides: Asides::new(for_asides, for_marks),
+        }
     }
 
-    /// Stores an entry, a ring of its own, under the token that was freed last, or under a new one.
-    /// It takes one of the room, and no memory.
+    /// Stores an entry under the token that was freed last, or under a new one. It takes one of the
+    /// room, and no memory.
     #[inline(always)]
     pub fn insert_reserved(&mut self, slot: Slot<K, V, P, T>) -> Token
         requires { 0 < spare self.old }
@@ -87,75 +78,30 @@ impl<K, V, P, T, A: Allocator> Slots<K, V, P, T, A> {
         ensures placed { self.new
             ≡ record (placed self.old.free self.old slot) { room = self.new.room } }
         ensures spare { spare self.new + 1 ≡ spare self.old }
-        ensures edit { PlacesItem self.old self.new (number result) slot }
         ensures parted { IsParted self.new }
     {
-        let (entry, aside) = store(slot);
-        let token = match self.slab.insert(entry) {
-            Ok(token) => token,
-            Err(_) => unreachable!(),
-        };
+        let (entry, beside) = store(slot);
+        let token = self.pool.insert_reserved(entry);
         let place = place(token);
         if place < self.asides.len() {
-            self.asides[place] = aside;
+            self.asides.put(place, beside);
         } else {
-            self.asides.push_reserved(aside);
+            self.asides.push_reserved(beside);
         }
         token
     }
 
-    /// Takes the entry of a token out of its ring and out of its slot, and answers it.
-    ///
-    /// With it comes the token that was behind it, if that was another. The token is the next that
-    /// is given out.
+    /// Takes the entry of a token out of its slot, and answers it. The token is the next that is
+    /// given out.
     #[inline(always)]
-    pub fn remove(&mut self, token: Token) -> (Slot<K, V, P, T>, Option<Token>)
+    pub fn remove(&mut self, token: Token) -> Slot<K, V, P, T>
         requires { IsOccupied self.old (number token) }
-        ensures item { item_at self.old (number token) ≡ Some result.0 }
-        ensures next { IsNextOf self.old (number token) result.1 }
+        ensures item { item_at self.old (number token) ≡ Some result }
         ensures removed { self.new ≡ removed self.old (number token) }
-        ensures edit { RemovesItem self.old self.new (number token) }
         ensures parted { IsParted self.new }
     {
-        let (stored, next) = unsafe { self.slab.remove_unchecked(token) };
-        (unstore(stored, &self.asides[place(token)]), next)
-    }
-
-    /// Puts an entry that is a ring of its own before the head of another, so at that ring's end.
-    ///
-    /// It answers the head. With no head nothing changes, and the answer is the token itself.
-    #[inline(always)]
-    pub fn link(&mut self, token: Token, head: Option<Token>) -> Token
-        requires occupied { IsOccupied self.old (number token) }
-        requires alone { IsAlone self.old (number token) }
-        requires head { IfSome head (λ head. IsOccupied self.old (number head)) }
-        requires apart { IfSome head (λ head. number head ≢ number token) }
-        ensures head { MatchOption head (number result ≡ number token)
-            (λ head. number result ≡ number head) }
-        ensures linked { MatchOption head (self.new ≡ self.old)
-            (λ head. self.new ≡ linked self.old (number token) (number head)) }
-        ensures ring { IfSome head
-            (λ head. JoinsEnd self.old self.new (number token) (number head)) }
-        ensures edit { IfSome head
-            (λ head. LinksToken self.old self.new (number token) (number head)) }
-        ensures parted { IsParted self.new }
-    {
-        self.slab.link(token, head)
-    }
-
-    /// Takes an entry out of its ring, and leaves it a ring of its own.
-    ///
-    /// It answers the token that was behind it, if that was another.
-    #[inline(always)]
-    pub fn unlink(&mut self, token: Token) -> Option<Token>
-        requires { IsOccupied self.old (number token) }
-        ensures unlinked { self.new ≡ unlinked self.old (number token) }
-        ensures alone { IsAlone self.new (number token) }
-        ensures edit { UnlinksToken self.old self.new (number token) }
-        ensures parted { IsParted self.new }
-        ensures next { IsNextOf self.old (number token) result }
-    {
-        self.slab.unlink(token)
+        let stored = self.pool.remove(token);
+        unstore(stored, &self.asides.get(place(token)))
     }
 
     /// Makes room for so many more entries, or for all that can still come.
@@ -176,14 +122,12 @@ impl<K, V, P, T, A: Allocator> Slots<K, V, P, T, A> {
             → IsOk result × (self.new ≡ self.old) }
         ensures memory { IfErr result (λ refused. refused ≡ Refusal.Memory) }
     {
-        self.slab.validate();
-        let wanted = additional - self.slab.free_up_to(additional);
+        self.pool.validate();
+        let wanted = additional - self.pool.free_up_to(additional);
         let wanted = wanted.min(MAX_SLOTS - self.asides.len());
-        self.slab.reserve(additional)?;
-        match make_room(&mut self.asides, wanted) {
-            Ok(()) => Ok(()),
-            Err(_) => Err(Refusal::Memory),
-        }
+        self.pool.reserve(additional)?;
+        self.asides.reserve(wanted)?;
+        Ok(())
     }
 
     /// Whether the next entry needs no memory: a token is free, or there is room for a new one.
@@ -191,10 +135,16 @@ impl<K, V, P, T, A: Allocator> Slots<K, V, P, T, A> {
     pub fn has_room(&self) -> bool
         ensures { IsTrue result ↔ 0 < spare self.now }
     {
-        self.slab.validate();
-        let token = self.slab.next_free().get() as usize;
+        self.pool.validate();
+        let token = self.pool.next_free().get() as usize;
         let len = self.asides.len();
-        token <= len || (self.slab.has_room() && len < self.asides.capacity().min(MAX_SLOTS))
+        if token <= len {
+            return true;
+        }
+        if !self.asides.has_room() {
+            return false;
+        }
+        self.pool.has_room() && len < MAX_SLOTS
     }
 
     /// The token that the next entry gets: 4294967295 where all slots are taken.
@@ -202,16 +152,16 @@ impl<K, V, P, T, A: Allocator> Slots<K, V, P, T, A> {
         ensures token { number result ≡ next_token self.now }
         ensures full { (number result ≡ 4294967295) ↔ IsFull self.now }
     {
-        self.slab.next_free()
+        self.pool.next_free()
     }
 
-    /// How many entries there are. It looks at each slot.
+    /// How many entries there are.
     pub fn len(&self) -> usize
         ensures items { result ≡ count_by is_some self.now.slots }
         // Each slot has an entry or is free.
         ensures free { result + length self.now.free ≡ length self.now.slots }
     {
-        self.slab.len()
+        self.pool.len()
     }
 
     /// Does nothing: what it promises always holds of slots.
@@ -219,7 +169,7 @@ impl<K, V, P, T, A: Allocator> Slots<K, V, P, T, A> {
     pub fn validate(&self)
         ensures { IsParted self.now }
     {
-        self.slab.validate();
+        self.pool.validate();
     }
 
     /// Drops every entry, and keeps the room.
@@ -231,18 +181,18 @@ impl<K, V, P, T, A: Allocator> Slots<K, V, P, T, A> {
         T: Drop,
         ensures { self.new ≡ emptied (self.old.room + length self.old.slots) }
     {
-        let _ = self.slab.drain();
+        self.pool.clear();
         self.asides.clear();
     }
 
     /// The allocator that the slots are from.
     pub fn allocator(&self) -> &A {
-        self.slab.allocator()
+        self.pool.allocator()
     }
 
     /// The bytes of the slots, whether occupied or free, and of what stands beside them.
     pub fn memory_used(&self) -> usize {
-        let beside = mem::size_of_val(self.asides.as_slice());
-        self.slab.memory_used().saturating_add(beside)
+        let beside = self.asides.memory_used();
+        self.pool.memory_used().saturating_add(beside)
     }
 }

@@ -1,25 +1,26 @@
 //! An entry as its slot stores it. What is small stands beside the tag of the entry, so that an item
-//! takes 32 bytes with its links where a key and a value take 8 each.
+//! takes 24 bytes where a key and a value take 8 each.
 ghost use Rattle.quick_cache_slots.specs.Shown.{ShowsStored};
 ghost use Rattle.std.specs.Prelude.{◌≡◌, false};
 ghost use Rattle.std.specs.Borrow.{sem};
 ghost use Rattle.quick_cache_model.specs.Touches.{counted_up};
-ghost use Rattle.quick_cache_slots.specs.Items.{filled, read_once, requeued, used, with_counts, with_mark, with_weight};
+ghost use Rattle.quick_cache_slots.specs.Items.{filled, read_once, requeued, with_counts, with_weight};
+ghost use Rattle.quick_cache_slots.specs.declared.beside.Beside.{Beside};
 ghost use Rattle.quick_cache_slots.specs.Slots.{slot_changed, slot_filled, with_entry};
-ghost use Rattle.quick_cache_slots.specs.Stored.{entry_of, slot_of, reads_by, entry_filled_by, is_counted_out, IsItem, IsAwaited};
+ghost use Rattle.quick_cache_slots.specs.Stored.{resident_of, entry_of, slot_of, reads_by, entry_filled_by, is_counted_out, IsItem, IsAwaited};
 
 use crate::aside::Aside;
+use crate::beside::Beside;
 use crate::entry::{Awaited, Entry, Slot};
-use crate::resident::Resident;
+use crate::resident::{Marked, Resident};
 use core::mem::replace_with;
 use quick_cache_model::{Queue, Touches};
-use quick_cache_slab::linked_slab::Blank;
+use quick_cache_pool::pool::Blank;
 use std::mem::{replace, swap};
 
 /// What of an item is small.
 #[derive(Clone, Copy)]
 pub(crate) struct Head {
-    pub(crate) mark: u8,
     pub(crate) queue: Queue,
     // What the item weighs, or that this stands beside the slot.
     pub(crate) weight: u16,
@@ -37,29 +38,39 @@ pub(crate) struct Body<K, V, T> {
 }
 
 /// An entry: an item, a key that is being loaded by its queue, the key and the placeholder, or a
-/// ghost.
+/// ghost. A ghost is also the blank of a free slot, where it notes a number for the pool.
 #[derive(Drop)]
 pub(crate) enum StoredEntry<K, V, P, T> {
     Item(Head, Body<K, V, T>),
     Loading(Queue, K, P),
-    Ghost,
+    Ghost(u32),
 }
 
 impl<K, V, P, T> Blank for StoredEntry<K, V, P, T> {
-    ghost use Rattle.quick_cache_slots.specs.Stored.{IsBare};
+    ghost use Rattle.quick_cache_slots.specs.Stored.{IsBare, note_of};
 
     ghost is_blank = { IsBare };
 
+    ghost note_of = { note_of };
+
     #[inline(always)]
-    fn blank() -> Self {
-        StoredEntry::Ghost
+    fn blank(note: u32) -> Self {
+        StoredEntry::Ghost(note)
+    }
+
+    #[inline(always)]
+    fn note(&self) -> u32 {
+        match self {
+            StoredEntry::Ghost(note) => *note,
+            _ => u32::MAX,
+        }
     }
 
     // It does not look, as `bury` does not.
     #[inline(always)]
     fn discard(self) {
         match self {
-            StoredEntry::Ghost => (),
+            StoredEntry::Ghost(_) => (),
             _ => {
                 let too_far = usize::BITS;
                 let mut none = [0u8; 0];
@@ -81,11 +92,10 @@ struct Filling<V, T> {
 impl Head {
     /// Of an item of no reads, whose weight is yet to be set.
     #[inline(always)]
-    pub(crate) fn new(mark: u8, queue: Queue) -> Self
-        ensures { result ≡ record { mark = mark; queue = queue; weight = 0; late = 0 } }
+    pub(crate) fn new(queue: Queue) -> Self
+        ensures { result ≡ record { queue = queue; weight = 0; late = 0 } }
     {
         Head {
-            mark,
             queue,
             weight: 0,
             late: 0,
@@ -119,27 +129,60 @@ impl<K, V, T> Body<K, V, T> {
     }
 }
 
+impl<K, V, T> Resident<K, V, T> {
+    /// As a slot stores it, where its weight and its reads are kept beside the slot.
+    #[inline(always)]
+    fn into_stored(self, aside: &mut Aside) -> (Head, Body<K, V, T>)
+        ensures stored { resident_of result.0 result.1 aside.new ≡ self }
+        ensures hash { aside.new.hash ≡ aside.old.hash }
+    {
+        aside.reads = self.reads;
+        let head = Head {
+            queue: self.queue,
+            weight: aside.keep_weight(self.weight),
+            late: 0,
+        };
+        (head, self.body)
+    }
+
+    /// The item that is stored so.
+    #[inline(always)]
+    fn from_stored(head: Head, body: Body<K, V, T>, aside: &Aside) -> Self
+        ensures { result ≡ resident_of head body aside.now }
+    {
+        Resident {
+            queue: head.queue,
+            weight: aside.weight_by(head.weight),
+            reads: aside.reads_by(head.late),
+            body,
+        }
+    }
+}
+
 /// An entry as a slot stores it, and what stands beside it.
 #[inline(always)]
-pub(crate) fn store<K, V, P, T>(slot: Slot<K, V, P, T>) -> (StoredEntry<K, V, P, T>, Aside)
+pub(crate) fn store<K, V, P, T>(slot: Slot<K, V, P, T>) -> (StoredEntry<K, V, P, T>, Beside)
     ensures { slot_of result.0 result.1 ≡ slot }
 {
-    let mut aside = Aside::new(slot.hash);
-    let stored = StoredEntry::new(slot.entry, &mut aside);
-    (stored, aside)
+    let mut beside = Beside {
+        aside: Aside::new(slot.hash),
+        mark: 0,
+    };
+    let stored = StoredEntry::new(slot.entry, &mut beside);
+    (stored, beside)
 }
 
 /// The entry and its hash.
 #[inline(always)]
 pub(crate) fn unstore<K, V, P, T>(
     stored: StoredEntry<K, V, P, T>,
-    aside: &Aside,
+    beside: &Beside,
 ) -> Slot<K, V, P, T>
-    ensures { result ≡ slot_of stored aside.now }
+    ensures { result ≡ slot_of stored beside.now }
 {
     Slot {
-        entry: stored.into_entry(aside),
-        hash: aside.hash,
+        entry: stored.into_entry(beside),
+        hash: beside.aside.hash,
     }
 }
 
@@ -180,48 +223,39 @@ impl<K, V, P, T> StoredEntry<K, V, P, T> {
 
     /// As a slot stores that entry, where the weight of an item and its reads are kept beside it.
     #[inline(always)]
-    fn new(entry: Entry<K, V, P, T>, aside: &mut Aside) -> Self
-        ensures entry { entry_of result aside.new ≡ entry }
-        ensures hash { aside.new.hash ≡ aside.old.hash }
+    fn new(entry: Entry<K, V, P, T>, beside: &mut Beside) -> Self
+        ensures entry { entry_of result beside.new ≡ entry }
+        ensures hash { beside.new.aside.hash ≡ beside.old.aside.hash }
     {
         match entry {
-            Entry::Item(resident) => {
-                aside.reads = resident.reads;
-                let weight = aside.keep_weight(resident.weight);
-                let head = Head {
-                    mark: resident.mark,
-                    queue: resident.queue,
-                    weight,
-                    late: 0,
-                };
-                StoredEntry::Item(head, resident.body)
+            Entry::Item(item) => {
+                beside.mark = item.mark;
+                let (head, body) = item.resident.into_stored(&mut beside.aside);
+                StoredEntry::Item(head, body)
             }
             Entry::Loading(awaited) => {
                 StoredEntry::Loading(awaited.queue, awaited.key, awaited.placeholder)
             }
-            Entry::Ghost => StoredEntry::Ghost,
+            Entry::Ghost => StoredEntry::Ghost(u32::MAX),
         }
     }
 
     /// The entry that is stored.
     #[inline(always)]
-    fn into_entry(self, aside: &Aside) -> Entry<K, V, P, T>
-        ensures { result ≡ entry_of self aside.now }
+    fn into_entry(self, beside: &Beside) -> Entry<K, V, P, T>
+        ensures { result ≡ entry_of self beside.now }
     {
         match self {
-            StoredEntry::Item(head, body) => Entry::Item(Resident {
-                mark: head.mark,
-                queue: head.queue,
-                weight: aside.weight_by(head.weight),
-                reads: aside.reads_by(head.late),
-                body,
+            StoredEntry::Item(head, body) => Entry::Item(Marked {
+                mark: beside.mark,
+                resident: Resident::from_stored(head, body, &beside.aside),
             }),
             StoredEntry::Loading(queue, key, placeholder) => Entry::Loading(Awaited {
                 key,
                 queue,
                 placeholder,
             }),
-            StoredEntry::Ghost => Entry::Ghost,
+            StoredEntry::Ghost(_) => Entry::Ghost,
         }
     }
 
@@ -235,7 +269,7 @@ impl<K, V, P, T> StoredEntry<K, V, P, T> {
         match self {
             StoredEntry::Item(_, body) => body.value_mut(),
             StoredEntry::Loading(_, _, _) => unreachable!(),
-            StoredEntry::Ghost => unreachable!(),
+            StoredEntry::Ghost(_) => unreachable!(),
         }
     }
 
@@ -249,21 +283,7 @@ impl<K, V, P, T> StoredEntry<K, V, P, T> {
         match self {
             StoredEntry::Item(_, body) => callback(&body.key, &mut body.value),
             StoredEntry::Loading(_, _, _) => unreachable!(),
-            StoredEntry::Ghost => unreachable!(),
-        }
-    }
-
-    /// Gives an item another mark.
-    #[inline(always)]
-    pub(crate) fn set_mark(&mut self, mark: u8)
-        requires { IsItem self.old }
-        ensures { (aside : Aside) → slot_of self.new aside
-            ≡ slot_changed (with_mark mark) (slot_of self.old aside) }
-    {
-        match self {
-            StoredEntry::Item(head, _) => head.mark = mark,
-            StoredEntry::Loading(_, _, _) => unreachable!(),
-            StoredEntry::Ghost => unreachable!(),
+            StoredEntry::Ghost(_) => unreachable!(),
         }
     }
 
@@ -275,7 +295,7 @@ impl<K, V, P, T> StoredEntry<K, V, P, T> {
         match self {
             StoredEntry::Item(head, _) => head.late == u16::MAX,
             StoredEntry::Loading(_, _, _) => false,
-            StoredEntry::Ghost => false,
+            StoredEntry::Ghost(_) => false,
         }
     }
 
@@ -284,107 +304,73 @@ impl<K, V, P, T> StoredEntry<K, V, P, T> {
     pub(crate) fn count_late(&mut self)
         requires item { IsItem self.old }
         requires room { is_counted_out self.old ≡ false }
-        ensures { (aside : Aside) → slot_of self.new aside
-            ≡ slot_changed read_once (slot_of self.old aside) }
+        ensures { (beside : Beside) → slot_of self.new beside
+            ≡ slot_changed read_once (slot_of self.old beside) }
     {
         match self {
             StoredEntry::Item(head, _) => head.late += 1,
             StoredEntry::Loading(_, _, _) => unreachable!(),
-            StoredEntry::Ghost => unreachable!(),
-        }
-    }
-
-    /// Counts a read of an item in its slot alone, and gives it another mark.
-    #[inline(always)]
-    pub(crate) fn use_late(&mut self, mark: u8)
-        requires item { IsItem self.old }
-        requires room { is_counted_out self.old ≡ false }
-        ensures { (aside : Aside) → slot_of self.new aside
-            ≡ slot_changed (used mark) (slot_of self.old aside) }
-    {
-        match self {
-            StoredEntry::Item(head, _) => {
-                head.mark = mark;
-                head.late += 1;
-            }
-            StoredEntry::Loading(_, _, _) => unreachable!(),
-            StoredEntry::Ghost => unreachable!(),
+            StoredEntry::Ghost(_) => unreachable!(),
         }
     }
 
     /// Counts a read of an item beside its slot, and those that the slot counted.
-    pub(crate) fn settle_read(&mut self, aside: &mut Aside)
+    pub(crate) fn settle_read(&mut self, beside: &mut Beside)
         requires { IsItem self.old }
-        ensures { slot_of self.new aside.new
-            ≡ slot_changed read_once (slot_of self.old aside.old) }
+        ensures { slot_of self.new beside.new
+            ≡ slot_changed read_once (slot_of self.old beside.old) }
     {
         match self {
-            StoredEntry::Item(head, _) => head.settle(aside),
+            StoredEntry::Item(head, _) => head.settle(&mut beside.aside),
             StoredEntry::Loading(_, _, _) => unreachable!(),
-            StoredEntry::Ghost => unreachable!(),
-        }
-    }
-
-    /// Counts a read of an item, as `settle_read` does, and gives it another mark.
-    pub(crate) fn settle_use(&mut self, aside: &mut Aside, mark: u8)
-        requires { IsItem self.old }
-        ensures { slot_of self.new aside.new
-            ≡ slot_changed (used mark) (slot_of self.old aside.old) }
-    {
-        match self {
-            StoredEntry::Item(head, _) => {
-                head.mark = mark;
-                head.settle(aside);
-            }
-            StoredEntry::Loading(_, _, _) => unreachable!(),
-            StoredEntry::Ghost => unreachable!(),
+            StoredEntry::Ghost(_) => unreachable!(),
         }
     }
 
     /// Gives an item another mark and another count of reads.
-    pub(crate) fn set_counts(&mut self, aside: &mut Aside, mark: u8, reads: u64)
+    pub(crate) fn set_counts(&mut self, beside: &mut Beside, mark: u8, reads: u64)
         requires { IsItem self.old }
-        ensures { slot_of self.new aside.new
-            ≡ slot_changed (with_counts mark reads) (slot_of self.old aside.old) }
+        ensures { slot_of self.new beside.new
+            ≡ slot_changed (with_counts mark reads) (slot_of self.old beside.old) }
     {
         match self {
             StoredEntry::Item(head, _) => {
-                head.mark = mark;
+                beside.mark = mark;
                 head.late = 0;
-                aside.reads = reads;
+                beside.aside.reads = reads;
             }
             StoredEntry::Loading(_, _, _) => unreachable!(),
-            StoredEntry::Ghost => unreachable!(),
+            StoredEntry::Ghost(_) => unreachable!(),
         }
     }
 
     /// Gives an item another weight.
-    pub(crate) fn set_weight(&mut self, aside: &mut Aside, weight: u64)
+    pub(crate) fn set_weight(&mut self, beside: &mut Beside, weight: u64)
         requires { IsItem self.old }
-        ensures { slot_of self.new aside.new
-            ≡ slot_changed (with_weight weight) (slot_of self.old aside.old) }
+        ensures { slot_of self.new beside.new
+            ≡ slot_changed (with_weight weight) (slot_of self.old beside.old) }
     {
         match self {
-            StoredEntry::Item(head, _) => head.weight = aside.keep_weight(weight),
+            StoredEntry::Item(head, _) => head.weight = beside.aside.keep_weight(weight),
             StoredEntry::Loading(_, _, _) => unreachable!(),
-            StoredEntry::Ghost => unreachable!(),
+            StoredEntry::Ghost(_) => unreachable!(),
         }
     }
 
     /// Gives an item another queue, mark and weight.
-    pub(crate) fn requeue(&mut self, aside: &mut Aside, queue: Queue, mark: u8, weight: u64)
+    pub(crate) fn requeue(&mut self, beside: &mut Beside, queue: Queue, mark: u8, weight: u64)
         requires { IsItem self.old }
-        ensures { slot_of self.new aside.new
-            ≡ slot_changed (requeued queue mark weight) (slot_of self.old aside.old) }
+        ensures { slot_of self.new beside.new
+            ≡ slot_changed (requeued queue mark weight) (slot_of self.old beside.old) }
     {
         match self {
             StoredEntry::Item(head, _) => {
-                head.mark = mark;
+                beside.mark = mark;
                 head.queue = queue;
-                head.weight = aside.keep_weight(weight);
+                head.weight = beside.aside.keep_weight(weight);
             }
             StoredEntry::Loading(_, _, _) => unreachable!(),
-            StoredEntry::Ghost => unreachable!(),
+            StoredEntry::Ghost(_) => unreachable!(),
         }
     }
 
@@ -393,15 +379,15 @@ impl<K, V, P, T> StoredEntry<K, V, P, T> {
     #[inline(always)]
     pub(crate) fn replace(
         &mut self,
-        aside: &mut Aside,
+        beside: &mut Beside,
         entry: Entry<K, V, P, T>,
     ) -> Entry<K, V, P, T>
-        ensures new { slot_of self.new aside.new
-            ≡ with_entry entry (slot_of self.old aside.old) }
-        ensures old { result ≡ entry_of self.old aside.old }
+        ensures new { slot_of self.new beside.new
+            ≡ with_entry entry (slot_of self.old beside.old) }
+        ensures old { result ≡ entry_of self.old beside.old }
     {
-        let before = *aside;
-        let mut stored = StoredEntry::new(entry, aside);
+        let before = *beside;
+        let mut stored = StoredEntry::new(entry, beside);
         if let StoredEntry::Item(_, body) = self {
             if let StoredEntry::Item(_, other) = &mut stored {
                 swap(&mut body.touch, &mut other.touch);
@@ -413,19 +399,16 @@ impl<K, V, P, T> StoredEntry<K, V, P, T> {
     /// Leaves a ghost in the place of the item that it has, and gives the item. It does not look
     /// whether it has one, as `SlotRef::item` does not.
     #[inline(always)]
-    pub(crate) fn bury(&mut self, aside: &Aside) -> Resident<K, V, T>
+    pub(crate) fn bury(&mut self, beside: &Beside) -> Marked<K, V, T>
         requires { IsItem self.old }
-        ensures new { (beside : Aside) → slot_of self.new beside
+        ensures new { (beside : Beside) → slot_of self.new beside
             ≡ with_entry Entry.Ghost (slot_of self.old beside) }
-        ensures old { entry_of self.old aside.now ≡ Entry.Item result }
+        ensures old { entry_of self.old beside.now ≡ Entry.Item result }
     {
-        match replace(self, StoredEntry::Ghost) {
-            StoredEntry::Item(head, body) => Resident {
-                mark: head.mark,
-                queue: head.queue,
-                weight: aside.weight_by(head.weight),
-                reads: aside.reads_by(head.late),
-                body,
+        match replace(self, StoredEntry::Ghost(u32::MAX)) {
+            StoredEntry::Item(head, body) => Marked {
+                mark: beside.mark,
+                resident: Resident::from_stored(head, body, &beside.aside),
             },
             _ => {
                 let too_far = usize::BITS;
@@ -438,40 +421,28 @@ impl<K, V, P, T> StoredEntry<K, V, P, T> {
 
     /// Takes another item for the one that it has, and gives the old one back. The other goes on
     /// with the counter of touches.
-    pub(crate) fn rewrite(
-        &mut self,
-        aside: &mut Aside,
-        resident: Resident<K, V, T>,
-    ) -> Resident<K, V, T>
+    pub(crate) fn rewrite(&mut self, beside: &mut Beside, item: Marked<K, V, T>) -> Marked<K, V, T>
         requires { IsItem self.old }
-        ensures new { slot_of self.new aside.new
-            ≡ slot_changed (λ _. resident) (slot_of self.old aside.old) }
-        ensures old { entry_of self.old aside.old ≡ Entry.Item result }
+        ensures new { slot_of self.new beside.new
+            ≡ slot_changed (λ _. item) (slot_of self.old beside.old) }
+        ensures old { entry_of self.old beside.old ≡ Entry.Item result }
     {
-        let mut resident = resident;
+        let mut item = item;
         match self {
             StoredEntry::Item(head, body) => {
-                swap(&mut body.touch, &mut resident.body.touch);
-                let weight = aside.weight_by(head.weight);
-                let reads = aside.reads_by(head.late);
-                aside.reads = resident.reads;
-                let now = Head {
-                    mark: resident.mark,
-                    queue: resident.queue,
-                    weight: aside.keep_weight(resident.weight),
-                    late: 0,
-                };
-                let was = replace(head, now);
-                Resident {
-                    mark: was.mark,
-                    queue: was.queue,
-                    weight,
-                    reads,
-                    body: replace(body, resident.body),
+                swap(&mut body.touch, &mut item.resident.body.touch);
+                let before = *beside;
+                beside.mark = item.mark;
+                let (new_head, new_body) = item.resident.into_stored(&mut beside.aside);
+                let old_head = replace(head, new_head);
+                let old_body = replace(body, new_body);
+                Marked {
+                    mark: before.mark,
+                    resident: Resident::from_stored(old_head, old_body, &before.aside),
                 }
             }
             StoredEntry::Loading(_, _, _) => unreachable!(),
-            StoredEntry::Ghost => unreachable!(),
+            StoredEntry::Ghost(_) => unreachable!(),
         }
     }
 
@@ -481,12 +452,12 @@ impl<K, V, P, T> StoredEntry<K, V, P, T> {
         T: Touches,
         requires { IsItem self.old }
         ensures counted { T.may_count result }
-        ensures same { (aside : Aside) → slot_of self.new aside ≡ slot_of self.old aside }
+        ensures same { (beside : Beside) → slot_of self.new beside ≡ slot_of self.old beside }
     {
         match self {
             StoredEntry::Item(_, body) => body.touch.take(),
             StoredEntry::Loading(_, _, _) => unreachable!(),
-            StoredEntry::Ghost => unreachable!(),
+            StoredEntry::Ghost(_) => unreachable!(),
         }
     }
 
@@ -494,7 +465,7 @@ impl<K, V, P, T> StoredEntry<K, V, P, T> {
     #[inline(always)]
     pub(crate) fn fill(
         &mut self,
-        aside: &mut Aside,
+        beside: &mut Beside,
         queue: Queue,
         mark: u8,
         weight: u64,
@@ -507,12 +478,13 @@ impl<K, V, P, T> StoredEntry<K, V, P, T> {
         P: Drop,
         T: Drop,
         requires { IsAwaited self.old }
-        ensures { slot_of self.new aside.new
-            ≡ slot_filled (filled queue mark weight value) (slot_of self.old aside.old) }
+        ensures { slot_of self.new beside.new
+            ≡ slot_filled (filled queue mark weight value) (slot_of self.old beside.old) }
     {
-        aside.reads = 0;
-        let mut head = Head::new(mark, queue);
-        head.weight = aside.keep_weight(weight);
+        beside.mark = mark;
+        beside.aside.reads = 0;
+        let mut head = Head::new(queue);
+        head.weight = beside.aside.keep_weight(weight);
         // The entry is written once, and nothing stands in its place before.
         replace_with(self, Filling { head, value, touch }, filled_by)
     }

@@ -89,7 +89,7 @@ fn a_refused_first_growth_changes_nothing(rt: HostRuntime) {
     let mut cache: RationedCache<'_> = expect_ok!(rt; Cache::new(&ration, 5));
     expect_eq!(rt; cache.insert(1, 1), Err((1, 1, Refusal::Memory)));
     expect_eq!(rt; cache.len(), 0);
-    ration.allow(8);
+    ration.allow(12);
     expect_eq!(rt; cache.insert(1, 1), Ok(()));
     expect_eq!(rt; cache.peek(&1).copied(), Some(1));
     // With no memory, what is there can be written over.

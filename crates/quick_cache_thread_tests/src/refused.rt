@@ -74,7 +74,7 @@ fn a_pair_for_which_there_is_no_memory_comes_back(rt: HostRuntime) {
         Err((1, 10, TryError::Refused(Refusal::Memory)))
     );
     expect_eq!(rt; cache.get(&rt, &1), Ok(None));
-    ration.allow(8);
+    ration.allow(12);
     expect_eq!(rt; cache.insert(&rt, 1, 10), Ok(()));
     // With no memory, what is there can be read and written over.
     ration.allow(0);

@@ -4,10 +4,9 @@ ghost use Rattle.std.specs.Int.NonZero.{non_zero_u32_get as number};
 ghost use Rattle.quick_cache_lists.specs.Lists.{PutsLast, HasEntry, IsEntry, without_entry, HasGhostToken, HasItemToken, ring_turned, with_change, with_counts, with_mark, read_once, used, HasItemOfQueue, Rewrites, Reweighs};
 
 use crate::lists::Lists;
-use crate::ring::turn;
 use crate::store::{displace, place};
 use quick_cache_model::{Queue, Token, Touches};
-use quick_cache_slots::{Entry, Resident, Slot, Stand};
+use quick_cache_slots::{Entry, Marked, Slot, Stand};
 use std::alloc::Allocator;
 
 impl<K, V, P, T, A: Allocator> Lists<K, V, P, T, A> {
@@ -20,11 +19,10 @@ impl<K, V, P, T, A: Allocator> Lists<K, V, P, T, A> {
         ensures last { PutsLast self.old (number result) hash entry self.new }
         ensures room { self.new.room + 1 ≡ self.old.room }
     {
-        self.slots.validate();
         let stand = entry.stand();
         let weight = entry.weight();
         let token = place(&mut self.slots, &mut self.index, Slot { hash, entry });
-        self.rings.enter(&mut self.slots, token, stand, weight);
+        self.rings.enter(token, stand, weight);
         self.loading += stand.loading();
         token
     }
@@ -37,11 +35,10 @@ impl<K, V, P, T, A: Allocator> Lists<K, V, P, T, A> {
         ensures taken { IsEntry self.old (number token) result.hash result.entry }
         ensures rest { self.new ≡ without_entry restarts (number token) self.old }
     {
-        self.slots.validate();
-        let (slot, next) = displace(&mut self.slots, &mut self.index, token);
+        let slot = displace(&mut self.slots, &mut self.index, token);
         let stand = slot.entry.stand();
         let weight = slot.entry.weight();
-        self.rings.leave(token, next, stand, restarts, weight);
+        self.rings.leave(token, stand, restarts, weight);
         self.loading -= stand.loading();
         slot
     }
@@ -57,20 +54,15 @@ impl<K, V, P, T, A: Allocator> Lists<K, V, P, T, A> {
         requires { HasGhostToken self.old (number token) }
         ensures { self.new ≡ without_entry false (number token) self.old }
     {
-        self.slots.validate();
-        let (_, next) = displace(&mut self.slots, &mut self.index, token);
-        self.rings.leave(token, next, Stand::AmongGhosts, false, 0);
+        let _ = displace(&mut self.slots, &mut self.index, token);
+        self.rings.leave(token, Stand::AmongGhosts, false, 0);
     }
 
     /// Begins the ring one further on.
     pub fn turn(&mut self, queue: Queue)
         ensures { self.new ≡ ring_turned queue self.old }
     {
-        self.slots.validate();
-        match queue {
-            Queue::Hot => turn(&self.slots, &mut self.rings.hot),
-            Queue::Cold => turn(&self.slots, &mut self.rings.cold),
-        }
+        self.rings.turn(queue);
     }
 
     /// Gives the item of a token another mark and another count of reads.
@@ -113,11 +105,10 @@ impl<K, V, P, T, A: Allocator> Lists<K, V, P, T, A> {
     /// one back. The other goes on with the counter of touches. Where only one of the two weighs
     /// something, the old one leaves its list, its ring begins behind it, and the other is put last
     /// as with `put`.
-    pub fn rewrite(&mut self, token: Token, resident: Resident<K, V, T>) -> Resident<K, V, T>
+    pub fn rewrite(&mut self, token: Token, resident: Marked<K, V, T>) -> Marked<K, V, T>
         requires { HasItemOfQueue self.old (number token) resident.queue }
         ensures { Rewrites self.old (number token) resident result self.new }
     {
-        self.slots.validate();
         let item = self.item(token);
         let stand = item.stand();
         let was = item.weight();
@@ -139,7 +130,6 @@ impl<K, V, P, T, A: Allocator> Lists<K, V, P, T, A> {
         requires { HasItemToken self.old (number token) }
         ensures { Reweighs self.old (number token) weight self.new }
     {
-        self.slots.validate();
         let item = self.item(token);
         let stand = item.stand();
         let was = item.weight();

@@ -3,8 +3,7 @@ ghost use Rattle.std.specs.Prelude.{◌≡◌, IfOk, IfErr};
 ghost use Rattle.quick_cache_lists.specs.Copies.{AreCopies};
 
 use crate::lists::Lists;
-use crate::store::rekey;
-use quick_cache_index::Index;
+use crate::store::index_of;
 use quick_cache_model::{Refusal, Touches};
 use quick_cache_slots::Copying;
 use std::alloc::Allocator;
@@ -27,12 +26,12 @@ impl<K: Clone + Drop, V: Clone + Drop, P: Drop, T: Touches, A: Allocator> Lists<
             return Err(Refusal::Memory);
         };
         let slots = self.slots.try_copy(for_slots, by)?;
-        let mut index = Index::new(alloc)?;
-        rekey(&slots, &mut index, 0)?;
+        let rings = self.rings.try_copy(&alloc, self.index.len())?;
+        let index = index_of(&slots, alloc)?;
         Ok(Lists {
             slots,
             index,
-            rings: self.rings,
+            rings,
             loading: self.loading,
         })
     }

@@ -12,11 +12,7 @@ impl<K, V, P, T, A: Allocator> Lists<K, V, P, T, A> {
     pub fn count(&self, queue: Queue) -> usize
         ensures { result ≡ length (items_at (ring_place queue) self.now) }
     {
-        self.slots.validate();
-        match queue {
-            Queue::Hot => self.rings.hot.count,
-            Queue::Cold => self.rings.cold.count,
-        }
+        self.rings.queue(queue).len()
     }
 
     /// What the items of a ring weigh.
@@ -25,27 +21,21 @@ impl<K, V, P, T, A: Allocator> Lists<K, V, P, T, A> {
             (items_at (ring_place queue) self.now) }
         ensures within { result < 2 ^ 96 }
     {
-        self.slots.validate();
-        match queue {
-            Queue::Hot => self.rings.hot.weight,
-            Queue::Cold => self.rings.cold.weight,
-        }
+        self.rings.weight(queue)
     }
 
     /// How many items there are, those of weight 0 with them.
     pub fn item_count(&self) -> usize
         ensures { result ≡ item_count self.now }
     {
-        self.slots.validate();
-        self.index.len() - self.rings.ghosts.count - self.loading
+        self.index.len() - self.rings.ghosts().len() - self.loading
     }
 
     /// How many ghosts there are.
     pub fn ghost_count(&self) -> usize
         ensures { result ≡ length self.now.ghosts }
     {
-        self.slots.validate();
-        self.rings.ghosts.count
+        self.rings.ghosts().len()
     }
 
     /// The allocator that the slots are from.
@@ -53,10 +43,11 @@ impl<K, V, P, T, A: Allocator> Lists<K, V, P, T, A> {
         self.slots.allocator()
     }
 
-    /// How many bytes the slots and the index take.
+    /// How many bytes the slots with the rings take, and how many the index.
     pub fn memory_used(&self) -> MemoryUsed {
+        let slots = self.slots.memory_used();
         MemoryUsed {
-            entries: self.slots.memory_used(),
+            entries: slots.saturating_add(self.rings.memory_used()),
             map: self.index.allocation_size(),
         }
     }

@@ -6,7 +6,6 @@ ghost use Rattle.quick_cache_lists.specs.Lists.{HasLoadingToken};
 
 use crate::lists::Lists;
 use quick_cache_model::{Queue, Token};
-use quick_cache_slots::Stand;
 use std::alloc::Allocator;
 
 impl<K, V, P, T, A: Allocator> Lists<K, V, P, T, A> {
@@ -22,11 +21,8 @@ impl<K, V, P, T, A: Allocator> Lists<K, V, P, T, A> {
         requires { HasLoadingToken self.old (number token) }
         ensures { FillsToken self.old (number token) (filled queue mark weight value) self.new }
     {
-        self.slots.validate();
-        let next = self.slots.unlink(token);
         self.slots.fill(token, queue, mark, weight, value, touch);
-        self.rings.leave(token, next, Stand::AmongLoading, false, 0);
-        self.rings.enter_item(&mut self.slots, token, queue, weight);
+        self.rings.enter_item(token, queue, weight);
         self.loading -= 1;
     }
 }

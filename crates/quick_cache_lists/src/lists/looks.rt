@@ -2,7 +2,7 @@
 ghost use Rattle.std.specs.Prelude.{◌≡◌, MatchOption};
 ghost use Rattle.std.specs.Int.NonZero.{non_zero_u32_get as number};
 ghost use Rattle.quick_cache_model.specs.CacheState.{ring_place};
-ghost use Rattle.quick_cache_slab.specs.LinkedSlab.{IsOccupied, item_at};
+ghost use Rattle.quick_cache_pool.specs.Pool.{IsOccupied, item_at};
 ghost use Rattle.quick_cache_lists.specs.Slots.{is_item_under_at};
 ghost use Rattle.quick_cache_lists.specs.Lists.{Finds, FindsByKey, FindsItemOfAnyHash, HasNoItem, HasItemToken, IsItemOf, HasLoadingToken, IsAwaitedOf, IsFirstAbove, number_or_zero, IsFirstOf, items_at};
 
@@ -124,19 +124,14 @@ impl<K, V, P, T, A: Allocator> Lists<K, V, P, T, A> {
     pub fn first(&self, queue: Queue) -> Option<Token>
         ensures { IsFirstOf (λ held. held.token) (items_at (ring_place queue) self.now) result }
     {
-        self.slots.validate();
-        match queue {
-            Queue::Hot => self.rings.hot.head,
-            Queue::Cold => self.rings.cold.head,
-        }
+        self.rings.queue(queue).first()
     }
 
     /// The token of the oldest ghost.
     pub fn oldest_ghost(&self) -> Option<Token>
         ensures { IsFirstOf (λ shade. shade.token) self.now.ghosts result }
     {
-        self.slots.validate();
-        self.rings.ghosts.head
+        self.rings.ghosts().first()
     }
 
     /// Reads of the index where the token of an entry of that hash most likely stands, for a look-up
@@ -151,8 +146,7 @@ impl<K, V, P, T, A: Allocator> Lists<K, V, P, T, A> {
     /// then: its slot, its hash, and the places of that in the index. It changes nothing.
     #[inline(always)]
     pub fn bring_oldest_ghost_near(&self) {
-        self.slots.validate();
-        if let Some(oldest) = self.rings.ghosts.head {
+        if let Some(oldest) = self.rings.ghosts().first() {
             self.index.bring_near(self.slots.slot(oldest).hash());
         }
     }

@@ -5,7 +5,7 @@ ghost use Rattle.quick_cache_lists.specs.Lists.{HasEntry, HasItemToken, IsFirstO
 
 use crate::lists::Lists;
 use quick_cache_model::{Queue, Token};
-use quick_cache_slots::{Entry, Resident, Stand};
+use quick_cache_slots::{Entry, Marked, Stand};
 use std::alloc::Allocator;
 
 impl<K, V, P, T, A: Allocator> Lists<K, V, P, T, A> {
@@ -21,15 +21,13 @@ impl<K, V, P, T, A: Allocator> Lists<K, V, P, T, A> {
         requires { HasEntry self.old (number token) }
         ensures { Replaces self.old (number token) restarts entry result self.new }
     {
-        self.slots.validate();
         let to = entry.stand();
         let weight = entry.weight();
-        let next = self.slots.unlink(token);
         let was = self.slots.replace(token, entry);
         let from = was.stand();
         let weighed = was.weight();
-        self.rings.leave(token, next, from, restarts, weighed);
-        self.rings.enter(&mut self.slots, token, to, weight);
+        self.rings.leave(token, from, restarts, weighed);
+        self.rings.enter(token, to, weight);
         self.loading = self.loading - from.loading() + to.loading();
         was
     }
@@ -37,19 +35,15 @@ impl<K, V, P, T, A: Allocator> Lists<K, V, P, T, A> {
     /// Makes the newest ghost of the first cold item, and answers the item. The token and the hash
     /// stay, and no room is needed. It is `replace` by a ghost, with no test of what stands there.
     #[inline(always)]
-    pub fn bury(&mut self, token: Token) -> Resident<K, V, T>
+    pub fn bury(&mut self, token: Token) -> Marked<K, V, T>
         requires { IsFirstOf (λ held. held.token) self.old.cold (Some token) }
         ensures { Replaces {T = T} self.old (number token) false Entry.Ghost (Entry.Item result)
             self.new }
     {
-        self.slots.validate();
-        let next = self.slots.unlink(token);
         let item = self.slots.bury(token);
         let weight = item.weight();
-        self.rings
-            .leave(token, next, Stand::AmongCold, false, weight);
-        self.rings
-            .enter(&mut self.slots, token, Stand::AmongGhosts, 0);
+        self.rings.leave(token, Stand::AmongCold, false, weight);
+        self.rings.enter(token, Stand::AmongGhosts, 0);
         item
     }
 
@@ -60,14 +54,12 @@ impl<K, V, P, T, A: Allocator> Lists<K, V, P, T, A> {
         requires { HasItemToken self.old (number token) }
         ensures { Requeues self.old (number token) restarts (requeued queue mark weight) self.new }
     {
-        self.slots.validate();
-        let next = self.slots.unlink(token);
         let slot = self.slots.slot(token);
         let from = slot.stand();
         let weighed = slot.weight();
         self.slots.requeue(token, queue, mark, weight);
         let to = Stand::of_item(weight, queue);
-        self.rings.leave(token, next, from, restarts, weighed);
-        self.rings.enter(&mut self.slots, token, to, weight);
+        self.rings.leave(token, from, restarts, weighed);
+        self.rings.enter(token, to, weight);
     }
 }

@@ -15,16 +15,13 @@ impl<K, V, P, T, A: Allocator> Lists<K, V, P, T, A> {
     pub fn iter_ring(&self, queue: Queue) -> RingIter<'_, K, V, P, T, A>
         ensures { result ≡ items_of (items_at (ring_place queue) self.now) }
     {
-        let ring = match queue {
-            Queue::Hot => self.rings.hot,
-            Queue::Cold => self.rings.cold,
-        };
-        self.slots.validate();
+        let tokens = self.rings.queue(queue);
         RingIter {
             walk: Walk {
                 slots: &self.slots,
-                at: ring.head,
-                left: ring.count,
+                queue: tokens,
+                passed: 0,
+                left: tokens.len(),
             },
         }
     }
@@ -33,12 +30,13 @@ impl<K, V, P, T, A: Allocator> Lists<K, V, P, T, A> {
     pub fn iter_ghosts(&self) -> GhostIter<'_, K, V, P, T, A>
         ensures { result ≡ hashes_of self.now.ghosts }
     {
-        self.slots.validate();
+        let tokens = self.rings.ghosts();
         GhostIter {
             walk: Walk {
                 slots: &self.slots,
-                at: self.rings.ghosts.head,
-                left: self.rings.ghosts.count,
+                queue: tokens,
+                passed: 0,
+                left: tokens.len(),
             },
         }
     }
@@ -47,7 +45,6 @@ impl<K, V, P, T, A: Allocator> Lists<K, V, P, T, A> {
     pub fn iter_items(&self) -> ItemIter<'_, K, V, P, T>
         ensures { IsPermutation (residents self.now) result }
     {
-        self.slots.validate();
         ItemIter {
             slots: self.slots.iter(),
             left: self.item_count(),

@@ -1,13 +1,16 @@
 //! A copy of the slots: clones of the keys and the values, under the same tokens.
-ghost use Rattle.std.specs.Prelude.{◌≡◌, ℕ, ◌≤◌, length, IfOk, IfErr, OnErr};
-ghost use Rattle.quick_cache_slab.specs.LinkedSlab.{AreItemCopies, IsParted};
+ghost use Rattle.std.specs.Prelude.{◌≡◌, ℕ, ◌≤◌, [], length, IfOk, IfErr, OnErr};
+ghost use Rattle.quick_cache_pool.specs.Pool.{AreItemCopies, IsParted};
+ghost use Rattle.quick_cache_slots.specs.Asides.{besides_of, AreInStep};
 ghost use Rattle.quick_cache_slots.specs.Copies.{IsSlotCopy, IsStoredCopy, aside_copy, aside_copies};
 
 use crate::aside::Aside;
+use crate::asides::Asides;
+use crate::beside::Beside;
 use crate::slots::{Entries, Slots};
 use crate::stored::{Body, StoredEntry};
 use quick_cache_model::{Refusal, Token, Touches};
-use quick_cache_slab::linked_slab::CopyItem;
+use quick_cache_pool::pool::CopyItem;
 use std::alloc::Allocator;
 
 /// What a copy goes by: how it hashes its keys, and what stands in for a placeholder.
@@ -60,46 +63,58 @@ impl<'a, K: Clone + Drop, V: Clone + Drop, P: Drop, T: Touches, C: Copying<K, P>
                 let key = cloned(key)?;
                 Ok(StoredEntry::Loading(*queue, key, self.by.share(placeholder)))
             }
-            StoredEntry::Ghost => Ok(StoredEntry::Ghost),
+            StoredEntry::Ghost(note) => Ok(StoredEntry::Ghost(*note)),
         }
     }
 }
 
 impl<K, V, P, T> StoredEntry<K, V, P, T> {
     // What stands beside a copy of the entry: the hash of the copy's key, or that of a ghost.
-    fn aside_by<C: Copying<K, P>>(&self, aside: &Aside, by: &C) -> Aside
-        ensures { result ≡ aside_copy (C.hash_of by.now) self.now aside.now }
+    fn beside_by<C: Copying<K, P>>(&self, beside: &Beside, by: &C) -> Beside
+        ensures { result ≡ aside_copy (C.hash_of by.now) self.now beside.now }
     {
         let hash = match self {
             StoredEntry::Item(_, body) => by.hash(&body.key),
             StoredEntry::Loading(_, key, _) => by.hash(key),
-            StoredEntry::Ghost => aside.hash,
+            StoredEntry::Ghost(_) => beside.aside.hash,
         };
-        Aside { hash, ..*aside }
+        Beside {
+            aside: Aside {
+                hash,
+                ..beside.aside
+            },
+            mark: beside.mark,
+        }
     }
 }
 
 // What stands beside the slots of a copy, where this stood beside the slots that it is of.
 fn copy_asides<K, V, P, T, A: Allocator, C: Copying<K, P>>(
     copy: &Entries<K, V, P, T, A>,
-    asides: &[Aside],
-    alloc: A,
+    asides: &Asides<A>,
+    empty: Asides<A>,
     by: &C,
-) -> Result<Vec<Aside, A>, Refusal>
-    requires beside { length asides.now ≡ length copy.now.slots }
-    requires few { length asides.now ≤ 4294967294 }
-    ensures copies { IfOk result (λ copies.
-        copies.items ≡ aside_copies (C.hash_of by.now) copy.now.slots asides.now) }
+) -> Result<Asides<A>, Refusal>
+    requires in_step { AreInStep asides.now }
+    requires beside { length (besides_of asides.now) ≡ length copy.now.slots }
+    requires few { length (besides_of asides.now) ≤ 4294967294 }
+    requires empty { besides_of empty ≡ [] }
+    requires empty_in_step { AreInStep empty }
+    ensures copies { IfOk result (λ copies. besides_of copies
+        ≡ aside_copies (C.hash_of by.now) copy.now.slots (besides_of asides.now)) }
+    ensures in_step { IfOk result AreInStep }
     ensures refused { OnErr result (result ≡ Err Refusal.Memory) }
 {
-    let Ok(mut copies) = Vec::with_capacity(alloc, asides.len()) else {
+    let mut copies = empty;
+    if copies.reserve(asides.len()).is_err() {
         return Err(Refusal::Memory);
-    };
+    }
     let mut token = Token::MIN;
-    for aside in asides {
+    for place in 0..asides.len() {
+        let beside = asides.get(place);
         copies.push_reserved(match copy.get(token) {
-            Some((entry, _)) => entry.aside_by(aside, by),
-            None => *aside,
+            Some(entry) => entry.beside_by(&beside, by),
+            None => beside,
         });
         token = token.saturating_add(1);
     }
@@ -120,12 +135,19 @@ impl<K: Clone + Drop, V: Clone + Drop, P: Drop, T: Touches, A: Allocator> Slots<
         ensures parted { IfOk result IsParted }
         ensures refused { OnErr result (result ≡ Err Refusal.Memory) }
     {
-        self.slab.validate();
+        self.pool.validate();
+        let Ok(for_free) = alloc.clone() else {
+            return Err(Refusal::Memory);
+        };
         let Ok(for_asides) = alloc.clone() else {
             return Err(Refusal::Memory);
         };
-        let slab = self.slab.try_copy(alloc, &Copier { by })?;
-        let asides = copy_asides(&slab, self.asides.as_slice(), for_asides, by)?;
-        Ok(Slots { slab, asides })
+        let Ok(for_marks) = alloc.clone() else {
+            return Err(Refusal::Memory);
+        };
+        let pool = self.pool.try_copy(alloc, for_free, &Copier { by })?;
+        let empty = Asides::new(for_asides, for_marks);
+        let asides = copy_asides(&pool, &self.asides, empty, by)?;
+        Ok(Slots { pool, asides })
     }
 }

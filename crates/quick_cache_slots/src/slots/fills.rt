@@ -22,14 +22,10 @@ impl<K, V, P, T, A: Allocator> Slots<K, V, P, T, A> {
         ensures { Writes self.old self.new (number token)
             (slot_filled (filled queue mark weight value)) }
     {
-        let (entry, _) = unsafe { self.slab.get_mut_unchecked(token) };
-        entry.fill(
-            &mut self.asides[place(token)],
-            queue,
-            mark,
-            weight,
-            value,
-            touch,
-        );
+        let entry = self.pool.item_mut(token);
+        let place = place(token);
+        let mut beside = self.asides.get(place);
+        entry.fill(&mut beside, queue, mark, weight, value, touch);
+        self.asides.put(place, beside);
     }
 }

@@ -2,14 +2,14 @@
 ghost use Rattle.std.specs.Prelude.{◌≡◌, MatchOption, IfSome};
 ghost use Rattle.std.specs.Int.NonZero.{non_zero_u32_get as number};
 ghost use Rattle.std.specs.Iterator.{YieldsFirst, YieldsFirstBy, item_count, at_most, UpTo};
-ghost use Rattle.quick_cache_slab.specs.LinkedSlab.{items, entries_after};
+ghost use Rattle.quick_cache_pool.specs.Pool.{items, entries_after};
 
-use crate::aside::Aside;
+use crate::asides::AsideLists;
 use crate::refs::SlotRef;
 use crate::slots::{Slots, place};
 use crate::stored::StoredEntry;
 use quick_cache_model::Token;
-use quick_cache_slab::linked_slab::{IterFrom, TightNode};
+use quick_cache_pool::pool::IterFrom;
 use std::alloc::Allocator;
 use std::iter::FusedIterator;
 use std::marker::Model;
@@ -17,8 +17,8 @@ use std::marker::Model;
 /// The occupied slots that are left, each under its token.
 #[derive(Drop)]
 pub struct SlotsFrom<'a, K, V, P, T> {
-    entries: IterFrom<'a, StoredEntry<K, V, P, T>, TightNode<StoredEntry<K, V, P, T>>>,
-    asides: &'a [Aside],
+    entries: IterFrom<'a, StoredEntry<K, V, P, T>>,
+    asides: AsideLists<'a>,
 }
 
 impl<'a, K, V, P, T> Model for SlotsFrom<'a, K, V, P, T> {
@@ -29,9 +29,9 @@ impl<'a, K, V, P, T> Model for SlotsFrom<'a, K, V, P, T> {
 
     ghost use Rattle.quick_cache_slots.specs.Walks.{entries_beside, AreCovered};
 
-    ghost view = { λ it. entries_beside it.asides.now it.entries };
+    ghost view = { λ it. entries_beside it.asides it.entries };
 
-    ghost invariant = { λ it. AreCovered it.asides.now it.entries };
+    ghost invariant = { λ it. AreCovered it.asides it.entries };
 }
 
 impl<'a, K, V, P, T> Iterator for SlotsFrom<'a, K, V, P, T> {
@@ -45,8 +45,8 @@ impl<'a, K, V, P, T> Iterator for SlotsFrom<'a, K, V, P, T> {
 
     fn next(&mut self) -> Option<(Token, SlotRef<'a, K, V, P, T>)> {
         let (token, entry) = self.entries.next()?;
-        let aside = &self.asides[place(token)];
-        Some((token, SlotRef { entry, aside }))
+        let beside = self.asides.at(place(token));
+        Some((token, SlotRef { entry, beside }))
     }
 }
 
@@ -99,8 +99,8 @@ impl<K, V, P, T, A: Allocator> Slots<K, V, P, T, A> {
             (λ token. result ≡ entries_after self.now (number token)) }
     {
         SlotsFrom {
-            entries: self.slab.iter_from(token),
-            asides: self.asides.as_slice(),
+            entries: self.pool.iter_from(token),
+            asides: self.asides.lists(),
         }
     }
 }

@@ -1,7 +1,7 @@
 //! What stands at a token.
 ghost use Rattle.std.specs.Prelude.{◌≡◌, Some, IfSome, IfNone};
 ghost use Rattle.std.specs.Int.NonZero.{non_zero_u32_get as number};
-ghost use Rattle.quick_cache_slab.specs.LinkedSlab.{item_at, IsOccupied, successor};
+ghost use Rattle.quick_cache_pool.specs.Pool.{item_at, IsOccupied};
 
 use crate::refs::SlotRef;
 use crate::slots::{Slots, place};
@@ -15,21 +15,11 @@ impl<K, V, P, T, A: Allocator> Slots<K, V, P, T, A> {
         requires { IsOccupied self.now (number token) }
         ensures { item_at self.now (number token) ≡ Some result }
     {
-        let (entry, _) = unsafe { self.slab.get_unchecked(token) };
+        let entry = self.pool.item(token);
         SlotRef {
             entry,
-            aside: &self.asides[place(token)],
+            beside: self.asides.lists().at(place(token)),
         }
-    }
-
-    /// The token behind an occupied one in its ring.
-    #[inline(always)]
-    pub fn next(&self, token: Token) -> Token
-        requires { IsOccupied self.now (number token) }
-        ensures { number result ≡ successor self.now (number token) }
-    {
-        let (_, next) = unsafe { self.slab.get_unchecked(token) };
-        next
     }
 
     /// The slot of a token. A free or unknown token gives nothing.
@@ -38,10 +28,10 @@ impl<K, V, P, T, A: Allocator> Slots<K, V, P, T, A> {
         ensures absent { IfNone result (item_at self.now (number token) ≡ None) }
         ensures item { IfSome result (λ slot. item_at self.now (number token) ≡ Some slot) }
     {
-        let (entry, _) = self.slab.get(token)?;
+        let entry = self.pool.get(token)?;
         Some(SlotRef {
             entry,
-            aside: &self.asides[place(token)],
+            beside: self.asides.lists().at(place(token)),
         })
     }
 }

@@ -20,7 +20,7 @@ impl<K, V, P, T, A: Allocator> Slots<K, V, P, T, A> {
             self.entry (number token) result) }
         ensures value { HasValue self.old (number token) result.now }
     {
-        let (entry, _) = unsafe { self.slab.get_mut_unchecked(token) };
+        let entry = self.pool.item_mut(token);
         entry.value_mut()
     }
 
@@ -33,7 +33,7 @@ impl<K, V, P, T, A: Allocator> Slots<K, V, P, T, A> {
         ensures { ShowsSlot F.FnMut callback.old self.old (number token) result callback.new
             self.new }
     {
-        let (entry, _) = unsafe { self.slab.get_mut_unchecked(token) };
+        let entry = self.pool.item_mut(token);
         entry.show(callback)
     }
 }

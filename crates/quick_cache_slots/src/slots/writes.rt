@@ -1,13 +1,13 @@
 //! What is written to the slot of a token: to its entry, for the hash stays.
 ghost use Rattle.std.specs.Prelude.{◌≡◌, Some};
 ghost use Rattle.std.specs.Int.NonZero.{non_zero_u32_get as number};
-ghost use Rattle.quick_cache_slab.specs.LinkedSlab.{IsOccupied};
+ghost use Rattle.quick_cache_pool.specs.Pool.{IsOccupied};
 ghost use Rattle.quick_cache_slots.specs.Items.{with_counts, with_mark, read_once, used, with_weight, requeued};
 ghost use Rattle.quick_cache_slots.specs.Slots.{HasItem, HasItemEntry, HasEntry, slot_changed, with_entry};
 ghost use Rattle.quick_cache_slots.specs.Writes.{Writes};
 
 use crate::entry::Entry;
-use crate::resident::Resident;
+use crate::resident::Marked;
 use crate::slots::{Slots, place};
 use quick_cache_model::{Queue, Token, Touches};
 use std::alloc::Allocator;
@@ -19,8 +19,7 @@ impl<K, V, P, T, A: Allocator> Slots<K, V, P, T, A> {
         requires { HasItem self.old (number token) }
         ensures { Writes self.old self.new (number token) (slot_changed (with_mark mark)) }
     {
-        let (entry, _) = unsafe { self.slab.get_mut_unchecked(token) };
-        entry.set_mark(mark);
+        self.asides.set_mark(place(token), mark);
     }
 
     /// Counts a read of the item of a token, up to the greatest count, and writes nothing else.
@@ -29,12 +28,12 @@ impl<K, V, P, T, A: Allocator> Slots<K, V, P, T, A> {
         requires { HasItem self.old (number token) }
         ensures { Writes self.old self.new (number token) (slot_changed read_once) }
     {
-        let (entry, _) = unsafe { self.slab.get_unchecked(token) };
+        let entry = self.pool.item(token);
         if entry.is_counted_out() {
             self.settle_read(token);
             return;
         }
-        let (entry, _) = unsafe { self.slab.get_mut_unchecked(token) };
+        let entry = self.pool.item_mut(token);
         entry.count_late();
     }
 
@@ -46,8 +45,11 @@ impl<K, V, P, T, A: Allocator> Slots<K, V, P, T, A> {
         requires { HasItem self.old (number token) }
         ensures { Writes self.old self.new (number token) (slot_changed read_once) }
     {
-        let (entry, _) = unsafe { self.slab.get_mut_unchecked(token) };
-        entry.settle_read(&mut self.asides[place(token)]);
+        let entry = self.pool.item_mut(token);
+        let place = place(token);
+        let mut beside = self.asides.get(place);
+        entry.settle_read(&mut beside);
+        self.asides.put(place, beside);
     }
 
     /// Counts a read of the item of a token, as `count_read` does, and gives it another mark.
@@ -56,24 +58,8 @@ impl<K, V, P, T, A: Allocator> Slots<K, V, P, T, A> {
         requires { HasItem self.old (number token) }
         ensures { Writes self.old self.new (number token) (slot_changed (used mark)) }
     {
-        let (entry, _) = unsafe { self.slab.get_unchecked(token) };
-        if entry.is_counted_out() {
-            self.settle_use(token, mark);
-            return;
-        }
-        let (entry, _) = unsafe { self.slab.get_mut_unchecked(token) };
-        entry.use_late(mark);
-    }
-
-    // Counts a read of the item of a token, as `settle_read` does, and gives it another mark.
-    #[cold]
-    #[inline(never)]
-    fn settle_use(&mut self, token: Token, mark: u8)
-        requires { HasItem self.old (number token) }
-        ensures { Writes self.old self.new (number token) (slot_changed (used mark)) }
-    {
-        let (entry, _) = unsafe { self.slab.get_mut_unchecked(token) };
-        entry.settle_use(&mut self.asides[place(token)], mark);
+        self.count_read(token);
+        self.set_mark(token, mark);
     }
 
     /// Gives the item of a token another mark and another count of reads.
@@ -83,8 +69,11 @@ impl<K, V, P, T, A: Allocator> Slots<K, V, P, T, A> {
         ensures { Writes self.old self.new (number token)
             (slot_changed (with_counts mark reads)) }
     {
-        let (entry, _) = unsafe { self.slab.get_mut_unchecked(token) };
-        entry.set_counts(&mut self.asides[place(token)], mark, reads);
+        let entry = self.pool.item_mut(token);
+        let place = place(token);
+        let mut beside = self.asides.get(place);
+        entry.set_counts(&mut beside, mark, reads);
+        self.asides.put(place, beside);
     }
 
     /// Gives the item of a token another weight.
@@ -93,8 +82,11 @@ impl<K, V, P, T, A: Allocator> Slots<K, V, P, T, A> {
         requires { HasItem self.old (number token) }
         ensures { Writes self.old self.new (number token) (slot_changed (with_weight weight)) }
     {
-        let (entry, _) = unsafe { self.slab.get_mut_unchecked(token) };
-        entry.set_weight(&mut self.asides[place(token)], weight);
+        let entry = self.pool.item_mut(token);
+        let place = place(token);
+        let mut beside = self.asides.get(place);
+        entry.set_weight(&mut beside, weight);
+        self.asides.put(place, beside);
     }
 
     /// Gives the item of a token another queue, mark and weight.
@@ -104,8 +96,11 @@ impl<K, V, P, T, A: Allocator> Slots<K, V, P, T, A> {
         ensures { Writes self.old self.new (number token)
             (slot_changed (requeued queue mark weight)) }
     {
-        let (entry, _) = unsafe { self.slab.get_mut_unchecked(token) };
-        entry.requeue(&mut self.asides[place(token)], queue, mark, weight);
+        let entry = self.pool.item_mut(token);
+        let place = place(token);
+        let mut beside = self.asides.get(place);
+        entry.requeue(&mut beside, queue, mark, weight);
+        self.asides.put(place, beside);
     }
 
     /// Puts another entry under a token, and gives the old one back. An item in the place of an
@@ -116,32 +111,40 @@ impl<K, V, P, T, A: Allocator> Slots<K, V, P, T, A> {
         ensures writes { Writes self.old self.new (number token) (with_entry entry) }
         ensures old { HasEntry self.old (number token) result }
     {
-        let (stored, _) = unsafe { self.slab.get_mut_unchecked(token) };
-        stored.replace(&mut self.asides[place(token)], entry)
+        let stored = self.pool.item_mut(token);
+        let place = place(token);
+        let mut beside = self.asides.get(place);
+        let old = stored.replace(&mut beside, entry);
+        self.asides.put(place, beside);
+        old
     }
 
     /// Leaves a ghost in the place of the item of a token, and gives the item. It does not look
     /// whether an item is there.
     #[inline(always)]
-    pub fn bury(&mut self, token: Token) -> Resident<K, V, T>
+    pub fn bury(&mut self, token: Token) -> Marked<K, V, T>
         requires { HasItem self.old (number token) }
         ensures writes { Writes self.old self.new (number token) (with_entry Entry.Ghost) }
         ensures old { HasItemEntry self.old (number token) result }
     {
-        let (entry, _) = unsafe { self.slab.get_mut_unchecked(token) };
-        entry.bury(&self.asides[place(token)])
+        let entry = self.pool.item_mut(token);
+        entry.bury(&self.asides.get(place(token)))
     }
 
     /// Puts another item in the place of the item of a token, and gives the old one back. The other
     /// goes on with the counter of touches.
     #[inline]
-    pub fn rewrite(&mut self, token: Token, resident: Resident<K, V, T>) -> Resident<K, V, T>
+    pub fn rewrite(&mut self, token: Token, resident: Marked<K, V, T>) -> Marked<K, V, T>
         requires { HasItem self.old (number token) }
         ensures writes { Writes self.old self.new (number token) (slot_changed (λ _. resident)) }
         ensures old { HasItemEntry self.old (number token) result }
     {
-        let (entry, _) = unsafe { self.slab.get_mut_unchecked(token) };
-        entry.rewrite(&mut self.asides[place(token)], resident)
+        let entry = self.pool.item_mut(token);
+        let place = place(token);
+        let mut beside = self.asides.get(place);
+        let old = entry.rewrite(&mut beside, resident);
+        self.asides.put(place, beside);
+        old
     }
 
     /// Takes the count of touches of the item of a token, which begins anew.
@@ -153,7 +156,7 @@ impl<K, V, P, T, A: Allocator> Slots<K, V, P, T, A> {
         ensures counted { T.may_count result }
         ensures same { self.new ≡ self.old }
     {
-        let (entry, _) = unsafe { self.slab.get_mut_unchecked(token) };
+        let entry = self.pool.item_mut(token);
         entry.take_touch()
     }
 }

@@ -1,6 +1,6 @@
 //! The names of `quick_cache::shard` that lend a value, and make placeholders and items.
 use expect::{expect, expect_eq, expect_ok};
-use quick_cache::shard::{CacheShard, InsertStrategy, RefMut, Resident, TokenMut};
+use quick_cache::shard::{CacheShard, InsertStrategy, Marked, RefMut, TokenMut};
 use quick_cache::unsync::{DefaultLifecycle, Placeholder, Plainly};
 use quick_cache::{DefaultHashBuilder, Queue, UnitWeighter};
 
@@ -63,7 +63,7 @@ fn begins(shard: &mut Shard, key: u64) -> bool {
 }
 
 /// What an item tells of itself.
-fn told(item: &Resident<u64, u64, ()>) -> (u64, u64, u64, u8, u64, Queue) {
+fn told(item: &Marked<u64, u64, ()>) -> (u64, u64, u64, u8, u64, Queue) {
     (
         *item.key(),
         *item.value(),
@@ -100,6 +100,6 @@ fn shard_lends(rt: HostRuntime) {
     );
     expect_eq!(rt; (shard.hits(), shard.misses(), shard.weight()), (1, 1, 1));
     expect!(rt; begins(&mut shard, 2));
-    let item = Resident::new(1u64, 10u64, 1, 0, Queue::Cold, ());
+    let item = Marked::new(1u64, 10u64, 1, 0, Queue::Cold, ());
     expect_eq!(rt; told(&item), (1, 10, 1, 0, 0, Queue::Cold));
 }

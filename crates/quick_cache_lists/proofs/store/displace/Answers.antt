@@ -9,12 +9,12 @@ use Rattle.quick_cache_lists.proofs.store.displace.Goals as goal
 pub returns-clause-removed : goal.returns-clause-removed
 returns-clause-removed g c =
     IsRemoved-from c.args.slots.now c.remove-slot.new.self (number c.args.token)
-    c.remove-slot.result.0 c.remove-slot.ensures.item c.remove-slot.ensures.removed
+    c.remove-slot.result c.remove-slot.ensures.item c.remove-slot.ensures.removed
 
 -- the hash of the entry leads to its token
 pub remove-requires : goal.remove-requires
 remove-requires g c =
-    let slot = c.remove-slot.result.0 in record {
+    let slot = c.remove-slot.result in record {
       there = c.requires.keyed.leads slot.hash (number c.args.token)
           (ap (has_hash slot.hash) c.remove-slot.ensures.item ∙ eq-eqb slot.hash slot.hash refl);
     }

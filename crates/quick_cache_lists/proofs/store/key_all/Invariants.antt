@@ -1,5 +1,5 @@
 use Rattle.std.proofs.Common.{◌≡◌, ◌+◌, ◌≤◌, ℕ, length, map}
-use Rattle.quick_cache_slab.specs.LinkedSlab.{times}
+use Rattle.quick_cache_pool.specs.Pool.{times}
 use Rattle.quick_cache_index.specs.Index.{HasToken}
 use Rattle.quick_cache_lists.specs.Sound.{AddsTokens}
 use Rattle.quick_cache_lists.proofs.store.key_all.Given as goal

@@ -1,4 +1,5 @@
-use Rattle.std.proofs.Common.{arith}
+use Rattle.std.proofs.Common.{ℕ, is_some, sym, ap, ◌∙◌, true≢false, arith}
+use Rattle.quick_cache_pool.specs.Pool.{item_at}
 use Rattle.std.specs.Int.NonZero.{non_zero_u32_get as number}
 use Rattle.quick_cache_lists.proofs.SlabFrames.{IsPlaced-from}
 use Rattle.quick_cache_lists.proofs.SoundLemmas.{IsKeyed-placed, room-placed}
@@ -7,12 +8,21 @@ use Rattle.quick_cache_lists.proofs.store.place.Goals as goal
 pub insert_reserved-token-requires : goal.insert_reserved-token-requires
 insert_reserved-token-requires g c = omega (arith, c.requires.room)
 
+-- the slot was free, so the index has no such token
+pub insert_reserved-requires-clause-is_new : goal.insert_reserved-requires-clause-is_new
+insert_reserved-requires-clause-is_new g c =
+    let placed = IsPlaced-from c.args.slots.now c.insert_reserved-token.new.self c.args.slot
+    c.validate.ensures c.insert_reserved-token.ensures.placed in
+    let none = ap (λ (t : ℕ). is_some (item_at c.args.slots.now t))
+    c.insert_reserved-token.ensures.token ∙ ap is_some placed.vacant in
+    λ has. true≢false (sym has ∙ c.requires.keyed.tokens (number c.insert_reserved-token.result)
+    ∙ none)
+
 pub returns-clause-placed : goal.returns-clause-placed
 returns-clause-placed g c =
-    let at = c.insert_reserved-token.ensures.token in
-    rw at (IsPlaced-from c.args.slots.now c.insert_reserved-token.new.self c.args.slot
-    c.validate.ensures c.insert_reserved-token.ensures.placed
-    (rw at at c.insert_reserved-token.ensures.edit.alone))
+    rw c.insert_reserved-token.ensures.token (IsPlaced-from c.args.slots.now
+    c.insert_reserved-token.new.self c.args.slot c.validate.ensures
+    c.insert_reserved-token.ensures.placed)
 
 pub returns-clause-keyed : goal.returns-clause-keyed
 returns-clause-keyed g c =

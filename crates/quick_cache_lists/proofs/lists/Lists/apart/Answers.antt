@@ -5,8 +5,8 @@ use Rattle.quick_cache_lists.proofs.lists.Lists.apart.Goals as goal
 pub returns-clause-apart : goal.returns-clause-apart
 returns-clause-apart g c =
     let i = c.self.inside in
-    rw (← c.self.view_is) (apart_by i.slots i.index i.rings.hot i.rings.cold i.rings.ghosts
-    c.validate.ensures c.self.invariant.standing)
+    rw (← c.self.view_is) (apart_by i.slots i.index i.rings
+    c.self.invariant.standing)
 
 pub returns-clause-within : goal.returns-clause-within
 returns-clause-within g c =

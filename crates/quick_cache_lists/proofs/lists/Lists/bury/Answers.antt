@@ -1,10 +1,12 @@
-use Rattle.std.proofs.Common.{◌≡◌, ◌∙◌, refl, sym, ap, false, Some, arith}
+use Rattle.std.proofs.Common.{◌≡◌, ◌∙◌, refl, sym, ap, subst, false, Some, ℕ, arith}
 use Rattle.std.specs.Int.NonZero.{non_zero_u32_get as number}
-use Rattle.quick_cache_slab.specs.LinkedSlab.{LinkedSlab, item_at}
+use Rattle.quick_cache_pool.specs.Pool.{item_at}
+use Rattle.quick_cache_rings.specs.Rings.{CanLeaveRing}
 use Rattle.quick_cache_slots.specs.declared.entry.Entry.TheVariants.{Ghost as ghost_variant}
 use Rattle.quick_cache_slots.specs.declared.entry.Slot.{Slot}
-use Rattle.quick_cache_lists.specs.Slots.{with_entry, AmongCold, AmongGhosts, stand_of, stand_in, weight_in}
+use Rattle.quick_cache_lists.specs.Slots.{with_entry, AmongCold, AmongGhosts, stand_of, stand_in, weight_in, weight_at}
 use Rattle.quick_cache_lists.proofs.ItemLemmas.{first_cold-item, slot_is, stand_of-first_cold}
+use Rattle.quick_cache_lists.proofs.LeaveLemmas.{can_leave}
 use Rattle.quick_cache_lists.proofs.MoveLemmas.{can_enter-moved, IsSound-requeued, Replaces-moved}
 use Rattle.quick_cache_lists.proofs.lists.Lists.bury.Goals as goal
 
@@ -12,92 +14,82 @@ use Rattle.quick_cache_lists.proofs.lists.Lists.bury.Goals as goal
 pub bury-item-requires : goal.bury-item-requires
 bury-item-requires g c =
     let i = c.self.inside in
+    first_cold-item i.slots i.index i.rings c.args.token (rw (← c.self.view_is) at c.requires)
+
+pub leave-requires : goal.leave-requires
+leave-requires g c =
+    let i = c.self.inside in
     let t = number c.args.token in
-    let has = first_cold-item i.slots i.index i.rings.hot i.rings.cold i.rings.ghosts
-    c.args.token (rw (← c.self.view_is) at c.requires) in
-    (has.0, has.1, ap (λ (s : LinkedSlab _). item_at s t) c.unlink-next.ensures.unlinked ∙ has.2)
+    let writes = c.bury-item.ensures.writes in
+    let x = writes.slot in
+    let y = with_entry ghost_variant x in
+    let old = c.bury-item.ensures.old in
+    let was = ap (λ (s : Slot _ _ _ _). s.entry)
+    (slot_is (item_at i.slots t) x old.0 c.bury-item.result old.1 writes.was) in
+    let stands : Some AmongCold ≡ Some (stand_in x.entry) =
+    sym (stand_of-first_cold i.slots i.index i.rings
+    c.self.invariant.standing.cold_ring c.args.token (rw (← c.self.view_is) at c.requires))
+    ∙ ap stand_of writes.was in
+    let weighs : weight_at (item_at i.slots t) ≡ c.weight-weight.result = ap weight_at writes.was
+    ∙ ap weight_in was ∙ sym c.weight-weight.ensures in
+    subst (λ (w : ℕ). CanLeaveRing i.rings t w AmongCold) weighs
+    (can_leave i.slots i.rings c.self.invariant.standing t AmongCold
+    (ap stand_of writes.was ∙ sym stands))
 
 pub enter-requires : goal.enter-requires
 enter-requires g c =
     let i = c.self.inside in
+    let t = number c.args.token in
     let writes = c.bury-item.ensures.writes in
     let x = writes.slot in
     let y = with_entry ghost_variant x in
-    let at : item_at i.slots (number c.args.token) ≡ Some x =
-    sym (ap (λ (s : LinkedSlab _). item_at s (number c.args.token)) c.unlink-next.ensures.unlinked)
-    ∙ writes.was in
     let old = c.bury-item.ensures.old in
     let was = ap (λ (s : Slot _ _ _ _). s.entry)
-    (slot_is (item_at c.unlink-next.new.self (number c.args.token)) x old.0 c.bury-item.result
-    old.1 writes.was) in
+    (slot_is (item_at i.slots t) x old.0 c.bury-item.result old.1 writes.was) in
     let stands : Some AmongCold ≡ Some (stand_in x.entry) =
-    sym (stand_of-first_cold i.slots i.index i.rings.hot i.rings.cold i.rings.ghosts
+    sym (stand_of-first_cold i.slots i.index i.rings
     c.self.invariant.standing.cold_ring c.args.token (rw (← c.self.view_is) at c.requires))
-    ∙ ap stand_of at in
-    rw writes.is (can_enter-moved i.slots c.unlink-next.new.self i.index c.args.token c.unlink-next.result false
-    i.rings c.leave.new.self i.loading c.self.invariant c.validate.ensures
-    c.unlink-next.ensures.next x y at refl
-    c.unlink-next.ensures.unlinked c.unlink-next.ensures.alone
-    (omega arith) AmongCold
-    c.weight-weight.result (cc stands)
-    (c.weight-weight.ensures ∙ sym (ap weight_in was)) c.leave.ensures 0
-    (omega arith) AmongGhosts)
+    ∙ ap stand_of writes.was in
+    can_enter-moved i.slots i.index t false i.rings c.leave.new.self i.loading
+    c.self.invariant x y writes.was refl (omega arith) AmongCold c.weight-weight.result
+    (cc stands) (c.weight-weight.ensures ∙ sym (ap weight_in was)) c.leave.ensures 0
+    (omega arith) AmongGhosts
 
 -- neither the item nor the ghost is a placeholder
 pub invariant_of-self : goal.invariant_of-self
 invariant_of-self g c =
     let i = c.self.inside in
+    let t = number c.args.token in
     let writes = c.bury-item.ensures.writes in
     let x = writes.slot in
     let y = with_entry ghost_variant x in
-    let at : item_at i.slots (number c.args.token) ≡ Some x =
-    sym (ap (λ (s : LinkedSlab _). item_at s (number c.args.token)) c.unlink-next.ensures.unlinked)
-    ∙ writes.was in
     let old = c.bury-item.ensures.old in
     let was = ap (λ (s : Slot _ _ _ _). s.entry)
-    (slot_is (item_at c.unlink-next.new.self (number c.args.token)) x old.0 c.bury-item.result
-    old.1 writes.was) in
+    (slot_is (item_at i.slots t) x old.0 c.bury-item.result old.1 writes.was) in
     let stands : Some AmongCold ≡ Some (stand_in x.entry) =
-    sym (stand_of-first_cold i.slots i.index i.rings.hot i.rings.cold i.rings.ghosts
+    sym (stand_of-first_cold i.slots i.index i.rings
     c.self.invariant.standing.cold_ring c.args.token (rw (← c.self.view_is) at c.requires))
-    ∙ ap stand_of at in
-    IsSound-requeued i.slots c.unlink-next.new.self i.index c.args.token c.unlink-next.result false
-    i.rings c.leave.new.self i.loading c.self.invariant c.validate.ensures
-    c.unlink-next.ensures.next x y at refl
-    c.unlink-next.ensures.unlinked c.unlink-next.ensures.alone
-    (omega arith) AmongCold
-    c.weight-weight.result (cc stands)
-    (c.weight-weight.ensures ∙ sym (ap weight_in was)) c.leave.ensures
-    c.enter.new.slots c.enter.new.self AmongGhosts 0
-    refl
-    refl (rw writes.is at c.enter.ensures) refl
-    refl
+    ∙ ap stand_of writes.was in
+    rw writes.is (IsSound-requeued i.slots i.index t false i.rings c.leave.new.self i.loading
+    c.self.invariant x y writes.was refl (omega arith) AmongCold c.weight-weight.result
+    (cc stands) (c.weight-weight.ensures ∙ sym (ap weight_in was)) c.leave.ensures
+    c.enter.new.self AmongGhosts 0 refl refl c.enter.ensures refl refl)
 
 pub returns : goal.returns
 returns g c =
     let i = c.self.inside in
+    let t = number c.args.token in
     let writes = c.bury-item.ensures.writes in
     let x = writes.slot in
     let y = with_entry ghost_variant x in
-    let at : item_at i.slots (number c.args.token) ≡ Some x =
-    sym (ap (λ (s : LinkedSlab _). item_at s (number c.args.token)) c.unlink-next.ensures.unlinked)
-    ∙ writes.was in
     let old = c.bury-item.ensures.old in
     let was = ap (λ (s : Slot _ _ _ _). s.entry)
-    (slot_is (item_at c.unlink-next.new.self (number c.args.token)) x old.0 c.bury-item.result
-    old.1 writes.was) in
+    (slot_is (item_at i.slots t) x old.0 c.bury-item.result old.1 writes.was) in
     let stands : Some AmongCold ≡ Some (stand_in x.entry) =
-    sym (stand_of-first_cold i.slots i.index i.rings.hot i.rings.cold i.rings.ghosts
+    sym (stand_of-first_cold i.slots i.index i.rings
     c.self.invariant.standing.cold_ring c.args.token (rw (← c.self.view_is) at c.requires))
-    ∙ ap stand_of at in
-    let moved = Replaces-moved i.slots c.unlink-next.new.self i.index c.args.token
-    c.unlink-next.result false i.rings c.leave.new.self i.loading c.self.invariant
-    c.validate.ensures c.unlink-next.ensures.next x y at refl
-    c.unlink-next.ensures.unlinked c.unlink-next.ensures.alone
-    (omega arith) AmongCold
-    c.weight-weight.result (cc stands)
-    (c.weight-weight.ensures ∙ sym (ap weight_in was)) c.leave.ensures
-    c.enter.new.slots c.enter.new.self AmongGhosts 0
-    refl
-    refl (rw writes.is at c.enter.ensures) in
-    rw (← c.self.view_is) (rw was at moved)
+    ∙ ap stand_of writes.was in
+    rw (← c.self.view_is, ← was, writes.is) (Replaces-moved i.slots i.index t false i.rings c.leave.new.self i.loading
+    c.self.invariant x y writes.was refl (omega arith) AmongCold c.weight-weight.result
+    (cc stands) (c.weight-weight.ensures ∙ sym (ap weight_in was)) c.leave.ensures
+    c.enter.new.self AmongGhosts 0 refl refl c.enter.ensures)

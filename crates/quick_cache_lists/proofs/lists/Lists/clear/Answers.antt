@@ -1,5 +1,6 @@
-use Rattle.std.proofs.Common.{ap, refl}
-use Rattle.quick_cache_slab.specs.LinkedSlab.{LinkedSlab}
+use Rattle.std.proofs.Common.{ap, refl, arith}
+use Rattle.quick_cache_pool.specs.Pool.{Pool}
+use Rattle.quick_cache_rings.specs.Rings.{Rings}
 use Rattle.quick_cache_lists.proofs.SoundLemmas.{IsStanding-empty, IsKeyed-empty}
 use Rattle.quick_cache_lists.proofs.lists.Lists.clear.Goals as goal
 
@@ -7,12 +8,16 @@ use Rattle.quick_cache_lists.proofs.lists.Lists.clear.Goals as goal
 pub invariant_of-self : goal.invariant_of-self
 invariant_of-self g c =
     let slab = c.clear.new.self in
-    let slots = ap (λ (s : LinkedSlab _). s.slots) c.clear.ensures in
-    let free = ap (λ (s : LinkedSlab _). s.free) c.clear.ensures in
+    let slots = ap (λ (s : Pool _). s.slots) c.clear.ensures in
+    let free = ap (λ (s : Pool _). s.free) c.clear.ensures in
     let count = c.clear-2.ensures.count in
-    rw c.empty-self-inside.ensures (record {
-      standing = IsStanding-empty slab slots;
+    let rings = c.clear-3.ensures in
+    record {
+      standing = IsStanding-empty slab c.clear-3.new.self slots
+          (ap (λ (r : Rings). r.hot) rings) (ap (λ (r : Rings). r.cold) rings)
+          (ap (λ (r : Rings). r.ghosts) rings);
       keyed = IsKeyed-empty slab c.clear-2.new.self slots free c.clear-2.ensures.empty count;
       loading_counted = rw slots refl;
-      all_counted = rw (slots, count) refl;
-    })
+      all_counted = rw (slots, count, rings) refl;
+      within = omega (arith, count);
+    }

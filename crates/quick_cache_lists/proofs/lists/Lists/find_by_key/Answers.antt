@@ -9,7 +9,7 @@ returns-in_default g c =
     let i = c.self.inside in
     let none = none_of_hash i.slots i.index c.self.invariant.keyed c.args.hash _ c.candidates.ensures
     c.in_default.ensures.steps.0 in
-    rw (← c.self.view_is) (HasNothing-from i.slots i.index i.rings.hot i.rings.cold i.rings.ghosts
+    rw (← c.self.view_is) (HasNothing-from i.slots i.index i.rings
     c.self.invariant.standing c.self.invariant.keyed _ c.args.hash
     (λ t has. absurd (none t has)) (λ t has. absurd (none t has)))
 
@@ -32,8 +32,7 @@ returns-then-is_item_under g c =
     c.in-Some.ensures.steps
     (PassesNoItem-start i.slots i.index c.args.hash stands_for _ c.self.invariant.keyed
     c.candidates.ensures) in
-    rw (← c.self.view_is) (FindsItemOfAnyHash-from i.slots i.index i.rings.hot i.rings.cold
-    i.rings.ghosts c.self.invariant.standing c.self.invariant.keyed stands_for
+    rw (← c.self.view_is) (FindsItemOfAnyHash-from i.slots i.index i.rings c.self.invariant.standing c.self.invariant.keyed stands_for
     (number c.in-Some.first) (sym c.is_item_under.ensures ∙ c.if-is_item_under.true))
 
 pub returns : goal.returns

@@ -9,7 +9,7 @@ pub returns-in_default : goal.returns-in_default
 returns-in_default g c =
     let i = c.self.inside in
     let stands_for = g.Q.Equivalent.equivalent c.args.query.now in
-    rw (← c.self.view_is) (HasNoItem-from i.slots i.index i.rings.hot i.rings.cold i.rings.ghosts
+    rw (← c.self.view_is) (HasNoItem-from i.slots i.index i.rings
     c.self.invariant.standing c.self.invariant.keyed _ c.args.hash
     (PassesNoItem-none i.slots i.index c.args.hash _ _ c.in_default.ensures.steps.0
     (PassesNoItem-start i.slots i.index c.args.hash stands_for _ c.self.invariant.keyed
@@ -34,8 +34,7 @@ returns-then-is_item_under g c =
     c.in-Some.ensures.steps
     (PassesNoItem-start i.slots i.index c.args.hash stands_for _ c.self.invariant.keyed
     c.candidates-tokens.ensures) in
-    rw (← c.self.view_is) (FindsItemOfAnyHash-from i.slots i.index i.rings.hot i.rings.cold
-    i.rings.ghosts c.self.invariant.standing c.self.invariant.keyed stands_for
+    rw (← c.self.view_is) (FindsItemOfAnyHash-from i.slots i.index i.rings c.self.invariant.standing c.self.invariant.keyed stands_for
     (number c.in-Some.first) (sym c.is_item_under.ensures ∙ c.if-is_item_under.true))
 
 -- the first candidate was passed
@@ -64,8 +63,7 @@ returns-then-is_item_under-2 g c =
     let stands_for = g.Q.Equivalent.equivalent c.args.query.now in
     let has = PassesNoItem-has i.slots i.index c.args.hash _ _ _ c.in-Some-token.token
     c.in-Some-token.ensures.steps c.loop-token.invariant in
-    rw (← c.self.view_is) (FindsItemOfAnyHash-from i.slots i.index i.rings.hot i.rings.cold
-    i.rings.ghosts c.self.invariant.standing c.self.invariant.keyed stands_for
+    rw (← c.self.view_is) (FindsItemOfAnyHash-from i.slots i.index i.rings c.self.invariant.standing c.self.invariant.keyed stands_for
     (number c.in-Some-token.token)
     (sym c.is_item_under-in-loop-token.ensures ∙ c.if-is_item_under-2.true))
 
@@ -81,7 +79,7 @@ loop-token-preserved g c =
 pub returns : goal.returns
 returns g c =
     let i = c.self.inside in
-    rw (← c.self.view_is) (HasNoItem-from i.slots i.index i.rings.hot i.rings.cold i.rings.ghosts
+    rw (← c.self.view_is) (HasNoItem-from i.slots i.index i.rings
     c.self.invariant.standing c.self.invariant.keyed _ c.args.hash
     (PassesNoItem-none i.slots i.index c.args.hash _ _ c.in-None.ensures.steps.0
     c.loop-token.invariant))

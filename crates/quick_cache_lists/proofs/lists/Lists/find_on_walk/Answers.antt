@@ -16,7 +16,7 @@ returns-then-is_item g c =
     let i = c.self.inside in
     let has = ap (has_hash c.args.hash) c.slot-slot.ensures ∙ sym c.is_of.ensures
     ∙ c.if-not-is_of.false in
-    rw (← c.self.view_is) (FindsItem-from i.slots i.index i.rings.hot i.rings.cold i.rings.ghosts
+    rw (← c.self.view_is) (FindsItem-from i.slots i.index i.rings
     c.self.invariant.standing c.self.invariant.keyed _ c.args.hash (number c.in-Some.token) has
     (ap (is_under_at (g.Q.Equivalent.equivalent c.args.query.now)) c.slot-slot.ensures
     ∙ sym c.is_under.ensures ∙ c.if-is_under.true)
@@ -27,7 +27,7 @@ returns-else-is_item g c =
     let i = c.self.inside in
     let has = ap (has_hash c.args.hash) c.slot-slot.ensures ∙ sym c.is_of.ensures
     ∙ c.if-not-is_of.false in
-    rw (← c.self.view_is) (FindsLoading-from i.slots i.index i.rings.hot i.rings.cold i.rings.ghosts
+    rw (← c.self.view_is) (FindsLoading-from i.slots i.index i.rings
     c.self.invariant.standing c.self.invariant.keyed _ c.args.hash (number c.in-Some.token) has
     (ap (is_under_at (g.Q.Equivalent.equivalent c.args.query.now)) c.slot-slot.ensures
     ∙ sym c.is_under.ensures ∙ c.if-is_under.true)
@@ -75,12 +75,11 @@ returns-in-Some-shade g c =
     let noted = IsWalked-noted i.slots i.index c.args.hash _ _ _ c.in-Some-shade.token
     c.in-Some-shade.is c.loop-token.invariant in
     rw (← c.self.view_is) (
-      HasNoKey-from i.slots i.index i.rings.hot i.rings.cold i.rings.ghosts
+      HasNoKey-from i.slots i.index i.rings
           c.self.invariant.standing c.self.invariant.keyed _ c.args.hash
           (IsWalked-none i.slots i.index c.args.hash _ _ _ c.in-None.ensures.steps.0
           c.loop-token.invariant),
-      StandsIn-found i.slots i.index i.rings.hot i.rings.cold
-          i.rings.ghosts c.self.invariant.standing c.self.invariant.keyed
+      StandsIn-found i.slots i.index i.rings c.self.invariant.standing c.self.invariant.keyed
           (g.Q.Equivalent.equivalent c.args.query.now) c.args.hash
           (number c.in-Some-shade.token) noted.0 noted.1,
     )
@@ -88,7 +87,7 @@ returns-in-Some-shade g c =
 pub returns-in-None-shade : goal.returns-in-None-shade
 returns-in-None-shade g c =
     let i = c.self.inside in
-    rw (← c.self.view_is) (HasNothing-from i.slots i.index i.rings.hot i.rings.cold i.rings.ghosts
+    rw (← c.self.view_is) (HasNothing-from i.slots i.index i.rings
     c.self.invariant.standing c.self.invariant.keyed _ c.args.hash
     (IsWalked-none i.slots i.index c.args.hash _ _ _ c.in-None.ensures.steps.0
     c.loop-token.invariant) (IsWalked-ghostless i.slots i.index c.args.hash _ _ _

@@ -1,15 +1,8 @@
-use Rattle.quick_cache_lists.specs.Slots.{AmongHot, AmongCold}
-use Rattle.quick_cache_lists.proofs.TurnLemmas.{IsFirstOf-held}
+use Rattle.quick_cache_lists.proofs.TurnLemmas.{first_queue}
 use Rattle.quick_cache_lists.proofs.lists.Lists.first.Goals as goal
 
-pub returns-in-Hot : goal.returns-in-Hot
-returns-in-Hot g c =
-    rw (← c.self.view_is, c.in-Hot.is)
-    (IsFirstOf-held c.self.inside.slots c.validate.ensures c.self.inside.rings.hot AmongHot
-    (λ e. cc) (λ e. cc) c.self.invariant.standing.hot_ring)
-
-pub returns-in-Cold : goal.returns-in-Cold
-returns-in-Cold g c =
-    rw (← c.self.view_is, c.in-Cold.is)
-    (IsFirstOf-held c.self.inside.slots c.validate.ensures c.self.inside.rings.cold AmongCold
-    (λ e. cc) (λ e. cc) c.self.invariant.standing.cold_ring)
+pub returns : goal.returns
+returns g c =
+    let i = c.self.inside in
+    rw (← c.self.view_is) (first_queue i.slots i.index i.rings c.self.invariant.standing
+    c.args.queue c.first.result (rw c.queue.ensures.tokens at c.first.ensures))

@@ -20,7 +20,7 @@ returns-then-is_item g c =
     c.iter_from-next-items.ensures)) in
     let first = walk ∙ c.loop-next.invariant ∙ ap first_item c.in-Some.ensures.steps
     ∙ rw (sym c.is_item.ensures ∙ c.if-is_item.true) refl in
-    rw (← c.self.view_is) (IsFirstAbove-some i.slots i.index i.rings.hot i.rings.cold i.rings.ghosts
+    rw (← c.self.view_is) (IsFirstAbove-some i.slots i.index i.rings
     c.self.invariant.standing (number_or_zero c.args.token) c.in-Some.next first)
 
 pub returns : goal.returns
@@ -30,5 +30,5 @@ returns g c =
     ∙ entries_from i.slots c.args.token c.iter_from-next-items.result
     c.iter_from-next-items.ensures)) in
     let none = walk ∙ c.loop-next.invariant ∙ ap first_item c.in-None.ensures.steps.0 in
-    rw (← c.self.view_is) (IsFirstAbove-none i.slots i.index i.rings.hot i.rings.cold i.rings.ghosts
+    rw (← c.self.view_is) (IsFirstAbove-none i.slots i.index i.rings
     c.self.invariant.standing (number_or_zero c.args.token) none)

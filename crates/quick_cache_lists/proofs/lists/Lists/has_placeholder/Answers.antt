@@ -7,6 +7,5 @@ pub returns-in-Some : goal.returns-in-Some
 returns-in-Some g c =
     let i = c.self.inside in
     on-true c.is_meant.result
-    (λ is. rw (← c.self.view_is) (FindsPlaceholder-at i.slots i.index i.rings.hot i.rings.cold
-    i.rings.ghosts c.self.invariant.standing (g.M.Meaning.means c.args.by.now)
+    (λ is. rw (← c.self.view_is) (FindsPlaceholder-at i.slots i.index i.rings c.self.invariant.standing (g.M.Meaning.means c.args.by.now)
     (number c.args.token) _ c.in-Some.ensures.item (sym c.is_meant.ensures ∙ is)))

@@ -8,13 +8,13 @@ pub returns-in_err-get : goal.returns-in_err-get
 returns-in_err-get g c =
     let i = c.self.inside in
     rw c.from_residual.ensures (λ has.
-    let at = item_by_token i.slots i.index i.rings.hot i.rings.cold i.rings.ghosts
+    let at = item_by_token i.slots i.index i.rings
     (number c.args.token) (rw (← c.self.view_is) at has) in
     absurd (cc (at.2, c.in_err-get.ensures.absent)))
 
 pub returns : goal.returns
 returns g c =
     let i = c.self.inside in
-    rw (← c.self.view_is) (IsItemOf-shown i.slots i.index i.rings.hot i.rings.cold i.rings.ghosts
+    rw (← c.self.view_is) (IsItemOf-shown i.slots i.index i.rings
     c.self.invariant.standing (number c.args.token) c.in_ok-get.field-0
     c.in_ok-get.ensures.item c.as_item.result c.as_item.ensures)

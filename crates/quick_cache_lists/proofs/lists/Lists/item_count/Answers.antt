@@ -1,4 +1,4 @@
-use Rattle.std.proofs.Common.{arith}
+use Rattle.std.proofs.Common.{ap, length, arith}
 use Rattle.quick_cache_lists.proofs.TurnLemmas.{count_ghosts}
 use Rattle.quick_cache_lists.proofs.lists.Lists.item_count.Goals as goal
 
@@ -11,7 +11,9 @@ overflow_sub-result g c =
       c.self.invariant.all_counted,
       c.self.invariant.loading_counted,
       ghosts,
+      ap length c.ghosts.ensures.tokens,
       c.len.ensures,
+      c.len-2.ensures,
     )
 
 pub overflow_sub-result-2 : goal.overflow_sub-result-2
@@ -23,7 +25,9 @@ overflow_sub-result-2 g c =
       c.self.invariant.all_counted,
       c.self.invariant.loading_counted,
       ghosts,
+      ap length c.ghosts.ensures.tokens,
       c.len.ensures,
+      c.len-2.ensures,
     )
 
 pub returns : goal.returns
@@ -35,5 +39,7 @@ returns g c =
       c.self.invariant.all_counted,
       c.self.invariant.loading_counted,
       ghosts,
+      ap length c.ghosts.ensures.tokens,
       c.len.ensures,
+      c.len-2.ensures,
     ))

@@ -7,8 +7,8 @@ use Rattle.quick_cache_lists.proofs.lists.Lists.iter_items.Goals as goal
 pub invariant_of-result : goal.invariant_of-result
 invariant_of-result g c =
     let i = c.self.inside in
-    let all = IsPermutation-items_in i.slots i.index i.rings.hot i.rings.cold i.rings.ghosts
-    c.validate.ensures c.self.invariant.standing in
+    let all = IsPermutation-items_in i.slots i.index i.rings
+    c.self.invariant.standing in
     rw c.iter.ensures (length_permutation _ _ all
     ∙ ap (λ lists. length (residents lists)) c.self.view_is
     ∙ length-residents c.args.self.now ∙ sym c.item_count.ensures)
@@ -16,5 +16,4 @@ invariant_of-result g c =
 pub returns : goal.returns
 returns g c =
     let i = c.self.inside in
-    rw (← c.self.view_is, c.iter.ensures) (IsPermutation-items_in i.slots i.index i.rings.hot
-    i.rings.cold i.rings.ghosts c.validate.ensures c.self.invariant.standing)
+    rw (← c.self.view_is, c.iter.ensures) (IsPermutation-items_in i.slots i.index i.rings c.self.invariant.standing)

@@ -1,34 +1,28 @@
-use Rattle.quick_cache_lists.specs.Slots.{AmongHot, AmongCold}
-use Rattle.quick_cache_lists.proofs.WalkLemmas.{length-walk_of, AllByRecursion-walk_of, items_in-walk_of}
+use Rattle.std.proofs.Common.{◌∙◌}
+use Rattle.quick_cache_rings.specs.Rings.{ring_of}
+use Rattle.quick_cache_lists.specs.Slots.{ring_stand}
+use Rattle.quick_cache_lists.proofs.TurnLemmas.{IsRingOf-queue, items_queue, not_loading, not_ghost}
+use Rattle.quick_cache_lists.proofs.WalkLemmas.{IsWalk-ring, AllByRecursion-walk_of, items_in-gather}
 use Rattle.quick_cache_lists.proofs.lists.Lists.iter_ring.Goals as goal
-use Rattle.quick_cache_lists.proofs.lists.Lists.iter_ring.Goals.{in-Hot, in-Cold}
 
 pub invariant_of-result : goal.invariant_of-result
 invariant_of-result g c =
     let i = c.self.inside in
-    elim c.match-queue.branch [
-      | in-Hot w ↦ rw w.ring-is (length-walk_of i.slots i.rings.hot AmongHot
-          c.self.invariant.standing.hot_ring)
-      | in-Cold w ↦ rw w.ring-is (length-walk_of i.slots i.rings.cold AmongCold
-          c.self.invariant.standing.cold_ring)
-    ]
+    let is = IsRingOf-queue i.slots i.index i.rings c.self.invariant.standing c.args.queue in
+    rw (c.len.ensures, c.queue-tokens.ensures.tokens) (IsWalk-ring i.slots
+    (ring_of c.args.queue i.rings) (ring_stand c.args.queue) is)
 
 pub invariant_of-result-2 : goal.invariant_of-result-2
 invariant_of-result-2 g c =
     let i = c.self.inside in
-    elim c.match-queue.branch [
-      | in-Hot w ↦ rw w.ring-is (AllByRecursion-walk_of i.slots i.rings.hot AmongHot
-          c.self.invariant.standing.hot_ring (λ e. cc) (λ e. cc))
-      | in-Cold w ↦ rw w.ring-is (AllByRecursion-walk_of i.slots i.rings.cold AmongCold
-          c.self.invariant.standing.cold_ring (λ e. cc) (λ e. cc))
-    ]
+    let is = IsRingOf-queue i.slots i.index i.rings c.self.invariant.standing c.args.queue in
+    rw c.queue-tokens.ensures.tokens (AllByRecursion-walk_of i.slots
+    (ring_of c.args.queue i.rings) (ring_stand c.args.queue) is (not_loading c.args.queue)
+    (not_ghost c.args.queue))
 
 pub returns : goal.returns
 returns g c =
     let i = c.self.inside in
-    elim c.match-queue.branch [
-      | in-Hot w ↦ rw (← c.self.view_is, w.ring-is, w.in-Hot.is)
-          (items_in-walk_of i.slots i.rings.hot AmongHot c.self.invariant.standing.hot_ring)
-      | in-Cold w ↦ rw (← c.self.view_is, w.ring-is, w.in-Cold.is)
-          (items_in-walk_of i.slots i.rings.cold AmongCold c.self.invariant.standing.cold_ring)
-    ]
+    rw (← c.self.view_is, c.queue-tokens.ensures.tokens)
+    (items_in-gather i.slots (ring_of c.args.queue i.rings).tokens
+    ∙ items_queue i.slots i.index i.rings c.self.invariant.standing c.args.queue)

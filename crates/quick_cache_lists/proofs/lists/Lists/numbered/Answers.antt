@@ -5,6 +5,6 @@ use Rattle.quick_cache_lists.proofs.lists.Lists.numbered.Goals as goal
 pub returns : goal.returns
 returns g c = λ has.
     let i = c.self.inside in
-    let at = item_by_token i.slots i.index i.rings.hot i.rings.cold i.rings.ghosts 0
+    let at = item_by_token i.slots i.index i.rings 0
     (rw (← c.self.view_is) at has) in
     absurd (cc (at.2))

@@ -8,8 +8,8 @@ use Rattle.quick_cache_lists.proofs.lists.Lists.reweigh.Goals as goal
 pub returns-then-was-weight : goal.returns-then-was-weight
 returns-then-was-weight g c =
     let i = c.self.inside in
-    rw (← c.self.view_is) (Reweighs-requeued i.slots i.index i.rings.hot i.rings.cold i.rings.ghosts
-    c.validate.ensures c.self.invariant.standing (number c.args.token) c.item-item.result
+    rw (← c.self.view_is) (Reweighs-requeued i.slots i.index i.rings
+    c.self.invariant.standing (number c.args.token) c.item-item.result
     (rw (← c.self.view_is) at c.item-item.ensures) c.requeue.new.self c.weight-was.result
     c.args.weight c.weight-was.ensures c.queue-queue.result c.mark-mark.result
     c.queue-queue.ensures c.mark-mark.ensures (rw (← c.self.view_is) at c.requeue.ensures)
@@ -21,14 +21,14 @@ set_weight-requires g c =
     let has = rw (← c.self.view_is) at c.item-item.ensures in (
       has.0,
       c.item-item.result,
-      item_at-token i.slots i.index i.rings.hot i.rings.cold i.rings.ghosts
+      item_at-token i.slots i.index i.rings
           (number c.args.token) c.item-item.result has,
     )
 
 pub reweigh-requires : goal.reweigh-requires
 reweigh-requires g c =
     let i = c.self.inside in
-    can_reweigh-seen i.slots i.index i.rings i.loading c.self.invariant c.validate.ensures
+    can_reweigh-seen i.slots i.index i.rings i.loading c.self.invariant
     (number c.args.token) c.item-item.result (rw (← c.self.view_is) at c.item-item.ensures)
     c.weight-was.result c.args.weight c.stand-stand.result c.weight-was.ensures
     c.stand-stand.ensures (omega arith)
@@ -38,11 +38,11 @@ invariant_of-self g c =
     let i = c.self.inside in
     let t = number c.args.token in
     let has = rw (← c.self.view_is) at c.item-item.ensures in
-    let at = item_at-token i.slots i.index i.rings.hot i.rings.cold i.rings.ghosts t
+    let at = item_at-token i.slots i.index i.rings t
     c.item-item.result has in
     let now = written-by i.slots c.set_weight.new.self t has.0 c.item-item.result
     (with_weight c.args.weight) c.set_weight.ensures at in
-    rw now (IsSound-written i.slots i.index i.rings i.loading c.self.invariant c.validate.ensures t
+    rw now (IsSound-written i.slots i.index i.rings i.loading c.self.invariant t
     c.item-item.result has c.weight-was.result c.args.weight c.stand-stand.result
     c.weight-was.ensures c.stand-stand.ensures (omega arith)
     (with_weight c.args.weight c.item-item.result) c.reweigh.new.self c.reweigh.ensures refl
@@ -53,14 +53,14 @@ returns g c =
     let i = c.self.inside in
     let t = number c.args.token in
     let has = rw (← c.self.view_is) at c.item-item.ensures in
-    let at = item_at-token i.slots i.index i.rings.hot i.rings.cold i.rings.ghosts t
+    let at = item_at-token i.slots i.index i.rings t
     c.item-item.result has in
     let now = written-by i.slots c.set_weight.new.self t has.0 c.item-item.result
     (with_weight c.args.weight) c.set_weight.ensures at in
     rw (← c.self.view_is, now) (
       c.item-item.result,
       Rewrites-written i.slots i.index i.rings
-          i.loading c.self.invariant c.validate.ensures t c.item-item.result has
+          i.loading c.self.invariant t c.item-item.result has
           c.weight-was.result c.args.weight c.stand-stand.result c.weight-was.ensures
           c.stand-stand.ensures (omega arith) (with_weight c.args.weight c.item-item.result)
           c.reweigh.new.self c.reweigh.ensures refl refl c.if-was-weight.false,

@@ -10,8 +10,7 @@ loop-token-init g c = PassesNoneMeant-start (g.M.Meaning.means c.args.by.now) _
 pub returns-then-is_meant : goal.returns-then-is_meant
 returns-then-is_meant g c =
     let i = c.self.inside in
-    rw (← c.self.view_is) (FindsPlaceholder-walk i.slots i.index i.rings.hot i.rings.cold
-    i.rings.ghosts c.self.invariant.standing (g.M.Meaning.means c.args.by.now) _ _ _
+    rw (← c.self.view_is) (FindsPlaceholder-walk i.slots i.index i.rings c.self.invariant.standing (g.M.Meaning.means c.args.by.now) _ _ _
     (number c.in-Some.token) c.in-Some.slot
     (c.into_iter-token-iterator.ensures.into_iter_gives ∙ c.iter_from-token-items.ensures)
     c.in-Some.ensures.steps c.loop-token.invariant (sym c.is_meant.ensures ∙ c.if-is_meant.true))
@@ -26,7 +25,6 @@ loop-token-preserved g c =
 pub returns : goal.returns
 returns g c =
     let i = c.self.inside in
-    rw (← c.self.view_is) (HasNoPlaceholder-walk i.slots i.index i.rings.hot i.rings.cold
-    i.rings.ghosts c.self.invariant.standing (g.M.Meaning.means c.args.by.now) _ _
+    rw (← c.self.view_is) (HasNoPlaceholder-walk i.slots i.index i.rings c.self.invariant.standing (g.M.Meaning.means c.args.by.now) _ _
     (c.into_iter-token-iterator.ensures.into_iter_gives ∙ c.iter_from-token-items.ensures)
     c.in-None.ensures.steps.0 c.loop-token.invariant)

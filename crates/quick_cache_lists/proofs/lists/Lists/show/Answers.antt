@@ -9,7 +9,7 @@ use Rattle.quick_cache_lists.proofs.lists.Lists.show.Goals as goal
 pub show-requires-clause-item : goal.show-requires-clause-item
 show-requires-clause-item g c =
     let i = c.self.inside in
-    item_by_token i.slots i.index i.rings.hot i.rings.cold i.rings.ghosts
+    item_by_token i.slots i.index i.rings
     (number c.args.token) (rw (← c.self.view_is) at c.requires.token)
 
 -- the item keeps its weight, whatever value was left
@@ -34,12 +34,11 @@ returns g c =
       item = shows.item;
       stood = (
         shows.hash,
-        rw (← c.self.view_is) (HasItem-from i.slots i.index i.rings.hot i.rings.cold i.rings.ghosts
+        rw (← c.self.view_is) (HasItem-from i.slots i.index i.rings
             c.self.invariant.standing t shows.hash shows.item shows.at),
       );
       left = shows.left;
       called = shows.called;
       rest = rw (← c.self.view_is, is) (lists-changed i.slots t shows.hash shows.item
-          (with_value shows.left) refl refl shows.at i.index i.rings.hot i.rings.cold
-          i.rings.ghosts);
+          (with_value shows.left) refl refl shows.at i.index i.rings);
     }

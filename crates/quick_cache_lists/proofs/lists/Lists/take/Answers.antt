@@ -1,29 +1,29 @@
 use Rattle.std.proofs.Common.{arith, ◌≡◌, ◌∙◌, sym, ap, subst, Some, ℕ}
 use Rattle.std.specs.Int.NonZero.{non_zero_u32_get as number}
-use Rattle.quick_cache_slab.specs.LinkedSlab.{item_at}
-use Rattle.quick_cache_lists.specs.Frames.{CanLeaveRing}
+use Rattle.quick_cache_pool.specs.Pool.{item_at}
+use Rattle.quick_cache_rings.specs.Rings.{CanLeaveRing}
 use Rattle.quick_cache_lists.specs.Slots.{Stand, stand_of, weight_at}
-use Rattle.quick_cache_lists.proofs.LeaveLemmas.{can_leave, loading-enough, IsGone-left, IsSound-left}
+use Rattle.quick_cache_lists.proofs.LeaveLemmas.{can_leave, loading-enough, lists-left, IsSound-left}
 use Rattle.quick_cache_lists.proofs.TakeLemmas.{occupied_by_entry, IsEntry-from}
 use Rattle.quick_cache_lists.proofs.lists.Lists.take.Goals as goal
 
 pub displace-slot-requires-clause-occupied : goal.displace-slot-requires-clause-occupied
 displace-slot-requires-clause-occupied g c =
     let i = c.self.inside in
-    occupied_by_entry i.slots i.index i.rings.hot i.rings.cold i.rings.ghosts (number c.args.token)
+    occupied_by_entry i.slots i.index i.rings (number c.args.token)
     (rw (← c.self.view_is) at c.requires)
 
 pub leave-requires : goal.leave-requires
 leave-requires g c =
     let i = c.self.inside in
+    let t = number c.args.token in
     let u = c.displace-slot.ensures in
-    let stands : stand_of (item_at i.slots (number c.args.token)) ≡ Some c.stand-stand.result =
+    let stands : stand_of (item_at i.slots t) ≡ Some c.stand-stand.result =
     ap stand_of u.item ∙ ap (λ (s : Stand). Some s) (sym c.stand-stand.ensures) in
-    let weighs : weight_at (item_at i.slots (number c.args.token)) ≡ c.weight-weight.result =
+    let weighs : weight_at (item_at i.slots t) ≡ c.weight-weight.result =
     ap weight_at u.item ∙ sym c.weight-weight.ensures in
-    subst (λ (w : ℕ). CanLeaveRing i.rings w c.stand-stand.result) weighs
-    (can_leave i.slots i.rings c.self.invariant.standing
-    (number c.args.token) c.stand-stand.result stands)
+    subst (λ (w : ℕ). CanLeaveRing i.rings t w c.stand-stand.result) weighs
+    (can_leave i.slots i.rings c.self.invariant.standing t c.stand-stand.result stands)
 
 pub overflow_sub-self : goal.overflow_sub-self
 overflow_sub-self g c =
@@ -32,10 +32,10 @@ overflow_sub-self g c =
     omega (
       arith,
       loading-enough i.slots c.displace-slot.new.slots i.index c.displace-slot.new.index
-          c.args.token c.displace-slot.result.1 c.args.restarts i.rings c.leave.new.self i.loading
-          c.self.invariant c.validate.ensures u.removed u.next u.room u.keyed u.count
-          c.displace-slot.result.0 u.item c.stand-stand.result c.weight-weight.result
-          c.stand-stand.ensures c.weight-weight.ensures c.leave.ensures,
+          (number c.args.token) c.args.restarts i.rings c.leave.new.self i.loading
+          c.self.invariant u.removed u.room u.keyed u.count c.displace-slot.result u.item
+          c.stand-stand.result c.weight-weight.result c.stand-stand.ensures
+          c.weight-weight.ensures c.leave.ensures,
       c.loading.ensures,
     )
 
@@ -43,25 +43,24 @@ pub invariant_of-self : goal.invariant_of-self
 invariant_of-self g c =
     let i = c.self.inside in
     let u = c.displace-slot.ensures in
-    IsSound-left i.slots c.displace-slot.new.slots i.index c.displace-slot.new.index c.args.token
-    c.displace-slot.result.1 c.args.restarts i.rings c.leave.new.self i.loading c.self.invariant
-    c.validate.ensures u.removed u.next u.room u.keyed u.count c.displace-slot.result.0 u.item
-    c.stand-stand.result c.weight-weight.result c.stand-stand.ensures c.weight-weight.ensures
-    c.leave.ensures c.loading.result c.loading.ensures
+    IsSound-left i.slots c.displace-slot.new.slots i.index c.displace-slot.new.index
+    (number c.args.token) c.args.restarts i.rings c.leave.new.self i.loading c.self.invariant
+    u.removed u.room u.keyed u.count c.displace-slot.result u.item c.stand-stand.result
+    c.weight-weight.result c.stand-stand.ensures c.weight-weight.ensures c.leave.ensures
+    c.loading.result c.loading.ensures
 
 pub returns-clause-taken : goal.returns-clause-taken
 returns-clause-taken g c =
     let i = c.self.inside in
-    rw (← c.self.view_is) (IsEntry-from i.slots i.index i.rings.hot i.rings.cold i.rings.ghosts
-    c.self.invariant.standing (number c.args.token) c.displace-slot.result.0
-    c.displace-slot.ensures.item)
+    rw (← c.self.view_is) (IsEntry-from i.slots i.index i.rings c.self.invariant.standing
+    (number c.args.token) c.displace-slot.result c.displace-slot.ensures.item)
 
 pub returns-clause-rest : goal.returns-clause-rest
 returns-clause-rest g c =
     let i = c.self.inside in
     let u = c.displace-slot.ensures in
-    rw (← c.self.view_is) (IsGone-left i.slots c.displace-slot.new.slots i.index
-    c.displace-slot.new.index c.args.token c.displace-slot.result.1 c.args.restarts i.rings
-    c.leave.new.self i.loading c.self.invariant c.validate.ensures u.removed u.next u.room
-    u.keyed u.count c.displace-slot.result.0 u.item c.stand-stand.result c.weight-weight.result
-    c.stand-stand.ensures c.weight-weight.ensures c.leave.ensures).1
+    rw (← c.self.view_is) (lists-left i.slots c.displace-slot.new.slots i.index
+    c.displace-slot.new.index (number c.args.token) c.args.restarts i.rings c.leave.new.self
+    i.loading c.self.invariant u.removed u.room u.keyed u.count c.displace-slot.result u.item
+    c.stand-stand.result c.weight-weight.result c.stand-stand.ensures c.weight-weight.ensures
+    c.leave.ensures)

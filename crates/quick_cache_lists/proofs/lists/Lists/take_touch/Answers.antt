@@ -5,7 +5,7 @@ use Rattle.quick_cache_lists.proofs.lists.Lists.take_touch.Goals as goal
 pub take_touch-requires : goal.take_touch-requires
 take_touch-requires g c =
     let i = c.self.inside in
-    item_by_token i.slots i.index i.rings.hot i.rings.cold i.rings.ghosts
+    item_by_token i.slots i.index i.rings
     (number c.args.token) (rw (← c.self.view_is) at c.requires)
 
 pub invariant_of-self : goal.invariant_of-self

@@ -1,35 +1,23 @@
-use Rattle.std.proofs.Common.{arith}
-use Rattle.quick_cache_lists.specs.Slots.{AmongHot, AmongCold}
+use Rattle.std.proofs.Common.{◌∙◌, arith}
+use Rattle.quick_cache_lists.specs.Slots.{ring_stand}
 use Rattle.quick_cache_lists.proofs.SoundLemmas.{ring_light}
-use Rattle.quick_cache_lists.proofs.TurnLemmas.{weight_held}
+use Rattle.quick_cache_rings.specs.Rings.{ring_of}
+use Rattle.quick_cache_lists.proofs.TurnLemmas.{weight_queue, IsRingOf-queue}
 use Rattle.quick_cache_lists.proofs.lists.Lists.weight.Goals as goal
 
-pub returns-in-Hot-clause-weight : goal.returns-in-Hot-clause-weight
-returns-in-Hot-clause-weight g c =
-    rw (← c.self.view_is, c.in-Hot.is)
-    (weight_held c.self.inside.slots c.validate.ensures c.self.inside.rings.hot AmongHot
-    (λ e. cc) (λ e. cc) c.self.invariant.standing.hot_ring)
+pub returns-clause-weight : goal.returns-clause-weight
+returns-clause-weight g c =
+    let i = c.self.inside in
+    rw (← c.self.view_is) (c.weight.ensures
+    ∙ weight_queue i.slots i.index i.rings c.self.invariant.standing c.args.queue)
 
-pub returns-in-Hot-clause-within : goal.returns-in-Hot-clause-within
-returns-in-Hot-clause-within g c =
+pub returns-clause-within : goal.returns-clause-within
+returns-clause-within g c =
     let i = c.self.inside in
     omega (
       arith,
-      ring_light i.slots i.rings.hot AmongHot c.validate.ensures.once
-          c.self.invariant.keyed.few c.self.invariant.keyed.light c.self.invariant.standing.hot_ring,
-    )
-
-pub returns-in-Cold-clause-weight : goal.returns-in-Cold-clause-weight
-returns-in-Cold-clause-weight g c =
-    rw (← c.self.view_is, c.in-Cold.is)
-    (weight_held c.self.inside.slots c.validate.ensures c.self.inside.rings.cold AmongCold
-    (λ e. cc) (λ e. cc) c.self.invariant.standing.cold_ring)
-
-pub returns-in-Cold-clause-within : goal.returns-in-Cold-clause-within
-returns-in-Cold-clause-within g c =
-    let i = c.self.inside in
-    omega (
-      arith,
-      ring_light i.slots i.rings.cold AmongCold c.validate.ensures.once
-          c.self.invariant.keyed.few c.self.invariant.keyed.light c.self.invariant.standing.cold_ring,
+      c.weight.ensures,
+      ring_light i.slots (ring_of c.args.queue i.rings) (ring_stand c.args.queue)
+          c.self.invariant.keyed.few c.self.invariant.keyed.light
+          (IsRingOf-queue i.slots i.index i.rings c.self.invariant.standing c.args.queue),
     )

@@ -1,26 +1,10 @@
-use Rattle.std.proofs.Common.{rules, length, ap, sym, ◌∙◌, arith}
-use Rattle.quick_cache_lists.proofs.WalkLemmas.{walk_of-steps}
+use Rattle.std.specs.Int.NonZero.{non_zero_u32_get as number}
+use Rattle.quick_cache_queue.specs.Queues.{tokens_from}
+use Rattle.quick_cache_lists.proofs.WalkLemmas.{occupied-on_walk}
 use Rattle.quick_cache_lists.proofs.walk.WalkIterator.next.Goals as goal
 
-pub invariant_of-self : goal.invariant_of-self
-invariant_of-self g c =
+pub slot-requires : goal.slot-requires
+slot-requires g c =
     let i = c.self.inside in
-    let step = walk_of-steps i.slots.now c.validate.ensures i.at c.in_ok-token.token c.in_ok-token.was
-    i.left (search rules) c.self.invariant _ c.slot.ensures
-    c.next.result c.next.ensures in
-    omega (arith, ap length step, c.self.invariant)
-
-pub returns-clause-steps : goal.returns-clause-steps
-returns-clause-steps g c =
-    let i = c.self.inside in
-    sym c.self.view_is ∙ walk_of-steps i.slots.now c.validate.ensures i.at c.in_ok-token.token c.in_ok-token.was
-    i.left (search rules) c.self.invariant _ c.slot.ensures
-    c.next.result c.next.ensures
-
-pub returns-clause-goes : goal.returns-clause-goes
-returns-clause-goes g c =
-    let i = c.self.inside in
-    let step = sym c.self.view_is ∙ walk_of-steps i.slots.now c.validate.ensures i.at c.in_ok-token.token c.in_ok-token.was
-    i.left (search rules) c.self.invariant _ c.slot.ensures
-    c.next.result c.next.ensures in
-    rw step (search rules)
+    occupied-on_walk i.slots.now (tokens_from i.queue.now i.passed) (number c.in_ok-token.token)
+    (tokens_from i.queue.now c.in_ok-token.behind) c.in_ok-token.ensures i.left c.self.invariant

@@ -1,19 +1,19 @@
-use Rattle.std.proofs.Common.{vec_len, vec_capacity}
-use Rattle.quick_cache_slots.specs.Joined.{room_beside}
+use Rattle.quick_cache_slots.specs.Asides.{besides_of, room_of}
 use Rattle.quick_cache_slots.proofs.JoinedLemmas.{occupied-apart}
 use Rattle.quick_cache_slots.proofs.JoinedEdits.{item_at-read}
 use Rattle.quick_cache_slots.proofs.slots.Slots.slot.Goals as goal
 
-pub get_unchecked-requires : goal.get_unchecked-requires
-get_unchecked-requires g c =
+pub item-entry-requires : goal.item-entry-requires
+item-entry-requires g c =
     let asides = c.self.inside.asides in
-    occupied-apart c.self.inside.slab asides.items
-    (room_beside (vec_capacity asides) (vec_len asides)) c.args.token.value c.self.invariant
+    occupied-apart c.self.inside.pool (besides_of asides)
+    (room_of asides) c.args.token.value c.self.invariant.beside
     (rw (← c.self.view_is) at c.requires)
 
 pub returns : goal.returns
 returns g c =
     let asides = c.self.inside.asides in
-    rw (← c.self.view_is) (item_at-read c.self.inside.slab asides.items
-    (room_beside (vec_capacity asides) (vec_len asides)) c.args.token.value c.place.result _ _
-    c.self.invariant c.get_unchecked.ensures.item c.place.ensures c.index.ensures)
+    rw (← c.self.view_is) (item_at-read c.self.inside.pool (besides_of asides)
+    (room_of asides) c.args.token.value c.place.result _ _
+    c.self.invariant.beside c.item-entry.ensures.item c.place.ensures (rw c.lists.ensures at
+    c.at.ensures))

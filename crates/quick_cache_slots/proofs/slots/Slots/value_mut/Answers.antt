@@ -1,32 +1,34 @@
 use Rattle.std.proofs.Common.{refl}
 use Rattle.std.specs.Int.NonZero.{non_zero_u32_get as number}
-use Rattle.quick_cache_slots.specs.Joined.{room_beside}
+use Rattle.quick_cache_slots.specs.Asides.{besides_of, room_of}
 use Rattle.quick_cache_slots.proofs.WrittenLemmas.{item-occupied, item-stored, value-joined, value-written}
 use Rattle.quick_cache_slots.proofs.slots.Slots.value_mut.Goals as goal
 
-pub get_mut_unchecked-requires : goal.get_mut_unchecked-requires
-get_mut_unchecked-requires g c =
+pub item_mut-entry-requires : goal.item_mut-entry-requires
+item_mut-entry-requires g c =
     let i = c.self.inside in
-    item-occupied i.slab i.asides.items _ _ _ c.self.invariant c.self.view_is c.requires
+    item-occupied i.pool (besides_of i.asides) _ _ _ c.self.invariant.beside c.self.view_is
+    c.requires
 
 pub value_mut-requires : goal.value_mut-requires
 value_mut-requires g c =
     let i = c.self.inside in
-    item-stored i.slab i.asides.items _ _ _ c.self.invariant c.self.view_is _ c.requires
-    c.get_mut_unchecked.ensures.item
+    item-stored i.pool (besides_of i.asides) _ _ _ c.self.invariant.beside c.self.view_is _
+    c.requires
+    c.item_mut-entry.ensures.item
 
 pub returns : goal.returns
 returns g c =
     let i = c.self.inside in
     let t = number c.args.token in
-    let stored = c.get_mut_unchecked.result.0.now in
-    let item = c.get_mut_unchecked.ensures.item in
+    let stored = c.item_mut-entry.result.now in
+    let item = c.item_mut-entry.ensures.item in
     rw (← c.self.view_is) (
-      (refl, value-written i.slab i.asides.items _ t stored c.self.invariant item),
+      (refl, value-written i.pool (besides_of i.asides) _ t stored c.self.invariant.beside item),
       record {
         writes_back = tt;
-        value = value-joined i.slab i.asides.items
-            (room_beside i.asides.cap i.asides.len) t stored c.self.invariant item
+        value = value-joined i.pool (besides_of i.asides)
+            (room_of i.asides) t stored c.self.invariant.beside item
             c.value_mut.result.now c.value_mut.ensures.value;
       },
     )

@@ -1,0 +1,4 @@
+pub mod AtTokens
+mod StackLemmas
+pub mod TokenCounts
+mod WalkLemmas

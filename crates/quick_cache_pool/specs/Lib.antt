@@ -1,0 +1,4 @@
+pub mod Pool
+pub mod PoolEdits
+pub mod PoolLends
+pub mod Stack

@@ -1,0 +1,61 @@
+//! Where in their queues tokens likely stand.
+ghost use Rattle.std.specs.Prelude.{◌≡◌, IfErr};
+
+use quick_cache_model::{Refusal, Token};
+use std::alloc::{Allocator, Global};
+
+/// For each token the number of its place in its queue.
+///
+/// A number is a thought and no fact: who goes by it looks whether the token stands there. So no
+/// contract speaks of one, and a token that has none here costs time alone.
+#[derive(Drop)]
+pub struct Numbers<A: Allocator = Global> {
+    numbers: Vec<u32, A>,
+}
+
+/// Where in the list the number of a token stands.
+fn index(token: Token) -> usize {
+    (token.get() - 1) as usize
+}
+
+impl<A: Allocator> Numbers<A> {
+    /// Numbers of no tokens. It asks for no memory.
+    pub fn new(alloc: A) -> Self {
+        Numbers {
+            numbers: Vec::new(alloc),
+        }
+    }
+
+    /// Makes room for the numbers of the tokens up to that one.
+    ///
+    /// A refusal is for want of memory, and changes nothing.
+    pub fn reserve(&mut self, tokens: usize) -> Result<(), Refusal>
+        ensures memory { IfErr result (λ refused. refused ≡ Refusal.Memory) }
+    {
+        if tokens <= self.numbers.len() {
+            return Ok(());
+        }
+        match self.numbers.resize(tokens, 0) {
+            Ok(()) => Ok(()),
+            Err(_) => Err(Refusal::Memory),
+        }
+    }
+
+    /// The number of a token, or 0 where it has none.
+    #[inline(always)]
+    pub(crate) fn of(&self, token: Token) -> u32 {
+        match self.numbers.get(index(token)) {
+            Some(number) => *number,
+            None => 0,
+        }
+    }
+
+    /// Notes the number of a token, if there is room for it.
+    #[inline(always)]
+    pub(crate) fn note(&mut self, token: Token, number: u32) {
+        let index = index(token);
+        if index < self.numbers.len() {
+            self.numbers[index] = number;
+        }
+    }
+}
