@@ -1,5 +1,7 @@
 //! What a test expects. `expect!`, `expect_eq!` and `expect_ok!` are calls and do not branch, so that each
 //! takes less than half of what `assert!`, `assert_eq!` and `?` take to prove.
+#![tactic(auto)]
+
 ghost use Rattle.std.specs.Prelude.{◌≡◌, ◌↔◌, IsTrue, IsOk, IfErr};
 
 use std::fmt::{Debug, Formatter, Write};

@@ -2,2004 +2,243 @@
 
 /// One cache, each other command at least thirty times, and keys of different hashes.
 pub const SCRIPT: &str = "\
-cache 40 40
-show
-load 39 1
-peek 39
-insert 24 1
-get 571
-insert 68 1
-insert 21 1
-insert 32 1
-get 59
-insert 44 1
-insert 27 1
-load 312 1
-hits
-load 20 1
-insert 32 1
-hits
-get 39
-insert 31 1
-insert 797 1
-insert 3 1
-get 3
-get 783
-get 66
-get 39
-peek 39
-get 24
-insert 341 1
-insert 341 1
-stats 39
-get 44
-peek 8
-insert 12 1
-get 31
-get 21
-insert 380 1
-insert 11 1
-get 39
-peek 11
-insert 54 1
-peek 39
-show
-peek 54
-get 24
-insert 40 1
-get 11
-insert 113 1
-get 3
-insert 64 1
-get 64
-get 113
-insert 57 1
-load 44 1
-load 13 1
-peek 32
-get 13
-insert 63 1
-get 39
-get 63
-insert 62 1
-peek 62
-peek 3
-insert 57 1
-get 12
-insert 350 1
-get 310
-get 350
-get 2
-get 341
-get 39
-get 31
-show
-get 350
-insert 757 1
-get 39
-get 13
-peek 7
-get 44
-get 39
-hits
-show
-get 757
-insert 7 1
-get 350
-insert 56 1
-insert 27 1
-get 56
-get 32
-load 19 1
-get 19
-get 27
-get 27
-stats 39
-load 10 1
-get 797
-load 37 1
-get 64
-insert 1 1
-get 423
-hits
-peek 1
-insert 678 1
-insert 33 1
-peek 27
-peek 33
-insert 43 1
-insert 8 1
-peek 39
-insert 56 1
-insert 50 1
-insert 55 1
-get 54
-get 21
-show
-get 43
-show
-insert 69 1
-insert 10 1
-insert 41 1
-show
-stats 32
-insert 42 1
-insert 15 1
-show
-get 8
-insert 746 1
-insert 704 1
-load 670 1
-insert 5 1
-insert 69 1
-load 40 1
-get 40
-get 37
-insert 41 1
-peek 39
-get 57
-get 38
-insert 12 1
-insert 42 1
-insert 723 1
-insert 51 1
-stats 15
-hits
-get 51
-show
-get 51
-stats 40
-load 33 1
-get 20
-insert 17 1
-insert 746 1
-get 17
-show
-stats 723
-insert 51 1
-get 17
-get 17
-insert 54 1
-peek 746
-insert 15 1
-insert 42 1
-peek 27
-get 33
-load 723 1
-insert 811 1
-get 42
-load 44 1
-insert 946 1
-get 946
-peek 19
-get 14
-get 946
-get 33
-hits
-stats 39
-insert 704 1
-show
-show
-insert 23 1
-stats 23
-insert 811 1
-insert 300 1
-hits
-insert 53 1
-get 27
-get 53
-load 41 1
-stats 31
-get 50
-get 53
-insert 403 1
-peek 40
-insert 8 1
-insert 40 1
-insert 37 1
-insert 62 1
-show
-get 403
-stats 403
-insert 9 1
-load 25 1
-peek 15
-stats 17
-insert 386 1
-show
-show
-insert 341 1
-insert 320 1
-insert 67 1
-insert 67 1
-load 65 1
-get 48
-insert 31 1
-insert 670 1
-insert 300 1
-load 300 1
-insert 320 1
-get 704
-peek 320
-insert 38 1
-show
-show
-get 3
-insert 113 1
-insert 95 1
-insert 27 1
-drop 1
-insert 723 2
-insert 110 2
-insert 146 1
-drop 386
-fail 809
-insert 13 2
-show
-insert 99 1
-load 115 2
-insert 38 1
-drop 5
-get 41
-insert 87 2
-insert 113 2
-insert 71 2
-insert 100 1
-insert 23 2
-insert 100 1
-load 308 1
-get 113
-insert 114 1
-load 308 1
-drop 62
-show
-insert 779 1
-insert 99 1
-get 32
-insert 46 1
-load 36 1
-show
-insert 96 1
-insert 36 1
-insert 439 2
-insert 9 2
-insert 448 1
-drop 267
-show
-show
-insert 29 1
-insert 435 2
-insert 0 1
-get 0
-insert 25 1
-show
-fail 685
-drop 73
-load 38 1
-show
-guard 938 1
-load 629 1
-insert 92 1
-show
-fail 938
-guard 450 1
-insert 779 1
-insert 43 2
-load 74 1
-insert 435 1
-insert 629 2
-insert 51 2
-drop 93
-show
-get 38
-load 74 1
-insert 46 2
-insert 70 1
-load 8 2
-get 70
-fail 87
-insert 614 2
-load 62 1
-insert 113 1
-insert 936 1
-insert 114 1
-insert 51 1
-get 21
-insert 117 2
-get 117
-show
-show
-get 117
-show
-get 117
-show
-insert 65 1
-load 54 1
-insert 2 2
-fail 96
-insert 75 1
-insert 43 2
-insert 779 2
-load 95 2
-load 448 1
-insert 110 2
-insert 773 1
-insert 45 1
-insert 71 1
-get 70
-get 448
-get 95
-guard 20 1
-fail 41
-insert 179 1
-get 179
-insert 117 2
-get 300
-insert 146 2
-get 22
-insert 58 2
-show
-insert 92 2
-get 9
-guard 51 1
-guard 636 2
-insert 93 2
-insert 71 2
-guard 102 2
-insert 94 2
-insert 439 1
-show
-insert 94 1
-insert 48 1
-show
-fail 115
-insert 1 2
-insert 48 1
-insert 602 1
-insert 43 2
-insert 450 1
-fail 79
-guard 37 1
-guard 68 1
-show
-load 161 2
-show
-insert 26 1
-insert 105 1
-insert 29 1
-insert 53 1
-insert 773 2
-fail 93
-insert 53 1
-show
-insert 692 2
-insert 53 1
-insert 609 1
-insert 614 2
-get 70
-fail 20
-fail 31
-load 2 2
-insert 649 1
-insert 66 1
-load 609 2
-get 239
-insert 18 1
-insert 602 1
-insert 62 1
-insert 18 1
-insert 54 1
-show
-show
-insert 409 1
-insert 993 1
-insert 76 2
-show
-guard 109 1
-guard 636 2
-get 773
-guard 68 2
-insert 70 1
-insert 20 1
-get 38
-get 439
-fail 47
-insert 101 1
-insert 73 1
-insert 15 1
-insert 20 1
-fail 73
-insert 76 2
-insert 34 1
-show
-insert 982 1
-fail 671
-get 636
-insert 75 2
-insert 125 1
-show
-drop 119
-drop 37
-show
-show
-drop 64
-insert 439 1
-show
-get 125
-insert 38 1
-insert 654 1
-insert 738 1
-insert 2 1
-insert 32 2
-fail 93
-insert 980 1
-load 531 1
-insert 32 1
-drop 72
-insert 22 1
-guard 26 1
-guard 58 2
-get 13
-get 448
-insert 738 1
-guard 89 1
-insert 15 2
-fail 846
-guard 89 1
-insert 92 2
-show
-load 62 1
-get 26
-show
-load 31 1
-guard 13 2
-insert 21 1
-insert 87 1
-guard 155 1
-drop 22
-fail 894
-guard 66 1
-insert 636 1
-drop 578
-insert 738 1
-insert 612 2
-drop 93
-insert 85 1
-insert 119 1
-show
-drop 92
-show
-insert 738 2
-insert 1 1
-fail 101
-insert 117 1
-show
-show
-fail 867
-insert 9 1
-fail 29
-get 1
-get 95
-insert 105 1
-show
-insert 101 2
-load 119 1
-drop 101
-load 24 1
-load 21 1
-fail 161
-insert 692 2
-get 54
-drop 15
-show
-drop 104
-insert 81 1
-get 81
-insert 335 1
-insert 34 1
-show
-load 24 2
-drop 13
-fail 9
-insert 37 1
-load 37 1
-insert 100 1
-fail 49
-insert 649 2
-insert 370 1
-insert 22 1
-load 63 1
-insert 22 1
-insert 62 1
-insert 96 1
-insert 85 1
-insert 150 1
-guard 96 1
-insert 409 2
-insert 69 1
-insert 62 1
-get 53
-load 78 2
-insert 79 1
-insert 299 2
-show
-get 439
-get 53
-insert 15 401
-get 299
-get 1
-remove 299
-remove 53
-insert 31 401
-insert 69 403
-insert 0 3
-insert 44 2
-insert 60 1
-insert 878 1
-insert 138 402
-insert 393 402
-remove 1
-insert 994 1
-remove 393
-show
-removeif 70 3
-remove 60
-get 31
-insert 100 1
-remove 117
-removeif 100 3
-insert 59 1
-insert 55 2
-remove 62
-insert 79 401
-insert 727 1
-insert 727 2
-removeif 727 401
-removeif 727 2
-show
-remove 649
-remove 105
-insert 55 402
-insert 15 402
-remove 81
-insert 31 402
-insert 138 403
-removeif 55 3
-remove 44
-removeif 448 401
-get 138
-insert 498 1
-removeif 85 1
-get 498
-show
-removeif 498 2
-show
-insert 14 1
-remove 498
-insert 29 402
-get 37
-remove 29
-remove 857
-removeif 448 1
-show
-remove 37
-remove 59
-get 138
-remove 119
-show
-insert 66 3
-insert 44 402
-insert 612 2
-show
-remove 381
-removeif 409 401
-insert 654 3
-get 654
-remove 612
-insert 880 1
-insert 150 2
-removeif 150 2
-insert 994 401
-remove 880
-insert 87 1
-show
-remove 155
-insert 8 403
-show
-insert 138 1
-insert 30 1
-show
-get 8
-insert 24 2
-insert 51 3
-get 439
-removeif 409 3
-insert 982 401
-insert 993 401
-removeif 66 1
-remove 993
-insert 51 401
-remove 409
-remove 982
-get 26
-remove 26
-insert 24 401
-insert 39 1
-insert 439 1
-insert 335 1
-remove 87
-remove 335
-insert 38 401
-remove 69
-insert 44 1
-insert 370 1
-get 994
-remove 370
-get 619
-insert 14 2
-insert 635 402
-insert 40 1
-insert 78 401
-insert 40 1
-insert 63 401
-insert 0 1
-remove 635
-removeif 31 402
-get 439
-remove 878
-insert 58 402
-insert 1 401
-insert 994 401
-remove 15
-insert 79 3
-removeif 433 402
-removeif 55 403
-remove 14
-removeif 52 2
-removeif 55 3
-insert 49 1
-get 44
-removeif 49 3
-removeif 439 403
-get 738
-show
-removeif 53 402
-insert 109 1
-removeif 39 1
-insert 654 402
-remove 70
-show
-insert 55 3
-insert 531 1
-insert 41 1
-get 100
-remove 994
-remove 15
-show
-removeif 41 401
-insert 138 1
-removeif 138 2
-remove 41
-insert 433 403
-removeif 39 1
-insert 29 2
-removeif 55 3
-remove 29
-get 58
-remove 138
-remove 738
-get 38
-show
-get 433
-get 38
-removeif 433 1
-show
-insert 56 403
-remove 56
-insert 49 3
-remove 28
-get 737
-insert 170 1
-remove 170
-insert 782 401
-remove 654
-insert 31 3
-get 31
-remove 38
-get 100
-insert 0 1
-get 100
-show
-insert 74 1
-remove 78
-insert 10 1
-insert 167 401
-remove 40
-remove 109
-remove 636
-remove 30
-remove 63
-insert 57 2
-remove 44
-insert 51 3
-insert 57 3
-insert 43 403
-insert 14 2
-insert 303 2
-removeif 303 3
-show
-insert 43 1
-get 436
-remove 24
-insert 782 2
-show
-insert 303 2
-show
-get 16
-insert 34 1
-insert 19 1
-remove 34
-show
-removeif 303 1
-insert 17 2
-show
-show
-set 14 1
-poke 17 3
-set 17 1
-poke 17 2
-show
-get 17
-poke 17 0
-show
-insert 19 1
-poke 16 3
-show
-set 17 1
-show
-poke 17 1
-poke 19 2
-stats 303
-poke 0 1
-insert 510 2
-insert 56 3
-set 56 2
-show
-poke 17 2
-insert 50 0
-insert 840 1
-get 51
-insert 510 2
-insert 62 5
-get 50
-show
-set 62 3
-poke 217 1
-insert 58 1
-show
-insert 878 0
-set 62 3
-load 18 1
-poke 1 3
-set 62 1
-poke 878 1
-poke 50 3
-poke 439 1
-poke 100 2
-insert 53 2
-show
-set 100 3
-show
-poke 19 2
-insert 12 1
-set 12 3
-show
-poke 878 2
-set 12 1
-get 782
-show
-show
-poke 12 2
-insert 39 3
-insert 39 0
-set 12 5
-show
-set 100 0
-insert 53 1
-poke 18 0
-set 14 2
-poke 51 2
-insert 23 3
-show
-set 50 2
-get 18
-show
-insert 840 0
-insert 749 2
-insert 23 0
-set 18 2
-insert 2 5
-poke 51 2
-load 50 1
-insert 183 1
-set 39 3
-insert 43 1
-poke 57 2
-poke 782 0
-insert 289 0
-poke 439 2
-set 14 1
-set 39 5
-poke 100 1
-poke 43 5
-insert 6 1
-set 14 1
-load 12 0
-show
-insert 2 0
-poke 23 3
-get 840
-insert 712 3
-poke 30 0
-set 712 1
-set 712 0
-insert 6 2
-insert 269 1
-insert 153 1
-set 14 1
-get 0
-show
-set 712 0
-load 323 0
-poke 840 1
-insert 21 1
-poke 57 5
-set 782 1
-set 323 0
-poke 289 3
-insert 439 0
-insert 135 5
-show
-poke 100 3
-show
-set 135 5
-set 30 0
-poke 289 3
-insert 21 0
-poke 30 0
-insert 393 0
-poke 2 2
-get 18
-set 782 1
-poke 323 1
-set 21 5
-insert 18 0
-insert 30 2
-set 712 1
-set 712 0
-set 50 1
-get 21
-poke 0 1
-set 12 2
-insert 782 1
-insert 1 2
-insert 570 2
-poke 30 3
-poke 12 1
-poke 30 5
-show
-poke 19 1
-poke 570 3
-insert 1 0
-show
-show
-set 67 1
-show
-show
-stats 393
-insert 100 0
-set 100 3
-set 51 0
-poke 58 0
-set 135 5
-set 323 1
-show
-show
-poke 58 1
-show
-set 439 1
-poke 51 5
-poke 1 3
-show
-insert 9 3
-load 30 3
-poke 49 0
-set 323 3
-show
-insert 9 0
-insert 36 0
-set 764 2
-set 0 5
-insert 393 3
-load 29 1
-show
-show
-insert 782 1
-insert 2 0
-show
-poke 540 1
-set 29 3
-insert 18 2
-get 5
-poke 712 1
-poke 36 3
-poke 9 1
-show
-stats 9
-poke 2 2
-insert 185 1
-poke 185 1
-set 185 1
-poke 185 0
-set 36 3
-set 185 5
-show
-load 31 0
-set 67 1
-insert 9 3
-insert 2 0
-insert 55 2
-set 8 3
-set 55 0
-set 31 5
-set 55 0
-insert 12 1
-insert 439 0
-poke 51 3
-stats 439
-set 439 1
-insert 560 0
-poke 2 0
-poke 2 1
-insert 62 1
-insert 55 1
-set 560 5
-insert 29 2
-set 36 2
-show
-insert 18 0
-set 18 1
-poke 21 2
-poke 62 0
-set 48 5
-get 62
-set 62 5
-poke 782 1
-load 7 3
-set 18 0
-poke 18 1
-poke 62 0
-insert 254 5
-insert 775 5
-poke 185 0
-show
-insert 64 1
-poke 64 1
-insert 7 0
-poke 775 0
-get 9
-show
-set 2 5
-load 0 0
-load 750 0
-stats 439
-insert 110 1
-insert 7 1
-set 62 3
-set 13 5
-set 750 3
-show
-set 775 5
-insert 26 3
-insert 815 1
-show
-show
-replace 55 45
-insert 38 1
-soft 0 1
-show
-soft 18 1
-insert 12 1
-insert 5 1
-replace 62 3
-soft 5 2
-insert 26 3
-insert 38 2
-stats 185
-get 185
-replace 185 2
-show
-show
-get 54
-replace 185 45
-soft 775 0
-insert 5 45
-show
-soft 775 2
-replace 439 401
-soft 782 0
-stats 607
-insert 5 8
-soft 775 408
-get 750
-get 782
-insert 49 8
-soft 49 1
-replace 14 1
-show
-replace 782 445
-soft 18 0
-replace 4 1
-insert 331 45
-insert 27 400
-insert 42 8
-replace 62 0
-replace 9 1
-show
-show
-get 42
-replace 42 1
-insert 43 45
-soft 750 8
-soft 750 8
-show
-soft 24 8
-get 53
-insert 28 8
-insert 943 1
-soft 943 1
-get 943
-get 18
-soft 62 3
-soft 675 1
-insert 43 1
-get 750
-stats 18
-show
-insert 28 8
-get 28
-get 38
-replace 18 45
-soft 9 401
-show
-get 896
-insert 49 8
-soft 27 3
-soft 27 402
-show
-insert 43 0
-replace 943 1
-soft 43 1
-replace 43 45
-stats 42
-insert 514 0
-soft 62 45
-get 943
-insert 28 1
-insert 36 1
-insert 151 8
-insert 27 45
-show
-insert 723 1
-replace 943 2
-replace 28 402
-soft 514 401
-stats 723
-replace 4 3
-replace 514 445
-replace 723 3
-replace 9 8
-soft 750 45
-replace 42 45
-soft 57 1
-insert 10 45
-soft 28 45
-insert 57 403
-insert 28 8
-replace 943 1
-replace 38 2
-insert 145 45
-soft 38 403
-soft 38 445
-soft 28 2
-insert 577 402
-replace 1 3
-replace 151 445
-soft 577 45
-insert 114 0
-insert 29 401
-get 9
-insert 897 45
-replace 621 445
-insert 6 402
-insert 20 3
-insert 16 1
-get 114
-insert 28 3
-get 114
-insert 35 0
-get 114
-insert 45 3
-insert 943 45
-stats 114
-soft 737 400
-soft 114 1
-soft 54 445
-soft 57 8
-insert 30 3
-soft 35 1
-show
-insert 566 45
-show
-soft 35 45
-get 938
-get 30
-soft 27 8
-insert 56 408
-soft 6 402
-get 723
-get 7
-replace 28 8
-show
-replace 723 2
-replace 28 0
-soft 28 45
-replace 30 1
-insert 56 1
-stats 56
-soft 30 2
-show
-get 56
-insert 32 401
-show
-replace 32 2
-get 29
-replace 32 3
-insert 57 2
-replace 29 8
-get 568
-soft 710 0
-soft 29 0
-show
-soft 57 1
-insert 16 1
-replace 29 0
-soft 29 8
-replace 6 3
-soft 114 1
-replace 45 408
-soft 29 3
-soft 723 2
-replace 29 8
-soft 6 403
-get 41
-get 16
-insert 21 402
-soft 21 8
-get 16
-get 6
-show
-get 10
-show
-insert 42 3
-insert 21 45
-insert 128 3
-soft 128 408
-insert 35 408
-show
-insert 128 45
-show
-replace 35 8
-show
-insert 5 8
-show
-fail 26
-soft 19 3
-insert 21 201
-load 34 400
-get 21
-get 34
-soft 723 2
-remove 21
-insert 12 301
-fail 29
-show
-show
-load 42 0
-insert 128 403
-load 10 345
-soft 32 1
-load 22 302
-fail 436
-insert 10 301
-soft 946 1
-load 161 401
-insert 22 401
-guard 19 201
-insert 795 300
-show
-insert 984 1
-get 984
-removeif 34 400
-insert 40 301
-guard 8 245
-set 42 345
-insert 197 201
-insert 161 300
-insert 161 0
-load 58 45
-show
-fail 44
-remove 197
-insert 645 45
-guard 26 101
-insert 588 1
-insert 29 1
-removeif 26 101
-remove 161
-insert 25 103
-insert 752 402
-insert 29 200
-load 41 301
-insert 107 345
-insert 50 2
-poke 375 401
-guard 905 103
-drop 43
-poke 752 101
-insert 752 203
-insert 128 445
-get 25
-get 752
-insert 576 400
-insert 260 2
-show
-insert 256 303
-insert 16 401
-insert 26 303
-insert 531 401
-guard 37 400
-insert 43 1
-set 25 301
-set 25 1
-load 16 101
-get 43
-soft 655 402
-get 25
-insert 161 303
-insert 674 402
-insert 242 345
-load 236 445
-load 26 102
-get 588
-set 25 3
-insert 15 1
-load 42 200
-drop 8
-set 42 2
-insert 754 301
-set 107 145
-show
-soft 37 301
-replace 107 45
-insert 8 101
-removeif 19 302
-insert 686 345
-show
-show
-show
-insert 59 102
-soft 686 201
-set 24 303
-removeif 686 201
-insert 905 403
-get 59
-removeif 59 345
-get 752
-insert 9 345
-show
-insert 50 103
-insert 42 1
-load 52 101
-drop 3
-insert 881 45
-show
-removeif 752 200
-insert 833 401
-guard 577 203
-get 0
-show
-replace 576 445
-drop 3
-insert 9 201
-remove 795
-set 19 400
-removeif 577 203
-replace 29 301
-get 29
-insert 514 300
-insert 5 401
-insert 59 301
-soft 514 101
-soft 19 402
-show
-poke 19 101
-soft 514 1
-insert 679 45
-insert 486 301
-insert 49 301
-insert 8 45
-set 19 200
-insert 943 300
-insert 406 145
-soft 406 145
-insert 14 201
-show
-soft 19 245
-load 53 201
-replace 406 203
-insert 54 0
-insert 49 245
-guard 33 1
-removeif 33 1
-insert 40 303
-remove 40
-insert 27 302
-insert 745 302
-load 35 345
-drop 561
-insert 59 0
-removeif 50 403
-insert 6 402
-show
-soft 50 101
-get 745
-removeif 59 0
-load 55 0
-get 406
-insert 577 201
-insert 705 100
-guard 6 201
-get 406
-guard 21 101
-insert 39 45
-show
-load 42 201
-set 406 345
-show
-insert 55 45
-poke 745 345
-poke 406 302
-poke 19 1
-show
-remove 19
-get 943
-insert 51 301
-get 51
-insert 26 303
-insert 27 45
-insert 56 1
-poke 55 401
-show
-remove 49
-get 51
-remove 705
-insert 21 345
-insert 39 301
-removeif 488 401
-get 51
-insert 951 302
-get 44
-drop 40
-show
-set 6 201
-insert 41 300
-get 51
-remove 56
-show
-insert 211 0
-remove 51
-insert 733 303
-drop 985
-insert 16 201
-removeif 406 302
-insert 755 201
-guard 919 345
-insert 42 0
-removeif 48 201
-set 919 445
-insert 42 303
-load 8 303
-guard 781 302
-show
-insert 40 3
-poke 40 300
-guard 3 145
-soft 52 400
-insert 16 203
-insert 39 1
-insert 26 300
-insert 855 303
-get 50
-insert 10 301
-soft 202 401
-guard 2 445
-insert 1 102
-get 1
-load 57 1
-insert 26 45
-load 597 1
-load 52 201
-insert 26 301
-insert 220 1
-show
-insert 374 1
-capacity 41
-insert 8 1
-show
-get 50
-show
-get 14
-load 167 103
-show
-get 577
-insert 24 3
-get 3
-get 943
-insert 211 1
-capacity 30
-show
-hits
-show
-capacity 41
-insert 33 1
-insert 582 1
-capacity 100
-insert 688 1
-get 582
-capacity 30
-get 3
-capacity 40
-show
-insert 14 3
-load 68 102
-insert 33 101
-get 33
-get 68
-get 68
-poke 943 2
-capacity 39
-get 41
-capacity 80
-show
-load 631 3
-insert 54 1
-capacity 80
-poke 3 1
-insert 38 2
-get 167
-insert 10 1
-get 63
-insert 534 101
-capacity 30
-capacity 40
-insert 61 101
-get 61
-get 61
-get 755
-insert 67 1
-remove 54
-capacity 20
-show
-get 65
-insert 6 1
-get 631
-insert 501 2
-insert 38 2
-load 38 1
-hits
-poke 6 1
-insert 676 2
-capacity 100
-hits
-insert 1 1
-capacity 100
-capacity 40
-insert 56 1
-load 633 3
-get 56
-poke 676 102
-insert 16 1
-show
-get 16
-capacity 20
-remove 501
-show
-capacity 39
-get 38
-capacity 39
-insert 582 1
-get 40
-insert 605 1
-capacity 39
-get 9
-capacity 60
-capacity 40
-capacity 41
-get 167
-insert 773 2
-insert 881 1
-poke 881 3
-capacity 41
-get 8
-poke 676 3
-capacity 40
-capacity 100
-capacity 60
-capacity 60
-insert 44 3
-show
-insert 27 1
-insert 40 2
-show
-insert 43 2
-get 676
-insert 51 101
-poke 676 3
-capacity 40
-capacity 40
-load 55 101
-show
-capacity 5
-show
-show
-insert 24 101
-remove 55
-show
-hits
-get 24
-insert 24 101
-insert 22 1
-get 22
-capacity 60
-insert 40 1
-insert 30 1
-insert 978 1
-capacity 41
-capacity 40
-show
-get 61
-capacity 40
-insert 556 1
-get 9
-insert 666 1
-insert 556 1
-get 22
-show
-get 68
-capacity 80
-insert 398 2
-hits
-get 9
-insert 690 1
-capacity 40
-insert 54 1
-get 577
-load 796 2
-insert 65 1
-insert 119 3
-insert 664 101
-capacity 20
-capacity 40
-show
-get 664
-insert 104 1
-insert 893 103
-show
-get 53
-get 119
-show
-capacity 60
-insert 44 2
-get 9
-capacity 80
-insert 14 1
-remove 51
-hits
-insert 5 1
-insert 40 3
-capacity 60
-show
-capacity 80
-insert 47 3
-capacity 40
-capacity 10
-insert 23 1
-load 859 1
-clear
-show
-insert 990 1
-clear
-clear
-hits
-insert 13 1
-clear
-insert 18 301
-insert 18 300
-show
-clear
-insert 20 2
-clear
-clear
-clear
-hits
-insert 9 2
-drop 501
-insert 28 302
-drop 7
-clear
-fail 11
-insert 9 1
-clear
-get 10
-hits
-insert 65 1
-clear
-clear
-clear
-show
-insert 630 301
-fail 36
-insert 662 301
-insert 630 301
-insert 28 1
-clear
-clear
-insert 9 302
-clear
-load 38 1
-insert 33 0
-insert 957 0
-stats 33
-insert 5 302
-fail 33
-clear
-clear
-fail 194
-load 32 1
-get 32
-hits
-insert 780 300
-insert 430 1
-get 780
-clear
-drop 41
-get 30
-clear
-clear
-clear
-insert 33 1
-fail 564
-get 602
-clear
-show
-stats 905
-clear
-drop 17
-get 37
-clear
-insert 16 0
-clear
-insert 3 1
-clear
-load 20 0
-insert 230 301
-fail 25
-clear
-guard 14 0
-guard 1 1
-clear
-insert 3 302
-get 3
-insert 33 1
-insert 435 2
-insert 13 2
-clear
-show
-clear
-hits
-insert 724 300
-fail 5
-insert 26 1
-hits
-insert 10 302
-fail 525
-get 10
-insert 33 302
-insert 3 1
-insert 27 301
-stats 724
-show
-insert 38 0
-insert 25 1
-hits
-clear
-show
-guard 29 301
-show
-guard 65 2
-clear
-insert 0 1
-clear
-capacity 40
-show
-hits
-capacity 40
-capacity 40
-remove 668
-insert 28 401
-poke 28 1
-stats 28
-stats 28
-removeif 28 307
-removeif 28 1
-show
-guard 55 201
-replace 55 101
-set 55 445
-soft 508 3
-fail 63
-hits
-replace 6 1
-guard 451 100
-stats 451
-remove 451
-hits
-load 78 3
-show
-remove 78
-load 56 0
-soft 56 402
-get 56
-insert 29 307
-peek 29
-show
-remove 29
-guard 528 2
-hits
-removeif 56 1
-load 890 3
-insert 206 1
-show
-stats 40
-hits
-set 528 1
-removeif 528 307
-peek 528
-insert 77 1
-get 77
-load 22 7
-stats 22
-soft 22 301
-drop 792
-guard 66 45
-load 848 303
-soft 22 3
-soft 890 201
-capacity 40
-hits
-insert 66 301
-insert 936 1
-load 36 2
-insert 50 445
-drop 68
-insert 855 207
-drop 176
-get 855
-guard 20 403
-insert 56 1
-soft 855 103
-set 855 1
-hits
-replace 855 1
-insert 41 302
-soft 855 1
-hits
-drop 40
-load 669 245
-insert 89 207
-drop 40
-remove 890
-hits
-peek 89
-guard 952 100
-fail 8
-insert 198 407
-stats 669
-peek 952
-load 829 102
-capacity 40
-capacity 40
-show
-drop 53
-hits
-hits
-remove 198
-set 41 0
-remove 669
-drop 35
-removeif 41 1
-show
-remove 952
-remove 56
-remove 829
-soft 89 1
-fail 88
-get 89
-removeif 89 1
-get 29
-drop 115
-hits
-insert 72 1
-peek 22
-hits
-get 41
-hits
-set 855 3
-get 41
-poke 855 45
-insert 69 7
-guard 478 403
-get 69
-set 41 401
-remove 69
-show
-poke 478 7
-removeif 478 303
-peek 478
-load 614 407
-guard 11 200
-insert 478 1
-removeif 47 7
-stats 29
-poke 527 7
-replace 614 2
-load 288 1
-hits
-fail 66
-stats 614
-insert 87 107
-remove 478
-show
-show
-get 11
-guard 0 3
-get 9
-get 0
-drop 53
-removeif 614 2
-removeif 0 45
-get 41
-poke 0 1
-stats 171
-poke 57 200
-peek 0
-capacity 40
-stats 11
-removeif 11 0
-soft 288 1
-get 11
-insert 24 345
-show
-insert 78 203
-set 11 301
-get 288
-fail 75
-stats 11
-stats 24
-peek 288
-fail 75
-hits
-get 11
-show
-load 68 2
-show
-get 87
-replace 11 1
-remove 24
-removeif 26 45
-load 52 45
-hits
-insert 37 301
-replace 68 401
-hits
-removeif 37 301
-stats 36
-remove 58
-insert 66 1
-soft 41 0
-replace 41 3
-clear
-set 68 402
-set 970 7
-set 256 407
-load 19 3
-get 19
-load 540 45
-guard 71 2
-show
-peek 19
-insert 76 3
-fail 70
-replace 61 2
-soft 76 0
-remove 19
-set 71 301
-load 82 1
-capacity 40
-insert 62 102
-replace 76 203
-get 82
-get 82
-stats 76
-insert 64 101
-stats 76
-get 71
-load 755 107
-insert 82 1
-insert 767 0
-insert 591 101
-fail 26
-guard 11 202
-remove 591
-remove 71
-fail 48
-remove 767
-replace 82 45
-capacity 40
-remove 11
-stats 64
-guard 30 101
-set 62 1
-hits
-stats 29
-peek 16
-poke 755 102
-load 50 101
-insert 50 45
-remove 30
-set 755 400
-drop 45
-peek 755
-guard 51 1
-remove 62
-fail 957
-remove 223
-removeif 72 301
-replace 763 202
-poke 25 201
-soft 755 401
-load 48 3
-show
-show
-get 48
-fail 89
-insert 48 100
-peek 48
-replace 755 402
-stats 48
-load 10 1
-replace 48 403
-hits
-show
+cache 40 40\nshow\nload 39 1\npeek 39\ninsert 24 1\nget 571\ninsert 68 1\ninsert 21 1\n\
+insert 32 1\nget 59\ninsert 44 1\ninsert 27 1\nload 312 1\nhits\nload 20 1\ninsert 32 1\nhits\n\
+get 39\ninsert 31 1\ninsert 797 1\ninsert 3 1\nget 3\nget 783\nget 66\nget 39\npeek 39\nget 24\n\
+insert 341 1\ninsert 341 1\nstats 39\nget 44\npeek 8\ninsert 12 1\nget 31\nget 21\ninsert 380 1\n\
+insert 11 1\nget 39\npeek 11\ninsert 54 1\npeek 39\nshow\npeek 54\nget 24\ninsert 40 1\nget 11\n\
+insert 113 1\nget 3\ninsert 64 1\nget 64\nget 113\ninsert 57 1\nload 44 1\nload 13 1\npeek 32\n\
+get 13\ninsert 63 1\nget 39\nget 63\ninsert 62 1\npeek 62\npeek 3\ninsert 57 1\nget 12\n\
+insert 350 1\nget 310\nget 350\nget 2\nget 341\nget 39\nget 31\nshow\nget 350\ninsert 757 1\n\
+get 39\nget 13\npeek 7\nget 44\nget 39\nhits\nshow\nget 757\ninsert 7 1\nget 350\ninsert 56 1\n\
+insert 27 1\nget 56\nget 32\nload 19 1\nget 19\nget 27\nget 27\nstats 39\nload 10 1\nget 797\n\
+load 37 1\nget 64\ninsert 1 1\nget 423\nhits\npeek 1\ninsert 678 1\ninsert 33 1\npeek 27\npeek 33\n\
+insert 43 1\ninsert 8 1\npeek 39\ninsert 56 1\ninsert 50 1\ninsert 55 1\nget 54\nget 21\nshow\n\
+get 43\nshow\ninsert 69 1\ninsert 10 1\ninsert 41 1\nshow\nstats 32\ninsert 42 1\ninsert 15 1\n\
+show\nget 8\ninsert 746 1\ninsert 704 1\nload 670 1\ninsert 5 1\ninsert 69 1\nload 40 1\nget 40\n\
+get 37\ninsert 41 1\npeek 39\nget 57\nget 38\ninsert 12 1\ninsert 42 1\ninsert 723 1\ninsert 51 1\n\
+stats 15\nhits\nget 51\nshow\nget 51\nstats 40\nload 33 1\nget 20\ninsert 17 1\ninsert 746 1\n\
+get 17\nshow\nstats 723\ninsert 51 1\nget 17\nget 17\ninsert 54 1\npeek 746\ninsert 15 1\n\
+insert 42 1\npeek 27\nget 33\nload 723 1\ninsert 811 1\nget 42\nload 44 1\ninsert 946 1\nget 946\n\
+peek 19\nget 14\nget 946\nget 33\nhits\nstats 39\ninsert 704 1\nshow\nshow\ninsert 23 1\nstats 23\n\
+insert 811 1\ninsert 300 1\nhits\ninsert 53 1\nget 27\nget 53\nload 41 1\nstats 31\nget 50\n\
+get 53\ninsert 403 1\npeek 40\ninsert 8 1\ninsert 40 1\ninsert 37 1\ninsert 62 1\nshow\nget 403\n\
+stats 403\ninsert 9 1\nload 25 1\npeek 15\nstats 17\ninsert 386 1\nshow\nshow\ninsert 341 1\n\
+insert 320 1\ninsert 67 1\ninsert 67 1\nload 65 1\nget 48\ninsert 31 1\ninsert 670 1\n\
+insert 300 1\nload 300 1\ninsert 320 1\nget 704\npeek 320\ninsert 38 1\nshow\nshow\nget 3\n\
+insert 113 1\ninsert 95 1\ninsert 27 1\ndrop 1\ninsert 723 2\ninsert 110 2\ninsert 146 1\n\
+drop 386\nfail 809\ninsert 13 2\nshow\ninsert 99 1\nload 115 2\ninsert 38 1\ndrop 5\nget 41\n\
+insert 87 2\ninsert 113 2\ninsert 71 2\ninsert 100 1\ninsert 23 2\ninsert 100 1\nload 308 1\n\
+get 113\ninsert 114 1\nload 308 1\ndrop 62\nshow\ninsert 779 1\ninsert 99 1\nget 32\ninsert 46 1\n\
+load 36 1\nshow\ninsert 96 1\ninsert 36 1\ninsert 439 2\ninsert 9 2\ninsert 448 1\ndrop 267\nshow\n\
+show\ninsert 29 1\ninsert 435 2\ninsert 0 1\nget 0\ninsert 25 1\nshow\nfail 685\ndrop 73\n\
+load 38 1\nshow\nguard 938 1\nload 629 1\ninsert 92 1\nshow\nfail 938\nguard 450 1\ninsert 779 1\n\
+insert 43 2\nload 74 1\ninsert 435 1\ninsert 629 2\ninsert 51 2\ndrop 93\nshow\nget 38\nload 74 1\n\
+insert 46 2\ninsert 70 1\nload 8 2\nget 70\nfail 87\ninsert 614 2\nload 62 1\ninsert 113 1\n\
+insert 936 1\ninsert 114 1\ninsert 51 1\nget 21\ninsert 117 2\nget 117\nshow\nshow\nget 117\nshow\n\
+get 117\nshow\ninsert 65 1\nload 54 1\ninsert 2 2\nfail 96\ninsert 75 1\ninsert 43 2\n\
+insert 779 2\nload 95 2\nload 448 1\ninsert 110 2\ninsert 773 1\ninsert 45 1\ninsert 71 1\nget 70\n\
+get 448\nget 95\nguard 20 1\nfail 41\ninsert 179 1\nget 179\ninsert 117 2\nget 300\ninsert 146 2\n\
+get 22\ninsert 58 2\nshow\ninsert 92 2\nget 9\nguard 51 1\nguard 636 2\ninsert 93 2\ninsert 71 2\n\
+guard 102 2\ninsert 94 2\ninsert 439 1\nshow\ninsert 94 1\ninsert 48 1\nshow\nfail 115\n\
+insert 1 2\ninsert 48 1\ninsert 602 1\ninsert 43 2\ninsert 450 1\nfail 79\nguard 37 1\nguard 68 1\n\
+show\nload 161 2\nshow\ninsert 26 1\ninsert 105 1\ninsert 29 1\ninsert 53 1\ninsert 773 2\n\
+fail 93\ninsert 53 1\nshow\ninsert 692 2\ninsert 53 1\ninsert 609 1\ninsert 614 2\nget 70\n\
+fail 20\nfail 31\nload 2 2\ninsert 649 1\ninsert 66 1\nload 609 2\nget 239\ninsert 18 1\n\
+insert 602 1\ninsert 62 1\ninsert 18 1\ninsert 54 1\nshow\nshow\ninsert 409 1\ninsert 993 1\n\
+insert 76 2\nshow\nguard 109 1\nguard 636 2\nget 773\nguard 68 2\ninsert 70 1\ninsert 20 1\n\
+get 38\nget 439\nfail 47\ninsert 101 1\ninsert 73 1\ninsert 15 1\ninsert 20 1\nfail 73\n\
+insert 76 2\ninsert 34 1\nshow\ninsert 982 1\nfail 671\nget 636\ninsert 75 2\ninsert 125 1\nshow\n\
+drop 119\ndrop 37\nshow\nshow\ndrop 64\ninsert 439 1\nshow\nget 125\ninsert 38 1\ninsert 654 1\n\
+insert 738 1\ninsert 2 1\ninsert 32 2\nfail 93\ninsert 980 1\nload 531 1\ninsert 32 1\ndrop 72\n\
+insert 22 1\nguard 26 1\nguard 58 2\nget 13\nget 448\ninsert 738 1\nguard 89 1\ninsert 15 2\n\
+fail 846\nguard 89 1\ninsert 92 2\nshow\nload 62 1\nget 26\nshow\nload 31 1\nguard 13 2\n\
+insert 21 1\ninsert 87 1\nguard 155 1\ndrop 22\nfail 894\nguard 66 1\ninsert 636 1\ndrop 578\n\
+insert 738 1\ninsert 612 2\ndrop 93\ninsert 85 1\ninsert 119 1\nshow\ndrop 92\nshow\ninsert 738 2\n\
+insert 1 1\nfail 101\ninsert 117 1\nshow\nshow\nfail 867\ninsert 9 1\nfail 29\nget 1\nget 95\n\
+insert 105 1\nshow\ninsert 101 2\nload 119 1\ndrop 101\nload 24 1\nload 21 1\nfail 161\n\
+insert 692 2\nget 54\ndrop 15\nshow\ndrop 104\ninsert 81 1\nget 81\ninsert 335 1\ninsert 34 1\n\
+show\nload 24 2\ndrop 13\nfail 9\ninsert 37 1\nload 37 1\ninsert 100 1\nfail 49\ninsert 649 2\n\
+insert 370 1\ninsert 22 1\nload 63 1\ninsert 22 1\ninsert 62 1\ninsert 96 1\ninsert 85 1\n\
+insert 150 1\nguard 96 1\ninsert 409 2\ninsert 69 1\ninsert 62 1\nget 53\nload 78 2\ninsert 79 1\n\
+insert 299 2\nshow\nget 439\nget 53\ninsert 15 401\nget 299\nget 1\nremove 299\nremove 53\n\
+insert 31 401\ninsert 69 403\ninsert 0 3\ninsert 44 2\ninsert 60 1\ninsert 878 1\ninsert 138 402\n\
+insert 393 402\nremove 1\ninsert 994 1\nremove 393\nshow\nremoveif 70 3\nremove 60\nget 31\n\
+insert 100 1\nremove 117\nremoveif 100 3\ninsert 59 1\ninsert 55 2\nremove 62\ninsert 79 401\n\
+insert 727 1\ninsert 727 2\nremoveif 727 401\nremoveif 727 2\nshow\nremove 649\nremove 105\n\
+insert 55 402\ninsert 15 402\nremove 81\ninsert 31 402\ninsert 138 403\nremoveif 55 3\nremove 44\n\
+removeif 448 401\nget 138\ninsert 498 1\nremoveif 85 1\nget 498\nshow\nremoveif 498 2\nshow\n\
+insert 14 1\nremove 498\ninsert 29 402\nget 37\nremove 29\nremove 857\nremoveif 448 1\nshow\n\
+remove 37\nremove 59\nget 138\nremove 119\nshow\ninsert 66 3\ninsert 44 402\ninsert 612 2\nshow\n\
+remove 381\nremoveif 409 401\ninsert 654 3\nget 654\nremove 612\ninsert 880 1\ninsert 150 2\n\
+removeif 150 2\ninsert 994 401\nremove 880\ninsert 87 1\nshow\nremove 155\ninsert 8 403\nshow\n\
+insert 138 1\ninsert 30 1\nshow\nget 8\ninsert 24 2\ninsert 51 3\nget 439\nremoveif 409 3\n\
+insert 982 401\ninsert 993 401\nremoveif 66 1\nremove 993\ninsert 51 401\nremove 409\nremove 982\n\
+get 26\nremove 26\ninsert 24 401\ninsert 39 1\ninsert 439 1\ninsert 335 1\nremove 87\nremove 335\n\
+insert 38 401\nremove 69\ninsert 44 1\ninsert 370 1\nget 994\nremove 370\nget 619\ninsert 14 2\n\
+insert 635 402\ninsert 40 1\ninsert 78 401\ninsert 40 1\ninsert 63 401\ninsert 0 1\nremove 635\n\
+removeif 31 402\nget 439\nremove 878\ninsert 58 402\ninsert 1 401\ninsert 994 401\nremove 15\n\
+insert 79 3\nremoveif 433 402\nremoveif 55 403\nremove 14\nremoveif 52 2\nremoveif 55 3\n\
+insert 49 1\nget 44\nremoveif 49 3\nremoveif 439 403\nget 738\nshow\nremoveif 53 402\n\
+insert 109 1\nremoveif 39 1\ninsert 654 402\nremove 70\nshow\ninsert 55 3\ninsert 531 1\n\
+insert 41 1\nget 100\nremove 994\nremove 15\nshow\nremoveif 41 401\ninsert 138 1\nremoveif 138 2\n\
+remove 41\ninsert 433 403\nremoveif 39 1\ninsert 29 2\nremoveif 55 3\nremove 29\nget 58\n\
+remove 138\nremove 738\nget 38\nshow\nget 433\nget 38\nremoveif 433 1\nshow\ninsert 56 403\n\
+remove 56\ninsert 49 3\nremove 28\nget 737\ninsert 170 1\nremove 170\ninsert 782 401\nremove 654\n\
+insert 31 3\nget 31\nremove 38\nget 100\ninsert 0 1\nget 100\nshow\ninsert 74 1\nremove 78\n\
+insert 10 1\ninsert 167 401\nremove 40\nremove 109\nremove 636\nremove 30\nremove 63\ninsert 57 2\n\
+remove 44\ninsert 51 3\ninsert 57 3\ninsert 43 403\ninsert 14 2\ninsert 303 2\nremoveif 303 3\n\
+show\ninsert 43 1\nget 436\nremove 24\ninsert 782 2\nshow\ninsert 303 2\nshow\nget 16\n\
+insert 34 1\ninsert 19 1\nremove 34\nshow\nremoveif 303 1\ninsert 17 2\nshow\nshow\nset 14 1\n\
+poke 17 3\nset 17 1\npoke 17 2\nshow\nget 17\npoke 17 0\nshow\ninsert 19 1\npoke 16 3\nshow\n\
+set 17 1\nshow\npoke 17 1\npoke 19 2\nstats 303\npoke 0 1\ninsert 510 2\ninsert 56 3\nset 56 2\n\
+show\npoke 17 2\ninsert 50 0\ninsert 840 1\nget 51\ninsert 510 2\ninsert 62 5\nget 50\nshow\n\
+set 62 3\npoke 217 1\ninsert 58 1\nshow\ninsert 878 0\nset 62 3\nload 18 1\npoke 1 3\nset 62 1\n\
+poke 878 1\npoke 50 3\npoke 439 1\npoke 100 2\ninsert 53 2\nshow\nset 100 3\nshow\npoke 19 2\n\
+insert 12 1\nset 12 3\nshow\npoke 878 2\nset 12 1\nget 782\nshow\nshow\npoke 12 2\ninsert 39 3\n\
+insert 39 0\nset 12 5\nshow\nset 100 0\ninsert 53 1\npoke 18 0\nset 14 2\npoke 51 2\ninsert 23 3\n\
+show\nset 50 2\nget 18\nshow\ninsert 840 0\ninsert 749 2\ninsert 23 0\nset 18 2\ninsert 2 5\n\
+poke 51 2\nload 50 1\ninsert 183 1\nset 39 3\ninsert 43 1\npoke 57 2\npoke 782 0\ninsert 289 0\n\
+poke 439 2\nset 14 1\nset 39 5\npoke 100 1\npoke 43 5\ninsert 6 1\nset 14 1\nload 12 0\nshow\n\
+insert 2 0\npoke 23 3\nget 840\ninsert 712 3\npoke 30 0\nset 712 1\nset 712 0\ninsert 6 2\n\
+insert 269 1\ninsert 153 1\nset 14 1\nget 0\nshow\nset 712 0\nload 323 0\npoke 840 1\ninsert 21 1\n\
+poke 57 5\nset 782 1\nset 323 0\npoke 289 3\ninsert 439 0\ninsert 135 5\nshow\npoke 100 3\nshow\n\
+set 135 5\nset 30 0\npoke 289 3\ninsert 21 0\npoke 30 0\ninsert 393 0\npoke 2 2\nget 18\n\
+set 782 1\npoke 323 1\nset 21 5\ninsert 18 0\ninsert 30 2\nset 712 1\nset 712 0\nset 50 1\nget 21\n\
+poke 0 1\nset 12 2\ninsert 782 1\ninsert 1 2\ninsert 570 2\npoke 30 3\npoke 12 1\npoke 30 5\nshow\n\
+poke 19 1\npoke 570 3\ninsert 1 0\nshow\nshow\nset 67 1\nshow\nshow\nstats 393\ninsert 100 0\n\
+set 100 3\nset 51 0\npoke 58 0\nset 135 5\nset 323 1\nshow\nshow\npoke 58 1\nshow\nset 439 1\n\
+poke 51 5\npoke 1 3\nshow\ninsert 9 3\nload 30 3\npoke 49 0\nset 323 3\nshow\ninsert 9 0\n\
+insert 36 0\nset 764 2\nset 0 5\ninsert 393 3\nload 29 1\nshow\nshow\ninsert 782 1\ninsert 2 0\n\
+show\npoke 540 1\nset 29 3\ninsert 18 2\nget 5\npoke 712 1\npoke 36 3\npoke 9 1\nshow\nstats 9\n\
+poke 2 2\ninsert 185 1\npoke 185 1\nset 185 1\npoke 185 0\nset 36 3\nset 185 5\nshow\nload 31 0\n\
+set 67 1\ninsert 9 3\ninsert 2 0\ninsert 55 2\nset 8 3\nset 55 0\nset 31 5\nset 55 0\ninsert 12 1\n\
+insert 439 0\npoke 51 3\nstats 439\nset 439 1\ninsert 560 0\npoke 2 0\npoke 2 1\ninsert 62 1\n\
+insert 55 1\nset 560 5\ninsert 29 2\nset 36 2\nshow\ninsert 18 0\nset 18 1\npoke 21 2\npoke 62 0\n\
+set 48 5\nget 62\nset 62 5\npoke 782 1\nload 7 3\nset 18 0\npoke 18 1\npoke 62 0\ninsert 254 5\n\
+insert 775 5\npoke 185 0\nshow\ninsert 64 1\npoke 64 1\ninsert 7 0\npoke 775 0\nget 9\nshow\n\
+set 2 5\nload 0 0\nload 750 0\nstats 439\ninsert 110 1\ninsert 7 1\nset 62 3\nset 13 5\nset 750 3\n\
+show\nset 775 5\ninsert 26 3\ninsert 815 1\nshow\nshow\nreplace 55 45\ninsert 38 1\nsoft 0 1\n\
+show\nsoft 18 1\ninsert 12 1\ninsert 5 1\nreplace 62 3\nsoft 5 2\ninsert 26 3\ninsert 38 2\n\
+stats 185\nget 185\nreplace 185 2\nshow\nshow\nget 54\nreplace 185 45\nsoft 775 0\ninsert 5 45\n\
+show\nsoft 775 2\nreplace 439 401\nsoft 782 0\nstats 607\ninsert 5 8\nsoft 775 408\nget 750\n\
+get 782\ninsert 49 8\nsoft 49 1\nreplace 14 1\nshow\nreplace 782 445\nsoft 18 0\nreplace 4 1\n\
+insert 331 45\ninsert 27 400\ninsert 42 8\nreplace 62 0\nreplace 9 1\nshow\nshow\nget 42\n\
+replace 42 1\ninsert 43 45\nsoft 750 8\nsoft 750 8\nshow\nsoft 24 8\nget 53\ninsert 28 8\n\
+insert 943 1\nsoft 943 1\nget 943\nget 18\nsoft 62 3\nsoft 675 1\ninsert 43 1\nget 750\nstats 18\n\
+show\ninsert 28 8\nget 28\nget 38\nreplace 18 45\nsoft 9 401\nshow\nget 896\ninsert 49 8\n\
+soft 27 3\nsoft 27 402\nshow\ninsert 43 0\nreplace 943 1\nsoft 43 1\nreplace 43 45\nstats 42\n\
+insert 514 0\nsoft 62 45\nget 943\ninsert 28 1\ninsert 36 1\ninsert 151 8\ninsert 27 45\nshow\n\
+insert 723 1\nreplace 943 2\nreplace 28 402\nsoft 514 401\nstats 723\nreplace 4 3\n\
+replace 514 445\nreplace 723 3\nreplace 9 8\nsoft 750 45\nreplace 42 45\nsoft 57 1\ninsert 10 45\n\
+soft 28 45\ninsert 57 403\ninsert 28 8\nreplace 943 1\nreplace 38 2\ninsert 145 45\nsoft 38 403\n\
+soft 38 445\nsoft 28 2\ninsert 577 402\nreplace 1 3\nreplace 151 445\nsoft 577 45\ninsert 114 0\n\
+insert 29 401\nget 9\ninsert 897 45\nreplace 621 445\ninsert 6 402\ninsert 20 3\ninsert 16 1\n\
+get 114\ninsert 28 3\nget 114\ninsert 35 0\nget 114\ninsert 45 3\ninsert 943 45\nstats 114\n\
+soft 737 400\nsoft 114 1\nsoft 54 445\nsoft 57 8\ninsert 30 3\nsoft 35 1\nshow\ninsert 566 45\n\
+show\nsoft 35 45\nget 938\nget 30\nsoft 27 8\ninsert 56 408\nsoft 6 402\nget 723\nget 7\n\
+replace 28 8\nshow\nreplace 723 2\nreplace 28 0\nsoft 28 45\nreplace 30 1\ninsert 56 1\nstats 56\n\
+soft 30 2\nshow\nget 56\ninsert 32 401\nshow\nreplace 32 2\nget 29\nreplace 32 3\ninsert 57 2\n\
+replace 29 8\nget 568\nsoft 710 0\nsoft 29 0\nshow\nsoft 57 1\ninsert 16 1\nreplace 29 0\n\
+soft 29 8\nreplace 6 3\nsoft 114 1\nreplace 45 408\nsoft 29 3\nsoft 723 2\nreplace 29 8\n\
+soft 6 403\nget 41\nget 16\ninsert 21 402\nsoft 21 8\nget 16\nget 6\nshow\nget 10\nshow\n\
+insert 42 3\ninsert 21 45\ninsert 128 3\nsoft 128 408\ninsert 35 408\nshow\ninsert 128 45\nshow\n\
+replace 35 8\nshow\ninsert 5 8\nshow\nfail 26\nsoft 19 3\ninsert 21 201\nload 34 400\nget 21\n\
+get 34\nsoft 723 2\nremove 21\ninsert 12 301\nfail 29\nshow\nshow\nload 42 0\ninsert 128 403\n\
+load 10 345\nsoft 32 1\nload 22 302\nfail 436\ninsert 10 301\nsoft 946 1\nload 161 401\n\
+insert 22 401\nguard 19 201\ninsert 795 300\nshow\ninsert 984 1\nget 984\nremoveif 34 400\n\
+insert 40 301\nguard 8 245\nset 42 345\ninsert 197 201\ninsert 161 300\ninsert 161 0\nload 58 45\n\
+show\nfail 44\nremove 197\ninsert 645 45\nguard 26 101\ninsert 588 1\ninsert 29 1\n\
+removeif 26 101\nremove 161\ninsert 25 103\ninsert 752 402\ninsert 29 200\nload 41 301\n\
+insert 107 345\ninsert 50 2\npoke 375 401\nguard 905 103\ndrop 43\npoke 752 101\ninsert 752 203\n\
+insert 128 445\nget 25\nget 752\ninsert 576 400\ninsert 260 2\nshow\ninsert 256 303\n\
+insert 16 401\ninsert 26 303\ninsert 531 401\nguard 37 400\ninsert 43 1\nset 25 301\nset 25 1\n\
+load 16 101\nget 43\nsoft 655 402\nget 25\ninsert 161 303\ninsert 674 402\ninsert 242 345\n\
+load 236 445\nload 26 102\nget 588\nset 25 3\ninsert 15 1\nload 42 200\ndrop 8\nset 42 2\n\
+insert 754 301\nset 107 145\nshow\nsoft 37 301\nreplace 107 45\ninsert 8 101\nremoveif 19 302\n\
+insert 686 345\nshow\nshow\nshow\ninsert 59 102\nsoft 686 201\nset 24 303\nremoveif 686 201\n\
+insert 905 403\nget 59\nremoveif 59 345\nget 752\ninsert 9 345\nshow\ninsert 50 103\ninsert 42 1\n\
+load 52 101\ndrop 3\ninsert 881 45\nshow\nremoveif 752 200\ninsert 833 401\nguard 577 203\nget 0\n\
+show\nreplace 576 445\ndrop 3\ninsert 9 201\nremove 795\nset 19 400\nremoveif 577 203\n\
+replace 29 301\nget 29\ninsert 514 300\ninsert 5 401\ninsert 59 301\nsoft 514 101\nsoft 19 402\n\
+show\npoke 19 101\nsoft 514 1\ninsert 679 45\ninsert 486 301\ninsert 49 301\ninsert 8 45\n\
+set 19 200\ninsert 943 300\ninsert 406 145\nsoft 406 145\ninsert 14 201\nshow\nsoft 19 245\n\
+load 53 201\nreplace 406 203\ninsert 54 0\ninsert 49 245\nguard 33 1\nremoveif 33 1\n\
+insert 40 303\nremove 40\ninsert 27 302\ninsert 745 302\nload 35 345\ndrop 561\ninsert 59 0\n\
+removeif 50 403\ninsert 6 402\nshow\nsoft 50 101\nget 745\nremoveif 59 0\nload 55 0\nget 406\n\
+insert 577 201\ninsert 705 100\nguard 6 201\nget 406\nguard 21 101\ninsert 39 45\nshow\n\
+load 42 201\nset 406 345\nshow\ninsert 55 45\npoke 745 345\npoke 406 302\npoke 19 1\nshow\n\
+remove 19\nget 943\ninsert 51 301\nget 51\ninsert 26 303\ninsert 27 45\ninsert 56 1\npoke 55 401\n\
+show\nremove 49\nget 51\nremove 705\ninsert 21 345\ninsert 39 301\nremoveif 488 401\nget 51\n\
+insert 951 302\nget 44\ndrop 40\nshow\nset 6 201\ninsert 41 300\nget 51\nremove 56\nshow\n\
+insert 211 0\nremove 51\ninsert 733 303\ndrop 985\ninsert 16 201\nremoveif 406 302\n\
+insert 755 201\nguard 919 345\ninsert 42 0\nremoveif 48 201\nset 919 445\ninsert 42 303\n\
+load 8 303\nguard 781 302\nshow\ninsert 40 3\npoke 40 300\nguard 3 145\nsoft 52 400\n\
+insert 16 203\ninsert 39 1\ninsert 26 300\ninsert 855 303\nget 50\ninsert 10 301\nsoft 202 401\n\
+guard 2 445\ninsert 1 102\nget 1\nload 57 1\ninsert 26 45\nload 597 1\nload 52 201\ninsert 26 301\n\
+insert 220 1\nshow\ninsert 374 1\ncapacity 41\ninsert 8 1\nshow\nget 50\nshow\nget 14\n\
+load 167 103\nshow\nget 577\ninsert 24 3\nget 3\nget 943\ninsert 211 1\ncapacity 30\nshow\nhits\n\
+show\ncapacity 41\ninsert 33 1\ninsert 582 1\ncapacity 100\ninsert 688 1\nget 582\ncapacity 30\n\
+get 3\ncapacity 40\nshow\ninsert 14 3\nload 68 102\ninsert 33 101\nget 33\nget 68\nget 68\n\
+poke 943 2\ncapacity 39\nget 41\ncapacity 80\nshow\nload 631 3\ninsert 54 1\ncapacity 80\n\
+poke 3 1\ninsert 38 2\nget 167\ninsert 10 1\nget 63\ninsert 534 101\ncapacity 30\ncapacity 40\n\
+insert 61 101\nget 61\nget 61\nget 755\ninsert 67 1\nremove 54\ncapacity 20\nshow\nget 65\n\
+insert 6 1\nget 631\ninsert 501 2\ninsert 38 2\nload 38 1\nhits\npoke 6 1\ninsert 676 2\n\
+capacity 100\nhits\ninsert 1 1\ncapacity 100\ncapacity 40\ninsert 56 1\nload 633 3\nget 56\n\
+poke 676 102\ninsert 16 1\nshow\nget 16\ncapacity 20\nremove 501\nshow\ncapacity 39\nget 38\n\
+capacity 39\ninsert 582 1\nget 40\ninsert 605 1\ncapacity 39\nget 9\ncapacity 60\ncapacity 40\n\
+capacity 41\nget 167\ninsert 773 2\ninsert 881 1\npoke 881 3\ncapacity 41\nget 8\npoke 676 3\n\
+capacity 40\ncapacity 100\ncapacity 60\ncapacity 60\ninsert 44 3\nshow\ninsert 27 1\ninsert 40 2\n\
+show\ninsert 43 2\nget 676\ninsert 51 101\npoke 676 3\ncapacity 40\ncapacity 40\nload 55 101\n\
+show\ncapacity 5\nshow\nshow\ninsert 24 101\nremove 55\nshow\nhits\nget 24\ninsert 24 101\n\
+insert 22 1\nget 22\ncapacity 60\ninsert 40 1\ninsert 30 1\ninsert 978 1\ncapacity 41\n\
+capacity 40\nshow\nget 61\ncapacity 40\ninsert 556 1\nget 9\ninsert 666 1\ninsert 556 1\nget 22\n\
+show\nget 68\ncapacity 80\ninsert 398 2\nhits\nget 9\ninsert 690 1\ncapacity 40\ninsert 54 1\n\
+get 577\nload 796 2\ninsert 65 1\ninsert 119 3\ninsert 664 101\ncapacity 20\ncapacity 40\nshow\n\
+get 664\ninsert 104 1\ninsert 893 103\nshow\nget 53\nget 119\nshow\ncapacity 60\ninsert 44 2\n\
+get 9\ncapacity 80\ninsert 14 1\nremove 51\nhits\ninsert 5 1\ninsert 40 3\ncapacity 60\nshow\n\
+capacity 80\ninsert 47 3\ncapacity 40\ncapacity 10\ninsert 23 1\nload 859 1\nclear\nshow\n\
+insert 990 1\nclear\nclear\nhits\ninsert 13 1\nclear\ninsert 18 301\ninsert 18 300\nshow\nclear\n\
+insert 20 2\nclear\nclear\nclear\nhits\ninsert 9 2\ndrop 501\ninsert 28 302\ndrop 7\nclear\n\
+fail 11\ninsert 9 1\nclear\nget 10\nhits\ninsert 65 1\nclear\nclear\nclear\nshow\ninsert 630 301\n\
+fail 36\ninsert 662 301\ninsert 630 301\ninsert 28 1\nclear\nclear\ninsert 9 302\nclear\n\
+load 38 1\ninsert 33 0\ninsert 957 0\nstats 33\ninsert 5 302\nfail 33\nclear\nclear\nfail 194\n\
+load 32 1\nget 32\nhits\ninsert 780 300\ninsert 430 1\nget 780\nclear\ndrop 41\nget 30\nclear\n\
+clear\nclear\ninsert 33 1\nfail 564\nget 602\nclear\nshow\nstats 905\nclear\ndrop 17\nget 37\n\
+clear\ninsert 16 0\nclear\ninsert 3 1\nclear\nload 20 0\ninsert 230 301\nfail 25\nclear\n\
+guard 14 0\nguard 1 1\nclear\ninsert 3 302\nget 3\ninsert 33 1\ninsert 435 2\ninsert 13 2\nclear\n\
+show\nclear\nhits\ninsert 724 300\nfail 5\ninsert 26 1\nhits\ninsert 10 302\nfail 525\nget 10\n\
+insert 33 302\ninsert 3 1\ninsert 27 301\nstats 724\nshow\ninsert 38 0\ninsert 25 1\nhits\nclear\n\
+show\nguard 29 301\nshow\nguard 65 2\nclear\ninsert 0 1\nclear\ncapacity 40\nshow\nhits\n\
+capacity 40\ncapacity 40\nremove 668\ninsert 28 401\npoke 28 1\nstats 28\nstats 28\n\
+removeif 28 307\nremoveif 28 1\nshow\nguard 55 201\nreplace 55 101\nset 55 445\nsoft 508 3\n\
+fail 63\nhits\nreplace 6 1\nguard 451 100\nstats 451\nremove 451\nhits\nload 78 3\nshow\n\
+remove 78\nload 56 0\nsoft 56 402\nget 56\ninsert 29 307\npeek 29\nshow\nremove 29\nguard 528 2\n\
+hits\nremoveif 56 1\nload 890 3\ninsert 206 1\nshow\nstats 40\nhits\nset 528 1\nremoveif 528 307\n\
+peek 528\ninsert 77 1\nget 77\nload 22 7\nstats 22\nsoft 22 301\ndrop 792\nguard 66 45\n\
+load 848 303\nsoft 22 3\nsoft 890 201\ncapacity 40\nhits\ninsert 66 301\ninsert 936 1\nload 36 2\n\
+insert 50 445\ndrop 68\ninsert 855 207\ndrop 176\nget 855\nguard 20 403\ninsert 56 1\n\
+soft 855 103\nset 855 1\nhits\nreplace 855 1\ninsert 41 302\nsoft 855 1\nhits\ndrop 40\n\
+load 669 245\ninsert 89 207\ndrop 40\nremove 890\nhits\npeek 89\nguard 952 100\nfail 8\n\
+insert 198 407\nstats 669\npeek 952\nload 829 102\ncapacity 40\ncapacity 40\nshow\ndrop 53\nhits\n\
+hits\nremove 198\nset 41 0\nremove 669\ndrop 35\nremoveif 41 1\nshow\nremove 952\nremove 56\n\
+remove 829\nsoft 89 1\nfail 88\nget 89\nremoveif 89 1\nget 29\ndrop 115\nhits\ninsert 72 1\n\
+peek 22\nhits\nget 41\nhits\nset 855 3\nget 41\npoke 855 45\ninsert 69 7\nguard 478 403\nget 69\n\
+set 41 401\nremove 69\nshow\npoke 478 7\nremoveif 478 303\npeek 478\nload 614 407\nguard 11 200\n\
+insert 478 1\nremoveif 47 7\nstats 29\npoke 527 7\nreplace 614 2\nload 288 1\nhits\nfail 66\n\
+stats 614\ninsert 87 107\nremove 478\nshow\nshow\nget 11\nguard 0 3\nget 9\nget 0\ndrop 53\n\
+removeif 614 2\nremoveif 0 45\nget 41\npoke 0 1\nstats 171\npoke 57 200\npeek 0\ncapacity 40\n\
+stats 11\nremoveif 11 0\nsoft 288 1\nget 11\ninsert 24 345\nshow\ninsert 78 203\nset 11 301\n\
+get 288\nfail 75\nstats 11\nstats 24\npeek 288\nfail 75\nhits\nget 11\nshow\nload 68 2\nshow\n\
+get 87\nreplace 11 1\nremove 24\nremoveif 26 45\nload 52 45\nhits\ninsert 37 301\nreplace 68 401\n\
+hits\nremoveif 37 301\nstats 36\nremove 58\ninsert 66 1\nsoft 41 0\nreplace 41 3\nclear\n\
+set 68 402\nset 970 7\nset 256 407\nload 19 3\nget 19\nload 540 45\nguard 71 2\nshow\npeek 19\n\
+insert 76 3\nfail 70\nreplace 61 2\nsoft 76 0\nremove 19\nset 71 301\nload 82 1\ncapacity 40\n\
+insert 62 102\nreplace 76 203\nget 82\nget 82\nstats 76\ninsert 64 101\nstats 76\nget 71\n\
+load 755 107\ninsert 82 1\ninsert 767 0\ninsert 591 101\nfail 26\nguard 11 202\nremove 591\n\
+remove 71\nfail 48\nremove 767\nreplace 82 45\ncapacity 40\nremove 11\nstats 64\nguard 30 101\n\
+set 62 1\nhits\nstats 29\npeek 16\npoke 755 102\nload 50 101\ninsert 50 45\nremove 30\n\
+set 755 400\ndrop 45\npeek 755\nguard 51 1\nremove 62\nfail 957\nremove 223\nremoveif 72 301\n\
+replace 763 202\npoke 25 201\nsoft 755 401\nload 48 3\nshow\nshow\nget 48\nfail 89\ninsert 48 100\n\
+peek 48\nreplace 755 402\nstats 48\nload 10 1\nreplace 48 403\nhits\nshow\n\
 ";

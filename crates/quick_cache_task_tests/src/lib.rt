@@ -1,11 +1,13 @@
-//! Tests of the futures of the shared cache: rows by the executor of `futures`, and by tasks of a
-//! test that polls them.
+//! Tests of the futures of the shared cache: rows by the executors of `futures` and of `tokio`, and
+//! by tasks of a test that polls them.
 #![tactic(auto)]
 
 #[cfg(test)]
 mod entries;
 #[cfg(test)]
 mod rows;
+#[cfg(test)]
+mod runtime;
 #[cfg(test)]
 mod standing;
 #[cfg(test)]

@@ -1,16 +1,22 @@
-//! Tests of the cache for one thread, of its traits, of lists of calls, and of caches with many
-//! entries.
+//! Tests of the cache for one thread, of its traits, of lists of calls, of caches with many entries,
+//! and of copies: what a call shows of a value is a clone of it.
 #![tactic(auto)]
 
 #[cfg(test)]
 mod clones;
+#[cfg(test)]
+mod exactly;
 pub mod halves;
 #[cfg(test)]
 mod large;
 #[cfg(test)]
+mod numbered;
+#[cfg(test)]
 mod reserved;
 #[cfg(test)]
 mod runs;
+#[cfg(test)]
+mod texts;
 #[cfg(test)]
 mod traits;
 #[cfg(test)]

@@ -11,7 +11,7 @@ fn three_pairs<R: Wait>(rt: &R, cache: &Cache<u64, u64>) -> bool {
 }
 
 #[test]
-fn each_call_acts(rt: HostRuntime) {
+fn shared_calls_act(rt: HostRuntime) {
     let cache: Cache<u64, u64> = expect_ok!(rt; Cache::new(rt.alloc(), 100));
     expect!(rt; cache.is_empty(&rt));
     expect!(rt; three_pairs(&rt, &cache));

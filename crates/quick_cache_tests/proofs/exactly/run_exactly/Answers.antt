@@ -1,6 +1,6 @@
 use Rattle.quick_cache_calls.specs.Shown.{IsItself}
 use Rattle.quick_cache_runs.proofs.CallerLemmas.{RunsCalls-wider}
-use Rattle.quick_cache_copy_tests.proofs.exactly.run_exactly.Goals as goal
+use Rattle.quick_cache_tests.proofs.exactly.run_exactly.Goals as goal
 
 -- a clone is the very value, so what is shown by a clone is shown by itself
 pub returns : goal.returns

@@ -2,8 +2,8 @@ use Rattle.std.proofs.Common.{◌≡◌, Some, ◌∷◌, [], ◌∙◌, ap, sym
 use Rattle.quick_cache_calls.specs.declared.call.Call.TheVariants.{Get}
 use Rattle.quick_cache_calls.specs.declared.reply.Reply.TheVariants.{Value}
 use Rattle.std.specs.Vec.Iter.{into_iter_items}
-use Rattle.quick_cache_copy_tests.proofs.ShownLemmas.{run-shows, one_look_asks}
-use Rattle.quick_cache_copy_tests.proofs.texts.get_text.Goals as goal
+use Rattle.quick_cache_tests.proofs.ShownLemmas.{run-shows, one_look_asks}
+use Rattle.quick_cache_tests.proofs.texts.get_text.Goals as goal
 
 -- the one reply is to the look-up
 pub returns-in-Some-Value : goal.returns-in-Some-Value

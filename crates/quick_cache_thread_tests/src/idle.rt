@@ -3,7 +3,7 @@ use expect::{expect_eq, expect_ok};
 use quick_cache::sync::{Cache, LockContention};
 
 #[test]
-fn each_call_acts_where_the_lock_is_free(rt: HostRuntime) {
+fn try_calls_succeed_on_an_idle_cache(rt: HostRuntime) {
     let cache: Cache<u64, u64> = expect_ok!(rt; Cache::new(rt.alloc(), 100));
     expect_eq!(rt; cache.insert(&rt, 1, 10), Ok(()));
     expect_eq!(rt; cache.try_contains_key(&1), Ok(true));

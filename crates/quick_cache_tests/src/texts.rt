@@ -7,7 +7,7 @@ ghost use Rattle.quick_cache_runs.specs.Asked.{IfAsks};
 ghost use Rattle.quick_cache_shard.specs.Copies.{IsCopyOf};
 ghost use Rattle.quick_cache_shard.specs.Predicates.{IsAnsweredAs};
 ghost use Rattle.quick_cache_shard.specs.Steps.{rules_in, hooks_in};
-ghost use Rattle.quick_cache_copy_tests.specs.Shown.{HasSameBytes, IsShownUnder};
+ghost use Rattle.quick_cache_tests.specs.Shown.{HasSameBytes, IsShownUnder};
 ghost use Rattle.quick_cache_unsync.specs.Touches.{no_touches};
 
 use expect::{expect, expect_eq, expect_ok};

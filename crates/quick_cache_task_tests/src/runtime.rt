@@ -7,7 +7,7 @@ use quick_cache_sync::Cache;
 use tokio::runtime::Runtime;
 
 #[test]
-fn a_load_fails_and_another_is_removed(rt: HostRuntime) {
+fn a_load_fails_and_another_is_removed_by_tokio(rt: HostRuntime) {
     let cache: Cache<u64, u64> = expect_ok!(rt; Cache::new(rt.alloc(), 100));
     let mut runtime = expect_ok!(rt; Runtime::new(&rt));
     let rt = &rt;

@@ -114,7 +114,7 @@ fn call_tried<R: Wait>(
 }
 
 #[test]
-fn both_caches_answer_and_report_the_same(rt: HostRuntime) {
+fn shared_and_single_thread_agree(rt: HostRuntime) {
     let shared: Shared =
         expect_ok!(rt; sync::Cache::with(rt.alloc(), 8, 8, UnitWeighter, Thousand, Recording));
     let mut alone: Alone = expect_ok!(rt; unsync::Cache::with(
