@@ -1,9 +1,10 @@
 -- Places of a queue, the tokens that stand there, and the queue without one of them.
-use Rattle.std.proofs.Common.{◌≡◌, ◌≢◌, ℕ, zero, suc, ◌+◌, ◌<◌, ◌≤◌, Bool, true, false, eqb, MatchBool, List, [], ◌∷◌, ◌++◌, length, take, drop, set, get_or, Option, Some, None, MatchOption, refl, sym, ap, ◌∙◌, subst, arith}
+use Rattle.std.proofs.Common.{◌≡◌, ◌≢◌, ℕ, zero, suc, ◌+◌, ◌<◌, ◌≤◌, Bool, true, false, not, eqb, MatchBool, List, [], ◌∷◌, ◌++◌, length, take, drop, set, get_or, Option, Some, None, MatchOption, refl, sym, ap, ◌∙◌, subst, arith}
 use Rattle.std.specs.Int.NonZero.{non_zero_u32_get as number}
 use Rattle.std.specs.declared.num.NonZeroU32.{NonZeroU32 as Token}
 use Rattle.std.proofs.lemmas.Bool.{eqb-true, eqb-false}
-use Rattle.std.proofs.lemmas.List.{append_assoc, take-append-drop, drop_more, take_more, get_or_read, length-take-le, length-append, length_push, set_at, take_at, drop_at, take_all, drop_all}
+use Rattle.std.proofs.lemmas.List.{append_assoc, take-append-drop, drop_more, take_more, take_more_set, take-set, drop-set-lt, append-nil, get_or_read, length-take-le, length-append, length_push, set_at, take_at, drop_at}
+use mir.Val.{bool_byte}
 use Rattle.quick_cache_queue.specs.Queues.{turned, tokens_at, BeginsWithToken, StandsAt, Leaves}
 
 -- ---- the tokens at some places
@@ -45,29 +46,87 @@ length-tokens_at [] = omega arith
 length-tokens_at (zero ∷ xs) = omega (arith, length-tokens_at xs)
 length-tokens_at (suc n ∷ xs) = omega (arith, length-tokens_at xs)
 
+-- where no place is empty, the first is not
+pub begins-full : (xs : List ℕ) → length xs ≤ length (tokens_at xs) → BeginsWithToken xs
+begins-full [] full = tt
+begins-full (zero ∷ xs) full = absurd (omega (arith, length-tokens_at xs))
+begins-full (suc n ∷ xs) full = omega arith
+
+-- ---- the tokens come to the front
+
+module _ (xs old : List ℕ) (count i : ℕ) (below : i < length old)
+    (same : length xs ≡ length old) (within : count ≤ i)
+    (front : take count xs ≡ tokens_at (take i old)) (rest : drop i xs ≡ drop i old) where
+  here : get_or xs i 0 ≡ get_or old i 0
+  here =
+      let inside : i < length xs = omega arith in
+      ap (λ (ys : List ℕ). get_or ys 0 0)
+      (sym (drop_more xs i 0 inside) ∙ rest ∙ drop_more old i 0 below)
+
+  one_more : tokens_at (take (i + 1) old) ≡ tokens_at (take i old) ++ tokens_at (get_or xs i 0 ∷ [])
+  one_more =
+      ap tokens_at (take_more old i 0 below ∙ ap (λ (m : ℕ). take i old ++ m ∷ []) (sym here))
+      ∙ tokens_at-append (take i old) (get_or xs i 0 ∷ [])
+
+  -- what stands at a place is put behind the tokens, and counted if it is one
+  pub gathered : (more : ℕ) → more ≡ bool_byte (not (eqb (get_or xs i 0) 0))
+      → take (count + more) (set xs count (get_or xs i 0)) ≡ tokens_at (take (i + 1) old)
+  gathered more is = rw is (by_test (eqb (get_or xs i 0) 0) refl)
+    where
+      by_test : (b : Bool) → eqb (get_or xs i 0) 0 ≡ b
+          → take (count + bool_byte (not b)) (set xs count (get_or xs i 0))
+          ≡ tokens_at (take (i + 1) old)
+      by_test true e =
+          let none : count + bool_byte (not true) ≡ count = omega arith in
+          ap (λ (n : ℕ). take n (set xs count (get_or xs i 0))) none
+          ∙ take-set xs count (get_or xs i 0) ∙ front
+          ∙ sym (one_more ∙ ap (λ (m : ℕ). tokens_at (take i old) ++ tokens_at (m ∷ []))
+          (eqb-true (get_or xs i 0) 0 e) ∙ append-nil (tokens_at (take i old)))
+      by_test false e =
+          let some : 0 < get_or xs i 0 = omega (arith, eqb-false (get_or xs i 0) 0 e) in
+          take_more_set xs count (get_or xs i 0) (omega arith)
+          ∙ ap (λ (ys : List ℕ). ys ++ get_or xs i 0 ∷ []) front
+          ∙ sym (one_more ∙ ap (λ (ys : List ℕ). tokens_at (take i old) ++ ys)
+          (tokens_at-token (get_or xs i 0) [] some))
+
+  -- the places behind it are as they were
+  pub not_gathered : (x : ℕ) → drop (i + 1) (set xs count x) ≡ drop (i + 1) old
+  not_gathered x =
+      let inside : i < length xs = omega arith in
+      drop-set-lt (i + 1) xs count x (omega arith)
+      ∙ ap (λ (ys : List ℕ). drop 1 ys)
+      (sym (drop_more xs i 0 inside) ∙ rest ∙ drop_more old i 0 below)
+
+  pub gathered_within : (b : Bool) (more : ℕ) → more ≡ bool_byte b → count + more ≤ i + 1
+  gathered_within true more is = omega (arith, is)
+  gathered_within false more is = omega (arith, is)
+
 -- ---- the first places are turned
 
 -- one place more is turned
 pub turned_more : (xs ys : List ℕ) (i : ℕ) → i < length xs
-    → ys ≡ drop i xs ++ tokens_at (take i xs)
-    → drop 1 ys ++ tokens_at (take 1 ys) ≡ drop (i + 1) xs ++ tokens_at (take (i + 1) xs)
+    → ys ≡ drop i xs ++ take i xs
+    → drop 1 ys ++ take 1 ys ≡ drop (i + 1) xs ++ take (i + 1) xs
 turned_more xs ys i below is =
     let x = get_or xs i 0 in
-    let here = is ∙ ap (λ zs. zs ++ tokens_at (take i xs)) (drop_more xs i 0 below) in
-    ap (λ zs. drop 1 zs ++ tokens_at (take 1 zs)) here
-    ∙ append_assoc (drop (i + 1) xs) (tokens_at (take i xs)) (tokens_at (x ∷ []))
-    ∙ ap (λ zs. drop (i + 1) xs ++ zs) (sym (tokens_at-append (take i xs) (x ∷ []))
-    ∙ ap tokens_at (sym (take_more xs i 0 below)))
+    let here = is ∙ ap (λ zs. zs ++ take i xs) (drop_more xs i 0 below) in
+    ap (λ (zs : List ℕ). drop 1 zs ++ take 1 zs) here
+    ∙ append_assoc (drop (i + 1) xs) (take i xs) (x ∷ [])
+    ∙ ap (λ zs. drop (i + 1) xs ++ zs) (sym (take_more xs i 0 below))
 
--- all places are turned, and what is left is the tokens
-pub all_turned : (xs ys : List ℕ) (count : ℕ) → length xs ≤ count
-    → ys ≡ drop count xs ++ tokens_at (take count xs) → ys ≡ tokens_at xs
-all_turned xs ys count all is =
-    is ∙ (λ k. drop_all count xs all k ++ tokens_at (take_all count xs all k))
+-- there are as many places, and as many tokens
+pub length-rotated : (xs : List ℕ) (i : ℕ) → length (drop i xs ++ take i xs) ≡ length xs
+length-rotated xs i =
+    omega (
+      arith,
+      length-append (drop i xs) (take i xs),
+      length-append (take i xs) (drop i xs),
+      ap length (take-append-drop i xs),
+    )
 
 -- the first token comes last
 pub tokens_at-turned : (xs : List ℕ) → BeginsWithToken xs
-    → tokens_at (drop 1 xs ++ tokens_at (take 1 xs)) ≡ turned (tokens_at xs)
+    → tokens_at (drop 1 xs ++ take 1 xs) ≡ turned (tokens_at xs)
 tokens_at-turned [] begins = refl
 tokens_at-turned (zero ∷ xs) begins = absurd (omega arith)
 tokens_at-turned (suc n ∷ xs) begins = tokens_at-append xs (suc n ∷ [])
@@ -145,20 +204,34 @@ leaves_emptied xs i token some s = record {
       ∙ set_at s.before token s.after 0 i s.far) ∙ tokens_at-append s.before (0 ∷ s.after);
 }
 
+-- the first of these leaves
+pub leaves_front : (tokens : List ℕ) (token : ℕ) → StandsAt tokens 0 token
+    → Leaves false tokens token (drop 1 tokens)
+leaves_front tokens token s = record {
+  before = [];
+  after = s.after;
+  split = front s.before s.split s.far;
+  left = ap (drop 1) (front s.before s.split s.far);
+}
+  where
+    front : (before : List ℕ) → tokens ≡ before ++ token ∷ s.after → length before ≡ 0
+        → tokens ≡ token ∷ s.after
+    front [] split far = split
+    front (x ∷ before) split far = absurd (omega (arith, far))
+
 -- its place is the first, and goes
 pub leaves_first : (xs : List ℕ) (token : ℕ) → 0 < token → StandsAt xs 0 token
-    → Leaves false (tokens_at xs) token (tokens_at (drop 1 xs))
-leaves_first xs token some s =
-    subst (λ (ys : List ℕ). Leaves false (tokens_at xs) token ys) (emptied xs)
-    (leaves_emptied xs 0 token some s)
-  where
-    emptied : (ys : List ℕ) → tokens_at (set ys 0 0) ≡ tokens_at (drop 1 ys)
-    emptied [] = refl
-    emptied (y ∷ ys) = refl
+    → Leaves false (tokens_at xs) token (drop 1 (tokens_at xs))
+leaves_first xs token some s = leaves_front (tokens_at xs) token (record {
+  before = tokens_at s.before;
+  after = tokens_at s.after;
+  split = parted xs 0 token some s;
+  far = omega (arith, s.far, length-tokens_at s.before);
+})
 
 -- all before its place were turned, and its place goes
 pub leaves_turned : (xs ys : List ℕ) (i token : ℕ) → 0 < token → StandsAt xs i token
-    → ys ≡ drop i xs ++ tokens_at (take i xs)
+    → ys ≡ drop i xs ++ take i xs
     → Leaves true (tokens_at xs) token (tokens_at (drop 1 ys))
 leaves_turned xs ys i token some s is =
     let ahead : take i xs ≡ s.before =
@@ -170,10 +243,28 @@ leaves_turned xs ys i token some s is =
       after = tokens_at s.after;
       split = parted xs i token some s;
       left = ap (λ (zs : List ℕ). tokens_at (drop 1 zs)) is
-          ∙ (λ k. tokens_at (drop 1 (behind k ++ tokens_at (ahead k))))
-          ∙ tokens_at-append s.after (tokens_at s.before)
-          ∙ ap (λ (zs : List ℕ). tokens_at s.after ++ zs) (tokens_at-twice s.before);
+          ∙ (λ k. tokens_at (drop 1 (behind k ++ ahead k)))
+          ∙ tokens_at-append s.after s.before;
     }
+
+-- one of the tokens that were counted left, and its place with it
+pub counted-first : (xs : List ℕ) (empty : ℕ) → BeginsWithToken xs
+    → empty + length (tokens_at xs) ≡ length xs
+    → (tokens_at (drop 1 xs) ≡ drop 1 (tokens_at xs))
+    × (empty + length (tokens_at (drop 1 xs)) ≡ length (drop 1 xs))
+counted-first [] empty begins counted = (refl, counted)
+counted-first (zero ∷ xs) empty begins counted = absurd (omega arith)
+counted-first (suc n ∷ xs) empty begins counted = (refl, omega (arith, counted))
+
+-- an empty place at the front went, and was counted
+pub counted-empty : (xs : List ℕ) (empty : ℕ) → xs ≡ 0 ∷ drop 1 xs
+    → empty + length (tokens_at xs) ≡ length xs
+    → (0 < empty) × (tokens_at (drop 1 xs) ≡ tokens_at xs)
+    × (length (drop 1 xs) + 1 ≡ length xs)
+counted-empty [] empty is counted = absurd (omega (arith, ap length is))
+counted-empty (zero ∷ xs) empty is counted =
+    (omega (arith, counted, length-tokens_at xs), refl, omega arith)
+counted-empty (suc n ∷ xs) empty is counted = absurd (omega (arith, ap (λ ys. get_or ys 0 0) is))
 
 -- there is one token fewer
 pub length-left : (old new : List ℕ) (token : ℕ) → Leaves false old token new

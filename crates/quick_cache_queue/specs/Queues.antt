@@ -1,5 +1,5 @@
 -- What a contract sees of a queue: the numbers of its tokens, in their order.
-use Rattle.std.specs.Prelude.{◌≡◌, ℕ, zero, suc, ◌-◌, ◌<◌, ◌/◌, Bool, List, [], ◌∷◌, ◌++◌, length, drop}
+use Rattle.std.specs.Prelude.{◌≡◌, ℕ, zero, suc, ◌+◌, ◌-◌, ◌<◌, ◌/◌, Bool, List, [], ◌∷◌, ◌++◌, length, drop}
 use Rattle.std.specs.VecDeque.{deque_capacity}
 use Rattle.quick_cache_queue.specs.declared.token_queue.TokenQueue.{TokenQueue}
 pub use Rattle.quick_cache_model.specs.Sequences.{times, turned, joined_around}
@@ -28,9 +28,13 @@ module _ {A : Type 0} where
   abbrev pub capacity_of : TokenQueue A → ℕ
   capacity_of queue = deque_capacity queue.places - deque_capacity queue.places / 5
 
+  -- the empty places are counted
+  abbrev pub IsCounted : TokenQueue A → Type 0
+  IsCounted queue = queue.empty + length (tokens_of queue) ≡ length queue.places.items
+
   -- what holds of a queue between calls
   pub record IsQueue (queue : TokenQueue A) : Type 0 where
-    pub counted : queue.count ≡ length (tokens_of queue)
+    pub counted : IsCounted queue
     pub begins : BeginsWithToken queue.places.items
 
 -- the number stands so far behind the first

@@ -10,12 +10,8 @@ use std::alloc::{Allocator, Global};
 /// contract speaks of one, and a token that has none here costs time alone.
 #[derive(Drop)]
 pub struct Numbers<A: Allocator = Global> {
+    // That of token n stands at n. The first is of none: numbers of empty places go there.
     numbers: Vec<u32, A>,
-}
-
-/// Where in the list the number of a token stands.
-fn index(token: Token) -> usize {
-    (token.get() - 1) as usize
 }
 
 impl<A: Allocator> Numbers<A> {
@@ -32,10 +28,10 @@ impl<A: Allocator> Numbers<A> {
     pub fn reserve(&mut self, tokens: usize) -> Result<(), Refusal>
         ensures memory { IfErr result (λ refused. refused ≡ Refusal.Memory) }
     {
-        if tokens <= self.numbers.len() {
+        if tokens < self.numbers.len() {
             return Ok(());
         }
-        match self.numbers.resize(tokens, 0) {
+        match self.numbers.resize(tokens.saturating_add(1), 0) {
             Ok(()) => Ok(()),
             Err(_) => Err(Refusal::Memory),
         }
@@ -44,16 +40,16 @@ impl<A: Allocator> Numbers<A> {
     /// The number of a token, or 0 where it has none.
     #[inline(always)]
     pub(crate) fn of(&self, token: Token) -> u32 {
-        match self.numbers.get(index(token)) {
+        match self.numbers.get(token.get() as usize) {
             Some(number) => *number,
             None => 0,
         }
     }
 
-    /// Notes the number of a token, if there is room for it.
+    /// Notes the number of what stands at a place, a token or 0, if there is room for it.
     #[inline(always)]
-    pub(crate) fn note(&mut self, token: Token, number: u32) {
-        let index = index(token);
+    pub(crate) fn note(&mut self, place: u32, number: u32) {
+        let index = place as usize;
         if index < self.numbers.len() {
             self.numbers[index] = number;
         }

@@ -3,7 +3,7 @@ ghost use Rattle.std.specs.Prelude.{◌≡◌, ◌≢◌, ◌<◌, ◌≤◌, []
 ghost use Rattle.std.specs.Bool.{MatchBool};
 ghost use Rattle.std.specs.VecDeque.{deque_len, deque_capacity};
 ghost use Rattle.std.specs.Int.NonZero.{non_zero_u32_get as number};
-ghost use Rattle.quick_cache_queue.specs.Queues.{times, turned, tokens_at, BeginsWithToken, tokens_of, tokens_from, capacity_of, IsQueue, StandsAt, Leaves};
+ghost use Rattle.quick_cache_queue.specs.Queues.{times, turned, tokens_at, BeginsWithToken, tokens_of, tokens_from, capacity_of, IsCounted, IsQueue, StandsAt, Leaves};
 
 use crate::numbers::Numbers;
 use quick_cache_model::{Refusal, Token};
@@ -18,10 +18,32 @@ use std::collections::VecDeque;
 pub struct TokenQueue<A: Allocator = Global> {
     // The token at each place, and 0 at an empty one. The first place is never empty.
     places: VecDeque<u32, A>,
-    // How many tokens there are.
-    count: usize,
+    // How many places are empty.
+    empty: usize,
     // The number of the first place. The others are numbered from there on, and may wrap.
     first_number: u32,
+}
+
+/// The number of a place: it counts from that of the first, and may wrap.
+#[inline(always)]
+fn number_at(first_number: u32, place: usize) -> u32 {
+    first_number.wrapping_add((place & 0xffff_ffff) as u32)
+}
+
+/// Brings the tokens of these places to the front, and answers how many they are. What stands
+/// behind them is left over. It has no branch on what stands at a place.
+fn gather<A: Allocator>(places: &mut [u32], numbers: &mut Numbers<A>, first_number: u32) -> usize
+    ensures tokens { take result places.new ≡ tokens_at places.old }
+    ensures within { result ≤ length places.old }
+{
+    let mut count = 0;
+    for place in 0..places.len() {
+        let token = places[place];
+        places[count] = token;
+        numbers.note(token, number_at(first_number, count));
+        count += usize::from(token != 0);
+    }
+    count
 }
 
 impl<A: Allocator> TokenQueue<A> {
@@ -32,7 +54,7 @@ impl<A: Allocator> TokenQueue<A> {
     {
         TokenQueue {
             places: VecDeque::new(alloc),
-            count: 0,
+            empty: 0,
             first_number: 0,
         }
     }
@@ -43,7 +65,7 @@ impl<A: Allocator> TokenQueue<A> {
         requires { IsQueue self.now }
         ensures { result ≡ length (tokens_of self.now) }
     {
-        self.count
+        self.places.len() - self.empty
     }
 
     /// How many tokens it can have with no allocation.
@@ -121,8 +143,7 @@ impl<A: Allocator> TokenQueue<A> {
         ensures capacity { capacity_of self.new ≡ capacity_of self.old }
     {
         self.make_place(numbers);
-        self.add_place(numbers, token);
-        self.count += 1;
+        self.add_place(numbers, token.get());
     }
 
     /// Puts the first token last.
@@ -137,6 +158,18 @@ impl<A: Allocator> TokenQueue<A> {
         self.drop_empty();
     }
 
+    /// Takes the first token out, if there is one: the others keep their order.
+    #[inline(always)]
+    pub fn leave_first(&mut self)
+        requires { IsQueue self.old }
+        ensures tokens { tokens_of self.new ≡ drop 1 (tokens_of self.old) }
+        ensures sound { IsQueue self.new }
+        ensures capacity { capacity_of self.new ≡ capacity_of self.old }
+    {
+        self.drop_place();
+        self.drop_empty();
+    }
+
     /// Takes a token out: the others keep their order.
     #[inline(always)]
     pub fn leave(&mut self, numbers: &mut Numbers<A>, token: Token)
@@ -147,15 +180,14 @@ impl<A: Allocator> TokenQueue<A> {
         ensures capacity { capacity_of self.new ≡ capacity_of self.old }
     {
         let place = self.place(numbers, token);
-        self.count -= 1;
         if place == 0 {
-            self.drop_place();
-            self.drop_empty();
+            self.leave_first();
             return;
         }
         self.places[place] = 0;
+        self.empty += 1;
         // Else a walk over a few tokens could pass many empty places.
-        if self.places.len() - self.count > self.count {
+        if self.empty > self.places.len() - self.empty {
             self.close_up(numbers);
         }
     }
@@ -170,7 +202,6 @@ impl<A: Allocator> TokenQueue<A> {
     {
         let place = self.place(numbers, token);
         self.turn_places(numbers, place);
-        self.count -= 1;
         self.drop_place();
         self.drop_empty();
     }
@@ -198,7 +229,7 @@ impl<A: Allocator> TokenQueue<A> {
         ensures capacity { capacity_of self.new ≡ capacity_of self.old }
     {
         self.places.clear();
-        self.count = 0;
+        self.empty = 0;
     }
 
     // Closes up where there is no room for a place behind the last.
@@ -221,20 +252,21 @@ impl<A: Allocator> TokenQueue<A> {
     fn close_up(&mut self, numbers: &mut Numbers<A>)
         ensures closed { length self.new.places.items ≡ length (tokens_of self.old) }
         ensures tokens { tokens_of self.new ≡ tokens_of self.old }
-        ensures begins { BeginsWithToken self.new.places.items }
-        ensures count { self.new.count ≡ self.old.count }
+        ensures sound { IsQueue self.new }
         ensures capacity { deque_capacity self.new.places ≡ deque_capacity self.old.places }
     {
-        let count = self.places.len();
-        self.turn_places(numbers, count);
+        let first_number = self.first_number;
+        let count = gather(self.places.make_contiguous(), numbers, first_number);
+        self.places.truncate(count);
+        self.empty = 0;
     }
 
-    // Puts the tokens of the first so many places last, and takes these places out.
+    // Puts the first so many places last, empty or not.
     fn turn_places(&mut self, numbers: &mut Numbers<A>, count: usize)
         requires { count ≤ length self.old.places.items }
         ensures places { self.new.places.items
-            ≡ drop count self.old.places.items ++ tokens_at (take count self.old.places.items) }
-        ensures count { self.new.count ≡ self.old.count }
+            ≡ drop count self.old.places.items ++ take count self.old.places.items }
+        ensures empty { self.new.empty ≡ self.old.empty }
         ensures capacity { deque_capacity self.new.places ≡ deque_capacity self.old.places }
     {
         for _ in 0..count {
@@ -242,41 +274,38 @@ impl<A: Allocator> TokenQueue<A> {
         }
     }
 
-    // Takes the first place out. A token that stood there comes last.
+    // Puts the first place last, empty or not.
     #[inline(always)]
     fn turn_place(&mut self, numbers: &mut Numbers<A>)
         ensures places { self.new.places.items
-            ≡ drop 1 self.old.places.items ++ tokens_at (take 1 self.old.places.items) }
-        ensures count { self.new.count ≡ self.old.count }
+            ≡ drop 1 self.old.places.items ++ take 1 self.old.places.items }
+        ensures empty { self.new.empty ≡ self.old.empty }
         ensures capacity { deque_capacity self.new.places ≡ deque_capacity self.old.places }
     {
         let Some(place) = self.places.pop_front() else {
             return;
         };
         self.first_number = self.first_number.wrapping_add(1);
-        if let Some(token) = Token::new(place) {
-            self.add_place(numbers, token);
-        }
+        self.add_place(numbers, place);
     }
 
-    // Adds a last place with that token.
+    // Adds a last place with that token, or an empty one.
     #[inline(always)]
-    fn add_place(&mut self, numbers: &mut Numbers<A>, token: Token)
+    fn add_place(&mut self, numbers: &mut Numbers<A>, place: u32)
         requires { deque_len self.old.places < deque_capacity self.old.places }
-        ensures places { self.new.places.items ≡ self.old.places.items ++ number token ∷ [] }
-        ensures count { self.new.count ≡ self.old.count }
+        ensures places { self.new.places.items ≡ self.old.places.items ++ place ∷ [] }
+        ensures empty { self.new.empty ≡ self.old.empty }
         ensures capacity { deque_capacity self.new.places ≡ deque_capacity self.old.places }
     {
-        let behind = (self.places.len() & 0xffff_ffff) as u32;
-        numbers.note(token, self.first_number.wrapping_add(behind));
-        self.places.push_back_reserved(token.get());
+        numbers.note(place, number_at(self.first_number, self.places.len()));
+        self.places.push_back_reserved(place);
     }
 
     // Takes the first place out.
     #[inline(always)]
     fn drop_place(&mut self)
         ensures places { self.new.places.items ≡ drop 1 self.old.places.items }
-        ensures count { self.new.count ≡ self.old.count }
+        ensures empty { self.new.empty ≡ self.old.empty }
         ensures capacity { deque_capacity self.new.places ≡ deque_capacity self.old.places }
     {
         let _ = self.places.pop_front();
@@ -286,13 +315,18 @@ impl<A: Allocator> TokenQueue<A> {
     // Takes out the places before the first token.
     #[inline(always)]
     fn drop_empty(&mut self)
+        requires { IsCounted self.old }
         ensures tokens { tokens_of self.new ≡ tokens_of self.old }
-        ensures begins { BeginsWithToken self.new.places.items }
-        ensures count { self.new.count ≡ self.old.count }
+        ensures sound { IsQueue self.new }
         ensures capacity { deque_capacity self.new.places ≡ deque_capacity self.old.places }
     {
+        // Mostly there is none to be looked for.
+        if self.empty == 0 {
+            return;
+        }
         while self.begins_empty() {
             self.drop_place();
+            self.empty -= 1;
         }
     }
 

@@ -1,18 +1,29 @@
-use Rattle.std.proofs.Common.{length, ap, ◌∙◌, arith}
+use Rattle.std.proofs.Common.{◌≡◌, length, take, ap, ◌∙◌, arith}
+use Rattle.std.specs.VecDeque.{deque_len}
 use Rattle.quick_cache_queue.specs.Queues.{tokens_at}
-use Rattle.quick_cache_queue.proofs.PlaceLemmas.{all_turned, tokens_at-twice, begins-tokens_at}
+use Rattle.quick_cache_queue.proofs.PlaceLemmas.{tokens_at-twice, begins-tokens_at}
 use Rattle.quick_cache_queue.proofs.token_queue.TokenQueue.close_up.Goals as goal
 
 pub returns : goal.returns
 returns g c =
     let queue = c.args.self.now in
-    let ok = queue.places.ok in
-    let is = all_turned queue.places.items c.turn_places.new.self.places.items c.len-count.result
-    (omega arith) c.turn_places.ensures.places in
+    let long : length c.gather-count.new.places ≡ deque_len queue.places =
+    omega (arith, c.make_contiguous.ensures.len) in
+    let is : c.truncate.new.self.items ≡ tokens_at queue.places.items =
+    c.truncate.ensures.items
+    ∙ ap (take c.gather-count.result) (c.make_contiguous.ensures.writes_back _ long)
+    ∙ c.gather-count.ensures.tokens ∙ ap tokens_at c.make_contiguous.ensures.value in
     record {
       closed = ap length is;
       tokens = ap tokens_at is ∙ tokens_at-twice queue.places.items;
-      begins = rw is (begins-tokens_at queue.places.items);
-      count = c.turn_places.ensures.count;
-      capacity = c.turn_places.ensures.capacity;
+      sound = record {
+        counted = omega (
+          arith,
+          ap (λ xs. length (tokens_at xs)) is,
+          ap length (tokens_at-twice queue.places.items),
+          ap length is,
+        );
+        begins = rw is (begins-tokens_at queue.places.items);
+      };
+      capacity = omega (arith, c.truncate.ensures.capacity);
     }

@@ -1,12 +1,12 @@
 use Rattle.std.proofs.Common.{◌≡◌, length}
 use Rattle.std.specs.VecDeque.{deque_capacity}
-use Rattle.quick_cache_queue.specs.Queues.{tokens_of}
+use Rattle.quick_cache_queue.specs.Queues.{IsCounted, tokens_of}
 use Rattle.quick_cache_queue.proofs.token_queue.TokenQueue.drop_empty.Given as goal
 
 -- no token went
 abbrev pub invariant-loop-self : goal.invariant-loop-self
 invariant-loop-self g l = (tokens_of l.self ≡ tokens_of l.fn.self)
-    × (l.self.count ≡ l.fn.self.count)
+    × IsCounted l.self
     × (deque_capacity l.self.places ≡ deque_capacity l.fn.self.places)
 
 abbrev pub decreases-loop-self : goal.decreases-loop-self

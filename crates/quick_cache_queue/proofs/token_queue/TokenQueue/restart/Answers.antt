@@ -1,7 +1,30 @@
-use Rattle.std.proofs.Common.{arith}
+use Rattle.std.proofs.Common.{length, ap, arith}
 use Rattle.std.specs.Int.NonZero.{non_zero_u32_get as number}
-use Rattle.quick_cache_queue.proofs.PlaceLemmas.{leaves_turned, length-restarted}
+use Rattle.std.proofs.lemmas.List.{length-drop}
+use Rattle.quick_cache_queue.specs.Queues.{tokens_at}
+use Rattle.quick_cache_queue.proofs.PlaceLemmas.{leaves_turned, length-restarted, length-rotated, stands_below}
 use Rattle.quick_cache_queue.proofs.token_queue.TokenQueue.restart.Goals as goal
+
+pub drop_empty-requires : goal.drop_empty-requires
+drop_empty-requires g c =
+    let places = c.args.self.now.places.items in
+    let turned = c.turn_places.new.self.places.items in
+    let place = c.place-place.result in
+    let token = number c.args.token in
+    omega (
+      arith,
+      c.requires.sound.counted,
+      c.turn_places.ensures.empty,
+      c.drop_place.ensures.empty,
+      ap length c.turn_places.ensures.places,
+      length-rotated places place,
+      ap length c.drop_place.ensures.places,
+      length-drop 1 turned,
+      stands_below places place token c.place-place.ensures,
+      ap (λ ys. length (tokens_at ys)) c.drop_place.ensures.places,
+      length-restarted _ _ _ (leaves_turned places turned place token c.args.token.ok
+          c.place-place.ensures c.turn_places.ensures.places),
+    )
 
 pub returns-clause-leaves : goal.returns-clause-leaves
 returns-clause-leaves g c =
@@ -9,13 +32,3 @@ returns-clause-leaves g c =
     (leaves_turned c.args.self.now.places.items c.turn_places.new.self.places.items
     c.place-place.result (number c.args.token) c.args.token.ok c.place-place.ensures
     c.turn_places.ensures.places)
-
-pub returns-clause-sound : goal.returns-clause-sound
-returns-clause-sound g c = record {
-  counted = omega (
-    arith,
-    c.requires.sound.counted,
-    length-restarted _ _ _ (returns-clause-leaves g c),
-  );
-  begins = c.drop_empty.ensures.begins;
-}
