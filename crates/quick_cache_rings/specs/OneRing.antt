@@ -1,5 +1,5 @@
 -- What the calls of one ring do, with the room of its queue. No public clause cites this module.
-use Rattle.std.specs.Prelude.{◌≡◌, ℕ, ◌+◌, ◌<◌, ◌≤◌, [], ◌∷◌, ◌++◌, length, Bool}
+use Rattle.std.specs.Prelude.{◌≡◌, ℕ, ◌+◌, ◌-◌, ◌<◌, ◌≤◌, [], ◌∷◌, ◌++◌, length, drop, Bool}
 use Rattle.quick_cache_queue.specs.Queues.{times, turned, tokens_of, capacity_of, IsQueue, Leaves}
 use Rattle.quick_cache_rings.specs.declared.ring.Ring.{Ring}
 use Rattle.quick_cache_rings.specs.Rings.{Ring as Shown}
@@ -33,6 +33,18 @@ module _ {A : Type 0} where
     pub sound : IsQueue left.queue
     pub leaves : Leaves restarts (tokens_of ring.queue) token (tokens_of left.queue)
     pub weighed : left.weight + weight ≡ ring.weight
+    pub capacity : capacity_of left.queue ≡ capacity_of ring.queue
+
+  -- the ring weighs no less than this
+  pub record CanLose (ring : Ring A) (weight : ℕ) : Type 0 where
+    pub sound : IsQueue ring.queue
+    pub weighs : weight ≤ ring.weight
+
+  -- the first token left, if there was one
+  pub record HasLost (ring left : Ring A) (weight : ℕ) : Type 0 where
+    pub sound : IsQueue left.queue
+    pub tokens : tokens_of left.queue ≡ drop 1 (tokens_of ring.queue)
+    pub weighed : left.weight ≡ ring.weight - weight
     pub capacity : capacity_of left.queue ≡ capacity_of ring.queue
 
   -- the first came last

@@ -1,5 +1,5 @@
 -- What a contract sees of `Rings`: three lists of tokens, and what each weighs.
-use Rattle.std.specs.Prelude.{◌≡◌, ℕ, ◌+◌, ◌-◌, ◌<◌, ◌≤◌, List, [], ◌∷◌, ◌++◌, length, Bool}
+use Rattle.std.specs.Prelude.{◌≡◌, ℕ, ◌+◌, ◌-◌, ◌<◌, ◌≤◌, List, [], ◌∷◌, ◌++◌, length, drop, Bool}
 use Rattle.quick_cache_model.specs.declared.queue.Queue.{Queue}
 use Rattle.quick_cache_model.specs.declared.queue.Queue.TheVariants.{Hot, Cold}
 use Rattle.quick_cache_queue.specs.Queues.{times, turned, Leaves}
@@ -94,6 +94,27 @@ LeavesRingOf rings left token restarts weight AmongGhosts =
     × (left ≡ record rings { ghosts = left.ghosts })
 LeavesRingOf rings left token restarts weight AmongStill = left ≡ rings
 LeavesRingOf rings left token restarts weight AmongLoading = left ≡ rings
+
+-- ---- the first token goes
+
+-- the ring without its first token, if there is one, and so much lighter
+abbrev pub without_first : (weight : ℕ) → Ring → Ring
+without_first weight ring =
+    record { tokens = drop 1 ring.tokens; weight = ring.weight - weight }
+
+-- the cold ring weighs no less than this, and there is room for one more ghost
+pub record CanBury (rings : Rings) (weight : ℕ) : Type 0 where
+  pub weighs : weight ≤ rings.cold.weight
+  pub enters : CanEnter rings 0 AmongGhosts
+
+-- the first cold token went, and the token came last among the ghosts
+abbrev pub buried : (token weight : ℕ) → Rings → Rings
+buried token weight rings =
+    entered token 0 AmongGhosts (record rings { cold = without_first weight rings.cold })
+
+-- the first ghost went
+abbrev pub first_forgotten : Rings → Rings
+first_forgotten rings = record rings { ghosts = without_first 0 rings.ghosts }
 
 -- ---- a ring turns, or weighs something else
 

@@ -2,7 +2,7 @@
 ghost use Rattle.std.specs.Prelude.{◌≡◌};
 ghost use Rattle.std.specs.Int.NonZero.{non_zero_u32_get as number};
 ghost use Rattle.quick_cache_queue.specs.Queues.{IsQueue};
-ghost use Rattle.quick_cache_rings.specs.OneRing.{HasPlace, IsJoined, CanGo, IsGone, IsTurned};
+ghost use Rattle.quick_cache_rings.specs.OneRing.{HasPlace, IsJoined, CanGo, IsGone, CanLose, HasLost, IsTurned};
 
 use quick_cache_model::Token;
 use quick_cache_queue::{Numbers, TokenQueue};
@@ -48,6 +48,16 @@ pub(crate) fn leave<A: Allocator>(
         return;
     }
     ring.queue.leave(numbers, token);
+}
+
+/// Takes the first token out of a ring, if there is one, and so much weight.
+#[inline(always)]
+pub(crate) fn leave_first<A: Allocator>(ring: &mut Ring<A>, weight: u64)
+    requires { CanLose ring.old weight }
+    ensures { HasLost ring.old ring.new weight }
+{
+    ring.weight -= u128::from(weight);
+    ring.queue.leave_first();
 }
 
 /// Puts the first token of a ring last.

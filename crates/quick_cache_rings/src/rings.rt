@@ -3,9 +3,9 @@ ghost use Rattle.std.specs.Prelude.{◌≡◌, ◌≤◌, ◌*◌, [], max, IsOk
 ghost use Rattle.std.specs.Int.NonZero.{non_zero_u32_get as number};
 ghost use Rattle.quick_cache_queue.specs.Queues.{tokens_of, IsQueue};
 ghost use Rattle.quick_cache_slots.specs.Slots.{stand_by};
-ghost use Rattle.quick_cache_rings.specs.Rings.{no_rings, emptied, ring_of, CanEnter, entered, CanLeaveRing, LeavesRingOf, rings_turned, CanReweigh, reweighed, AreWithin};
+ghost use Rattle.quick_cache_rings.specs.Rings.{no_rings, emptied, ring_of, CanEnter, entered, CanLeaveRing, LeavesRingOf, CanBury, buried, first_forgotten, rings_turned, CanReweigh, reweighed, AreWithin};
 
-use crate::ring::{Ring, join, leave, turn};
+use crate::ring::{Ring, join, leave, leave_first, turn};
 use quick_cache_model::{Queue, Refusal, Token};
 use quick_cache_queue::{Numbers, TokenQueue};
 use quick_cache_slots::Stand;
@@ -222,6 +222,25 @@ impl<A: Allocator> Rings<A> {
             Stand::AmongStill => (),
             Stand::AmongLoading => (),
         }
+    }
+
+    /// Takes the first token out of the cold ring, with the weight of its item, and puts it last
+    /// among the ghosts. It is `leave` and `enter` with no search for the token.
+    #[inline(always)]
+    pub fn bury_first(&mut self, token: Token, weight: u64)
+        requires { CanBury self.old weight }
+        ensures { self.new ≡ buried (number token) weight self.old }
+    {
+        leave_first(&mut self.cold, weight);
+        join(&mut self.ghosts, &mut self.numbers, token, 0);
+    }
+
+    /// Takes the first token out of the ghosts. It is `leave` with no search for the token.
+    #[inline(always)]
+    pub fn forget_first(&mut self)
+        ensures { self.new ≡ first_forgotten self.old }
+    {
+        leave_first(&mut self.ghosts, 0);
     }
 
     /// Begins the ring of a queue one further on.
