@@ -15,6 +15,7 @@ mod CountLemmas
 mod PutLemmas
 mod LeaveLemmas
 mod MoveLemmas
+mod FirstLemmas
 mod NextLemmas
 mod RewriteLemmas
 pub mod CallerLemmas

@@ -1,7 +1,7 @@
 //! What changes the lists: an entry comes, goes, moves or is written.
-ghost use Rattle.std.specs.Prelude.{◌≡◌, ◌+◌, ◌<◌, false};
+ghost use Rattle.std.specs.Prelude.{◌≡◌, ◌+◌, ◌<◌, false, Some};
 ghost use Rattle.std.specs.Int.NonZero.{non_zero_u32_get as number};
-ghost use Rattle.quick_cache_lists.specs.Lists.{PutsLast, HasEntry, IsEntry, without_entry, HasGhostToken, HasItemToken, ring_turned, with_change, with_counts, with_mark, read_once, used, HasItemOfQueue, Rewrites, Reweighs};
+ghost use Rattle.quick_cache_lists.specs.Lists.{PutsLast, HasEntry, IsEntry, without_entry, IsFirstOf, HasItemToken, ring_turned, with_change, with_counts, with_mark, read_once, used, HasItemOfQueue, Rewrites, Reweighs};
 
 use crate::lists::Lists;
 use crate::store::{displace, place};
@@ -43,19 +43,20 @@ impl<K, V, P, T, A: Allocator> Lists<K, V, P, T, A> {
         slot
     }
 
-    /// Takes a ghost out. The others keep their order.
+    /// Takes the oldest ghost out. The others keep their order. It is `take` with no test of what
+    /// stands there, and no search for the token.
     #[inline(always)]
-    pub fn take_ghost(&mut self, token: Token)
+    pub fn forget_first(&mut self, token: Token)
     where
         K: Drop,
         V: Drop,
         P: Drop,
         T: Drop,
-        requires { HasGhostToken self.old (number token) }
+        requires { IsFirstOf (λ shade. shade.token) self.old.ghosts (Some token) }
         ensures { self.new ≡ without_entry false (number token) self.old }
     {
         let _ = displace(&mut self.slots, &mut self.index, token);
-        self.rings.leave(token, Stand::AmongGhosts, false, 0);
+        self.rings.forget_first();
     }
 
     /// Begins the ring one further on.

@@ -33,7 +33,8 @@ impl<K, V, P, T, A: Allocator> Lists<K, V, P, T, A> {
     }
 
     /// Makes the newest ghost of the first cold item, and answers the item. The token and the hash
-    /// stay, and no room is needed. It is `replace` by a ghost, with no test of what stands there.
+    /// stay, and no room is needed. It is `replace` by a ghost, with no test of what stands there,
+    /// and no search for the token.
     #[inline(always)]
     pub fn bury(&mut self, token: Token) -> Marked<K, V, T>
         requires { IsFirstOf (λ held. held.token) self.old.cold (Some token) }
@@ -42,8 +43,7 @@ impl<K, V, P, T, A: Allocator> Lists<K, V, P, T, A> {
     {
         let item = self.slots.bury(token);
         let weight = item.weight();
-        self.rings.leave(token, Stand::AmongCold, false, weight);
-        self.rings.enter(token, Stand::AmongGhosts, 0);
+        self.rings.bury_first(token, weight);
         item
     }
 
