@@ -1,5 +1,6 @@
 -- The item of a token, and room that grew.
-use Rattle.std.proofs.Common.{◌≡◌, ℕ, ◌≤◌, [], Option, Some, None, length, refl, sym, ap, subst, ◌∙◌, arith}
+use Rattle.std.proofs.Common.{◌≡◌, ℕ, ◌≤◌, [], Option, Some, None, true, length, refl, sym, ap, subst, ◌∙◌, arith}
+use Rattle.std.proofs.lemmas.Bool.{eq-eqb}
 use Rattle.quick_cache_model.specs.CacheState.{Item, Place, InHot, InCold, InStill}
 use Rattle.quick_cache_pool.specs.Pool.{Pool, item_at, next_token}
 use Rattle.quick_cache_index.specs.Index.{Index, token_count}
@@ -9,8 +10,8 @@ use Rattle.quick_cache_slots.specs.declared.entry.Slot.{Slot}
 use Rattle.quick_cache_rings.specs.Rings.{Ring, Rings}
 use Rattle.std.specs.Int.NonZero.{non_zero_u32_get}
 use Rattle.std.specs.declared.num.NonZeroU32.{NonZeroU32 as Token}
-use Rattle.quick_cache_lists.specs.Lists.{HeldItem, StandsIn, items_at, HasItem, HasItemToken, IsFirstOf}
-use Rattle.quick_cache_lists.specs.Slots.{Stand, AmongHot, AmongCold, AmongGhosts, stand_of, item_of, still_of, loading_of, ghost_of}
+use Rattle.quick_cache_lists.specs.Lists.{HeldItem, StandsIn, items_at, HasItem, HasItemToken, HasItemUnder, IsFirstOf}
+use Rattle.quick_cache_lists.specs.Slots.{Stand, AmongHot, AmongCold, AmongGhosts, stand_of, has_hash, item_of, still_of, loading_of, ghost_of}
 use Rattle.quick_cache_lists.specs.Sound.{gather, upto, lists_of, room_of, IsKeyed, IsRingOf, IsSound}
 use Rattle.quick_cache_lists.proofs.GatherLemmas.{gather-from}
 use Rattle.quick_cache_lists.proofs.FindLemmas.{held_still}
@@ -32,7 +33,47 @@ module _ {K V P T : Type 0} where
       by_entry hash (loading_variant awaited) e = absurd (cc)
       by_entry hash ghost_variant e = absurd (cc)
 
+  hash_by_held : (u : ℕ) (o : Option (Slot K V P T)) (held : HeldItem K V)
+      → item_of u o ≡ Some held → has_hash held.hash o ≡ true
+  hash_by_held u None held is = absurd (cc)
+  hash_by_held u (Some slot) held is = by_entry slot.hash slot.entry is
+    where
+      by_entry : (hash : ℕ) (entry : Entry K V P T)
+          → item_of u (Some (record { hash = hash; entry = entry })) ≡ Some held
+          → has_hash held.hash (Some (record { hash = hash; entry = entry })) ≡ true
+      by_entry hash (item_variant item) e =
+          let same : record { token = u; hash = hash; item = item } ≡ held = cc in
+          eq-eqb hash held.hash (ap (λ (h : HeldItem K V). h.hash) same)
+      by_entry hash (loading_variant awaited) e = absurd (cc)
+      by_entry hash ghost_variant e = absurd (cc)
+
   module _ (slab : Pool (Slot K V P T)) (index : Index) (rings : Rings) where
+    -- the hash that an item was found under is that of its slot
+    pub hash_by_token : (t hash : ℕ) → HasItemUnder (lists_of slab index rings) t hash
+        → has_hash hash (item_at slab t) ≡ true
+    hash_by_token t hash has = by_place has.1.place has.1.stands
+      where
+        held : HeldItem K V
+        held = record { token = t; hash = hash; item = has.0 }
+
+        found : (u : ℕ) → item_of u (item_at slab u) ≡ Some held
+            → has_hash hash (item_at slab t) ≡ true
+        found u is = rw (sym (named_item u (item_at slab u) held is)) at
+            (hash_by_held u (item_at slab u) held is)
+
+        by_place : (place : Place) → StandsIn (items_at place (lists_of slab index rings)) held
+            → has_hash hash (item_at slab t) ≡ true
+        by_place InHot there =
+            let at = gather-from (λ u. item_of u (item_at slab u)) rings.hot.tokens held there in
+            found at.0 at.2
+        by_place InCold there =
+            let at = gather-from (λ u. item_of u (item_at slab u)) rings.cold.tokens held there in
+            found at.0 at.2
+        by_place InStill there =
+            let at = gather-from (λ u. still_of u (item_at slab u)) (upto (length slab.slots)) held
+            there in
+            found at.0 (held_still (item_of at.0 (item_at slab at.0)) held at.2)
+
     pub item_by_token : (t : ℕ) → HasItemToken (lists_of slab index rings) t → (hash : ℕ)
         × (item : Item K V) × (item_at slab t
         ≡ Some (record { hash = hash; entry = item_variant item }))

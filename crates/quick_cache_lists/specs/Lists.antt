@@ -315,6 +315,11 @@ module _ {K V P : Type 0} where
   abbrev pub HasItemToken : Lists K V P → ℕ → Type 0
   HasItemToken lists token = (held : HeldItem K V) × HasItem lists held × (held.token ≡ token)
 
+  -- an item has the token and the hash
+  abbrev pub HasItemUnder : Lists K V P → (token hash : ℕ) → Type 0
+  HasItemUnder lists token hash =
+      (item : Item K V) × HasItem lists (record { token = token; hash = hash; item = item })
+
   -- the result is the least token of an item above that token, or nothing where there is none
   pub record IsFirstAbove (lists : Lists K V P) (token : ℕ) (result : Option Token) : Type 0 where
     pub none : result ≡ None → (other : ℕ) → token < other → ¬ HasItemToken lists other

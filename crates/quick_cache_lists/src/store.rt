@@ -7,7 +7,7 @@ ghost use Rattle.quick_cache_index.specs.Index.{token_count, wanted_room, HasTok
 ghost use Rattle.quick_cache_lists.specs.Frames.{IsPlaced, IsRemoved};
 ghost use Rattle.quick_cache_lists.specs.Room.{most_room};
 ghost use Rattle.quick_cache_lists.specs.Slots.{weight_in, weight_at};
-ghost use Rattle.quick_cache_lists.specs.Sound.{AddsTokens, IsKeyed, slot_room};
+ghost use Rattle.quick_cache_lists.specs.Sound.{AddsTokens, HasHash, IsKeyed, slot_room};
 
 use quick_cache_index::Index;
 use quick_cache_model::{Refusal, Token};
@@ -54,6 +54,29 @@ pub(crate) fn displace<K, V, P, T, A: Allocator>(
 {
     let slot = slots.remove(token);
     index.remove(slot.hash, token);
+    slot
+}
+
+/// Takes an entry of that hash out of its slot and its token out of the index: `displace` with no
+/// read of the hash.
+#[inline(always)]
+pub(crate) fn displace_known<K, V, P, T, A: Allocator>(
+    slots: &mut Slots<K, V, P, T, A>,
+    index: &mut Index<A>,
+    hash: u64,
+    token: Token,
+) -> Slot<K, V, P, T>
+    requires keyed { IsKeyed slots.old index.old }
+    requires occupied { IsOccupied slots.old (number token) }
+    requires hashed { HasHash slots.old hash (number token) }
+    ensures item { item_at slots.old (number token) ≡ Some result }
+    ensures removed { IsRemoved slots.old slots.new (number token) }
+    ensures keyed { IsKeyed slots.new index.new }
+    ensures count { token_count index.new + 1 ≡ token_count index.old }
+    ensures room { slot_room slots.new index.new ≡ slot_room slots.old index.old + 1 }
+{
+    let slot = slots.remove(token);
+    index.remove(hash, token);
     slot
 }
 

@@ -1,10 +1,10 @@
 //! What changes the lists: an entry comes, goes, moves or is written.
 ghost use Rattle.std.specs.Prelude.{◌≡◌, ◌+◌, ◌<◌, false, Some};
 ghost use Rattle.std.specs.Int.NonZero.{non_zero_u32_get as number};
-ghost use Rattle.quick_cache_lists.specs.Lists.{PutsLast, HasEntry, IsEntry, without_entry, IsFirstOf, HasItemToken, ring_turned, with_change, with_counts, with_mark, read_once, used, HasItemOfQueue, Rewrites, Reweighs};
+ghost use Rattle.quick_cache_lists.specs.Lists.{PutsLast, HasEntry, IsEntry, without_entry, IsFirstOf, HasItemToken, HasItemUnder, ring_turned, with_change, with_counts, with_mark, read_once, used, HasItemOfQueue, Rewrites, Reweighs};
 
 use crate::lists::Lists;
-use crate::store::{displace, place};
+use crate::store::{displace, displace_known, place};
 use quick_cache_model::{Queue, Token, Touches};
 use quick_cache_slots::{Entry, Marked, Slot, Stand};
 use std::alloc::Allocator;
@@ -39,6 +39,22 @@ impl<K, V, P, T, A: Allocator> Lists<K, V, P, T, A> {
         let stand = slot.entry.stand();
         let weight = slot.entry.weight();
         self.rings.leave(token, stand, restarts, weight);
+        self.loading -= stand.loading();
+        slot
+    }
+
+    /// Takes an item out that was found under that hash. Its ring keeps the order of the rest. It is
+    /// `take` with no read of the hash.
+    #[inline(always)]
+    pub fn take_found(&mut self, hash: u64, token: Token) -> Slot<K, V, P, T>
+        requires { HasItemUnder self.old (number token) hash }
+        ensures taken { IsEntry self.old (number token) result.hash result.entry }
+        ensures rest { self.new ≡ without_entry false (number token) self.old }
+    {
+        let slot = displace_known(&mut self.slots, &mut self.index, hash, token);
+        let stand = slot.entry.stand();
+        let weight = slot.entry.weight();
+        self.rings.leave(token, stand, false, weight);
         self.loading -= stand.loading();
         slot
     }
