@@ -116,9 +116,9 @@ impl<K: Eq + Hash, V, P: SharedPlaceholder<K>, A: Allocator> Contents<K, V, P, A
         ensures same { self.new ≡ record self.old { lists = self.new.lists } }
     {
         self.lists.apart();
-        match self.lists.find(hash, query) {
+        match self.find_by_key(hash, query) {
             Found::Item(token) => {
-                let slot = self.lists.take(token, false);
+                let slot = self.lists.take_found(hash, token);
                 match slot.entry {
                     Entry::Item(item) => Some(item.into_pair()),
                     Entry::Loading(_) => unreachable!(),

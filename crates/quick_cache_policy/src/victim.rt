@@ -178,7 +178,7 @@ impl<K: Eq + Hash + Drop, V: Drop, P: SharedPlaceholder<K>, A: Allocator> Conten
             unreachable!();
         };
         self.lists.apart();
-        self.lists.take_ghost(oldest);
+        self.lists.forget_first(oldest);
         self.lists.bring_oldest_ghost_near();
     }
 

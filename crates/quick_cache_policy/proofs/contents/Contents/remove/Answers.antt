@@ -15,20 +15,20 @@ use Rattle.quick_cache_policy.specs.Places.{places_of}
 use Rattle.quick_cache_policy.proofs.WrittenPlaces.{without-places}
 use Rattle.quick_cache_policy.proofs.contents.Contents.remove.Goals as goal
 
-pub take-slot-requires : goal.take-slot-requires
-take-slot-requires g c = inl (_, c.in-Item.ensures.stands, refl)
+pub take_found-slot-requires : goal.take_found-slot-requires
+take_found-slot-requires g c = (_, c.in-Item.ensures.stands)
 
 -- what has the token of an item is an item
 pub unreachable-requires : goal.unreachable-requires
 unreachable-requires g c =
     not-loading c.args.self.now.lists c.apart.ensures.apart (number c.in-Item.token)
-    c.take-slot.result.hash c.take-slot.result.entry c.take-slot.ensures.taken _
+    c.take_found-slot.result.hash c.take_found-slot.result.entry c.take_found-slot.ensures.taken _
     c.in-Item.ensures.stands refl c.in-Loading-entry.field-0 c.in-Loading-entry.is
 
 pub unreachable-requires-in-Ghost-entry : goal.unreachable-requires-in-Ghost-entry
 unreachable-requires-in-Ghost-entry g c =
     not-ghost c.args.self.now.lists c.apart.ensures.apart (number c.in-Item.token)
-    c.take-slot.result.hash c.take-slot.result.entry c.take-slot.ensures.taken _
+    c.take_found-slot.result.hash c.take_found-slot.result.entry c.take_found-slot.ensures.taken _
     c.in-Item.ensures.stands refl c.in-Ghost-entry.is
 
 pub take-requires : goal.take-requires
@@ -46,15 +46,15 @@ returns-in-Item-entry-clause-removes g c =
     let t = number c.in-Item.token in
     let found = c.in-Item.ensures in
     let held : HeldItem _ _ = record { token = t; hash = c.args.hash; item = found.item } in
-    let same = entry-is_item contents.lists c.apart.ensures.apart t c.take-slot.result.hash
-    c.take-slot.result.entry c.take-slot.ensures.taken held found.stands refl
+    let same = entry-is_item contents.lists c.apart.ensures.apart t c.take_found-slot.result.hash
+    c.take_found-slot.result.entry c.take_found-slot.ensures.taken held found.stands refl
     c.in-Item-entry.item c.in-Item-entry.is in
     let answer = c.into_pair.ensures
     ∙ ap (λ (i : Item _ _). (i.key, i.value)) c.in-Item-entry.item-is
     ∙ ap (λ (h : HeldItem _ _). (h.item.key, h.item.value)) same in
     UpToOrder-exact _ _
     (subst (λ (l : Lists _ _ _). Removes stands_for (state_of ticket_of contents) c.args.hash
-    (Some c.into_pair.result) (state_with ticket_of contents l)) (sym c.take-slot.ensures.rest)
+    (Some c.into_pair.result) (state_with ticket_of contents l)) (sym c.take_found-slot.ensures.rest)
     (subst (λ pair. Removes stands_for (state_of ticket_of contents) c.args.hash (Some pair)
     (state_with ticket_of contents (without_entry false t contents.lists))) (sym answer)
     (removes-item ticket_of contents c.apart.ensures.apart stands_for c.args.hash t held
@@ -68,7 +68,7 @@ returns-in-Item-entry-clause-sound g c = λ hashed sound.
     let t = number c.in-Item.token in
     let found = c.in-Item.ensures in
     subst (λ (l : Lists _ _ _). IsSound ticket_of g.K.PartialEq.eq hashed
-    (record contents { lists = l })) (sym c.take-slot.ensures.rest)
+    (record contents { lists = l })) (sym c.take_found-slot.ensures.rest)
     (item-sound ticket_of contents c.apart.ensures.apart stands_for c.args.hash t _ found.stands
     refl g.K.PartialEq.eq found.passes hashed sound)
 
@@ -128,7 +128,7 @@ returns-in-Nothing-clause-removes g c =
 pub returns-in-Item-entry-clause-places : goal.returns-in-Item-entry-clause-places
 returns-in-Item-entry-clause-places g c = λ place there.
     without-places (number c.in-Item.token) c.args.self.now.lists place
-    (subst (λ l. Contains (places_of l) place) c.take-slot.ensures.rest there)
+    (subst (λ l. Contains (places_of l) place) c.take_found-slot.ensures.rest there)
 
 pub returns-in-Loading-clause-places : goal.returns-in-Loading-clause-places
 returns-in-Loading-clause-places g c = λ place there.
