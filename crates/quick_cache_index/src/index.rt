@@ -117,6 +117,14 @@ impl<A: Allocator> Index<A> {
         self.room > 0
     }
 
+    /// How many more tokens it takes as it is.
+    #[inline(always)]
+    pub fn room(&self) -> usize
+        ensures { result ≡ self.now.room }
+    {
+        self.room
+    }
+
     /// How many bytes the index holds, apart from its own.
     pub fn allocation_size(&self) -> usize
         ensures { result ≡ min self.now.allocated (2 ^ 64 - 1) }

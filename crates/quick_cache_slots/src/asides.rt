@@ -74,6 +74,15 @@ impl<A: Allocator> Asides<A> {
         self.asides.len()
     }
 
+    /// For how many more there is room.
+    pub(crate) fn room(&self) -> usize
+        ensures { result ≡ room_of self.now }
+    {
+        let asides = self.asides.capacity() - self.asides.len();
+        let marks = self.marks.capacity() - self.marks.len();
+        asides.min(marks)
+    }
+
     /// Whether there is room for one more.
     #[inline(always)]
     pub(crate) fn has_room(&self) -> bool

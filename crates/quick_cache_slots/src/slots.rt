@@ -147,6 +147,16 @@ impl<K, V, P, T, A: Allocator> Slots<K, V, P, T, A> {
         self.pool.has_room() && len < MAX_SLOTS
     }
 
+    /// How many more entries need no memory: those for which a token is free, or there is room for
+    /// a new one.
+    pub fn spare(&self) -> usize
+        ensures { result ≡ spare self.now }
+    {
+        self.pool.validate();
+        let free = self.asides.len() - self.pool.len();
+        free + self.pool.room().min(self.asides.room())
+    }
+
     /// The token that the next entry gets: 4294967295 where all slots are taken.
     pub fn next_free(&self) -> Token
         ensures token { number result ≡ next_token self.now }

@@ -33,6 +33,14 @@ impl<T: Blank, A: Allocator> Pool<T, A> {
         !self.free.is_empty() || self.items.len() < room.min(MAX_SLOTS)
     }
 
+    /// How many slots more there can be with no allocation, apart from free ones.
+    pub fn room(&self) -> usize
+        ensures { result ≡ self.now.room }
+    {
+        let room = self.items.capacity().min(self.free.capacity());
+        room.min(MAX_SLOTS) - self.items.len()
+    }
+
     /// How many items there are.
     pub fn len(&self) -> usize
         ensures items { result ≡ count_by is_some self.now.slots }
