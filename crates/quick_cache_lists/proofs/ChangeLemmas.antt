@@ -224,6 +224,7 @@ module _ {K V P T : Type 0} where
           loading_counted = sound.loading_counted ∙ sym waiting;
           all_counted = all ∙ entry_count-change t change before ∙ sound.all_counted;
           within = sound.within;
+          bounded = sound.bounded;
         }
 
     -- ---- another weight, in the same list
@@ -338,13 +339,13 @@ module _ {K V P T : Type 0} where
     lists-reweighed index rings AmongStill = lists-changed index rings
     lists-reweighed index rings AmongLoading = lists-changed index rings
 
-    within-reweighed : (count : ℕ) (rings : Rings) (s : Stand) → count ≤ rings.capacity
-        → count ≤ (reweighed item.weight (change item).weight s rings).capacity
-    within-reweighed count rings AmongHot within = within
-    within-reweighed count rings AmongCold within = within
-    within-reweighed count rings AmongGhosts within = within
-    within-reweighed count rings AmongStill within = within
-    within-reweighed count rings AmongLoading within = within
+    capacity-reweighed : (rings : Rings) (s : Stand)
+        → (reweighed item.weight (change item).weight s rings).capacity ≡ rings.capacity
+    capacity-reweighed rings AmongHot = refl
+    capacity-reweighed rings AmongCold = refl
+    capacity-reweighed rings AmongGhosts = refl
+    capacity-reweighed rings AmongStill = refl
+    capacity-reweighed rings AmongLoading = refl
 
     pub IsSound-reweighed : (change item).weight < 18446744073709551616
         → (index : Index) (rings : Rings) (loading : ℕ) (s : Stand)
@@ -361,7 +362,8 @@ module _ {K V P T : Type 0} where
               ∙ sym (ap (λ (l : Lists K V P). length l.loading) same);
           all_counted = ap entry_count same ∙ entry_count-change t change before
               ∙ sound.all_counted;
-          within = within-reweighed (token_count index) rings s sound.within;
+          within = omega (arith, sound.within, capacity-reweighed rings s);
+          bounded = omega (arith, sound.bounded, capacity-reweighed rings s);
         }
 
 module _ {S : Type 0} where

@@ -314,6 +314,13 @@ module _ {K V P : Type 0} (clones_key : K → K → Type 0) (clones_value : V �
                 slots-copied,
                 free,
               );
+              bounded = omega (
+                arith,
+                sound.keyed.counted,
+                are_keyed.counted,
+                slots-copied,
+                free,
+              );
             }
           where
             IsStanding-room : (rings : Rings) (room : ℕ) → IsStanding slab rings

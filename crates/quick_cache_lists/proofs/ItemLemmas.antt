@@ -1,5 +1,5 @@
 -- The item of a token, and room that grew.
-use Rattle.std.proofs.Common.{◌≡◌, ℕ, ◌≤◌, [], Option, Some, None, true, length, refl, sym, ap, subst, ◌∙◌, arith}
+use Rattle.std.proofs.Common.{◌≡◌, ℕ, ◌+◌, ◌≤◌, [], Option, Some, None, true, length, refl, sym, ap, subst, ◌∙◌, arith}
 use Rattle.std.proofs.lemmas.Bool.{eq-eqb}
 use Rattle.quick_cache_model.specs.CacheState.{Item, Place, InHot, InCold, InStill}
 use Rattle.quick_cache_pool.specs.Pool.{Pool, item_at, next_token}
@@ -12,7 +12,7 @@ use Rattle.std.specs.Int.NonZero.{non_zero_u32_get}
 use Rattle.std.specs.declared.num.NonZeroU32.{NonZeroU32 as Token}
 use Rattle.quick_cache_lists.specs.Lists.{HeldItem, StandsIn, items_at, HasItem, HasItemToken, HasItemUnder, IsFirstOf}
 use Rattle.quick_cache_lists.specs.Slots.{Stand, AmongHot, AmongCold, AmongGhosts, stand_of, has_hash, item_of, still_of, loading_of, ghost_of}
-use Rattle.quick_cache_lists.specs.Sound.{gather, upto, lists_of, room_of, IsKeyed, IsRingOf, IsSound}
+use Rattle.quick_cache_lists.specs.Sound.{gather, upto, lists_of, room_of, slot_room, IsKeyed, IsRingOf, IsSound}
 use Rattle.quick_cache_lists.proofs.GatherLemmas.{gather-from}
 use Rattle.quick_cache_lists.proofs.FindLemmas.{held_still}
 use Rattle.quick_cache_lists.proofs.TakeLemmas.{named_item}
@@ -188,9 +188,10 @@ module _ {K V P T : Type 0} where
   IsSound-room : (slab : Pool (Slot K V P T)) (room : ℕ) (told tnew : Index)
       (rings : Rings) (capacity loading : ℕ) → IsKeyed (record slab { room = room }) tnew
       → token_count tnew ≡ token_count told → rings.capacity ≤ capacity
+      → capacity ≤ token_count tnew + slot_room (record slab { room = room }) tnew
       → IsSound slab told rings loading
       → IsSound (record slab { room = room }) tnew (record rings { capacity = capacity }) loading
-  IsSound-room slab room told tnew rings capacity loading keyed count grows sound = record {
+  IsSound-room slab room told tnew rings capacity loading keyed count grows bounded sound = record {
     standing = record {
       hot_ring = kept rings.hot AmongHot sound.standing.hot_ring;
       cold_ring = kept rings.cold AmongCold sound.standing.cold_ring;
@@ -200,6 +201,7 @@ module _ {K V P T : Type 0} where
     loading_counted = sound.loading_counted;
     all_counted = sound.all_counted ∙ sym count;
     within = omega (arith, sound.within, count, grows);
+    bounded = bounded;
   }
     where
       kept : (ring : Ring) (s : Stand) → IsRingOf slab ring s
@@ -211,18 +213,35 @@ module _ {K V P T : Type 0} where
         weighed = is.weighed;
       }
 
+  -- slots and index with more room have it for all that the rings can have
+  pub bounded-grown : (old new : Pool (Slot K V P T)) (told tnew : Index) (capacity : ℕ)
+      → new ≡ record old { room = new.room } → old.room ≤ new.room → told.room ≤ tnew.room
+      → capacity ≤ token_count told + slot_room old told
+      → capacity ≤ token_count told + slot_room new tnew
+  bounded-grown old new told tnew capacity kept grows more bounded =
+      omega (
+        arith,
+        ap (λ (s : Pool (Slot K V P T)). length s.free) kept,
+        grows,
+        more,
+        bounded,
+      )
+
   -- what holds of the slots holds with more room, and with another index that has their tokens
   pub IsSound-grown : (old new : Pool (Slot K V P T)) (told tnew : Index)
       (rings grown : Rings) (loading : ℕ) → new ≡ record old { room = new.room }
       → grown ≡ record rings { capacity = grown.capacity } → rings.capacity ≤ grown.capacity
+      → grown.capacity ≤ token_count told + slot_room new tnew
       → IsKeyed new tnew → IsSound old told rings loading → IsSound new tnew grown loading
-  IsSound-grown old new told tnew rings grown loading kept same grows keyed sound =
+  IsSound-grown old new told tnew rings grown loading kept same grows bounded keyed sound =
       let count = token_count-keyed old new told tnew kept sound.keyed keyed in
       subst (λ (r : Rings). IsSound new tnew r loading) (sym same)
       (subst (λ (s : Pool (Slot K V P T)). IsSound s tnew
       (record rings { capacity = grown.capacity }) loading) (sym kept)
       (IsSound-room old new.room told tnew rings grown.capacity loading
-      (subst (λ (s : Pool (Slot K V P T)). IsKeyed s tnew) kept keyed) count grows sound))
+      (subst (λ (s : Pool (Slot K V P T)). IsKeyed s tnew) kept keyed) count grows
+      (subst (λ (s : Pool (Slot K V P T)). grown.capacity ≤ token_count tnew + slot_room s tnew)
+      kept (omega (arith, bounded, count))) sound))
 
   slot_of_held : (u : ℕ) (o : Option (Slot K V P T)) (held : HeldItem K V) → item_of u o ≡ Some held
       → o ≡ Some (record { hash = held.hash; entry = item_variant held.item })

@@ -94,4 +94,5 @@ module _ {K V P T : Type 0} where
           let now = ap entry_count lists-left in
           omega (arith, less.all, sound.all_counted, count, now);
       within = omega (arith, sound.within, count, capacity);
+      bounded = omega (arith, sound.bounded, room, count, capacity);
     }

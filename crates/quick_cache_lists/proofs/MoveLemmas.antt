@@ -167,6 +167,7 @@ module _ {K V P T : Type 0} (old : Pool (Slot K V P T)) (told : Index) (t : ℕ)
           );
           all_counted = omega (arith, sound.all_counted, less.all, counted.all);
           within = omega (arith, sound.within, capacity_grown);
+          bounded = omega (arith, sound.bounded, capacity_grown);
         }
 
     -- the lists say that the other took its place
@@ -192,6 +193,7 @@ module _ {K V P T : Type 0} (old : Pool (Slot K V P T)) (told : Index) (t : ℕ)
           loading_counted = omega (arith, sound'.loading_counted);
           all_counted = sound'.all_counted;
           within = sound'.within;
+          bounded = sound'.bounded;
         }
 
   pub loading-kept : loading_in s ≤ loading

@@ -212,8 +212,9 @@ module _ {K V P T : Type 0} where
         → room_of new tnew grown + 1 ≡ room_of old told rings
     room-put room = omega (arith, room, some, capacity, count)
 
-    pub IsSound-put : (more : ℕ) → more ≡ loading_in s → IsSound new tnew grown (loading + more)
-    IsSound-put more is =
+    pub IsSound-put : slot_room new tnew + 1 ≡ slot_room old told → (more : ℕ)
+        → more ≡ loading_in s → IsSound new tnew grown (loading + more)
+    IsSound-put room more is =
         let put = IsPut-entered in
         let counted = IsMore-put _ _ t hash entry put.1 in
         record {
@@ -228,4 +229,5 @@ module _ {K V P T : Type 0} where
           );
           all_counted = omega (arith, sound.all_counted, counted.all, count);
           within = omega (arith, some, capacity, count);
+          bounded = omega (arith, sound.bounded, room, capacity, count);
         }

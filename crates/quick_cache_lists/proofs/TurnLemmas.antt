@@ -251,6 +251,7 @@ module _ {K V P T : Type 0} (slab : Pool (Slot K V P T)) (index : Index) (rings 
       length-turned (lists_of slab index rings).hot,
     );
     within = sound.within;
+    bounded = sound.bounded;
   }
   IsSound-turned Cold = record {
     standing = record {
@@ -267,4 +268,5 @@ module _ {K V P T : Type 0} (slab : Pool (Slot K V P T)) (index : Index) (rings 
       length-turned (lists_of slab index rings).cold,
     );
     within = sound.within;
+    bounded = sound.bounded;
   }

@@ -93,7 +93,7 @@ module _ {K V P T : Type 0} where
     pub ghost_ring : IsRingOf slab rings.ghosts AmongGhosts
 
   -- What always holds of the slots: each entry stands in its list, is found by its hash, and is
-  -- counted; and each ring has room for all of them.
+  -- counted; each ring has room for all of them, and slots and index for all that the rings can have.
   pub record IsSound (slab : Pool (Slot K V P T)) (index : Index) (rings : Rings)
       (loading : ℕ) : Type 0 where
     pub standing : IsStanding slab rings
@@ -101,6 +101,7 @@ module _ {K V P T : Type 0} where
     pub loading_counted : loading ≡ length (lists_of slab index rings).loading
     pub all_counted : entry_count (lists_of slab index rings) ≡ token_count index
     pub within : token_count index ≤ rings.capacity
+    pub bounded : rings.capacity ≤ token_count index + slot_room slab index
 
   -- a walk along candidates for a hash, with these left: it passed no key of that hash, and noted a
   -- ghost if it passed one

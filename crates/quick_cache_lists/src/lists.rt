@@ -83,9 +83,9 @@ impl<K, V, P, T, A: Allocator> Lists<K, V, P, T, A> {
 
     /// Makes room for so many more entries, or for all that can still come.
     ///
-    /// The slots grow first, then the rings, then the index, which takes the token of each slot
-    /// anew. A refusal is for want of memory: it may keep room that it got, and changes nothing
-    /// else.
+    /// The slots grow first, then the index, which takes the token of each slot anew, then the
+    /// rings: so these have room for no more entries than slots and index. A refusal is for want of
+    /// memory: it may keep room that it got, and changes nothing else.
     pub fn reserve(&mut self, additional: usize) -> Result<(), Refusal>
         ensures lists { self.new ≡ record self.old { room = self.new.room } }
         ensures room { OnOk result (min additional (slots_left self.old) ≤ self.new.room) }
@@ -98,11 +98,18 @@ impl<K, V, P, T, A: Allocator> Lists<K, V, P, T, A> {
             → IsOk result × (self.new ≡ self.old) }
         ensures memory { IfErr result (λ refused. refused ≡ Refusal.Memory) }
     {
+        let entries = self.index.len();
+        if additional.min(MOST_ENTRIES - entries) <= self.rings.capacity() - entries {
+            return Ok(());
+        }
         self.slots.validate();
         self.slots.reserve(additional)?;
-        let entries = self.index.len().saturating_add(additional);
-        self.rings.grow(entries.min(MOST_ENTRIES))?;
-        grow_index(&self.slots, &mut self.index, additional)
+        grow_index(&self.slots, &mut self.index, additional)?;
+        // For up to twice as many entries, so that rings are moved seldom.
+        let room = self.slots.spare().min(self.index.room());
+        self.rings
+            .reserve(entries + room.min(additional.max(entries)))?;
+        Ok(())
     }
 
     /// Makes room for one more entry where there is none.
@@ -119,8 +126,8 @@ impl<K, V, P, T, A: Allocator> Lists<K, V, P, T, A> {
         ensures refusals { IfErr result
             (λ refused. (refused ≡ Refusal.SlotsFull) ⊎ (refused ≡ Refusal.Memory)) }
     {
-        let rings_have_room = self.index.len() < self.rings.capacity();
-        if rings_have_room && self.slots.has_room() && self.index.has_room() {
+        // Slots and index have room where the rings do.
+        if self.index.len() < self.rings.capacity() {
             return Ok(());
         }
         self.grow()

@@ -20,4 +20,12 @@ invariant_of-self g c =
       loading_counted = rw slots refl;
       all_counted = rw (slots, count, rings) refl;
       within = omega (arith, count);
+      bounded = omega (
+        arith,
+        c.self.invariant.bounded,
+        c.self.invariant.keyed.counted,
+        ap (λ (r : Rings). r.capacity) rings,
+        ap (λ (s : Pool _). s.room) c.clear.ensures,
+        c.clear-2.ensures.room,
+      );
     }

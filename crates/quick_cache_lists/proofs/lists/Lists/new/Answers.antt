@@ -19,4 +19,5 @@ invariant_of-result g c =
       loading_counted = rw slots refl;
       all_counted = rw (slots, count, rings) refl;
       within = omega (arith, count);
+      bounded = omega (arith, ap (λ (r : Rings). r.capacity) rings);
     }

@@ -20,7 +20,7 @@ invariant_of-self g c =
     (number c.place-token.result) c.args.hash i.rings c.enter.new.self i.loading c.self.invariant
     c.args.entry p.placed p.keyed p.count (rw (← c.self.view_is) at c.requires)
     c.stand-stand.result c.weight-weight.result c.stand-stand.ensures c.weight-weight.ensures
-    c.enter.ensures c.loading.result c.loading.ensures
+    c.enter.ensures p.room c.loading.result c.loading.ensures
 
 pub returns-clause-token : goal.returns-clause-token
 returns-clause-token g c = rw (← c.self.view_is) c.place-token.ensures.token
