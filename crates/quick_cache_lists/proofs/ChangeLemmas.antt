@@ -1,11 +1,11 @@
 -- An item that is written in its place.
-use Rattle.std.proofs.Common.{◌≡◌, ◌≢◌, ◌<◌, ◌≤◌, ◌+◌, [], ◌∷◌, arith, ℕ, zero, suc, subst, ◌==◌, if◌then◌else◌, Bool, true, false, cond, eqb, List, map, length, Option, Some, None, is_some, refl, sym, ap, ◌∙◌, inl, inr}
+use Rattle.std.proofs.Common.{◌≡◌, ◌≢◌, ◌<◌, ◌+◌, [], ◌∷◌, arith, ℕ, zero, suc, subst, ◌==◌, if◌then◌else◌, Bool, true, false, cond, eqb, List, map, length, Option, Some, None, is_some, refl, sym, ap, ◌∙◌, inl, inr}
 use Rattle.std.proofs.lemmas.Bool.{cases_eq}
 use Rattle.std.proofs.lemmas.List.{set-get_or}
 use Rattle.quick_cache_model.specs.CacheState.{Item}
 use Rattle.quick_cache_model.specs.Sequences.{times}
 use Rattle.quick_cache_pool.specs.Pool.{Pool, at_token, with_token, item_at, next_token, with_item}
-use Rattle.quick_cache_index.specs.Index.{Index, token_count}
+use Rattle.quick_cache_index.specs.Index.{Index}
 use Rattle.quick_cache_pool.proofs.AtTokens.{at_token-with_same, at_token-with_other, length-with_token}
 use Rattle.quick_cache_slots.specs.declared.entry.Entry.TheVariants.{Item as item_variant}
 use Rattle.quick_cache_slots.specs.declared.entry.Slot.{Slot}

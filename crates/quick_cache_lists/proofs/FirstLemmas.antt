@@ -9,7 +9,7 @@ use Rattle.quick_cache_index.specs.Index.{Index}
 use Rattle.quick_cache_rings.specs.Rings.{Ring, Rings, IsLeft, LeavesRingOf, without_first, first_forgotten}
 use Rattle.quick_cache_slots.specs.declared.entry.Slot.{Slot}
 use Rattle.quick_cache_lists.specs.Lists.{HeldItem, HeldGhost, HasGhostToken, IsFirstOf}
-use Rattle.quick_cache_lists.specs.Slots.{AmongCold, AmongGhosts, stand_of, weight_at, item_of, ghost_of}
+use Rattle.quick_cache_lists.specs.Slots.{AmongCold, AmongGhosts, weight_at, item_of, ghost_of}
 use Rattle.quick_cache_lists.specs.Sound.{put, gather, lists_of, IsStanding}
 use Rattle.quick_cache_lists.proofs.ItemLemmas.{stand_of-first_cold}
 use Rattle.quick_cache_lists.proofs.SoundLemmas.{ring_weighs}

@@ -7,7 +7,7 @@ use Rattle.quick_cache_slots.specs.declared.entry.Slot.{Slot}
 use Rattle.quick_cache_lists.specs.Frames.{IsRemoved}
 use Rattle.quick_cache_lists.specs.Lists.{Lists, without_entry, entry_count}
 use Rattle.quick_cache_lists.specs.Slots.{Stand, AmongHot, AmongCold, AmongStill, AmongLoading, AmongGhosts, stand_of, stand_in, weight_at, weight_in, loading_in}
-use Rattle.quick_cache_lists.specs.Sound.{lists_of, room_of, slot_room, IsRingOf, IsKeyed, IsStanding, IsSound}
+use Rattle.quick_cache_lists.specs.Sound.{lists_of, slot_room, IsRingOf, IsKeyed, IsStanding, IsSound}
 use Rattle.quick_cache_lists.proofs.ApartLemmas.{apart_by}
 use Rattle.quick_cache_lists.proofs.CountLemmas.{IsLess, IsLess-without}
 use Rattle.quick_cache_lists.proofs.SoundLemmas.{ring_light, ring_weighs}

@@ -1,4 +1,4 @@
-use Rattle.std.proofs.Common.{◌≡◌, ◌∙◌, refl, sym, ap, subst, false, Some, ℕ, arith}
+use Rattle.std.proofs.Common.{◌≡◌, ◌∙◌, refl, sym, ap, false, Some, arith}
 use Rattle.std.specs.Int.NonZero.{non_zero_u32_get as number}
 use Rattle.quick_cache_pool.specs.Pool.{item_at}
 use Rattle.quick_cache_rings.specs.Rings.{Rings, LeavesRingOf, without_first}

@@ -1,8 +1,7 @@
-use Rattle.std.proofs.Common.{arith, ◌≡◌, ◌-◌, ◌∙◌, refl, sym, ap, inr, subst, false, Some, ℕ}
+use Rattle.std.proofs.Common.{arith, ◌≡◌, ◌-◌, refl, sym, ap, inr, subst, false}
 use Rattle.std.specs.Int.NonZero.{non_zero_u32_get as number}
-use Rattle.quick_cache_lists.specs.Slots.{AmongGhosts, stand_in, weight_in, stand_of, weight_at}
+use Rattle.quick_cache_lists.specs.Slots.{AmongGhosts, stand_in, weight_in}
 use Rattle.quick_cache_lists.specs.Sound.{IsSound}
-use Rattle.quick_cache_pool.specs.Pool.{item_at}
 use Rattle.quick_cache_lists.proofs.AwaitedLemmas.{ghost_by_token}
 use Rattle.quick_cache_lists.proofs.FirstLemmas.{first_ghost, first_ghost-left}
 use Rattle.quick_cache_lists.proofs.LeaveLemmas.{lists-left, IsSound-left}

@@ -1,6 +1,5 @@
 use Rattle.std.proofs.Common.{arith}
 use Rattle.std.specs.Int.NonZero.{non_zero_u32_get as number}
-use Rattle.quick_cache_lists.specs.Sound.{room_of}
 use Rattle.quick_cache_lists.proofs.PutLemmas.{can_enter, IsPut-entered, IsSound-put, room-put}
 use Rattle.quick_cache_lists.proofs.lists.Lists.put.Goals as goal
 
