@@ -2,8 +2,7 @@
 ghost use Rattle.std.specs.Prelude.{◌≡◌, ◌<◌, IfOk, IfSome, None, Some};
 
 use quick_cache_guard::{EntryResult, GuardResult};
-use quick_cache_model::{DefaultHashBuilder, Lifecycle, Refusal, UnitWeighter};
-use quick_cache_policy::EntryAction;
+use quick_cache_model::{DefaultHashBuilder, EntryAction, Lifecycle, Refusal, UnitWeighter};
 use quick_cache_sync::{Cache, LockContention, TryError};
 use std::convert::Infallible;
 use std::sync::Wait;

@@ -4,8 +4,7 @@ ghost use Rattle.quick_cache_waiting.specs.Fitting.{ClonesFit};
 
 use quick_cache_entries::{EntryShard, entry};
 use quick_cache_guard::{EntryResult, FillError, LoadingShard, PlaceholderGuard};
-use quick_cache_model::{Lifecycle, ToKey};
-use quick_cache_policy::EntryAction;
+use quick_cache_model::{EntryAction, Lifecycle, ToKey};
 use std::alloc::Global;
 use std::hash::Hash;
 use std::sync::{RwLock, Wait};

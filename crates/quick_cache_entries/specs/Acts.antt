@@ -3,11 +3,11 @@ use Rattle.std.specs.Prelude.{◌≡◌, ◌⊎◌, ⊤, Bool, true, Result, Ok,
 use denote.Ref.{Bor, MutBor}
 use denote.Param.Members.{Mut}
 use Rattle.quick_cache_model.specs.declared.refusal.Refusal.{Refusal}
-use Rattle.quick_cache_policy.specs.declared.entry.EntryAction.{EntryAction}
-use Rattle.quick_cache_policy.specs.declared.entry.EntryAction.TheVariants.{Retain as retain, Remove as remove, ReplaceWithGuard as replace}
-use Rattle.quick_cache_policy.specs.declared.entry.EntryOrPlaceholder.{EntryOrPlaceholder}
-use Rattle.quick_cache_policy.specs.declared.entry.EntryOrPlaceholder.TheVariants.{Kept as kept, Removed as removed, Replaced as replaced, ExistingPlaceholder as existing, NewPlaceholder as new_one}
-use Rattle.quick_cache_policy.specs.Entering.{Leaves}
+use Rattle.quick_cache_model.specs.declared.entry.EntryAction.{EntryAction}
+use Rattle.quick_cache_model.specs.declared.entry.EntryAction.TheVariants.{Retain as retain, Remove as remove, ReplaceWithGuard as replace}
+use Rattle.quick_cache_model.specs.declared.entry.EntryOrPlaceholder.{EntryOrPlaceholder}
+use Rattle.quick_cache_model.specs.declared.entry.EntryOrPlaceholder.TheVariants.{Kept as kept, Removed as removed, Replaced as replaced, ExistingPlaceholder as existing, NewPlaceholder as new_one}
+use Rattle.quick_cache_model.specs.Callbacks.{Leaves}
 
 module _ {F K V T : Type 0}
     (calls : Mut F (Bor K × (MutBor V × Unit {0})) (EntryAction T × (MutBor V × Unit {0}))) where

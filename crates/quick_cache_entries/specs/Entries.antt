@@ -4,8 +4,8 @@ use denote.Ref.{Bor, MutBor}
 use denote.Param.Members.{Mut}
 use Rattle.quick_cache_guard.specs.declared.results.EntryResult.{EntryResult}
 use Rattle.quick_cache_guard.specs.declared.results.EntryResult.TheVariants as entry_result
-use Rattle.quick_cache_policy.specs.declared.entry.EntryAction.{EntryAction}
-use Rattle.quick_cache_policy.specs.declared.entry.EntryAction.TheVariants.{Retain as retain, Remove as remove, ReplaceWithGuard as replace}
+use Rattle.quick_cache_model.specs.declared.entry.EntryAction.{EntryAction}
+use Rattle.quick_cache_model.specs.declared.entry.EntryAction.TheVariants.{Retain as retain, Remove as remove, ReplaceWithGuard as replace}
 use Rattle.quick_cache_entries.specs.Acts.{Chooses, KeepsReplaced}
 
 module _ {T K V G : Type 0} where

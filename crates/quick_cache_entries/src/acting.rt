@@ -7,8 +7,7 @@ ghost use Rattle.quick_cache_entries.specs.Entries.{AnswersAsChosen, IfAnswered,
 use crate::entering::{answer, join_there, share_of_new};
 use crate::shard::EntryShard;
 use quick_cache_guard::{EntryResult, PlaceholderGuard, Waiting};
-use quick_cache_model::{Lifecycle, ToKey};
-use quick_cache_policy::{EntryAction, EntryOrPlaceholder};
+use quick_cache_model::{EntryAction, EntryOrPlaceholder, Lifecycle, ToKey};
 use quick_cache_sharing::Turns;
 use std::alloc::Allocator;
 use std::hash::Hash;

@@ -4,8 +4,7 @@ ghost use Rattle.quick_cache_waiting.specs.Fitting.{FitsQuery};
 ghost use Rattle.quick_cache_entries.specs.Acts.{DoesAsChosen, IfAbsent, IfGone, IfKept, LeavesFit, MayTell};
 
 use quick_cache_guard::LoadingShard;
-use quick_cache_model::{Lifecycle, Refusal, ToKey};
-use quick_cache_policy::{EntryAction, EntryOrPlaceholder};
+use quick_cache_model::{EntryAction, EntryOrPlaceholder, Lifecycle, Refusal, ToKey};
 use quick_cache_sharing::SharedPlaceholder;
 use std::alloc::Allocator;
 use std::hash::Hash;

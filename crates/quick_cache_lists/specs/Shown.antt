@@ -3,7 +3,7 @@ use Rattle.std.specs.Prelude.{◌≡◌, ℕ}
 use denote.Ref.{Bor, MutBor}
 use denote.Param.Members.{Mut}
 use Rattle.quick_cache_model.specs.CacheState.{Item}
-pub use Rattle.quick_cache_slots.specs.Shown.{Leaves}
+use Rattle.quick_cache_model.specs.Callbacks.{Leaves}
 use Rattle.quick_cache_lists.specs.Lists.{Lists, IsItemOf, with_change, with_value}
 
 module _ {F K V R : Type 0}

@@ -11,6 +11,7 @@ pub mod Placeholders
 pub mod Lookups
 pub mod Removal
 pub mod Entries
+pub mod Callbacks
 pub mod Sizes
 pub mod Capacity
 pub mod Refusals

@@ -2,6 +2,7 @@
 //! and what it is, in definitions over three plain lists.
 #![tactic(auto)]
 
+pub mod entry;
 pub mod equivalent;
 pub mod hash_builder;
 pub mod lifecycle;
@@ -12,6 +13,7 @@ pub mod token;
 pub mod touches;
 pub mod weighter;
 
+pub use entry::{EntryAction, EntryOrPlaceholder};
 pub use equivalent::{Equivalent, ToKey};
 pub use hash_builder::{DefaultHashBuilder, hash_of};
 pub use lifecycle::Lifecycle;

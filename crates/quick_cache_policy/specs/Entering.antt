@@ -4,6 +4,7 @@ use denote.Ref.{Bor, MutBor}
 use denote.Param.Members.{Mut}
 use Rattle.quick_cache_model.specs.declared.queue.Queue.{Queue}
 use Rattle.quick_cache_model.specs.declared.refusal.Refusal.{Refusal}
+pub use Rattle.quick_cache_model.specs.Callbacks.{Leaves, choice_of, ActsAsChosen}
 use Rattle.quick_cache_model.specs.CacheState.{CacheState, Item, Place, UpToOrder, with_items}
 use Rattle.quick_cache_model.specs.Entries.{EntryChoice, Retain, Remove, ReplaceWithGuard, EntryOutcome, Kept, Removed, Replaced, Refused, ActsOnEntry}
 use Rattle.quick_cache_model.specs.Finding.{IsItemAt}
@@ -12,12 +13,11 @@ use Rattle.quick_cache_model.specs.Lookups.{looked_up, after_hit}
 use Rattle.quick_cache_model.specs.Placeholders.{MeetsPlaceholder}
 use Rattle.quick_cache_model.specs.Removal.{pair_of}
 use Rattle.quick_cache_lists.specs.Lists.{IsItemOf, with_value, without_entry}
-pub use Rattle.quick_cache_lists.specs.Shown.{Leaves}
 use Rattle.quick_cache_policy.specs.declared.contents.Contents.{Contents}
-use Rattle.quick_cache_policy.specs.declared.entry.EntryAction.{EntryAction}
-use Rattle.quick_cache_policy.specs.declared.entry.EntryAction.TheVariants.{Retain as retain, Remove as remove, ReplaceWithGuard as replace}
-use Rattle.quick_cache_policy.specs.declared.entry.EntryOrPlaceholder.{EntryOrPlaceholder}
-use Rattle.quick_cache_policy.specs.declared.entry.EntryOrPlaceholder.TheVariants.{Kept as kept, Removed as removed, Replaced as replaced, ExistingPlaceholder as existing, NewPlaceholder as new_one}
+use Rattle.quick_cache_model.specs.declared.entry.EntryAction.{EntryAction}
+use Rattle.quick_cache_model.specs.declared.entry.EntryAction.TheVariants.{Retain as retain, Remove as remove, ReplaceWithGuard as replace}
+use Rattle.quick_cache_model.specs.declared.entry.EntryOrPlaceholder.{EntryOrPlaceholder}
+use Rattle.quick_cache_model.specs.declared.entry.EntryOrPlaceholder.TheVariants.{Kept as kept, Removed as removed, Replaced as replaced, ExistingPlaceholder as existing, NewPlaceholder as new_one}
 use Rattle.quick_cache_policy.specs.Contents.{state_of}
 use Rattle.quick_cache_policy.specs.Loading.{IsMade, MakesNone}
 
@@ -85,40 +85,24 @@ IsNewUnder hash_of hash (Ok (existing placeholder)) = Unit {0}
 IsNewUnder hash_of hash (Ok (new_one placeholder)) = hash_of placeholder ≡ hash
 IsNewUnder hash_of hash (Err refusal) = Unit {0}
 
--- what the callback chose, without what it told
-abbrev pub choice_of : {T : Type 0} → EntryAction T → EntryChoice
-choice_of (retain told) = Retain
-choice_of remove = Remove
-choice_of replace = ReplaceWithGuard
-
 module _ {F K V T : Type 0}
     (calls : Mut F (Bor K × (MutBor V × Unit {0})) (EntryAction T × (MutBor V × Unit {0})))
     (rules : Rules K V) (stands_for : K → Bool) (callback : F) (old : CacheState K V) where
-  -- The item under the query was shown, what the callback chose was done, and that came of it.
-  pub record ActsAsChosen (action : EntryAction T) (outcome : EntryOutcome)
-      (gives : Item K V → V → Type 0) (next : F) (new : CacheState K V) : Type 0 where
-    pub item : Item K V
-    pub left : V
-    pub called : Leaves calls callback item.key item.value action next left
-    pub step : UpToOrder
-        (ActsOnEntry rules stands_for old item left (choice_of action) outcome) new
-    pub given : gives item left
-
   module _ {W : Type 0} (own_ticket : W → ℕ) where
     -- what is answered where an item was found
     abbrev pub AnswersItem : Result (EntryOrPlaceholder K V W T) Refusal → F → CacheState K V
         → Type 0
     AnswersItem (Ok (kept told)) next new =
-        ActsAsChosen (retain told) Kept (λ item left. Unit {0}) next new
+        ActsAsChosen calls rules stands_for callback old (retain told) Kept (λ item left. Unit {0}) next new
     AnswersItem (Ok (removed key value)) next new =
-        ActsAsChosen remove Removed (λ item left. (key ≡ item.key) × (value ≡ left)) next new
+        ActsAsChosen calls rules stands_for callback old remove Removed (λ item left. (key ≡ item.key) × (value ≡ left)) next new
     AnswersItem (Ok (replaced placeholder value)) next new =
-        ActsAsChosen replace Replaced
+        ActsAsChosen calls rules stands_for callback old replace Replaced
         (λ item left. (own_ticket placeholder ≡ old.next_ticket) × (value ≡ left)) next new
     AnswersItem (Ok (existing placeholder)) next new = ⊥
     AnswersItem (Ok (new_one placeholder)) next new = ⊥
     AnswersItem (Err refusal) next new =
-        ActsAsChosen replace (Refused refusal) (λ item left. Unit {0}) next new
+        ActsAsChosen calls rules stands_for callback old replace (Refused refusal) (λ item left. Unit {0}) next new
 
     module _ (gives : K → Type 0) (hash : ℕ) where
       -- What is answered: what the callback chose where an item is found, and else what a look-up

@@ -12,30 +12,12 @@ ghost use Rattle.quick_cache_policy.specs.Policies.{rules_by};
 use crate::contents::Contents;
 use crate::policy::Policy;
 use quick_cache_lists::{Awaited, Entry, Found};
-use quick_cache_model::{Equivalent, Queue, Refusal, ToKey, Token};
+use quick_cache_model::{
+    EntryAction, EntryOrPlaceholder, Equivalent, Queue, Refusal, ToKey, Token,
+};
 use quick_cache_placeholder::{MakesPlaceholders, SharedPlaceholder};
 use std::alloc::Allocator;
 use std::hash::Hash;
-
-/// What the callback of an entry call chose, once it had written the value.
-#[derive(Drop)]
-pub enum EntryAction<T> {
-    Retain(T),
-    Remove,
-    ReplaceWithGuard,
-}
-
-/// What came of an entry call: what the callback told of an item that stays, the pair of one that
-/// went, the value of one that gave its place to a placeholder, or a placeholder where there was no
-/// item.
-#[derive(Drop)]
-pub enum EntryOrPlaceholder<K, V, P, T> {
-    Kept(T),
-    Removed(K, V),
-    Replaced(P, V),
-    ExistingPlaceholder(P),
-    NewPlaceholder(P),
-}
 
 impl<K: Eq + Hash + Drop, V: Drop, P: SharedPlaceholder<K>, A: Allocator> Contents<K, V, P, A> {
     /// Shows the item of a token, whose value may be written where it stands. It keeps the weight

@@ -30,7 +30,7 @@ mod tokens;
 mod victim;
 
 pub use contents::Contents;
-pub use entry::{EntryAction, EntryOrPlaceholder};
 pub use policy::{Policy, Terms};
+pub use quick_cache_model::{EntryAction, EntryOrPlaceholder};
 pub use quick_cache_placeholder::{MakesPlaceholders, SharedPlaceholder, Touches};
 pub use strategy::InsertStrategy;

@@ -15,7 +15,8 @@ use Rattle.quick_cache_slots.specs.Joined.{joined_slot, joined_slots, joined, Ar
 use Rattle.quick_cache_slots.specs.Items.{with_mark, with_value}
 use Rattle.quick_cache_slots.specs.Slots.{HasItem, HasLoading, HasEntry, HasValue, slot_changed}
 use Rattle.quick_cache_slots.specs.Lent.{IsStoredValue}
-use Rattle.quick_cache_slots.specs.Shown.{HoldsOfItem, Leaves, ShowsStored, ShowsSlot}
+use Rattle.quick_cache_slots.specs.Shown.{HoldsOfItem, ShowsStored, ShowsSlot}
+use Rattle.quick_cache_model.specs.Callbacks.{Leaves}
 use denote.Ref.{Bor, MutBor}
 use denote.Param.Members.{Mut}
 use Rattle.quick_cache_slots.specs.Stored.{slot_of, entry_of, item_of_body, entry_with_value, IsItem, IsAwaited}

@@ -1,8 +1,9 @@
 -- A call that shows an item to a callback of the caller's, which may write its value.
 use Rattle.std.specs.Prelude.{◌≡◌, ℕ, Some}
 use denote.Ref.{Bor, MutBor}
-use denote.Param.Members.{Called, Mut}
+use denote.Param.Members.{Mut}
 use Rattle.quick_cache_model.specs.CacheState.{Item}
+use Rattle.quick_cache_model.specs.Callbacks.{Leaves}
 use Rattle.quick_cache_pool.specs.Pool.{Pool, item_at}
 use Rattle.quick_cache_slots.specs.declared.entry.Entry.TheVariants.{Item as item_variant}
 use Rattle.quick_cache_slots.specs.declared.entry.Slot.{Slot}
@@ -21,21 +22,11 @@ HoldsOfItem (stored_ghost note) Q = ⊥
 
 module _ {F K V R : Type 0}
     (calls : Mut F (Bor K × (MutBor V × Unit {0})) (R × (MutBor V × Unit {0}))) where
-  -- a call at references to this pair may give the answer, and leave this callback and this value
-  pub record Leaves (callback : F) (key : K) (value : V) (answer : R) (next : F) (left : V)
-      : Type 0 where
-    pub shown_key : Bor K
-    pub shown : MutBor V
-    pub shows : (shown_key.now ≡ key) × (shown.now ≡ value)
-    pub left_by : MutBor V
-    pub called : Called calls callback (shown_key, (shown, tt)) (answer, (left_by, tt)) next
-    pub leaves : left_by.now ≡ left
-
   -- the item that is stored was shown, and has the value that was left
   pub record ShowsStored {P T : Type 0} (callback : F) (old : StoredEntry K V P T) (answer : R)
       (next : F) (new : StoredEntry K V P T) : Type 0 where
     pub left : V
-    pub called : HoldsOfItem old (λ key value. Leaves callback key value answer next left)
+    pub called : HoldsOfItem old (λ key value. Leaves calls callback key value answer next left)
     pub rest : new ≡ entry_with_value left old
 
   -- so was the item of the token
@@ -45,5 +36,5 @@ module _ {F K V R : Type 0}
     pub item : Item K V
     pub at : item_at old token ≡ Some (record { hash = hash; entry = item_variant item })
     pub left : V
-    pub called : Leaves callback item.key item.value answer next left
+    pub called : Leaves calls callback item.key item.value answer next left
     pub writes : Writes old new token (slot_changed (with_value left))

@@ -4,7 +4,7 @@ use Rattle.quick_cache_model.specs.CacheState.{Item}
 use Rattle.quick_cache_lists.specs.Lists.{Lists, FindsItem, with_value}
 use Rattle.quick_cache_lists.specs.Views.{items_of}
 use Rattle.quick_cache_policy.specs.Contents.{IsSound}
-use Rattle.quick_cache_policy.specs.Entering.{Leaves}
+use Rattle.quick_cache_model.specs.Callbacks.{Leaves}
 use Rattle.quick_cache_policy.proofs.EnterLemmas.{state_with}
 use Rattle.quick_cache_policy.proofs.ReferenceLemmas.{found-there, found-value, in_place, changed, written-sound}
 use Rattle.quick_cache_policy.proofs.WrittenLemmas.{written-found}
