@@ -5,7 +5,7 @@ use Rattle.std.proofs.lemmas.List.Sums.{sum_by-cons}
 use Rattle.std.specs.Int.NonZero.{non_zero_u32_get as number}
 use Rattle.std.specs.declared.num.NonZeroU32.{NonZeroU32 as Token}
 use Rattle.std.specs.Iterator.{YieldsFirstBy}
-use Rattle.quick_cache_table.specs.Table.{Table, IsTokensOf, has_pair}
+use Rattle.quick_cache_containers.specs.Table.{Table, IsTokensOf, has_pair}
 
 -- it has a pair of that hash
 pub first-there : (table : Table) (hash : ℕ) (tokens : List ℕ) → IsTokensOf table hash tokens

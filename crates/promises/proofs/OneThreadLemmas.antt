@@ -10,7 +10,7 @@ use Rattle.quick_cache_model.specs.Finding.{IsItemAt, HasNoItem}
 use Rattle.quick_cache_model.specs.Hooks.{Rules, Hooks, HookCall, RunsHooks}
 use Rattle.quick_cache_model.specs.Writes.{Strategy, Insert, IsReplace, Writes, WritesAdmitted, RejectsTooHeavy, TakesOutItem}
 use Rattle.quick_cache_model.proofs.LookupLaws.{not_both}
-use Rattle.quick_cache_calls.specs.Kinds.{replacement}
+use Rattle.quick_cache_model.specs.Kinds.{replacement}
 use Rattle.quick_cache_unsync.specs.Replaces.{Replaces}
 use Rattle.quick_cache_unsync.specs.Copies.{IsCopyOf}
 use Rattle.quick_cache_unsync.specs.Shard.{Wrote, HasItem, AreResidents, residents}

@@ -4,9 +4,9 @@ use Rattle.std.proofs.lemmas.List.Sorted.{IsPermutation-trans}
 use Rattle.quick_cache_model.specs.declared.refusal.Refusal.{Refusal}
 use Rattle.quick_cache_model.specs.CacheState.{CacheState}
 use Rattle.quick_cache_model.specs.Hooks.{Rules, Hooks, HookCall, BeforeEvict, EvictHot, EvictCold, RunsHooks}
-use Rattle.quick_cache_fates.specs.Fitting.{AllFit}
-use Rattle.quick_cache_fates.specs.Leads.{Leads, Tells}
-use Rattle.quick_cache_fates.proofs.Fitting.{RunsHooks-fits, TellsBeside-fits}
+use Rattle.quick_cache_model.specs.Fitting.{AllFit}
+use Rattle.quick_cache_model.specs.Leads.{Leads, Tells}
+use Rattle.quick_cache_model.proofs.Fitting.{RunsHooks-fits, TellsBeside-fits}
 use Rattle.quick_cache_unsync.specs.Inserts.{Inserts}
 
 -- hooks that change no value, and note where a pair leaves

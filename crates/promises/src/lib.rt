@@ -4,15 +4,6 @@
 //! little stops it. None of them is meant to be called.
 #![tactic(auto)]
 
-pub mod containers;
-pub mod fitting;
-pub mod keys;
-pub mod loads;
-pub mod nobody;
-pub mod one_thread;
-pub mod options;
-pub mod room;
-pub mod shards;
-pub mod shared;
+pub mod alone;
+pub mod behind_a_lock;
 pub mod told;
-pub mod walks;

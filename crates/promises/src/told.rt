@@ -1,8 +1,8 @@
 //! What hooks are told, whatever is pinned.
 ghost use Rattle.std.specs.Prelude.{◌≡◌, ◌∷◌, true, false, IfOk};
 ghost use Rattle.std.specs.List.Sorted.{IsPermutation};
-ghost use Rattle.quick_cache_fates.specs.Fates.{residents};
-ghost use Rattle.quick_cache_fates.specs.Fitting.{AllFit};
+ghost use Rattle.quick_cache_model.specs.Fates.{residents};
+ghost use Rattle.quick_cache_model.specs.Fitting.{AllFit};
 
 use quick_cache_unsync::{Cache, DefaultHashBuilder, Lifecycle, Refusal, UnitWeighter, Weighter};
 use std::hash::{BuildHasher, Hash};

@@ -4,8 +4,8 @@ use Rattle.std.proofs.lemmas.List.{append-nil}
 use Rattle.std.specs.Fmt.{decimal}
 use Rattle.std.specs.Io.KnownBytes.{Appends}
 use Rattle.std.specs.Prelude.{codes}
-use Rattle.qcrun_cache.specs.declared.events.Event.{Event}
-use Rattle.qcrun_cache.specs.Events.{event_text}
+use Rattle.qcrun_parts.specs.declared.events.Event.{Event}
+use Rattle.qcrun_parts.specs.Events.{event_text}
 use Rattle.qcrun.specs.Printed.{item_text, items_text, spaced_number, ghosts_text, line_of, event_lines, pair_text, pairs_text}
 
 -- nothing is appended where nothing is written

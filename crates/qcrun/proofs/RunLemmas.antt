@@ -9,10 +9,10 @@ use Rattle.std.specs.Io.KnownBytes.{Appends}
 use Rattle.std.specs.Prelude.{⊤, IfOk, OnOk}
 use Rattle.quick_cache_model.specs.Hooks.{Rules}
 use Rattle.quick_cache_shard.specs.Shard.{Shard}
-use Rattle.qcrun_commands.specs.declared.command.Command.{Command}
-use Rattle.qcrun_commands.specs.declared.lines.Line.TheVariants.{Whole, TooLong, End}
-use Rattle.qcrun_commands.specs.Commands.{IsLineOf, IsOkExactly}
-use Rattle.qcrun_commands.specs.Lines.{IsInLine, IsFirstLine, IsTooLong, ReadsLine}
+use Rattle.qcrun_parts.specs.declared.command.Command.{Command}
+use Rattle.qcrun_parts.specs.declared.lines.Line.TheVariants.{Whole, TooLong, End}
+use Rattle.qcrun_parts.specs.Commands.{IsLineOf, IsOkExactly}
+use Rattle.qcrun_parts.specs.Lines.{IsInLine, IsFirstLine, IsTooLong, ReadsLine}
 use Rattle.qcrun.specs.declared.session.Outcome.{Outcome}
 use Rattle.qcrun.specs.declared.session.Outcome.TheVariants.{NoCache}
 use Rattle.qcrun.specs.declared.serve.Ending.{Ending}

@@ -3,14 +3,14 @@ use Rattle.std.proofs.Common.{◌≡◌, ℕ, List, Option, Some, Vec}
 use Rattle.std.specs.declared.alloc.Global.{Global}
 use Rattle.quick_cache_model.specs.Hooks.{Rules, HookCall}
 use Rattle.quick_cache_shard.specs.Shard.{Shard}
-use Rattle.quick_cache_calls.specs.declared.reply.Reply.{Reply}
-use Rattle.qcrun_commands.specs.declared.command.Command.{Command}
-use Rattle.qcrun_calls.specs.declared.reply.Answer.{Answer}
+use Rattle.quick_cache_model.specs.declared.calls.reply.Reply.{Reply}
+use Rattle.qcrun_parts.specs.declared.command.Command.{Command}
+use Rattle.qcrun_parts.specs.declared.reply.Answer.{Answer}
 use Rattle.qcrun.specs.declared.session.Outcome.TheVariants.{Answered}
-use Rattle.qcrun_cache.specs.declared.events.Event.{Event}
-use Rattle.qcrun_calls.specs.Answers.{answer_of}
-use Rattle.qcrun_cache.specs.Events.{LeavesByKind, TellsOf}
-use Rattle.qcrun_calls.specs.Served.{ServesAsked}
+use Rattle.qcrun_parts.specs.declared.events.Event.{Event}
+use Rattle.qcrun_parts.specs.Answers.{answer_of}
+use Rattle.qcrun_parts.specs.Events.{LeavesByKind, TellsOf}
+use Rattle.qcrun_parts.specs.Served.{ServesAsked}
 use Rattle.qcrun.specs.Sessions.{ServesCommand}
 
 module _ {We B L A : Type 0} (rules : Shard ℕ ℕ We B L → Rules ℕ ℕ) where

@@ -5,9 +5,9 @@ use Rattle.quick_cache_model.specs.CacheState.{CacheState, item_count, total_wei
 use Rattle.quick_cache_shard.specs.Shard.{Shard, shown}
 use Rattle.qcrun.specs.declared.session.Outcome.{Outcome}
 use Rattle.qcrun.specs.declared.session.Outcome.TheVariants.{Answered, Shows, NoCache}
-use Rattle.qcrun_cache.specs.declared.events.Event.{Event}
-use Rattle.qcrun_calls.specs.Answers.{text_of}
-use Rattle.qcrun_cache.specs.Events.{event_text}
+use Rattle.qcrun_parts.specs.declared.events.Event.{Event}
+use Rattle.qcrun_parts.specs.Answers.{text_of}
+use Rattle.qcrun_parts.specs.Events.{event_text}
 
 -- a text and the end of its line
 abbrev pub line_of : List ℕ → List ℕ

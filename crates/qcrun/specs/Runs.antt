@@ -4,13 +4,13 @@ use Rattle.std.specs.Fmt.{decimal}
 use Rattle.std.specs.Io.KnownBytes.{Appends}
 use Rattle.quick_cache_model.specs.Hooks.{Rules}
 use Rattle.quick_cache_shard.specs.Shard.{Shard}
-use Rattle.qcrun_commands.specs.declared.command.Command.{Command}
+use Rattle.qcrun_parts.specs.declared.command.Command.{Command}
 use Rattle.qcrun.specs.declared.session.Outcome.{Outcome}
 use Rattle.qcrun.specs.declared.session.Outcome.TheVariants.{NoCache}
 use Rattle.qcrun.specs.declared.serve.Ending.{Ending}
 use Rattle.qcrun.specs.declared.serve.Ending.TheVariants.{EndOfInput, BadLine}
-use Rattle.qcrun_commands.specs.Commands.{IsLineOf}
-use Rattle.qcrun_commands.specs.Lines.{IsFirstLine}
+use Rattle.qcrun_parts.specs.Commands.{IsLineOf}
+use Rattle.qcrun_parts.specs.Lines.{IsFirstLine}
 use Rattle.qcrun.specs.Printed.{outcome_text, line_of}
 use Rattle.qcrun.specs.Sessions.{ServesCommand}
 

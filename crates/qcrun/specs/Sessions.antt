@@ -7,18 +7,18 @@ use Rattle.quick_cache_model.specs.Hooks.{Rules, HookCall}
 use Rattle.quick_cache_model.specs.Sizes.{hot_target_of, ghost_limit_of}
 use Rattle.quick_cache_options.specs.Options.{Choices, Settings, no_choices, settings_of, first_error}
 use Rattle.quick_cache_shard.specs.Shard.{Shard}
-use Rattle.quick_cache_calls.specs.declared.reply.Reply.{Reply}
-use Rattle.qcrun_commands.specs.declared.command.Command.{Command}
-use Rattle.qcrun_commands.specs.declared.command.Command.TheVariants.{Cache, CacheWithShares, CacheWithMark, Show}
-use Rattle.qcrun_calls.specs.declared.reply.Answer.{Answer}
-use Rattle.qcrun_calls.specs.declared.reply.Answer.TheVariants.{Done, Refused, Fault}
+use Rattle.quick_cache_model.specs.declared.calls.reply.Reply.{Reply}
+use Rattle.qcrun_parts.specs.declared.command.Command.{Command}
+use Rattle.qcrun_parts.specs.declared.command.Command.TheVariants.{Cache, CacheWithShares, CacheWithMark, Show}
+use Rattle.qcrun_parts.specs.declared.reply.Answer.{Answer}
+use Rattle.qcrun_parts.specs.declared.reply.Answer.TheVariants.{Done, Refused, Fault}
 use Rattle.qcrun.specs.declared.session.Outcome.{Outcome}
 use Rattle.qcrun.specs.declared.session.Outcome.TheVariants.{Answered, Shows, NoCache}
-use Rattle.qcrun_cache.specs.declared.events.Event.{Event}
-use Rattle.qcrun_calls.specs.Answers.{answer_of}
-use Rattle.qcrun_cache.specs.Events.{LeavesByKind, TellsOf}
-use Rattle.qcrun_calls.specs.Served.{ServesAsked}
-use Rattle.qcrun_cache.specs.Still.{AreStill}
+use Rattle.qcrun_parts.specs.declared.events.Event.{Event}
+use Rattle.qcrun_parts.specs.Answers.{answer_of}
+use Rattle.qcrun_parts.specs.Events.{LeavesByKind, TellsOf}
+use Rattle.qcrun_parts.specs.Served.{ServesAsked}
+use Rattle.qcrun_parts.specs.Still.{AreStill}
 
 -- the numbers that the cache of a command is to be made with, if it asks for a new one; shares and
 -- a greatest mark that it does not tell are not set

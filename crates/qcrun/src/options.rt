@@ -2,7 +2,7 @@
 ghost use Rattle.std.specs.Prelude.{◌≡◌};
 ghost use Rattle.qcrun.specs.Sessions.{choices_of};
 
-use qcrun_commands::Command;
+use qcrun_parts::Command;
 use quick_cache_options::options::OptionsBuilder;
 
 /// The options of the cache that a command asks for, if it asks for one.

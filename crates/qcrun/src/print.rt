@@ -4,7 +4,7 @@ ghost use Rattle.std.specs.Io.KnownBytes.{Appends};
 ghost use Rattle.qcrun.specs.Printed.{counts_text, event_lines, events_text, ghosts_text, items_text, line_of, outcome_text, pairs_text, rings_text, shown_text};
 
 use crate::session::{Outcome, Session};
-use qcrun_cache::{Event, Events, NumberCache};
+use qcrun_parts::{Event, Events, NumberCache};
 use quick_cache_shard::{GhostIter, RingIter};
 use quick_cache_unsync::Placeholder;
 use std::alloc::Allocator;

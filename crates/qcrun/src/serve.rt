@@ -8,8 +8,7 @@ ghost use Rattle.qcrun.specs.Runs.{PrintsLine, ServesKnown, ServesLine, bad_line
 
 use crate::print::print;
 use crate::session::{Outcome, Session};
-use qcrun_cache::NumberCache;
-use qcrun_commands::{Line, command_of, read_line};
+use qcrun_parts::{Line, NumberCache, command_of, read_line};
 use quick_cache_shard::Going;
 use std::alloc::Allocator;
 use std::io::{self, BufReader, ErrorKind, Read, Write};

@@ -5,10 +5,10 @@ ghost use Rattle.quick_cache_unsync.specs.Touches.{no_touches};
 ghost use Rattle.qcrun.specs.Sessions.{MakesCache, ServesCommand, ShowsCache};
 
 use crate::options::options_of;
-use qcrun_cache::still::still;
-use qcrun_cache::{ByKind, Events, LastDigits, NumberCache, RemainderBuilder};
-use qcrun_calls::{Answer, make_call};
-use qcrun_commands::Command;
+use qcrun_parts::still::still;
+use qcrun_parts::{
+    Answer, ByKind, Command, Events, LastDigits, NumberCache, RemainderBuilder, make_call,
+};
 use quick_cache_model::Refusal;
 use quick_cache_options::options::OptionsBuilder;
 use quick_cache_shard::Going;

@@ -8,13 +8,13 @@ use Rattle.quick_cache_model.specs.Hooks.{Rules, HookCall}
 use Rattle.quick_cache_model.specs.Lookups.{LooksUp}
 use Rattle.quick_cache_model.specs.Refusals.{IsProvided, needs_of_insert}
 use Rattle.quick_cache_model.specs.Writes.{Writes, Insert as insertion}
-use Rattle.quick_cache_calls.specs.declared.call.Call.{Call}
-use Rattle.quick_cache_calls.specs.declared.call.Call.TheVariants.{Insert, Get}
-use Rattle.quick_cache_calls.specs.declared.reply.Reply.{Reply}
-use Rattle.quick_cache_calls.specs.declared.reply.Reply.TheVariants.{Done, Value}
-use Rattle.quick_cache_calls.specs.CacheRun.{CacheRun}
-use Rattle.quick_cache_calls.specs.CacheStep.{CacheStep}
-use Rattle.quick_cache_calls.specs.Shown.{IsItself}
+use Rattle.quick_cache_model.specs.declared.calls.call.Call.{Call}
+use Rattle.quick_cache_model.specs.declared.calls.call.Call.TheVariants.{Insert, Get}
+use Rattle.quick_cache_model.specs.declared.calls.reply.Reply.{Reply}
+use Rattle.quick_cache_model.specs.declared.calls.reply.Reply.TheVariants.{Done, Value}
+use Rattle.quick_cache_model.specs.CacheRun.{CacheRun}
+use Rattle.quick_cache_model.specs.CacheStep.{CacheStep}
+use Rattle.quick_cache_model.specs.Shown.{IsItself}
 use Rattle.qcsim.specs.Simulation.{Asks, Simulates, asks_none, counted}
 
 module _ {K V F M : Type 0} (rules : Rules K V) (equal : K → K → Bool)

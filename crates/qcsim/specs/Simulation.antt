@@ -5,12 +5,12 @@ use Rattle.quick_cache_model.specs.CacheState.{CacheState, empty_state}
 use Rattle.quick_cache_model.specs.Hooks.{Rules, HookCall}
 use Rattle.quick_cache_model.specs.Sizes.{hot_target_of, ghost_limit_of}
 use Rattle.quick_cache_model.specs.Sizes.{default_hot_share, default_ghost_share}
-use Rattle.quick_cache_calls.specs.declared.call.Call.{Call}
-use Rattle.quick_cache_calls.specs.declared.call.Call.TheVariants.{Insert, Get}
-use Rattle.quick_cache_calls.specs.declared.reply.Reply.{Reply}
-use Rattle.quick_cache_calls.specs.declared.reply.Reply.TheVariants.{Done, Value}
-use Rattle.quick_cache_calls.specs.CacheRun.{CacheRun}
-use Rattle.quick_cache_calls.specs.Shown.{IsItself}
+use Rattle.quick_cache_model.specs.declared.calls.call.Call.{Call}
+use Rattle.quick_cache_model.specs.declared.calls.call.Call.TheVariants.{Insert, Get}
+use Rattle.quick_cache_model.specs.declared.calls.reply.Reply.{Reply}
+use Rattle.quick_cache_model.specs.declared.calls.reply.Reply.TheVariants.{Done, Value}
+use Rattle.quick_cache_model.specs.CacheRun.{CacheRun}
+use Rattle.quick_cache_model.specs.Shown.{IsItself}
 
 -- no call of a trace asks a predicate
 abbrev pub asks_none : {K V : Type 0} → ⊥ → K → V → Bool

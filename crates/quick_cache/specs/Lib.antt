@@ -8,10 +8,10 @@ pub use Rattle.quick_cache_locked.specs.Counts
 pub use Rattle.quick_cache_locked.specs.Fitting
 pub use Rattle.quick_cache_locked.specs.Locked
 pub use Rattle.quick_cache_locked.specs.Peeks
-pub use Rattle.quick_cache_calls.specs.Shown
-pub use Rattle.quick_cache_calls.specs.Kinds
-pub use Rattle.quick_cache_calls.specs.Loads as CallLoads
-pub use Rattle.quick_cache_calls.specs.References as CallReferences
+pub use Rattle.quick_cache_model.specs.Shown
+pub use Rattle.quick_cache_model.specs.Kinds
+pub use Rattle.quick_cache_model.specs.Loads as CallLoads
+pub use Rattle.quick_cache_model.specs.References as CallReferences
 pub use Rattle.quick_cache_shard.specs.Alone
 pub use Rattle.quick_cache_shard.specs.Replaces
 pub use Rattle.quick_cache_shard.specs.SetsCapacity

@@ -23,7 +23,7 @@ pub use Rattle.quick_cache_loading.specs.LoadingStep
 pub use Rattle.quick_cache_loading.specs.LoadingRow
 pub use Rattle.quick_cache_loading.specs.LoadingLaws
 pub use Rattle.quick_cache_loading.specs.LoadingRun
-pub use Rattle.quick_cache_slab.specs.LinkedSlab
-pub use Rattle.quick_cache_slab.specs.SlabEdits
-pub use Rattle.quick_cache_slab.specs.SlabLends
-pub use Rattle.quick_cache_table.specs.Table
+pub use Rattle.quick_cache_containers.specs.LinkedSlab
+pub use Rattle.quick_cache_containers.specs.SlabEdits
+pub use Rattle.quick_cache_containers.specs.SlabLends
+pub use Rattle.quick_cache_containers.specs.Table

@@ -2,6 +2,7 @@
 //! the table and the loading core.
 #![tactic(auto)]
 
+pub use quick_cache_containers::{LinkedSlab, Table, linked_slab, table};
 pub use quick_cache_laws::laws;
 pub use quick_cache_loading::protocol;
 pub use quick_cache_model::{
@@ -10,5 +11,3 @@ pub use quick_cache_model::{
     weighter,
 };
 pub use quick_cache_options::{Options, OptionsBuilder, options, sizes};
-pub use quick_cache_slab::{LinkedSlab, linked_slab};
-pub use quick_cache_table::{Table, table};

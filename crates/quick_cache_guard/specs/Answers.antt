@@ -1,8 +1,8 @@
 -- What one who asks for a value is answered.
 use Rattle.std.specs.Prelude.{⊤, Option, Some, None, Result, Ok, Err}
 use Rattle.quick_cache_model.specs.declared.refusal.Refusal.{Refusal}
-use Rattle.quick_cache_waiting.specs.declared.waited.Waited.{Waited}
-use Rattle.quick_cache_waiting.specs.declared.waited.Waited.TheVariants as waited
+use Rattle.quick_cache_loading.specs.declared.waiting.waited.Waited.{Waited}
+use Rattle.quick_cache_loading.specs.declared.waiting.waited.Waited.TheVariants as waited
 use Rattle.quick_cache_guard.specs.declared.results.GuardResult.{GuardResult}
 use Rattle.quick_cache_guard.specs.declared.results.GuardResult.TheVariants as guard_result
 

@@ -2,3 +2,7 @@ pub mod Begins
 pub mod Fills
 pub mod Answers
 pub mod Futures
+pub mod Loaders
+pub mod Acts
+pub mod Entries
+pub mod Entering

@@ -1,16 +1,16 @@
 //! One who comes to a shard for the value of a key: it waits, or is told at once.
 ghost use Rattle.std.specs.Prelude.{◌≡◌, true, IfOk, IfErr, IfSome};
 ghost use Rattle.std.specs.Arc.{arc_value};
-ghost use Rattle.quick_cache_waiting.specs.Waiting.{IfGuard as IfShare};
-ghost use Rattle.quick_cache_waiting.specs.Fitting.{ClonesFit, FitsQuery};
+ghost use Rattle.quick_cache_loading.specs.Waiters.{IfGuard as IfShare};
+ghost use Rattle.quick_cache_loading.specs.Fitting.{ClonesFit, FitsQuery};
 ghost use Rattle.quick_cache_guard.specs.Answers.{IfValue, IfGuard, answer_of, output_of};
 
 use crate::guard::PlaceholderGuard;
 use crate::results::GuardResult;
 use crate::shard::{Begun, LoadingShard};
+use quick_cache_loading::sharing::{Placeholder, Turns};
+use quick_cache_loading::waiting::Waited;
 use quick_cache_model::{Lifecycle, Refusal, ToKey};
-use quick_cache_sharing::{Placeholder, Turns};
-use quick_cache_waiting::Waited;
 use std::alloc::Allocator;
 use std::hash::Hash;
 use std::sync::{Arc, RwLock, Wait};

@@ -3,7 +3,7 @@ ghost use Rattle.std.specs.Prelude.{◌≡◌, true, Some};
 ghost use Rattle.std.specs.Option.{IfSome, IsSomeAnd};
 ghost use Rattle.futures.specs.Poll.{IfReady, OnPending};
 ghost use Rattle.futures.specs.Task.{Covers, Keeps};
-ghost use Rattle.quick_cache_waiting.specs.Fitting.{ClonesFit, FitsQuery};
+ghost use Rattle.quick_cache_loading.specs.Fitting.{ClonesFit, FitsQuery};
 ghost use Rattle.quick_cache_guard.specs.Answers.{IfGiven, IfGuard, IfValue};
 
 use crate::coming::{Waiting, answer, come, output};
@@ -12,8 +12,8 @@ use crate::results::GuardResult;
 use crate::shard::LoadingShard;
 use futures::Future;
 use futures::task::{Context, Poll};
+use quick_cache_loading::sharing::SharedPlaceholder;
 use quick_cache_model::{Lifecycle, Refusal, ToKey};
-use quick_cache_sharing::SharedPlaceholder;
 use std::alloc::{Allocator, Global};
 use std::hash::Hash;
 use std::marker::Model;

@@ -1,13 +1,13 @@
 //! The right to load a key.
 ghost use Rattle.std.specs.Prelude.{◌≡◌, IfErr, Some, codes};
 ghost use Rattle.std.specs.Arc.{arc_value};
-ghost use Rattle.quick_cache_waiting.specs.Fitting.{ClonesFit};
+ghost use Rattle.quick_cache_loading.specs.Fitting.{ClonesFit};
 ghost use Rattle.quick_cache_guard.specs.Fills.{back_of};
 
 use crate::shard::LoadingShard;
+use quick_cache_loading::sharing::{Placeholder, SharedPlaceholder};
+use quick_cache_loading::waiting::Share;
 use quick_cache_model::Lifecycle;
-use quick_cache_sharing::{Placeholder, SharedPlaceholder};
-use quick_cache_waiting::Share;
 use std::alloc::{Allocator, Global};
 use std::fmt::{Debug, Formatter, Write};
 use std::hash::Hash;

@@ -1,14 +1,14 @@
 //! A value, or the guard of a key that is absent, for a thread that waits where another loads it.
 ghost use Rattle.std.specs.Prelude.{◌≡◌, true};
-ghost use Rattle.quick_cache_waiting.specs.Fitting.{ClonesFit, FitsQuery};
+ghost use Rattle.quick_cache_loading.specs.Fitting.{ClonesFit, FitsQuery};
 ghost use Rattle.quick_cache_guard.specs.Answers.{IfGiven, IfGuard, IfValue};
 
 use crate::coming::{come_and_wait, come_and_wait_within, output};
 use crate::guard::PlaceholderGuard;
 use crate::results::GuardResult;
 use crate::shard::LoadingShard;
+use quick_cache_loading::sharing::Turns;
 use quick_cache_model::{Lifecycle, Refusal, ToKey};
-use quick_cache_sharing::Turns;
 use std::alloc::Allocator;
 use std::hash::Hash;
 use std::sync::{RwLock, Wait};

@@ -2,11 +2,15 @@
 #![tactic(auto)]
 
 mod coming;
+pub mod entries;
+pub mod entry_tasks;
 mod future;
 mod guard;
 mod joining;
+pub mod loads;
 mod results;
 mod shard;
+pub mod tasks;
 
 pub use coming::Waiting;
 pub use future::JoinFuture;

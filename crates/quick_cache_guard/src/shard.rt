@@ -1,10 +1,10 @@
 //! A shard, as those who load its keys use it while they hold its lock.
 ghost use Rattle.std.specs.Prelude.{◌≡◌, IfOk, IfErr, IfSome, true};
-ghost use Rattle.quick_cache_waiting.specs.Fitting.{ClonesFit, FitsQuery};
+ghost use Rattle.quick_cache_loading.specs.Fitting.{ClonesFit, FitsQuery};
 ghost use Rattle.quick_cache_guard.specs.Begins.{IfFound};
 
+use quick_cache_loading::sharing::SharedPlaceholder;
 use quick_cache_model::{Equivalent, Lifecycle, Refusal, ToKey};
-use quick_cache_sharing::SharedPlaceholder;
 use std::alloc::Allocator;
 use std::hash::Hash;
 

@@ -5,3 +5,8 @@ pub mod LoadingStep
 pub mod LoadingRow
 pub mod LoadingLaws
 pub mod LoadingRun
+pub mod Tasks
+pub mod Fitting
+pub mod Waiters
+pub mod Entering
+pub mod Touches

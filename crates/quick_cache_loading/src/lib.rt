@@ -2,3 +2,5 @@
 #![tactic(auto)]
 
 pub mod protocol;
+pub mod sharing;
+pub mod waiting;

@@ -9,13 +9,13 @@ use Rattle.quick_cache_model.specs.Finding.{IsItemAt}
 use Rattle.quick_cache_model.specs.Hooks.{Rules}
 use Rattle.quick_cache_model.specs.Lookups.{looked_up}
 use Rattle.quick_cache_model.specs.Removal.{weighed, reweighed}
-use Rattle.quick_cache_model.specs.declared.entry.EntryAction.{EntryAction}
-use Rattle.quick_cache_model.specs.declared.entry.EntryAction.TheVariants.{Remove as remove, ReplaceWithGuard as replace}
-use Rattle.quick_cache_model.specs.declared.entry.EntryOrPlaceholder.{EntryOrPlaceholder}
-use Rattle.quick_cache_model.specs.declared.entry.EntryOrPlaceholder.TheVariants.{Kept as kept, Removed as removed, Replaced as replaced, ExistingPlaceholder as existing, NewPlaceholder as new_one}
+use Rattle.quick_cache_model.specs.declared.calls.entry.EntryAction.{EntryAction}
+use Rattle.quick_cache_model.specs.declared.calls.entry.EntryAction.TheVariants.{Remove as remove, ReplaceWithGuard as replace}
+use Rattle.quick_cache_model.specs.declared.calls.entry.EntryOrPlaceholder.{EntryOrPlaceholder}
+use Rattle.quick_cache_model.specs.declared.calls.entry.EntryOrPlaceholder.TheVariants.{Kept as kept, Removed as removed, Replaced as replaced, ExistingPlaceholder as existing, NewPlaceholder as new_one}
 use Rattle.quick_cache_model.specs.Callbacks.{ActsAsChosen, choice_of}
 use Rattle.quick_cache_policy.specs.Entering.{AnswersEntry}
-use Rattle.quick_cache_entries.specs.Acts.{Chooses, DoesAsChosen, IfAbsent, IfGone, IfKept, KeepsReplaced, LeavesFit, MayTell}
+use Rattle.quick_cache_guard.specs.Acts.{Chooses, DoesAsChosen, IfAbsent, IfGone, IfKept, KeepsReplaced, LeavesFit, MayTell}
 use Rattle.quick_cache_locked.specs.Fitting.{AllFit, FitsIn, FitsQuery}
 use Rattle.quick_cache_locked.proofs.FitLemmas.{rewritten-fits, SameButOrder-fits}
 use Rattle.quick_cache_locked.proofs.FitLoads.{MakesPlaceholder-fits, MeetsPlaceholder-fits}

@@ -5,7 +5,7 @@ use Rattle.std.specs.Prelude.{MatchOption}
 use Rattle.std.specs.declared.num.NonZeroU32.{NonZeroU32 as Token}
 use Rattle.quick_cache_model.specs.declared.refusal.Refusal.{Refusal}
 use Rattle.std.specs.List.{AllByRecursion}
-use Rattle.quick_cache_model.specs.declared.lifecycle.Lifecycle as lifecycle
+use Rattle.quick_cache_model.specs.declared.terms.lifecycle.Lifecycle as lifecycle
 use Rattle.quick_cache_model.specs.CacheState.{CacheState, Item, LoadingEntry}
 use Rattle.quick_cache_model.specs.Finding.{HasNoItem}
 use Rattle.quick_cache_model.specs.Hooks.{Rules, Hooks, Calls}
@@ -23,7 +23,7 @@ use Rattle.quick_cache_locked.specs.Peeks.{Peeks}
 use Rattle.quick_cache_locked.proofs.FitRemovals.{AllFit-same, AllFit-stepped}
 use Rattle.quick_cache_locked.proofs.PeekLemmas.{absent-item, Peeks-nothing, Peeks-something}
 use Rattle.quick_cache_locked.proofs.TicketLemmas.{awaits_none}
-use Rattle.quick_cache_fates.proofs.Fitting.{RunsHooks-fits, TellsBeside-fits}
+use Rattle.quick_cache_model.proofs.Fitting.{RunsHooks-fits, TellsBeside-fits}
 use Rattle.quick_cache_locked.proofs.FitLemmas.{AllFit-at, AllFit-with, SameButOrder-fits}
 use Rattle.quick_cache_locked.proofs.FitWrites.{IsItemAt-fits}
 

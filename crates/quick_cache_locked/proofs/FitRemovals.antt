@@ -2,7 +2,7 @@
 use Rattle.std.proofs.Common.{◌≡◌, ℕ, Bool, List, ◌++◌, Option}
 use Rattle.std.proofs.Common.{sym, subst, IfSome}
 use Rattle.std.specs.List.{AllByRecursion}
-use Rattle.quick_cache_model.specs.declared.lifecycle.Lifecycle as lifecycle
+use Rattle.quick_cache_model.specs.declared.terms.lifecycle.Lifecycle as lifecycle
 use Rattle.quick_cache_model.specs.CacheState.{CacheState, Item, Place, UpToOrder, with_items}
 use Rattle.quick_cache_model.specs.Finding.{IsItemAt}
 use Rattle.quick_cache_model.specs.Hooks.{Rules}
@@ -12,7 +12,7 @@ use Rattle.quick_cache_shard.specs.Predicates.{RemovesAsked, RetainsAsked, StayA
 use Rattle.quick_cache_shard.specs.Lifecycles.{hooks_by}
 use Rattle.quick_cache_shard.specs.SetsCapacity.{SetsCapacityTo}
 use Rattle.quick_cache_locked.specs.Fitting.{FitsIn, AllFit, FitsQuery}
-use Rattle.quick_cache_fates.proofs.Fitting.{RunsHooks-fits, TellsResidents-fits}
+use Rattle.quick_cache_model.proofs.Fitting.{RunsHooks-fits, TellsResidents-fits}
 use Rattle.quick_cache_locked.proofs.FitLemmas.{AllFit-at, AllFit-with, SameButOrder-fits}
 use Rattle.quick_cache_locked.proofs.FitWrites.{IsItemAt-fits}
 

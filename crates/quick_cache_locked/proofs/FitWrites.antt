@@ -2,7 +2,7 @@
 use Rattle.std.proofs.Common.{◌≡◌, Bool, List, ◌++◌, ◌∷◌, Option, Some, None, Result, Ok, Err}
 use Rattle.std.proofs.Common.{sym, subst}
 use Rattle.std.specs.List.{AllByRecursion}
-use Rattle.quick_cache_model.specs.declared.lifecycle.Lifecycle as lifecycle
+use Rattle.quick_cache_model.specs.declared.terms.lifecycle.Lifecycle as lifecycle
 use Rattle.quick_cache_model.specs.declared.refusal.Refusal.{Refusal}
 use Rattle.quick_cache_model.specs.CacheState.{CacheState, Item, Place}
 use Rattle.quick_cache_model.specs.Hooks.{Rules, Hooks}
@@ -12,7 +12,7 @@ use Rattle.quick_cache_model.proofs.EachElement.{all-middle}
 use Rattle.quick_cache_shard.specs.Lifecycles.{hooks_by}
 use Rattle.quick_cache_shard.specs.Shard.{Wrote, GivesBack, AnswersWrite}
 use Rattle.quick_cache_locked.specs.Fitting.{FitsIn, AllFit}
-use Rattle.quick_cache_fates.proofs.Fitting.{RunsHooks-fits, TellsBeside-fits, TellsBeside-gives}
+use Rattle.quick_cache_model.proofs.Fitting.{RunsHooks-fits, TellsBeside-fits, TellsBeside-gives}
 use Rattle.quick_cache_locked.proofs.FitLemmas.{AllFit-at}
 
 module _ {K V : Type 0} (fits : K → V → Type 0) where

@@ -6,3 +6,5 @@ mod FitWalks
 mod FitLoads
 mod TicketLemmas
 mod EntryFits
+mod WalkLemmas
+mod PlaceLemmas

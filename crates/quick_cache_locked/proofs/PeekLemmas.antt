@@ -8,7 +8,7 @@ use Rattle.quick_cache_model.specs.CacheState.{CacheState, Item, Place, InHot, I
 use Rattle.quick_cache_model.proofs.EachElement.{all-middle}
 use Rattle.quick_cache_model.specs.Finding.{HasNoItem, IsItemAt}
 use Rattle.quick_cache_model.specs.Lookups.{Sees}
-use Rattle.quick_cache_calls.specs.Shown.{IsShown}
+use Rattle.quick_cache_model.specs.Shown.{IsShown}
 use Rattle.quick_cache_shard.specs.Shard.{HasItem}
 use Rattle.quick_cache_shard.specs.Shared.{ShowsClone}
 use Rattle.quick_cache_locked.specs.Peeks.{Peeks}

@@ -4,7 +4,7 @@ use Rattle.std.specs.Fn.{FnOnceTakesAt}
 use denote.Ref.{Bor}
 use denote.Param.Members.{Shared, Once}
 use Rattle.quick_cache_policy.specs.Predicates.{MayBeAsked}
-use Rattle.quick_cache_waiting.specs.Fitting.{FitsQuery}
+use Rattle.quick_cache_loading.specs.Fitting.{FitsQuery}
 
 module _ {F K V : Type 0} (fits : K → V → Type 0) where
   -- a predicate may be called at each pair that fits

@@ -1,3 +1,3 @@
 -- Values that fit their keys, as a lifecycle says it.
-pub use Rattle.quick_cache_fates.specs.Fitting.{FitsIn, AllFit}
-pub use Rattle.quick_cache_waiting.specs.Fitting.{ClonesFit, FitsQuery}
+pub use Rattle.quick_cache_model.specs.Fitting.{FitsIn, AllFit}
+pub use Rattle.quick_cache_loading.specs.Fitting.{ClonesFit, FitsQuery}

@@ -1,4 +1,4 @@
-pub use Rattle.quick_cache_sharing.specs.Touches
+pub use Rattle.quick_cache_loading.specs.Touches
 pub mod Asked
 pub mod Counts
 pub mod Fitting
@@ -6,3 +6,5 @@ pub mod Loads
 pub mod Locked
 pub mod Peeks
 pub mod Walks
+pub mod WholeWalks
+pub mod WalkLaws

@@ -1,6 +1,6 @@
 -- What a lock keeps true of the shard behind it.
 use Rattle.std.specs.Prelude.{Bool}
-use Rattle.quick_cache_model.specs.declared.lifecycle.Lifecycle as lifecycle
+use Rattle.quick_cache_model.specs.declared.terms.lifecycle.Lifecycle as lifecycle
 use Rattle.quick_cache_shard.specs.Shard.{Shard, IsSoundShard}
 use Rattle.quick_cache_locked.specs.Fitting.{AllFit}
 

@@ -5,8 +5,8 @@ use Rattle.quick_cache_model.specs.declared.refusal.Refusal.TheVariants.{Memory}
 use Rattle.quick_cache_model.specs.CacheState.{CacheState, Item, Place}
 use Rattle.quick_cache_model.specs.Finding.{IsItemAt}
 use Rattle.quick_cache_model.specs.Lookups.{Sees}
-use Rattle.quick_cache_calls.specs.Shown.{IsShown}
-use Rattle.quick_cache_waiting.specs.Fitting.{ClonesFit, FitsQuery}
+use Rattle.quick_cache_model.specs.Shown.{IsShown}
+use Rattle.quick_cache_loading.specs.Fitting.{ClonesFit, FitsQuery}
 
 module _ {K V : Type 0} (stands_for : K → Bool) (is_clone : V → V → Type 0)
     (old : CacheState K V) where

@@ -4,7 +4,9 @@
 
 mod count;
 mod locked;
+pub mod places;
+pub mod walk_laws;
 
 pub use count::Count;
 pub use locked::LockedShard;
-pub use quick_cache_sharing::{SharedPlaceholder, SharedTouches};
+pub use quick_cache_loading::sharing::{SharedPlaceholder, SharedTouches};

@@ -13,11 +13,11 @@ mod sizes;
 mod walks;
 mod writes;
 
+use quick_cache_loading::sharing::{Maker, SharedPlaceholder};
 use quick_cache_model::{Lifecycle, Refusal, Weighter};
 use quick_cache_options::options::Options;
 use quick_cache_options::sizes::ShardSizes;
 use quick_cache_shard::{CacheShard, Going, Keyed};
-use quick_cache_sharing::{Maker, SharedPlaceholder};
 use std::alloc::{Allocator, Global};
 use std::hash::{BuildHasher, Hash};
 use std::marker::Model;

@@ -10,3 +10,11 @@ pub mod OrderLaws
 pub mod PowersOfTwo
 pub mod TouchLaws
 pub mod Valid
+pub mod Leads
+pub mod Residents
+pub mod Victims
+pub mod Fitting
+pub mod HookStates
+pub mod TakenKeys
+pub mod RunLemmas
+pub mod ShownLemmas

@@ -2,8 +2,8 @@
 use Rattle.std.specs.Prelude.{◌≡◌, Bool}
 use denote.Ref.{Bor, MutBor}
 use denote.Param.Members.{Called, Mut}
-use Rattle.quick_cache_model.specs.declared.entry.EntryAction.{EntryAction}
-use Rattle.quick_cache_model.specs.declared.entry.EntryAction.TheVariants.{Retain as retain, Remove as remove, ReplaceWithGuard as replace}
+use Rattle.quick_cache_model.specs.declared.calls.entry.EntryAction.{EntryAction}
+use Rattle.quick_cache_model.specs.declared.calls.entry.EntryAction.TheVariants.{Retain as retain, Remove as remove, ReplaceWithGuard as replace}
 use Rattle.quick_cache_model.specs.CacheState.{CacheState, Item, UpToOrder}
 use Rattle.quick_cache_model.specs.Entries.{EntryChoice, Retain, Remove, ReplaceWithGuard, EntryOutcome, ActsOnEntry}
 use Rattle.quick_cache_model.specs.Hooks.{Rules}

@@ -15,3 +15,13 @@ pub mod Callbacks
 pub mod Sizes
 pub mod Capacity
 pub mod Refusals
+pub mod Fates
+pub mod Leads
+pub mod Fitting
+pub mod Shown
+pub mod References
+pub mod Kinds
+pub mod Loads
+pub mod CacheStep
+pub mod CacheRun
+pub mod Answered

@@ -2,24 +2,26 @@
 //! and what it is, in definitions over three plain lists.
 #![tactic(auto)]
 
-pub mod entry;
-pub mod equivalent;
-pub mod hash_builder;
-pub mod lifecycle;
+pub mod calls;
+pub mod keys;
+mod placeholder;
 pub mod queue;
 pub mod refusal;
 pub mod stats;
+pub mod terms;
 pub mod token;
 pub mod touches;
-pub mod weighter;
 
-pub use entry::{EntryAction, EntryOrPlaceholder};
-pub use equivalent::{Equivalent, ToKey};
-pub use hash_builder::{DefaultHashBuilder, hash_of};
-pub use lifecycle::Lifecycle;
+pub use calls::call::Call;
+pub use calls::entry::{EntryAction, EntryOrPlaceholder};
+pub use calls::reply::Reply;
+pub use keys::equivalent::{Equivalent, ToKey};
+pub use keys::hash_builder::{DefaultHashBuilder, hash_of};
+pub use placeholder::{MakesPlaceholders, SharedPlaceholder};
 pub use queue::Queue;
 pub use refusal::Refusal;
 pub use stats::{ItemStats, MemoryUsed};
+pub use terms::lifecycle::Lifecycle;
+pub use terms::weighter::{UnitWeighter, Weighter};
 pub use token::Token;
 pub use touches::Touches;
-pub use weighter::{UnitWeighter, Weighter};

@@ -8,15 +8,15 @@ use Rattle.quick_cache_model.specs.Hooks.{evicted}
 use Rattle.quick_cache_model.specs.Writes.{TakesOutItem, was_there}
 use Rattle.quick_cache_model.proofs.EachElement.{all-without}
 use Rattle.quick_cache_model.proofs.Valid.Edits.{without-valid}
-use Rattle.quick_cache_lists.specs.Lists.{HeldItem, FindsItem, IsEntry, AreApart, Finds, items_at, without_entry}
-use Rattle.quick_cache_lists.specs.Views.{items_of}
-use Rattle.quick_cache_slots.specs.declared.entry.Entry.{Entry}
-use Rattle.quick_cache_slots.specs.declared.entry.Awaited.{Awaited}
-use Rattle.quick_cache_slots.specs.declared.entry.Entry.TheVariants.{Item as item_variant, Loading as loading_variant, Ghost as ghost_variant}
-use Rattle.quick_cache_lists.specs.declared.found.Found.{Found}
-use Rattle.quick_cache_lists.specs.declared.found.Found.TheVariants.{Item as found_item, Loading as found_loading, Ghost as found_ghost, Nothing as found_nothing}
-use Rattle.quick_cache_lists.proofs.CallerLemmas.{items_of-around, without-hot, without-cold, without-still}
-use Rattle.quick_cache_lists.proofs.StandingLemmas.{not-loading, not-ghost, entry-is_item}
+use Rattle.quick_cache_store.specs.Lists.{HeldItem, FindsItem, IsEntry, AreApart, Finds, items_at, without_entry}
+use Rattle.quick_cache_store.specs.Views.{items_of}
+use Rattle.quick_cache_store.specs.declared.slots.entry.Entry.{Entry}
+use Rattle.quick_cache_store.specs.declared.slots.entry.Awaited.{Awaited}
+use Rattle.quick_cache_store.specs.declared.slots.entry.Entry.TheVariants.{Item as item_variant, Loading as loading_variant, Ghost as ghost_variant}
+use Rattle.quick_cache_store.specs.declared.lists.found.Found.{Found}
+use Rattle.quick_cache_store.specs.declared.lists.found.Found.TheVariants.{Item as found_item, Loading as found_loading, Ghost as found_ghost, Nothing as found_nothing}
+use Rattle.quick_cache_store.proofs.lists.CallerLemmas.{items_of-around, without-hot, without-cold, without-still}
+use Rattle.quick_cache_store.proofs.lists.StandingLemmas.{not-loading, not-ghost, entry-is_item}
 use Rattle.quick_cache_policy.specs.Contents.{AreHashed, IsSound, state_of}
 use Rattle.quick_cache_policy.specs.Finding.{AreUnder}
 use Rattle.quick_cache_policy.specs.declared.contents.Contents.{Contents}

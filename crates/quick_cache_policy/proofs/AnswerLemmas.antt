@@ -8,19 +8,19 @@ use Rattle.quick_cache_model.specs.Hooks.{Rules, Hooks, HookCall, EvictCold, Cal
 use Rattle.quick_cache_model.specs.Refusals.{IsProvided, MayRefuse, memory_refused, slots_full, slots_taken}
 use Rattle.quick_cache_model.specs.Writes.{Strategy, Insert, Replace, SoftReplace, IsReplace, Writes, WritesAdmitted, RejectsTooHeavy, TakesOutItem}
 use Rattle.quick_cache_model.proofs.OrderLaws.{UpToOrder-exact, UpToOrder-map}
-use Rattle.quick_cache_lists.specs.declared.found.Found.{Found}
-use Rattle.quick_cache_lists.specs.declared.found.Found.TheVariants.{Item as found_item, Loading as found_loading, Ghost as found_ghost, Nothing as found_nothing}
-use Rattle.quick_cache_policy.specs.declared.admission.Admission.TheVariants.{Admitted as code_admitted, TooHeavy as code_too_heavy}
+use Rattle.quick_cache_store.specs.declared.lists.found.Found.{Found}
+use Rattle.quick_cache_store.specs.declared.lists.found.Found.TheVariants.{Item as found_item, Loading as found_loading, Ghost as found_ghost, Nothing as found_nothing}
+use Rattle.quick_cache_policy.specs.declared.writing.admission.Admission.TheVariants.{Admitted as code_admitted, TooHeavy as code_too_heavy}
 use Rattle.std.proofs.lemmas.List.{length-map}
-use Rattle.quick_cache_lists.specs.Lists.{HeldItem, HeldGhost, Finds, entry_count}
-use Rattle.quick_cache_lists.specs.Views.{loading_entry}
+use Rattle.quick_cache_store.specs.Lists.{HeldItem, HeldGhost, Finds, entry_count}
+use Rattle.quick_cache_store.specs.Views.{loading_entry}
 use Rattle.quick_cache_policy.specs.declared.contents.Contents.{Contents}
 use Rattle.quick_cache_policy.specs.Contents.{state_of}
 use Rattle.quick_cache_policy.specs.Work.{Work, WorksWithin}
 use Rattle.quick_cache_policy.proofs.HotLemmas.{counted_up-zero}
-use Rattle.quick_cache_fates.specs.Fates.{residents}
-use Rattle.quick_cache_fates.specs.Leads.{TellsBeside}
-use Rattle.quick_cache_fates.proofs.Leads.{Leads-same, Leads-changes, Leads-leaves, Leads-beside, Tells-append}
+use Rattle.quick_cache_model.specs.Fates.{residents}
+use Rattle.quick_cache_model.specs.Leads.{TellsBeside}
+use Rattle.quick_cache_model.proofs.Leads.{Leads-same, Leads-changes, Leads-leaves, Leads-beside, Tells-append}
 use Rattle.quick_cache_policy.specs.Advances.{AreEvictions}
 use Rattle.quick_cache_policy.specs.Finding.{TakesSlot, Provides}
 use Rattle.quick_cache_policy.specs.Writing.{is_insert, needs_of_write, IsReplacement, AreAdmittedCalls, AreWriteCalls, Writing, WritingAdmitted, Rejecting, Checks, Wrote}

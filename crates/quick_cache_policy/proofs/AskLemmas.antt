@@ -1,7 +1,7 @@
 -- Items that a predicate is asked of, in a walk that takes items out.
 use Rattle.std.proofs.Common.{◌≡◌, ℕ, Bool, List, [], ◌∷◌, ◌++◌, ap}
 use Rattle.quick_cache_model.specs.CacheState.{Place, InHot, InCold, InStill}
-use Rattle.quick_cache_lists.specs.Lists.{HeldItem, StandsIn, HasItem, items_at}
+use Rattle.quick_cache_store.specs.Lists.{HeldItem, StandsIn, HasItem, items_at}
 use Rattle.quick_cache_policy.specs.declared.contents.Contents.{Contents}
 use Rattle.quick_cache_policy.proofs.RetainLemmas.{Sifted, IsSifting}
 

@@ -7,8 +7,8 @@ use Rattle.quick_cache_model.specs.Hooks.{Rules}
 use Rattle.quick_cache_model.specs.Sizes.{rescaled_target, rescaled_limit}
 use Rattle.quick_cache_model.proofs.KeptSizes.{rescaled_target-le, rescaled_target-pos}
 use Rattle.quick_cache_model.proofs.KeptSizes.{rescaled_limit-counts}
-use Rattle.quick_cache_lists.specs.Lists.{HeldGhost}
-use Rattle.quick_cache_lists.specs.Views.{hashes_of}
+use Rattle.quick_cache_store.specs.Lists.{HeldGhost}
+use Rattle.quick_cache_store.specs.Views.{hashes_of}
 use Rattle.quick_cache_policy.specs.declared.contents.Contents.{Contents}
 use Rattle.quick_cache_policy.specs.Contents.{IsSound, state_of}
 use Rattle.quick_cache_policy.proofs.GhostLemmas.{with_cut}

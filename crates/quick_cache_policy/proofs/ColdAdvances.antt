@@ -9,11 +9,11 @@ use Rattle.quick_cache_model.specs.Eviction.{IsPassed, promoted}
 use Rattle.quick_cache_model.specs.Hooks.{Rules, HookCall}
 use Rattle.quick_cache_model.proofs.EachElement.{all-weaker}
 use Rattle.quick_cache_model.proofs.OrderLaws.{UpToOrder-map}
-use Rattle.quick_cache_fates.specs.Fates.{residents}
-use Rattle.quick_cache_fates.proofs.Leads.{Leads-from}
-use Rattle.quick_cache_fates.proofs.Residents.{residents-reordered}
-use Rattle.quick_cache_policy.specs.declared.cold.Search.{Search}
-use Rattle.quick_cache_policy.specs.declared.cold.Search.TheVariants.{Marked, Victim, AllPassed}
+use Rattle.quick_cache_model.specs.Fates.{residents}
+use Rattle.quick_cache_model.proofs.Leads.{Leads-from}
+use Rattle.quick_cache_model.proofs.Residents.{residents-reordered}
+use Rattle.quick_cache_policy.specs.declared.evicting.cold.Search.{Search}
+use Rattle.quick_cache_policy.specs.declared.evicting.cold.Search.TheVariants.{Marked, Victim, AllPassed}
 use Rattle.quick_cache_policy.specs.Advances.{IsPassedBy, Searches, Evicting, AreEvictions}
 use Rattle.quick_cache_policy.specs.Advances.{FirstIsPromoted, FirstIsEvicted}
 use Rattle.quick_cache_policy.proofs.TellLemmas.{FirstIsEvicted-tells, FirstIsPromoted-order, Searches-order}

@@ -6,9 +6,9 @@ use Rattle.quick_cache_model.specs.CacheState.{Item}
 use Rattle.quick_cache_model.specs.Touches.{RaisesMarks}
 use Rattle.quick_cache_model.proofs.EachElement.{all-push}
 use Rattle.quick_cache_model.proofs.TouchLaws.{RaisesMarks-same}
-use Rattle.quick_cache_lists.specs.Lists.{turned}
-use Rattle.quick_cache_policy.specs.declared.cold.Search.{Search}
-use Rattle.quick_cache_policy.specs.declared.cold.Search.TheVariants.{Marked, Victim, AllPassed}
+use Rattle.quick_cache_store.specs.Lists.{turned}
+use Rattle.quick_cache_policy.specs.declared.evicting.cold.Search.{Search}
+use Rattle.quick_cache_policy.specs.declared.evicting.cold.Search.TheVariants.{Marked, Victim, AllPassed}
 use Rattle.quick_cache_policy.proofs.MarkLemmas.{RaisesMarks-append}
 use Rattle.quick_cache_policy.specs.Advances.{IsPassedBy, IsFound, LooksAt, StopsAt, Searches}
 

@@ -11,9 +11,9 @@ use Rattle.quick_cache_model.proofs.KeyCounts.{one, keys, keys-cons, keys-append
 use Rattle.quick_cache_model.proofs.TouchLaws.{with_touches-key, with_touches-weight}
 use Rattle.quick_cache_model.proofs.TouchLaws.{with_touches-queue, with_touches-mark}
 use Rattle.quick_cache_model.proofs.Valid.States.{IsValid-cold}
-use Rattle.quick_cache_lists.specs.Lists.{HeldItem, turned}
-use Rattle.quick_cache_lists.specs.Views.{items_of}
-use Rattle.quick_cache_lists.proofs.CallerLemmas.{items_of-split}
+use Rattle.quick_cache_store.specs.Lists.{HeldItem, turned}
+use Rattle.quick_cache_store.specs.Views.{items_of}
+use Rattle.quick_cache_store.proofs.lists.CallerLemmas.{items_of-split}
 use Rattle.quick_cache_policy.specs.declared.contents.Contents.{Contents}
 use Rattle.quick_cache_policy.specs.Contents.{IsSound, state_of}
 

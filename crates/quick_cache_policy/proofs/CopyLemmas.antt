@@ -9,9 +9,9 @@ use Rattle.quick_cache_model.specs.CacheState.{CacheState, Item, LoadingEntry, I
 use Rattle.quick_cache_model.proofs.EqualKeys.{one-equal}
 use Rattle.quick_cache_model.proofs.KeyCounts.{keys, keys-cons, loading_keys, loading_keys-cons}
 use Rattle.quick_cache_model.proofs.Valid.States.{IsValid-parts}
-use Rattle.quick_cache_lists.specs.Copies.{AreCopies, IsHeldCopy, IsItemCopy, IsWaitingCopy}
-use Rattle.quick_cache_lists.specs.Lists.{HeldItem, HeldLoading, Lists}
-use Rattle.quick_cache_lists.specs.Views.{hashes_of, items_of, loading_entries}
+use Rattle.quick_cache_store.specs.ListCopies.{AreCopies, IsHeldCopy, IsItemCopy, IsWaitingCopy}
+use Rattle.quick_cache_store.specs.Lists.{HeldItem, HeldLoading, Lists}
+use Rattle.quick_cache_store.specs.Views.{hashes_of, items_of, loading_entries}
 use Rattle.quick_cache_policy.specs.declared.contents.Contents.{Contents}
 use Rattle.quick_cache_policy.specs.Contents.{IsSound, state_of}
 use Rattle.quick_cache_policy.specs.Copies.{ClonesAreEqual, IsCopyOf, IsLoadingCopy, IsKeptAgain}

@@ -8,9 +8,9 @@ use Rattle.quick_cache_model.specs.CacheState.{place_of_item}
 use Rattle.quick_cache_model.specs.CacheState.{items_at as model_items_at, with_items as model_with_items}
 use Rattle.quick_cache_model.specs.CacheState.{entered as model_entered, rewritten}
 use Rattle.quick_cache_model.proofs.EachElement.{all-push, all-without, all-instead, all-restarted, all-middle}
-use Rattle.quick_cache_lists.specs.Lists.{HeldItem, Lists, items_at, with_items, entered, held_rewritten}
-use Rattle.quick_cache_lists.specs.Views.{items_of}
-use Rattle.quick_cache_lists.proofs.CallerLemmas.{items_of-split}
+use Rattle.quick_cache_store.specs.Lists.{HeldItem, Lists, items_at, with_items, entered, held_rewritten}
+use Rattle.quick_cache_store.specs.Views.{items_of}
+use Rattle.quick_cache_store.proofs.lists.CallerLemmas.{items_of-split}
 use Rattle.quick_cache_policy.specs.declared.contents.Contents.{Contents}
 use Rattle.quick_cache_policy.specs.Contents.{AreHashed, state_of}
 

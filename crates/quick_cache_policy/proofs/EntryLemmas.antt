@@ -13,8 +13,8 @@ use Rattle.quick_cache_model.specs.Removal.{weighed, reweighed}
 use Rattle.quick_cache_model.proofs.KeyCounts.{keys, keys-cons, keys-passes}
 use Rattle.quick_cache_model.proofs.LookupLaws.{at_least, at_most}
 use Rattle.quick_cache_model.proofs.OrderLaws.{UpToOrder-map}
-use Rattle.quick_cache_lists.specs.Lists.{with_value}
-use Rattle.quick_cache_lists.specs.Views.{joined_around}
+use Rattle.quick_cache_store.specs.Lists.{with_value}
+use Rattle.quick_cache_store.specs.Views.{joined_around}
 use Rattle.quick_cache_policy.specs.Entering.{ActsOnWritten, CountsHit}
 use Rattle.quick_cache_policy.specs.References.{ReweighsUnder}
 

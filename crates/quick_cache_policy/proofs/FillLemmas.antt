@@ -17,19 +17,19 @@ use Rattle.quick_cache_model.proofs.EachElement.{all-middle}
 use Rattle.quick_cache_model.proofs.OrderLaws.{UpToOrder-map, UpToOrder-exact}
 use Rattle.quick_cache_model.proofs.Valid.Edits.{entered-valid, keys_by-unloaded, keys_by-taken}
 use Rattle.quick_cache_model.proofs.Valid.Orders.{SameButOrder-valid}
-use Rattle.quick_cache_fates.specs.Fates.{residents}
-use Rattle.quick_cache_fates.specs.Leads.{Tells, TellsResidents}
-use Rattle.quick_cache_fates.proofs.Leads.{Leads-same, Leads-from, Leads-changes, Leads-leaves, Tells-append}
-use Rattle.quick_cache_fates.proofs.Residents.{residents-entered, residents-ordered}
-use Rattle.quick_cache_slots.specs.declared.entry.Awaited.{Awaited}
-use Rattle.quick_cache_slots.specs.declared.entry.Entry.{Entry}
-use Rattle.quick_cache_slots.specs.declared.entry.Entry.TheVariants.{Loading as loading_variant}
-use Rattle.quick_cache_lists.specs.Lists.{HeldItem, HeldLoading, Lists, AreApart, StandsIn, IsEntry, PutsItem, entered, without_entry}
-use Rattle.quick_cache_lists.specs.Fills.{FillsToken, filled}
-use Rattle.quick_cache_lists.specs.Placeholders.{HasNoPlaceholder}
-use Rattle.quick_cache_lists.specs.Views.{loading_entry, loading_entries}
-use Rattle.quick_cache_lists.proofs.StandingLemmas.{Standing, standing_of, known_standing, StandsIn-loading}
-use Rattle.quick_cache_policy.specs.declared.admission.Admission.TheVariants.{Admitted as code_admitted, TooHeavy as code_too_heavy}
+use Rattle.quick_cache_model.specs.Fates.{residents}
+use Rattle.quick_cache_model.specs.Leads.{Tells, TellsResidents}
+use Rattle.quick_cache_model.proofs.Leads.{Leads-same, Leads-from, Leads-changes, Leads-leaves, Tells-append}
+use Rattle.quick_cache_model.proofs.Residents.{residents-entered, residents-ordered}
+use Rattle.quick_cache_store.specs.declared.slots.entry.Awaited.{Awaited}
+use Rattle.quick_cache_store.specs.declared.slots.entry.Entry.{Entry}
+use Rattle.quick_cache_store.specs.declared.slots.entry.Entry.TheVariants.{Loading as loading_variant}
+use Rattle.quick_cache_store.specs.Lists.{HeldItem, HeldLoading, Lists, AreApart, StandsIn, IsEntry, PutsItem, entered, without_entry}
+use Rattle.quick_cache_store.specs.Fills.{FillsToken, filled}
+use Rattle.quick_cache_store.specs.Placeholders.{HasNoPlaceholder}
+use Rattle.quick_cache_store.specs.Views.{loading_entry, loading_entries}
+use Rattle.quick_cache_store.proofs.lists.StandingLemmas.{Standing, standing_of, known_standing, StandsIn-loading}
+use Rattle.quick_cache_policy.specs.declared.writing.admission.Admission.TheVariants.{Admitted as code_admitted, TooHeavy as code_too_heavy}
 use Rattle.quick_cache_policy.specs.declared.contents.Contents.{Contents}
 use Rattle.quick_cache_policy.specs.Advances.{Evicting}
 use Rattle.quick_cache_policy.specs.Contents.{AreHashed, IsSound, state_of}

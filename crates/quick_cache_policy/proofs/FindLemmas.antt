@@ -9,12 +9,12 @@ use Rattle.quick_cache_model.specs.CacheState.{CacheState, LoadingEntry, Place, 
 use Rattle.quick_cache_model.specs.Finding.{IsItemAt, IsLoadingAt, IsGhostAt, HasNoItem, HasNoKey as HasNoKeyOf, HasNothing as HasNothingOf}
 use Rattle.quick_cache_model.proofs.EachElement.{all-middle}
 use Rattle.quick_cache_model.proofs.KeyCounts.{one_if, none-from_keys, loading_keys-split}
-use Rattle.quick_cache_lists.specs.Lists.{Lists, HeldItem, HeldLoading, HeldGhost, StandsIn, HasItem, HasNoKey, HasNothing, FindsItem, FindsItemOfAnyHash, FindsLoading, Finds, FindsByKey, items_at}
-use Rattle.quick_cache_lists.specs.Lists.{HasNoItem as HasNoItemUnder}
-use Rattle.quick_cache_lists.specs.Views.{items_of, hashes_of, loading_entry, loading_entries}
-use Rattle.quick_cache_lists.specs.declared.found.Found.{Found}
-use Rattle.quick_cache_lists.specs.declared.found.Found.TheVariants.{Item as found_item, Loading as found_loading, Ghost as found_ghost, Nothing as found_nothing}
-use Rattle.quick_cache_lists.proofs.CallerLemmas.{items_of-split}
+use Rattle.quick_cache_store.specs.Lists.{Lists, HeldItem, HeldLoading, HeldGhost, StandsIn, HasItem, HasNoKey, HasNothing, FindsItem, FindsItemOfAnyHash, FindsLoading, Finds, FindsByKey, items_at}
+use Rattle.quick_cache_store.specs.Lists.{HasNoItem as HasNoItemUnder}
+use Rattle.quick_cache_store.specs.Views.{items_of, hashes_of, loading_entry, loading_entries}
+use Rattle.quick_cache_store.specs.declared.lists.found.Found.{Found}
+use Rattle.quick_cache_store.specs.declared.lists.found.Found.TheVariants.{Item as found_item, Loading as found_loading, Ghost as found_ghost, Nothing as found_nothing}
+use Rattle.quick_cache_store.proofs.lists.CallerLemmas.{items_of-split}
 use Rattle.quick_cache_policy.specs.Contents.{AreHashed, state_of}
 use Rattle.quick_cache_policy.specs.Finding.{AreUnder}
 use Rattle.quick_cache_policy.specs.declared.contents.Contents.{Contents}

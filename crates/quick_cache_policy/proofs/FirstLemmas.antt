@@ -2,12 +2,12 @@
 use Rattle.std.proofs.Common.{◌≡◌, ℕ, ◌==◌, Bool, true, false, if◌then◌else◌, List, [], ◌∷◌, refl, sym, ap, subst, ◌∙◌}
 use Rattle.quick_cache_model.specs.CacheState.{Item, InCold}
 use Rattle.quick_cache_model.specs.Touches.{TakesTouches, raised_by, counted_up}
-use Rattle.quick_cache_lists.specs.Lists.{HeldItem, Lists, HasItemToken, IsItemOf, AreApart, with_change, with_counts}
-use Rattle.quick_cache_lists.specs.Views.{items_of}
-use Rattle.quick_cache_lists.proofs.CallerLemmas.{change-cold}
+use Rattle.quick_cache_store.specs.Lists.{HeldItem, Lists, HasItemToken, IsItemOf, AreApart, with_change, with_counts}
+use Rattle.quick_cache_store.specs.Views.{items_of}
+use Rattle.quick_cache_store.proofs.lists.CallerLemmas.{change-cold}
 use Rattle.quick_cache_policy.specs.declared.contents.Contents.{Contents}
 use Rattle.quick_cache_policy.specs.Advances.{HasTakenTouches, IsFound, LooksAt}
-use Rattle.quick_cache_policy.specs.declared.cold.Search.{Search}
+use Rattle.quick_cache_policy.specs.declared.evicting.cold.Search.{Search}
 use Rattle.quick_cache_policy.specs.Contents.{IsSound}
 use Rattle.quick_cache_policy.specs.Places.{places_in, LosesOnly}
 use Rattle.quick_cache_policy.proofs.PlaceLemmas.{LosesOnly-same}

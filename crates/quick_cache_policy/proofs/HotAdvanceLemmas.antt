@@ -9,11 +9,11 @@ use Rattle.quick_cache_model.specs.Eviction.{AdvancesHot, EvictsVictim}
 use Rattle.quick_cache_model.specs.Hooks.{Rules, Hooks, Calls}
 use Rattle.quick_cache_model.specs.Touches.{counted_up}
 use Rattle.quick_cache_model.proofs.OrderLaws.{UpToOrder-exact, UpToOrder-map}
-use Rattle.quick_cache_fates.specs.Fates.{residents}
-use Rattle.quick_cache_fates.specs.Leads.{Leads}
-use Rattle.quick_cache_fates.proofs.Leads.{Leads-from}
-use Rattle.quick_cache_fates.proofs.Residents.{residents-reordered}
-use Rattle.quick_cache_lists.specs.Views.{items_of}
+use Rattle.quick_cache_model.specs.Fates.{residents}
+use Rattle.quick_cache_model.specs.Leads.{Leads}
+use Rattle.quick_cache_model.proofs.Leads.{Leads-from}
+use Rattle.quick_cache_model.proofs.Residents.{residents-reordered}
+use Rattle.quick_cache_store.specs.Views.{items_of}
 use Rattle.quick_cache_policy.specs.declared.contents.Contents.{Contents}
 use Rattle.quick_cache_policy.specs.Advances.{AreEvictions, Evicting, FirstIsEvicted}
 use Rattle.quick_cache_policy.specs.Contents.{state_of}

@@ -4,10 +4,10 @@ use Rattle.std.proofs.Common.{refl, sym, ap, ap₂, subst, ◌∙◌, arith, if�
 use Rattle.quick_cache_model.specs.CacheState.{Item, InHot}
 use Rattle.quick_cache_model.specs.Eviction.{lowered}
 use Rattle.quick_cache_model.specs.Touches.{counted_up}
-use Rattle.quick_cache_lists.specs.Lists.{HeldItem, Lists, HasItemToken, IsItemOf, AreApart, with_change, with_counts, with_mark}
-use Rattle.quick_cache_lists.proofs.CallerLemmas.{change-hot}
+use Rattle.quick_cache_store.specs.Lists.{HeldItem, Lists, HasItemToken, IsItemOf, AreApart, with_change, with_counts, with_mark}
+use Rattle.quick_cache_store.proofs.lists.CallerLemmas.{change-hot}
 use Rattle.quick_cache_policy.specs.declared.contents.Contents.{Contents}
-use Rattle.quick_cache_policy.specs.declared.hot.Visit.{Visit}
+use Rattle.quick_cache_policy.specs.declared.evicting.hot.Visit.{Visit}
 use Rattle.quick_cache_policy.specs.Advances.{HasTakenTouches, IsVisited, Meets}
 use Rattle.quick_cache_policy.specs.Rounds.{MayTake}
 use Rattle.quick_cache_policy.specs.HotRounds.{VisitsFirst}

@@ -8,14 +8,14 @@ use Rattle.quick_cache_model.specs.CacheState.{Item}
 use Rattle.quick_cache_model.specs.Eviction.{lowered}
 use Rattle.quick_cache_model.specs.Touches.{counted_up}
 use Rattle.quick_cache_model.proofs.TouchLaws.{with_touches-key}
-use Rattle.quick_cache_lists.specs.Lists.{HeldItem, Lists, ring_turned, turned}
-use Rattle.quick_cache_lists.specs.Views.{items_of}
-use Rattle.quick_cache_lists.proofs.CallerLemmas.{items_of-split}
+use Rattle.quick_cache_store.specs.Lists.{HeldItem, Lists, ring_turned, turned}
+use Rattle.quick_cache_store.specs.Views.{items_of}
+use Rattle.quick_cache_store.proofs.lists.CallerLemmas.{items_of-split}
 use Rattle.quick_cache_policy.specs.declared.contents.Contents.{Contents}
-use Rattle.quick_cache_policy.specs.declared.hot.Round.{Round}
-use Rattle.quick_cache_policy.specs.declared.hot.Round.TheVariants.{AllPinned as round_all_pinned, SomeUnpinned as round_some_unpinned, Victim as round_victim}
-use Rattle.quick_cache_policy.specs.declared.hot.Visit.{Visit}
-use Rattle.quick_cache_policy.specs.declared.hot.Visit.TheVariants.{Pinned, Marked, Victim}
+use Rattle.quick_cache_policy.specs.declared.evicting.hot.Round.{Round}
+use Rattle.quick_cache_policy.specs.declared.evicting.hot.Round.TheVariants.{AllPinned as round_all_pinned, SomeUnpinned as round_some_unpinned, Victim as round_victim}
+use Rattle.quick_cache_policy.specs.declared.evicting.hot.Visit.{Visit}
+use Rattle.quick_cache_policy.specs.declared.evicting.hot.Visit.TheVariants.{Pinned, Marked, Victim}
 use Rattle.quick_cache_policy.specs.Contents.{IsSound}
 use Rattle.quick_cache_policy.specs.HotRounds.{VisitsHot, VisitsFirst, RoundEnds}
 use Rattle.quick_cache_policy.specs.Rounds.{MayTake, Going, KeepsItems}

@@ -2,10 +2,10 @@
 use Rattle.std.proofs.Common.{◌≡◌, ℕ, ◌+◌, ◌^◌, ◌<◌, Bool, true, false, length}
 use Rattle.std.proofs.Common.{refl, ◌∙◌, subst}
 use Rattle.quick_cache_model.specs.declared.queue.Queue.TheVariants.{Hot}
-use Rattle.quick_cache_lists.specs.Views.{items_of}
+use Rattle.quick_cache_store.specs.Views.{items_of}
 use Rattle.quick_cache_policy.specs.declared.contents.Contents.{Contents}
-use Rattle.quick_cache_policy.specs.declared.hot.Round.{Round}
-use Rattle.quick_cache_policy.specs.declared.hot.Round.TheVariants.{AllPinned as round_all_pinned, SomeUnpinned as round_some_unpinned, Victim as round_victim}
+use Rattle.quick_cache_policy.specs.declared.evicting.hot.Round.{Round}
+use Rattle.quick_cache_policy.specs.declared.evicting.hot.Round.TheVariants.{AllPinned as round_all_pinned, SomeUnpinned as round_some_unpinned, Victim as round_victim}
 use Rattle.quick_cache_policy.specs.Contents.{IsSound}
 use Rattle.quick_cache_policy.specs.HotRounds.{VisitsHot, RoundEnds, SeekEnds}
 use Rattle.quick_cache_policy.specs.Places.{places_in, LosesOnly}

@@ -13,7 +13,7 @@ use Rattle.quick_cache_model.proofs.TouchLaws.{with_touches-key, with_touches-we
 use Rattle.quick_cache_model.proofs.TouchLaws.{with_touches-queue, with_touches-mark}
 use Rattle.quick_cache_model.specs.Removal.{pair_of}
 use Rattle.quick_cache_model.proofs.KeyCounts.{keys}
-use Rattle.quick_cache_fates.proofs.Residents.{pairs-raised, pairs-lowered}
+use Rattle.quick_cache_model.proofs.Residents.{pairs-raised, pairs-lowered}
 use Rattle.quick_cache_policy.specs.Rounds.{HaveAtMost, MayRaise, HasVictimFirst, IsLowered, Going}
 use Rattle.quick_cache_policy.specs.Rounds.{Stopped, Passed, AfterTouches, EndsAllPinned}
 use Rattle.quick_cache_policy.specs.Rounds.{EndsSomeUnpinned, EndsAtVictim, MeetsVictim, GivesUp}

@@ -5,11 +5,11 @@ use Rattle.std.specs.List.{Contains}
 use Rattle.std.proofs.lemmas.List.{map-append}
 use Rattle.std.proofs.lemmas.List.Elements.{Contains-append_cases}
 use Rattle.quick_cache_model.specs.CacheState.{Item, keys_by}
-use Rattle.quick_cache_slots.specs.declared.entry.Awaited.{Awaited}
-use Rattle.quick_cache_slots.specs.declared.entry.Entry.TheVariants.{Loading as loading_variant}
-use Rattle.quick_cache_lists.specs.Fills.{FillsToken}
-use Rattle.quick_cache_lists.specs.Lists.{HeldItem, HeldLoading, HeldGhost, Lists, AreApart, StandsIn, PutsItem, PutsLast, Replaces, Reweighs, behind, ahead_of, restarted, without_entry, with_weight}
-use Rattle.quick_cache_lists.proofs.CallerLemmas.{without-ghost}
+use Rattle.quick_cache_store.specs.declared.slots.entry.Awaited.{Awaited}
+use Rattle.quick_cache_store.specs.declared.slots.entry.Entry.TheVariants.{Loading as loading_variant}
+use Rattle.quick_cache_store.specs.Fills.{FillsToken}
+use Rattle.quick_cache_store.specs.Lists.{HeldItem, HeldLoading, HeldGhost, Lists, AreApart, StandsIn, PutsItem, PutsLast, Replaces, Reweighs, behind, ahead_of, restarted, without_entry, with_weight}
+use Rattle.quick_cache_store.proofs.lists.CallerLemmas.{without-ghost}
 use Rattle.quick_cache_policy.specs.declared.contents.Contents.{Contents}
 use Rattle.quick_cache_policy.specs.Contents.{IsSound, state_of}
 use Rattle.quick_cache_policy.specs.Places.{place_at, places_in, places_of, LosesOnly, KeepsPlaces}

@@ -8,10 +8,10 @@ use Rattle.quick_cache_model.specs.Hooks.{Rules, HookCall}
 use Rattle.quick_cache_model.proofs.Eviction.Keys.{EvictsVictim-keys}
 use Rattle.quick_cache_model.proofs.KeyCounts.{keys, keys-cons, keys-append, keys-split, keys-raised}
 use Rattle.quick_cache_model.proofs.OrderLaws.{SameButOrder-keys}
-use Rattle.quick_cache_lists.specs.Views.{items_of}
+use Rattle.quick_cache_store.specs.Views.{items_of}
 use Rattle.quick_cache_policy.specs.declared.contents.Contents.{Contents}
-use Rattle.quick_cache_policy.specs.declared.cold.Search.{Search}
-use Rattle.quick_cache_policy.specs.declared.cold.Search.TheVariants.{Marked as found_marked, Victim as found_victim, AllPassed as found_none}
+use Rattle.quick_cache_policy.specs.declared.evicting.cold.Search.{Search}
+use Rattle.quick_cache_policy.specs.declared.evicting.cold.Search.TheVariants.{Marked as found_marked, Victim as found_victim, AllPassed as found_none}
 use Rattle.quick_cache_policy.specs.Advances.{FirstIsEvicted, FirstIsPromoted, StopsAt, SearchEnds, Searches}
 use Rattle.quick_cache_policy.specs.Contents.{state_of}
 use Rattle.quick_cache_policy.specs.HotRounds.{SeekEnds}

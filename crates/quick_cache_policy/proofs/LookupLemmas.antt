@@ -10,9 +10,9 @@ use Rattle.quick_cache_model.specs.Touches.{counted_up}
 use Rattle.quick_cache_model.proofs.EachElement.{all-without}
 use Rattle.quick_cache_model.proofs.OrderLaws.{UpToOrder-exact}
 use Rattle.quick_cache_model.proofs.Valid.Lookups.{LooksUp-valid, Removes-valid}
-use Rattle.quick_cache_lists.specs.Lists.{HeldItem, HeldLoading, HeldGhost, Lists, AreApart, StandsIn, HasItem, HasNoKey, IsItemOf, FindsItem, items_at, with_items, with_change, without_entry}
-use Rattle.quick_cache_lists.specs.Views.{items_of, hashes_of, loading_entry, loading_entries}
-use Rattle.quick_cache_lists.proofs.CallerLemmas.{change-hot, change-cold, change-still, without-hot, without-cold, without-still, without-loading, without-ghost}
+use Rattle.quick_cache_store.specs.Lists.{HeldItem, HeldLoading, HeldGhost, Lists, AreApart, StandsIn, HasItem, HasNoKey, IsItemOf, FindsItem, items_at, with_items, with_change, without_entry}
+use Rattle.quick_cache_store.specs.Views.{items_of, hashes_of, loading_entry, loading_entries}
+use Rattle.quick_cache_store.proofs.lists.CallerLemmas.{change-hot, change-cold, change-still, without-hot, without-cold, without-still, without-loading, without-ghost}
 use Rattle.quick_cache_policy.specs.declared.contents.Contents.{Contents}
 use Rattle.quick_cache_policy.specs.Contents.{AreHashed, IsSound, state_of}
 use Rattle.quick_cache_policy.specs.Entering.{CountsHit}

@@ -5,8 +5,8 @@ use Rattle.std.proofs.lemmas.List.{append-nil}
 use Rattle.quick_cache_model.specs.CacheState.{CacheState, UpToOrder}
 use Rattle.quick_cache_model.specs.Hooks.{HookCall, Hooks, Calls}
 use Rattle.quick_cache_model.proofs.HookLaws.{RunsHooks-append}
-use Rattle.quick_cache_fates.specs.Fates.{residents}
-use Rattle.quick_cache_fates.proofs.Leads.{Leads-same, Tells-append}
+use Rattle.quick_cache_model.specs.Fates.{residents}
+use Rattle.quick_cache_model.proofs.Leads.{Leads-same, Tells-append}
 use Rattle.quick_cache_policy.specs.Advances.{AreEvictions, Evicting}
 
 -- the calls of evictions, and more of them

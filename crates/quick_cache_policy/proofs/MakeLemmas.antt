@@ -13,10 +13,10 @@ use Rattle.quick_cache_model.specs.Touches.{counted_up}
 use Rattle.quick_cache_model.proofs.EachElement.{all-push}
 use Rattle.quick_cache_model.proofs.Valid.Edits.{after_miss-valid, with_placeholder-valid}
 use Rattle.quick_cache_model.proofs.Valid.Orders.{SameButOrder-valid}
-use Rattle.quick_cache_slots.specs.declared.entry.Awaited.{Awaited}
-use Rattle.quick_cache_slots.specs.declared.entry.Entry.TheVariants.{Loading as loading_variant}
-use Rattle.quick_cache_lists.specs.Lists.{HeldLoading, Lists, PutsLast, slots_left}
-use Rattle.quick_cache_lists.specs.Views.{loading_entry, loading_entries}
+use Rattle.quick_cache_store.specs.declared.slots.entry.Awaited.{Awaited}
+use Rattle.quick_cache_store.specs.declared.slots.entry.Entry.TheVariants.{Loading as loading_variant}
+use Rattle.quick_cache_store.specs.Lists.{HeldLoading, Lists, PutsLast, slots_left}
+use Rattle.quick_cache_store.specs.Views.{loading_entry, loading_entries}
 use Rattle.quick_cache_policy.specs.declared.contents.Contents.{Contents}
 use Rattle.quick_cache_policy.specs.Contents.{IsSound, state_of}
 use Rattle.quick_cache_policy.specs.Loading.{MakesNone, Makes}

@@ -17,12 +17,12 @@ use Rattle.quick_cache_model.proofs.OrderLaws.{SameButOrder-trans, entered-reord
 use Rattle.quick_cache_model.proofs.Valid.Edits.{entered-valid}
 use Rattle.quick_cache_model.proofs.Valid.Orders.{SameButOrder-valid}
 use Rattle.quick_cache_model.specs.Removal.{pair_of}
-use Rattle.quick_cache_fates.specs.Fates.{residents}
-use Rattle.quick_cache_fates.specs.Leads.{Tells, TellsResidents, TellsBeside}
-use Rattle.quick_cache_fates.proofs.Leads.{Leads-to, Leads-beside}
-use Rattle.quick_cache_fates.proofs.Residents.{residents-entered, residents-ordered}
-use Rattle.quick_cache_slots.specs.declared.entry.Entry.TheVariants.{Item as item_variant}
-use Rattle.quick_cache_lists.specs.Lists.{HeldItem, Lists, PutsLast, entered}
+use Rattle.quick_cache_model.specs.Fates.{residents}
+use Rattle.quick_cache_model.specs.Leads.{Tells, TellsResidents, TellsBeside}
+use Rattle.quick_cache_model.proofs.Leads.{Leads-to, Leads-beside}
+use Rattle.quick_cache_model.proofs.Residents.{residents-entered, residents-ordered}
+use Rattle.quick_cache_store.specs.declared.slots.entry.Entry.TheVariants.{Item as item_variant}
+use Rattle.quick_cache_store.specs.Lists.{HeldItem, Lists, PutsLast, entered}
 use Rattle.quick_cache_policy.specs.declared.contents.Contents.{Contents}
 use Rattle.quick_cache_policy.specs.Contents.{IsSound, state_of}
 use Rattle.quick_cache_policy.proofs.SoundLemmas.{state_of-reordered, AreHashed-reordered}

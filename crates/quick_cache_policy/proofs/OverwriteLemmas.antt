@@ -18,13 +18,13 @@ use Rattle.quick_cache_model.proofs.Valid.Orders.{SameButOrder-valid}
 use Rattle.std.specs.List.{AllByRecursion}
 use Rattle.quick_cache_model.proofs.EachElement.{all-without}
 use Rattle.quick_cache_model.specs.Removal.{pair_of}
-use Rattle.quick_cache_fates.specs.Fates.{residents}
-use Rattle.quick_cache_fates.specs.Leads.{Tells, TellsResidents, TellsBeside}
-use Rattle.quick_cache_slots.specs.declared.entry.Entry.{Entry}
-use Rattle.quick_cache_slots.specs.declared.entry.Entry.TheVariants.{Item as item_variant}
-use Rattle.quick_cache_lists.specs.Lists.{HeldItem, HeldLoading, HeldGhost, Lists, AreApart, StandsIn, Replaces, PutsLast, HasNoKey, FindsLoading, entered, without_entry}
-use Rattle.quick_cache_lists.specs.Views.{hashes_of, loading_entry, loading_entries}
-use Rattle.quick_cache_lists.proofs.StandingLemmas.{ghost-hash, loading-hash}
+use Rattle.quick_cache_model.specs.Fates.{residents}
+use Rattle.quick_cache_model.specs.Leads.{Tells, TellsResidents, TellsBeside}
+use Rattle.quick_cache_store.specs.declared.slots.entry.Entry.{Entry}
+use Rattle.quick_cache_store.specs.declared.slots.entry.Entry.TheVariants.{Item as item_variant}
+use Rattle.quick_cache_store.specs.Lists.{HeldItem, HeldLoading, HeldGhost, Lists, AreApart, StandsIn, Replaces, PutsLast, HasNoKey, FindsLoading, entered, without_entry}
+use Rattle.quick_cache_store.specs.Views.{hashes_of, loading_entry, loading_entries}
+use Rattle.quick_cache_store.proofs.lists.StandingLemmas.{ghost-hash, loading-hash}
 use Rattle.quick_cache_policy.specs.declared.contents.Contents.{Contents}
 use Rattle.quick_cache_policy.specs.Contents.{AreHashed, IsSound, state_of}
 use Rattle.quick_cache_policy.specs.Finding.{AreUnder}

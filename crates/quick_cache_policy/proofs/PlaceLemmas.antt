@@ -8,7 +8,7 @@ use Rattle.std.proofs.lemmas.List.Sorted.{Contains-permutation, IsPermutation-sy
 use Rattle.quick_cache_model.specs.declared.queue.Queue.{Queue}
 use Rattle.quick_cache_model.specs.declared.queue.Queue.TheVariants.{Hot, Cold}
 use Rattle.quick_cache_model.specs.CacheState.{Item, ring_place}
-use Rattle.quick_cache_lists.specs.Lists.{HeldItem, Lists, SameButOrder, items_at, with_items, entered, turned, changed_held, with_change}
+use Rattle.quick_cache_store.specs.Lists.{HeldItem, Lists, SameButOrder, items_at, with_items, entered, turned, changed_held, with_change}
 use Rattle.quick_cache_policy.specs.Places.{place_at, places_in, places_of, LosesOnly}
 
 module _ {K : Type 0} where

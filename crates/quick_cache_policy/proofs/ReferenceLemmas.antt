@@ -14,9 +14,9 @@ use Rattle.quick_cache_model.proofs.OrderLaws.{SameButOrder-keys}
 use Rattle.quick_cache_model.proofs.Valid.Edits.{instead-valid}
 use Rattle.quick_cache_model.proofs.Valid.Places.{keys_by-rewritten, rewritten-same, IsInPlace-marked}
 use Rattle.quick_cache_model.proofs.Valid.States.{IsValid-in_place}
-use Rattle.quick_cache_lists.specs.Lists.{HeldItem, Lists, AreApart, HasItem, FindsItem, IsItemOf, Rewrites, Reweighs, with_items, with_change, with_value, with_weight}
-use Rattle.quick_cache_lists.specs.Views.{items_of}
-use Rattle.quick_cache_lists.proofs.StandingLemmas.{found-same}
+use Rattle.quick_cache_store.specs.Lists.{HeldItem, Lists, AreApart, HasItem, FindsItem, IsItemOf, Rewrites, Reweighs, with_items, with_change, with_value, with_weight}
+use Rattle.quick_cache_store.specs.Views.{items_of}
+use Rattle.quick_cache_store.proofs.lists.StandingLemmas.{found-same}
 use Rattle.quick_cache_policy.specs.declared.contents.Contents.{Contents}
 use Rattle.quick_cache_policy.specs.Contents.{AreHashed, IsSound, state_of}
 use Rattle.quick_cache_policy.specs.References.{count_under, valued, with_value_under, ReweighsUnder}

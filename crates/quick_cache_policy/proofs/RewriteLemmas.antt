@@ -15,11 +15,11 @@ use Rattle.quick_cache_model.proofs.Valid.Orders.{SameButOrder-valid}
 use Rattle.quick_cache_model.proofs.Valid.Places.{IsInPlace-marked}
 use Rattle.quick_cache_model.proofs.Valid.States.{IsValid-in_place}
 use Rattle.quick_cache_model.specs.Removal.{pair_of}
-use Rattle.quick_cache_fates.specs.Fates.{residents}
-use Rattle.quick_cache_fates.specs.Leads.{Tells, TellsResidents, TellsBeside}
-use Rattle.quick_cache_lists.specs.Lists.{HeldItem, Lists, AreApart, FindsItem, IsItemOf, Rewrites, items_at, with_items, entered, held_rewritten}
-use Rattle.quick_cache_lists.specs.Views.{items_of}
-use Rattle.quick_cache_lists.proofs.StandingLemmas.{found-same}
+use Rattle.quick_cache_model.specs.Fates.{residents}
+use Rattle.quick_cache_model.specs.Leads.{Tells, TellsResidents, TellsBeside}
+use Rattle.quick_cache_store.specs.Lists.{HeldItem, Lists, AreApart, FindsItem, IsItemOf, Rewrites, items_at, with_items, entered, held_rewritten}
+use Rattle.quick_cache_store.specs.Views.{items_of}
+use Rattle.quick_cache_store.proofs.lists.StandingLemmas.{found-same}
 use Rattle.quick_cache_policy.specs.declared.contents.Contents.{Contents}
 use Rattle.quick_cache_policy.specs.Contents.{IsSound, state_of}
 use Rattle.quick_cache_policy.proofs.SoundLemmas.{state_of-reordered, AreHashed-reordered}

@@ -18,10 +18,10 @@ use Rattle.quick_cache_model.proofs.Valid.Places.{keys_by-without, IsInPlace-mar
 use Rattle.quick_cache_model.proofs.Valid.States.{EvictsVictim-valid, IsValid-in_place, IsValid-items}
 use Rattle.quick_cache_model.proofs.Valid.Edits.{without-valid}
 use Rattle.quick_cache_model.proofs.Valid.Orders.{SameButOrder-valid}
-use Rattle.quick_cache_lists.specs.Lists.{HeldItem, HeldLoading, HeldGhost, Lists}
-use Rattle.quick_cache_lists.specs.Lists.{items_at as held_at, with_items as with_held}
-use Rattle.quick_cache_lists.specs.Lists.{entered as held_entered, SameButOrder as HeldSame}
-use Rattle.quick_cache_lists.specs.Views.{items_of, hashes_of, loading_entry}
+use Rattle.quick_cache_store.specs.Lists.{HeldItem, HeldLoading, HeldGhost, Lists}
+use Rattle.quick_cache_store.specs.Lists.{items_at as held_at, with_items as with_held}
+use Rattle.quick_cache_store.specs.Lists.{entered as held_entered, SameButOrder as HeldSame}
+use Rattle.quick_cache_store.specs.Views.{items_of, hashes_of, loading_entry}
 use Rattle.quick_cache_policy.specs.declared.contents.Contents.{Contents}
 use Rattle.quick_cache_policy.specs.Contents.{AreHashed, IsSound, state_of, ring_count}
 use Rattle.quick_cache_policy.specs.Advances.{FirstIsEvicted, FirstIsPromoted}

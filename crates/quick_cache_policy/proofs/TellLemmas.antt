@@ -10,14 +10,14 @@ use Rattle.quick_cache_model.specs.CacheState.{CacheState, Item, Place, InHot, I
 use Rattle.quick_cache_model.specs.Hooks.{Rules, HookCall, BeforeEvict, EvictCold, evicted}
 use Rattle.quick_cache_model.specs.Removal.{pair_of}
 use Rattle.quick_cache_model.specs.Writes.{TakesOutItem}
-use Rattle.quick_cache_fates.specs.Fates.{residents}
-use Rattle.quick_cache_fates.specs.Leads.{Leads, Tells, TellsResidents, TellsBeside}
-use Rattle.quick_cache_fates.proofs.Leads.{Leads-same, Leads-from, Leads-to, Leads-changes, Leads-beside, Tells-append, swapped}
-use Rattle.quick_cache_fates.proofs.Residents.{residents-split, residents-put, residents-entered, residents-rewritten, residents-reordered, residents-ordered, pairs-raised}
-use Rattle.quick_cache_fates.proofs.Victims.{evicted-tells, EvictsVictim-tells}
-use Rattle.quick_cache_policy.specs.declared.admission.Admission.TheVariants.{Admitted as code_admitted}
-use Rattle.quick_cache_policy.specs.declared.cold.Search.{Search}
-use Rattle.quick_cache_policy.specs.declared.cold.Search.TheVariants.{Marked as found_marked, Victim as found_victim, AllPassed as found_none}
+use Rattle.quick_cache_model.specs.Fates.{residents}
+use Rattle.quick_cache_model.specs.Leads.{Leads, Tells, TellsResidents, TellsBeside}
+use Rattle.quick_cache_model.proofs.Leads.{Leads-same, Leads-from, Leads-to, Leads-changes, Leads-beside, Tells-append, swapped}
+use Rattle.quick_cache_model.proofs.Residents.{residents-split, residents-put, residents-entered, residents-rewritten, residents-reordered, residents-ordered, pairs-raised}
+use Rattle.quick_cache_model.proofs.Victims.{evicted-tells, EvictsVictim-tells}
+use Rattle.quick_cache_policy.specs.declared.writing.admission.Admission.TheVariants.{Admitted as code_admitted}
+use Rattle.quick_cache_policy.specs.declared.evicting.cold.Search.{Search}
+use Rattle.quick_cache_policy.specs.declared.evicting.cold.Search.TheVariants.{Marked as found_marked, Victim as found_victim, AllPassed as found_none}
 use Rattle.quick_cache_policy.specs.Advances.{FirstIsEvicted, FirstIsPromoted, StopsAt, SearchEnds, Searches}
 use Rattle.quick_cache_policy.specs.HotRounds.{SeekEnds}
 use Rattle.quick_cache_policy.specs.Writing.{Checks}

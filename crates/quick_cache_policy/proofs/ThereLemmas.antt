@@ -3,7 +3,7 @@ use Rattle.std.proofs.Common.{◌≡◌, ◌==◌, ℕ, Bool, true, false, if◌
 use Rattle.std.specs.List.{Contains}
 use Rattle.std.proofs.lemmas.List.Sorted.{IsPermutation-sym}
 use Rattle.quick_cache_model.specs.CacheState.{Item, Place, InHot, InCold, InStill, place_of_item}
-use Rattle.quick_cache_lists.specs.Lists.{HeldItem, Lists, HasItem, Rewrites, SameButOrder, items_at, with_items, entered, held_rewritten}
+use Rattle.quick_cache_store.specs.Lists.{HeldItem, Lists, HasItem, Rewrites, SameButOrder, items_at, with_items, entered, held_rewritten}
 use Rattle.quick_cache_policy.specs.Places.{places_of}
 use Rattle.quick_cache_policy.proofs.WrittenPlaces.{HasItem-place, reordered-places}
 

@@ -5,8 +5,8 @@ use Rattle.std.specs.Int.NonZero.{non_zero_u32_get as number}
 use Rattle.std.specs.declared.num.NonZeroU32.{NonZeroU32 as Token}
 use Rattle.std.proofs.lemmas.Bool.{cases_eq}
 use Rattle.quick_cache_model.specs.CacheState.{CacheState, Item, Place, InHot, InCold, InStill, item_count}
-use Rattle.quick_cache_lists.specs.Lists.{HeldItem, Lists, AreApart, StandsIn, HasItem, HasItemToken, IsItemOf, IsFirstAbove, items_at, without_entry}
-use Rattle.quick_cache_lists.specs.Views.{items_of}
+use Rattle.quick_cache_store.specs.Lists.{HeldItem, Lists, AreApart, StandsIn, HasItem, HasItemToken, IsItemOf, IsFirstAbove, items_at, without_entry}
+use Rattle.quick_cache_store.specs.Views.{items_of}
 use Rattle.quick_cache_model.specs.Removal.{RemovesIf, pair_of}
 use Rattle.quick_cache_policy.specs.Contents.{state_of}
 use Rattle.quick_cache_policy.specs.Predicates.{RemovesAsked}

@@ -7,14 +7,14 @@ use Rattle.quick_cache_model.specs.declared.queue.Queue.{Queue}
 use Rattle.quick_cache_model.specs.declared.queue.Queue.TheVariants.{Hot, Cold}
 use Rattle.quick_cache_model.specs.CacheState.{Item, Place, InStill, ring_place}
 use Rattle.quick_cache_model.specs.Eviction.{newest}
-use Rattle.quick_cache_slots.specs.declared.entry.Entry.{Entry}
-use Rattle.quick_cache_slots.specs.declared.entry.Entry.TheVariants.{Item as item_variant, Ghost as ghost_variant}
-use Rattle.quick_cache_lists.specs.Lists.{HeldItem, HeldGhost, Lists, HasItem, AreApart, Replaces}
-use Rattle.quick_cache_lists.specs.Lists.{PutsLast, SameButOrder, items_at, with_items, entered}
-use Rattle.quick_cache_lists.specs.Lists.{without_entry, Requeues, requeued}
-use Rattle.quick_cache_lists.specs.Views.{hashes_of}
-use Rattle.quick_cache_lists.proofs.OneEntryLemmas.{first-item, without-first, last_ghost-hash}
-use Rattle.quick_cache_lists.proofs.OneEntryLemmas.{without-last_ghost}
+use Rattle.quick_cache_store.specs.declared.slots.entry.Entry.{Entry}
+use Rattle.quick_cache_store.specs.declared.slots.entry.Entry.TheVariants.{Item as item_variant, Ghost as ghost_variant}
+use Rattle.quick_cache_store.specs.Lists.{HeldItem, HeldGhost, Lists, HasItem, AreApart, Replaces}
+use Rattle.quick_cache_store.specs.Lists.{PutsLast, SameButOrder, items_at, with_items, entered}
+use Rattle.quick_cache_store.specs.Lists.{without_entry, Requeues, requeued}
+use Rattle.quick_cache_store.specs.Views.{hashes_of}
+use Rattle.quick_cache_store.proofs.lists.OneEntryLemmas.{first-item, without-first, last_ghost-hash}
+use Rattle.quick_cache_store.proofs.lists.OneEntryLemmas.{without-last_ghost}
 
 -- the hashes of all but the oldest ghost
 pub hashes_of-drop : (n : ℕ) (ghosts rest : List HeldGhost) (shade : HeldGhost)

@@ -14,12 +14,12 @@ use Rattle.quick_cache_model.proofs.EachElement.{all-push}
 use Rattle.quick_cache_model.proofs.OrderLaws.{UpToOrder-exact}
 use Rattle.quick_cache_model.proofs.Valid.Lookups.{ActsOnEntry-valid}
 use Rattle.quick_cache_model.proofs.Valid.Orders.{SameButOrder-valid}
-use Rattle.quick_cache_slots.specs.declared.entry.Awaited.{Awaited}
-use Rattle.quick_cache_slots.specs.declared.entry.Entry.TheVariants.{Loading as loading_variant}
-use Rattle.quick_cache_lists.specs.Lists.{HeldItem, HeldLoading, Lists, AreApart, FindsItem, HasItem, PutsLast, items_at, with_items, with_value, without_entry}
-use Rattle.quick_cache_lists.specs.Views.{items_of, joined_around, loading_entry, loading_entries}
-use Rattle.quick_cache_lists.proofs.CallerLemmas.{without-hot, without-cold, without-still, items_of-around}
-use Rattle.quick_cache_lists.proofs.StandingLemmas.{found-same}
+use Rattle.quick_cache_store.specs.declared.slots.entry.Awaited.{Awaited}
+use Rattle.quick_cache_store.specs.declared.slots.entry.Entry.TheVariants.{Loading as loading_variant}
+use Rattle.quick_cache_store.specs.Lists.{HeldItem, HeldLoading, Lists, AreApart, FindsItem, HasItem, PutsLast, items_at, with_items, with_value, without_entry}
+use Rattle.quick_cache_store.specs.Views.{items_of, joined_around, loading_entry, loading_entries}
+use Rattle.quick_cache_store.proofs.lists.CallerLemmas.{without-hot, without-cold, without-still, items_of-around}
+use Rattle.quick_cache_store.proofs.lists.StandingLemmas.{found-same}
 use Rattle.quick_cache_policy.specs.declared.contents.Contents.{Contents}
 use Rattle.quick_cache_policy.specs.Contents.{AreHashed, IsSound, state_of}
 use Rattle.quick_cache_policy.specs.Entering.{RemovesWritten, TakesWeighed}

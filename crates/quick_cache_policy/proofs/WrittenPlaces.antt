@@ -9,10 +9,10 @@ use Rattle.std.proofs.lemmas.List.Elements.{Contains-append_left, Contains-appen
 use Rattle.std.proofs.lemmas.List.Sorted.{Contains-permutation, IsPermutation-sym, IsPermutation-map}
 use Rattle.quick_cache_model.specs.CacheState.{CacheState, Item, Place, InHot, InCold, InStill, IsValid, keys_by, place_of_item}
 use Rattle.quick_cache_model.specs.Finding.{HasNoItem}
-use Rattle.quick_cache_slots.specs.declared.entry.Entry.{Entry}
-use Rattle.quick_cache_slots.specs.declared.entry.Entry.TheVariants.{Item as item_variant}
-use Rattle.quick_cache_lists.specs.Lists.{HeldItem, Lists, StandsIn, HasItem, SameButOrder, PutsLast, Replaces, Rewrites, items_at, with_items, entered, held_rewritten, dropped, without_entry}
-use Rattle.quick_cache_lists.specs.Views.{items_of}
+use Rattle.quick_cache_store.specs.declared.slots.entry.Entry.{Entry}
+use Rattle.quick_cache_store.specs.declared.slots.entry.Entry.TheVariants.{Item as item_variant}
+use Rattle.quick_cache_store.specs.Lists.{HeldItem, Lists, StandsIn, HasItem, SameButOrder, PutsLast, Replaces, Rewrites, items_at, with_items, entered, held_rewritten, dropped, without_entry}
+use Rattle.quick_cache_store.specs.Views.{items_of}
 use Rattle.quick_cache_policy.specs.declared.contents.Contents.{Contents}
 use Rattle.quick_cache_policy.specs.Contents.{state_of}
 use Rattle.quick_cache_policy.specs.Places.{place_at, places_in, places_of, LosesOnly, KeepsPlaces, WritesPlace}

@@ -7,15 +7,15 @@ use Rattle.quick_cache_model.specs.CacheState.{CacheState, Item, UpToOrder, ring
 use Rattle.quick_cache_model.specs.Eviction.{EvictsVictim}
 use Rattle.quick_cache_model.specs.Hooks.{Rules, Hooks, HookCall, BeforeEvict, evicted}
 use Rattle.quick_cache_model.specs.Touches.{RaisesMarks, TakesTouches, counted_up}
-use Rattle.quick_cache_fates.specs.Leads.{TellsResidents}
-use Rattle.quick_cache_lists.specs.Lists.{IsItemOf, with_change, with_counts, with_mark}
+use Rattle.quick_cache_model.specs.Leads.{TellsResidents}
+use Rattle.quick_cache_store.specs.Lists.{IsItemOf, with_change, with_counts, with_mark}
 use Rattle.quick_cache_policy.specs.declared.contents.Contents.{Contents}
-use Rattle.quick_cache_policy.specs.declared.hot.Visit.{Visit}
-use Rattle.quick_cache_policy.specs.declared.hot.Visit.TheVariants.{Pinned, Marked, Victim}
-use Rattle.quick_cache_policy.specs.declared.victim.Fate.{Fate}
-use Rattle.quick_cache_policy.specs.declared.victim.Fate.TheVariants.{Stays as fate_stays, Leaves as fate_leaves}
-use Rattle.quick_cache_policy.specs.declared.cold.Search.{Search}
-use Rattle.quick_cache_policy.specs.declared.cold.Search.TheVariants.{Marked as found_marked, Victim as found_victim, AllPassed as found_none}
+use Rattle.quick_cache_policy.specs.declared.evicting.hot.Visit.{Visit}
+use Rattle.quick_cache_policy.specs.declared.evicting.hot.Visit.TheVariants.{Pinned, Marked, Victim}
+use Rattle.quick_cache_policy.specs.declared.evicting.victim.Fate.{Fate}
+use Rattle.quick_cache_policy.specs.declared.evicting.victim.Fate.TheVariants.{Stays as fate_stays, Leaves as fate_leaves}
+use Rattle.quick_cache_policy.specs.declared.evicting.cold.Search.{Search}
+use Rattle.quick_cache_policy.specs.declared.evicting.cold.Search.TheVariants.{Marked as found_marked, Victim as found_victim, AllPassed as found_none}
 
 -- Each victim is told to `before_evict`, and then, unless it stays because it weighs nothing any
 -- more, to the hook of its queue.

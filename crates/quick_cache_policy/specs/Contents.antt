@@ -3,8 +3,8 @@ use Rattle.std.specs.Prelude.{◌≡◌, ℕ, ◌≤◌, ◌<◌, ◌^◌, min, 
 use Rattle.std.specs.List.{AllByRecursion}
 use Rattle.quick_cache_model.specs.declared.queue.Queue.{Queue}
 use Rattle.quick_cache_model.specs.CacheState.{CacheState, IsValid, ring_place}
-use Rattle.quick_cache_lists.specs.Lists.{Lists, items_at}
-use Rattle.quick_cache_lists.specs.Views.{items_of, hashes_of, loading_entries}
+use Rattle.quick_cache_store.specs.Lists.{Lists, items_at}
+use Rattle.quick_cache_store.specs.Views.{items_of, hashes_of, loading_entries}
 use Rattle.quick_cache_policy.specs.declared.contents.Contents.{Contents}
 use Rattle.quick_cache_policy.specs.Work.{Work}
 

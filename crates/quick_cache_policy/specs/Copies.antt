@@ -2,7 +2,7 @@
 use Rattle.std.specs.Prelude.{◌≡◌, ℕ, Bool, true}
 use Rattle.std.specs.List.{AllZip}
 use Rattle.quick_cache_model.specs.CacheState.{CacheState, LoadingEntry}
-use Rattle.quick_cache_lists.specs.Copies.{IsItemCopy}
+use Rattle.quick_cache_store.specs.ListCopies.{IsItemCopy}
 
 -- a clone of a key is equal to it, as the keys' own test says
 abbrev pub ClonesAreEqual : {K : Type 0} → (K → K → Bool) → (K → K → Type 0) → Type 0

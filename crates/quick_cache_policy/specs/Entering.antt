@@ -12,12 +12,12 @@ use Rattle.quick_cache_model.specs.Hooks.{Rules}
 use Rattle.quick_cache_model.specs.Lookups.{looked_up, after_hit}
 use Rattle.quick_cache_model.specs.Placeholders.{MeetsPlaceholder}
 use Rattle.quick_cache_model.specs.Removal.{pair_of}
-use Rattle.quick_cache_lists.specs.Lists.{IsItemOf, with_value, without_entry}
+use Rattle.quick_cache_store.specs.Lists.{IsItemOf, with_value, without_entry}
 use Rattle.quick_cache_policy.specs.declared.contents.Contents.{Contents}
-use Rattle.quick_cache_model.specs.declared.entry.EntryAction.{EntryAction}
-use Rattle.quick_cache_model.specs.declared.entry.EntryAction.TheVariants.{Retain as retain, Remove as remove, ReplaceWithGuard as replace}
-use Rattle.quick_cache_model.specs.declared.entry.EntryOrPlaceholder.{EntryOrPlaceholder}
-use Rattle.quick_cache_model.specs.declared.entry.EntryOrPlaceholder.TheVariants.{Kept as kept, Removed as removed, Replaced as replaced, ExistingPlaceholder as existing, NewPlaceholder as new_one}
+use Rattle.quick_cache_model.specs.declared.calls.entry.EntryAction.{EntryAction}
+use Rattle.quick_cache_model.specs.declared.calls.entry.EntryAction.TheVariants.{Retain as retain, Remove as remove, ReplaceWithGuard as replace}
+use Rattle.quick_cache_model.specs.declared.calls.entry.EntryOrPlaceholder.{EntryOrPlaceholder}
+use Rattle.quick_cache_model.specs.declared.calls.entry.EntryOrPlaceholder.TheVariants.{Kept as kept, Removed as removed, Replaced as replaced, ExistingPlaceholder as existing, NewPlaceholder as new_one}
 use Rattle.quick_cache_policy.specs.Contents.{state_of}
 use Rattle.quick_cache_policy.specs.Loading.{IsMade, MakesNone}
 

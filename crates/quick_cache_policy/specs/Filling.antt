@@ -3,7 +3,7 @@ use Rattle.std.specs.Prelude.{◌≡◌, ℕ, Bool, List, [], ◌∷◌, Result,
 use Rattle.quick_cache_model.specs.CacheState.{CacheState, LoadingEntry, UpToOrder}
 use Rattle.quick_cache_model.specs.Hooks.{Rules, HookCall, BeforeEvict, EvictCold}
 use Rattle.quick_cache_model.specs.Placeholders.{IsLoadingTicket, HasNoTicket, FillsPlaceholder}
-use Rattle.quick_cache_fates.specs.Leads.{TellsBeside}
+use Rattle.quick_cache_model.specs.Leads.{TellsBeside}
 use Rattle.quick_cache_policy.specs.Advances.{AreEvictions}
 
 -- The calls of a fill, in their order: `before_evict` for the pair, where it is too heavy; and then

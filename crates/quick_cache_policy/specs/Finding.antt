@@ -11,9 +11,9 @@ use Rattle.quick_cache_model.specs.Lookups.{looked_up, LooksUp}
 use Rattle.quick_cache_model.specs.Removal.{pair_of}
 use Rattle.quick_cache_model.specs.Writes.{Strategy}
 use Rattle.quick_cache_model.specs.Refusals.{slot_count}
-use Rattle.quick_cache_lists.specs.Lists.{Lists, IsItemOf}
-use Rattle.quick_cache_lists.specs.declared.found.Found.{Found}
-use Rattle.quick_cache_lists.specs.declared.found.Found.TheVariants.{Item as found_item, Loading as found_loading, Ghost as found_ghost, Nothing as found_nothing}
+use Rattle.quick_cache_store.specs.Lists.{Lists, IsItemOf}
+use Rattle.quick_cache_store.specs.declared.lists.found.Found.{Found}
+use Rattle.quick_cache_store.specs.declared.lists.found.Found.TheVariants.{Item as found_item, Loading as found_loading, Ghost as found_ghost, Nothing as found_nothing}
 use Rattle.quick_cache_policy.specs.Contents.{state_of}
 use Rattle.quick_cache_policy.specs.Writing.{is_insert}
 use Rattle.quick_cache_policy.specs.declared.contents.Contents.{Contents}

@@ -3,12 +3,12 @@ use Rattle.std.specs.Prelude.{◌≡◌, ℕ, Bool, true, false, List, ◌∷◌
 use Rattle.quick_cache_model.specs.CacheState.{Item}
 use Rattle.quick_cache_model.specs.Eviction.{lowered}
 use Rattle.quick_cache_model.specs.Touches.{counted_up}
-use Rattle.quick_cache_lists.specs.Lists.{HeldItem}
-use Rattle.quick_cache_lists.specs.Views.{items_of}
+use Rattle.quick_cache_store.specs.Lists.{HeldItem}
+use Rattle.quick_cache_store.specs.Views.{items_of}
 use Rattle.quick_cache_policy.specs.declared.contents.Contents.{Contents}
-use Rattle.quick_cache_policy.specs.declared.hot.Round.{Round}
-use Rattle.quick_cache_policy.specs.declared.hot.Round.TheVariants.{AllPinned as round_all_pinned, SomeUnpinned as round_some_unpinned, Victim as round_victim}
-use Rattle.quick_cache_policy.specs.declared.hot.Visit.{Visit}
+use Rattle.quick_cache_policy.specs.declared.evicting.hot.Round.{Round}
+use Rattle.quick_cache_policy.specs.declared.evicting.hot.Round.TheVariants.{AllPinned as round_all_pinned, SomeUnpinned as round_some_unpinned, Victim as round_victim}
+use Rattle.quick_cache_policy.specs.declared.evicting.hot.Visit.{Visit}
 use Rattle.quick_cache_policy.specs.Advances.{Meets}
 use Rattle.quick_cache_policy.specs.Rounds.{MayTake, AfterTouches, EndsAllPinned, EndsSomeUnpinned, EndsAtVictim, MeetsVictim, GivesUp}
 

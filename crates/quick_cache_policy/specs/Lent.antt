@@ -3,7 +3,7 @@
 use Rattle.std.specs.Prelude.{ℕ}
 use Rattle.std.specs.Borrow.{Fml, RattleType, MutBor, Lends}
 use Rattle.std.specs.declared.alloc.Allocator.{Ghosts}
-use Rattle.quick_cache_lists.specs.Lists.{with_change, with_value}
+use Rattle.quick_cache_store.specs.Lists.{with_change, with_value}
 use Rattle.quick_cache_policy.specs.declared.contents.Contents.{Contents}
 use Rattle.quick_cache_policy.specs.contracts.contents.Contents.{the_row}
 

@@ -1,6 +1,6 @@
 -- The hooks of a lifecycle.
 use Rattle.quick_cache_model.specs.Hooks.{Hooks}
-use Rattle.quick_cache_model.specs.declared.lifecycle.Lifecycle as lifecycle
+use Rattle.quick_cache_model.specs.declared.terms.lifecycle.Lifecycle as lifecycle
 
 -- what each hook may do, as the lifecycle says
 abbrev pub hooks_by : {K V L S : Type 0} → lifecycle.Ghosts L K V S → L → Hooks K V S

@@ -1,7 +1,7 @@
 -- Under which token each item stands, and that an item which stays keeps its token.
 use Rattle.std.specs.Prelude.{◌≡◌, ◌⊎◌, ℕ, Bool, true, List, ◌++◌, map}
 use Rattle.std.specs.List.{Contains}
-use Rattle.quick_cache_lists.specs.Lists.{HeldItem, Lists}
+use Rattle.quick_cache_store.specs.Lists.{HeldItem, Lists}
 
 -- the token of an item, with its key
 abbrev pub place_at : {K V : Type 0} → HeldItem K V → ℕ × K

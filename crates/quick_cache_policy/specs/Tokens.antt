@@ -2,7 +2,7 @@
 use Rattle.std.specs.Prelude.{◌≡◌, ℕ, false, List, ◌∷◌, ◌++◌}
 use Rattle.quick_cache_model.specs.CacheState.{CacheState, Item, Place, items_at, with_items}
 use Rattle.quick_cache_model.specs.Removal.{pair_of}
-use Rattle.quick_cache_lists.specs.Lists.{IsItemOf, without_entry}
+use Rattle.quick_cache_store.specs.Lists.{IsItemOf, without_entry}
 use Rattle.quick_cache_policy.specs.declared.contents.Contents.{Contents}
 
 -- one item goes and gives its pair, and nothing else changes

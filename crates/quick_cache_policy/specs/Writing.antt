@@ -7,9 +7,9 @@ use Rattle.quick_cache_model.specs.Admission.{Admitted, TooHeavy, ChecksAdmissio
 use Rattle.quick_cache_model.specs.Hooks.{Rules, Hooks, HookCall, Calls, BeforeEvict, EvictCold, evicted}
 use Rattle.quick_cache_model.specs.Refusals.{Needs, IsProvided, MayRefuse, needs_of_insert}
 use Rattle.quick_cache_model.specs.Writes.{Strategy, Insert, Replace, SoftReplace, Writes, WritesAdmitted, RejectsTooHeavy}
-use Rattle.quick_cache_fates.specs.Leads.{TellsBeside}
-use Rattle.quick_cache_policy.specs.declared.admission.Admission.{Admission}
-use Rattle.quick_cache_policy.specs.declared.admission.Admission.TheVariants.{Admitted as code_admitted, TooHeavy as code_too_heavy}
+use Rattle.quick_cache_model.specs.Leads.{TellsBeside}
+use Rattle.quick_cache_policy.specs.declared.writing.admission.Admission.{Admission}
+use Rattle.quick_cache_policy.specs.declared.writing.admission.Admission.TheVariants.{Admitted as code_admitted, TooHeavy as code_too_heavy}
 use Rattle.quick_cache_policy.specs.declared.strategy.InsertStrategy.{InsertStrategy}
 use Rattle.quick_cache_policy.specs.declared.strategy.InsertStrategy.TheVariants.{Insert as insert_variant, Replace as replace_variant}
 use Rattle.quick_cache_policy.specs.Advances.{AreEvictions}

@@ -1,6 +1,6 @@
 //! Setting the capacity: new sizes, the ghosts within their limit, and eviction.
 ghost use Rattle.std.specs.Prelude.{◌≡◌, ◌+◌, ◌-◌, ◌<◌, ◌≤◌, length, drop};
-ghost use Rattle.quick_cache_lists.specs.Views.{hashes_of};
+ghost use Rattle.quick_cache_store.specs.Views.{hashes_of};
 ghost use Rattle.quick_cache_model.specs.Capacity.{SetsCapacity};
 ghost use Rattle.quick_cache_model.specs.Hooks.{Calls};
 ghost use Rattle.quick_cache_model.specs.Sizes.{rescaled_target, rescaled_limit};
@@ -12,8 +12,7 @@ ghost use Rattle.quick_cache_policy.specs.Work.{WorksWithin};
 
 use crate::contents::Contents;
 use crate::policy::Policy;
-use quick_cache_model::Queue;
-use quick_cache_placeholder::SharedPlaceholder;
+use quick_cache_model::{Queue, SharedPlaceholder};
 use std::alloc::Allocator;
 use std::hash::Hash;
 

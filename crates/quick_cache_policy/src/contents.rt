@@ -1,15 +1,14 @@
 //! The lists and the numbers of a cache.
 ghost use Rattle.std.specs.Prelude.{◌≡◌, ℕ, IfOk, IfErr, IsOk, OnOk, ◌≤◌, ◌+◌, ◌-◌, min, max};
-ghost use Rattle.quick_cache_lists.specs.Room.{most_room};
+ghost use Rattle.quick_cache_store.specs.Room.{most_room};
 ghost use Rattle.quick_cache_model.specs.CacheState.{empty_state};
 ghost use Rattle.quick_cache_model.specs.Refusals.{slot_count, slots_taken};
 ghost use Rattle.quick_cache_model.specs.declared.refusal.Refusal.TheVariants.{Memory};
 ghost use Rattle.quick_cache_policy.specs.Contents.{AreSizes, IsSound, state_of, work_of};
 ghost use Rattle.quick_cache_policy.specs.Work.{no_work};
 
-use quick_cache_lists::Lists;
-use quick_cache_model::Refusal;
-use quick_cache_placeholder::SharedPlaceholder;
+use quick_cache_model::{Refusal, SharedPlaceholder};
+use quick_cache_store::lists::Lists;
 use std::alloc::{Allocator, Global};
 use std::hash::Hash;
 

@@ -7,9 +7,8 @@ ghost use Rattle.quick_cache_policy.specs.Copies.{ClonesAreEqual, IsCopyOf, IsKe
 ghost use Rattle.quick_cache_policy.specs.Work.{no_work};
 
 use crate::contents::Contents;
-use quick_cache_lists::Copying;
-use quick_cache_model::{Refusal, hash_of};
-use quick_cache_placeholder::SharedPlaceholder;
+use quick_cache_model::{Refusal, SharedPlaceholder, hash_of};
+use quick_cache_store::lists::Copying;
 use std::alloc::Allocator;
 use std::hash::{BuildHasher, Hash};
 use std::marker::PhantomData;

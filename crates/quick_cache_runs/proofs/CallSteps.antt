@@ -17,16 +17,16 @@ use Rattle.quick_cache_model.specs.Writes.{Insert as insertion}
 use denote.Ref.{Bor}
 use denote.Param.Members.{Shared}
 use Rattle.quick_cache_shard.specs.Predicates.{Answers, IsAnsweredAs}
-use Rattle.quick_cache_calls.specs.declared.call.Call.{Call}
-use Rattle.quick_cache_calls.specs.declared.call.Call.TheVariants.{Insert, Replace, GetMut}
-use Rattle.quick_cache_calls.specs.declared.call.Call.TheVariants.{Counts, Reserve, Clear}
-use Rattle.quick_cache_calls.specs.declared.reply.Reply.{Reply}
-use Rattle.quick_cache_calls.specs.declared.reply.Reply.TheVariants.{Done, RefusedPair, NotAdmitted}
-use Rattle.quick_cache_calls.specs.declared.reply.Reply.TheVariants.{Flag, Refused}
-use Rattle.quick_cache_calls.specs.declared.reply.Reply.TheVariants.{Counts as Numbers}
-use Rattle.quick_cache_calls.specs.CacheStep.{CacheStep}
-use Rattle.quick_cache_calls.specs.Kinds.{IsLook, MakesRoom, replacement}
-use Rattle.quick_cache_calls.specs.References.{TellsItem}
+use Rattle.quick_cache_model.specs.declared.calls.call.Call.{Call}
+use Rattle.quick_cache_model.specs.declared.calls.call.Call.TheVariants.{Insert, Replace, GetMut}
+use Rattle.quick_cache_model.specs.declared.calls.call.Call.TheVariants.{Counts, Reserve, Clear}
+use Rattle.quick_cache_model.specs.declared.calls.reply.Reply.{Reply}
+use Rattle.quick_cache_model.specs.declared.calls.reply.Reply.TheVariants.{Done, RefusedPair, NotAdmitted}
+use Rattle.quick_cache_model.specs.declared.calls.reply.Reply.TheVariants.{Flag, Refused}
+use Rattle.quick_cache_model.specs.declared.calls.reply.Reply.TheVariants.{Counts as Numbers}
+use Rattle.quick_cache_model.specs.CacheStep.{CacheStep}
+use Rattle.quick_cache_model.specs.Kinds.{IsLook, MakesRoom, replacement}
+use Rattle.quick_cache_model.specs.References.{TellsItem}
 use Rattle.quick_cache_runs.specs.Made.{IsMade}
 use Rattle.quick_cache_unsync.specs.References.{Sets}
 

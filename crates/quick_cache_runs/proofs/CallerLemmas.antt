@@ -6,16 +6,16 @@ use Rattle.std.specs.Prelude.{IfSome, Option}
 use Rattle.std.proofs.lemmas.List.Elements.{All-nil, All-cons, All-head, All-tail}
 use Rattle.quick_cache_model.specs.CacheState.{CacheState}
 use Rattle.quick_cache_model.specs.Hooks.{Rules, Hooks}
-use Rattle.quick_cache_calls.specs.declared.call.Call.{Call}
-use Rattle.quick_cache_calls.specs.declared.call.Call.TheVariants.{Insert, Replace, Get, Peek}
-use Rattle.quick_cache_calls.specs.declared.call.Call.TheVariants.{GetMut, PeekMut, Contains}
-use Rattle.quick_cache_calls.specs.declared.call.Call.TheVariants.{Stats, Remove, RemoveIf, Load}
-use Rattle.quick_cache_calls.specs.declared.call.Call.TheVariants.{LoadMut, Guarded, GuardedMut}
-use Rattle.quick_cache_calls.specs.declared.call.Call.TheVariants.{Iter, Drain, Counts, Retain}
-use Rattle.quick_cache_calls.specs.declared.call.Call.TheVariants.{SetCapacity, Reserve, Clear}
-use Rattle.quick_cache_calls.specs.declared.reply.Reply.{Reply}
-use Rattle.quick_cache_calls.specs.CacheRun.{IsRun, RunsCalls}
-use Rattle.quick_cache_calls.proofs.ShownLemmas.{CacheRun-wider}
+use Rattle.quick_cache_model.specs.declared.calls.call.Call.{Call}
+use Rattle.quick_cache_model.specs.declared.calls.call.Call.TheVariants.{Insert, Replace, Get, Peek}
+use Rattle.quick_cache_model.specs.declared.calls.call.Call.TheVariants.{GetMut, PeekMut, Contains}
+use Rattle.quick_cache_model.specs.declared.calls.call.Call.TheVariants.{Stats, Remove, RemoveIf, Load}
+use Rattle.quick_cache_model.specs.declared.calls.call.Call.TheVariants.{LoadMut, Guarded, GuardedMut}
+use Rattle.quick_cache_model.specs.declared.calls.call.Call.TheVariants.{Iter, Drain, Counts, Retain}
+use Rattle.quick_cache_model.specs.declared.calls.call.Call.TheVariants.{SetCapacity, Reserve, Clear}
+use Rattle.quick_cache_model.specs.declared.calls.reply.Reply.{Reply}
+use Rattle.quick_cache_model.specs.CacheRun.{IsRun, RunsCalls}
+use Rattle.quick_cache_model.proofs.ShownLemmas.{CacheRun-wider}
 use Rattle.quick_cache_runs.specs.Asked.{IfAsks, IfLoads, predicate_of}
 
 -- what holds of each predicate holds of one that is asked

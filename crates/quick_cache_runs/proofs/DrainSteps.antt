@@ -8,7 +8,7 @@ use Rattle.quick_cache_model.specs.Removal.{Drains, cleared, pair_of}
 use Rattle.quick_cache_shard.specs.Shard.{Shard, residents}
 use Rattle.quick_cache_unsync.specs.CacheDrain.{drained, drain_rest, emptied, pairs_in}
 use Rattle.quick_cache_unsync.specs.CacheDrain.{DrainSteps, DrainsInAll}
-use Rattle.quick_cache_unsync.specs.declared.drain.Drain.{Drain}
+use Rattle.quick_cache_unsync.specs.declared.walking.drain.Drain.{Drain}
 
 -- there are as many pairs as items
 pub pairs-counted : {K V : Type 0} (state : CacheState K V)

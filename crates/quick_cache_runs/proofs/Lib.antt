@@ -1,3 +1,17 @@
+mod Shuffles
+mod Books
+mod Values
+mod Residents
+mod Eviction
+mod Told
+mod Writes
+mod Fills
+mod Quiet
+mod Steps
+mod Runs
+pub mod ConservationLemmas
+mod Examples
+mod FreshCalls
 mod CallSteps
 mod WalkLemmas
 mod RunLemmas

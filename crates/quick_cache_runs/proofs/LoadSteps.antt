@@ -12,15 +12,15 @@ use Rattle.quick_cache_model.proofs.KeyCounts.{keys-none}
 use Rattle.quick_cache_model.proofs.LookupLaws.{Sees-LooksUp}
 use Rattle.quick_cache_shard.specs.Loading.{MakesNone}
 use Rattle.quick_cache_shard.specs.References.{NotesLookUp}
-use Rattle.quick_cache_calls.specs.declared.call.Call.{Call}
-use Rattle.quick_cache_calls.specs.declared.call.Call.TheVariants.{Load, LoadMut, Guarded, GuardedMut}
-use Rattle.quick_cache_calls.specs.declared.reply.Reply.{Reply}
-use Rattle.quick_cache_calls.specs.declared.reply.Reply.TheVariants.{Found, Filled, Dropped}
-use Rattle.quick_cache_calls.specs.declared.reply.Reply.TheVariants.{Loaded, LoadFailed, Refused}
-use Rattle.quick_cache_calls.specs.CacheStep.{CacheStep}
-use Rattle.quick_cache_calls.specs.Kinds.{IsLoad}
-use Rattle.quick_cache_calls.specs.References.{TellsItem, WritesItem}
-use Rattle.quick_cache_calls.specs.Shown.{IsShown}
+use Rattle.quick_cache_model.specs.declared.calls.call.Call.{Call}
+use Rattle.quick_cache_model.specs.declared.calls.call.Call.TheVariants.{Load, LoadMut, Guarded, GuardedMut}
+use Rattle.quick_cache_model.specs.declared.calls.reply.Reply.{Reply}
+use Rattle.quick_cache_model.specs.declared.calls.reply.Reply.TheVariants.{Found, Filled, Dropped}
+use Rattle.quick_cache_model.specs.declared.calls.reply.Reply.TheVariants.{Loaded, LoadFailed, Refused}
+use Rattle.quick_cache_model.specs.CacheStep.{CacheStep}
+use Rattle.quick_cache_model.specs.Kinds.{IsLoad}
+use Rattle.quick_cache_model.specs.References.{TellsItem, WritesItem}
+use Rattle.quick_cache_model.specs.Shown.{IsShown}
 use Rattle.quick_cache_unsync.specs.Loads.{Takes, FillsIfThere}
 use Rattle.quick_cache_unsync.proofs.LoadLemmas.{Takes-takes, Takes-awaited, Takes-nothing}
 use Rattle.quick_cache_unsync.proofs.LoadLemmas.{Fills-awaited, counted-found}

@@ -2,9 +2,9 @@
 use Rattle.std.proofs.Common.{◌≡◌, List, [], ◌∷◌, ◌++◌, length, arith, ◌∙◌, subst}
 use Rattle.std.specs.List.{All}
 use Rattle.std.proofs.lemmas.List.Elements.{All-head, All-tail}
-use Rattle.quick_cache_calls.specs.declared.call.Call.{Call}
-use Rattle.quick_cache_calls.specs.declared.reply.Reply.{Reply}
-use Rattle.quick_cache_calls.specs.Answered.{IsAnswered, AreAnswered}
+use Rattle.quick_cache_model.specs.declared.calls.call.Call.{Call}
+use Rattle.quick_cache_model.specs.declared.calls.reply.Reply.{Reply}
+use Rattle.quick_cache_model.specs.Answered.{IsAnswered, AreAnswered}
 
 module _ {K V F M : Type 0} where
   -- one reply more answers its call

@@ -1,8 +1,8 @@
 -- Walks that show all pairs.
 use Rattle.std.proofs.Common.{◌≡◌, List, [], ◌∷◌, ◌++◌, sym, subst, ◌∙◌}
 use Rattle.std.proofs.lemmas.List.{append-nil}
-use Rattle.quick_cache_calls.proofs.RunLemmas.{took_one}
-use Rattle.quick_cache_calls.specs.Shown.{ArePairsShown}
+use Rattle.quick_cache_model.proofs.RunLemmas.{took_one}
+use Rattle.quick_cache_model.specs.Shown.{ArePairsShown}
 
 module _ {K V : Type 0} (shows_key : K → K → Type 0) (shows : V → V → Type 0) where
   -- one pair more is shown

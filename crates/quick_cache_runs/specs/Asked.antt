@@ -2,9 +2,9 @@
 use Rattle.std.specs.Prelude.{Bool, Option, Some, None, IfSome}
 use denote.Ref.{Bor}
 use denote.Param.Members.{Shared}
-use Rattle.quick_cache_calls.specs.declared.call.Call.{Call}
-use Rattle.quick_cache_calls.specs.declared.call.Call.TheVariants.{RemoveIf, Retain, Load}
-use Rattle.quick_cache_calls.specs.declared.call.Call.TheVariants.{LoadMut, Guarded, GuardedMut}
+use Rattle.quick_cache_model.specs.declared.calls.call.Call.{Call}
+use Rattle.quick_cache_model.specs.declared.calls.call.Call.TheVariants.{RemoveIf, Retain, Load}
+use Rattle.quick_cache_model.specs.declared.calls.call.Call.TheVariants.{LoadMut, Guarded, GuardedMut}
 use Rattle.quick_cache_shard.specs.Predicates.{IsAnsweredAs}
 
 module _ {K V F : Type 0} where

@@ -1,8 +1,10 @@
+pub mod Fates
+pub mod Books
+pub mod Conservation
 pub mod Asked
 pub mod Made
-pub use Rattle.quick_cache_calls.specs.Answered
-pub use Rattle.quick_cache_calls.specs.CacheStep
-pub use Rattle.quick_cache_calls.specs.CacheRun
-pub use Rattle.quick_cache_lives.specs.Conservation
+pub use Rattle.quick_cache_model.specs.Answered
+pub use Rattle.quick_cache_model.specs.CacheStep
+pub use Rattle.quick_cache_model.specs.CacheRun
 pub use Rattle.quick_cache_shard.specs.Copies
 pub use Rattle.quick_cache_shard.specs.Predicates

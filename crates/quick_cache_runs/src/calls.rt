@@ -1,12 +1,11 @@
 //! One call, and its reply.
-ghost use Rattle.quick_cache_calls.specs.Answered.{AlwaysClones, IsAnswered};
+ghost use Rattle.quick_cache_model.specs.Answered.{AlwaysClones, IsAnswered};
 ghost use Rattle.quick_cache_runs.specs.Asked.{IfAsks, IfLoads};
 ghost use Rattle.quick_cache_runs.specs.Made.{MakesAsked};
 ghost use Rattle.quick_cache_shard.specs.Copies.{ClonesAreEqual};
 ghost use Rattle.quick_cache_shard.specs.Shard.{KeepsTerms};
 
-use quick_cache_calls::{Call, Reply};
-use quick_cache_model::{Lifecycle, Weighter};
+use quick_cache_model::{Call, Lifecycle, Reply, Weighter};
 use quick_cache_shard::Going;
 use quick_cache_unsync::Cache;
 use std::alloc::Allocator;

@@ -2,13 +2,12 @@
 #![tactic(auto)]
 
 mod calls;
-mod loads;
-mod looks;
-mod removals;
+pub mod lives;
+mod making;
 mod runs;
-mod sizes;
-mod walks;
-mod writes;
+mod scans;
+#[cfg(test)]
+mod thousand;
 
-pub use quick_cache_calls::{Call, Reply};
+pub use quick_cache_model::{Call, Reply};
 pub use runs::run;

@@ -2,16 +2,15 @@
 ghost use Rattle.std.specs.Prelude.{◌≡◌, ◌≤◌, ◌<◌, ◌+◌, ◌++◌, [], ◌∷◌};
 ghost use Rattle.std.specs.Prelude.{All, length, vec_len, vec_capacity};
 ghost use Rattle.quick_cache_model.specs.CacheState.{IsValid};
-ghost use Rattle.quick_cache_calls.specs.Answered.{AlwaysClones, IsAnswered, AreAnswered};
-ghost use Rattle.quick_cache_calls.specs.Answered.{replies_of};
+ghost use Rattle.quick_cache_model.specs.Answered.{AlwaysClones, IsAnswered, AreAnswered};
+ghost use Rattle.quick_cache_model.specs.Answered.{replies_of};
 ghost use Rattle.quick_cache_runs.specs.Asked.{IfAsks, IfLoads};
 ghost use Rattle.quick_cache_runs.specs.Made.{MakesAsked, RunsAsked, RunsCallsBy, ConservesCallsBy};
 ghost use Rattle.quick_cache_shard.specs.Copies.{ClonesAreEqual};
 ghost use Rattle.quick_cache_shard.specs.Shard.{KeepsTerms};
 
 use crate::calls::CallMaker;
-use quick_cache_calls::{Call, Reply};
-use quick_cache_model::{Lifecycle, Weighter};
+use quick_cache_model::{Call, Lifecycle, Reply, Weighter};
 use quick_cache_shard::Going;
 use quick_cache_unsync::Cache;
 use std::alloc::Allocator;

@@ -7,7 +7,7 @@ use Rattle.quick_cache_model.specs.Removal.{cleared, pair_of}
 use Rattle.quick_cache_policy.specs.Tokens.{TakesItem}
 use Rattle.quick_cache_shard.specs.Shard.{Shard, residents}
 use Rattle.quick_cache_shard.specs.ShardDrain.{GivesOne, KeepsBesideItems, pairs_in, DrainsAlong, DrainsInAll}
-use Rattle.quick_cache_shard.specs.declared.drain.Drain.{Drain}
+use Rattle.quick_cache_shard.specs.declared.removing.drain.Drain.{Drain}
 
 module _ {K V : Type 0} where
   -- an item that goes from its place goes from all items, and nothing else does

@@ -7,15 +7,15 @@ use Rattle.std.specs.declared.default.Default as default
 use Rattle.std.specs.declared.hash.Hash as hash
 use Rattle.std.specs.declared.hash.Hasher as hasher
 use Rattle.std.specs.declared.hash.BuildHasher as builder
-use Rattle.quick_cache_model.specs.declared.equivalent.Equivalent as equivalent
-use Rattle.quick_cache_model.specs.declared.weighter.Weighter as weighter
-use Rattle.quick_cache_model.specs.declared.lifecycle.Lifecycle as lifecycle
+use Rattle.quick_cache_model.specs.declared.keys.equivalent.Equivalent as equivalent
+use Rattle.quick_cache_model.specs.declared.terms.weighter.Weighter as weighter
+use Rattle.quick_cache_model.specs.declared.terms.lifecycle.Lifecycle as lifecycle
 use Rattle.quick_cache_model.specs.declared.touches.Touches as touch
-use Rattle.quick_cache_placeholder.specs.declared.placeholder.SharedPlaceholder as placeholder
+use Rattle.quick_cache_model.specs.declared.placeholder.SharedPlaceholder as placeholder
 use Rattle.quick_cache_model.specs.Hashing.{hash_of}
 use Rattle.quick_cache_policy.specs.References.{count_under, with_value_under}
 use Rattle.quick_cache_shard.specs.LentValues.{with_value}
-use Rattle.quick_cache_shard.specs.declared.lending.RefMut.{RefMut}
+use Rattle.quick_cache_shard.specs.declared.writing.lending.RefMut.{RefMut}
 
 module _ {Q K V We B L P A H S T Kept : Type 0} {query : equivalent.Ghosts Q K}
     {query_hash : hash.Ghosts Q} {query_eq : partial_eq.Ghosts Q} {key_eq : partial_eq.Ghosts K}

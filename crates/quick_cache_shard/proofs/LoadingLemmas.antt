@@ -4,7 +4,7 @@ use Rattle.std.specs.Int.NonZero.{non_zero_u32_get as number}
 use Rattle.std.specs.declared.num.NonZeroU32.{NonZeroU32 as Token}
 use Rattle.quick_cache_model.specs.declared.refusal.Refusal.{Refusal}
 use Rattle.quick_cache_model.specs.Lookups.{looked_up}
-use Rattle.quick_cache_lists.specs.Lists.{HeldItem}
+use Rattle.quick_cache_store.specs.Lists.{HeldItem}
 use Rattle.quick_cache_policy.specs.declared.contents.Contents.{Contents}
 use Rattle.quick_cache_policy.specs.Contents.{state_of, work_of}
 use Rattle.quick_cache_policy.specs.Loading.{LooksUpOrMakes}

@@ -7,7 +7,7 @@ use Rattle.std.specs.Option.{option_map}
 use Rattle.std.specs.declared.num.NonZeroU32.{NonZeroU32 as Token}
 use Rattle.std.proofs.lemmas.Bool.{cases_eq, cases_lt}
 use Rattle.quick_cache_model.specs.CacheState.{Item}
-use Rattle.quick_cache_lists.specs.Lists.{Lists, AreApart, IsFirstAbove, IsItemOf, HasItemToken}
+use Rattle.quick_cache_store.specs.Lists.{Lists, AreApart, IsFirstAbove, IsItemOf, HasItemToken}
 use Rattle.quick_cache_policy.specs.declared.contents.Contents.{Contents}
 use Rattle.quick_cache_policy.specs.Places.{places_of}
 use Rattle.quick_cache_policy.specs.Tokens.{TakesToken}

@@ -6,9 +6,9 @@ use Rattle.std.proofs.lemmas.List.{map-append}
 use Rattle.std.proofs.lemmas.List.Elements.{Contains-append_left, Contains-append_right, Contains-append_cases}
 use Rattle.std.proofs.lemmas.List.Sorted.{IsPermutation-trans, IsPermutation-middle, IsPermutation-append_left, IsPermutation-append_right}
 use Rattle.quick_cache_model.specs.CacheState.{Item, Place, InHot, InCold, InStill}
-use Rattle.quick_cache_lists.specs.Lists.{HeldItem, Lists, StandsIn, HasItem, HasItemToken, IsItemOf, AreApart, items_at, without_entry}
-use Rattle.quick_cache_lists.specs.Views.{items_of, residents}
-use Rattle.quick_cache_lists.proofs.StandingLemmas.{StandsIn-map, found-same}
+use Rattle.quick_cache_store.specs.Lists.{HeldItem, Lists, StandsIn, HasItem, HasItemToken, IsItemOf, AreApart, items_at, without_entry}
+use Rattle.quick_cache_store.specs.Views.{items_of, residents}
+use Rattle.quick_cache_store.proofs.lists.StandingLemmas.{StandsIn-map, found-same}
 use Rattle.quick_cache_policy.specs.Places.{place_at, places_in, places_of}
 use Rattle.quick_cache_policy.proofs.LookupLemmas.{without-at}
 pub use Rattle.quick_cache_policy.proofs.WrittenPlaces.{Contains-first, Contains-cons_cases, HasItem-place}

@@ -3,7 +3,7 @@ use Rattle.std.proofs.Common.{◌≡◌, ℕ, ◌<◌, ◌≤◌, Bool, true, Li
 use Rattle.quick_cache_model.specs.CacheState.{CacheState, Item, Place, InHot, InCold, InStill, UpToOrder, items_at, with_items, keys_by}
 use Rattle.quick_cache_model.specs.Lookups.{LooksUp, looked_up, after_hit}
 use Rattle.quick_cache_model.proofs.LookupLaws.{same_everywhere}
-use Rattle.quick_cache_lists.specs.Lists.{AreApart, FindsItem, IsItemOf}
+use Rattle.quick_cache_store.specs.Lists.{AreApart, FindsItem, IsItemOf}
 use Rattle.quick_cache_policy.specs.declared.contents.Contents.{Contents}
 use Rattle.quick_cache_policy.specs.Contents.{IsSound, state_of}
 use Rattle.quick_cache_policy.specs.References.{count_under, IsValueUnder}

@@ -2,7 +2,7 @@
 use Rattle.std.proofs.Common.{◌≡◌, ℕ, ◌≤◌, Bool, true, true≢false, Option, Some, None, MatchOption, Result, Ok, MatchResult, sym, subst, arith}
 use Rattle.std.specs.Option.{is_some}
 use Rattle.std.specs.Cmp.{IsEquivalence}
-use Rattle.quick_cache_lists.specs.Lists.{AreApart, entry_count}
+use Rattle.quick_cache_store.specs.Lists.{AreApart, entry_count}
 use Rattle.quick_cache_policy.specs.Contents.{IsSound, state_of, work_of}
 use Rattle.quick_cache_policy.specs.Places.{places_of}
 use Rattle.quick_cache_shard.specs.Shard.{IsSoundShard}

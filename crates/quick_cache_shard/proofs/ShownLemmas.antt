@@ -2,8 +2,8 @@
 use Rattle.std.proofs.Common.{◌≡◌, ℕ, Bool, Some, refl, sym, subst, ap}
 use Rattle.quick_cache_model.specs.CacheState.{CacheState, Item, UpToOrder}
 use Rattle.quick_cache_model.specs.Lookups.{LooksUp}
-use Rattle.quick_cache_lists.specs.Lists.{Lists, HeldItem, AreApart, IsItemOf}
-use Rattle.quick_cache_lists.proofs.StandingLemmas.{found-same}
+use Rattle.quick_cache_store.specs.Lists.{Lists, HeldItem, AreApart, IsItemOf}
+use Rattle.quick_cache_store.proofs.lists.StandingLemmas.{found-same}
 
 -- each token has one item at most
 pub IsItemOf-one : {K V P : Type 0} (lists : Lists K V P) → AreApart lists → (token : ℕ)

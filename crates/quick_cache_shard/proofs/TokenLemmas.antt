@@ -2,7 +2,7 @@
 use Rattle.std.proofs.Common.{◌≡◌, ℕ, Bool, true, List, [], ◌∷◌, Some, is_some, refl, ap, subst, ◌∙◌, inl, inr, arith}
 use Rattle.std.specs.List.{Contains}
 use Rattle.std.proofs.lemmas.Bool.{cases_eq, eq-eqb, ne_eqb}
-use Rattle.quick_cache_lists.specs.Lists.{Lists, AreApart, FindsItemOfAnyHash, HasItem}
+use Rattle.quick_cache_store.specs.Lists.{Lists, AreApart, FindsItemOfAnyHash, HasItem}
 use Rattle.quick_cache_policy.specs.Places.{places_of}
 use Rattle.quick_cache_policy.proofs.WrittenPlaces.{Contains-first, Contains-later, Contains-cons_cases}
 use Rattle.quick_cache_shard.specs.TokenValues.{key_at}

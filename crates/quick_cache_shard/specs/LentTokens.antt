@@ -8,14 +8,14 @@ use Rattle.std.specs.declared.hash.Hash as hash
 use Rattle.std.specs.declared.hash.Hasher as hasher
 use Rattle.std.specs.declared.hash.BuildHasher as builder
 use mir.Syntax.{named}
-use Rattle.quick_cache_model.specs.declared.weighter.Weighter as weighter
-use Rattle.quick_cache_model.specs.declared.lifecycle.Lifecycle as lifecycle
+use Rattle.quick_cache_model.specs.declared.terms.weighter.Weighter as weighter
+use Rattle.quick_cache_model.specs.declared.terms.lifecycle.Lifecycle as lifecycle
 use Rattle.quick_cache_model.specs.declared.touches.Touches as touch
-use Rattle.quick_cache_placeholder.specs.declared.placeholder.SharedPlaceholder as placeholder
+use Rattle.quick_cache_model.specs.declared.placeholder.SharedPlaceholder as placeholder
 use Rattle.quick_cache_shard.specs.Shard.{Shard}
 use Rattle.quick_cache_shard.specs.TokenValues.{with_value_at}
-use Rattle.quick_cache_shard.specs.declared.token_mut.TokenMut.{TokenMut}
-use Rattle.quick_cache_shard.specs.contracts.token_mut.TokenMut as refs
+use Rattle.quick_cache_shard.specs.declared.by_token.token_mut.TokenMut.{TokenMut}
+use Rattle.quick_cache_shard.specs.contracts.by_token.token_mut.TokenMut as refs
 
 module _ {K V We B L P A H S T Kept : Type 0} {key_eq : partial_eq.Ghosts K}
     {key_hash : hash.Ghosts K} {weigh : weighter.Ghosts We K V} {make : builder.Ghosts B H}

@@ -6,7 +6,7 @@ use Rattle.std.specs.List.Sorted.{IsPermutation}
 use Rattle.quick_cache_model.specs.Refusals.{slots_taken}
 use Rattle.quick_cache_model.specs.Removal.{cleared, pair_of}
 use Rattle.quick_cache_shard.specs.Shard.{Shard, residents}
-use Rattle.quick_cache_shard.specs.declared.drain.Drain.{Drain}
+use Rattle.quick_cache_shard.specs.declared.removing.drain.Drain.{Drain}
 
 -- One of these pairs is given, and the others are left, in some order; or there was none.
 abbrev pub GivesOne : {X : Type 0} → List X → Option X → List X → Type 0

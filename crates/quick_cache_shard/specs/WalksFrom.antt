@@ -6,7 +6,7 @@ use Rattle.std.specs.Iterator.{Count, at_most}
 use Rattle.std.specs.declared.num.NonZeroU32.{NonZeroU32 as Token}
 use denote.Ref.{Bor}
 use Rattle.quick_cache_model.specs.CacheState.{Item}
-pub use Rattle.quick_cache_lists.specs.Lists.{number_or_zero}
+pub use Rattle.quick_cache_store.specs.Lists.{number_or_zero}
 use Rattle.quick_cache_shard.specs.PlaceWalks.{IsNextPlace, EndsAt}
 
 -- under which token each item stands, the items, and the token behind which the walk goes on

@@ -1,33 +1,26 @@
 //! One cache: each call is the step of its definition.
 #![tactic(auto)]
 
-mod drain;
-mod entry;
-mod evicting;
-mod lending;
-mod loading;
+mod by_token;
 mod parts;
+mod placeholders;
 mod readers;
-mod reference;
-mod removal;
+mod removing;
 mod shard;
 mod shared;
 mod stats;
-mod token_mut;
-mod token_values;
-mod tokens;
-mod walk;
-mod walk_from;
+mod walking;
 mod words;
+mod writing;
 
-pub use drain::Drain;
-pub use lending::RefMut;
+pub use by_token::token_mut::TokenMut;
 pub use quick_cache_model::Token;
 pub use quick_cache_policy::{
     EntryAction, EntryOrPlaceholder, InsertStrategy, MakesPlaceholders, SharedPlaceholder, Touches,
 };
+pub use removing::drain::Drain;
 pub use shard::CacheShard;
-pub use token_mut::TokenMut;
-pub use walk::{GhostIter, Iter, RingIter};
-pub use walk_from::IterFrom;
+pub use walking::walk::{GhostIter, Iter, RingIter};
+pub use walking::walk_from::IterFrom;
 pub use words::{Going, Keyed, Rowed};
+pub use writing::lending::RefMut;

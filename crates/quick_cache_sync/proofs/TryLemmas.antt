@@ -1,6 +1,6 @@
 -- Inserts that do not wait for a lock.
 use Rattle.std.proofs.Common.{◌≡◌, Bool, Result, Ok, Err}
-use Rattle.quick_cache_model.specs.declared.lifecycle.Lifecycle as lifecycle
+use Rattle.quick_cache_model.specs.declared.terms.lifecycle.Lifecycle as lifecycle
 use Rattle.quick_cache_model.specs.declared.refusal.Refusal.{Refusal}
 use Rattle.quick_cache_model.specs.Hooks.{Rules, Hooks}
 use Rattle.quick_cache_shard.specs.Shard.{Shard}

@@ -10,7 +10,7 @@ pub use Rattle.quick_cache_locked.specs.Counts
 pub use Rattle.quick_cache_locked.specs.Fitting
 pub use Rattle.quick_cache_locked.specs.Locked
 pub use Rattle.quick_cache_locked.specs.Peeks
-pub use Rattle.quick_cache_calls.specs.Shown
+pub use Rattle.quick_cache_model.specs.Shown
 pub use Rattle.quick_cache_shard.specs.Alone
 pub use Rattle.quick_cache_shard.specs.Replaces
 pub use Rattle.quick_cache_shard.specs.SetsCapacity

@@ -1,7 +1,7 @@
 -- Numbers of a cache that is divided into shards: each shard is asked in turn, behind its lock.
 use Rattle.std.specs.Prelude.{◌≡◌, ℕ, ◌-◌, ◌^◌, Bool, List, length, min, sum}
 use Rattle.std.specs.List.{AllByRecursion}
-use Rattle.quick_cache_model.specs.declared.lifecycle.Lifecycle as lifecycle
+use Rattle.quick_cache_model.specs.declared.terms.lifecycle.Lifecycle as lifecycle
 use Rattle.quick_cache_shard.specs.Shard.{Shard}
 use Rattle.quick_cache_locked.specs.Locked.{FromSome}
 

@@ -2,18 +2,12 @@
 #![tactic(auto)]
 
 mod cache;
+mod calls;
 mod error;
 mod lifecycle;
-mod loads;
-mod reads;
 mod shards;
-mod sizes;
-mod tasks;
-mod tries;
-mod walks;
-mod writes;
 
 pub use cache::Cache;
+pub use calls::walks::{Drain, Iter};
 pub use error::{LockContention, TryError};
 pub use lifecycle::DefaultLifecycle;
-pub use walks::{Drain, Iter};

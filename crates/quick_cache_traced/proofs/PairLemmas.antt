@@ -9,7 +9,7 @@ use denote.Ref.{Bor}
 use Rattle.quick_cache_model.specs.CacheState.{CacheState, Item, InHot, InCold, InStill}
 use Rattle.quick_cache_model.specs.Lookups.{Sees}
 use Rattle.quick_cache_model.specs.Removal.{pair_of}
-use Rattle.quick_cache_lists.specs.Lists.{number_or_zero}
+use Rattle.quick_cache_store.specs.Lists.{number_or_zero}
 use Rattle.quick_cache_shard.specs.PlaceWalks.{IsNextPlace, EndsAt, ArePlaces}
 use Rattle.quick_cache_shard.specs.Shard.{residents}
 use Rattle.quick_cache_shard.specs.WalksFrom.{WalkFrom, ShowsNext}

@@ -12,10 +12,10 @@ use Rattle.quick_cache_model.specs.Removal.{Removes, pair_of}
 use Rattle.quick_cache_model.specs.Writes.{Insert as insertion}
 use Rattle.quick_cache_model.proofs.LookupLaws.{Sees-LooksUp, same_everywhere, at_least, not_both}
 use Rattle.quick_cache_model.proofs.KeyCounts.{one_if}
-use Rattle.quick_cache_calls.specs.declared.call.Call.TheVariants as made
-use Rattle.quick_cache_calls.specs.declared.reply.Reply.TheVariants.{Done, Value, Pair}
-use Rattle.quick_cache_calls.specs.CacheStep.{CacheStep}
-use Rattle.quick_cache_calls.specs.Shown.{IsShown}
+use Rattle.quick_cache_model.specs.declared.calls.call.Call.TheVariants as made
+use Rattle.quick_cache_model.specs.declared.calls.reply.Reply.TheVariants.{Done, Value, Pair}
+use Rattle.quick_cache_model.specs.CacheStep.{CacheStep}
+use Rattle.quick_cache_model.specs.Shown.{IsShown}
 use Rattle.quick_cache_shard.specs.Shard.{Wrote}
 use Rattle.quick_cache_traced.specs.declared.call.TraceCall.TheVariants.{Insert, Get, Remove}
 use Rattle.quick_cache_traced.specs.Trace.{IsTraced, AreTold, ShowsCall}

@@ -2,10 +2,10 @@
 use Rattle.std.proofs.Common.{◌≡◌, Bool, List, [], ◌∷◌, ◌++◌, map, refl, sym, ap, subst}
 use Rattle.quick_cache_model.specs.CacheState.{CacheState}
 use Rattle.quick_cache_model.specs.Hooks.{Rules, Hooks}
-use Rattle.quick_cache_calls.specs.declared.call.Call.{Call}
-use Rattle.quick_cache_calls.specs.declared.call.Call.TheVariants as made
-use Rattle.quick_cache_calls.specs.CacheRun.{CacheRun}
-use Rattle.quick_cache_calls.proofs.RunLemmas.{CacheRun-append}
+use Rattle.quick_cache_model.specs.declared.calls.call.Call.{Call}
+use Rattle.quick_cache_model.specs.declared.calls.call.Call.TheVariants as made
+use Rattle.quick_cache_model.specs.CacheRun.{CacheRun}
+use Rattle.quick_cache_model.proofs.RunLemmas.{CacheRun-append}
 use Rattle.quick_cache_traced.specs.declared.call.TraceCall.{TraceCall}
 use Rattle.quick_cache_traced.specs.Trace.{Entry, call_of, calls_in, replies_in, asks_none}
 use Rattle.quick_cache_traced.specs.Trace.{ShowsCall, AreShown, IsTraced, IsTrace, ShowsRun}

@@ -10,11 +10,11 @@ use Rattle.quick_cache_model.specs.Hooks.{Rules}
 use Rattle.quick_cache_model.specs.Refusals.{MayRefuse, needs_of_insert}
 use Rattle.quick_cache_model.specs.Removal.{Removes, pair_of}
 use Rattle.quick_cache_model.specs.Sizes.{hot_target_of, ghost_limit_of}
-use Rattle.quick_cache_calls.specs.Shown.{IsShown}
+use Rattle.quick_cache_model.specs.Shown.{IsShown}
 use Rattle.quick_cache_shard.specs.Shard.{Shard, UpToOrder, ClonesExactly}
 use Rattle.quick_cache_shard.specs.Steps.{Goes, steady_in, hooks_in, rules_in}
 use Rattle.quick_cache_unsync.specs.Touches.{no_touches}
-use Rattle.quick_cache_calls.specs.declared.reply.Reply.TheVariants.{Done, Value, Pair}
+use Rattle.quick_cache_model.specs.declared.calls.reply.Reply.TheVariants.{Done, Value, Pair}
 use Rattle.quick_cache_traced.specs.declared.call.TraceCall.TheVariants.{Insert, Get, Remove}
 use Rattle.quick_cache_traced.specs.Seats.{Place}
 use Rattle.quick_cache_traced.specs.Trace.{Entry, IsTrace, ShowsRun, IsRunItself}

@@ -10,7 +10,7 @@ mod seat;
 mod traced;
 
 pub use call::TraceCall;
-pub use quick_cache_calls::Reply;
+pub use quick_cache_model::Reply;
 pub use recorder::Recorder;
 pub use seat::{PARTS, Seat};
 pub use traced::Traced;

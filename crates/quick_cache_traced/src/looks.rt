@@ -7,9 +7,8 @@ ghost use Rattle.quick_cache_model.specs.Removal.{pair_of};
 ghost use Rattle.quick_cache_shard.specs.Shard.{IsSoundShard};
 ghost use Rattle.quick_cache_traced.specs.Recorded.{SeesPair, SeesTwice};
 
-use quick_cache_model::{Refusal, Token};
+use quick_cache_model::{Refusal, SharedPlaceholder, Token};
 use quick_cache_options::options::Options;
-use quick_cache_placeholder::SharedPlaceholder;
 use quick_cache_shard::CacheShard;
 use quick_cache_unsync::Cache;
 use std::alloc::Allocator;

@@ -3,7 +3,7 @@ use Rattle.std.proofs.Common.{[], ◌∷◌, refl, subst, ◌∙◌}
 use Rattle.std.proofs.lemmas.List.Sorted.{IsPermutation-refl, IsPermutation-trans, IsPermutation-cons}
 use Rattle.quick_cache_shard.proofs.DrainLemmas.{KeepsBesideItems-refl, KeepsBesideItems-trans}
 use Rattle.quick_cache_unsync.specs.CacheDrain.{DrainsAlong, DrainsInAll}
-use Rattle.quick_cache_unsync.specs.declared.drain.Drain.{Drain}
+use Rattle.quick_cache_unsync.specs.declared.walking.drain.Drain.{Drain}
 
 -- calls of `next` drain along
 pub Drains_in_all : {K V We B L A H : Type 0} (first : Drain K V We B L A H) → DrainsInAll first

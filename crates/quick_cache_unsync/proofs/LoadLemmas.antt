@@ -10,10 +10,10 @@ use Rattle.quick_cache_shard.specs.References.{count_under}
 use Rattle.quick_cache_model.specs.Placeholders.{MakesPlaceholder, MeetsPlaceholder, HasNoTicket, GivesUpPlaceholder}
 use Rattle.quick_cache_model.proofs.EachElement.{all-middle, all-permutation}
 use Rattle.quick_cache_model.proofs.OrderLaws.{UpToOrder-map, SameButOrder-keys}
-use Rattle.quick_cache_calls.specs.Loads.{TakesPlaceholder, LoadsNothing}
+use Rattle.quick_cache_model.specs.Loads.{TakesPlaceholder, LoadsNothing}
 use Rattle.quick_cache_shard.specs.Filling.{AnswersFill, Fills}
 use Rattle.quick_cache_shard.specs.Loading.{IsMadeOrMet}
-use Rattle.quick_cache_calls.specs.References.{TellsItem}
+use Rattle.quick_cache_model.specs.References.{TellsItem}
 use Rattle.std.specs.Bool.{OnTrue, OnFalse}
 use Rattle.quick_cache_model.specs.Finding.{HasNoItem, IsItemAt}
 use Rattle.quick_cache_shard.specs.Shard.{HasItem}

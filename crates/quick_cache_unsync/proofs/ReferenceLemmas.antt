@@ -7,11 +7,11 @@ use Rattle.std.specs.declared.default.Default as default
 use Rattle.std.specs.declared.hash.Hash as hash
 use Rattle.std.specs.declared.hash.Hasher as hasher
 use Rattle.std.specs.declared.hash.BuildHasher as builder
-use Rattle.quick_cache_model.specs.declared.equivalent.Equivalent as equivalent
-use Rattle.quick_cache_model.specs.declared.weighter.Weighter as weighter
-use Rattle.quick_cache_model.specs.declared.lifecycle.Lifecycle as lifecycle
+use Rattle.quick_cache_model.specs.declared.keys.equivalent.Equivalent as equivalent
+use Rattle.quick_cache_model.specs.declared.terms.weighter.Weighter as weighter
+use Rattle.quick_cache_model.specs.declared.terms.lifecycle.Lifecycle as lifecycle
 use Rattle.std.specs.List.{AllByRecursion}
-use Rattle.quick_cache_calls.specs.References.{WritesItem}
+use Rattle.quick_cache_model.specs.References.{WritesItem}
 use Rattle.quick_cache_model.specs.CacheState.{CacheState, Item, Place, InHot, InCold, InStill, UpToOrder, items_at, with_items, keys_by, rewritten}
 use Rattle.quick_cache_model.specs.Finding.{HasNoItem}
 use Rattle.quick_cache_model.specs.Hashing.{hash_of}
@@ -24,7 +24,7 @@ use Rattle.quick_cache_shard.specs.References.{count_under, valued, with_value_u
 use Rattle.quick_cache_shard.specs.Shard.{Shard}
 use Rattle.quick_cache_unsync.specs.LentValues.{with_value}
 use Rattle.quick_cache_unsync.specs.References.{Sets}
-use Rattle.quick_cache_unsync.specs.declared.reference.RefMut.{RefMut}
+use Rattle.quick_cache_unsync.specs.declared.lent.reference.RefMut.{RefMut}
 
 module _ {Q K V We B L A H S : Type 0} {query : equivalent.Ghosts Q K} {query_hash : hash.Ghosts Q}
     {query_eq : partial_eq.Ghosts Q} {key_eq : partial_eq.Ghosts K} {key_hash : hash.Ghosts K}

@@ -5,7 +5,7 @@ use Rattle.std.specs.Iterator.{Yields}
 use Rattle.std.specs.List.Sorted.{IsPermutation}
 use Rattle.quick_cache_shard.specs.Shard.{Shard}
 pub use Rattle.quick_cache_shard.specs.ShardDrain.{GivesOne, KeepsBesideItems, emptied, pairs_in}
-use Rattle.quick_cache_unsync.specs.declared.drain.Drain.{Drain}
+use Rattle.quick_cache_unsync.specs.declared.walking.drain.Drain.{Drain}
 
 module _ {K V We B L A H : Type 0} where
   -- the cache, as it is once the pairs that were given are out of it

@@ -5,11 +5,11 @@ use Rattle.std.specs.declared.default.Default as default
 use Rattle.std.specs.declared.hash.Hash as hash
 use Rattle.std.specs.declared.hash.Hasher as hasher
 use Rattle.std.specs.declared.hash.BuildHasher as builder
-use Rattle.quick_cache_model.specs.declared.equivalent.Equivalent as equivalent
-use Rattle.quick_cache_model.specs.declared.weighter.Weighter as weighter
-use Rattle.quick_cache_model.specs.declared.lifecycle.Lifecycle as lifecycle
+use Rattle.quick_cache_model.specs.declared.keys.equivalent.Equivalent as equivalent
+use Rattle.quick_cache_model.specs.declared.terms.weighter.Weighter as weighter
+use Rattle.quick_cache_model.specs.declared.terms.lifecycle.Lifecycle as lifecycle
 use Rattle.quick_cache_shard.specs.Shard.{Shard}
-use Rattle.quick_cache_unsync.specs.declared.reading.Ref.{Ref}
+use Rattle.quick_cache_unsync.specs.declared.lent.reading.Ref.{Ref}
 
 module _ {Q K V We B L A H S : Type 0} {query : equivalent.Ghosts Q K} {query_hash : hash.Ghosts Q}
     {query_eq : partial_eq.Ghosts Q} {key_eq : partial_eq.Ghosts K} {key_hash : hash.Ghosts K}

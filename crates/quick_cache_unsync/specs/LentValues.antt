@@ -8,14 +8,14 @@ use Rattle.std.specs.declared.hash.Hash as hash
 use Rattle.std.specs.declared.hash.Hasher as hasher
 use Rattle.std.specs.declared.hash.BuildHasher as builder
 use mir.Syntax.{named}
-use Rattle.quick_cache_model.specs.declared.equivalent.Equivalent as equivalent
-use Rattle.quick_cache_model.specs.declared.weighter.Weighter as weighter
-use Rattle.quick_cache_model.specs.declared.lifecycle.Lifecycle as lifecycle
+use Rattle.quick_cache_model.specs.declared.keys.equivalent.Equivalent as equivalent
+use Rattle.quick_cache_model.specs.declared.terms.weighter.Weighter as weighter
+use Rattle.quick_cache_model.specs.declared.terms.lifecycle.Lifecycle as lifecycle
 use Rattle.quick_cache_shard.specs.References.{with_value_under}
 use Rattle.quick_cache_shard.specs.Shard.{Shard}
 use Rattle.quick_cache_unsync.specs.References.{still_under}
-use Rattle.quick_cache_unsync.specs.declared.reference.RefMut.{RefMut}
-use Rattle.quick_cache_unsync.specs.contracts.reference.RefMut as refs
+use Rattle.quick_cache_unsync.specs.declared.lent.reference.RefMut.{RefMut}
+use Rattle.quick_cache_unsync.specs.contracts.lent.reference.RefMut as refs
 
 module _ {Q K V We B L A H S : Type 0} {query : equivalent.Ghosts Q K} {query_hash : hash.Ghosts Q}
     {query_eq : partial_eq.Ghosts Q} {key_eq : partial_eq.Ghosts K} {key_hash : hash.Ghosts K}

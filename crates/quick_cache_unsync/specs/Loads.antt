@@ -6,10 +6,10 @@ use Rattle.quick_cache_model.specs.CacheState.{CacheState, UpToOrder}
 use Rattle.quick_cache_model.specs.Hooks.{Rules, Hooks, Calls}
 use Rattle.quick_cache_model.specs.Lookups.{LooksUp}
 use Rattle.quick_cache_model.specs.Placeholders.{HasNoTicket, GivesUpPlaceholder}
-use Rattle.quick_cache_calls.specs.Loads.{LoadsNothing}
-use Rattle.quick_cache_calls.specs.References.{TellsItem}
-use Rattle.quick_cache_unsync.specs.declared.not_loaded.NotLoaded.{NotLoaded}
-use Rattle.quick_cache_unsync.specs.declared.not_loaded.NotLoaded.TheVariants.{NotKept, Failed, Refused}
+use Rattle.quick_cache_model.specs.Loads.{LoadsNothing}
+use Rattle.quick_cache_model.specs.References.{TellsItem}
+use Rattle.quick_cache_unsync.specs.declared.loading.not_loaded.NotLoaded.{NotLoaded}
+use Rattle.quick_cache_unsync.specs.declared.loading.not_loaded.NotLoaded.TheVariants.{NotKept, Failed, Refused}
 use Rattle.quick_cache_shard.specs.Alone.{IsDoneAlone}
 use Rattle.quick_cache_shard.specs.Filling.{Fills, AnswersFill}
 use Rattle.quick_cache_shard.specs.Loading.{IsMadeOrMet, MakesNone}

@@ -3,7 +3,7 @@ use Rattle.std.specs.Prelude.{Bool, Option}
 use Rattle.quick_cache_model.specs.CacheState.{CacheState, UpToOrder}
 use Rattle.quick_cache_model.specs.Hooks.{Rules}
 use Rattle.quick_cache_model.specs.Lookups.{LooksUp}
-use Rattle.quick_cache_calls.specs.References.{WritesItem}
+use Rattle.quick_cache_model.specs.References.{WritesItem}
 pub use Rattle.quick_cache_shard.specs.StillUnder.{still_under}
 
 module _ {K V : Type 0} (stands_for : K → Bool) where

@@ -1,7 +1,7 @@
 -- The steps of a cache's calls that fill, load, or write through references, as what it goes by
 -- says. The request state comes last, before and after.
 use Rattle.std.specs.Prelude.{ℕ, ◌+◌, ◌≤◌, Bool, false, Result}
-use Rattle.quick_cache_calls.specs.References.{WritesItem}
+use Rattle.quick_cache_model.specs.References.{WritesItem}
 use Rattle.quick_cache_model.specs.CacheState.{UpToOrder}
 use Rattle.quick_cache_model.specs.Hooks.{Calls}
 use Rattle.quick_cache_model.specs.declared.refusal.Refusal.{Refusal}

@@ -14,7 +14,7 @@ ghost use Rattle.quick_cache_shard.specs.Room.{most_room};
 ghost use Rattle.quick_cache_model.specs.Refusals.{slots_taken, slot_count};
 
 use crate::lifecycle::DefaultLifecycle;
-use crate::placeholder::Placeholder;
+use crate::loading::placeholder::Placeholder;
 use quick_cache_model::{
     DefaultHashBuilder, Equivalent, Lifecycle, Refusal, UnitWeighter, Weighter,
 };

@@ -2,7 +2,7 @@
 //! answer.
 #![tactic(auto)]
 
-use quick_cache_slab::linked_slab::{LinkedSlab, Token};
+use quick_cache_containers::linked_slab::{LinkedSlab, Token};
 use std::alloc::Global;
 
 /// What each slot holds, about as large as a cache's entry.

@@ -3,8 +3,8 @@
 
 ghost use Rattle.std.specs.Prelude.{◌<◌, length};
 
+use quick_cache_containers::Table;
 use quick_cache_model::{Refusal, Token};
-use quick_cache_table::Table;
 use std::alloc::Global;
 
 // A table of the hashes, the first with token 1, with room for `room` pairs at least.

@@ -1,6 +1,6 @@
 //! Entry calls on a shard behind its lock.
 ghost use Rattle.std.specs.Prelude.{◌≡◌};
-ghost use Rattle.quick_cache_entries.specs.Acts.{DoesAsChosen, IfAbsent, IfGone, IfKept, LeavesFit, MayTell};
+ghost use Rattle.quick_cache_guard.specs.Acts.{DoesAsChosen, IfAbsent, IfGone, IfKept, LeavesFit, MayTell};
 ghost use Rattle.quick_cache_shard.specs.Entering.{AnswersEntry};
 ghost use Rattle.quick_cache_shard.specs.Shard.{LosesOnly, KeepsWork};
 ghost use Rattle.quick_cache_locked.specs.Fitting.{FitsQuery};
@@ -10,10 +10,10 @@ ghost use Rattle.quick_cache_locked.specs.Touches.{any_touches};
 ghost use Rattle.quick_cache_shard.specs.Steps.{rules_in};
 
 use crate::locked::LockedShard;
-use quick_cache_entries::EntryShard;
+use quick_cache_guard::entries::EntryShard;
+use quick_cache_loading::sharing::SharedPlaceholder;
 use quick_cache_model::{Lifecycle, Refusal, ToKey, Weighter};
 use quick_cache_shard::{EntryAction, EntryOrPlaceholder, Going, Keyed};
-use quick_cache_sharing::SharedPlaceholder;
 use std::alloc::Allocator;
 use std::hash::{BuildHasher, Hash};
 

@@ -10,9 +10,9 @@ ghost use Rattle.quick_cache_locked.specs.Touches.{any_touches};
 
 use crate::locked::LockedShard;
 use quick_cache_guard::{Begun, LoadingShard};
+use quick_cache_loading::sharing::SharedPlaceholder;
 use quick_cache_model::{Equivalent, Lifecycle, Refusal, ToKey, Weighter};
 use quick_cache_shard::{Going, Keyed};
-use quick_cache_sharing::SharedPlaceholder;
 use std::alloc::Allocator;
 use std::hash::{BuildHasher, Hash};
 

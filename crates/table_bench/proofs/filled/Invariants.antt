@@ -1,5 +1,5 @@
 use Rattle.std.proofs.Common.{◌≡◌, ◌+◌, ◌<◌, ◌≤◌, ℕ, false, length}
-use Rattle.quick_cache_table.specs.Table.{has_pair}
+use Rattle.quick_cache_containers.specs.Table.{has_pair}
 use Rattle.table_bench.proofs.filled.Given as goal
 
 -- there is room for the hashes to come, and their tokens are new

@@ -1,5 +1,5 @@
 use Rattle.std.proofs.Common.{◌∷◌, false}
-use Rattle.quick_cache_fates.specs.Fates.{residents}
+use Rattle.quick_cache_model.specs.Fates.{residents}
 use Rattle.promises.proofs.ToldLemmas.{untold}
 use Rattle.promises.proofs.told.insert_and_listen.Goals as goal
 

@@ -1,6 +1,6 @@
 use Rattle.std.proofs.Common.{arith, ◌∙◌, Ok, Err}
-use Rattle.quick_cache_calls.proofs.RunLemmas.{stops_at_first}
-use Rattle.quick_cache_lives.proofs.CallerLemmas.{RunsCalls-conserves}
+use Rattle.quick_cache_model.proofs.RunLemmas.{stops_at_first}
+use Rattle.quick_cache_runs.proofs.ConservationLemmas.{RunsCalls-conserves}
 use Rattle.quick_cache_shard.specs.Lifecycles.{hooks_by}
 use Rattle.quick_cache_runs.proofs.RunLemmas.{AreAnswered-none}
 use Rattle.quick_cache_runs.proofs.runs.run.Goals as goal

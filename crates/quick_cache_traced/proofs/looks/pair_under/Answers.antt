@@ -1,6 +1,6 @@
 use Rattle.std.proofs.Common.{◌≡◌, ◌+◌, ap, arith}
 use Rattle.std.specs.Int.NonZero.{non_zero_u32_get}
-use Rattle.quick_cache_lists.specs.Lists.{number_or_zero}
+use Rattle.quick_cache_store.specs.Lists.{number_or_zero}
 use Rattle.quick_cache_model.specs.Lookups.{Sees}
 use Rattle.quick_cache_shard.specs.WalksFrom.{WalkFrom}
 use Rattle.quick_cache_traced.proofs.PairLemmas.{Sees-next, never_ends, number_of}

@@ -1,6 +1,6 @@
 use Rattle.std.proofs.Common.{sym, ◌∙◌}
 use Rattle.qcrun.specs.Sessions.{ServesCommand}
-use Rattle.qcrun_cache.proofs.EventLemmas.{TellsOf-run}
+use Rattle.qcrun_parts.proofs.EventLemmas.{TellsOf-run}
 use Rattle.qcrun.proofs.SessionLemmas.{ServesCommand-call}
 use Rattle.qcrun.proofs.session.Session.serve.Goals as goal
 

@@ -2,7 +2,7 @@ use Rattle.std.proofs.Common.{◌≡◌, sym, ap, subst, ◌∙◌}
 use Rattle.quick_cache_model.specs.CacheState.{Item}
 use Rattle.quick_cache_model.specs.Entries.{Retain, Remove, ReplaceWithGuard, Kept, Removed, Replaced, Refused}
 use Rattle.quick_cache_policy.specs.declared.contents.Contents.{Contents}
-use Rattle.quick_cache_model.specs.declared.entry.EntryAction.{EntryAction}
+use Rattle.quick_cache_model.specs.declared.calls.entry.EntryAction.{EntryAction}
 use Rattle.quick_cache_policy.specs.Contents.{state_of}
 use Rattle.quick_cache_model.specs.Callbacks.{Leaves}
 use Rattle.quick_cache_policy.specs.Policies.{rules_by}

@@ -1,6 +1,6 @@
 use Rattle.std.proofs.Common.{ap, ◌∙◌}
 use Rattle.std.specs.Int.NonZero.{non_zero_u32_get as number}
-use Rattle.quick_cache_lists.specs.Lists.{HeldLoading}
+use Rattle.quick_cache_store.specs.Lists.{HeldLoading}
 use Rattle.quick_cache_policy.proofs.FillLemmas.{HasNoTicket-state, awaited-is_loading, left-awaits}
 use Rattle.quick_cache_policy.proofs.FindLemmas.{none-found}
 use Rattle.quick_cache_policy.proofs.contents.Contents.awaited_key.Goals as goal

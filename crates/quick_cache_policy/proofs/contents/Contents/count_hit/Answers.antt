@@ -2,8 +2,8 @@ use Rattle.std.proofs.Common.{◌≡◌, refl, sym, ap, subst, ◌∙◌, arith}
 use Rattle.std.specs.Int.NonZero.{non_zero_u32_get as number}
 use Rattle.quick_cache_model.specs.Removal.{pair_of}
 use Rattle.quick_cache_model.specs.Touches.{counted_up, raised_by}
-use Rattle.quick_cache_lists.specs.Lists.{HeldItem, FindsItem, read_once, used}
-use Rattle.quick_cache_lists.proofs.StandingLemmas.{found-same}
+use Rattle.quick_cache_store.specs.Lists.{HeldItem, FindsItem, read_once, used}
+use Rattle.quick_cache_store.proofs.lists.StandingLemmas.{found-same}
 use Rattle.quick_cache_policy.specs.Contents.{IsSound, state_of}
 use Rattle.quick_cache_policy.specs.Entering.{CountsHit}
 use Rattle.quick_cache_policy.specs.declared.contents.Contents.{Contents}

@@ -2,7 +2,7 @@ use Rattle.std.proofs.Common.{[], ◌∷◌, length, refl, sym, ap, subst, ◌�
 use Rattle.std.specs.Int.NonZero.{non_zero_u32_get as number}
 use Rattle.quick_cache_model.specs.declared.queue.Queue.TheVariants.{Hot, Cold}
 use Rattle.quick_cache_model.specs.Hooks.{BeforeEvict, EvictCold}
-use Rattle.quick_cache_lists.specs.Lists.{Lists}
+use Rattle.quick_cache_store.specs.Lists.{Lists}
 use Rattle.quick_cache_policy.specs.declared.contents.Contents.{Contents}
 use Rattle.quick_cache_policy.specs.Advances.{AreEvictions, FirstIsEvicted}
 use Rattle.quick_cache_policy.specs.Contents.{IsSound, state_of, ring_count}

@@ -1,7 +1,7 @@
 use Rattle.std.proofs.Common.{◌≡◌, ◌∷◌, subst}
 use Rattle.quick_cache_model.specs.declared.queue.Queue.{Queue}
 use Rattle.quick_cache_model.specs.CacheState.{ring_place}
-use Rattle.quick_cache_lists.specs.Lists.{items_at}
+use Rattle.quick_cache_store.specs.Lists.{items_at}
 use Rattle.quick_cache_policy.proofs.contents.Contents.evict_first.Goals as goal
 
 pub evict_hot-requires-clause-first : goal.evict_hot-requires-clause-first

@@ -3,10 +3,10 @@ use Rattle.std.specs.Int.NonZero.{non_zero_u32_get as number}
 use Rattle.quick_cache_model.specs.declared.queue.Queue.TheVariants.{Hot}
 use Rattle.quick_cache_model.specs.CacheState.{Item, ring_place}
 use Rattle.quick_cache_model.specs.Hooks.{BeforeEvict, EvictHot}
-use Rattle.quick_cache_lists.specs.Lists.{Lists, IsEntry}
-use Rattle.quick_cache_lists.proofs.OneEntryLemmas.{first-loading, first-ghost, without-first}
+use Rattle.quick_cache_store.specs.Lists.{Lists, IsEntry}
+use Rattle.quick_cache_store.proofs.lists.OneEntryLemmas.{first-loading, first-ghost, without-first}
 use Rattle.quick_cache_policy.specs.Advances.{AreEvictions, Decides}
-use Rattle.quick_cache_policy.specs.declared.victim.Fate.TheVariants.{Stays as fate_stays, Leaves as fate_leaves}
+use Rattle.quick_cache_policy.specs.declared.evicting.victim.Fate.TheVariants.{Stays as fate_stays, Leaves as fate_leaves}
 use Rattle.quick_cache_policy.specs.Contents.{AreHashed}
 use Rattle.quick_cache_policy.specs.Policies.{rules_by}
 use Rattle.quick_cache_policy.proofs.PlaceLemmas.{LosesOnly-gone, LosesOnly-stays}

@@ -6,15 +6,15 @@ use Rattle.quick_cache_model.specs.Hooks.{EvictCold, Calls}
 use Rattle.quick_cache_model.specs.Placeholders.{MakesRoomFor}
 use Rattle.quick_cache_model.specs.Touches.{first_mark}
 use Rattle.quick_cache_model.specs.Writes.{new_item, queue_for}
-use Rattle.quick_cache_fates.specs.Fates.{residents}
-use Rattle.quick_cache_fates.proofs.Leads.{Leads-same}
-use Rattle.quick_cache_lists.proofs.CallerLemmas.{weight_of-items}
-use Rattle.quick_cache_lists.proofs.StandingLemmas.{loading-not_item, loading-not_ghost}
-use Rattle.quick_cache_slots.specs.declared.entry.Awaited.{Awaited}
-use Rattle.quick_cache_lists.specs.Fills.{filled}
-use Rattle.quick_cache_lists.specs.Lists.{HeldLoading, Lists, StandsIn, without_entry}
-use Rattle.quick_cache_lists.specs.Views.{loading_entry, loading_entries}
-use Rattle.quick_cache_policy.specs.declared.admission.Admission.TheVariants.{Admitted as code_admitted, TooHeavy as code_too_heavy}
+use Rattle.quick_cache_model.specs.Fates.{residents}
+use Rattle.quick_cache_model.proofs.Leads.{Leads-same}
+use Rattle.quick_cache_store.proofs.lists.CallerLemmas.{weight_of-items}
+use Rattle.quick_cache_store.proofs.lists.StandingLemmas.{loading-not_item, loading-not_ghost}
+use Rattle.quick_cache_store.specs.declared.slots.entry.Awaited.{Awaited}
+use Rattle.quick_cache_store.specs.Fills.{filled}
+use Rattle.quick_cache_store.specs.Lists.{HeldLoading, Lists, StandsIn, without_entry}
+use Rattle.quick_cache_store.specs.Views.{loading_entry, loading_entries}
+use Rattle.quick_cache_policy.specs.declared.writing.admission.Admission.TheVariants.{Admitted as code_admitted, TooHeavy as code_too_heavy}
 use Rattle.quick_cache_policy.specs.Advances.{Evicting, AreEvictions}
 use Rattle.quick_cache_policy.specs.Contents.{IsSound, state_of, ring_count, work_of}
 use Rattle.quick_cache_policy.specs.Filling.{Fills}

@@ -1,8 +1,8 @@
 use Rattle.std.proofs.Common.{sym, ap, ◌∙◌, refl}
 use Rattle.std.specs.Int.NonZero.{non_zero_u32_get as number}
-use Rattle.quick_cache_lists.specs.Lists.{Lists}
-use Rattle.quick_cache_lists.specs.Views.{hashes_of}
-use Rattle.quick_cache_lists.proofs.OneEntryLemmas.{without-first_ghost}
+use Rattle.quick_cache_store.specs.Lists.{Lists}
+use Rattle.quick_cache_store.specs.Views.{hashes_of}
+use Rattle.quick_cache_store.proofs.lists.OneEntryLemmas.{without-first_ghost}
 use Rattle.quick_cache_policy.proofs.VictimLemmas.{hashes_of-drop}
 use Rattle.quick_cache_policy.proofs.contents.Contents.forget_ghost.Goals as goal
 

@@ -1,5 +1,5 @@
 use Rattle.std.proofs.Common.{◌≡◌, ◌-◌, ◌≤◌, drop, length, min}
-use Rattle.quick_cache_lists.specs.Views.{hashes_of}
+use Rattle.quick_cache_store.specs.Views.{hashes_of}
 use Rattle.quick_cache_policy.proofs.contents.Contents.forget_ghosts.Given as goal
 
 abbrev pub invariant-loop-self : goal.invariant-loop-self

@@ -1,5 +1,5 @@
 use Rattle.std.proofs.Common.{◌≡◌, ℕ, ◌-◌, drop, length, ap, ◌∙◌, arith}
-use Rattle.quick_cache_lists.specs.Views.{hashes_of}
+use Rattle.quick_cache_store.specs.Views.{hashes_of}
 use Rattle.quick_cache_policy.proofs.contents.Contents.forget_oldest.Goals as goal
 
 -- it is one above the limit

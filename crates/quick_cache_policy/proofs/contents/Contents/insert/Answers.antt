@@ -1,6 +1,6 @@
 use Rattle.std.proofs.Common.{ℕ, ◌+◌, refl, sym, ap, subst, Some, None, arith}
 use Rattle.quick_cache_model.specs.declared.queue.Queue.TheVariants.{Hot, Cold}
-use Rattle.quick_cache_lists.specs.Lists.{Finds, Lists}
+use Rattle.quick_cache_store.specs.Lists.{Finds, Lists}
 use Rattle.quick_cache_policy.specs.Contents.{state_of, ring_count, work_of}
 use Rattle.quick_cache_policy.specs.Policies.{rules_by}
 use Rattle.quick_cache_policy.specs.Finding.{Provides}

@@ -5,10 +5,10 @@ use Rattle.quick_cache_model.specs.CacheState.{Item, UpToOrder}
 use Rattle.quick_cache_model.specs.Eviction.{EvictsToCapacity}
 use Rattle.quick_cache_model.specs.Writes.{queue_for}
 use Rattle.quick_cache_model.specs.Removal.{pair_of}
-use Rattle.quick_cache_slots.specs.declared.entry.Entry.TheVariants.{Item as item_variant}
-use Rattle.quick_cache_lists.specs.declared.found.Found.TheVariants.{Nothing as found_nothing}
-use Rattle.quick_cache_lists.specs.Lists.{Finds, PutsLast}
-use Rattle.quick_cache_lists.proofs.CallerLemmas.{weight_of-items}
+use Rattle.quick_cache_store.specs.declared.slots.entry.Entry.TheVariants.{Item as item_variant}
+use Rattle.quick_cache_store.specs.declared.lists.found.Found.TheVariants.{Nothing as found_nothing}
+use Rattle.quick_cache_store.specs.Lists.{Finds, PutsLast}
+use Rattle.quick_cache_store.proofs.lists.CallerLemmas.{weight_of-items}
 use Rattle.quick_cache_policy.specs.Contents.{state_of}
 use Rattle.quick_cache_policy.specs.Policies.{rules_by}
 use Rattle.quick_cache_policy.specs.Writing.{AreAdmittedCalls, IsReplacement}

@@ -3,8 +3,8 @@ use Rattle.std.specs.Int.NonZero.{non_zero_u32_get as number}
 use Rattle.quick_cache_model.specs.declared.queue.Queue.TheVariants.{Hot}
 use Rattle.quick_cache_model.specs.CacheState.{Item}
 use Rattle.quick_cache_model.specs.Removal.{pair_of}
-use Rattle.quick_cache_lists.specs.Lists.{Finds}
-use Rattle.quick_cache_lists.specs.declared.found.Found.TheVariants.{Ghost as found_ghost}
+use Rattle.quick_cache_store.specs.Lists.{Finds}
+use Rattle.quick_cache_store.specs.declared.lists.found.Found.TheVariants.{Ghost as found_ghost}
 use Rattle.quick_cache_policy.specs.Contents.{state_of}
 use Rattle.quick_cache_policy.specs.Policies.{rules_by}
 use Rattle.quick_cache_policy.specs.Writing.{AreAdmittedCalls, IsReplacement}

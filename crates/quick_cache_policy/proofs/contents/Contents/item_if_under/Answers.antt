@@ -1,7 +1,7 @@
 use Rattle.std.proofs.Common.{◌≡◌, false, true≢false, refl, sym, ap, ◌∙◌}
 use Rattle.std.specs.Int.NonZero.{non_zero_u32_get as number}
-use Rattle.quick_cache_lists.specs.Lists.{HeldItem}
-use Rattle.quick_cache_lists.proofs.StandingLemmas.{found-same}
+use Rattle.quick_cache_store.specs.Lists.{HeldItem}
+use Rattle.quick_cache_store.proofs.lists.StandingLemmas.{found-same}
 use Rattle.quick_cache_policy.proofs.FindLemmas.{none-found}
 use Rattle.quick_cache_policy.proofs.contents.Contents.item_if_under.Goals as goal
 

@@ -1,6 +1,6 @@
 use Rattle.std.proofs.Common.{◌∙◌, ap, sym, arith, [], ap₂}
 use Rattle.quick_cache_model.specs.CacheState.{Item, InCold}
-use Rattle.quick_cache_policy.specs.declared.cold.Search.TheVariants.{Marked, Victim, AllPassed}
+use Rattle.quick_cache_policy.specs.declared.evicting.cold.Search.TheVariants.{Marked, Victim, AllPassed}
 use Rattle.quick_cache_policy.proofs.FirstLemmas.{first-touched_same, first-touched_places}
 use Rattle.quick_cache_policy.proofs.FirstLemmas.{first-touched_sound, first-touched_item}
 use Rattle.quick_cache_policy.proofs.FirstLemmas.{first-touched_there, first-looked}

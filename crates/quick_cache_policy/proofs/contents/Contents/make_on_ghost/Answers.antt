@@ -5,14 +5,14 @@ use Rattle.quick_cache_model.specs.Placeholders.{MakesPlaceholder, with_placehol
 use Rattle.quick_cache_model.specs.Lookups.{after_miss}
 use Rattle.quick_cache_model.proofs.EqualKeys.{keys_by-absent}
 use Rattle.quick_cache_model.specs.Touches.{counted_up}
-use Rattle.quick_cache_slots.specs.declared.entry.Entry.TheVariants.{Loading as loading_variant}
+use Rattle.quick_cache_store.specs.declared.slots.entry.Entry.TheVariants.{Loading as loading_variant}
 use Rattle.std.proofs.lemmas.List.{map-append}
 use Rattle.quick_cache_model.proofs.Valid.Edits.{without_ghost-valid}
-use Rattle.quick_cache_lists.specs.declared.found.Found.{Found}
-use Rattle.quick_cache_lists.specs.declared.found.Found.TheVariants.{Ghost as found_ghost, Nothing as found_nothing}
-use Rattle.quick_cache_lists.specs.Lists.{Lists, HeldGhost, PutsLast}
-use Rattle.quick_cache_lists.specs.Views.{hashes_of}
-use Rattle.quick_cache_lists.proofs.StandingLemmas.{ghost-hash}
+use Rattle.quick_cache_store.specs.declared.lists.found.Found.{Found}
+use Rattle.quick_cache_store.specs.declared.lists.found.Found.TheVariants.{Ghost as found_ghost, Nothing as found_nothing}
+use Rattle.quick_cache_store.specs.Lists.{Lists, HeldGhost, PutsLast}
+use Rattle.quick_cache_store.specs.Views.{hashes_of}
+use Rattle.quick_cache_store.proofs.lists.StandingLemmas.{ghost-hash}
 use Rattle.quick_cache_policy.specs.declared.contents.Contents.{Contents}
 use Rattle.quick_cache_policy.specs.Contents.{IsSound, state_of}
 use Rattle.quick_cache_policy.specs.Loading.{IsMade, MakesNone}

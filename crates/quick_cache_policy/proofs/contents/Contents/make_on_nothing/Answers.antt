@@ -5,8 +5,8 @@ use Rattle.quick_cache_model.specs.Lookups.{after_miss}
 use Rattle.quick_cache_model.specs.declared.refusal.Refusal.TheVariants.{Memory, SlotsFull}
 use Rattle.quick_cache_model.proofs.EqualKeys.{keys_by-absent}
 use Rattle.quick_cache_model.specs.Touches.{counted_up}
-use Rattle.quick_cache_slots.specs.declared.entry.Entry.TheVariants.{Loading as loading_variant}
-use Rattle.quick_cache_lists.specs.Lists.{Lists, PutsLast}
+use Rattle.quick_cache_store.specs.declared.slots.entry.Entry.TheVariants.{Loading as loading_variant}
+use Rattle.quick_cache_store.specs.Lists.{Lists, PutsLast}
 use Rattle.quick_cache_policy.specs.declared.contents.Contents.{Contents}
 use Rattle.quick_cache_policy.specs.Contents.{IsSound, state_of}
 use Rattle.quick_cache_policy.specs.Loading.{IsMade, MakesNone}

@@ -3,8 +3,8 @@ use Rattle.std.specs.Int.NonZero.{non_zero_u32_get as number}
 use Rattle.quick_cache_model.specs.Placeholders.{MeetsPlaceholder}
 use Rattle.quick_cache_model.specs.Touches.{counted_up}
 use Rattle.quick_cache_model.proofs.OrderLaws.{UpToOrder-exact}
-use Rattle.quick_cache_lists.specs.Lists.{HeldLoading}
-use Rattle.quick_cache_lists.specs.Views.{loading_entry, loading_entries}
+use Rattle.quick_cache_store.specs.Lists.{HeldLoading}
+use Rattle.quick_cache_store.specs.Views.{loading_entry, loading_entries}
 use Rattle.quick_cache_policy.specs.Contents.{state_of}
 use Rattle.quick_cache_policy.proofs.FindLemmas.{IsLoadingAt-stands}
 use Rattle.quick_cache_policy.proofs.FillLemmas.{awaited-is_loading}

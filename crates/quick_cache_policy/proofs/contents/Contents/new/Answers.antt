@@ -1,5 +1,5 @@
 use Rattle.std.proofs.Common.{subst, sym, arith}
-use Rattle.quick_cache_lists.specs.Lists.{Lists}
+use Rattle.quick_cache_store.specs.Lists.{Lists}
 use Rattle.quick_cache_policy.specs.Contents.{IsSound}
 use Rattle.quick_cache_policy.proofs.contents.Contents.new.Goals as goal
 

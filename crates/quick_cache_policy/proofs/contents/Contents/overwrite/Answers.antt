@@ -8,8 +8,8 @@ use Rattle.quick_cache_model.specs.Writes.{mark_after}
 use Rattle.quick_cache_model.proofs.HookLaws.{RunsHooks-append}
 use Rattle.quick_cache_model.proofs.Valid.Writes.{mark_after-le}
 use Rattle.quick_cache_model.specs.Removal.{pair_of}
-use Rattle.quick_cache_lists.specs.Lists.{Finds, Rewrites, HasItemToken, IsItemOf}
-use Rattle.quick_cache_lists.specs.declared.found.Found.TheVariants.{Item as found_item}
+use Rattle.quick_cache_store.specs.Lists.{Finds, Rewrites, HasItemToken, IsItemOf}
+use Rattle.quick_cache_store.specs.declared.lists.found.Found.TheVariants.{Item as found_item}
 use Rattle.quick_cache_policy.specs.Contents.{state_of}
 use Rattle.quick_cache_policy.specs.Policies.{rules_by}
 use Rattle.quick_cache_policy.specs.Writing.{AreAdmittedCalls, IsReplacement, strategy_of}

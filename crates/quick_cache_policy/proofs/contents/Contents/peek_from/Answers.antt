@@ -1,5 +1,5 @@
 use Rattle.std.specs.Int.NonZero.{non_zero_u32_get as number}
-use Rattle.quick_cache_lists.specs.Views.{items_of}
+use Rattle.quick_cache_store.specs.Views.{items_of}
 use Rattle.quick_cache_policy.proofs.FindLemmas.{IsItemAt-stands}
 use Rattle.quick_cache_policy.proofs.contents.Contents.peek_from.Goals as goal
 

@@ -2,8 +2,8 @@ use Rattle.std.proofs.Common.{◌-◌, [], refl, sym, ap, ◌∙◌, arith}
 use Rattle.std.specs.Int.NonZero.{non_zero_u32_get as number}
 use Rattle.quick_cache_model.specs.declared.queue.Queue.TheVariants.{Hot, Cold}
 use Rattle.quick_cache_model.specs.CacheState.{ring_place}
-use Rattle.quick_cache_lists.specs.Lists.{HeldItem}
-use Rattle.quick_cache_lists.proofs.OneEntryLemmas.{first-item}
+use Rattle.quick_cache_store.specs.Lists.{HeldItem}
+use Rattle.quick_cache_store.proofs.lists.OneEntryLemmas.{first-item}
 use Rattle.quick_cache_policy.proofs.PlaceLemmas.{LosesOnly-promoted}
 use Rattle.quick_cache_policy.proofs.VictimLemmas.{Requeues-promotes}
 use Rattle.quick_cache_policy.proofs.SoundLemmas.{FirstIsPromoted-from, IsSound-promoted}

@@ -3,8 +3,8 @@ use Rattle.std.specs.Int.NonZero.{non_zero_u32_get as number}
 use Rattle.quick_cache_model.specs.CacheState.{Item}
 use Rattle.quick_cache_model.specs.Removal.{Removes}
 use Rattle.quick_cache_model.proofs.OrderLaws.{UpToOrder-exact}
-use Rattle.quick_cache_lists.specs.Lists.{HeldItem, Lists, without_entry}
-use Rattle.quick_cache_lists.proofs.StandingLemmas.{not-loading, not-ghost, entry-is_item}
+use Rattle.quick_cache_store.specs.Lists.{HeldItem, Lists, without_entry}
+use Rattle.quick_cache_store.proofs.lists.StandingLemmas.{not-loading, not-ghost, entry-is_item}
 use Rattle.quick_cache_policy.specs.Contents.{IsSound, state_of}
 use Rattle.quick_cache_policy.proofs.EnterLemmas.{state_with}
 use Rattle.quick_cache_policy.proofs.FindLemmas.{HasNothing-state}

@@ -3,9 +3,9 @@ use Rattle.std.specs.Fn.{FnOnceReturnsAt}
 use Rattle.std.specs.Int.NonZero.{non_zero_u32_get as number}
 use Rattle.std.proofs.lemmas.Fn.{gave_at}
 use Rattle.quick_cache_model.proofs.OrderLaws.{UpToOrder-exact}
-use Rattle.quick_cache_lists.specs.Lists.{HeldItem}
-use Rattle.quick_cache_lists.specs.Views.{items_of}
-use Rattle.quick_cache_lists.proofs.StandingLemmas.{found-same}
+use Rattle.quick_cache_store.specs.Lists.{HeldItem}
+use Rattle.quick_cache_store.specs.Views.{items_of}
+use Rattle.quick_cache_store.proofs.lists.StandingLemmas.{found-same}
 use Rattle.quick_cache_policy.specs.Predicates.{RemovesAsked}
 use Rattle.quick_cache_policy.proofs.FindLemmas.{none-found, HasNoItem-state, IsItemAt-stands}
 use Rattle.quick_cache_policy.proofs.TokenLemmas.{RemovesAsked-takes}

@@ -1,6 +1,6 @@
 use Rattle.std.proofs.Common.{subst}
 use Rattle.std.specs.Int.NonZero.{non_zero_u32_get as number}
-use Rattle.quick_cache_lists.specs.Lists.{IsFirstAbove, number_or_zero}
+use Rattle.quick_cache_store.specs.Lists.{IsFirstAbove, number_or_zero}
 use Rattle.quick_cache_policy.proofs.TokenLemmas.{TakesToken-state}
 use Rattle.quick_cache_policy.proofs.contents.Contents.remove_next.Goals as goal
 

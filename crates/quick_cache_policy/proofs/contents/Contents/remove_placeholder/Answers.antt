@@ -2,7 +2,7 @@ use Rattle.std.proofs.Common.{sym, subst, inl, inr}
 use Rattle.std.specs.Int.NonZero.{non_zero_u32_get as number}
 use Rattle.quick_cache_model.specs.Placeholders.{GivesUpPlaceholder}
 use Rattle.quick_cache_model.proofs.OrderLaws.{UpToOrder-exact}
-use Rattle.quick_cache_lists.specs.Lists.{Lists}
+use Rattle.quick_cache_store.specs.Lists.{Lists}
 use Rattle.quick_cache_policy.specs.Contents.{IsSound, state_of}
 use Rattle.quick_cache_policy.proofs.EnterLemmas.{state_with}
 use Rattle.quick_cache_policy.proofs.FillLemmas.{HasNoTicket-state, left-gives_up, left-sound}

@@ -2,8 +2,8 @@ use Rattle.std.proofs.Common.{arith}
 use Rattle.std.proofs.lemmas.Fn.{says}
 use Rattle.quick_cache_model.proofs.OrderLaws.{UpToOrder-exact}
 use Rattle.std.specs.Int.NonZero.{non_zero_u32_get as number}
-use Rattle.quick_cache_lists.specs.Lists.{HeldItem, number_or_zero}
-use Rattle.quick_cache_lists.specs.Views.{items_of}
+use Rattle.quick_cache_store.specs.Lists.{HeldItem, number_or_zero}
+use Rattle.quick_cache_store.specs.Views.{items_of}
 use Rattle.quick_cache_policy.specs.Predicates.{Answers}
 use Rattle.quick_cache_policy.proofs.RetainLemmas.{IsSifting-start, IsSifting-stay, IsSifting-go, IsSifting-end}
 use Rattle.quick_cache_policy.proofs.AskLemmas.{sifting-stood}

@@ -1,5 +1,5 @@
 use Rattle.std.proofs.Common.{ℕ, ◌-◌}
-use Rattle.quick_cache_lists.specs.Lists.{number_or_zero}
+use Rattle.quick_cache_store.specs.Lists.{number_or_zero}
 use Rattle.quick_cache_policy.specs.Contents.{IsSound}
 use Rattle.quick_cache_policy.specs.Predicates.{Answers}
 use Rattle.quick_cache_policy.proofs.RetainLemmas.{IsSifting}

@@ -1,7 +1,7 @@
 use Rattle.std.proofs.Common.{◌≡◌, ◌∙◌, ap, true, refl}
 use Rattle.std.specs.Int.NonZero.{non_zero_u32_get as number}
 use Rattle.quick_cache_model.specs.CacheState.{Item}
-use Rattle.quick_cache_lists.specs.Lists.{with_weight}
+use Rattle.quick_cache_store.specs.Lists.{with_weight}
 use Rattle.quick_cache_policy.specs.Policies.{rules_by}
 use Rattle.quick_cache_policy.proofs.ReferenceLemmas.{found-value, reweighed-under, reweighed-sound}
 use Rattle.quick_cache_policy.proofs.KeptPlaces.{reweighed-places}

@@ -1,10 +1,10 @@
 use Rattle.std.proofs.Common.{◌+◌, length, ap, sym, subst, ◌∙◌, arith, refl}
-use Rattle.quick_cache_lists.specs.Lists.{Lists, turned}
-use Rattle.quick_cache_lists.specs.Views.{items_of}
+use Rattle.quick_cache_store.specs.Lists.{Lists, turned}
+use Rattle.quick_cache_store.specs.Views.{items_of}
 use Rattle.quick_cache_policy.specs.declared.contents.Contents.{Contents}
 use Rattle.quick_cache_policy.specs.Advances.{LooksAt}
 use Rattle.quick_cache_policy.specs.Contents.{IsSound}
-use Rattle.quick_cache_policy.specs.declared.cold.Search.TheVariants.{AllPassed}
+use Rattle.quick_cache_policy.specs.declared.evicting.cold.Search.TheVariants.{AllPassed}
 use Rattle.quick_cache_policy.proofs.ColdLemmas.{HasPassed, HasPassed-none, HasPassed-more}
 use Rattle.quick_cache_policy.proofs.ColdLemmas.{HasPassed-found, LooksAt-length}
 use Rattle.quick_cache_policy.proofs.ColdSoundLemmas.{IsSound-cold_turned, items_of-turned, items_of-length, length-turned}

@@ -1,4 +1,4 @@
-use Rattle.quick_cache_lists.specs.Views.{items_of}
+use Rattle.quick_cache_store.specs.Views.{items_of}
 use Rattle.quick_cache_policy.specs.Rounds.{advance_measure}
 use Rattle.quick_cache_policy.proofs.HotSeekLemmas.{SeeksVictim}
 use Rattle.quick_cache_policy.proofs.contents.Contents.seek_victim.Given as goal

@@ -1,8 +1,8 @@
 use Rattle.std.proofs.Common.{sym, ap, subst, ◌∙◌, refl}
 use Rattle.std.specs.Int.NonZero.{non_zero_u32_get as number}
 use Rattle.quick_cache_model.specs.CacheState.{Item}
-use Rattle.quick_cache_lists.specs.Lists.{Lists, FindsItem, with_value}
-use Rattle.quick_cache_lists.specs.Views.{items_of}
+use Rattle.quick_cache_store.specs.Lists.{Lists, FindsItem, with_value}
+use Rattle.quick_cache_store.specs.Views.{items_of}
 use Rattle.quick_cache_policy.specs.Contents.{IsSound}
 use Rattle.quick_cache_model.specs.Callbacks.{Leaves}
 use Rattle.quick_cache_policy.proofs.EnterLemmas.{state_with}

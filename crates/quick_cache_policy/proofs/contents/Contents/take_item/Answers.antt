@@ -2,8 +2,8 @@ use Rattle.std.proofs.Common.{true, refl, sym, ap, subst, ◌∙◌}
 use Rattle.std.specs.Int.NonZero.{non_zero_u32_get as number}
 use Rattle.quick_cache_model.specs.CacheState.{Item}
 use Rattle.quick_cache_model.specs.Removal.{pair_of}
-use Rattle.quick_cache_lists.specs.Lists.{Lists, IsEntry}
-use Rattle.quick_cache_lists.proofs.StandingLemmas.{not-loading, not-ghost}
+use Rattle.quick_cache_store.specs.Lists.{Lists, IsEntry}
+use Rattle.quick_cache_store.proofs.lists.StandingLemmas.{not-loading, not-ghost}
 use Rattle.quick_cache_policy.specs.Contents.{IsSound}
 use Rattle.quick_cache_policy.proofs.LookupLemmas.{item-sound}
 use Rattle.quick_cache_policy.proofs.contents.Contents.take_item.Goals as goal

@@ -4,7 +4,7 @@ use Rattle.quick_cache_model.specs.declared.queue.Queue.{Queue}
 use Rattle.quick_cache_model.specs.CacheState.{Item}
 use Rattle.quick_cache_model.specs.Hooks.{RunsHooks, evicted}
 use Rattle.quick_cache_model.specs.Writes.{TakesOutItem, was_absent}
-use Rattle.quick_cache_lists.specs.Lists.{Finds}
+use Rattle.quick_cache_store.specs.Lists.{Finds}
 use Rattle.quick_cache_policy.specs.Contents.{IsSound, state_of}
 use Rattle.quick_cache_policy.specs.Writing.{none, one}
 use Rattle.quick_cache_policy.proofs.FindLemmas.{AreHashed-under}

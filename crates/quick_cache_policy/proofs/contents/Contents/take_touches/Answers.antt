@@ -1,7 +1,7 @@
 use Rattle.std.proofs.Common.{◌≡◌, ap, refl, sym, subst, ◌∙◌, arith}
 use Rattle.std.specs.Int.NonZero.{non_zero_u32_get as number}
 use Rattle.quick_cache_model.specs.Touches.{raised_by, counted_up}
-use Rattle.quick_cache_lists.specs.Lists.{HasItem, HasItemToken, IsItemOf, with_change, with_counts}
+use Rattle.quick_cache_store.specs.Lists.{HasItem, HasItemToken, IsItemOf, with_change, with_counts}
 use Rattle.quick_cache_policy.proofs.ItemLemmas.{with_change-own_counts, with_touches-some}
 use Rattle.quick_cache_policy.proofs.contents.Contents.take_touches.Goals as goal
 

@@ -2,8 +2,8 @@ use Rattle.std.proofs.Common.{◌≡◌, ◌==◌, ℕ, refl, sym, ap, subst, �
 use Rattle.std.specs.Int.NonZero.{non_zero_u32_get as number}
 use Rattle.quick_cache_model.specs.CacheState.{Item}
 use Rattle.quick_cache_model.specs.Removal.{pair_of}
-use Rattle.quick_cache_lists.specs.Lists.{HeldItem, HasItem, IsEntry, without_entry}
-use Rattle.quick_cache_lists.proofs.StandingLemmas.{found-same, not-loading, not-ghost}
+use Rattle.quick_cache_store.specs.Lists.{HeldItem, HasItem, IsEntry, without_entry}
+use Rattle.quick_cache_store.proofs.lists.StandingLemmas.{found-same, not-loading, not-ghost}
 use Rattle.quick_cache_policy.proofs.contents.Contents.take_weighed.Goals as goal
 
 -- what has the token of an item is an item

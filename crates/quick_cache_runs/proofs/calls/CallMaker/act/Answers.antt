@@ -1,7 +1,7 @@
-use Rattle.quick_cache_calls.specs.declared.call.Call.TheVariants.{Get, Peek, GetMut, PeekMut}
-use Rattle.quick_cache_calls.specs.declared.call.Call.TheVariants.{Contains, Stats, Remove, RemoveIf}
-use Rattle.quick_cache_calls.specs.declared.call.Call.TheVariants.{Iter, Drain, Counts, Retain}
-use Rattle.quick_cache_calls.specs.declared.call.Call.TheVariants.{Reserve, Clear}
+use Rattle.quick_cache_model.specs.declared.calls.call.Call.TheVariants.{Get, Peek, GetMut, PeekMut}
+use Rattle.quick_cache_model.specs.declared.calls.call.Call.TheVariants.{Contains, Stats, Remove, RemoveIf}
+use Rattle.quick_cache_model.specs.declared.calls.call.Call.TheVariants.{Iter, Drain, Counts, Retain}
+use Rattle.quick_cache_model.specs.declared.calls.call.Call.TheVariants.{Reserve, Clear}
 use Rattle.quick_cache_shard.specs.Lifecycles.{hooks_by}
 use Rattle.quick_cache_runs.proofs.CallSteps.{quietly}
 use Rattle.quick_cache_runs.proofs.calls.CallMaker.act.Goals as goal

@@ -1,4 +1,4 @@
-use Rattle.quick_cache_calls.specs.CacheStep.{CacheStep}
+use Rattle.quick_cache_model.specs.CacheStep.{CacheStep}
 use Rattle.quick_cache_runs.proofs.CallSteps.{tells}
 use Rattle.quick_cache_runs.proofs.calls.CallMaker.contains.Goals as goal
 

@@ -1,6 +1,6 @@
-use Rattle.quick_cache_calls.specs.declared.call.Call.TheVariants.{Drain}
-use Rattle.quick_cache_calls.specs.CacheStep.{CacheStep}
-use Rattle.quick_cache_calls.specs.Kinds.{MakesRoom}
+use Rattle.quick_cache_model.specs.declared.calls.call.Call.TheVariants.{Drain}
+use Rattle.quick_cache_model.specs.CacheStep.{CacheStep}
+use Rattle.quick_cache_model.specs.Kinds.{MakesRoom}
 use Rattle.quick_cache_runs.proofs.CallSteps.{refused_room}
 use Rattle.quick_cache_runs.proofs.calls.CallMaker.drain.Goals as goal
 

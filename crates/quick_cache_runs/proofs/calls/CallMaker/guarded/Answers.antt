@@ -1,7 +1,7 @@
 use Rattle.std.proofs.Common.{rules, ◌≡◌, Some, None, refl, sym, subst}
 use Rattle.quick_cache_model.specs.CacheState.{Item}
-use Rattle.quick_cache_calls.specs.declared.call.Call.TheVariants.{Guarded}
-use Rattle.quick_cache_calls.specs.declared.reply.Reply.TheVariants.{Filled, Dropped}
+use Rattle.quick_cache_model.specs.declared.calls.call.Call.TheVariants.{Guarded}
+use Rattle.quick_cache_model.specs.declared.calls.reply.Reply.TheVariants.{Filled, Dropped}
 use Rattle.quick_cache_shard.specs.Lifecycles.{hooks_by}
 use Rattle.quick_cache_shard.specs.Shard.{Shard}
 use Rattle.quick_cache_shard.specs.Steps.{goes_by, hooks_in, rules_in, steady_in}

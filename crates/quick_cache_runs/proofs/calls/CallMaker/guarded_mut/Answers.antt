@@ -1,7 +1,7 @@
 use Rattle.std.proofs.Common.{rules, ◌≡◌, Some, None, refl, sym, subst}
 use Rattle.quick_cache_model.specs.Hooks.{Rules}
-use Rattle.quick_cache_calls.specs.declared.call.Call.TheVariants.{Guarded, GuardedMut}
-use Rattle.quick_cache_calls.specs.declared.reply.Reply.TheVariants.{Found, Filled, Dropped, Refused}
+use Rattle.quick_cache_model.specs.declared.calls.call.Call.TheVariants.{Guarded, GuardedMut}
+use Rattle.quick_cache_model.specs.declared.calls.reply.Reply.TheVariants.{Found, Filled, Dropped, Refused}
 use Rattle.quick_cache_model.specs.declared.refusal.Refusal.TheVariants.{Memory}
 use Rattle.quick_cache_shard.specs.References.{with_value_under, ReweighsUnder}
 use Rattle.quick_cache_shard.specs.Lifecycles.{hooks_by}

@@ -1,8 +1,8 @@
 use Rattle.std.proofs.Common.{subst}
 use Rattle.quick_cache_model.specs.CacheState.{UpToOrder}
-use Rattle.quick_cache_calls.specs.declared.call.Call.TheVariants.{LoadMut}
-use Rattle.quick_cache_calls.specs.Kinds.{IsLoad}
-use Rattle.quick_cache_calls.specs.References.{WritesItem}
+use Rattle.quick_cache_model.specs.declared.calls.call.Call.TheVariants.{LoadMut}
+use Rattle.quick_cache_model.specs.Kinds.{IsLoad}
+use Rattle.quick_cache_model.specs.References.{WritesItem}
 use Rattle.quick_cache_shard.specs.Shard.{Shard}
 use Rattle.quick_cache_shard.specs.Steps.{goes_by, rules_in}
 use Rattle.quick_cache_unsync.specs.Touches.{no_touches}

@@ -1,8 +1,8 @@
 use Rattle.std.proofs.Common.{[], ◌∷◌, refl, sym, ap, subst, ◌∙◌, arith, Bool, length}
 use Rattle.std.proofs.lemmas.List.{length-append}
 use Rattle.std.specs.Prelude.{All}
-use Rattle.quick_cache_calls.specs.Answered.{AreAnswered}
-use Rattle.quick_cache_calls.proofs.RunLemmas.{IsRun-append, no_calls, took_one, took_all}
+use Rattle.quick_cache_model.specs.Answered.{AreAnswered}
+use Rattle.quick_cache_model.proofs.RunLemmas.{IsRun-append, no_calls, took_one, took_all}
 use Rattle.quick_cache_shard.specs.Copies.{ClonesAreEqual}
 use Rattle.quick_cache_shard.specs.Lifecycles.{hooks_by}
 use Rattle.quick_cache_shard.specs.Shard.{Shard}

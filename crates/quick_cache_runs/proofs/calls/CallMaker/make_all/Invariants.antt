@@ -1,7 +1,7 @@
 use Rattle.std.proofs.Common.{◌≡◌, ◌++◌, ◌+◌, ◌≤◌, Bool, length, vec_len, vec_capacity}
 use Rattle.std.specs.Prelude.{All}
 use Rattle.std.specs.Vec.Iter.{into_iter_items, into_iter_len}
-use Rattle.quick_cache_calls.specs.Answered.{AlwaysClones, AreAnswered}
+use Rattle.quick_cache_model.specs.Answered.{AlwaysClones, AreAnswered}
 use Rattle.quick_cache_shard.specs.Shard.{KeepsTerms}
 use Rattle.quick_cache_shard.specs.Steps.{goes_by}
 use Rattle.quick_cache_runs.specs.Asked.{IsAskedAs}

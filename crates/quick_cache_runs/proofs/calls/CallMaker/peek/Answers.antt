@@ -1,7 +1,7 @@
 use Rattle.std.proofs.Common.{Some, None, refl}
-use Rattle.quick_cache_calls.specs.declared.call.Call.TheVariants.{Peek}
-use Rattle.quick_cache_calls.specs.CacheStep.{CacheStep}
-use Rattle.quick_cache_calls.specs.Kinds.{IsLook}
+use Rattle.quick_cache_model.specs.declared.calls.call.Call.TheVariants.{Peek}
+use Rattle.quick_cache_model.specs.CacheStep.{CacheStep}
+use Rattle.quick_cache_model.specs.Kinds.{IsLook}
 use Rattle.quick_cache_runs.proofs.CallSteps.{refused_look}
 use Rattle.quick_cache_runs.proofs.calls.CallMaker.peek.Goals as goal
 

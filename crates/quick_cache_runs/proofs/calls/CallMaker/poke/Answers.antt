@@ -1,4 +1,4 @@
-use Rattle.quick_cache_calls.specs.CacheStep.{CacheStep}
+use Rattle.quick_cache_model.specs.CacheStep.{CacheStep}
 use Rattle.quick_cache_runs.proofs.calls.CallMaker.poke.Goals as goal
 
 pub returns-clause-step : goal.returns-clause-step

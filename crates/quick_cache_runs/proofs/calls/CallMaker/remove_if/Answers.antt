@@ -1,4 +1,4 @@
-use Rattle.quick_cache_calls.specs.CacheStep.{CacheStep}
+use Rattle.quick_cache_model.specs.CacheStep.{CacheStep}
 use Rattle.quick_cache_runs.proofs.CallSteps.{tested}
 use Rattle.quick_cache_runs.proofs.calls.CallMaker.remove_if.Goals as goal
 

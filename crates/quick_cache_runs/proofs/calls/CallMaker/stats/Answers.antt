@@ -1,5 +1,5 @@
 use Rattle.std.proofs.Common.{Some, None}
-use Rattle.quick_cache_calls.specs.CacheStep.{CacheStep}
+use Rattle.quick_cache_model.specs.CacheStep.{CacheStep}
 use Rattle.quick_cache_runs.proofs.calls.CallMaker.stats.Goals as goal
 
 pub returns-in-Some : goal.returns-in-Some

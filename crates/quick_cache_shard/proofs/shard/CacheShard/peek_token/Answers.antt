@@ -1,5 +1,5 @@
 use Rattle.std.specs.Int.NonZero.{non_zero_u32_get as number}
-use Rattle.quick_cache_lists.specs.Lists.{HeldItem}
+use Rattle.quick_cache_store.specs.Lists.{HeldItem}
 use Rattle.quick_cache_shard.proofs.PlaceLemmas.{HasItem-place, HasItem-resident, place-item}
 use Rattle.quick_cache_shard.proofs.shard.CacheShard.peek_token.Goals as goal
 

@@ -1,5 +1,5 @@
 use Rattle.std.proofs.Common.{ap}
-use Rattle.quick_cache_lists.specs.Lists.{number_or_zero}
+use Rattle.quick_cache_store.specs.Lists.{number_or_zero}
 use Rattle.quick_cache_policy.specs.Contents.{state_of, work_of}
 use Rattle.quick_cache_policy.specs.Places.{places_of}
 use Rattle.quick_cache_policy.specs.declared.contents.Contents.{Contents}

@@ -1,5 +1,5 @@
 use Rattle.std.specs.Int.NonZero.{non_zero_u32_get as number}
-use Rattle.quick_cache_lists.specs.Lists.{HeldItem, FindsItem}
+use Rattle.quick_cache_store.specs.Lists.{HeldItem, FindsItem}
 use Rattle.quick_cache_shard.proofs.PlaceLemmas.{IfSome-map, HasItem-place, HasItem-resident}
 use Rattle.quick_cache_shard.proofs.shard.CacheShard.token_of.Goals as goal
 

@@ -1,6 +1,6 @@
 use Rattle.std.proofs.Common.{◌∙◌, refl, sym, ap}
 use Rattle.std.specs.Int.NonZero.{non_zero_u32_get as number}
-use Rattle.quick_cache_lists.specs.Lists.{HeldItem, with_value}
+use Rattle.quick_cache_store.specs.Lists.{HeldItem, with_value}
 use Rattle.quick_cache_policy.specs.Contents.{state_of}
 use Rattle.quick_cache_policy.proofs.PlaceLemmas.{places_of-change}
 use Rattle.quick_cache_policy.proofs.ReferenceLemmas.{written-state, written-sound}

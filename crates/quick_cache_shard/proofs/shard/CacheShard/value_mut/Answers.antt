@@ -2,7 +2,7 @@ use Rattle.std.proofs.Common.{◌∙◌, refl, sym, ap}
 use Rattle.std.specs.Int.NonZero.{non_zero_u32_get as number}
 use Rattle.quick_cache_model.specs.Hashing.{hash_of}
 use Rattle.quick_cache_policy.proofs.FindLemmas.{AreHashed-under}
-use Rattle.quick_cache_lists.specs.Lists.{with_value}
+use Rattle.quick_cache_store.specs.Lists.{with_value}
 use Rattle.quick_cache_policy.proofs.PlaceLemmas.{places_of-change}
 use Rattle.quick_cache_policy.proofs.ReferenceLemmas.{written-state, written-sound}
 use Rattle.quick_cache_shard.proofs.ReferenceLemmas.{found-single, found-shown}

@@ -1,5 +1,5 @@
 use Rattle.std.proofs.Common.{◌∷◌, [], ◌++◌, ◌∙◌, ap}
-use Rattle.quick_cache_calls.specs.declared.reply.Reply.TheVariants.{Value}
+use Rattle.quick_cache_model.specs.declared.calls.reply.Reply.TheVariants.{Value}
 use Rattle.quick_cache_traced.specs.declared.call.TraceCall.TheVariants.{Get}
 use Rattle.quick_cache_traced.specs.Recorded.{Recorded}
 use Rattle.quick_cache_traced.proofs.StepLemmas.{LooksUp-seen, gets}

@@ -1,0 +1,8 @@
+//! An example of each call.
+
+pub mod looking;
+pub mod making;
+pub mod removing;
+pub mod telling;
+pub mod trying;
+pub mod writing;

@@ -1,0 +1,7 @@
+//! What those rely on who have the cache for one thread, or one of its parts.
+
+pub mod containers;
+pub mod keys;
+pub mod one_thread;
+pub mod options;
+pub mod room;

@@ -1,0 +1,8 @@
+//! What those rely on who share the cache, or a shard of it.
+
+pub mod fitting;
+pub mod loads;
+pub mod nobody;
+pub mod shards;
+pub mod shared;
+pub mod walks;

@@ -1,0 +1,56 @@
+//! What those rely on who load a key in the shared cache, or act on its entry.
+ghost use Rattle.std.specs.Prelude.{◌≡◌, IfErr, true};
+ghost use Rattle.quick_cache_loading.specs.Fitting.{ClonesFit};
+
+use quick_cache_guard::entries::{EntryShard, entry};
+use quick_cache_guard::{EntryResult, FillError, LoadingShard, PlaceholderGuard};
+use quick_cache_model::{EntryAction, Lifecycle, ToKey};
+use std::alloc::Global;
+use std::hash::Hash;
+use std::sync::{RwLock, Wait};
+use std::time::Clock;
+
+/// A fill that fails gives the value back, and the guard is given up.
+pub fn fill_or_take_back<
+    K: Eq + Hash + Drop,
+    V: Clone,
+    L: Lifecycle<K, V>,
+    S: LoadingShard<K, V, L, Global>,
+    R: Wait,
+>(guard: PlaceholderGuard<'_, K, V, L, S, R>, value: V) -> Result<(), V>
+    requires fits { L.fits guard value }
+    requires clones { ClonesFit L.fits V.is_clone }
+    ensures { IfErr result (λ back. back ≡ value) }
+{
+    match guard.insert(value) {
+        Ok(()) => Ok(()),
+        Err(FillError::Gone(value)) => Err(value),
+        Err(FillError::Memory(guard, value)) => {
+            guard.abandon();
+            Err(value)
+        }
+    }
+}
+
+/// An entry call whose callback keeps what it sees removes nothing and replaces nothing.
+pub fn keep_what_is_there<
+    K: Eq + Hash + Drop,
+    V: Clone,
+    L: Lifecycle<K, V>,
+    S: EntryShard<K, V, L, Global>,
+    R: Wait + Clock,
+    Q: ToKey<K>,
+>(rt: &R, shard: &RwLock<S>, query: &Q) -> bool
+    requires stands { (key : K) → Q.to_key_gives query.now key
+        → Q.equivalent query.now key ≡ true }
+{
+    let mut keeps = |_: &K, _: &mut V| -> EntryAction<()> { EntryAction::Retain(()) };
+    match entry(rt, shard, query, None, &mut keeps) {
+        EntryResult::Retained(()) => true,
+        EntryResult::Removed(_, _) => unreachable!(),
+        EntryResult::Replaced(_, _) => unreachable!(),
+        EntryResult::Vacant(_) => false,
+        EntryResult::Timeout => false,
+        EntryResult::Refused(_) => false,
+    }
+}

@@ -1,2 +1,0 @@
-pub mod EventLemmas
-mod StillLemmas

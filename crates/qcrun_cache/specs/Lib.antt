@@ -1,4 +1,0 @@
-pub mod Events
-pub mod Kinds
-pub mod Remainder
-pub mod Still

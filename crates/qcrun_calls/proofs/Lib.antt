@@ -1,2 +1,0 @@
-mod LoadLemmas
-mod ServedLemmas

@@ -1,2 +1,0 @@
-mod CommandLemmas
-mod LineLemmas

@@ -1,0 +1,6 @@
+mod CommandLemmas
+mod LineLemmas
+pub mod EventLemmas
+mod StillLemmas
+mod LoadLemmas
+mod ServedLemmas

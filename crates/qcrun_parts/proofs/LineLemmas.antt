@@ -1,0 +1,74 @@
+-- The line of a command is text.
+use Rattle.std.proofs.Common.{◌≡◌, ℕ, Bool, true, false, cond, List, [], ◌∷◌, ◌++◌, refl, subst, sym, arith}
+use Rattle.std.proofs.lemmas.Bool.{false≢true, ltb-true}
+use Rattle.std.proofs.lemmas.Fmt.{IsAscii-from_digits}
+use Rattle.std.proofs.lemmas.Str.{IsAscii-append, IsUtf8-from_ascii}
+use Rattle.std.proofs.lemmas.Str.Ascii.{IsAscii-nil, IsAscii-cons}
+use Rattle.std.specs.Prelude.{codes, nat_lt, IsUtf8, IsAscii}
+use Rattle.qcrun_parts.specs.Commands.{IsNumber, AreNumbers, IsLineOf, name_of, numbers_of}
+use Rattle.qcrun_parts.specs.declared.command.Command.{Command}
+use Rattle.qcrun_parts.specs.declared.command.Command.TheVariants.{Cache, CacheWithShares, CacheWithMark}
+use Rattle.qcrun_parts.specs.declared.command.Command.TheVariants.{Insert, Replace, Soft, Get}
+use Rattle.qcrun_parts.specs.declared.command.Command.TheVariants.{Peek, Remove, RemoveIf, Set, Poke}
+use Rattle.qcrun_parts.specs.declared.command.Command.TheVariants.{Load, Fail, Guard, Drop, Stats}
+use Rattle.qcrun_parts.specs.declared.command.Command.TheVariants.{Clear, Capacity, Hits, Show}
+
+-- whether each byte is below 128
+abbrev are_low : List ℕ → Bool
+are_low [] = true
+are_low (c ∷ word) = cond (nat_lt c 128) (are_low word) false
+
+IsAscii-tested_at : (c : ℕ) (word : List ℕ) (low : Bool) → nat_lt c 128 ≡ low
+    → cond low (are_low word) false ≡ true
+    → (are_low word ≡ true → IsAscii word) → IsAscii (c ∷ word)
+IsAscii-tested_at c word true is tested rest =
+    IsAscii-cons c word (ltb-true c 128 is) (rest tested)
+IsAscii-tested_at c word false is tested rest = absurd (false≢true tested)
+
+IsAscii-tested : (word : List ℕ) → are_low word ≡ true → IsAscii word
+IsAscii-tested [] tested = IsAscii-nil
+IsAscii-tested (c ∷ word) tested =
+    IsAscii-tested_at c word (nat_lt c 128) refl tested (IsAscii-tested word)
+
+-- the name of a command
+IsAscii-name : (command : Command) → IsAscii (name_of command)
+IsAscii-name (Cache items weight) = IsAscii-tested (codes "cache") refl
+IsAscii-name (CacheWithShares items weight hot ghost) = IsAscii-tested (codes "cache") refl
+IsAscii-name (CacheWithMark items weight hot ghost mark) = IsAscii-tested (codes "cache") refl
+IsAscii-name (Insert key value) = IsAscii-tested (codes "insert") refl
+IsAscii-name (Replace key value) = IsAscii-tested (codes "replace") refl
+IsAscii-name (Soft key value) = IsAscii-tested (codes "soft") refl
+IsAscii-name (Get key) = IsAscii-tested (codes "get") refl
+IsAscii-name (Peek key) = IsAscii-tested (codes "peek") refl
+IsAscii-name (Remove key) = IsAscii-tested (codes "remove") refl
+IsAscii-name (RemoveIf key value) = IsAscii-tested (codes "removeif") refl
+IsAscii-name (Set key value) = IsAscii-tested (codes "set") refl
+IsAscii-name (Poke key value) = IsAscii-tested (codes "poke") refl
+IsAscii-name (Load key value) = IsAscii-tested (codes "load") refl
+IsAscii-name (Fail key) = IsAscii-tested (codes "fail") refl
+IsAscii-name (Guard key value) = IsAscii-tested (codes "guard") refl
+IsAscii-name (Drop key) = IsAscii-tested (codes "drop") refl
+IsAscii-name (Stats key) = IsAscii-tested (codes "stats") refl
+IsAscii-name Clear = IsAscii-tested (codes "clear") refl
+IsAscii-name (Capacity weight) = IsAscii-tested (codes "capacity") refl
+IsAscii-name Hits = IsAscii-tested (codes "hits") refl
+IsAscii-name Show = IsAscii-tested (codes "show") refl
+
+IsAscii-number : (word : List ℕ) (number : ℕ) → IsNumber word number → IsAscii word
+IsAscii-number word number is = IsAscii-from_digits word is.0.0.1
+
+-- numbers, each behind a space
+IsAscii-numbers : (words numbers : List ℕ) → AreNumbers words numbers → IsAscii words
+IsAscii-numbers words [] none = subst IsAscii (sym none) IsAscii-nil
+IsAscii-numbers words (number ∷ numbers) are =
+    subst IsAscii (sym are.4) (IsAscii-cons 32 (are.0 ++ are.1) (omega arith)
+    (IsAscii-append are.0 are.1 (IsAscii-number are.0 number are.2)
+    (IsAscii-numbers are.1 numbers are.3)))
+
+IsAscii-line : (line : List ℕ) (command : Command) → IsLineOf line command → IsAscii line
+IsAscii-line line command is =
+    subst IsAscii (sym is.1) (IsAscii-append (name_of command) is.0 (IsAscii-name command)
+    (IsAscii-numbers is.0 (numbers_of command) is.2))
+
+pub IsUtf8-line : (line : List ℕ) (command : Command) → IsLineOf line command → IsUtf8 line
+IsUtf8-line line command is = IsUtf8-from_ascii line (IsAscii-line line command is)

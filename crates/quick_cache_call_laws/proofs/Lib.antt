@@ -1,4 +1,0 @@
-mod StepParts
-mod CallSteps
-mod CallWrites
-mod Victims

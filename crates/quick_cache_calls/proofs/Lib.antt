@@ -1,3 +1,0 @@
-pub mod TakenKeys
-pub mod RunLemmas
-pub mod ShownLemmas

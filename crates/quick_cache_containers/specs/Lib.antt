@@ -1,0 +1,9 @@
+pub mod LinkedSlab
+pub mod Links
+pub mod Nodes
+pub mod SlabDrain
+pub mod SlabEdits
+pub mod SlabLends
+pub mod Places
+pub mod Table
+pub mod TableGroups

@@ -1,5 +1,0 @@
-use Rattle.quick_cache_edge_tests.proofs.seats.two_seats_gather_what_one_cannot.Given as goal
-
--- the ledger is the one of the blank
-abbrev pub ghosts-three_calls : goal.ghosts-three_calls
-ghosts-three_calls g a = record { name = a.blank.name; parts = a.blank.parts }

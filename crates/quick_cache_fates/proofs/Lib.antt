@@ -1,5 +1,0 @@
-pub mod Leads
-pub mod Residents
-pub mod Victims
-pub mod Fitting
-pub mod HookStates

@@ -1,0 +1,62 @@
+-- What an entry call answers.
+use Rattle.std.specs.Prelude.{◌≡◌, ◌⊎◌, ⊤, Bool, Option, Some, None, Result, Ok, Err}
+use denote.Ref.{Bor, MutBor}
+use denote.Param.Members.{Mut}
+use Rattle.quick_cache_guard.specs.declared.results.EntryResult.{EntryResult}
+use Rattle.quick_cache_guard.specs.declared.results.EntryResult.TheVariants as entry_result
+use Rattle.quick_cache_model.specs.declared.calls.entry.EntryAction.{EntryAction}
+use Rattle.quick_cache_model.specs.declared.calls.entry.EntryAction.TheVariants.{Retain as retain, Remove as remove, ReplaceWithGuard as replace}
+use Rattle.quick_cache_guard.specs.Acts.{Chooses, KeepsReplaced}
+
+module _ {T K V G : Type 0} where
+  -- of a value that is given back this is true
+  abbrev pub IfGivenBack : EntryResult T K V G → (V → Type 0) → Type 0
+  IfGivenBack (entry_result.Removed key value) P = P value
+  IfGivenBack (entry_result.Replaced guard value) P = P value
+  IfGivenBack _ P = ⊤
+
+  -- of what the callback told this is true
+  abbrev pub IfRetained : EntryResult T K V G → (T → Type 0) → Type 0
+  IfRetained (entry_result.Retained told) P = P told
+  IfRetained _ P = ⊤
+
+  -- of a guard, which is seen as its key, this is true
+  abbrev pub IfGuarded : EntryResult T K V G → (G → Type 0) → Type 0
+  IfGuarded (entry_result.Replaced guard value) P = P guard
+  IfGuarded (entry_result.Vacant guard) P = P guard
+  IfGuarded _ P = ⊤
+
+-- of one who came to the shard: what it answers, where it neither waits nor looks again
+abbrev pub IfAnswered : {W E : Type 0} → Result W (Option E) → (E → Type 0) → Type 0
+IfAnswered (Err (Some answer)) P = P answer
+IfAnswered (Err None) P = ⊤
+IfAnswered (Ok waiting) P = ⊤
+
+-- where the callback was not called, this is true: where one waits, looks again, is too late, or gets
+-- the right to load a key that has no entry
+abbrev pub IfUncalled : {W T K V G : Type 0} → Result W (Option (EntryResult T K V G)) → Type 0
+    → Type 0
+IfUncalled (Ok waiting) P = P
+IfUncalled (Err None) P = P
+IfUncalled (Err (Some entry_result.Timeout)) P = P
+IfUncalled (Err (Some (entry_result.Vacant guard))) P = P
+IfUncalled (Err (Some _)) P = ⊤
+
+module _ {F K V T : Type 0}
+    (calls : Mut F (Bor K × (MutBor V × Unit {0})) (EntryAction T × (MutBor V × Unit {0})))
+    (fits : K → V → Type 0) (stands_for : K → Bool) (callback : F) where
+  -- What an entry call answers is what the callback chose, by its one call. Where no item was acted
+  -- on it was not called. A value whose place no guard could be had for is given back as removed.
+  abbrev pub AnswersAsChosen : {G : Type 0} → EntryResult T K V G → F → Type 0
+  AnswersAsChosen (entry_result.Retained told) next =
+      (key : K) × (left : V)
+      × Chooses calls fits stands_for callback (retain told) key left next
+  AnswersAsChosen (entry_result.Removed key value) next =
+      Chooses calls fits stands_for callback remove key value next
+      ⊎ ((shown : K) × Chooses calls fits stands_for callback replace shown value next)
+  AnswersAsChosen (entry_result.Replaced guard value) next =
+      (key : K) × Chooses calls fits stands_for callback replace key value next
+  AnswersAsChosen (entry_result.Vacant guard) next = next ≡ callback
+  AnswersAsChosen entry_result.Timeout next = next ≡ callback
+  AnswersAsChosen (entry_result.Refused refusal) next =
+      (next ≡ callback) ⊎ KeepsReplaced calls fits stands_for callback next

@@ -1,0 +1,193 @@
+//! The entry call.
+ghost use Rattle.std.specs.Prelude.{◌≡◌, true, IfOk, IfSome, IfNone};
+ghost use Rattle.quick_cache_loading.specs.Fitting.{FitsQuery};
+ghost use Rattle.quick_cache_guard.specs.Acts.{LeavesFit, MayTell};
+ghost use Rattle.quick_cache_guard.specs.Entries.{AnswersAsChosen, IfAnswered, IfGivenBack, IfGuarded, IfRetained, IfUncalled};
+
+use crate::entries::entering::{answer, join_there, share_of_new};
+use crate::entries::shard::EntryShard;
+use crate::{EntryResult, PlaceholderGuard, Waiting};
+use quick_cache_loading::sharing::Turns;
+use quick_cache_model::{EntryAction, EntryOrPlaceholder, Lifecycle, ToKey};
+use std::alloc::Allocator;
+use std::hash::Hash;
+use std::sync::{RwLock, Wait};
+use std::time::{Clock, Duration};
+
+/// Shows the item under the query's key to the callback, under the shard's write lock. The callback
+/// may write the value, and chooses what happens: the item stays, or goes, or gives its value and
+/// leaves a placeholder, of which this call gets the guard. It is called once at most. A callback
+/// that calls the same cache may wait forever.
+///
+/// Where there is no item, this call gets the guard of a placeholder that it makes. Where another
+/// loads the key it waits, as `get_value_or_guard` does, and looks again once that load has ended;
+/// all its waits share the limit.
+pub fn entry<
+    'a,
+    K: Eq + Hash + Drop,
+    V: Clone,
+    L: Lifecycle<K, V>,
+    S: EntryShard<K, V, L, A>,
+    R: Wait + Clock,
+    A: Allocator,
+    Q: ToKey<K>,
+    T: Drop,
+    F: FnMut(&K, &mut V) -> EntryAction<T>,
+>(
+    rt: &'a R,
+    shard: &'a RwLock<S>,
+    query: &Q,
+    limit: Option<Duration>,
+    callback: &mut F,
+) -> EntryResult<T, K, V, PlaceholderGuard<'a, K, V, L, S, R, A>>
+    requires stands { (key : K) → Q.to_key_gives query.now key
+        → Q.equivalent query.now key ≡ true }
+    requires callable { F.IsAlwaysCallable callback.old }
+    // What the callback leaves fits.
+    requires leaves { LeavesFit F.FnMut L.fits callback.old }
+    // Whatever other threads do, a value that is given back fits a key that the query stands for.
+    ensures fits { IfGivenBack result (λ value. FitsQuery L.fits (Q.equivalent query.now) value) }
+    // What is told was told of such a value.
+    ensures told { IfRetained result (λ told. MayTell F.FnMut L.fits
+        (Q.equivalent query.now) callback.old told) }
+    // A guard is for a key that the query becomes.
+    ensures key { IfGuarded result (λ key. Q.to_key_gives query.now key) }
+    // The answer is what the callback chose, by its one call.
+    ensures chosen { AnswersAsChosen F.FnMut L.fits
+        (Q.equivalent query.now) callback.old result callback.new }
+{
+    let mut turns = Turns::within(limit);
+    for _ in rt.forever() {
+        if let Some(answer) = come_and_wait(rt, shard, query, &mut turns, callback) {
+            return answer;
+        }
+    }
+    unreachable!()
+}
+
+/// Comes to the shard once, and waits. Nothing is answered where one has to look again, and the
+/// callback was not called then.
+fn come_and_wait<
+    'a,
+    K: Eq + Hash + Drop,
+    V: Clone,
+    L: Lifecycle<K, V>,
+    S: EntryShard<K, V, L, A>,
+    R: Wait + Clock,
+    A: Allocator,
+    Q: ToKey<K>,
+    T: Drop,
+    F: FnMut(&K, &mut V) -> EntryAction<T>,
+>(
+    rt: &'a R,
+    shard: &'a RwLock<S>,
+    query: &Q,
+    turns: &mut Turns,
+    callback: &mut F,
+) -> Option<EntryResult<T, K, V, PlaceholderGuard<'a, K, V, L, S, R, A>>>
+    requires stands { (key : K) → Q.to_key_gives query.now key
+        → Q.equivalent query.now key ≡ true }
+    requires callable { F.IsAlwaysCallable callback.old }
+    requires leaves { LeavesFit F.FnMut L.fits callback.old }
+    ensures fits { IfSome result (λ answer. IfGivenBack answer
+        (λ value. FitsQuery L.fits (Q.equivalent query.now) value)) }
+    ensures told { IfSome result (λ answer. IfRetained answer
+        (λ told. MayTell F.FnMut L.fits (Q.equivalent query.now)
+        callback.old told)) }
+    ensures key { IfSome result (λ answer. IfGuarded answer
+        (λ key. Q.to_key_gives query.now key)) }
+    ensures uncalled { IfNone result (callback.new ≡ callback.old) }
+    ensures chosen { IfSome result (λ answer. AnswersAsChosen F.FnMut L.fits
+        (Q.equivalent query.now) callback.old answer callback.new) }
+{
+    match come(rt, shard, query, callback, false, turns.is_over()) {
+        Ok(
+            Waiting {
+                placeholder,
+                waiter,
+                key,
+            },
+        ) => {
+            let told = placeholder.wait_within(rt, waiter, query, turns);
+            answer(rt, shard, placeholder, key, told)
+        }
+        Err(told) => told,
+    }
+}
+
+/// Comes to the shard once, under its write lock. One who finds the key being loaded joins those who
+/// wait, before the lock is let go.
+///
+/// # Errors
+///
+/// What one answers who does not wait, or nothing where it has to look again.
+pub fn come<
+    'a,
+    K: Eq + Hash + Drop,
+    V: Clone,
+    L: Lifecycle<K, V>,
+    S: EntryShard<K, V, L, A>,
+    R: Wait,
+    A: Allocator,
+    Q: ToKey<K>,
+    T: Drop,
+    F: FnMut(&K, &mut V) -> EntryAction<T>,
+>(
+    rt: &'a R,
+    shard: &'a RwLock<S>,
+    query: &Q,
+    callback: &mut F,
+    is_task: bool,
+    is_over: bool,
+) -> Result<
+    Waiting<K, V, L, A>,
+    Option<EntryResult<T, K, V, PlaceholderGuard<'a, K, V, L, S, R, A>>>,
+>
+    requires stands { (key : K) → Q.to_key_gives query.now key
+        → Q.equivalent query.now key ≡ true }
+    requires callable { F.IsAlwaysCallable callback.old }
+    // What the callback leaves fits.
+    requires leaves { LeavesFit F.FnMut L.fits callback.old }
+    ensures keyed { IfOk result (λ waiting. Q.to_key_gives query.now waiting.key) }
+    ensures fits { IfAnswered result (λ answer. IfGivenBack answer
+        (λ value. FitsQuery L.fits (Q.equivalent query.now) value)) }
+    ensures told { IfAnswered result (λ answer. IfRetained answer
+        (λ told. MayTell F.FnMut L.fits (Q.equivalent query.now)
+        callback.old told)) }
+    ensures key { IfAnswered result (λ answer. IfGuarded answer
+        (λ key. Q.to_key_gives query.now key)) }
+    // Where no item was found, the callback was not called.
+    ensures uncalled { IfUncalled result (callback.new ≡ callback.old) }
+    ensures chosen { IfAnswered result (λ answer. AnswersAsChosen F.FnMut L.fits
+        (Q.equivalent query.now) callback.old answer callback.new) }
+{
+    // The copy of the key is made before the shard changes.
+    let own = match query.to_key() {
+        Ok(own) => own,
+        Err(refusal) => return Err(Some(EntryResult::Refused(refusal))),
+    };
+    let mut locked = shard.write(rt);
+    match locked.act(query, callback) {
+        Ok(EntryOrPlaceholder::Kept(told)) => Err(Some(EntryResult::Retained(told))),
+        Ok(EntryOrPlaceholder::Removed(key, value)) => Err(Some(EntryResult::Removed(key, value))),
+        Ok(EntryOrPlaceholder::Replaced(shared, value)) => {
+            match share_of_new(rt, &shared, query) {
+                Some((placeholder, share)) => {
+                    let guard = PlaceholderGuard::start_loading(rt, shard, placeholder, own, share);
+                    Err(Some(EntryResult::Replaced(guard, value)))
+                }
+                None => {
+                    locked.give_up(&shared);
+                    Err(Some(EntryResult::Removed(own, value)))
+                }
+            }
+        }
+        Ok(EntryOrPlaceholder::ExistingPlaceholder(shared)) => {
+            join_there(rt, shard, locked, shared, query, own, is_task, is_over)
+        }
+        Ok(EntryOrPlaceholder::NewPlaceholder(shared)) => {
+            join_there(rt, shard, locked, shared, query, own, is_task, is_over)
+        }
+        Err(refusal) => Err(Some(EntryResult::Refused(refusal))),
+    }
+}

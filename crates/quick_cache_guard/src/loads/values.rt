@@ -1,0 +1,120 @@
+//! The value of a key, which one thread loads while others wait for it.
+ghost use Rattle.std.specs.Prelude.{◌≡◌, true, Ok, Err, IfOk, IfErr};
+ghost use Rattle.quick_cache_loading.specs.Fitting.{ClonesFit, FitsQuery};
+ghost use Rattle.quick_cache_guard.specs.Answers.{IfGuard, IfValue};
+
+use crate::loads::looking::look;
+use crate::{GuardResult, LoadingShard, PlaceholderGuard};
+use quick_cache_model::{Lifecycle, Refusal, ToKey};
+use std::alloc::Allocator;
+use std::hash::Hash;
+use std::sync::{RwLock, Wait};
+use std::time::{Clock, Duration};
+
+/// The value under the query's key, or the right to load it. Who finds the key being loaded waits,
+/// for so many turns of a millisecond as the limit has, rounded up. With a limit of zero nobody
+/// waits.
+///
+/// It looks under the shard's read lock first. Where it finds nothing it takes the write lock, and
+/// lets it go before it waits. One hit or one miss is counted.
+pub fn get_value_or_guard<
+    'a,
+    K: Eq + Hash + Drop,
+    V: Clone,
+    L: Lifecycle<K, V>,
+    S: LoadingShard<K, V, L, A>,
+    R: Wait + Clock,
+    A: Allocator,
+    Q: ToKey<K>,
+>(
+    rt: &'a R,
+    shard: &'a RwLock<S>,
+    query: &Q,
+    limit: Option<Duration>,
+) -> GuardResult<V, PlaceholderGuard<'a, K, V, L, S, R, A>>
+    requires stands { (key : K) → Q.to_key_gives query.now key
+        → Q.equivalent query.now key ≡ true }
+    // Whatever other threads do, the value fits a key that the query stands for.
+    ensures fits { ClonesFit L.fits V.is_clone
+        → IfValue result (λ value. FitsQuery L.fits (Q.equivalent query.now) value) }
+    // The guard is for a key that the query becomes.
+    ensures key { IfGuard result (λ key. Q.to_key_gives query.now key) }
+{
+    match look(rt, shard, query) {
+        Ok(Some(value)) => GuardResult::Value(value),
+        Ok(None) => PlaceholderGuard::join(rt, shard, query, limit),
+        Err(refusal) => GuardResult::Refused(refusal),
+    }
+}
+
+/// The value under the query's key, or the one that the loader gives, which is put in. Who finds the
+/// key being loaded waits. The loader is called under no lock, once at most; it gives its value also
+/// where that could not be kept.
+///
+/// # Errors
+///
+/// Of the two, the outer one is why nothing was loaded, and the inner one is the loader's. The guard
+/// was handed on then, or the placeholder given up.
+pub fn get_or_insert_with<
+    K: Eq + Hash + Drop,
+    V: Clone,
+    L: Lifecycle<K, V>,
+    S: LoadingShard<K, V, L, A>,
+    R: Wait,
+    A: Allocator,
+    Q: ToKey<K>,
+    E: Drop,
+    F: FnOnce() -> Result<V, E>,
+>(rt: &R, shard: &RwLock<S>, query: &Q, loader: F) -> Result<Result<V, E>, Refusal>
+    requires stands { (key : K) → Q.to_key_gives query.now key
+        → Q.equivalent query.now key ≡ true }
+    requires loader { F.pre loader }
+    // What it gives fits each key that the query becomes, and so do the clones of what fits.
+    requires loads { (value : V) → F.post loader (Ok value)
+        → (key : K) → Q.to_key_gives query.now key → L.fits key value }
+    requires clones { ClonesFit L.fits V.is_clone }
+    // Whatever other threads do, the value fits a key that the query stands for.
+    ensures fits { IfOk result (λ loaded. IfOk loaded
+        (λ value. FitsQuery L.fits (Q.equivalent query.now) value)) }
+    ensures error { IfOk result (λ loaded. IfErr loaded (λ error. F.post loader (Err error))) }
+{
+    match look(rt, shard, query) {
+        Ok(Some(value)) => Ok(Ok(value)),
+        Ok(None) => match PlaceholderGuard::join_for_good(rt, shard, query) {
+            Ok(Ok(value)) => Ok(Ok(value)),
+            Ok(Err(guard)) => Ok(keep(guard, loader())),
+            Err(refusal) => Err(refusal),
+        },
+        Err(refusal) => Err(refusal),
+    }
+}
+
+/// Puts what was loaded in for the guard, and gives it back. Where nothing was, or a clone is
+/// refused, the guard is given up.
+pub fn keep<
+    K: Eq + Hash + Drop,
+    V: Clone,
+    L: Lifecycle<K, V>,
+    S: LoadingShard<K, V, L, A>,
+    R: Wait,
+    A: Allocator,
+    E: Drop,
+>(guard: PlaceholderGuard<'_, K, V, L, S, R, A>, loaded: Result<V, E>) -> Result<V, E>
+    requires fits { IfOk loaded (λ value. L.fits guard value) }
+    requires clones { ClonesFit L.fits V.is_clone }
+    ensures { result ≡ loaded }
+{
+    match loaded {
+        Ok(value) => {
+            match value.clone() {
+                Ok(copy) => drop(guard.insert(copy)),
+                Err(_) => guard.abandon(),
+            }
+            Ok(value)
+        }
+        Err(error) => {
+            guard.abandon();
+            Err(error)
+        }
+    }
+}

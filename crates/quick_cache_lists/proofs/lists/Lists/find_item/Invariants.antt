@@ -1,6 +1,0 @@
-use Rattle.quick_cache_lists.specs.Sound.{PassesNoItem}
-use Rattle.quick_cache_lists.proofs.lists.Lists.find_item.Given as goal
-
-abbrev pub invariant-loop-token : goal.invariant-loop-token
-invariant-loop-token g l = PassesNoItem l.self-inside.slots l.self-inside.index l.hash
-    (g.Q.Equivalent.equivalent l.query) l.token-iterator

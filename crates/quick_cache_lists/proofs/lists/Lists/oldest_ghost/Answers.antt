@@ -1,8 +1,0 @@
-use Rattle.quick_cache_lists.proofs.TurnLemmas.{IsFirstOf-ghosts}
-use Rattle.quick_cache_lists.proofs.lists.Lists.oldest_ghost.Goals as goal
-
-pub returns : goal.returns
-returns g c =
-    let i = c.self.inside in
-    rw (← c.self.view_is) (IsFirstOf-ghosts i.slots i.rings.ghosts
-    c.self.invariant.standing.ghost_ring c.first.result (rw c.ghosts.ensures.tokens at c.first.ensures))

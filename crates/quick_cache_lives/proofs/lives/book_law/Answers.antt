@@ -1,6 +1,0 @@
-use Rattle.quick_cache_lives.proofs.Books.{Follows-counted}
-use Rattle.quick_cache_lives.proofs.lives.book_law.Goals as goal
-
-pub returns : goal.returns
-returns g c = λ old new first last fates of_old follows of_new. Follows-counted old new first last
-    fates of_old follows of_new

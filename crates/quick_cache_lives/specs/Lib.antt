@@ -1,3 +1,0 @@
-pub mod Fates
-pub mod Books
-pub mod Conservation

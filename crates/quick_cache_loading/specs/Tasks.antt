@@ -1,0 +1,22 @@
+-- The wakers of the tasks that wait.
+use Rattle.std.specs.Prelude.{◌≡◌, ◌==◌, not, ℕ, List, Any, IsSomeAnd}
+use Rattle.std.specs.List.{filter}
+use Rattle.futures.specs.Task.{Wakes}
+use Rattle.futures.specs.declared.task.context.Context.{Context}
+use Rattle.quick_cache_loading.specs.declared.protocol.events.Answer.{Answer}
+use Rattle.quick_cache_loading.specs.declared.protocol.events.Answer.TheVariants.{HandedTo}
+use Rattle.quick_cache_loading.specs.declared.waiting.tasks.Slot.{Slot}
+
+-- the waiter has a slot with a waker of the context's task
+abbrev pub HasWaker : ℕ → Context → List Slot → Type 0
+HasWaker waiter cx slots =
+    Any (λ slot. (slot.waiter ≡ waiter) × IsSomeAnd slot.waker (λ waker. Wakes waker cx)) slots
+
+-- the slots once this waiter's task is woken: those of the others
+abbrev pub slots_of_others : ℕ → List Slot → List Slot
+slots_of_others waiter slots = filter (λ slot. not (slot.waiter == waiter)) slots
+
+-- the slots after an answer: one to whom the guard is handed is woken, and nobody else
+abbrev pub slots_after : {V : Type 0} → Answer V → List Slot → List Slot
+slots_after (HandedTo waiter) slots = slots_of_others waiter slots
+slots_after _ slots = slots

@@ -1,0 +1,105 @@
+//! The wakers of the tasks that wait.
+ghost use Rattle.std.specs.Prelude.{◌≡◌, ◌⊎◌, ◌<◌, ◌++◌, ◌∷◌, true, [], None, IfSome, OnOk, OnErr, HoldsAt, vec_len};
+ghost use Rattle.futures.specs.Poll.{OnPending};
+ghost use Rattle.futures.specs.Task.{Covers, Keeps};
+ghost use Rattle.quick_cache_loading.specs.Tasks.{HasWaker, slots_after, slots_of_others};
+
+use crate::protocol::Answer;
+use futures::task::{Context, Poll, Source, Waker};
+use std::alloc::{AllocError, Allocator, Global};
+use std::marker::Model;
+
+/// The place of a waiter that is a task, with its waker once it has left one.
+#[derive(Drop)]
+pub struct Slot {
+    /// The waiter's number.
+    pub waiter: u64,
+    /// It wakes the task when it is dropped.
+    pub waker: Option<Waker>,
+}
+
+/// The tasks among those who wait. A slot that is taken out wakes its task, since a waker wakes when
+/// it is dropped. Contracts see the list of slots.
+#[derive(Drop)]
+pub struct Tasks<A: Allocator = Global> {
+    slots: Vec<Slot, A>,
+}
+
+impl<A: Allocator> Model for Tasks<A> {
+    ghost use Rattle.std.specs.Prelude.{List};
+    ghost use Rattle.quick_cache_loading.specs.declared.waiting.tasks.Slot.{Slot};
+
+    ghost Value = { List Slot };
+
+    ghost view = { λ tasks. tasks.slots.items };
+}
+
+impl<A: Allocator> Tasks<A> {
+    /// No task waits. It allocates nothing.
+    pub fn new(alloc: A) -> Self
+        ensures { result ≡ [] }
+    {
+        Tasks {
+            slots: Vec::new(alloc),
+        }
+    }
+
+    /// A slot for a waiter, which may allocate. Where it cannot be had, nothing changes.
+    pub fn add(&mut self, waiter: u64) -> Result<(), AllocError>
+        ensures added { OnOk result (self.new ≡ self.old
+            ++ record { waiter = waiter; waker = None } ∷ []) }
+        ensures refused { OnErr result (self.new ≡ self.old) }
+    {
+        self.slots.push(Slot {
+            waiter,
+            waker: None,
+        })?;
+        Ok(())
+    }
+
+    /// Leaves the task's waker in the waiter's slot. A waiter without a slot is polled again.
+    pub fn wait<T>(&mut self, waiter: u64, source: &Source, cx: &mut Context<'_>) -> Poll<T>
+        ensures pending { result ≡ Poll.Pending }
+        ensures registered { Covers cx.new (λ s. s ≡ source.now.id) }
+        ensures kept { Keeps cx.old cx.new }
+        ensures waker { (cx.new.lacks_waker ≡ true)
+            ⊎ ((cx.new.is_woken ≡ true) ⊎ HasWaker waiter cx.old self.new) }
+    {
+        let Some(at) = place_of(&self.slots, waiter) else {
+            return cx.yield_now();
+        };
+        let slot = &mut self.slots[at];
+        cx.register(source, &mut slot.waker)
+    }
+
+    /// Takes the waiter's slot out, and so wakes its task, and no other.
+    pub fn wake(&mut self, waiter: u64)
+        ensures { self.new ≡ slots_of_others waiter self.old }
+    {
+        self.slots.retain(|slot| slot.waiter != waiter);
+    }
+
+    /// Wakes the task to whom the guard is handed, where that is the answer.
+    pub fn wake_handed<V>(&mut self, answer: &Answer<V>)
+        ensures { self.new ≡ slots_after answer.now self.old }
+    {
+        if let Answer::HandedTo(waiter) = answer {
+            self.wake(*waiter);
+        }
+    }
+
+    /// Takes all slots out, and so wakes their tasks.
+    pub fn wake_all(&mut self)
+        ensures { self.new ≡ [] }
+    {
+        self.slots.clear();
+    }
+}
+
+/// The place of a waiter's slot.
+fn place_of<A: Allocator>(slots: &Vec<Slot, A>, waiter: u64) -> Option<usize>
+    ensures range { IfSome result (λ at. at < vec_len slots.now) }
+    ensures place { IfSome result (HoldsAt (λ slot. slot.waiter ≡ waiter) slots.now.items) }
+{
+    slots.iter().position(|slot| slot.waiter == waiter)
+}

@@ -1,0 +1,17 @@
+//! What one who waits is told.
+use crate::waiting::share::Share;
+use quick_cache_model::Refusal;
+
+/// What one who waits is told.
+pub enum Waited<V> {
+    /// A clone of the value that came.
+    Value(V),
+    /// The right to fill the placeholder, which was handed on.
+    Guard(Share),
+    /// Its time is over.
+    Timeout,
+    /// It has to look in the shard again.
+    Again,
+    /// Memory was refused for the clone.
+    Refused(Refusal),
+}

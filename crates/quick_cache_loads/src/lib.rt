@@ -1,8 +1,0 @@
-//! Calls of a cache that threads share which load a value where none is there, on one shard.
-#![tactic(auto)]
-
-mod looking;
-mod values;
-
-pub use looking::look;
-pub use values::{get_or_insert_with, get_value_or_guard, keep};

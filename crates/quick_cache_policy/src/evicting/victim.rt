@@ -1,0 +1,204 @@
+//! The items that leave a ring.
+ghost use Rattle.std.specs.Prelude.{◌≡◌, ◌≢◌, ◌+◌, ◌-◌, ◌<◌, ◌≤◌, Some, length, drop};
+ghost use Rattle.quick_cache_store.specs.Lists.{IsFirstOf};
+ghost use Rattle.quick_cache_store.specs.Views.{hashes_of};
+ghost use Rattle.quick_cache_model.specs.Hooks.{Calls};
+ghost use Rattle.quick_cache_policy.specs.Advances.{AreEvictions, Decides, FirstIsEvicted, FirstIsPromoted};
+ghost use Rattle.quick_cache_policy.specs.Contents.{IsSound, state_of, ring_count};
+ghost use Rattle.quick_cache_policy.specs.Places.{places_of, LosesOnly};
+ghost use Rattle.quick_cache_policy.specs.Policies.{rules_by};
+
+use crate::contents::Contents;
+use crate::policy::Policy;
+use quick_cache_model::{Queue, SharedPlaceholder, Token, Touches};
+use quick_cache_store::lists::{Entry, Marked};
+use std::alloc::Allocator;
+use std::hash::Hash;
+
+/// What becomes of a victim.
+enum Fate<K, V, T> {
+    Stays(Marked<K, V, T>),
+    Leaves(K, V),
+}
+
+/// Tells an item to `before_evict`, which may change its value, and weighs it then.
+fn decide<K: Eq + Hash, V, T: Touches, M: Policy<K, V>>(
+    item: Marked<K, V, T>,
+    terms: &M,
+    state: &mut M::RequestState,
+) -> Fate<K, V, T>
+    ensures { Decides (M.weight_of terms.now) (M.hooks terms.now) item state.old result state.new }
+{
+    let (mark, reads, queue) = (item.mark(), item.reads(), item.queue());
+    let (key, mut value) = item.into_pair();
+    terms.before_evict(state, &key, &mut value);
+    if terms.weigh(&key, &value) == 0 {
+        let item = Marked::new(key, value, 0, mark, queue, T::default());
+        return Fate::Stays(item.with_reads(reads));
+    }
+    Fate::Leaves(key, value)
+}
+
+impl<K: Eq + Hash + Drop, V: Drop, P: SharedPlaceholder<K>, A: Allocator> Contents<K, V, P, A> {
+    /// Lets the first item of a ring go. `before_evict` may change its value, which is then
+    /// weighed: of weight 0 it stays, beside the rings; else it leaves, and a cold one leaves a
+    /// ghost.
+    #[inline(always)]
+    pub(crate) fn evict_first<M: Policy<K, V>>(
+        &mut self,
+        queue: Queue,
+        terms: &M,
+        state: &mut M::RequestState,
+    )
+        requires sound { IsSound P.ticket_of K.eq (M.hashed terms.now) self.old }
+        requires there { 0 < ring_count queue self.old }
+        ensures evicts { Calls (M.hooks terms.now)
+            (λ calls. FirstIsEvicted (rules_by M.Policy P.Touch.may_count terms.now) queue
+            (state_of P.ticket_of self.old) calls (state_of P.ticket_of self.new)
+            × AreEvictions calls)
+            state.old state.new }
+        ensures sound { IsSound P.ticket_of K.eq (M.hashed terms.now) self.new }
+        ensures room { self.old.lists.room ≤ self.new.lists.room }
+        ensures falls { ring_count queue self.new + 1 ≡ ring_count queue self.old }
+        ensures places { LosesOnly (places_of self.old.lists) (places_of self.new.lists) }
+        ensures others { (other : Queue) → other ≢ queue
+            → ring_count other self.new ≡ ring_count other self.old }
+        ensures same { self.new ≡ record self.old { lists = self.new.lists } }
+    {
+        let Some(token) = self.lists.first(queue) else {
+            unreachable!();
+        };
+        match queue {
+            Queue::Hot => self.evict_hot(token, terms, state),
+            Queue::Cold => self.evict_cold(token, terms, state),
+        }
+    }
+
+    /// Lets the first hot item go.
+    fn evict_hot<M: Policy<K, V>>(&mut self, token: Token, terms: &M, state: &mut M::RequestState)
+        requires sound { IsSound P.ticket_of K.eq (M.hashed terms.now) self.old }
+        requires first { IsFirstOf (λ held. held.token) self.old.lists.hot (Some token) }
+        ensures evicts { Calls (M.hooks terms.now)
+            (λ calls. FirstIsEvicted (rules_by M.Policy P.Touch.may_count terms.now) Queue.Hot
+            (state_of P.ticket_of self.old) calls (state_of P.ticket_of self.new)
+            × AreEvictions calls)
+            state.old state.new }
+        ensures sound { IsSound P.ticket_of K.eq (M.hashed terms.now) self.new }
+        ensures room { self.old.lists.room ≤ self.new.lists.room }
+        ensures falls { ring_count Queue.Hot self.new + 1 ≡ ring_count Queue.Hot self.old }
+        ensures places { LosesOnly (places_of self.old.lists) (places_of self.new.lists) }
+        ensures cold { ring_count Queue.Cold self.new ≡ ring_count Queue.Cold self.old }
+        ensures same { self.new ≡ record self.old { lists = self.new.lists } }
+    {
+        self.lists.apart();
+        let slot = self.lists.take(token, false);
+        let hash = slot.hash;
+        match slot.entry {
+            Entry::Item(item) => match decide(item, terms, state) {
+                Fate::Stays(item) => {
+                    let _ = self.lists.put(hash, Entry::Item(item));
+                }
+                Fate::Leaves(key, value) => terms.on_evict_hot(state, key, value),
+            },
+            Entry::Loading(_) => unreachable!(),
+            Entry::Ghost => unreachable!(),
+        }
+    }
+
+    /// Lets the first cold item go. Where it leaves, its hash becomes the newest ghost.
+    #[inline(always)]
+    fn evict_cold<M: Policy<K, V>>(&mut self, token: Token, terms: &M, state: &mut M::RequestState)
+        requires sound { IsSound P.ticket_of K.eq (M.hashed terms.now) self.old }
+        requires first { IsFirstOf (λ held. held.token) self.old.lists.cold (Some token) }
+        ensures evicts { Calls (M.hooks terms.now)
+            (λ calls. FirstIsEvicted (rules_by M.Policy P.Touch.may_count terms.now) Queue.Cold
+            (state_of P.ticket_of self.old) calls (state_of P.ticket_of self.new)
+            × AreEvictions calls)
+            state.old state.new }
+        ensures sound { IsSound P.ticket_of K.eq (M.hashed terms.now) self.new }
+        ensures room { self.old.lists.room ≤ self.new.lists.room }
+        ensures falls { ring_count Queue.Cold self.new + 1 ≡ ring_count Queue.Cold self.old }
+        ensures places { LosesOnly (places_of self.old.lists) (places_of self.new.lists) }
+        ensures hot { ring_count Queue.Hot self.new ≡ ring_count Queue.Hot self.old }
+        ensures same { self.new ≡ record self.old { lists = self.new.lists } }
+    {
+        self.lists.apart();
+        match decide(self.lists.bury(token), terms, state) {
+            Fate::Stays(item) => {
+                self.lists.apart();
+                let _ = self.lists.replace(token, false, Entry::Item(item));
+            }
+            Fate::Leaves(key, value) => {
+                self.forget_oldest();
+                terms.on_evict_cold(state, key, value);
+            }
+        }
+    }
+
+    /// Forgets the oldest ghost where there are more than the limit.
+    #[inline(always)]
+    fn forget_oldest(&mut self)
+        requires one { length self.old.lists.ghosts ≤ self.old.ghost_limit + 1 }
+        ensures ghosts { hashes_of self.new.lists.ghosts
+            ≡ drop (length self.old.lists.ghosts - self.old.ghost_limit)
+            (hashes_of self.old.lists.ghosts) }
+        ensures room { self.old.lists.room ≤ self.new.lists.room }
+        ensures same { self.new ≡ record self.old {
+          lists = record self.old.lists {
+            ghosts = self.new.lists.ghosts;
+            next = self.new.lists.next;
+            room = self.new.lists.room;
+          };
+        } }
+    {
+        if self.lists.ghost_count() <= self.ghost_limit {
+            return;
+        }
+        self.forget_ghost();
+    }
+
+    /// Forgets the oldest ghost, and brings near the one that is the oldest then: mostly it goes at
+    /// the next eviction, and would be waited for there.
+    #[inline(always)]
+    pub(crate) fn forget_ghost(&mut self)
+        requires some { 0 < length self.old.lists.ghosts }
+        ensures ghosts { hashes_of self.new.lists.ghosts
+            ≡ drop 1 (hashes_of self.old.lists.ghosts) }
+        ensures room { self.old.lists.room ≤ self.new.lists.room }
+        ensures same { self.new ≡ record self.old {
+          lists = record self.old.lists {
+            ghosts = self.new.lists.ghosts;
+            next = self.new.lists.next;
+            room = self.new.lists.room;
+          };
+        } }
+    {
+        let Some(oldest) = self.lists.oldest_ghost() else {
+            unreachable!();
+        };
+        self.lists.apart();
+        self.lists.forget_first(oldest);
+        self.lists.bring_oldest_ghost_near();
+    }
+
+    /// Makes the first cold item the last hot one: it pays a mark.
+    pub(crate) fn promote_first<M: Policy<K, V>>(&mut self, terms: &M)
+        requires sound { IsSound P.ticket_of K.eq (M.hashed terms.now) self.old }
+        requires there { 0 < ring_count Queue.Cold self.old }
+        ensures promotes { FirstIsPromoted (state_of P.ticket_of self.old)
+            (state_of P.ticket_of self.new) }
+        ensures sound { IsSound P.ticket_of K.eq (M.hashed terms.now) self.new }
+        ensures room { self.new.lists.room ≡ self.old.lists.room }
+        ensures places { LosesOnly (places_of self.old.lists) (places_of self.new.lists) }
+        ensures same { self.new ≡ record self.old { lists = self.new.lists } }
+    {
+        let Some(token) = self.lists.first(Queue::Cold) else {
+            unreachable!();
+        };
+        self.lists.apart();
+        let item = self.lists.item(token);
+        let mark = item.mark().saturating_sub(1);
+        let weight = item.weight();
+        self.lists.requeue(token, false, Queue::Hot, mark, weight);
+    }
+}

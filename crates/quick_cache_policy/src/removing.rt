@@ -1,0 +1,4 @@
+//! What takes items out.
+
+pub mod removal;
+pub mod tokens;

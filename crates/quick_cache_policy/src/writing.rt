@@ -1,0 +1,6 @@
+//! What a write does: whether a pair may come in, and what it comes in over.
+
+pub mod admission;
+pub mod insert;
+pub mod overwrite;
+pub mod reference;

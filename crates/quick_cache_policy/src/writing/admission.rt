@@ -1,0 +1,149 @@
+//! Whether a pair may come in at all, and what becomes of one that may not.
+ghost use Rattle.std.specs.Prelude.{◌≡◌, ◌≤◌, [], ◌∷◌, None, true};
+ghost use Rattle.quick_cache_store.specs.Lists.{Finds};
+ghost use Rattle.quick_cache_model.specs.Hooks.{Calls, RunsHooks, evicted};
+ghost use Rattle.quick_cache_model.specs.Writes.{TakesOutItem};
+ghost use Rattle.quick_cache_policy.specs.Contents.{IsSound, state_of};
+ghost use Rattle.quick_cache_policy.specs.Places.{places_of, LosesOnly};
+ghost use Rattle.quick_cache_policy.specs.Policies.{rules_by};
+ghost use Rattle.quick_cache_policy.specs.Writing.{strategy_of, is_insert, Checks, IsReplacement, Rejecting};
+
+use crate::contents::Contents;
+use crate::policy::Policy;
+use crate::strategy::InsertStrategy;
+use quick_cache_model::{Queue, SharedPlaceholder};
+use quick_cache_store::lists::{Entry, Found};
+use std::alloc::Allocator;
+use std::hash::Hash;
+
+/// A value that was weighed.
+#[derive(Drop)]
+pub(crate) struct Weighed<V> {
+    pub(crate) value: V,
+    pub(crate) weight: u64,
+}
+
+/// The answer of a check, with the value as it then is.
+pub(crate) enum Admission<V> {
+    Admitted(Weighed<V>),
+    TooHeavy(V),
+}
+
+/// Tells a pair that leaves to the hook of its queue.
+pub(crate) fn report<K: Eq + Hash, V, M: Policy<K, V>>(
+    queue: Queue,
+    terms: &M,
+    state: &mut M::RequestState,
+    key: K,
+    value: V,
+)
+    ensures { RunsHooks (M.hooks terms.now) (evicted queue key value ∷ []) state.old state.new }
+{
+    match queue {
+        Queue::Hot => terms.on_evict_hot(state, key, value),
+        Queue::Cold => terms.on_evict_cold(state, key, value),
+    }
+}
+
+impl<K: Eq + Hash + Drop, V: Drop, P: SharedPlaceholder<K>, A: Allocator> Contents<K, V, P, A> {
+    /// A pair of at most the hot target's weight is admitted, and so is a pinned one. Else
+    /// `before_evict` may lighten it, and it is weighed once more.
+    pub(crate) fn admit<M: Policy<K, V>>(
+        &self,
+        terms: &M,
+        state: &mut M::RequestState,
+        key: &K,
+        value: V,
+    ) -> Admission<V>
+        ensures checks { Calls (M.hooks terms.now)
+            (Checks (M.steady terms.now) (rules_by M.Policy P.Touch.may_count terms.now)
+            self.now.hot_target key.now value result)
+            state.old state.new }
+    {
+        let weight = terms.weigh(key, &value);
+        if weight <= self.hot_target {
+            return Admission::Admitted(Weighed { value, weight });
+        }
+        if terms.is_pinned(key, &value) {
+            return Admission::Admitted(Weighed { value, weight });
+        }
+        let mut value = value;
+        terms.before_evict(state, key, &mut value);
+        let weight = terms.weigh(key, &value);
+        if weight <= self.hot_target {
+            return Admission::Admitted(Weighed { value, weight });
+        }
+        Admission::TooHeavy(value)
+    }
+
+    /// Takes the item that was found out, if it is one, and tells it to its hook.
+    fn take_out_item<M: Policy<K, V>>(
+        &mut self,
+        found: Found,
+        terms: &M,
+        state: &mut M::RequestState,
+        key: &K,
+        hash: u64,
+    )
+        requires sound { IsSound P.ticket_of K.eq (M.hashed terms.now) self.old }
+        requires hash_is { hash ≡ M.hashed terms.now key.now }
+        requires found { Finds (K.eq key.now) hash self.old.lists found }
+        ensures takes { Calls (M.hooks terms.now)
+            (λ calls. TakesOutItem (K.eq key.now) (state_of P.ticket_of self.old) calls
+            (state_of P.ticket_of self.new) × IsReplacement calls)
+            state.old state.new }
+        ensures sound { IsSound P.ticket_of K.eq (M.hashed terms.now) self.new }
+        ensures places { LosesOnly (places_of self.old.lists) (places_of self.new.lists) }
+        ensures room { self.old.lists.room ≤ self.new.lists.room }
+        ensures same { self.new ≡ record self.old { lists = self.new.lists } }
+    {
+        let Found::Item(token) = found else {
+            return;
+        };
+        self.lists.apart();
+        let slot = self.lists.take(token, false);
+        match slot.entry {
+            Entry::Item(item) => {
+                let queue = item.queue();
+                let (old_key, old_value) = item.into_pair();
+                report(queue, terms, state, old_key, old_value);
+            }
+            Entry::Loading(_) => unreachable!(),
+            Entry::Ghost => unreachable!(),
+        }
+    }
+
+    /// Turns away a pair that is too heavy, with the item under its key: an insert tells the pair
+    /// to the cold hook, a replace gives it back.
+    pub(crate) fn reject_too_heavy<M: Policy<K, V>>(
+        &mut self,
+        found: Found,
+        terms: &M,
+        state: &mut M::RequestState,
+        hash: u64,
+        key: K,
+        value: V,
+        strategy: InsertStrategy,
+    ) -> Option<(K, V)>
+        requires sound { IsSound P.ticket_of K.eq (M.hashed terms.now) self.old }
+        requires hash_is { hash ≡ M.hashed terms.now key }
+        requires found { Finds (K.eq key) hash self.old.lists found }
+        ensures rejects { Calls (M.hooks terms.now)
+            (Rejecting (K.eq key) key (strategy_of strategy) (state_of P.ticket_of self.old) value
+            result (state_of P.ticket_of self.new))
+            state.old state.new }
+        // An insert takes the pair.
+        ensures taken { is_insert (strategy_of strategy) ≡ true → result ≡ None }
+        ensures sound { IsSound P.ticket_of K.eq (M.hashed terms.now) self.new }
+        ensures places { LosesOnly (places_of self.old.lists) (places_of self.new.lists) }
+        ensures room { self.old.lists.room ≤ self.new.lists.room }
+        ensures same { self.new ≡ record self.old { lists = self.new.lists } }
+    {
+        self.take_out_item(found, terms, state, &key, hash);
+        if !strategy.makes_items() {
+            return Some((key, value));
+        }
+        terms.on_evict_cold(state, key, value);
+        None
+    }
+}

@@ -1,0 +1,139 @@
+//! A pair over what stands under its key: an item, a placeholder, or a ghost of its hash.
+ghost use Rattle.std.specs.Prelude.{◌≡◌, ◌+◌, ◌≤◌, None};
+ghost use Rattle.quick_cache_store.specs.Lists.{Finds};
+ghost use Rattle.quick_cache_model.specs.Hooks.{Calls};
+ghost use Rattle.quick_cache_model.specs.Writes.{Insert};
+ghost use Rattle.quick_cache_policy.specs.Contents.{IsSound, state_of, ring_count, work_of, KeepsNumbers};
+ghost use Rattle.quick_cache_policy.specs.Places.{places_of, WritesPlace};
+ghost use Rattle.quick_cache_policy.specs.Policies.{rules_by};
+ghost use Rattle.quick_cache_policy.specs.Work.{WorksWithin};
+ghost use Rattle.quick_cache_policy.specs.Writing.{strategy_of, WritingAdmitted};
+
+use crate::contents::Contents;
+use crate::policy::Policy;
+use crate::strategy::InsertStrategy;
+use crate::writing::admission::{Weighed, report};
+use quick_cache_model::{Queue, SharedPlaceholder, Token};
+use quick_cache_store::lists::{Entry, Found, Marked};
+use std::alloc::Allocator;
+use std::hash::Hash;
+
+impl<K: Eq + Hash + Drop, V: Drop, P: SharedPlaceholder<K>, A: Allocator> Contents<K, V, P, A> {
+    /// Writes a pair over an item: it takes the item's queue and its place, and the item's touches
+    /// are taken in before.
+    pub(crate) fn overwrite<M: Policy<K, V>>(
+        &mut self,
+        token: Token,
+        terms: &M,
+        state: &mut M::RequestState,
+        hash: u64,
+        key: K,
+        weighed: Weighed<V>,
+        strategy: InsertStrategy,
+    )
+        requires sound { IsSound P.ticket_of K.eq (M.hashed terms.now) self.old }
+        requires hash_is { hash ≡ M.hashed terms.now key }
+        requires weight_is { weighed.weight ≡ M.weight_of terms.now key weighed.value }
+        requires found { Finds (K.eq key) hash self.old.lists (Found.Item token) }
+        ensures writes { Calls (M.hooks terms.now)
+            (WritingAdmitted (M.steady terms.now)
+            (rules_by M.Policy P.Touch.may_count terms.now) (K.eq key) key (strategy_of strategy)
+            (state_of P.ticket_of self.old) weighed.value None (state_of P.ticket_of self.new))
+            state.old state.new }
+        ensures sound { IsSound P.ticket_of K.eq (M.hashed terms.now) self.new }
+        // No other item moves.
+        ensures places { WritesPlace K.eq key (places_of self.old.lists) (places_of self.new.lists) }
+        ensures room { self.old.lists.room ≤ self.new.lists.room }
+        ensures work { WorksWithin self.old.mark_cut
+            (ring_count Queue.Hot self.old + ring_count Queue.Cold self.old + 1)
+            (work_of self.old) (work_of self.new) }
+        ensures same { KeepsNumbers self.old self.new }
+    {
+        self.lists.apart();
+        let touches = self.lists.take_touch(token);
+        let item = self.lists.item(token);
+        let queue = item.queue();
+        let touched = u64::from(item.mark())
+            .saturating_add(touches)
+            .min(u64::from(self.mark_cut)) as u8;
+        let mark = strategy.mark_after(self.mark_cut, touched);
+        let Weighed { value, weight } = weighed;
+        // It goes on with the old item's counter, which was emptied.
+        let item = Marked::new(key, value, weight, mark, queue, P::Touch::default());
+        let (old_key, old_value) = self.lists.rewrite(token, item).into_pair();
+        report(queue, terms, state, old_key, old_value);
+        self.evict_to_capacity(0, terms, state);
+    }
+
+    /// Inserts a pair over a ghost of its hash: it is hot, whatever the target.
+    pub(crate) fn insert_over_ghost<M: Policy<K, V>>(
+        &mut self,
+        token: Token,
+        terms: &M,
+        state: &mut M::RequestState,
+        hash: u64,
+        key: K,
+        weighed: Weighed<V>,
+    )
+        requires sound { IsSound P.ticket_of K.eq (M.hashed terms.now) self.old }
+        requires hash_is { hash ≡ M.hashed terms.now key }
+        requires weight_is { weighed.weight ≡ M.weight_of terms.now key weighed.value }
+        requires found { Finds (K.eq key) hash self.old.lists (Found.Ghost token) }
+        ensures writes { Calls (M.hooks terms.now)
+            (WritingAdmitted (M.steady terms.now)
+            (rules_by M.Policy P.Touch.may_count terms.now) (K.eq key) key Insert
+            (state_of P.ticket_of self.old) weighed.value None (state_of P.ticket_of self.new))
+            state.old state.new }
+        ensures sound { IsSound P.ticket_of K.eq (M.hashed terms.now) self.new }
+        // No other item moves.
+        ensures places { WritesPlace K.eq key (places_of self.old.lists) (places_of self.new.lists) }
+        ensures room { self.old.lists.room ≤ self.new.lists.room }
+        ensures work { WorksWithin self.old.mark_cut
+            (ring_count Queue.Hot self.old + ring_count Queue.Cold self.old + 1)
+            (work_of self.old) (work_of self.new) }
+        ensures same { KeepsNumbers self.old self.new }
+    {
+        self.lists.apart();
+        let Weighed { value, weight } = weighed;
+        let item = Marked::new(key, value, weight, 0, Queue::Hot, P::Touch::default());
+        let _ = self.lists.replace(token, false, Entry::Item(item));
+        self.evict_to_capacity(0, terms, state);
+    }
+
+    /// Inserts a pair over the placeholder of its key: it takes the placeholder's queue, and a
+    /// mark.
+    pub(crate) fn insert_over_loading<M: Policy<K, V>>(
+        &mut self,
+        token: Token,
+        terms: &M,
+        state: &mut M::RequestState,
+        hash: u64,
+        key: K,
+        weighed: Weighed<V>,
+    )
+        requires sound { IsSound P.ticket_of K.eq (M.hashed terms.now) self.old }
+        requires hash_is { hash ≡ M.hashed terms.now key }
+        requires weight_is { weighed.weight ≡ M.weight_of terms.now key weighed.value }
+        requires found { Finds (K.eq key) hash self.old.lists (Found.Loading token) }
+        ensures writes { Calls (M.hooks terms.now)
+            (WritingAdmitted (M.steady terms.now)
+            (rules_by M.Policy P.Touch.may_count terms.now) (K.eq key) key Insert
+            (state_of P.ticket_of self.old) weighed.value None (state_of P.ticket_of self.new))
+            state.old state.new }
+        ensures sound { IsSound P.ticket_of K.eq (M.hashed terms.now) self.new }
+        // No other item moves.
+        ensures places { WritesPlace K.eq key (places_of self.old.lists) (places_of self.new.lists) }
+        ensures room { self.old.lists.room ≤ self.new.lists.room }
+        ensures work { WorksWithin self.old.mark_cut
+            (ring_count Queue.Hot self.old + ring_count Queue.Cold self.old + 1)
+            (work_of self.old) (work_of self.new) }
+        ensures same { KeepsNumbers self.old self.new }
+    {
+        self.lists.apart();
+        let queue = self.lists.awaited(token).queue();
+        let Weighed { value, weight } = weighed;
+        let item = Marked::new(key, value, weight, 1, queue, P::Touch::default());
+        let _ = self.lists.replace(token, false, Entry::Item(item));
+        self.evict_to_capacity(0, terms, state);
+    }
+}

@@ -1,4 +1,0 @@
-pub mod Pool
-pub mod PoolEdits
-pub mod PoolLends
-pub mod Stack

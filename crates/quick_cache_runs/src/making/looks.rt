@@ -1,0 +1,80 @@
+//! Calls that look at one item, each with its reply.
+ghost use Rattle.std.specs.Prelude.{◌≡◌};
+ghost use Rattle.quick_cache_model.specs.Answered.{AlwaysClones, IsAnswered};
+ghost use Rattle.quick_cache_runs.specs.Made.{StepsBy};
+
+use crate::calls::CallMaker;
+use quick_cache_model::{Call, Lifecycle, Refusal, Reply, Weighter};
+use quick_cache_shard::Going;
+use quick_cache_unsync::Cache;
+use std::alloc::Allocator;
+use std::hash::{BuildHasher, Hash};
+
+impl<
+    F,
+    M: Allocator,
+    K: Eq + Hash + Clone + Drop,
+    V: Clone + Drop,
+    We: Weighter<K, V>,
+    B: BuildHasher,
+    L: Lifecycle<K, V>,
+    A: Allocator,
+> CallMaker<F, M, K, V, We, B, L, A> {
+    /// Looks a key up. The clone that the reply shows is made first.
+    pub(crate) fn get(cache: &mut Cache<K, V, We, B, L, A>, key: K) -> Reply<K, V, M>
+        ensures step { StepsBy F ⟦<Cache<K, V, We, B, L, A> as Going>⟧.goes K.eq K.is_clone
+            V.is_clone cache.old (Call.Get key) result cache.new }
+        ensures same { cache.new ≡ record cache.old { state = cache.new.state } }
+        // A look-up is refused only where a clone fails.
+        ensures answered { AlwaysClones V.is_infallible → IsAnswered {F = F} (Call.Get key) result }
+    {
+        match cache.peek(&key) {
+            None => {
+                let _ = cache.get(&key);
+                Reply::Value(None)
+            }
+            Some(value) => match value.clone() {
+                Ok(copy) => {
+                    let _ = cache.get(&key);
+                    Reply::Value(Some(copy))
+                }
+                Err(_) => Reply::Refused(Refusal::Memory),
+            },
+        }
+    }
+
+    /// Looks at a key, and shows a clone of the value.
+    pub(crate) fn peek(cache: &Cache<K, V, We, B, L, A>, key: K) -> Reply<K, V, M>
+        ensures step { StepsBy F ⟦<Cache<K, V, We, B, L, A> as Going>⟧.goes K.eq K.is_clone
+            V.is_clone cache.now (Call.Peek key) result cache.now }
+        // It is refused only where a clone fails.
+        ensures answered { AlwaysClones V.is_infallible → IsAnswered {F = F} (Call.Peek key) result }
+    {
+        match cache.peek(&key) {
+            None => Reply::Value(None),
+            Some(value) => match value.clone() {
+                Ok(copy) => Reply::Value(Some(copy)),
+                Err(_) => Reply::Refused(Refusal::Memory),
+            },
+        }
+    }
+
+    /// Tells whether an item stands under a key.
+    pub(crate) fn contains(cache: &Cache<K, V, We, B, L, A>, key: K) -> Reply<K, V, M>
+        ensures step { StepsBy F ⟦<Cache<K, V, We, B, L, A> as Going>⟧.goes K.eq K.is_clone
+            V.is_clone cache.now (Call.Contains key) result cache.now }
+    {
+        Reply::Flag(cache.contains_key(&key))
+    }
+
+    /// Tells how often the item under a key was read.
+    pub(crate) fn stats(cache: &Cache<K, V, We, B, L, A>, key: K) -> Reply<K, V, M>
+        ensures step { StepsBy F ⟦<Cache<K, V, We, B, L, A> as Going>⟧.goes K.eq K.is_clone
+            V.is_clone cache.now (Call.Stats key) result cache.now }
+    {
+        match cache.item_stats(&key) {
+            Some(stats) => Reply::Stats(Some(stats.access_count)),
+            None => Reply::Stats(None),
+        }
+    }
+}

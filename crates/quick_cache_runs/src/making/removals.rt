@@ -1,0 +1,85 @@
+//! Calls that take items out, each with its reply.
+ghost use Rattle.quick_cache_shard.specs.Predicates.{Answers};
+ghost use Rattle.quick_cache_shard.specs.Shard.{KeepsWork};
+ghost use Rattle.quick_cache_runs.specs.Made.{StepsAsked, StepsBy};
+
+use crate::calls::CallMaker;
+use quick_cache_model::{Call, Lifecycle, Reply, Weighter};
+use quick_cache_shard::Going;
+use quick_cache_unsync::Cache;
+use std::alloc::Allocator;
+use std::hash::{BuildHasher, Hash};
+
+impl<
+    F,
+    M: Allocator,
+    K: Eq + Hash + Clone + Drop,
+    V: Clone + Drop,
+    We: Weighter<K, V>,
+    B: BuildHasher,
+    L: Lifecycle<K, V>,
+    A: Allocator,
+> CallMaker<F, M, K, V, We, B, L, A> {
+    /// Takes the item under a key out.
+    pub(crate) fn remove(cache: &mut Cache<K, V, We, B, L, A>, key: K) -> Reply<K, V, M>
+        ensures step { StepsBy F ⟦<Cache<K, V, We, B, L, A> as Going>⟧.goes K.eq K.is_clone
+            V.is_clone cache.old (Call.Remove key) result cache.new }
+        ensures same { KeepsWork cache.old cache.new }
+    {
+        Reply::Pair(cache.remove(&key))
+    }
+
+    /// Drops all items.
+    pub(crate) fn clear(cache: &mut Cache<K, V, We, B, L, A>) -> Reply<K, V, M>
+        ensures step { StepsBy F ⟦<Cache<K, V, We, B, L, A> as Going>⟧.goes K.eq K.is_clone
+            V.is_clone cache.old (Call.Clear) result cache.new }
+        ensures same { KeepsWork cache.old cache.new }
+    {
+        cache.clear();
+        Reply::Done
+    }
+}
+
+impl<
+    F: Fn(&K, &V) -> bool + Drop,
+    M: Allocator,
+    K: Eq + Hash + Clone + Drop,
+    V: Clone + Drop,
+    We: Weighter<K, V>,
+    B: BuildHasher,
+    L: Lifecycle<K, V>,
+    A: Allocator,
+> CallMaker<F, M, K, V, We, B, L, A> {
+    /// Takes the item under a key out where its value is wanted beside that key.
+    pub(crate) fn remove_if(
+        cache: &mut Cache<K, V, We, B, L, A>,
+        key: K,
+        wanted: F,
+    ) -> Reply<K, V, M>
+        requires callable { F.IsAlwaysCallable wanted }
+
+        // Where the predicate answers as a pure test does, it is the removal by that test.
+        ensures step { StepsAsked F.Fn ⟦<Cache<K, V, We, B, L, A> as Going>⟧.goes K.eq K.is_clone
+            V.is_clone cache.old (Call.RemoveIf key wanted) result cache.new }
+        ensures same { KeepsWork cache.old cache.new }
+    {
+        let is_wanted = |value: &V| -> bool
+            requires { F.IsAlwaysCallable wanted }
+            ensures { Answers F.Fn wanted key value.now result }
+        { wanted(&key, value) };
+        Reply::Pair(cache.remove_if(&key, is_wanted))
+    }
+
+    /// Drops the items that the predicate does not keep.
+    pub(crate) fn retain(cache: &mut Cache<K, V, We, B, L, A>, keep: F) -> Reply<K, V, M>
+        requires callable { F.IsAlwaysCallable keep }
+
+        // Where the predicate answers as a pure test does, it is the removal by that test.
+        ensures step { StepsAsked F.Fn ⟦<Cache<K, V, We, B, L, A> as Going>⟧.goes K.eq K.is_clone
+            V.is_clone cache.old (Call.Retain keep) result cache.new }
+        ensures same { KeepsWork cache.old cache.new }
+    {
+        cache.retain(keep);
+        Reply::Done
+    }
+}

@@ -1,0 +1,77 @@
+//! Calls that write, each with its reply. Where pinning is steady, each is a step of its definition.
+ghost use Rattle.std.specs.Prelude.{◌≡◌};
+ghost use Rattle.quick_cache_shard.specs.Shard.{KeepsTerms};
+ghost use Rattle.quick_cache_runs.specs.Made.{MakesCall, StepsBy};
+
+use crate::calls::CallMaker;
+use quick_cache_model::{Call, Lifecycle, Reply, Weighter};
+use quick_cache_shard::Going;
+use quick_cache_unsync::{Cache, poke as write_to_peeked, set as write_to_found};
+use std::alloc::Allocator;
+use std::hash::{BuildHasher, Hash};
+
+impl<
+    F,
+    M: Allocator,
+    K: Eq + Hash + Clone + Drop,
+    V: Clone + Drop,
+    We: Weighter<K, V>,
+    B: BuildHasher,
+    L: Lifecycle<K, V>,
+    A: Allocator,
+> CallMaker<F, M, K, V, We, B, L, A> {
+    /// Inserts a pair.
+    pub(crate) fn insert(
+        cache: &mut Cache<K, V, We, B, L, A>,
+        key: K,
+        value: V,
+        state: &mut L::RequestState,
+    ) -> Reply<K, V, M>
+        ensures step { MakesCall F ⟦<Cache<K, V, We, B, L, A> as Going>⟧.goes K.eq K.is_clone
+            V.is_clone cache.old state.old (Call.Insert key value) result cache.new state.new }
+        ensures same { KeepsTerms cache.old cache.new }
+    {
+        match cache.insert_with_lifecycle(key, value, state) {
+            Ok(()) => Reply::Done,
+            Err((key, value, refusal)) => Reply::RefusedPair(key, value, refusal),
+        }
+    }
+
+    /// Replaces the item under a key by a pair.
+    pub(crate) fn replace(
+        cache: &mut Cache<K, V, We, B, L, A>,
+        key: K,
+        value: V,
+        soft: bool,
+        state: &mut L::RequestState,
+    ) -> Reply<K, V, M>
+        ensures step { MakesCall F ⟦<Cache<K, V, We, B, L, A> as Going>⟧.goes K.eq K.is_clone
+            V.is_clone cache.old state.old (Call.Replace key value soft) result cache.new state.new }
+        ensures same { KeepsTerms cache.old cache.new }
+    {
+        match cache.replace_with_lifecycle(key, value, soft, state) {
+            Ok(()) => Reply::Done,
+            Err((key, value)) => Reply::NotAdmitted(key, value),
+        }
+    }
+
+    /// Writes a value through `get_mut`.
+    pub(crate) fn set(cache: &mut Cache<K, V, We, B, L, A>, key: K, value: V) -> Reply<K, V, M>
+        ensures step { StepsBy F ⟦<Cache<K, V, We, B, L, A> as Going>⟧.goes K.eq K.is_clone
+            V.is_clone cache.old (Call.GetMut key value) result cache.new }
+        ensures same { cache.new
+            ≡ record cache.old { state = cache.new.state; places = cache.new.places } }
+    {
+        Reply::Flag(write_to_found(cache, &key, value))
+    }
+
+    /// Writes a value through `peek_mut`.
+    pub(crate) fn poke(cache: &mut Cache<K, V, We, B, L, A>, key: K, value: V) -> Reply<K, V, M>
+        ensures step { StepsBy F ⟦<Cache<K, V, We, B, L, A> as Going>⟧.goes K.eq K.is_clone
+            V.is_clone cache.old (Call.PeekMut key value) result cache.new }
+        ensures same { cache.new
+            ≡ record cache.old { state = cache.new.state; places = cache.new.places } }
+    {
+        Reply::Flag(write_to_peeked(cache, &key, value))
+    }
+}

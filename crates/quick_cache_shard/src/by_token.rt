@@ -1,0 +1,5 @@
+//! Calls that go by a token.
+
+pub mod token_mut;
+pub mod token_values;
+pub mod tokens;

@@ -1,0 +1,4 @@
+//! Calls on keys that are being loaded, and entry calls.
+
+pub mod entry;
+pub mod loading;

@@ -1,0 +1,4 @@
+//! Walks over the items.
+
+pub mod walk;
+pub mod walk_from;

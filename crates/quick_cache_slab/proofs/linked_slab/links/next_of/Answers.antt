@@ -1,8 +1,0 @@
-use Rattle.std.proofs.Common.{ap, ◌∙◌}
-use Rattle.quick_cache_slab.proofs.NodeFields.{field_read}
-use Rattle.quick_cache_slab.proofs.linked_slab.links.next_of.Goals as goal
-
-pub returns : goal.returns
-returns g c = c.next.ensures ∙ ap g.N.SlotNode.next_of c.index-nodes-place.is
-    ∙ field_read g.N.SlotNode.next_of c.args.nodes.now c.args.token.value
-    c.place.result c.index-nodes-place.result 0 c.place.ensures c.requires

@@ -1,8 +1,0 @@
-use Rattle.std.proofs.Common.{arith}
-use Rattle.quick_cache_slots.proofs.BesideLemmas.{length-besides}
-use Rattle.quick_cache_slots.proofs.asides.Asides.len.Goals as goal
-
-pub returns : goal.returns
-returns g c =
-    let a = c.args.self.now in
-    omega (arith, length-besides a.asides.items a.marks.items c.requires)

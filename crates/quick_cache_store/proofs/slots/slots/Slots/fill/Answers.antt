@@ -1,0 +1,26 @@
+use Rattle.std.specs.Int.NonZero.{non_zero_u32_get as number}
+use Rattle.quick_cache_store.specs.Asides.{besides_of}
+use Rattle.quick_cache_store.proofs.slots.WrittenLemmas.{loading-occupied, loading-stored, Writes-both}
+use Rattle.quick_cache_store.proofs.slots.slots.Slots.fill.Goals as goal
+
+pub item_mut-entry-requires : goal.item_mut-entry-requires
+item_mut-entry-requires g c =
+    let i = c.self.inside in
+    loading-occupied i.pool (besides_of i.asides) _ _ _ c.self.invariant.beside c.self.view_is
+    c.requires
+
+pub fill-requires : goal.fill-requires
+fill-requires g c =
+    let i = c.self.inside in
+    loading-stored i.pool (besides_of i.asides) _ _ _ c.self.invariant.beside c.self.view_is _
+    c.requires
+    c.item_mut-entry.ensures.item
+
+pub returns : goal.returns
+returns g c =
+    let i = c.self.inside in
+    rw (← c.self.view_is, c.put.ensures.items, c.put.ensures.room) (Writes-both i.pool
+    (besides_of i.asides) _
+    (number c.args.token) _ c.self.invariant.beside c.item_mut-entry.ensures.item _
+    c.place-place.result c.place-place.ensures c.get-beside.result c.get-beside.ensures
+    c.fill.new.self c.fill.new.beside c.fill.ensures)

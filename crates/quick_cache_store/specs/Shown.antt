@@ -1,0 +1,40 @@
+-- A call that shows an item to a callback of the caller's, which may write its value.
+use Rattle.std.specs.Prelude.{◌≡◌, ℕ, Some}
+use denote.Ref.{Bor, MutBor}
+use denote.Param.Members.{Mut}
+use Rattle.quick_cache_model.specs.CacheState.{Item}
+use Rattle.quick_cache_model.specs.Callbacks.{Leaves}
+use Rattle.quick_cache_store.specs.Pool.{Pool, item_at}
+use Rattle.quick_cache_store.specs.declared.slots.entry.Entry.TheVariants.{Item as item_variant}
+use Rattle.quick_cache_store.specs.declared.slots.entry.Slot.{Slot}
+use Rattle.quick_cache_store.specs.declared.slots.stored.StoredEntry.{StoredEntry}
+use Rattle.quick_cache_store.specs.declared.slots.stored.StoredEntry.TheVariants.{Item as stored_item, Loading as stored_loading, Ghost as stored_ghost}
+use Rattle.quick_cache_store.specs.Items.{with_value}
+use Rattle.quick_cache_store.specs.Slots.{slot_changed}
+use Rattle.quick_cache_store.specs.Stored.{entry_with_value}
+use Rattle.quick_cache_store.specs.Writes.{Writes}
+
+-- an item is stored, of whose key and value this holds
+abbrev pub HoldsOfItem : {K V P T : Type 0} → StoredEntry K V P T → (K → V → Type 0) → Type 0
+HoldsOfItem (stored_item head body) Q = Q body.key body.value
+HoldsOfItem (stored_loading queue key placeholder) Q = ⊥
+HoldsOfItem (stored_ghost note) Q = ⊥
+
+module _ {F K V R : Type 0}
+    (calls : Mut F (Bor K × (MutBor V × Unit {0})) (R × (MutBor V × Unit {0}))) where
+  -- the item that is stored was shown, and has the value that was left
+  pub record ShowsStored {P T : Type 0} (callback : F) (old : StoredEntry K V P T) (answer : R)
+      (next : F) (new : StoredEntry K V P T) : Type 0 where
+    pub left : V
+    pub called : HoldsOfItem old (λ key value. Leaves calls callback key value answer next left)
+    pub rest : new ≡ entry_with_value left old
+
+  -- so was the item of the token
+  pub record ShowsSlot {P T : Type 0} (callback : F) (old : Pool (Slot K V P T)) (token : ℕ)
+      (answer : R) (next : F) (new : Pool (Slot K V P T)) : Type 0 where
+    pub hash : ℕ
+    pub item : Item K V
+    pub at : item_at old token ≡ Some (record { hash = hash; entry = item_variant item })
+    pub left : V
+    pub called : Leaves calls callback item.key item.value answer next left
+    pub writes : Writes old new token (slot_changed (with_value left))

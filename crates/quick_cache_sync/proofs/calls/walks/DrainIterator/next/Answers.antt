@@ -1,0 +1,67 @@
+use Rattle.std.proofs.Common.{◌≡◌, ℕ, ◌+◌, ◌<◌, ◌≤◌, refl, ap, arith}
+use Rattle.std.specs.Int.NonZero.{non_zero_u32_get as number}
+use Rattle.std.specs.Iterator.{size}
+use Rattle.quick_cache_shard.specs.WalksFrom.{number_or_zero}
+use Rattle.quick_cache_sync.specs.Shards.{Division}
+use Rattle.quick_cache_sync.specs.Walks.{tokens_ahead}
+use Rattle.quick_cache_sync.proofs.calls.walks.DrainIterator.next.Goals as goal
+
+-- a later token of the shard is nearer to the end
+nearer : (shards same first began shard after index token : ℕ) → same ≡ shards → shard ≡ index
+    → after < token → token ≤ 4294967296
+    → size (tokens_ahead shards shard after) ≤ size (tokens_ahead shards first began)
+    → size (tokens_ahead same index token) < size (tokens_ahead shards first began)
+nearer shards same first began shard after index token is at above within ahead =
+    omega (arith, is, at, above, within, ahead)
+
+-- and so is the next shard
+farther : (shards first began shard after index : ℕ) → shard ≡ index → index < shards
+    → size (tokens_ahead shards shard after) ≤ size (tokens_ahead shards first began)
+    → size (tokens_ahead shards (index + 1) 0) ≤ size (tokens_ahead shards first began)
+farther shards first began shard after index at below ahead = omega (arith, at, below, ahead)
+
+pub loop-index-init : goal.loop-index-init
+loop-index-init g c = (refl, refl, omega arith)
+
+pub returns-in-Some-clause-steps : goal.returns-in-Some-clause-steps
+returns-in-Some-clause-steps g c = c.in-Some.ensures.fits
+
+-- the token is above the last one
+pub returns-in-Some-clause-goes : goal.returns-in-Some-clause-goes
+returns-in-Some-clause-goes g c =
+    let invariant = c.loop-index.invariant in
+    let within : number c.in-Some.token ≤ 4294967296 = omega (arith, c.get-number.ensures) in
+    record {
+      on = λ finite. (
+        tt,
+        finite,
+        nearer c.args.self.now.cache.now.shards c.loop-index.self.cache.now.shards
+            c.args.self.now.shard (number_or_zero c.args.self.now.after) c.loop-index.self.shard
+            (number_or_zero c.loop-index.self.after) c.loop-index.index (number c.in-Some.token)
+            (ap (λ cache. cache.now.shards) invariant.0) invariant.1
+            c.in-Some.ensures.takes.0.above within invariant.2,
+      );
+      keeps = tt;
+      rests = λ _. tt;
+    }
+
+-- the next shard begins anew
+pub loop-index-preserved : goal.loop-index-preserved
+loop-index-preserved g c =
+    let invariant = c.loop-index.invariant in
+    let below : c.loop-index.index < c.args.self.now.cache.now.shards =
+    omega (
+      arith,
+      c.loop-index-test.true,
+      c.len-index-end.ensures,
+      ap (λ (d : Division _). d.shards) c.cache.view_is,
+    ) in (
+      invariant.0,
+      refl,
+      farther c.args.self.now.cache.now.shards c.args.self.now.shard
+          (number_or_zero c.args.self.now.after) c.loop-index.self.shard
+          (number_or_zero c.loop-index.self.after) c.loop-index.index invariant.1 below invariant.2,
+    )
+
+pub returns-clause-steps : goal.returns-clause-steps
+returns-clause-steps g c = tt

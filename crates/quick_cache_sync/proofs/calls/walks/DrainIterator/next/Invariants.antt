@@ -1,0 +1,13 @@
+use Rattle.std.specs.Prelude.{◌≡◌, ◌≤◌}
+use Rattle.std.specs.Iterator.{size}
+use Rattle.quick_cache_shard.specs.WalksFrom.{number_or_zero}
+use Rattle.quick_cache_sync.specs.Walks.{tokens_ahead}
+use Rattle.quick_cache_sync.proofs.calls.walks.DrainIterator.next.Given as goal
+
+-- the walk is at the next shard, and no more tokens are ahead than at first
+abbrev pub invariant-loop-index : goal.invariant-loop-index
+invariant-loop-index g l =
+    (l.self.cache ≡ l.fn.self.cache) × (l.self.shard ≡ l.index)
+    × (size (tokens_ahead l.fn.self.cache.now.shards l.self.shard (number_or_zero l.self.after))
+    ≤ size (tokens_ahead l.fn.self.cache.now.shards l.fn.self.shard
+    (number_or_zero l.fn.self.after)))

@@ -1,8 +1,0 @@
-use Rattle.std.proofs.Common.{◌≡◌, ◌+◌, ◌*◌, ◌%◌, take, fold}
-use Rattle.quick_cache_test_parts.proofs.thousand.ByThousandHasher.write.Given as goal
-
--- the bytes so far were taken in
-abbrev pub invariant-loop-b : goal.invariant-loop-b
-invariant-loop-b l = l.self ≡ fold
-    (λ h b. record { sum = (h.sum + b * h.place) % 1000; place = (h.place * 256) % 1000 })
-    l.initial.self (take l.b-index l.bytes)

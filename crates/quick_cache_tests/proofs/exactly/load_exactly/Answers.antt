@@ -1,7 +1,0 @@
-use Rattle.quick_cache_loading.proofs.WiderShowing.{LoadingRun-wider}
-use Rattle.quick_cache_calls.specs.Shown.{IsItself}
-use Rattle.quick_cache_tests.proofs.exactly.load_exactly.Goals as goal
-
-pub returns-in-Ok : goal.returns-in-Ok
-returns-in-Ok g c = LoadingRun-wider g.V.Clone.is_clone IsItself c.requires.clones _ _ _ _
-    c.in-Ok.ensures.run

@@ -1,0 +1,9 @@
+//! Calls that load a value, and the guard of a key that is being loaded.
+
+pub mod filling;
+pub mod guard;
+pub mod guarding;
+pub mod lending;
+pub mod loader;
+pub mod not_loaded;
+pub mod placeholder;

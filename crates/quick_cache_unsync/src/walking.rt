@@ -1,0 +1,4 @@
+//! Walks over the items.
+
+pub mod drain;
+pub mod iter;

@@ -1,7 +1,0 @@
-use Rattle.std.proofs.Common.{sym}
-use Rattle.quick_cache_waiting.proofs.TaskLemmas.{slots_after-other}
-use Rattle.quick_cache_waiting.proofs.tasks.Tasks.wake_handed.Goals as goal
-
-pub returns-in_default : goal.returns-in_default
-returns-in_default g c =
-    sym (slots_after-other c.args.answer.now c.args.self.now c.in_default.not-HandedTo)

@@ -1,4 +1,0 @@
-pub mod Tasks
-pub mod Fitting
-pub mod Waiting
-pub mod Entering

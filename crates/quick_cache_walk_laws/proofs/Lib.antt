@@ -1,2 +1,0 @@
-mod WalkLemmas
-mod PlaceLemmas

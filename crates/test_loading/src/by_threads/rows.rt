@@ -1,0 +1,124 @@
+//! What loads answer, by one thread and by two.
+use quick_cache_guard::{EntryResult, FillError, GuardResult};
+use quick_cache_model::Refusal;
+use quick_cache_shard::EntryAction;
+use quick_cache_sync::Cache;
+use std::sync::Wait;
+use std::thread::{join, yield_now};
+use std::time::{Clock, Duration};
+use test_tools::{expect, expect_eq, expect_ok};
+
+type Numbers = Cache<u64, u64>;
+
+// What a call gets: the value; 100 where it gets the guard, by which it fills in 7; 200 where that
+// is gone; 300 where the time is over; 400 where it is refused.
+fn outcome<R: Wait + Clock>(rt: &R, cache: &Numbers, key: u64, limit: Option<u64>) -> u64 {
+    let limit = match limit {
+        Some(turns) => Some(Duration::from_millis(turns)),
+        None => None,
+    };
+    match cache.get_value_or_guard(rt, &key, limit) {
+        GuardResult::Value(value) => value,
+        GuardResult::Guard(guard) => match guard.insert(7) {
+            Ok(()) => 100,
+            Err(_) => 200,
+        },
+        GuardResult::Timeout => 300,
+        GuardResult::Refused(_) => 400,
+    }
+}
+
+// What a loader gives: the value, or none where it is 0; and the calls are counted.
+fn loaded<R: Wait>(
+    rt: &R,
+    cache: &Numbers,
+    calls: &mut u64,
+    value: u64,
+) -> Result<Result<u64, ()>, Refusal> {
+    cache.get_or_insert_with(rt, &4, || {
+        *calls = calls.saturating_add(1);
+        if value == 0 { Err(()) } else { Ok(value) }
+    })
+}
+
+#[test]
+fn the_loader_is_called_until_it_gives_a_value(rt: HostRuntime) {
+    let cache: Numbers = expect_ok!(rt; Cache::new(rt.alloc(), 100));
+    let mut calls = 0;
+    expect_eq!(rt; loaded(&rt, &cache, &mut calls, 0), Ok(Err(())));
+    expect_eq!(rt; loaded(&rt, &cache, &mut calls, 4), Ok(Ok(4)));
+    expect_eq!(rt; loaded(&rt, &cache, &mut calls, 5), Ok(Ok(4)));
+    expect_eq!(rt; outcome(&rt, &cache, 4, None), 4);
+    expect_eq!(rt; (calls, cache.hits(&rt), cache.misses(&rt)), (2, 2, 2));
+}
+
+#[test]
+fn a_guard_whose_placeholder_left_is_gone(rt: HostRuntime) {
+    let cache: Numbers = expect_ok!(rt; Cache::new(rt.alloc(), 100));
+    let GuardResult::Guard(guard) = cache.get_value_or_guard(&rt, &1, None) else {
+        panic!(rt; "the key is absent");
+    };
+    cache.clear(&rt);
+    // The other key comes to the slot that the placeholder had.
+    expect_eq!(rt; cache.insert(&rt, 2, 22), Ok(()));
+    expect!(rt; matches!(guard.insert(5), Err(FillError::Gone(5))));
+    expect_eq!(rt;
+        (
+            expect_ok!(rt; cache.peek(&rt, &1)),
+            expect_ok!(rt; cache.peek(&rt, &2)),
+            cache.misses(&rt)
+        ),
+        (None, Some(22), 1)
+    );
+    let GuardResult::Guard(guard) = cache.get_value_or_guard(&rt, &1, None) else {
+        panic!(rt; "the key is absent");
+    };
+    expect_eq!(rt; cache.insert(&rt, 1, 3), Ok(()));
+    // Dropped or filled, a guard whose placeholder is gone leaves what stands under its key.
+    drop(guard);
+    expect_eq!(rt;
+        (expect_ok!(rt; cache.get(&rt, &1)), cache.len(&rt), cache.misses(&rt)),
+        (Some(3), 2, 2)
+    );
+}
+
+// Lets others go on until so many hits are counted: each who meets the placeholder counts one.
+fn await_hits<R: Wait>(rt: &R, cache: &Numbers, hits: u64) {
+    for _ in 0..1000000 {
+        if cache.hits(rt) >= hits {
+            return;
+        }
+        yield_now();
+    }
+}
+
+#[test]
+fn one_of_two_threads_loads_what_a_third_gave_up(rt: HostRuntime) {
+    let cache: Numbers = expect_ok!(rt; Cache::new(rt.alloc(), 100));
+    let (rt, cache) = (&rt, &cache);
+    let GuardResult::Guard(guard) = cache.get_value_or_guard(rt, &1, None) else {
+        panic!(rt; "the key is absent");
+    };
+    let text = expect_ok!(rt; format!(in rt.alloc(); "{guard:?}"));
+    expect_eq!(rt; text.as_str(), "PlaceholderGuard { .. }");
+    let mut keeps = |_: &u64, _: &mut u64| -> EntryAction<u64> { EntryAction::Retain(0) };
+    let timed = cache.entry(rt, &1, Some(Duration::from_millis(0)), &mut keeps);
+    expect!(rt; matches!(timed, EntryResult::Timeout));
+    expect_eq!(rt; outcome(rt, cache, 1, Some(2)), 300);
+    // One miss for the placeholder, and a hit for each time that it was met.
+    expect_eq!(rt; (cache.hits(rt), cache.misses(rt)), (2, 1));
+    let (first, (second, ())) = join(
+        rt,
+        move || outcome(rt, cache, 1, None),
+        move || join(
+            rt,
+            move || outcome(rt, cache, 1, None),
+            move || {
+                await_hits(rt, cache, 4);
+                drop(guard);
+            },
+        ),
+    );
+    expect_eq!(rt; (first.min(second), first.max(second)), (7, 100));
+    expect_eq!(rt; cache.get(rt, &1), Ok(Some(7)));
+}

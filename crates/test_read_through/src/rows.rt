@@ -1,0 +1,106 @@
+//! What a loader with its cache answers, and how often it is called.
+use crate::hundreds::{first_wrong, hundreds};
+use read_through::{Loaded, ReadThrough};
+use std::sync::Barrier;
+use std::sync::atomic::{AtomicU64, Ordering};
+use std::thread::join;
+use test_tools::{expect, expect_eq, expect_ok};
+
+#[test]
+fn loads_once_while_fresh(rt: HostRuntime) {
+    // The capacity, the life, and gets of the key 1: the moment, the answer, the loads so far.
+    let rows: [(usize, u64, &[(u64, u64, u64)]); 4] = [
+        (
+            8,
+            10,
+            &[
+                (5, 105, 1),
+                (14, 105, 1),
+                (15, 115, 2),
+                (3, 115, 2),
+                (24, 115, 2),
+                (25, 125, 3),
+            ],
+        ),
+        (8, 0, &[(5, 105, 1), (5, 105, 2)]),
+        (8, u64::MAX, &[(5, 105, 1), (u64::MAX, 105, 1)]),
+        (0, 10, &[(5, 105, 1), (6, 106, 2)]),
+    ];
+    for (capacity, life, gets) in rows {
+        let calls = AtomicU64::new(0);
+        let loaded: ReadThrough<u64, u64, _> = expect_ok!(rt; ReadThrough::new(
+            rt.alloc(),
+            capacity,
+            life,
+            |key: &u64, now: u64| {
+                calls.fetch_add(1, Ordering::SeqCst);
+                hundreds(*key, now)
+            },
+        ));
+        let wrong = first_wrong(&rt, &loaded, &calls, gets);
+        assert_eq!(rt; wrong, None, "capacity {capacity}, life {life}");
+    }
+}
+
+#[test]
+fn two_threads_that_ask_at_once_load_once(rt: HostRuntime) {
+    let calls = AtomicU64::new(0);
+    let loaded: ReadThrough<u64, u64, _> = expect_ok!(rt; ReadThrough::new(
+        rt.alloc(),
+        8,
+        10,
+        |key: &u64, now: u64| {
+            calls.fetch_add(1, Ordering::SeqCst);
+            hundreds(*key, now)
+        },
+    ));
+    let both = Barrier::new(2);
+    let (rt, loaded, both) = (&rt, &loaded, &both);
+    let ask = || {
+        both.wait(rt);
+        loaded.get(rt, &2, 1)
+    };
+    expect_eq!(rt; join(rt, ask, ask), (Ok(201), Ok(201)));
+    expect_eq!(rt; calls.load(Ordering::SeqCst), 1);
+}
+
+#[test]
+fn what_is_removed_is_loaded_anew(rt: HostRuntime) {
+    let loaded: ReadThrough<u64, u64, _> = expect_ok!(rt; ReadThrough::new(
+        rt.alloc(),
+        8,
+        10,
+        |key: &u64, now: u64| hundreds(*key, now),
+    ));
+    for now in [5, 6, 15] {
+        expect_ok!(rt; loaded.get(&rt, &1, now));
+    }
+    // The first found nothing, the second was a hit, and the third found what is too old.
+    let counts = (loaded.len(&rt), loaded.hits(&rt), loaded.misses(&rt));
+    expect_eq!(rt; counts, (1, 1, 1));
+    let Some(Loaded { value, moment }) = loaded.remove(&rt, &1) else {
+        panic!(rt; "it is stored");
+    };
+    expect_eq!(rt; (value, moment, loaded.len(&rt)), (115, 15, 0));
+    expect!(rt; loaded.remove(&rt, &1).is_none());
+    expect_eq!(rt; loaded.get(&rt, &1, 16), Ok(116));
+}
+
+#[test]
+fn an_error_is_stored_nowhere(rt: HostRuntime) {
+    let loaded: ReadThrough<u64, u64, _> = expect_ok!(rt; ReadThrough::new(
+        rt.alloc(),
+        8,
+        10,
+        |key: &u64, now: u64| -> Result<u64, u64> {
+            if now < 5 {
+                Err(now)
+            } else {
+                Ok(hundreds(*key, now))
+            }
+        },
+    ));
+    for (now, answer) in [(3, Err(3)), (4, Err(4)), (5, Ok(105)), (3, Ok(105))] {
+        assert_eq!(rt; loaded.try_get(&rt, &1, now), Ok(answer), "at {now}");
+    }
+}

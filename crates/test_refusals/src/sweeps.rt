@@ -1,0 +1,9 @@
+//! Each request for memory of a row of calls, refused in turn.
+
+pub mod rows;
+pub mod shared_rows;
+pub mod shared_sweep;
+pub mod slip;
+pub mod stage;
+pub mod stage_loads;
+pub mod sweep;

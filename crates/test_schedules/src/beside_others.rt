@@ -1,0 +1,6 @@
+//! Threads that act on the same keys at once.
+
+pub mod board;
+pub mod caller;
+pub mod overlap;
+pub mod threads;

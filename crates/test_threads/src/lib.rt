@@ -1,0 +1,23 @@
+//! Tests of the cache that threads share, by threads and by its calls that do not wait for a lock,
+//! and a caller that knows of each value what its lifecycle says.
+//!
+//! What they catch: a `try_` form that always answers contention, and a call that locks and does
+//! nothing, fail in `idle` and in `mixed`. One that acts where another call has the lock, and one
+//! lock for all shards, fail in `contended`. A form that reads, and tries the lock to write, fails
+//! in `reading`.
+#![tactic(auto)]
+
+pub mod beside;
+#[cfg(test)]
+mod calls;
+#[cfg(test)]
+mod names;
+#[cfg(test)]
+mod not_waiting;
+#[cfg(test)]
+mod refused;
+#[cfg(test)]
+mod shards;
+pub mod upper;
+#[cfg(test)]
+mod walks;

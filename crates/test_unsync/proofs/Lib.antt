@@ -1,0 +1,3 @@
+mod CopyLemmas
+mod ShownLemmas
+mod SpentLemmas

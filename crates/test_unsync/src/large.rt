@@ -1,0 +1,143 @@
+//! Ten thousand entries, and lists of ten thousand calls: nothing is refused past some size.
+ghost use Rattle.std.specs.Prelude.{All, IfOk};
+ghost use Rattle.quick_cache_runs.specs.Asked.{IfAsks};
+
+use crate::Predicate;
+use quick_cache_runs::{Call, Reply, run};
+use quick_cache_unsync::Cache;
+use std::alloc::{AllocError, Allocator, Global};
+use std::process::Abort;
+use std::test::Fail;
+use test_tools::{Rationed, expect, expect_eq, expect_ok};
+
+/// How many entries or calls a test makes.
+const MANY: u64 = 10000;
+
+/// A cache that holds the numbers below this one, each with its double.
+fn doubles(alloc: Global, count: u64) -> Result<Cache<u64, u64>, Fail> {
+    let mut cache = Cache::new(alloc, count as usize)?;
+    for key in 0..count {
+        cache.insert(key, key.saturating_mul(2))?;
+    }
+    Ok(cache)
+}
+
+#[test]
+fn ample_memory_is_never_refused(rt: HostRuntime) -> Result<(), Fail> {
+    let mut cache = doubles(rt.alloc(), MANY)?;
+    expect_eq!(rt; cache.len(), MANY as usize);
+    for key in 0..MANY {
+        let double = key.saturating_mul(2);
+        expect_eq!(rt; cache.get(&key).copied(), Some(double));
+        expect_eq!(rt; cache.insert(key, double), Ok(()));
+        expect_eq!(rt; cache.remove(&key), Some((key, double)));
+    }
+    expect!(rt; cache.is_empty());
+    expect_eq!(rt; (cache.hits(), cache.misses()), (MANY, 0));
+    Ok(())
+}
+
+#[test]
+fn a_clone_has_ten_thousand_entries(rt: HostRuntime) -> Result<(), Fail> {
+    let cache = doubles(rt.alloc(), MANY)?;
+    let mut copy = expect_ok!(rt; cache.try_clone());
+    expect_eq!(rt; copy.len(), MANY as usize);
+    for key in 0..MANY {
+        expect_eq!(rt; copy.remove(&key), Some((key, key.saturating_mul(2))));
+    }
+    expect_eq!(rt; (cache.len(), copy.len()), (MANY as usize, 0));
+    Ok(())
+}
+
+/// So many calls, by threes: an insert, a look-up of what it inserted, and its removal. None asks a
+/// predicate.
+fn threes<M: Allocator>(
+    alloc: M,
+    count: u64,
+) -> Result<Vec<Call<u64, u64, Predicate>, M>, AllocError>
+    ensures { IfOk result (λ calls. All (IfAsks (λ asked. ⊥)) calls.items) }
+{
+    let mut calls = Vec::new(alloc);
+    for number in 0..count {
+        let key = number / 3;
+        calls.push(match number % 3 {
+            0 => Call::Insert(key, number),
+            1 => Call::Get(key),
+            _ => Call::Remove(key),
+        })?;
+    }
+    Ok(calls)
+}
+
+/// Makes so many calls by one `run`.
+fn run_by_threes(rt: &impl Abort, alloc: Global, count: u64) -> Result<(), Fail> {
+    let mut cache: Cache<u64, u64> = Cache::new(alloc, 3)?;
+    let calls = threes(alloc, count)?;
+    let Ok(replies) = run(alloc, &mut cache, calls, &mut ()) else {
+        panic!(rt; "there is memory");
+    };
+    expect_eq!(rt; replies.len() as u64, count);
+    for (at, reply) in replies.into_iter().enumerate() {
+        let key = at as u64 / 3;
+        let value = key.saturating_mul(3);
+        let wanted = match at % 3 {
+            0 => Reply::Done,
+            1 => Reply::Value(Some(value)),
+            _ => Reply::Pair(Some((key, value))),
+        };
+        assert!(rt; reply == wanted, "at {at}");
+    }
+    Ok(())
+}
+
+#[test]
+fn twenty_and_ten_thousand_calls_are_made(rt: HostRuntime) -> Result<(), Fail> {
+    run_by_threes(&rt, rt.alloc(), 20)?;
+    run_by_threes(&rt, rt.alloc(), MANY)
+}
+
+#[test]
+fn a_list_of_replies_asks_for_memory_once(rt: HostRuntime) {
+    let ration = Rationed::new(rt.alloc(), 100);
+    let mut cache: Cache<u64, u64> = expect_ok!(rt; Cache::new(rt.alloc(), 3));
+    let calls = expect_ok!(rt; threes(&ration, MANY));
+    ration.allow(1);
+    let Ok(replies) = run(&ration, &mut cache, calls, &mut ()) else {
+        panic!(rt; "there is room for the replies");
+    };
+    expect_eq!(rt; (replies.len() as u64, ration.left()), (MANY, 0));
+}
+
+/// How many pairs a reply shows, each a number and its double, and the sum of the numbers.
+fn doubles_in<M: Allocator>(reply: &Reply<u64, u64, M>) -> Option<(u64, u64)> {
+    let Reply::Pairs(pairs) = reply else {
+        return None;
+    };
+    let (mut count, mut sum) = (0u64, 0u64);
+    for (key, value) in pairs {
+        if *value == key.saturating_mul(2) {
+            count = count.saturating_add(1);
+            sum = sum.saturating_add(*key);
+        }
+    }
+    Some((count, sum))
+}
+
+#[test]
+fn a_walk_and_a_drain_give_ten_thousand_pairs(rt: HostRuntime) -> Result<(), Fail> {
+    let alloc = rt.alloc();
+    let mut cache = doubles(alloc, MANY)?;
+    let calls: Vec<Call<u64, u64, Predicate>> = expect_ok!(rt; vec![in alloc;
+        Call::Iter,
+        Call::Drain,
+        Call::Iter,
+    ]);
+    let Ok(replies) = run(alloc, &mut cache, calls, &mut ()) else {
+        panic!(rt; "there is memory");
+    };
+    let wanted = [(MANY, 49995000), (MANY, 49995000), (0, 0)];
+    for (reply, wanted) in replies.iter().zip(wanted) {
+        expect_eq!(rt; doubles_in(reply), Some(wanted));
+    }
+    Ok(())
+}

@@ -1,0 +1,94 @@
+//! The shard of these tests, its calls, and what a copy of it keeps.
+use quick_cache_base::{Refusal, UnitWeighter};
+use quick_cache_shard::{CacheShard, InsertStrategy, Touches};
+use std::alloc::Global;
+use std::hash::Hash;
+use test_parts::counting::{Counting, Told};
+use test_parts::placeholder::{NoTouches, Placeholder};
+use test_parts::thousand::Thousand;
+use test_parts::walks::shows;
+use test_tools::{expect, expect_eq, expect_ok};
+
+/// A shard of unit weights, whose items count touches so.
+pub(crate) type Tested<K, V, T = NoTouches> = CacheShard<
+    K,
+    V,
+    UnitWeighter,
+    Thousand,
+    Counting,
+    Placeholder<T>,
+>;
+
+/// An empty shard for so many items, with the default shares.
+pub(crate) fn empty<K: Eq + Hash, V, T: Touches>(
+    alloc: Global,
+    capacity: usize,
+) -> Result<Tested<K, V, T>, Refusal> {
+    CacheShard::new(
+        alloc,
+        970000,
+        500000,
+        2,
+        capacity,
+        capacity as u64,
+        UnitWeighter,
+        Thousand,
+        Counting,
+    )
+}
+
+/// Inserts a pair, and counts what was told.
+pub(crate) fn put<T: Touches>(
+    shard: &mut Tested<u64, u64, T>,
+    told: &mut Told,
+    key: u64,
+    value: u64,
+) -> bool {
+    let hash = shard.hash(&key);
+    shard
+        .insert(told, hash, key, value, InsertStrategy::Insert)
+        .is_ok()
+}
+
+/// What `get` finds.
+fn got(shard: &mut Tested<u64, u64>, key: u64) -> Option<u64> {
+    let hash = shard.hash(&key);
+    shard.get(hash, &key).copied()
+}
+
+/// Replaces a value, as a use of the item or not.
+pub(crate) fn replaced<T: Touches>(
+    shard: &mut Tested<u64, u64, T>,
+    told: &mut Told,
+    key: u64,
+    value: u64,
+    soft: bool,
+) -> Result<(), (u64, u64, Option<Refusal>)> {
+    let hash = shard.hash(&key);
+    shard.insert(told, hash, key, value, InsertStrategy::Replace { soft })
+}
+
+/// What `peek` and `contains` tell.
+pub(crate) fn seen(shard: &Tested<u64, u64>, key: u64) -> (Option<u64>, bool) {
+    let hash = shard.hash(&key);
+    (shard.peek(hash, &key).copied(), shard.contains(hash, &key))
+}
+
+/// What `remove` takes out.
+pub(crate) fn taken(shard: &mut Tested<u64, u64>, key: u64) -> Option<(u64, u64)> {
+    let hash = shard.hash(&key);
+    shard.remove(hash, &key)
+}
+
+#[test]
+fn a_clone_keeps_marks_and_counts(rt: HostRuntime) {
+    let mut shard: Tested<u64, u64> = expect_ok!(rt; empty(rt.alloc(), 4));
+    let mut told = Told::default();
+    expect!(rt; put(&mut shard, &mut told, 1, 10));
+    expect_eq!(rt; got(&mut shard, 1), Some(10));
+    let copy = expect_ok!(rt; shard.try_clone());
+    expect_eq!(rt; taken(&mut shard, 1), Some((1, 10)));
+    expect!(rt; shows(copy.iter_hot(), &[(1, 1)]));
+    expect_eq!(rt; (copy.weight(), copy.capacity(), copy.hits()), (1, 4, 1));
+    expect_eq!(rt; (copy.hot_target(), copy.ghost_limit()), (3, 2));
+}

@@ -1,0 +1,84 @@
+//! What a cache asks of its allocator: nothing where a call takes no memory, and not much more than
+//! it needs.
+use bumpalo::Bump;
+use quick_cache_base::{DefaultHashBuilder, UnitWeighter};
+use quick_cache_unsync::{Cache, DefaultLifecycle};
+use std::alloc::Global;
+use test_tools::{Rationed, expect, expect_eq, expect_ok};
+
+/// A cache whose allocator is counted.
+type CountedCache<A> = Cache<
+    u64,
+    u64,
+    UnitWeighter,
+    DefaultHashBuilder,
+    DefaultLifecycle<u64, u64>,
+    A,
+>;
+
+/// A number of blocks that no test uses up.
+const BLOCKS: u64 = 1000000;
+
+#[test]
+fn what_takes_no_memory_asks_for_none(rt: HostRuntime) {
+    let ration = Rationed::new(rt.alloc(), BLOCKS);
+    let mut cache: CountedCache<&Rationed<Global>> = expect_ok!(rt; Cache::new(&ration, 100));
+    for key in 0..100 {
+        expect_ok!(rt; cache.insert(key, key));
+    }
+    expect!(rt; ration.left() < BLOCKS);
+    ration.allow(BLOCKS);
+    for key in 0..100 {
+        expect_eq!(rt; cache.insert(key, 7), Ok(()));
+        expect_eq!(rt; cache.get(&key).copied(), Some(7));
+        expect_eq!(rt; cache.get(&1000).copied(), None);
+        expect_eq!(rt; cache.peek(&key).copied(), Some(7));
+        expect!(rt; cache.contains_key(&key));
+    }
+    for key in 0..100 {
+        expect_eq!(rt; cache.remove(&key), Some((key, 7)));
+        expect_eq!(rt; cache.remove(&key), None);
+    }
+    expect_eq!(rt; ration.left(), BLOCKS);
+}
+
+#[test]
+fn new_pairs_take_the_room_of_those_that_left(rt: HostRuntime) {
+    let ration = Rationed::new(rt.alloc(), BLOCKS);
+    let mut cache: CountedCache<&Rationed<Global>> = expect_ok!(rt; Cache::new(&ration, 100));
+    for key in 0..1000 {
+        expect_ok!(rt; cache.insert(key, key));
+    }
+    ration.allow(0);
+    for key in 1000..2000 {
+        expect_eq!(rt; cache.insert(key, key), Ok(()));
+    }
+    expect_eq!(rt; cache.len(), 100);
+}
+
+/// The bytes of the arena, which has room for all that a test asks for.
+const ARENA: usize = 1 << 26;
+
+/// The bytes that an entry needs: its pair, weight, marks and reads, and what finds it.
+const ENTRY: usize = 64;
+
+#[test]
+fn a_growth_asks_for_at_most_four_times_its_need(rt: HostRuntime) {
+    let arena = expect_ok!(rt; Bump::try_with_capacity(rt.alloc(), ARENA));
+    let first = arena.chunk_capacity();
+    let mut cache: CountedCache<&Bump<Global>> = expect_ok!(rt; Cache::new(&arena, 10000));
+    for key in 0..10000 {
+        let before = arena.chunk_capacity();
+        expect_ok!(rt; cache.insert(key, key));
+        let asked = before.saturating_sub(arena.chunk_capacity());
+        let needed = cache.len().saturating_add(4).saturating_mul(ENTRY);
+        assert!(rt; asked <= needed.saturating_mul(4), "{asked} bytes at {key}");
+    }
+    let before = arena.chunk_capacity();
+    // The arena counts: it has given at least the pairs' own bytes.
+    expect!(rt; first.saturating_sub(before) >= 160000);
+    let copy = expect_ok!(rt; cache.try_clone());
+    let asked = before.saturating_sub(arena.chunk_capacity());
+    assert!(rt; asked <= ENTRY * 10000 * 4, "{asked} bytes for a clone");
+    expect_eq!(rt; copy.len(), 10000);
+}
