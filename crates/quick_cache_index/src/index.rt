@@ -7,13 +7,16 @@ pub(crate) mod candidates;
 pub(crate) mod groups;
 pub(crate) mod walk;
 
-pub use candidates::Candidates;
+pub use candidates::{Candidates, Look};
 use groups::{LANES, MOST_TOKENS, capacity, groups_for, home_of};
 use quick_cache_model::{Refusal, Token};
 use std::alloc::{Allocator, Global};
 use std::hint::spin_loop;
 use std::marker::Model;
 use walk::{Walk, first_position_of, position_on_walk};
+
+// From so many groups on their tags do not stay near, and a look-up reads ahead.
+const MANY_GROUPS: usize = 65535;
 
 /// Tokens by hash, each at one place at most.
 ///
@@ -317,6 +320,10 @@ impl<A: Allocator> Index<A> {
     /// once it knows them.
     #[inline(always)]
     pub fn bring_tokens_near(&self, hash: u64) {
+        // The tags of few groups stay near, so that the tokens are known soon.
+        if self.mask < MANY_GROUPS {
+            return;
+        }
         let home = home_of(hash, self.mask);
         // No token is so high, and a pause does no harm.
         if home < self.reaches.len() && self.tokens[LANES * home] == u32::MAX {

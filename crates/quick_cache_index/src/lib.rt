@@ -3,4 +3,4 @@
 
 pub mod index;
 
-pub use index::Index;
+pub use index::{Index, Look};

@@ -1,8 +1,10 @@
 //! A walk over the places that have the tag of a hash.
 ghost use Rattle.std.specs.Prelude.{◌≡◌, ◌/◌, ◌<◌, ◌==◌, ◌∷◌, [], length, count_by, slice_index, bit_xor, IfSome, IfNone};
-ghost use Rattle.quick_cache_index.specs.Index.{home_of as home_number};
+ghost use Rattle.quick_cache_index.specs.Index.{home_of as home_number, IsSeen};
 ghost use Rattle.quick_cache_index.specs.IndexGroups.{reach_of, IsGrouped, IsMatched, IsWalk, candidates_left, CoversTagged};
 
+use super::Token;
+use super::candidates::Look;
 use super::groups::{LANES, home_of, lanes_of, tag_of};
 
 /// What is left of the groups in which tokens of a hash can be.
@@ -93,6 +95,25 @@ impl<'a> Walk<'a> {
             Some(reach) => *reach as usize,
             None => 0,
         }
+    }
+
+    /// The token of the next place that has the tag of the hash, if the group that is being read
+    /// has one.
+    #[inline(always)]
+    pub(crate) fn look(&self) -> Look
+        requires { IsWalk self.now }
+        ensures { IsSeen (candidates_left self.now) result }
+    {
+        if self.lanes == 0 {
+            return if self.step >= self.reach() {
+                Look::Nothing
+            } else {
+                Look::Beyond
+            };
+        }
+        let position = LANES * self.group + self.lanes.trailing_zeros() as usize;
+        let tokens = self.tokens;
+        Look::At(unsafe { Token::new_unchecked(tokens[position]) })
     }
 
     /// The position of the next place that has the tag of the hash.

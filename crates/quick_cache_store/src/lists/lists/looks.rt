@@ -9,6 +9,7 @@ ghost use Rattle.quick_cache_store.specs.Lists.{Finds, FindsByKey, FindsItemOfAn
 use crate::lists::found::Found;
 use crate::lists::lists::Lists;
 use crate::slots::{AwaitedRef, ItemRef, Slots};
+use quick_cache_index::Look;
 use quick_cache_model::{Equivalent, Queue, Token};
 use std::alloc::Allocator;
 use std::hash::Hash;
@@ -39,13 +40,16 @@ impl<K, V, P, T, A: Allocator> Lists<K, V, P, T, A> {
         ensures { Finds (Q.equivalent query.now) hash self.now result }
     {
         // A fresh key mostly has no candidate, and then it needs no walk.
-        match self.index.candidates(hash).next() {
-            Some(_) => self.find_on_walk(hash, query),
-            None => Found::Nothing,
+        match self.index.candidates(hash).look() {
+            Look::Nothing => Found::Nothing,
+            Look::At(_) => self.find_on_walk(hash, query),
+            Look::Beyond => self.find_on_walk(hash, query),
         }
     }
 
     /// The same by a walk over the entries that may be of the hash.
+    #[cold]
+    #[inline(never)]
     fn find_on_walk<Q: Equivalent<K>>(&self, hash: u64, query: &Q) -> Found
     where
         K: Eq + Hash,
@@ -85,15 +89,30 @@ impl<K, V, P, T, A: Allocator> Lists<K, V, P, T, A> {
             (HasNoItem (Q.equivalent query.now) hash self.now)
             (λ token. FindsItemOfAnyHash (Q.equivalent query.now) self.now (number token)) }
     {
-        let mut tokens = self.index.candidates(hash);
         // The first is nearly always the one, and apart from the rest it takes fewer instructions.
-        let Some(first) = tokens.next() else {
-            return None;
-        };
-        if is_item_under(&self.slots, first, query) {
-            return Some(first);
+        match self.index.candidates(hash).look() {
+            Look::Nothing => None,
+            Look::At(first) => {
+                if is_item_under(&self.slots, first, query) {
+                    return Some(first);
+                }
+                self.find_item_on_walk(hash, query)
+            }
+            Look::Beyond => self.find_item_on_walk(hash, query),
         }
-        for token in tokens {
+    }
+
+    /// The same by a walk over the entries that may be of the hash.
+    #[cold]
+    #[inline(never)]
+    fn find_item_on_walk<Q: Equivalent<K>>(&self, hash: u64, query: &Q) -> Option<Token>
+    where
+        K: Eq + Hash,
+        ensures { MatchOption result
+            (HasNoItem (Q.equivalent query.now) hash self.now)
+            (λ token. FindsItemOfAnyHash (Q.equivalent query.now) self.now (number token)) }
+    {
+        for token in self.index.candidates(hash) {
             if is_item_under(&self.slots, token, query) {
                 return Some(token);
             }
@@ -110,14 +129,17 @@ impl<K, V, P, T, A: Allocator> Lists<K, V, P, T, A> {
         K: Eq + Hash,
         ensures { FindsByKey (Q.equivalent query.now) hash self.now result }
     {
-        let Some(first) = self.index.candidates(hash).next() else {
-            return Found::Nothing;
-        };
-        // The first is nearly always the item, if there is one.
-        if is_item_under(&self.slots, first, query) {
-            return Found::Item(first);
+        match self.index.candidates(hash).look() {
+            Look::Nothing => Found::Nothing,
+            // The first is nearly always the item, if there is one.
+            Look::At(first) => {
+                if is_item_under(&self.slots, first, query) {
+                    return Found::Item(first);
+                }
+                self.find_on_walk(hash, query)
+            }
+            Look::Beyond => self.find_on_walk(hash, query),
         }
-        self.find_on_walk(hash, query)
     }
 
     /// The token of the item that is visited next.

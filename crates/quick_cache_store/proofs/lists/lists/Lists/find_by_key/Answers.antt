@@ -4,11 +4,11 @@ use Rattle.quick_cache_store.proofs.lists.FindLemmas.{occupied_by_token, none_of
 use Rattle.quick_cache_store.proofs.lists.lists.Lists.find_by_key.Goals as goal
 
 -- there is no candidate
-pub returns-in_default : goal.returns-in_default
-returns-in_default g c =
+pub returns-in-Nothing : goal.returns-in-Nothing
+returns-in-Nothing g c =
     let i = c.self.inside in
     let none = none_of_hash i.slots i.index c.self.invariant.keyed c.args.hash _ c.candidates.ensures
-    c.in_default.ensures.steps.0 in
+    c.look.ensures in
     rw (← c.self.view_is) (HasNothing-from i.slots i.index i.rings
     c.self.invariant.standing c.self.invariant.keyed _ c.args.hash
     (λ t has. absurd (none t has)) (λ t has. absurd (none t has)))
@@ -17,23 +17,23 @@ pub is_item_under-requires : goal.is_item_under-requires
 is_item_under-requires g c =
     let i = c.self.inside in
     let stands_for = g.Q.Equivalent.equivalent c.args.query.now in
-    let has = PassesNoItem-has i.slots i.index c.args.hash stands_for _ _ c.in-Some.first
-    c.in-Some.ensures.steps
+    let has = PassesNoItem-has i.slots i.index c.args.hash stands_for _ _ c.in-At.first
+    c.look.ensures.1
     (PassesNoItem-start i.slots i.index c.args.hash stands_for _ c.self.invariant.keyed
     c.candidates.ensures) in
-    occupied_by_token i.slots i.index c.self.invariant.keyed (number c.in-Some.first) has
+    occupied_by_token i.slots i.index c.self.invariant.keyed (number c.in-At.first) has
 
 -- the first candidate is the item
 pub returns-then-is_item_under : goal.returns-then-is_item_under
 returns-then-is_item_under g c =
     let i = c.self.inside in
     let stands_for = g.Q.Equivalent.equivalent c.args.query.now in
-    let has = PassesNoItem-has i.slots i.index c.args.hash stands_for _ _ c.in-Some.first
-    c.in-Some.ensures.steps
+    let has = PassesNoItem-has i.slots i.index c.args.hash stands_for _ _ c.in-At.first
+    c.look.ensures.1
     (PassesNoItem-start i.slots i.index c.args.hash stands_for _ c.self.invariant.keyed
     c.candidates.ensures) in
     rw (← c.self.view_is) (FindsItemOfAnyHash-from i.slots i.index i.rings c.self.invariant.standing c.self.invariant.keyed stands_for
-    (number c.in-Some.first) (sym c.is_item_under.ensures ∙ c.if-is_item_under.true))
+    (number c.in-At.first) (sym c.is_item_under.ensures ∙ c.if-is_item_under.true))
 
 pub returns : goal.returns
 returns g c =

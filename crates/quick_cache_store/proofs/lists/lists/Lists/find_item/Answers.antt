@@ -5,81 +5,34 @@ use Rattle.quick_cache_store.proofs.lists.FindLemmas.{occupied_by_token, FindsIt
 use Rattle.quick_cache_store.proofs.lists.lists.Lists.find_item.Goals as goal
 
 -- there was no candidate
-pub returns-in_default : goal.returns-in_default
-returns-in_default g c =
+pub returns-in-Nothing : goal.returns-in-Nothing
+returns-in-Nothing g c =
     let i = c.self.inside in
     let stands_for = g.Q.Equivalent.equivalent c.args.query.now in
     rw (← c.self.view_is) (HasNoItem-from i.slots i.index i.rings
     c.self.invariant.standing c.self.invariant.keyed _ c.args.hash
-    (PassesNoItem-none i.slots i.index c.args.hash _ _ c.in_default.ensures.steps.0
+    (PassesNoItem-none i.slots i.index c.args.hash _ _ c.look.ensures
     (PassesNoItem-start i.slots i.index c.args.hash stands_for _ c.self.invariant.keyed
-    c.candidates-tokens.ensures)))
+    c.candidates.ensures)))
 
 pub is_item_under-requires : goal.is_item_under-requires
 is_item_under-requires g c =
     let i = c.self.inside in
     let stands_for = g.Q.Equivalent.equivalent c.args.query.now in
-    let has = PassesNoItem-has i.slots i.index c.args.hash stands_for _ _ c.in-Some.first
-    c.in-Some.ensures.steps
+    let has = PassesNoItem-has i.slots i.index c.args.hash stands_for _ _ c.in-At.first
+    c.look.ensures.1
     (PassesNoItem-start i.slots i.index c.args.hash stands_for _ c.self.invariant.keyed
-    c.candidates-tokens.ensures) in
-    occupied_by_token i.slots i.index c.self.invariant.keyed (number c.in-Some.first) has
+    c.candidates.ensures) in
+    occupied_by_token i.slots i.index c.self.invariant.keyed (number c.in-At.first) has
 
 -- the first candidate is the item
 pub returns-then-is_item_under : goal.returns-then-is_item_under
 returns-then-is_item_under g c =
     let i = c.self.inside in
     let stands_for = g.Q.Equivalent.equivalent c.args.query.now in
-    let has = PassesNoItem-has i.slots i.index c.args.hash stands_for _ _ c.in-Some.first
-    c.in-Some.ensures.steps
+    let has = PassesNoItem-has i.slots i.index c.args.hash stands_for _ _ c.in-At.first
+    c.look.ensures.1
     (PassesNoItem-start i.slots i.index c.args.hash stands_for _ c.self.invariant.keyed
-    c.candidates-tokens.ensures) in
+    c.candidates.ensures) in
     rw (← c.self.view_is) (FindsItemOfAnyHash-from i.slots i.index i.rings c.self.invariant.standing c.self.invariant.keyed stands_for
-    (number c.in-Some.first) (sym c.is_item_under.ensures ∙ c.if-is_item_under.true))
-
--- the first candidate was passed
-pub loop-token-init : goal.loop-token-init
-loop-token-init g c =
-    let i = c.self.inside in
-    let stands_for = g.Q.Equivalent.equivalent c.args.query.now in
-    subst (PassesNoItem i.slots i.index c.args.hash stands_for)
-    (sym c.into_iter-token-iterator.ensures.into_iter_gives)
-    (PassesNoItem-past i.slots i.index c.args.hash stands_for _ _ c.in-Some.first
-    c.in-Some.ensures.steps (λ _. sym c.is_item_under.ensures ∙ c.if-is_item_under.false)
-    (PassesNoItem-start i.slots i.index c.args.hash stands_for _ c.self.invariant.keyed
-    c.candidates-tokens.ensures))
-
-pub is_item_under-requires-in-loop-token : goal.is_item_under-requires-in-loop-token
-is_item_under-requires-in-loop-token g c =
-    let i = c.self.inside in
-    let has = PassesNoItem-has i.slots i.index c.args.hash _ _ _ c.in-Some-token.token
-    c.in-Some-token.ensures.steps c.loop-token.invariant in
-    occupied_by_token i.slots i.index c.self.invariant.keyed (number c.in-Some-token.token) has
-
--- a later candidate is the item
-pub returns-then-is_item_under-2 : goal.returns-then-is_item_under-2
-returns-then-is_item_under-2 g c =
-    let i = c.self.inside in
-    let stands_for = g.Q.Equivalent.equivalent c.args.query.now in
-    let has = PassesNoItem-has i.slots i.index c.args.hash _ _ _ c.in-Some-token.token
-    c.in-Some-token.ensures.steps c.loop-token.invariant in
-    rw (← c.self.view_is) (FindsItemOfAnyHash-from i.slots i.index i.rings c.self.invariant.standing c.self.invariant.keyed stands_for
-    (number c.in-Some-token.token)
-    (sym c.is_item_under-in-loop-token.ensures ∙ c.if-is_item_under-2.true))
-
--- another candidate was passed
-pub loop-token-preserved : goal.loop-token-preserved
-loop-token-preserved g c =
-    let i = c.self.inside in
-    PassesNoItem-past i.slots i.index c.args.hash _ _ _ c.in-Some-token.token
-    c.in-Some-token.ensures.steps
-    (λ _. sym c.is_item_under-in-loop-token.ensures ∙ c.if-is_item_under-2.false)
-    c.loop-token.invariant
-
-pub returns : goal.returns
-returns g c =
-    let i = c.self.inside in
-    rw (← c.self.view_is) (HasNoItem-from i.slots i.index i.rings
-    c.self.invariant.standing c.self.invariant.keyed _ c.args.hash
-    (PassesNoItem-none i.slots i.index c.args.hash _ _ c.in-None.ensures.steps.0
-    c.loop-token.invariant))
+    (number c.in-At.first) (sym c.is_item_under.ensures ∙ c.if-is_item_under.true))
