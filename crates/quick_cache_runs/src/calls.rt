@@ -29,6 +29,7 @@ impl<
     A: Allocator,
 > CallMaker<F, M, K, V, We, B, L, A> {
     /// Makes one call. The lists of its reply are of this allocator.
+    #[inline(always)]
     pub(crate) fn act(
         alloc: &M,
         cache: &mut Cache<K, V, We, B, L, A>,

@@ -34,6 +34,7 @@ impl<
     A: Allocator,
 > CallMaker<F, M, K, V, We, B, L, A> {
     /// Makes one call, and puts its reply at the end of the list, which has room for it.
+    #[inline(always)]
     fn make(
         replies: &mut Vec<Reply<K, V, M>, M>,
         cache: &mut Cache<K, V, We, B, L, A>,

@@ -25,6 +25,7 @@ impl<
     /// # Errors
     ///
     /// As `insert_with_lifecycle`.
+    #[inline(always)]
     pub fn insert(&mut self, key: K, value: V) -> Result<(), (K, V, Refusal)>
         // Where pinning is steady, the write is a step of its definition.
         ensures inserts { IsDoneAlone L.RequestState.is_default
@@ -48,6 +49,7 @@ impl<
     ///
     /// The pair and why: `SlotsFull` or `Memory`, only where nothing stood under its key. Nothing
     /// changed then, and no hook was called.
+    #[inline(always)]
     pub fn insert_with_lifecycle(
         &mut self,
         key: K,

@@ -44,6 +44,7 @@ impl<
 > CallMaker<F, M, K, V, We, B, L, A> {
     /// Looks a key up, or takes a guard for it, which is filled with this value or dropped. The clone
     /// that the reply shows is made first.
+    #[inline(always)]
     pub(crate) fn guarded(
         cache: &mut Cache<K, V, We, B, L, A>,
         key: &K,
@@ -79,6 +80,7 @@ impl<
     }
 
     /// The same, by a reference to write, which the value is written through where one is given.
+    #[inline(never)]
     pub(crate) fn guarded_mut(
         cache: &mut Cache<K, V, We, B, L, A>,
         key: &K,
@@ -120,6 +122,7 @@ impl<
     // It goes by a guard, which takes the request state of the run. The cache's calls that take a
     // loader (`load`, `get_or_insert_with`, `get_mut_or_insert_with`) make one of their own for the
     // hooks and drop it, and a run leads one request state through all of its calls.
+    #[inline(always)]
     pub(crate) fn load(
         cache: &mut Cache<K, V, We, B, L, A>,
         key: &K,
@@ -139,6 +142,7 @@ impl<
     }
 
     /// The same, and writes a value through the reference where one is given.
+    #[inline(never)]
     pub(crate) fn load_mut(
         cache: &mut Cache<K, V, We, B, L, A>,
         key: &K,

@@ -21,6 +21,7 @@ impl<
     A: Allocator,
 > CallMaker<F, M, K, V, We, B, L, A> {
     /// Looks a key up. The clone that the reply shows is made first.
+    #[inline(always)]
     pub(crate) fn get(cache: &mut Cache<K, V, We, B, L, A>, key: K) -> Reply<K, V, M>
         ensures step { StepsBy F ⟦<Cache<K, V, We, B, L, A> as Going>⟧.goes K.eq K.is_clone
             V.is_clone cache.old (Call.Get key) result cache.new }
@@ -44,6 +45,7 @@ impl<
     }
 
     /// Looks at a key, and shows a clone of the value.
+    #[inline(never)]
     pub(crate) fn peek(cache: &Cache<K, V, We, B, L, A>, key: K) -> Reply<K, V, M>
         ensures step { StepsBy F ⟦<Cache<K, V, We, B, L, A> as Going>⟧.goes K.eq K.is_clone
             V.is_clone cache.now (Call.Peek key) result cache.now }
@@ -60,6 +62,7 @@ impl<
     }
 
     /// Tells whether an item stands under a key.
+    #[inline(never)]
     pub(crate) fn contains(cache: &Cache<K, V, We, B, L, A>, key: K) -> Reply<K, V, M>
         ensures step { StepsBy F ⟦<Cache<K, V, We, B, L, A> as Going>⟧.goes K.eq K.is_clone
             V.is_clone cache.now (Call.Contains key) result cache.now }
@@ -68,6 +71,7 @@ impl<
     }
 
     /// Tells how often the item under a key was read.
+    #[inline(never)]
     pub(crate) fn stats(cache: &Cache<K, V, We, B, L, A>, key: K) -> Reply<K, V, M>
         ensures step { StepsBy F ⟦<Cache<K, V, We, B, L, A> as Going>⟧.goes K.eq K.is_clone
             V.is_clone cache.now (Call.Stats key) result cache.now }

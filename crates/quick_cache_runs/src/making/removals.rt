@@ -21,6 +21,7 @@ impl<
     A: Allocator,
 > CallMaker<F, M, K, V, We, B, L, A> {
     /// Takes the item under a key out.
+    #[inline(never)]
     pub(crate) fn remove(cache: &mut Cache<K, V, We, B, L, A>, key: K) -> Reply<K, V, M>
         ensures step { StepsBy F ⟦<Cache<K, V, We, B, L, A> as Going>⟧.goes K.eq K.is_clone
             V.is_clone cache.old (Call.Remove key) result cache.new }
@@ -30,6 +31,7 @@ impl<
     }
 
     /// Drops all items.
+    #[inline(never)]
     pub(crate) fn clear(cache: &mut Cache<K, V, We, B, L, A>) -> Reply<K, V, M>
         ensures step { StepsBy F ⟦<Cache<K, V, We, B, L, A> as Going>⟧.goes K.eq K.is_clone
             V.is_clone cache.old (Call.Clear) result cache.new }
@@ -51,6 +53,7 @@ impl<
     A: Allocator,
 > CallMaker<F, M, K, V, We, B, L, A> {
     /// Takes the item under a key out where its value is wanted beside that key.
+    #[inline(never)]
     pub(crate) fn remove_if(
         cache: &mut Cache<K, V, We, B, L, A>,
         key: K,
@@ -71,6 +74,7 @@ impl<
     }
 
     /// Drops the items that the predicate does not keep.
+    #[inline(never)]
     pub(crate) fn retain(cache: &mut Cache<K, V, We, B, L, A>, keep: F) -> Reply<K, V, M>
         requires callable { F.IsAlwaysCallable keep }
 

@@ -22,6 +22,7 @@ impl<
     A: Allocator,
 > CallMaker<F, M, K, V, We, B, L, A> {
     /// Tells the numbers of the cache.
+    #[inline(never)]
     pub(crate) fn counts(cache: &Cache<K, V, We, B, L, A>) -> Reply<K, V, M>
         ensures step { StepsBy F ⟦<Cache<K, V, We, B, L, A> as Going>⟧.goes K.eq K.is_clone
             V.is_clone cache.now (Call.Counts) result cache.now }
@@ -36,6 +37,7 @@ impl<
     }
 
     /// Sets the weight that the cache may hold.
+    #[inline(never)]
     pub(crate) fn set_capacity(
         cache: &mut Cache<K, V, We, B, L, A>,
         capacity: u64,
@@ -50,6 +52,7 @@ impl<
     }
 
     /// Makes room for so many more entries.
+    #[inline(never)]
     pub(crate) fn reserve(cache: &mut Cache<K, V, We, B, L, A>, additional: usize) -> Reply<K, V, M>
         ensures step { StepsBy F ⟦<Cache<K, V, We, B, L, A> as Going>⟧.goes K.eq K.is_clone
             V.is_clone cache.old (Call.Reserve additional) result cache.new }

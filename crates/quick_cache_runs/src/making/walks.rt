@@ -75,6 +75,7 @@ impl<
     A: Allocator,
 > CallMaker<F, M, K, V, We, B, L, A> {
     /// Shows clones of all pairs, in no order. They are made first, and room for them before.
+    #[inline(never)]
     pub(crate) fn walk(alloc: &M, cache: &Cache<K, V, We, B, L, A>) -> Reply<K, V, M>
         ensures step { StepsBy F ⟦<Cache<K, V, We, B, L, A> as Going>⟧.goes K.eq K.is_clone
             V.is_clone cache.now (Call.Iter) result cache.now }
@@ -89,6 +90,7 @@ impl<
     }
 
     /// Takes all pairs out, in no order, and drops all else. Room for them is made first.
+    #[inline(never)]
     pub(crate) fn drain(alloc: &M, cache: &mut Cache<K, V, We, B, L, A>) -> Reply<K, V, M>
         ensures step { StepsBy F ⟦<Cache<K, V, We, B, L, A> as Going>⟧.goes K.eq K.is_clone
             V.is_clone cache.old (Call.Drain) result cache.new }

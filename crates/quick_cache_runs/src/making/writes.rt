@@ -21,6 +21,7 @@ impl<
     A: Allocator,
 > CallMaker<F, M, K, V, We, B, L, A> {
     /// Inserts a pair.
+    #[inline(always)]
     pub(crate) fn insert(
         cache: &mut Cache<K, V, We, B, L, A>,
         key: K,
@@ -38,6 +39,7 @@ impl<
     }
 
     /// Replaces the item under a key by a pair.
+    #[inline(never)]
     pub(crate) fn replace(
         cache: &mut Cache<K, V, We, B, L, A>,
         key: K,
@@ -56,6 +58,7 @@ impl<
     }
 
     /// Writes a value through `get_mut`.
+    #[inline(never)]
     pub(crate) fn set(cache: &mut Cache<K, V, We, B, L, A>, key: K, value: V) -> Reply<K, V, M>
         ensures step { StepsBy F ⟦<Cache<K, V, We, B, L, A> as Going>⟧.goes K.eq K.is_clone
             V.is_clone cache.old (Call.GetMut key value) result cache.new }
@@ -66,6 +69,7 @@ impl<
     }
 
     /// Writes a value through `peek_mut`.
+    #[inline(never)]
     pub(crate) fn poke(cache: &mut Cache<K, V, We, B, L, A>, key: K, value: V) -> Reply<K, V, M>
         ensures step { StepsBy F ⟦<Cache<K, V, We, B, L, A> as Going>⟧.goes K.eq K.is_clone
             V.is_clone cache.old (Call.PeekMut key value) result cache.new }
