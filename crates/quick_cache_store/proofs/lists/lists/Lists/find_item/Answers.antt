@@ -11,7 +11,7 @@ returns-in-Nothing g c =
     let stands_for = g.Q.Equivalent.equivalent c.args.query.now in
     rw (← c.self.view_is) (HasNoItem-from i.slots i.index i.rings
     c.self.invariant.standing c.self.invariant.keyed _ c.args.hash
-    (PassesNoItem-none i.slots i.index c.args.hash _ _ c.look.ensures
+    (PassesNoItem-none i.slots i.index c.args.hash _ _ c.in-Nothing.ensures
     (PassesNoItem-start i.slots i.index c.args.hash stands_for _ c.self.invariant.keyed
     c.candidates.ensures)))
 
@@ -20,7 +20,7 @@ is_item_under-requires g c =
     let i = c.self.inside in
     let stands_for = g.Q.Equivalent.equivalent c.args.query.now in
     let has = PassesNoItem-has i.slots i.index c.args.hash stands_for _ _ c.in-At.first
-    c.look.ensures.1
+    c.in-At.ensures.1
     (PassesNoItem-start i.slots i.index c.args.hash stands_for _ c.self.invariant.keyed
     c.candidates.ensures) in
     occupied_by_token i.slots i.index c.self.invariant.keyed (number c.in-At.first) has
@@ -31,7 +31,7 @@ returns-then-is_item_under g c =
     let i = c.self.inside in
     let stands_for = g.Q.Equivalent.equivalent c.args.query.now in
     let has = PassesNoItem-has i.slots i.index c.args.hash stands_for _ _ c.in-At.first
-    c.look.ensures.1
+    c.in-At.ensures.1
     (PassesNoItem-start i.slots i.index c.args.hash stands_for _ c.self.invariant.keyed
     c.candidates.ensures) in
     rw (← c.self.view_is) (FindsItemOfAnyHash-from i.slots i.index i.rings c.self.invariant.standing c.self.invariant.keyed stands_for
