@@ -14,6 +14,7 @@ mod words;
 mod writing;
 
 pub use by_token::token_mut::TokenMut;
+pub use placeholders::numbered::{NoTouches, Placeholder, Plainly};
 pub use quick_cache_model::Token;
 pub use quick_cache_policy::{
     EntryAction, EntryOrPlaceholder, InsertStrategy, MakesPlaceholders, SharedPlaceholder, Touches,

@@ -14,14 +14,13 @@ ghost use Rattle.quick_cache_shard.specs.Room.{most_room};
 ghost use Rattle.quick_cache_model.specs.Refusals.{slots_taken, slot_count};
 
 use crate::lifecycle::DefaultLifecycle;
-use crate::loading::placeholder::Placeholder;
 use quick_cache_model::{
     DefaultHashBuilder, Equivalent, Lifecycle, Refusal, UnitWeighter, Weighter,
 };
 use quick_cache_options::options::{
     DEFAULT_GHOST_ALLOCATION, DEFAULT_HOT_ALLOCATION, DEFAULT_MARK_CUT,
 };
-use quick_cache_shard::{CacheShard, Going, Keyed, Rowed};
+use quick_cache_shard::{CacheShard, Going, Keyed, Placeholder, Rowed};
 use std::alloc::{Allocator, Global};
 use std::fmt::{Debug, Formatter, Write};
 use std::hash::{BuildHasher, Hash};

@@ -19,12 +19,11 @@ pub use lent::writes_through::{poke, set};
 pub use lifecycle::DefaultLifecycle;
 pub use loading::guard::Guard;
 pub use loading::not_loaded::NotLoaded;
-pub use loading::placeholder::{Placeholder, Plainly};
 pub use quick_cache_model::{
     DefaultHashBuilder, Equivalent, ItemStats, Lifecycle, MemoryUsed, Refusal, ToKey, UnitWeighter,
     Weighter, hash_of,
 };
 pub use quick_cache_options::options::{Options, OptionsBuilder};
-pub use quick_cache_shard::CacheShard;
+pub use quick_cache_shard::{CacheShard, Placeholder, Plainly};
 pub use walking::drain::Drain;
 pub use walking::iter::Iter;

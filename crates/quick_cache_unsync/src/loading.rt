@@ -6,4 +6,3 @@ pub mod guarding;
 pub mod lending;
 pub mod loader;
 pub mod not_loaded;
-pub mod placeholder;

@@ -1,7 +1,7 @@
-//! What shards of the tests are made of: hashes, a lifecycle, placeholders; and what walks show.
+//! What shards of the tests are made of: hashes, a lifecycle, touches; and what walks show.
 #![tactic(auto)]
 
 pub mod counting;
-pub mod placeholder;
 pub mod thousand;
+pub mod touched;
 pub mod walks;

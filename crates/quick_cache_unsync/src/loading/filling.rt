@@ -7,9 +7,8 @@ ghost use Rattle.quick_cache_unsync.specs.Touches.{no_touches};
 ghost use Rattle.quick_cache_unsync.specs.Steps.{FillsThereBy, FillsIfThereBy};
 
 use crate::cache::Cache;
-use crate::loading::placeholder::Placeholder;
 use quick_cache_model::{Lifecycle, Weighter};
-use quick_cache_shard::Going;
+use quick_cache_shard::{Going, Placeholder};
 use std::alloc::Allocator;
 use std::hash::{BuildHasher, Hash};
 

@@ -62,7 +62,7 @@ impl<
             Ok(Err(placeholder)) => Ok(Err(Guard {
                 cache: self,
                 hash,
-                slot: placeholder.slot(),
+                slot: placeholder.idx.get(),
                 ticket: placeholder.ticket,
             })),
             Err(refusal) => Err(refusal),
@@ -109,7 +109,7 @@ impl<
             Ok(Err(placeholder)) => Ok(Err(Guard {
                 cache: self,
                 hash,
-                slot: placeholder.slot(),
+                slot: placeholder.idx.get(),
                 ticket: placeholder.ticket,
             })),
             Err(refusal) => Err(refusal),

@@ -10,9 +10,8 @@ ghost use Rattle.quick_cache_unsync.specs.Touches.{no_touches};
 ghost use Rattle.quick_cache_unsync.specs.Steps.{EndsLoadBy, LoadsBy};
 
 use crate::cache::Cache;
-use crate::loading::placeholder::{Placeholder, Plainly};
 use quick_cache_model::{Equivalent, Lifecycle, Refusal, ToKey, Weighter};
-use quick_cache_shard::{Going, Keyed, Token};
+use quick_cache_shard::{Going, Keyed, Placeholder, Plainly, Token};
 use std::alloc::Allocator;
 use std::hash::{BuildHasher, Hash};
 
@@ -84,7 +83,7 @@ impl<
             Ok(value) => {
                 let mut state = L::RequestState::default();
                 self.fill(&mut state, placeholder, value);
-                Ok(self.is_resident(placeholder.token(), hash, query))
+                Ok(self.is_resident(placeholder.idx, hash, query))
             }
             Err(error) => {
                 self.give_up(placeholder);
@@ -117,7 +116,7 @@ impl<
             Ok(Ok(token)) => (token.get(), Ok(Ok(true))),
             Ok(Err(placeholder)) => {
                 let ended = self.end_load(hash, query, &placeholder, loader);
-                (placeholder.slot(), Ok(ended))
+                (placeholder.idx.get(), Ok(ended))
             }
             Err(refusal) => (0, Err(refusal)),
         }

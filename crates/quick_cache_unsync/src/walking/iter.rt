@@ -5,8 +5,7 @@ ghost use Rattle.std.specs.Iterator.SizeHint.{IsWithinCount};
 ghost use Rattle.quick_cache_shard.specs.Shard.{AreResidents};
 
 use crate::cache::Cache;
-use crate::loading::placeholder::Placeholder;
-use quick_cache_shard::Iter as Items;
+use quick_cache_shard::{Iter as Items, Placeholder};
 use std::alloc::Allocator;
 use std::fmt::{Debug, Formatter, Write};
 use std::hash::{BuildHasher, Hash};

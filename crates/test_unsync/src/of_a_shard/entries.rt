@@ -3,9 +3,8 @@ ghost use Rattle.std.specs.Cmp.Rules.{comparing, hashing};
 ghost use Rattle.std.proofs.Common.{rules};
 
 use crate::of_a_shard::rows::{Tested, empty, put, seen};
-use quick_cache_shard::{EntryAction, EntryOrPlaceholder};
+use quick_cache_shard::{EntryAction, EntryOrPlaceholder, Plainly};
 use test_parts::counting::Told;
-use test_parts::placeholder::Plainly;
 use test_tools::{expect, expect_eq, expect_ok};
 
 /// What a callback chooses.

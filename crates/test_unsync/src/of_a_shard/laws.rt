@@ -3,7 +3,7 @@ ghost use Rattle.quick_cache_laws.specs.Laws.{EvictionEnds, EvictionIsDetermined
 ghost use Rattle.quick_cache_unsync.specs.Touches.{no_touches};
 
 use quick_cache_base::laws::eviction_law;
-use test_parts::placeholder::NoTouches;
+use quick_cache_shard::NoTouches;
 
 /// What the laws say of the very rules that the contracts of a cache for one thread name.
 fn one_thread_evicts_in_one_way<K, V>()

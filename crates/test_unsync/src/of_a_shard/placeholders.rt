@@ -3,8 +3,8 @@ ghost use Rattle.std.specs.Cmp.Rules.{comparing, hashing};
 ghost use Rattle.std.proofs.Common.{rules};
 
 use crate::of_a_shard::rows::{Tested, empty, put, seen};
+use quick_cache_shard::{Placeholder, Plainly};
 use test_parts::counting::Told;
-use test_parts::placeholder::{Placeholder, Plainly};
 use test_tools::{expect, expect_eq, expect_ok};
 
 /// Begins to load a key under which no item stands. The flag says that the placeholder is new.

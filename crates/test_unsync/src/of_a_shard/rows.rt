@@ -1,10 +1,9 @@
 //! The shard of these tests, its calls, and what a copy of it keeps.
 use quick_cache_base::{Refusal, UnitWeighter};
-use quick_cache_shard::{CacheShard, InsertStrategy, Touches};
+use quick_cache_shard::{CacheShard, InsertStrategy, NoTouches, Placeholder, Touches};
 use std::alloc::Global;
 use std::hash::Hash;
 use test_parts::counting::{Counting, Told};
-use test_parts::placeholder::{NoTouches, Placeholder};
 use test_parts::thousand::Thousand;
 use test_parts::walks::shows;
 use test_tools::{expect, expect_eq, expect_ok};

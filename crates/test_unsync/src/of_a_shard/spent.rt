@@ -5,10 +5,9 @@ ghost use Rattle.std.proofs.Common.{rules};
 use crate::of_a_shard::rows::{Tested, put, seen};
 use quick_cache_base::{Refusal, UnitWeighter};
 use quick_cache_policy::{Contents, Terms};
-use quick_cache_shard::{CacheShard, EntryAction, EntryOrPlaceholder};
+use quick_cache_shard::{CacheShard, EntryAction, EntryOrPlaceholder, Plainly};
 use std::alloc::Global;
 use test_parts::counting::{Counting, Told};
-use test_parts::placeholder::Plainly;
 use test_parts::thousand::Thousand;
 use test_tools::{expect, expect_eq, expect_ok};
 

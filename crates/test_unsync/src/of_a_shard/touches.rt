@@ -5,7 +5,7 @@ use std::alloc::Global;
 use std::process::Abort;
 use std::test::Fail;
 use test_parts::counting::Told;
-use test_parts::placeholder::Touched;
+use test_parts::touched::Touched;
 use test_parts::walks::{shows, shows_ghosts};
 use test_tools::{expect, expect_eq, expect_ok};
 

@@ -1,19 +1,18 @@
-//! What stands at a key that is being loaded, and the count of touches, where a cache has one
-//! thread.
+//! A placeholder that is three numbers, and a count of touches that nobody adds to, as they stand in
+//! a cache that has one thread.
 ghost use Rattle.std.specs.Prelude.{◌≡◌, refl, IfOk, IsOk};
 ghost use Rattle.std.specs.Int.NonZero.{non_zero_u32_get};
-ghost use Rattle.quick_cache_unsync.specs.Touches.{no_touches};
 
-use quick_cache_model::{Refusal, ToKey};
-use quick_cache_shard::{MakesPlaceholders, SharedPlaceholder, Token, Touches};
+use quick_cache_model::{MakesPlaceholders, Refusal, SharedPlaceholder, ToKey, Token, Touches};
 use std::hash::Hash;
+use std::marker::PhantomData;
 
 /// Counts nothing: no reader stands beside the one thread.
 #[derive(Default, Drop)]
 pub struct NoTouches;
 
 impl Touches for NoTouches {
-    ghost may_count = { no_touches };
+    ghost may_count = { λ count. count ≡ 0 };
 
     ghost none_counted = { refl };
 
@@ -28,32 +27,27 @@ impl Touches for NoTouches {
     }
 }
 
-/// The placeholder of a key.
+/// The placeholder of a key, in a cache whose items count touches so.
 #[derive(Drop)]
-pub struct Placeholder {
-    hash: u64,
-    idx: Token,
-    pub(crate) ticket: u64,
+pub struct Placeholder<T = NoTouches> {
+    pub hash: u64,
+    pub idx: Token,
+    pub ticket: u64,
+    pub touch: PhantomData<T>,
 }
 
-impl Placeholder {
-    /// The number of the slot where it stands.
-    pub(crate) fn slot(&self) -> u32 {
-        self.idx.get()
-    }
-
-    /// The token of that slot.
-    pub(crate) fn token(&self) -> Token {
-        self.idx
-    }
-
+impl<T> Placeholder<T> {
     /// The placeholder of the ticket. Only the ticket tells placeholders apart; a slot that is
     /// wrong costs time.
-    pub(crate) fn of_parts(hash: u64, slot: u32, ticket: u64) -> Placeholder
+    pub fn of_parts(hash: u64, slot: u32, ticket: u64) -> Self
         ensures { result.ticket ≡ ticket }
     {
-        let idx = Token::new(slot).unwrap_or(Token::MIN);
-        Placeholder { hash, idx, ticket }
+        Placeholder {
+            hash,
+            idx: Token::new(slot).unwrap_or(Token::MIN),
+            ticket,
+            touch: PhantomData,
+        }
     }
 }
 
@@ -63,8 +57,8 @@ pub struct Ticket {
     number: u64,
 }
 
-impl<K: Eq + Hash> SharedPlaceholder<K> for Placeholder {
-    type Touch = NoTouches;
+impl<K: Eq + Hash, T: Touches> SharedPlaceholder<K> for Placeholder<T> {
+    type Touch = T;
 
     type Kept = Ticket;
 
@@ -93,6 +87,7 @@ impl<K: Eq + Hash> SharedPlaceholder<K> for Placeholder {
             hash: self.hash,
             idx: self.idx,
             ticket: self.ticket,
+            touch: PhantomData,
         }
     }
 
@@ -111,6 +106,7 @@ impl<K: Eq + Hash> SharedPlaceholder<K> for Placeholder {
             hash,
             idx,
             ticket: kept.number,
+            touch: PhantomData,
         }
     }
 
@@ -124,20 +120,25 @@ impl<K: Eq + Hash> SharedPlaceholder<K> for Placeholder {
 /// Makes placeholders of three numbers, which takes no memory.
 pub struct Plainly;
 
-impl<K: Eq + Hash> MakesPlaceholders<K, Placeholder> for Plainly {
+impl<K: Eq + Hash, T: Touches> MakesPlaceholders<K, Placeholder<T>> for Plainly {
     fn make<Q: ToKey<K>>(
         &self,
         hash: u64,
         idx: Token,
         ticket: u64,
         _query: &Q,
-    ) -> Result<Placeholder, Refusal>
+    ) -> Result<Placeholder<T>, Refusal>
         // It holds no key, so it takes no memory.
         ensures succeeds { IsOk result }
         ensures hash { IfOk result (λ made. made.hash ≡ hash) }
         ensures idx { IfOk result (λ made. made.idx ≡ idx) }
         ensures ticket { IfOk result (λ made. made.ticket ≡ ticket) }
     {
-        Ok(Placeholder { hash, idx, ticket })
+        Ok(Placeholder {
+            hash,
+            idx,
+            ticket,
+            touch: PhantomData,
+        })
     }
 }
