@@ -8,7 +8,7 @@ pub mod sync_placeholder;
 pub mod unsync;
 
 pub use quick_cache_base::{
-    DefaultHashBuilder, Equivalent, ItemStats, Lifecycle, LinkedSlab, MemoryUsed, Options,
-    OptionsBuilder, Queue, Refusal, Table, ToKey, Token, UnitWeighter, Weighter, hash_of,
-    linked_slab, options, protocol, sizes, table,
+    Bytes, BytesIn, DefaultHashBuilder, Equivalent, ItemStats, Lifecycle, LinkedSlab, MemoryUsed,
+    Options, OptionsBuilder, Queue, Refusal, Table, Text, TextIn, ToKey, Token, UnitWeighter,
+    Weighter, hash_of, linked_slab, options, protocol, sizes, table,
 };

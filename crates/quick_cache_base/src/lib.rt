@@ -8,7 +8,7 @@ pub use quick_cache_loading::protocol;
 pub use quick_cache_model::keys::{equivalent, hash_builder};
 pub use quick_cache_model::terms::{lifecycle, weighter};
 pub use quick_cache_model::{
-    DefaultHashBuilder, Equivalent, ItemStats, Lifecycle, MemoryUsed, Queue, Refusal, ToKey, Token,
-    UnitWeighter, Weighter, hash_of, queue, refusal, stats,
+    Bytes, BytesIn, DefaultHashBuilder, Equivalent, ItemStats, Lifecycle, MemoryUsed, Queue,
+    Refusal, Text, TextIn, ToKey, Token, UnitWeighter, Weighter, hash_of, queue, refusal, stats,
 };
 pub use quick_cache_options::{Options, OptionsBuilder, options, sizes};

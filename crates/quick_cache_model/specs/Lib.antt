@@ -25,3 +25,4 @@ pub mod Loads
 pub mod CacheStep
 pub mod CacheRun
 pub mod Answered
+pub mod RefusalTexts

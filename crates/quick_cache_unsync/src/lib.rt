@@ -20,8 +20,8 @@ pub use lifecycle::DefaultLifecycle;
 pub use loading::guard::Guard;
 pub use loading::not_loaded::NotLoaded;
 pub use quick_cache_model::{
-    DefaultHashBuilder, Equivalent, ItemStats, Lifecycle, MemoryUsed, Refusal, ToKey, UnitWeighter,
-    Weighter, hash_of,
+    Bytes, BytesIn, DefaultHashBuilder, Equivalent, ItemStats, Lifecycle, MemoryUsed, Refusal,
+    Text, TextIn, ToKey, UnitWeighter, Weighter, hash_of,
 };
 pub use quick_cache_options::options::{Options, OptionsBuilder};
 pub use quick_cache_shard::{CacheShard, Placeholder, Plainly};
