@@ -1,7 +1,8 @@
 //! The traits of the cache: queries that stand for keys, the weigher, the hash builder.
 use crate::copying::halves::{Halves, Shape};
 use quick_cache_base::{
-    DefaultHashBuilder, Equivalent, Refusal, ToKey, UnitWeighter, Weighter, hash_of,
+    Bytes, BytesIn, DefaultHashBuilder, Equivalent, Refusal, Text, TextIn, ToKey, UnitWeighter,
+    Weighter, hash_of,
 };
 use quick_cache_unsync::Cache;
 use test_tools::{expect, expect_eq, expect_ok};
@@ -26,6 +27,38 @@ fn borrowed_halves_stand_for_a_pair(rt: HostRuntime) {
         }
         .equivalent(&square)
     );
+}
+
+/// What a loader gives.
+fn thirty() -> Result<u64, Refusal> {
+    Ok(30)
+}
+
+#[test]
+fn a_borrowed_text_finds_and_loads_the_text_of_its_bytes(rt: HostRuntime) {
+    let alloc = rt.alloc();
+    let mut ages: Cache<String, u64> = expect_ok!(rt; Cache::new(alloc, 5));
+    let loaded = match ages.get_or_insert_with(&TextIn::new(alloc, "anna"), || thirty()) {
+        Ok(age) => Some(*age),
+        Err(_) => None,
+    };
+    let found = ages.get(&Text("anna")).copied();
+    let other = ages.get(&Text("ann")).copied();
+    let gone = ages.remove(&Text("anna")).map(|(_, age)| age);
+    expect_eq!(rt; (loaded, found, other, gone), (Some(30), Some(30), None, Some(30)));
+}
+
+#[test]
+fn borrowed_bytes_find_and_load_the_list_of_them(rt: HostRuntime) {
+    let alloc = rt.alloc();
+    let mut sizes: Cache<Vec<u8>, u64> = expect_ok!(rt; Cache::new(alloc, 5));
+    let loaded = match sizes.get_or_insert_with(&BytesIn::new(alloc, &[1, 2]), || thirty()) {
+        Ok(size) => Some(*size),
+        Err(_) => None,
+    };
+    let found = sizes.get(&Bytes(&[1, 2])).copied();
+    let other = sizes.get(&Bytes(&[2, 1])).copied();
+    expect_eq!(rt; (loaded, found, other), (Some(30), Some(30), None));
 }
 
 #[test]
