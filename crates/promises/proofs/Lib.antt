@@ -1,6 +1,8 @@
 mod ContainerLemmas
 mod LentLemmas
 mod OneThreadLemmas
+mod RetainLemmas
+mod RunLemmas
 mod SharedLemmas
 mod ToldLemmas
 mod TurnLemmas

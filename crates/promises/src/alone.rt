@@ -5,3 +5,4 @@ pub mod keys;
 pub mod one_thread;
 pub mod options;
 pub mod room;
+pub mod runs;

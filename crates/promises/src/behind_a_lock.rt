@@ -2,6 +2,7 @@
 
 pub mod fitting;
 pub mod loads;
+pub mod locked;
 pub mod nobody;
 pub mod shards;
 pub mod shared;

@@ -1,4 +1,4 @@
-//! Tests of the slab and the table.
+//! Tests of the slab and the table, of the loading core, and of options and sizes.
 #![tactic(auto)]
 
 #[cfg(test)]

@@ -1,10 +1,11 @@
 //! What those rely on who load a key in the shared cache, or act on its entry.
-ghost use Rattle.std.specs.Prelude.{◌≡◌, IfErr, true};
+ghost use Rattle.std.specs.Prelude.{◌≡◌, IfErr, IfOk, OnErr, true, vec_len};
 ghost use Rattle.quick_cache_loading.specs.Fitting.{ClonesFit};
 
+use quick_cache_base::protocol::{Answer, Core, Event, run};
 use quick_cache_guard::entries::{EntryShard, entry};
 use quick_cache_guard::{EntryResult, FillError, LoadingShard, PlaceholderGuard};
-use quick_cache_model::{EntryAction, Lifecycle, ToKey};
+use quick_cache_model::{EntryAction, Lifecycle, Refusal, ToKey};
 use std::alloc::Global;
 use std::hash::Hash;
 use std::sync::{RwLock, Wait};
@@ -53,4 +54,15 @@ pub fn keep_what_is_there<
         EntryResult::Timeout => false,
         EntryResult::Refused(_) => false,
     }
+}
+
+/// A list of events has an answer each, or is refused whole.
+pub fn run_events<V: Clone>(
+    core: &mut Core<V>,
+    events: Vec<Event<V>>,
+) -> Result<Vec<Answer<V>>, Refusal>
+    ensures answers { IfOk result (λ answers. vec_len answers ≡ vec_len events) }
+    ensures same { OnErr result (core.new ≡ core.old) }
+{
+    run(core, events)
 }

@@ -1,5 +1,7 @@
 //! What a user of the shared cache relies on, whatever other threads do.
 ghost use Rattle.std.specs.Prelude.{◌≡◌, ◌<◌, [], ◌∷◌, IfOk, IfErr, IfSome, OnErr, Some, None, true};
+ghost use Rattle.quick_cache_model.specs.Hashing.{hash_of};
+ghost use Rattle.quick_cache_sync.specs.Shards.{shard_of_hash};
 
 use quick_cache_model::{Lifecycle, Refusal, UnitWeighter, Weighter};
 use quick_cache_sync::{Cache, DefaultLifecycle, TryError};
@@ -17,7 +19,7 @@ pub fn make_and_count(alloc: Global, weight: u64) -> Result<(usize, usize), Refu
     Ok((by_items.num_shards(), by_weight.num_shards()))
 }
 
-/// Equal keys have one shard, which is one of the cache's.
+/// Equal keys have one shard, which is one of the cache's, and which their hash tells.
 pub fn share_a_shard<K: Eq + Hash + Drop, V: Drop, We, B: BuildHasher, L: Lifecycle<K, V>>(
     cache: &Cache<K, V, We, B, L>,
     first: &K,
@@ -26,6 +28,8 @@ pub fn share_a_shard<K: Eq + Hash + Drop, V: Drop, We, B: BuildHasher, L: Lifecy
     requires same { K.eq first.now second.now ≡ true }
     ensures one { result.0 ≡ result.1 }
     ensures there { result.0 < result.2 }
+    ensures told { result.0 ≡ shard_of_hash cache.now.shards
+        (hash_of B.BuildHasher B.Hasher.Hasher cache.now.builder (K.Hash.hash_input first.now)) }
 {
     (
         cache.shard_index(first),

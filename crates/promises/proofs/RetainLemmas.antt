@@ -1,0 +1,31 @@
+-- A retain by a test that each pair passes.
+use Rattle.std.proofs.Common.{◌≡◌, Bool, true, false, List, length, length-append, refl, arith}
+use Rattle.std.proofs.lemmas.List.Sorted.{length_permutation}
+use Rattle.quick_cache_model.specs.CacheState.{CacheState, Item, SameButOrder, UpToOrder, item_count}
+use Rattle.quick_cache_shard.specs.Predicates.{StayAsAnswered, RetainsAsked}
+
+module _ {K V : Type 0} (answers : K → V → Bool → Type 0)
+    (passes : (key : K) (value : V) (answer : Bool) → answers key value answer → answer ≡ true)
+  where
+    -- each item stays
+    all-stay : (old new : List (Item K V)) → StayAsAnswered answers old new
+        → length new ≡ length old
+    all-stay _ _ StayAsAnswered.ends = refl
+    all-stay _ _ (StayAsAnswered.stays item items left says stay) =
+        omega (arith, all-stay items left stay)
+    all-stay _ _ (StayAsAnswered.goes item items left says stay) =
+        let never : false ≡ true = passes item.key item.value false says in
+        absurd cc
+
+    -- so there are as many as before
+    pub as-many : (old new : CacheState K V) → UpToOrder (RetainsAsked answers old) new
+        → item_count new ≡ item_count old
+    as-many old new retains = omega (
+      arith,
+      all-stay old.hot retains.ordered.hot retains.holds.hot,
+      all-stay old.cold retains.ordered.cold retains.holds.cold,
+      all-stay old.still retains.ordered.still retains.holds.still,
+      length_permutation retains.ordered.still new.still retains.same.still,
+      (λ i. length (retains.same.same i).hot),
+      (λ i. length (retains.same.same i).cold),
+    )

@@ -1,0 +1,26 @@
+//! What those rely on who have a list of calls made.
+ghost use Rattle.std.specs.Prelude.{◌≡◌, ℕ, ◌++◌, All, Bool, List, IfOk, IfErr, length, vec_len};
+ghost use Rattle.quick_cache_model.specs.Answered.{AreAnswered, replies_of};
+ghost use Rattle.quick_cache_model.specs.declared.calls.call.Call.{Call as AnyCall};
+ghost use Rattle.quick_cache_runs.specs.Asked.{IfAsks, IsAskedAs};
+
+use quick_cache_runs::{Call, Reply, run};
+use quick_cache_unsync::Cache;
+use std::alloc::Global;
+
+/// Each call that is made has its reply, and those that are not made come back in their order. A
+/// look is never refused, since clones of numbers cannot fail.
+pub fn run_all<F: Fn(&u64, &u64) -> bool + Drop>(
+    alloc: Global,
+    cache: &mut Cache<u64, u64>,
+    calls: Vec<Call<u64, u64, F>>,
+) -> Result<Vec<Reply<u64, u64>>, (Vec<Reply<u64, u64>>, Vec<Call<u64, u64, F>>)>
+    requires callable { All (IfAsks (λ asked. F.IsAlwaysCallable asked)) calls.items }
+    requires tests { (answers : F → ℕ → ℕ → Bool) × All (IsAskedAs F.Fn answers) calls.items }
+    ensures replies { IfOk result (λ replies. vec_len replies ≡ vec_len calls) }
+    ensures back { IfErr result (λ back. (made : List (AnyCall ℕ ℕ F))
+        × (calls.items ≡ made ++ back.1.items) × (length made ≡ vec_len back.0)) }
+    ensures answered { AreAnswered calls.items (replies_of result) }
+{
+    run(alloc, cache, calls, &mut ())
+}
