@@ -1,7 +1,7 @@
 -- A retain by a test that each pair passes.
-use Rattle.std.proofs.Common.{◌≡◌, Bool, true, false, List, length, length-append, refl, arith}
+use Rattle.std.proofs.Common.{◌≡◌, Bool, true, false, List, length, refl, ap, arith}
 use Rattle.std.proofs.lemmas.List.Sorted.{length_permutation}
-use Rattle.quick_cache_model.specs.CacheState.{CacheState, Item, SameButOrder, UpToOrder, item_count}
+use Rattle.quick_cache_model.specs.CacheState.{CacheState, Item, UpToOrder, item_count}
 use Rattle.quick_cache_shard.specs.Predicates.{StayAsAnswered, RetainsAsked}
 
 module _ {K V : Type 0} (answers : K → V → Bool → Type 0)
@@ -26,6 +26,6 @@ module _ {K V : Type 0} (answers : K → V → Bool → Type 0)
       all-stay old.cold retains.ordered.cold retains.holds.cold,
       all-stay old.still retains.ordered.still retains.holds.still,
       length_permutation retains.ordered.still new.still retains.same.still,
-      (λ i. length (retains.same.same i).hot),
-      (λ i. length (retains.same.same i).cold),
+      ap (λ (state : CacheState K V). length state.hot) retains.same.same,
+      ap (λ (state : CacheState K V). length state.cold) retains.same.same,
     )

@@ -1,8 +1,8 @@
 //! What those rely on who have a list of calls made.
-ghost use Rattle.std.specs.Prelude.{◌≡◌, ℕ, ◌++◌, All, Bool, List, IfOk, IfErr, length, vec_len};
+ghost use Rattle.std.specs.Prelude.{◌≡◌, ℕ, ◌++◌, All, List, IfOk, IfErr, length};
 ghost use Rattle.quick_cache_model.specs.Answered.{AreAnswered, replies_of};
 ghost use Rattle.quick_cache_model.specs.declared.calls.call.Call.{Call as AnyCall};
-ghost use Rattle.quick_cache_runs.specs.Asked.{IfAsks, IsAskedAs};
+ghost use Rattle.quick_cache_runs.specs.Asked.{IfAsks};
 
 use quick_cache_runs::{Call, Reply, run};
 use quick_cache_unsync::Cache;
@@ -15,11 +15,11 @@ pub fn run_all<F: Fn(&u64, &u64) -> bool + Drop>(
     cache: &mut Cache<u64, u64>,
     calls: Vec<Call<u64, u64, F>>,
 ) -> Result<Vec<Reply<u64, u64>>, (Vec<Reply<u64, u64>>, Vec<Call<u64, u64, F>>)>
-    requires callable { All (IfAsks (λ asked. F.IsAlwaysCallable asked)) calls.items }
-    requires tests { (answers : F → ℕ → ℕ → Bool) × All (IsAskedAs F.Fn answers) calls.items }
-    ensures replies { IfOk result (λ replies. vec_len replies ≡ vec_len calls) }
+    // No call of the list asks a predicate.
+    requires none { All (IfAsks (λ asked. ⊥)) calls.items }
+    ensures replies { IfOk result (λ replies. length replies.items ≡ length calls.items) }
     ensures back { IfErr result (λ back. (made : List (AnyCall ℕ ℕ F))
-        × (calls.items ≡ made ++ back.1.items) × (length made ≡ vec_len back.0)) }
+        × (calls.items ≡ made ++ back.1.items) × (length back.0.items ≡ length made)) }
     ensures answered { AreAnswered calls.items (replies_of result) }
 {
     run(alloc, cache, calls, &mut ())

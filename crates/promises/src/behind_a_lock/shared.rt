@@ -1,9 +1,12 @@
 //! What a user of the shared cache relies on, whatever other threads do.
-ghost use Rattle.std.specs.Prelude.{◌≡◌, ◌<◌, [], ◌∷◌, IfOk, IfErr, IfSome, OnErr, Some, None, true};
+ghost use Rattle.std.specs.Prelude.{◌≡◌, ◌<◌, [], ◌∷◌, IfOk, IfErr, IfSome, OnErr, Some, None, true, false};
 ghost use Rattle.quick_cache_model.specs.Hashing.{hash_of};
+ghost use Rattle.quick_cache_locked.specs.Locked.{FromSome};
+ghost use Rattle.quick_cache_sync.specs.Answers.{ReplacesSoBy};
 ghost use Rattle.quick_cache_sync.specs.Shards.{shard_of_hash};
 
 use quick_cache_model::{Lifecycle, Refusal, UnitWeighter, Weighter};
+use quick_cache_shard::Going;
 use quick_cache_sync::{Cache, DefaultLifecycle, TryError};
 use std::alloc::Global;
 use std::hash::{BuildHasher, Hash};
@@ -81,6 +84,29 @@ pub fn insert_or_take_back<
     ensures state { OnErr result (state.new ≡ state.old) }
 {
     cache.insert_with_lifecycle(rt, key, value, state)
+}
+
+/// A replace that is not soft answers as one that marks the item, of some shard.
+pub fn replace_and_mark<
+    K: Eq + Hash + Drop,
+    V: Drop,
+    We: Weighter<K, V>,
+    B: BuildHasher,
+    L: Lifecycle<K, V>,
+    R: Wait,
+>(
+    rt: &R,
+    cache: &Cache<K, V, We, B, L>,
+    key: K,
+    value: V,
+    state: &mut L::RequestState,
+) -> Result<(), (K, V)>
+    requires fits { L.fits key value }
+    ensures marks { FromSome L.Lifecycle K.eq (λ shard.
+        ReplacesSoBy ⟦<Cache<K, V, We, B, L> as Going>⟧.goes K.eq shard
+        false state.old key value result state.new) }
+{
+    cache.replace_with_lifecycle(rt, key, value, false, state)
 }
 
 /// A look-up is refused for memory alone, where the clone of a value failed.
