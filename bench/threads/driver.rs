@@ -1,4 +1,4 @@
-//! Times the cache that threads share of the Rust crate, as `threads_bench` times the proved one: the same keys,
+//! Times the cache that threads share of the Rust crate, as `bench_sync threads` times the proved one: the same keys,
 //! the same arguments and the same lines. Both have 16 shards, and hash by a few multiplications.
 use quick_cache::sync::{Cache, DefaultLifecycle};
 use quick_cache::{OptionsBuilder, UnitWeighter};

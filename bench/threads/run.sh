@@ -7,7 +7,7 @@ runs=${2:-9}
 operations=${OPERATIONS:-2000000}
 rounds=${ROUNDS:-3}
 here=$(cd "$(dirname "$0")" && pwd)
-program=$here/../../crates/threads_bench
+program=$here/../../crates/bench_sync
 (cd "$program" && rt run)
 mkdir -p "$here/out/src"
 cp "$here/driver.rs" "$here/out/src/main.rs"
@@ -30,7 +30,7 @@ rm -f times
 for _ in $(seq "$runs"); do
     for items in ${ITEMS:-16384 262144}; do
         for threads in 1 2 4; do
-            "$program/out/threads_bench" "$threads" "$operations" "$items" "$rounds" | sed "s/^/$items $threads proved /" >> times
+            "$program/out/bench_sync" threads "$threads" "$operations" "$items" "$rounds" | sed "s/^/$items $threads proved /" >> times
             target/release/threads_driver "$threads" "$operations" "$items" "$rounds" | sed "s/^/$items $threads rust /" >> times
         done
     done

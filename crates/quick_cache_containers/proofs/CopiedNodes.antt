@@ -3,6 +3,8 @@ use Rattle.std.proofs.Common.{◌≡◌, ℕ, zero, suc, ◌+◌, List, [], ◌�
 use Rattle.std.specs.List.{AllZip}
 use Rattle.quick_cache_containers.specs.LinkedSlab.{AreItemCopies, IsSlotCopy, first_or}
 use Rattle.quick_cache_containers.specs.Links.{IsNodeCopy, IsSound, free_of, is_taken, link_of, rings_of, view_of}
+use Rattle.quick_cache_containers.specs.Nodes.{item_of, next_link, prev_link}
+use Rattle.quick_cache_containers.specs.declared.linked_slab.node.Node.{Node}
 use Rattle.quick_cache_containers.proofs.SlabViews.{AreRings-same}
 use Rattle.quick_cache_containers.proofs.SlotRings.{at_token-rings_of, length-rings_of, rings_of-is}
 
@@ -66,62 +68,61 @@ module _ {T : Type 0} where
     taken-copied (x ∷ xs) (y ∷ ys) copies (suc zero) = is_some-copied x y copies.0
     taken-copied (x ∷ xs) (y ∷ ys) copies (suc (suc i)) = taken-copied xs ys copies.1 (suc i)
 
-    module _ {N : Type 0} (item_of : N → Option T) (next_of prev_of : N → ℕ) where
-      slots-copied : (xs ys : List N) → AllZip (IsNodeCopy item_of next_of prev_of is_copy) xs ys
-          → AllZip (IsSlotCopy is_copy) (map item_of xs) (map item_of ys)
-      slots-copied [] [] copies = tt
-      slots-copied [] (y ∷ ys) copies = absurd copies
-      slots-copied (x ∷ xs) [] copies = absurd copies
-      slots-copied (x ∷ xs) (y ∷ ys) copies =
-          (copies.0.item, slots-copied xs ys copies.1)
+    slots-copied : (xs ys : List (Node T)) → AllZip (IsNodeCopy is_copy) xs ys
+        → AllZip (IsSlotCopy is_copy) (map item_of xs) (map item_of ys)
+    slots-copied [] [] copies = tt
+    slots-copied [] (y ∷ ys) copies = absurd copies
+    slots-copied (x ∷ xs) [] copies = absurd copies
+    slots-copied (x ∷ xs) (y ∷ ys) copies =
+        (copies.0.item, slots-copied xs ys copies.1)
 
-      nexts-copied : (xs ys : List N) → AllZip (IsNodeCopy item_of next_of prev_of is_copy) xs ys
-          → map next_of ys ≡ map next_of xs
-      nexts-copied [] [] copies = refl
-      nexts-copied [] (y ∷ ys) copies = absurd copies
-      nexts-copied (x ∷ xs) [] copies = absurd copies
-      nexts-copied (x ∷ xs) (y ∷ ys) copies = λ i.
-          copies.0.next i ∷ nexts-copied xs ys copies.1 i
+    nexts-copied : (xs ys : List (Node T)) → AllZip (IsNodeCopy is_copy) xs ys
+        → map next_link ys ≡ map next_link xs
+    nexts-copied [] [] copies = refl
+    nexts-copied [] (y ∷ ys) copies = absurd copies
+    nexts-copied (x ∷ xs) [] copies = absurd copies
+    nexts-copied (x ∷ xs) (y ∷ ys) copies = λ i.
+        copies.0.next i ∷ nexts-copied xs ys copies.1 i
 
-      prevs-copied : (xs ys : List N) → AllZip (IsNodeCopy item_of next_of prev_of is_copy) xs ys
-          → map prev_of ys ≡ map prev_of xs
-      prevs-copied [] [] copies = refl
-      prevs-copied [] (y ∷ ys) copies = absurd copies
-      prevs-copied (x ∷ xs) [] copies = absurd copies
-      prevs-copied (x ∷ xs) (y ∷ ys) copies = λ i.
-          copies.0.prev i ∷ prevs-copied xs ys copies.1 i
+    prevs-copied : (xs ys : List (Node T)) → AllZip (IsNodeCopy is_copy) xs ys
+        → map prev_link ys ≡ map prev_link xs
+    prevs-copied [] [] copies = refl
+    prevs-copied [] (y ∷ ys) copies = absurd copies
+    prevs-copied (x ∷ xs) [] copies = absurd copies
+    prevs-copied (x ∷ xs) (y ∷ ys) copies = λ i.
+        copies.0.prev i ∷ prevs-copied xs ys copies.1 i
 
-      module _ (xs ys : List N) (copies : AllZip (IsNodeCopy item_of next_of prev_of is_copy) xs ys)
-        where
-          -- copied nodes are as sound as the nodes are
-          pub IsSound-copied : (first : ℕ)
-              → IsSound (map item_of xs) (map next_of xs) (map prev_of xs) first
-              → IsSound (map item_of ys) (map next_of ys) (map prev_of ys) first
-          IsSound-copied first s =
-              let slots = slots-copied xs ys copies in
-              rw (nexts-copied xs ys copies, prevs-copied xs ys copies)
-              (IsSound-taken (map item_of xs) (map item_of ys) (map next_of xs) (map prev_of xs) first
-              (length-copied (map item_of xs) (map item_of ys) slots)
-              (taken-copied (map item_of xs) (map item_of ys) slots) s)
+    module _ (xs ys : List (Node T)) (copies : AllZip (IsNodeCopy is_copy) xs ys)
+      where
+        -- copied nodes are as sound as the nodes are
+        pub IsSound-copied : (first : ℕ)
+            → IsSound (map item_of xs) (map next_link xs) (map prev_link xs) first
+            → IsSound (map item_of ys) (map next_link ys) (map prev_link ys) first
+        IsSound-copied first s =
+            let slots = slots-copied xs ys copies in
+            rw (nexts-copied xs ys copies, prevs-copied xs ys copies)
+            (IsSound-taken (map item_of xs) (map item_of ys) (map next_link xs) (map prev_link xs) first
+            (length-copied (map item_of xs) (map item_of ys) slots)
+            (taken-copied (map item_of xs) (map item_of ys) slots) s)
 
-          -- they stand for copies of the items, in the same rings
-          pub view_of-copied : (first room room' : ℕ)
-              → AreItemCopies is_copy (view_of (map item_of xs) (map next_of xs) first room)
-              (view_of (map item_of ys) (map next_of ys) first room')
-          view_of-copied first room room' =
-              let slots = slots-copied xs ys copies in
-              let rings : rings_of (map item_of ys) (map next_of ys)
-              ≡ rings_of (map item_of xs) (map next_of xs) =
-              ap (rings_of (map item_of ys)) (nexts-copied xs ys copies)
-              ∙ rings_of-taken (map item_of xs) (map item_of ys) (map next_of xs)
-              (length-copied (map item_of xs) (map item_of ys) slots)
-              (taken-copied (map item_of xs) (map item_of ys) slots) in
-              record {
-                slots = slots;
-                same = λ i. record {
-                  slots = map item_of ys;
-                  rings = rings i;
-                  free = free_of (nexts-copied xs ys copies i) first;
-                  room = room';
-                };
-              }
+        -- they stand for copies of the items, in the same rings
+        pub view_of-copied : (first room room' : ℕ)
+            → AreItemCopies is_copy (view_of (map item_of xs) (map next_link xs) first room)
+            (view_of (map item_of ys) (map next_link ys) first room')
+        view_of-copied first room room' =
+            let slots = slots-copied xs ys copies in
+            let rings : rings_of (map item_of ys) (map next_link ys)
+            ≡ rings_of (map item_of xs) (map next_link xs) =
+            ap (rings_of (map item_of ys)) (nexts-copied xs ys copies)
+            ∙ rings_of-taken (map item_of xs) (map item_of ys) (map next_link xs)
+            (length-copied (map item_of xs) (map item_of ys) slots)
+            (taken-copied (map item_of xs) (map item_of ys) slots) in
+            record {
+              slots = slots;
+              same = λ i. record {
+                slots = map item_of ys;
+                rings = rings i;
+                free = free_of (nexts-copied xs ys copies i) first;
+                room = room';
+              };
+            }

@@ -1,26 +1,13 @@
 -- What places hold, counted, and a place that takes a pair.
-use Rattle.std.proofs.Common.{◌≡◌, ◌≢◌, ℕ, zero, suc, ◌+◌, ◌<◌, ◌⊎◌, Bool, true, false, cond, not, ◌&&◌, ◌||◌, eqb, ltb, List, [], ◌∷◌, length, map, replicate, set, Option, None, refl, sym, ap, ◌∙◌, inl, inr, arith, count_by}
+use Rattle.std.proofs.Common.{◌≡◌, ℕ, zero, suc, ◌+◌, ◌<◌, Bool, true, false, not, ◌&&◌, ◌||◌, eqb, ltb, List, [], ◌∷◌, length, map, replicate, set, Option, None, refl, sym, ap, ◌∙◌, inl, inr, arith, count_by}
 use Rattle.std.specs.List.{list_any, filter_map, cons_option}
-use Rattle.std.proofs.lemmas.Bool.Decides.{eqb_tells}
 use Rattle.std.proofs.lemmas.Bool.{eqb-true, lt-ltb, eq-eqb}
 use Rattle.std.proofs.lemmas.List.{length-set}
 use Rattle.std.proofs.lemmas.List.Sums.{sum_by-cons, sum_by-set}
 use Rattle.quick_cache_containers.specs.Places.{Place}
 use Rattle.quick_cache_containers.specs.Table.{is_pair}
+use Rattle.quick_cache_index.proofs.CountedTokens.{bit, bool_tells}
 use Rattle.quick_cache_containers.specs.TableGroups.{hash_at, is_free, place_pair, pairs_of, holds_pair, place_at, empty_place, HasOneMore, tokens_at}
-
--- two numbers are equal or not
-pub equal_or_not : (a b : ℕ) → (a ≡ b) ⊎ (a ≢ b)
-equal_or_not a b = elim (eqb_tells a b) [ inl t ↦ inl t.1 | inr t ↦ inr t.1 ]
-
--- a test is true or false
-pub bool_tells : (b : Bool) → (b ≡ true) ⊎ (b ≡ false)
-bool_tells true = inl refl
-bool_tells false = inr refl
-
--- 1 where the test holds, and else 0
-abbrev pub bit : Bool → ℕ
-bit b = cond b 1 0
 
 -- the sum of f over the positions of a list
 abbrev pub weigh : (ℕ → ℕ) → List ℕ → ℕ
@@ -97,10 +84,6 @@ pub and_right : (a b : Bool) → (a && b) ≡ true → b ≡ true
 and_right true b e = e
 and_right false b e = absurd (cc)
 
-and_false : (a : Bool) → (a && false) ≡ false
-and_false true = refl
-and_false false = refl
-
 not_true : (a : Bool) → not a ≡ true → a ≡ false
 not_true true e = absurd (cc)
 not_true false e = refl
@@ -115,15 +98,6 @@ holds_pair-hash h k place holds =
           (and_left _ _ pair),
       eqb-true place.token k (and_right (eqb (hash_at place) h) _ pair),
     )
-
--- a place with another hash or another token
-pub holds_pair-other : (h k : ℕ) (place : Place) → (hash_at place ≡ h → place.token ≡ k → ⊥)
-    → bit (holds_pair h k place) ≡ 0
-holds_pair-other h k place off =
-    elim (bool_tells (holds_pair h k place)) [
-      | inl holds ↦ let parts = holds_pair-hash h k place holds in absurd (off parts.1 parts.2)
-      | inr fails ↦ ap bit fails
-    ]
 
 -- whether a pair is in the list, by its count over the places
 pub list_any-pairs_of : (h k : ℕ) (places : List Place)

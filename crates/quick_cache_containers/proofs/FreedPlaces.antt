@@ -3,9 +3,11 @@ use Rattle.std.proofs.Common.{◌≡◌, ◌≢◌, ℕ, ◌+◌, ◌-◌, ◌*�
 use Rattle.std.specs.Int.Bits.{bit_xor}
 use Rattle.std.proofs.lemmas.List.{length-set}
 use Rattle.quick_cache_containers.specs.Places.{Place}
-use Rattle.quick_cache_containers.specs.TableGroups.{hash_at, is_free, holds_pair, place_at, home_of, distance, HasOneMore}
-use Rattle.quick_cache_containers.proofs.Distances.{xor-back}
-use Rattle.quick_cache_containers.proofs.CountedPlaces.{equal_or_not, bit, count_by-set, length-pairs_of, holds_pair-free, holds_pair-taken}
+use Rattle.quick_cache_index.specs.Index.{home_of, distance}
+use Rattle.quick_cache_containers.specs.TableGroups.{hash_at, is_free, holds_pair, place_at, HasOneMore}
+use Rattle.quick_cache_index.proofs.Distances.{xor-back}
+use Rattle.quick_cache_index.proofs.CountedTokens.{equal_or_not, bit}
+use Rattle.quick_cache_containers.proofs.CountedPlaces.{count_by-set, length-pairs_of, holds_pair-free, holds_pair-taken}
 
 -- the pairs of a home are at most so far from it, of those that it reached
 abbrev pub AreWithin : List Place → List ℕ → ℕ → ℕ → ℕ → Type 0

@@ -5,8 +5,10 @@ use Rattle.std.proofs.Math.Nat.{pow-suc}
 use Rattle.std.proofs.lemmas.List.Sums.{sum_by_more}
 use Rattle.std.proofs.Math.Seq.{take-length}
 use Rattle.quick_cache_containers.specs.Places.{Place}
-use Rattle.quick_cache_containers.specs.TableGroups.{place_at, empty_place, positions_from, group_positions, positions_along}
-use Rattle.quick_cache_containers.proofs.CountedPlaces.{bit, weigh}
+use Rattle.quick_cache_index.specs.IndexGroups.{positions_from, group_positions, positions_along}
+use Rattle.quick_cache_containers.specs.TableGroups.{place_at, empty_place}
+use Rattle.quick_cache_index.proofs.CountedTokens.{bit}
+use Rattle.quick_cache_containers.proofs.CountedPlaces.{weigh}
 
 -- ---- sums over numbers below a bound
 

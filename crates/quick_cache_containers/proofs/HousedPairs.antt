@@ -10,24 +10,12 @@ use Rattle.std.proofs.lemmas.List.Folds.{sum_by-replicate}
 use Rattle.std.proofs.lemmas.List.Sorted.{IsPermutation-swap, sum_by-IsPermutation}
 use Rattle.std.proofs.lemmas.List.Sums.{sum_by-append}
 use Rattle.quick_cache_containers.specs.Places.{Place}
-use Rattle.quick_cache_containers.specs.TableGroups.{hash_at, is_free, tag_of, holds_pair, place_at, empty_place, IsReached, IsHoused, IsHousedAt, IsBareBelow, HasSamePairs, ReachesGrow}
+use Rattle.quick_cache_index.specs.Index.{tag_of, IsReached}
+use Rattle.quick_cache_index.specs.IndexGroups.{ReachesGrow}
+use Rattle.quick_cache_containers.specs.TableGroups.{hash_at, is_free, holds_pair, place_at, empty_place, IsHoused, IsHousedAt, IsBareBelow, HasSamePairs}
 use Rattle.quick_cache_model.proofs.PowersOfTwo.{IsPowerOfTwo-pos}
-use Rattle.quick_cache_containers.proofs.CountedPlaces.{bit, equal_or_not, length-pairs_of}
-
--- a bound of each number stays where one within it is written
-pub within-set : (xs : List ℕ) (i x bound : ℕ) → i < length xs → x ≤ bound
-    → ((j : ℕ) → get_or xs j 0 ≤ bound) → (j : ℕ) → get_or (set xs i x) j 0 ≤ bound
-within-set xs i x bound inside small within j =
-    elim (equal_or_not j i) [
-      | inl same ↦
-          subst (λ n. get_or (set xs i x) n 0 ≤ bound) (sym same)
-          (omega (arith, small, get_or-set_same xs i x 0 inside))
-      | inr other ↦ omega (arith, get_or-set_other xs i j x 0 other, within j)
-    ]
-
--- each tag is more than 0
-pub tag_of-pos : (hash : ℕ) → 0 < tag_of hash
-tag_of-pos hash = omega arith
+use Rattle.quick_cache_index.proofs.CountedTokens.{bit, equal_or_not, tag_of-pos}
+use Rattle.quick_cache_containers.proofs.CountedPlaces.{length-pairs_of}
 
 -- two places change their pairs
 pub HasSamePairs-swap : (places : List Place) (p q : ℕ) → p < length places → q < length places

@@ -80,20 +80,7 @@ module _ {T : Type 0} where
       by_other : (t : ℕ) → t ≤ passed + 1 → (t ≡ token → ⊥) → t ≤ passed
       by_other t below differs = omega arith
 
-  pub none_passed_same : (slots : List (Option T)) (passed token : ℕ) → token ≡ passed + 1
-      → at_token slots token None ≡ None → ((t : ℕ) → t ≤ passed → at_token slots t None ≡ None)
-      → (t : ℕ) → t ≤ passed + 1 → at_token slots t None ≡ None
-  none_passed_same slots passed token last here none t below =
-      elim (cases_eq t token) [
-        | inl same ↦ rw same here
-        | inr differs ↦ none t
-            (by_other t below differs)
-      ]
-    where
-      by_other : (t : ℕ) → t ≤ passed + 1 → (t ≡ token → ⊥) → t ≤ passed
-      by_other t below differs = omega arith
-
-pub Drain_keeps_along : {T A N : Type 0} (first : Drain T A N) → DrainKeepsAlong first
+pub Drain_keeps_along : {T A : Type 0} (first : Drain T A) → DrainKeepsAlong first
 Drain_keeps_along first [] later run = subst (DrainKeeps first) run (refl, refl)
 Drain_keeps_along first (item ∷ rest) later run =
     let step = run.1.1 in

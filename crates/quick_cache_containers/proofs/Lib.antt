@@ -13,15 +13,13 @@ mod SlabViews
 mod SlotRings
 pub mod TokenCounts
 mod CountedPlaces
-mod Distances
 mod FreedPlaces
 mod GroupCounts
-mod GroupLanes
 mod HousedPairs
-mod NearestFreePlace
-mod OnlyTokens
+mod FreePlaces
 mod PairOrder
 mod PairedLists
 mod SearchAlongTokens
 mod ShownPairs
+mod TurnedLanes
 mod WalkedTokens

@@ -3,7 +3,7 @@ use Rattle.std.proofs.Common.{◌≡◌, ℕ, ◌+◌, ◌≤◌, true, List, le
 use Rattle.std.proofs.lemmas.List.{map-set, set-get_or, get_or-map, length-map}
 use Rattle.quick_cache_containers.specs.LinkedSlab.{at_token, with_token}
 use Rattle.quick_cache_containers.specs.Links.{link_of, is_taken, AreLinked}
-use Rattle.quick_cache_containers.proofs.AllRings.{before, held-next}
+use Rattle.quick_cache_containers.proofs.AllRings.{before}
 use Rattle.quick_cache_containers.proofs.AtTokens.{with_token-suc, at_token-suc, at_token-with_same, get_or-map_all}
 use Rattle.quick_cache_containers.proofs.SlotRings.{taken_within}
 
@@ -48,7 +48,3 @@ module _ {N T : Type 0} (item_of : N → Option T) (nodes : List N) (t : ℕ) wh
     pub prev_taken : is_taken (map item_of nodes) (link_of prevs t) ≡ true
     prev_taken = (before (link_of nexts) (link_of prevs) (is_taken (map item_of nodes))
         linked.rings t taken).0
-
-    pub next_taken : is_taken (map item_of nodes) (link_of nexts t) ≡ true
-    next_taken = held-next (link_of nexts) (link_of prevs) (is_taken (map item_of nodes))
-        linked.rings t taken

@@ -6,7 +6,7 @@ use Rattle.std.proofs.lemmas.Bool.{eq-eqb}
 use Rattle.std.proofs.lemmas.Bool.Decides.{eqb_tells}
 use Rattle.std.proofs.lemmas.List.Sums.{sum_by-cons}
 use Rattle.quick_cache_containers.specs.Table.{Table, HasPair, has_pair, SearchesAlong, CallsKeep, AnswersSo, FindsByAnswer, ComputesTest, SearchesHash, FindsPassing}
-use Rattle.quick_cache_containers.proofs.CountedPlaces.{bool_tells, bit}
+use Rattle.quick_cache_index.proofs.CountedTokens.{bool_tells, bit}
 
 some-injective : (x y : NonZeroU32) → Some x ≡ Some y → x ≡ y
 some-injective x y e = cc

@@ -5,9 +5,11 @@ use Rattle.std.proofs.lemmas.Bool.{lt-ltb}
 use Rattle.std.proofs.lemmas.Bool.Decides.{leb_tells}
 use Rattle.quick_cache_containers.specs.Places.{Place}
 use Rattle.quick_cache_containers.specs.Table.{Table, in_order, is_pair, has_pair, pair_count, HasPair, AddsPair, RemovesPair, SameOtherPairs, IsTokensOf}
-use Rattle.quick_cache_containers.specs.TableGroups.{hash_at, is_free, place_pair, pairs_of, place_at, holds_pair, empty_place, capacity_of, IsWhole, IsSound, HasOneMore, HasSamePairs, AreTokensOf}
+use Rattle.quick_cache_index.specs.IndexGroups.{capacity_of}
+use Rattle.quick_cache_containers.specs.TableGroups.{hash_at, is_free, place_pair, pairs_of, place_at, holds_pair, empty_place, IsWhole, IsSound, HasOneMore, HasSamePairs, AreTokensOf}
 use Rattle.quick_cache_containers.proofs.PairOrder.{list_any-in_order, length-in_order, in_order-same}
-use Rattle.quick_cache_containers.proofs.CountedPlaces.{bool_tells, bit, length-pairs_of, holds_pair-hash, pairs_of-map, filter_map-none, map-replicate, is_pair-equal, is_pair-refl, is_pair-other, list_any-pairs_of, count_by-pairs_of}
+use Rattle.quick_cache_index.proofs.CountedTokens.{bool_tells, bit}
+use Rattle.quick_cache_containers.proofs.CountedPlaces.{length-pairs_of, holds_pair-hash, pairs_of-map, filter_map-none, map-replicate, is_pair-equal, is_pair-refl, is_pair-other, list_any-pairs_of, count_by-pairs_of}
 
 -- how many pairs a table has, by its places
 pub pair_count-of : (table : Table) (places : List Place) → table.pairs ≡ in_order (pairs_of places)

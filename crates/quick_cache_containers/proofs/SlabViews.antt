@@ -5,7 +5,7 @@ use Rattle.std.proofs.lemmas.List.{set-set, length_push}
 use Rattle.std.specs.Int.NonZero.{non_zero_u32_get}
 use Rattle.std.specs.declared.num.NonZeroU32.{NonZeroU32 as Token}
 use Rattle.quick_cache_containers.specs.LinkedSlab.{at_token, with_token, first_or, times, without, joined, placed, linked, unlinked, removed, with_item, next_token, IsFull, successor, ring_from, IsNextOf}
-use Rattle.quick_cache_containers.specs.Links.{link_of, free_of, is_taken, ring_at, rings_of, view_of, AreRings, AreLinked, AreFree, IsSound, Unlinks, Links}
+use Rattle.quick_cache_containers.specs.Links.{link_of, free_of, is_taken, rings_of, view_of, AreRings, AreLinked, AreFree, IsSound, Unlinks, Links}
 use Rattle.quick_cache_containers.proofs.TokenCounts.{times-here}
 use Rattle.quick_cache_containers.proofs.AllRings.{held-next}
 use Rattle.quick_cache_containers.proofs.OneRing.{IsRing-frame}
@@ -125,10 +125,6 @@ module _ {T : Type 0} where
           ∙ ap (first_or (length slots + 1))
           (sym (free_is slots nexts prevs first s) ∙ full.0) in
           omega (arith, full.1)
-
-  pub ring_from-is : (slots : List (Option T)) (nexts : List ℕ) (first room t : ℕ)
-      → ring_from (view_of slots nexts first room) t ≡ ring_at slots nexts t
-  ring_from-is slots nexts first room t = at_token-rings_of slots nexts t
 
   pub successor-view : (slots : List (Option T)) (nexts prevs : List ℕ) (first room t : ℕ)
       → AreLinked slots nexts prevs → is_taken slots t ≡ true

@@ -21,9 +21,6 @@ pub times-append : (t : ℕ) (xs ys : List ℕ) → times t (xs ++ ys) ≡ times
 times-append t [] ys = omega arith
 times-append t (x ∷ xs) ys = omega (arith, times-append t xs ys)
 
-pub times-cons_le : (t x : ℕ) (xs : List ℕ) → times t xs ≤ times t (x ∷ xs)
-times-cons_le t x xs = omega arith
-
 pub without_none : (a : ℕ) (xs : List ℕ) → times a xs ≡ 0 → without a xs ≡ xs
 without_none a [] none = refl
 without_none a (x ∷ xs) none =

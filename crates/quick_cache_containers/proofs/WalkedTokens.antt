@@ -12,10 +12,13 @@ use Rattle.std.proofs.lemmas.List.Elements.{filter_map-append}
 use Rattle.std.proofs.lemmas.List.Sums.{sum_by-cons}
 use Rattle.quick_cache_containers.specs.Places.{Place}
 use Rattle.quick_cache_containers.specs.declared.table.walk.Walk.{Walk}
-use Rattle.quick_cache_containers.specs.TableGroups.{hash_at, is_free, holds_pair, place_at, empty_place, tag_of, home_of, IsHousedAt, IsWhole, token_of, tokens_at, group_positions, lane_positions, positions_along, reach_of, positions_left, tokens_left, IsWalk, AreTokensOf}
-use Rattle.quick_cache_containers.proofs.CountedPlaces.{bool_tells, equal_or_not, bit, weigh, count_by-tokens_at, holds_pair-hash, and_right}
-use Rattle.quick_cache_containers.proofs.GroupLanes.{lane_positions-first, lane_positions-none, lanes-few, lit-tag, given-lanes, tokens_at-lanes, trailing_zeros-lt, trailing_zeros-IsLowestBit, bit_at-rest, some_none}
-use Rattle.quick_cache_containers.proofs.Distances.{xor-back}
+use Rattle.quick_cache_index.specs.Index.{tag_of, home_of}
+use Rattle.quick_cache_index.specs.IndexGroups.{group_positions, lane_positions, positions_along}
+use Rattle.quick_cache_containers.specs.TableGroups.{hash_at, is_free, holds_pair, place_at, empty_place, IsHousedAt, IsWhole, token_of, tokens_at, reach_of, positions_left, tokens_left, IsWalk, AreTokensOf}
+use Rattle.quick_cache_index.proofs.CountedTokens.{bool_tells, equal_or_not, bit}
+use Rattle.quick_cache_containers.proofs.CountedPlaces.{weigh, count_by-tokens_at, holds_pair-hash, and_right}
+use Rattle.quick_cache_index.proofs.GroupLanes.{lane_positions-first, lane_positions-none, lanes-few, lit-tag, given-lanes, trailing_zeros-lt, trailing_zeros-IsLowestBit, bit_at-rest, some_none}
+use Rattle.quick_cache_index.proofs.Distances.{xor-back}
 use Rattle.quick_cache_containers.proofs.GroupCounts.{total, total-more, total-xor, total-groups, total-along, weigh-none, count_by-total}
 
 -- the token at a place: there is a pair of that hash
@@ -175,11 +178,6 @@ behind_lane walk = record walk { lanes = bit_and walk.lanes (walk.lanes - 1) }
 -- the position of the lowest lane
 abbrev pub lane_position : Walk → ℕ
 lane_position walk = 16 * bit_xor walk.home walk.step + trailing_zeros w64 walk.lanes
-
--- the number that is there, or 0
-abbrev number_in : Option ℕ → ℕ
-number_in None = 0
-number_in (Some number) = number
 
 -- a tag is not 0
 pub tag_of-some : (hash : ℕ) → 0 < tag_of hash
@@ -376,7 +374,7 @@ begins_walk-tag walk mask whole some =
     ∙ ap (λ group. tokens_at places walk.hash (lane_positions group lanes) ++ tokens_at places
     walk.hash rest) here
     ∙ ap (λ ts. ts ++ tokens_at places walk.hash rest)
-    (tokens_at-lanes tags places walk.hash home inside tagged)
+    (given-lanes (token_of places walk.hash) tags walk.hash home inside tagged)
     ∙ ap
     (λ group. tokens_at places walk.hash (group_positions group) ++ tokens_at places walk.hash rest)
     (sym here)

@@ -2,6 +2,8 @@
 use Rattle.std.specs.Prelude.{◌≡◌, ℕ, zero, suc, ◌+◌, ◌-◌, ◌<◌, ◌≤◌, min, Bool, true, false, cond, eqb, ltb, List, [], ◌∷◌, length, map, Option, None, is_some}
 use Rattle.std.specs.List.{range_with_len}
 use Rattle.quick_cache_containers.specs.LinkedSlab.{LinkedSlab, IsSlotCopy, at_token, with_token, first_or, times, without, joined}
+use Rattle.quick_cache_containers.specs.Nodes.{item_of, next_link, prev_link}
+use Rattle.quick_cache_containers.specs.declared.linked_slab.node.Node.{Node}
 
 -- each token of the path leads to the next, and the last to `end`
 abbrev pub Leads : (ℕ → ℕ) → List ℕ → ℕ → Type 0
@@ -119,8 +121,7 @@ module _ {T : Type 0} where
     pub free_kept : (t : ℕ) → is_taken slots t ≡ false → link_of nexts' t ≡ link_of nexts t
 
 -- a node with the same links, and a copy of the item if it has one
-pub record IsNodeCopy {N T : Type 0} (item_of : N → Option T) (next_of prev_of : N → ℕ)
-    (is_copy : T → T → Type 0) (node copy : N) : Type 0 where
-  pub next : next_of copy ≡ next_of node
-  pub prev : prev_of copy ≡ prev_of node
+pub record IsNodeCopy {T : Type 0} (is_copy : T → T → Type 0) (node copy : Node T) : Type 0 where
+  pub next : next_link copy ≡ next_link node
+  pub prev : prev_link copy ≡ prev_link node
   pub item : IsSlotCopy is_copy (item_of node) (item_of copy)

@@ -1,24 +1,27 @@
--- What a slot has. No public clause cites this module.
-use Rattle.std.specs.Prelude.{◌≡◌, ℕ, zero, suc, Option, Some, None, refl}
-
--- a slot that names the token before itself, or none
-pub record TightSlot (T : Type 0) : Type 0 where
-  pub next : ℕ
-  pub prev : ℕ
-  pub item : T
+-- What a slot has: an item or none, and its two links. No public clause cites this module.
+use Rattle.std.specs.Prelude.{ℕ, Option, Some}
+use Rattle.std.specs.Int.NonZero.{non_zero_u32_get}
+use Rattle.std.specs.Borrow.{Lends, Fml, RattleType, MutBor}
+use Rattle.quick_cache_containers.specs.declared.linked_slab.node.Node.{Node}
+use Rattle.quick_cache_containers.specs.contracts.linked_slab.node.Node.{the_row}
 
 module _ {T : Type 0} where
-  -- the item of a slot that names that token before itself: none where it names none
-  abbrev pub item_if : ℕ → T → Option T
-  item_if zero item = None
-  item_if (suc n) item = Some item
+  -- the item of a slot, if it has one
+  abbrev pub item_of : Node T → Option T
+  item_of node = node.item
 
-  -- another item in the place of this one, if there is one
-  abbrev pub rewritten : Option T → T → Option T
-  rewritten None item = None
-  rewritten (Some old) item = Some item
+  -- the number of the token that a slot names as the next
+  abbrev pub next_link : Node T → ℕ
+  next_link node = non_zero_u32_get node.next
 
-  pub item_if-rewritten : (prev : ℕ) (old item : T)
-      → item_if prev item ≡ rewritten (item_if prev old) item
-  item_if-rewritten zero old item = refl
-  item_if-rewritten (suc n) old item = refl
+  -- the number of the token that it names before itself
+  abbrev pub prev_link : Node T → ℕ
+  prev_link node = non_zero_u32_get node.prev
+
+  -- the slot with this item
+  abbrev pub holding : Node T → T → Node T
+  holding node item = record node { item = Some item }
+
+-- once the borrow ends, the slot has the last item written through it
+abbrev pub lends_node : (T : RattleType) → MutBor (Node T.Denot) → MutBor T.Denot → Fml
+lends_node T node r = Lends (the_row T) T node r (holding node.now)

@@ -1,7 +1,9 @@
 -- How a `Table` lays out its pairs: places in groups of sixteen, each with a tag. No public clause
 -- cites this module.
-use Rattle.std.specs.Prelude.{◌≡◌, ℕ, ◌+◌, ◌-◌, ◌*◌, ◌/◌, ◌^◌, ◌<◌, ◌≤◌, Bool, ◌&&◌, not, ◌==◌, max, min, if◌then◌else◌, List, [], ◌∷◌, zero, suc, length, count_by, filter, filter_map, ◌++◌, Option, Some, None, bit_and, bit_xor, slice_index, slice_index_or}
+use Rattle.std.specs.Prelude.{◌≡◌, ℕ, ◌+◌, ◌-◌, ◌*◌, ◌^◌, ◌<◌, ◌≤◌, Bool, ◌&&◌, not, ◌==◌, if◌then◌else◌, List, length, count_by, filter_map, ◌++◌, Option, Some, None, bit_xor, slice_index, slice_index_or}
 use Rattle.std.specs.Int.{IsPowerOfTwo, bit_at}
+use Rattle.quick_cache_index.specs.Index.{tag_of, home_of, IsReached}
+use Rattle.quick_cache_index.specs.IndexGroups.{capacity_of, lane_positions, positions_along}
 use Rattle.quick_cache_containers.specs.Table.{is_pair}
 use Rattle.quick_cache_containers.specs.Places.{Place}
 use Rattle.quick_cache_containers.specs.declared.table.walk.Walk.{Walk}
@@ -34,23 +36,6 @@ empty_place = record { hash = 0; token = 0 }
 -- the place at a position
 abbrev pub place_at : List Place → ℕ → Place
 place_at places position = slice_index_or places position empty_place
-
--- the tag of a hash: its highest byte, or 1 where that is 0
-abbrev pub tag_of : ℕ → ℕ
-tag_of hash = max (hash / 2 ^ 56) 1
-
--- the group at which a search for a hash begins
-abbrev pub home_of : ℕ → ℕ → ℕ
-home_of mask hash = bit_and hash mask
-
--- how many groups a search from a home reads before that of the position
-abbrev pub distance : ℕ → ℕ → ℕ
-distance home position = bit_xor home (position / 16)
-
--- a search for the hash reads the group of the position
-abbrev pub IsReached : List ℕ → ℕ → ℕ → ℕ → Type 0
-IsReached reaches mask hash position =
-    distance (home_of mask hash) position ≤ slice_index reaches (home_of mask hash)
 
 -- a reach for each group, and sixteen tags and places: of a power of two of groups, or of none
 pub record IsGrouped (tags : List ℕ) (places : List Place) (reaches : List ℕ)
@@ -88,10 +73,6 @@ pub record IsWhole (tags : List ℕ) (places : List Place) (reaches : List ℕ)
   pub pairs : IsHoused tags places reaches mask
   pub bare : IsBareBelow tags places (length places)
 
--- as many pairs as so many groups are made for
-abbrev pub capacity_of : ℕ → ℕ
-capacity_of groups = min (14 * groups) 4294967294
-
 -- the places, the length and the pairs of a table
 pub record IsSound (tags : List ℕ) (places : List Place) (reaches : List ℕ)
     (mask len : ℕ) : Type 0 where
@@ -119,11 +100,6 @@ HasPairOf places mask home group =
     × let place = place_at places (16 * group + lane) in
     (0 < place.token) × (home_of mask (hash_at place) ≡ home)
 
--- no reach got shorter
-abbrev pub ReachesGrow : List ℕ → List ℕ → Type 0
-ReachesGrow old new =
-    (length new ≡ length old) × ((group : ℕ) → slice_index old group ≤ slice_index new group)
-
 -- the token at a place, where its pair has that hash
 abbrev pub token_of : List Place → ℕ → ℕ → Option ℕ
 token_of places hash position =
@@ -133,26 +109,6 @@ token_of places hash position =
 -- the tokens of that hash at these positions
 abbrev pub tokens_at : List Place → ℕ → List ℕ → List ℕ
 tokens_at places hash positions = filter_map (token_of places hash) positions
-
--- so many positions from this one on
-abbrev pub positions_from : ℕ → ℕ → List ℕ
-positions_from position zero = []
-positions_from position (suc count) = position ∷ positions_from (position + 1) count
-
--- the positions of a group
-abbrev pub group_positions : ℕ → List ℕ
-group_positions group = positions_from (16 * group) 16
-
--- those of them that have their bit set
-abbrev pub lane_positions : ℕ → ℕ → List ℕ
-lane_positions group lanes =
-    filter (λ position. bit_at lanes (position - 16 * group) == 1) (group_positions group)
-
--- the positions of so many groups, by their distance from the home, from `step` on
-abbrev pub positions_along : ℕ → ℕ → ℕ → List ℕ
-positions_along home step zero = []
-positions_along home step (suc count) =
-    group_positions (bit_xor home step) ++ positions_along home (step + 1) count
 
 -- the distance of the group that a walk reads last
 abbrev pub reach_of : Walk → ℕ

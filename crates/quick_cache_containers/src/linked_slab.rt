@@ -20,11 +20,11 @@ pub use growth::make_room;
 pub use item::ItemMut;
 pub use iter::{Iter, IterFrom};
 use links::{fill, is_occupied, link, unlink};
-pub use node::{Blank, Node, SlotNode, TightNode};
+use node::Node;
 use quick_cache_model::Refusal;
 pub use quick_cache_model::Token;
 use std::alloc::{Allocator, Global};
-use std::marker::{Model, PhantomData};
+use std::marker::Model;
 
 /// How many slots there may be.
 const MAX_SLOTS: usize = 4294967294;
@@ -33,14 +33,13 @@ const MAX_SLOTS: usize = 4294967294;
 ///
 /// A token keeps its item until that item is removed, and only then can `insert` give it out again.
 #[derive(Drop)]
-pub struct LinkedSlab<T, A: Allocator = Global, N: SlotNode<T> = Node<T>> {
-    nodes: Vec<N, A>,
+pub struct LinkedSlab<T, A: Allocator = Global> {
+    nodes: Vec<Node<T>, A>,
     // The token of the next insert: the last one freed, or else the first past the end.
     next_free: Token,
-    items: PhantomData<T>,
 }
 
-impl<T, A: Allocator, N: SlotNode<T>> Model for LinkedSlab<T, A, N> {
+impl<T, A: Allocator> Model for LinkedSlab<T, A> {
     ghost use Rattle.std.specs.Prelude.{map, vec_len, vec_capacity};
     ghost use Rattle.std.specs.Int.NonZero.{non_zero_u32_get as number};
     ghost use Rattle.quick_cache_containers.specs.LinkedSlab.{LinkedSlab as Slots};
@@ -48,13 +47,14 @@ impl<T, A: Allocator, N: SlotNode<T>> Model for LinkedSlab<T, A, N> {
     ghost Value = { Slots T };
 
     ghost use Rattle.quick_cache_containers.specs.Links.{room_of, view_of, IsSound};
+    ghost use Rattle.quick_cache_containers.specs.Nodes.{item_of, next_link, prev_link};
 
     ghost view = { λ s. view_of
-        (map N.item_of s.nodes.items) (map N.next_of s.nodes.items) (number s.next_free)
+        (map item_of s.nodes.items) (map next_link s.nodes.items) (number s.next_free)
         (room_of (vec_capacity s.nodes) (vec_len s.nodes)) };
 
     ghost invariant = { λ s. IsSound
-        (map N.item_of s.nodes.items) (map N.next_of s.nodes.items) (map N.prev_of s.nodes.items)
+        (map item_of s.nodes.items) (map next_link s.nodes.items) (map prev_link s.nodes.items)
         (number s.next_free) };
 }
 
@@ -67,6 +67,10 @@ fn past(len: usize) -> Token
 }
 
 impl<T, A: Allocator> LinkedSlab<T, A> {
+    ghost use Rattle.std.specs.Borrow.{sem};
+    ghost use Rattle.quick_cache_containers.specs.SlabLends.{held_lender, held_slab, held_token, lends_item, rests_if_free};
+    ghost use Rattle.quick_cache_containers.specs.SlabDrain.{drain_rest, drain_room, drain_lender, DrainCanStep, DrainKeepsAlong};
+
     /// An empty slab with room for so many items, of the 4294967294 that a slab can have.
     ///
     /// A refusal is for want of memory.
@@ -77,30 +81,10 @@ impl<T, A: Allocator> LinkedSlab<T, A> {
         ensures memory { IfErr result (λ refused. refused ≡ Refusal.Memory) }
         ensures succeeds { capacity ≡ 0 → IsOk result }
     {
-        LinkedSlab::with_nodes(alloc, capacity)
-    }
-}
-
-impl<T, A: Allocator, N: SlotNode<T>> LinkedSlab<T, A, N> {
-    ghost use Rattle.std.specs.Borrow.{sem};
-    ghost use Rattle.quick_cache_containers.specs.SlabLends.{held_lender, held_slab, held_token, lends_item, rests_if_free};
-    ghost use Rattle.quick_cache_containers.specs.SlabDrain.{drain_rest, drain_room, drain_lender, DrainCanStep, DrainKeepsAlong};
-
-    /// An empty slab, as `with_capacity` makes it, whose slots are laid out so.
-    ///
-    /// A refusal is for want of memory.
-    pub fn with_nodes(alloc: A, capacity: usize) -> Result<Self, Refusal>
-        ensures empty { IfOk result (λ slab. slab ≡ emptied slab.room) }
-        ensures room { IfOk result (λ slab. min capacity 4294967294 ≤ slab.room) }
-        ensures parted { IfOk result IsParted }
-        ensures memory { IfErr result (λ refused. refused ≡ Refusal.Memory) }
-        ensures succeeds { capacity ≡ 0 → IsOk result }
-    {
         match Vec::with_capacity(alloc, capacity.min(MAX_SLOTS)) {
             Ok(nodes) => Ok(LinkedSlab {
                 nodes,
                 next_free: Token::MIN,
-                items: PhantomData,
             }),
             Err(_) => Err(Refusal::Memory),
         }
@@ -147,7 +131,7 @@ impl<T, A: Allocator, N: SlotNode<T>> LinkedSlab<T, A, N> {
         if make_room(&mut self.nodes, 1).is_err() {
             return Err((item, Refusal::Memory));
         }
-        self.nodes.push_reserved(N::holding(item, token));
+        self.nodes.push_reserved(Node::holding(item, token));
         self.next_free = past(len + 1);
         Ok(token)
     }
@@ -172,8 +156,8 @@ impl<T, A: Allocator, N: SlotNode<T>> LinkedSlab<T, A, N> {
     ///
     /// A free or unknown token gives nothing.
     #[inline]
-    pub fn get_mut(&mut self, token: Token) -> Option<ItemMut<'_, T, A, N>>
-        ensures* unchanged { sem 𝓛 (rests_if_free T.row A.row N.row A.Allocator N.SlotNode self.entry result) }
+    pub fn get_mut(&mut self, token: Token) -> Option<ItemMut<'_, T, A>>
+        ensures* unchanged { sem 𝓛 (rests_if_free T.row A.row A.Allocator self.entry result) }
         ensures absent { IfNone result (item_at self.old (number token) ≡ None) }
         ensures occupied { OnSome result (IsOccupied self.old (number token)) }
 
@@ -197,7 +181,7 @@ impl<T, A: Allocator, N: SlotNode<T>> LinkedSlab<T, A, N> {
     #[inline]
     fn item_mut(&mut self, token: Token) -> &mut T
         requires { IsOccupied self.old (number token) }
-        ensures* writes_back { sem 𝓛 (lends_item T.row A.row N.row A.Allocator N.SlotNode self.entry (number token)
+        ensures* writes_back { sem 𝓛 (lends_item T.row A.row A.Allocator self.entry (number token)
             result) }
         ensures item { item_at self.old (number token) ≡ Some result.now }
     {
@@ -273,24 +257,23 @@ impl<T, A: Allocator, N: SlotNode<T>> LinkedSlab<T, A, N> {
     }
 
     /// The items, by ascending token.
-    pub fn iter(&self) -> Iter<'_, T, N>
+    pub fn iter(&self) -> Iter<'_, T>
         ensures { result ≡ items self.now }
     {
         Iter {
             nodes: self.nodes.as_slice(),
-            items: PhantomData,
         }
     }
 
     /// The items, by ascending token, as `iter` gives them.
-    pub fn iter_entries(&self) -> Iter<'_, T, N>
+    pub fn iter_entries(&self) -> Iter<'_, T>
         ensures { result ≡ items self.now }
     {
         self.iter()
     }
 
     /// The tokens and items of greater token than this, or all of them, by ascending token.
-    pub fn iter_from(&self, token: Option<Token>) -> IterFrom<'_, T, N>
+    pub fn iter_from(&self, token: Option<Token>) -> IterFrom<'_, T>
         ensures { MatchOption token (result ≡ entries_after self.now 0)
             (λ token. result ≡ entries_after self.now (number token)) }
     {
@@ -301,7 +284,7 @@ impl<T, A: Allocator, N: SlotNode<T>> LinkedSlab<T, A, N> {
     }
 
     // The tokens and items past so many slots.
-    fn after(&self, passed: usize) -> IterFrom<'_, T, N>
+    fn after(&self, passed: usize) -> IterFrom<'_, T>
         ensures { result ≡ entries_after self.now passed }
     {
         let nodes = self.nodes.as_slice();
@@ -309,17 +292,15 @@ impl<T, A: Allocator, N: SlotNode<T>> LinkedSlab<T, A, N> {
         IterFrom {
             nodes: &nodes[passed..],
             passed,
-            items: PhantomData,
         }
     }
 
     /// Takes the items out, by ascending token.
     ///
     /// The slab is empty once the iterator is dropped, and keeps its room.
-    pub fn drain(&mut self) -> Drain<'_, T, A, N>
+    pub fn drain(&mut self) -> Drain<'_, T, A>
     where
         T: Drop,
-        N: Drop,
         ensures rest { drain_rest result ≡ items self.old }
         ensures room { drain_room result ≡ self.old.room + length self.old.slots }
         ensures ready { DrainCanStep result }
@@ -336,7 +317,6 @@ impl<T, A: Allocator, N: SlotNode<T>> LinkedSlab<T, A, N> {
     fn empty(&mut self)
     where
         T: Drop,
-        N: Drop,
         ensures { self.new ≡ emptied (self.old.room + length self.old.slots) }
     {
         self.nodes.clear();

@@ -9,8 +9,8 @@ pub(crate) mod places;
 pub(crate) mod tokens;
 pub(crate) mod walk;
 
-use groups::{MOST_PAIRS, capacity, groups_for};
 use places::Places;
+use quick_cache_index::index::groups::{MOST_TOKENS, capacity, groups_for};
 use quick_cache_model::{Refusal, Token};
 use std::alloc::{Allocator, Global};
 use std::marker::Model;
@@ -44,7 +44,8 @@ impl<A: Allocator> Model for Table<A> {
 
     ghost coded = { table_code };
 
-    ghost use Rattle.quick_cache_containers.specs.TableGroups.{pairs_of, capacity_of, IsSound};
+    ghost use Rattle.quick_cache_index.specs.IndexGroups.{capacity_of};
+    ghost use Rattle.quick_cache_containers.specs.TableGroups.{pairs_of, IsSound};
 
     ghost view = { λ t. record {
       pairs = in_order (pairs_of t.places.items);
@@ -142,7 +143,7 @@ impl<A: Allocator> Table<A> {
             ≡ record self.old { allocated = self.new.allocated }) }
         ensures allocated { self.old.allocated ≤ self.new.allocated }
     {
-        let wanted = additional.min(MOST_PAIRS - self.len);
+        let wanted = additional.min(MOST_TOKENS - self.len);
         if wanted <= capacity(self.reaches.len()) - self.len {
             return Ok(());
         }

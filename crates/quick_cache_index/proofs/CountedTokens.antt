@@ -64,10 +64,6 @@ taken_count-free (token ∷ rest) =
       bit-not (is_free token),
     )
 
-and_left : (a b : Bool) → (a && b) ≡ true → a ≡ true
-and_left true b e = refl
-and_left false b e = e
-
 and_right : (a b : Bool) → (a && b) ≡ true → b ≡ true
 and_right true b e = e
 and_right false b e = absurd (cc)

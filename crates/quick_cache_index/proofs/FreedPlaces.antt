@@ -1,12 +1,10 @@
 -- Reaches that get shorter: what is as far from a home as the distances tell is reached still.
-use Rattle.std.proofs.Common.{◌≡◌, ◌≢◌, ℕ, ◌+◌, ◌-◌, ◌*◌, ◌/◌, ◌<◌, ◌≤◌, eqb, List, length, map, get_or, set, sym, ap, subst, ◌∙◌, inl, inr, arith}
+use Rattle.std.proofs.Common.{◌≡◌, ◌≢◌, ℕ, ◌+◌, ◌-◌, ◌*◌, ◌/◌, ◌≤◌, eqb, List, length, map, get_or, sym, ap, ◌∙◌, inl, inr, arith}
 use Rattle.std.specs.Int.Bits.{bit_xor}
 use Rattle.std.specs.Simd.Lanes.{chunk, mask_l}
 use Rattle.std.proofs.lemmas.Bool.{eqb-false}
-use Rattle.std.proofs.lemmas.List.{get_or-set_same, get_or-set_other}
 use Rattle.std.proofs.lemmas.Simd.{none_from_empty_mask}
 use Rattle.quick_cache_index.specs.Index.{distance, told}
-use Rattle.quick_cache_index.specs.IndexGroups.{KeepsReached}
 use Rattle.quick_cache_index.proofs.Distances.{xor-back}
 use Rattle.quick_cache_index.proofs.CountedTokens.{equal_or_not}
 
@@ -33,24 +31,4 @@ AreWithin-less distances reaches home step within some inside none position at r
           position (omega (arith, group)) (omega (arith, group)) in
           absurd (eqb-false (get_or distances position 0) (told step) other (at ∙ ap told same))
       | inr other ↦ omega (arith, near, other, some)
-    ]
-
--- a home that reaches as far as that keeps what it reached, and so do the others
-pub KeepsReached-within : (distances reaches : List ℕ) (home step : ℕ) → home < length reaches
-    → AreWithin distances reaches home step
-    → KeepsReached distances reaches (set reaches home step)
-KeepsReached-within distances reaches home step inside within other position at reached =
-    elim (equal_or_not other home) [
-      | inl same ↦
-          let P : ℕ → Type 0 = λ h. get_or distances position 0 ≡ told (distance h position) in
-          let Q : ℕ → Type 0 = λ h. distance h position ≤ get_or reaches h 0 in
-          let near = within position (subst P same at) (subst Q same reached) in
-          omega (
-            arith,
-            near,
-            ap (λ h. distance h position) same,
-            ap (λ h. get_or (set reaches home step) h 0) same,
-            get_or-set_same reaches home step 0 inside,
-          )
-      | inr apart ↦ omega (arith, reached, get_or-set_other reaches home other step 0 apart)
     ]

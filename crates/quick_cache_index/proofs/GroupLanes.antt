@@ -243,7 +243,7 @@ lit-tag tags group tag inside lane set =
     ]
 
 -- what gives no number gives nothing
-some_none : (o : Option ℕ) → ((token : ℕ) → o ≡ Some token → ⊥) → o ≡ None
+pub some_none : (o : Option ℕ) → ((token : ℕ) → o ≡ Some token → ⊥) → o ≡ None
 some_none None off = refl
 some_none (Some token) off = absurd (off token refl)
 

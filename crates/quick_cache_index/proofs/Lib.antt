@@ -1,8 +1,8 @@
 mod Candidates
 pub mod CountedTokens
-mod Distances
+pub mod Distances
 mod FreedPlaces
-mod GroupLanes
+pub mod GroupLanes
 mod NearestFreePlace
 mod ShownTokens
 mod WalkedTokens

@@ -1,5 +1,5 @@
 -- What a walk over the groups of a hash meets: each token whose place has its tag.
-use Rattle.std.proofs.Common.{◌≡◌, ℕ, zero, suc, ◌+◌, ◌-◌, ◌*◌, ◌/◌, ◌%◌, ◌^◌, ◌<◌, ◌≤◌, cond, eqb, List, [], ◌∷◌, ◌++◌, length, map, get_or, Option, Some, None, refl, sym, ap, subst, ◌∙◌, inl, inr, arith, count_by, bit_and, bit_xor}
+use Rattle.std.proofs.Common.{◌≡◌, ℕ, zero, suc, ◌+◌, ◌-◌, ◌*◌, ◌/◌, ◌%◌, ◌^◌, ◌<◌, ◌≤◌, cond, eqb, List, ◌∷◌, ◌++◌, length, map, get_or, Option, Some, None, refl, sym, ap, subst, ◌∙◌, inl, inr, arith, count_by, bit_and, bit_xor}
 use Rattle.std.specs.Int.Bits.{xor_zero_r}
 use Rattle.std.specs.Int.{trailing_zeros, w64}
 use Rattle.std.specs.List.{cons_option, filter_map}
@@ -168,20 +168,6 @@ pub looks_at_lane : (walk : Walk) → IsWalk walk → 0 < walk.lanes
 looks_at_lane walk is some =
     subst (λ (group : ℕ). LooksAtLane walk (behind_lane walk)
     (16 * group + trailing_zeros w64 walk.lanes)) (sym is.group) (looks_at_lane-by walk is some)
-
--- a walk without a lane to look at that has read its last group
-pub candidates_left-end : (walk : Walk) → walk.lanes ≡ 0 → reach_of walk ≤ walk.step
-    → candidates_left walk ≡ []
-candidates_left-end walk none last =
-    let give : ℕ → Option ℕ = tagged_token walk.tags.now walk.tokens.now walk.hash in
-    let group : ℕ = bit_xor walk.home walk.step in
-    let behind : ℕ → List ℕ = λ n. positions_along walk.home (walk.step + 1) n in
-    let ended : reach_of walk - walk.step ≡ 0 = omega arith in
-    ap (λ lanes. filter_map give (lane_positions group lanes ++ behind (reach_of walk - walk.step)))
-    none
-    ∙ ap (λ ps. filter_map give (ps ++ behind (reach_of walk - walk.step)))
-    (lane_positions-none group)
-    ∙ ap (λ n. filter_map give (behind n)) ended
 
 -- ---- the next group is read
 

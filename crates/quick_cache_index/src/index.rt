@@ -4,7 +4,7 @@ ghost use Rattle.std.specs.Int.NonZero.{non_zero_u32_get};
 ghost use Rattle.quick_cache_index.specs.Index.{HasToken, HasNone, GainsToken, LosesToken, Leads, KeepsOtherLeads, KeepsAllLeads, AreCandidates, token_count, wanted_room};
 
 pub(crate) mod candidates;
-pub(crate) mod groups;
+pub mod groups;
 pub(crate) mod walk;
 
 pub use candidates::{Candidates, Look};

@@ -3,5 +3,4 @@ pub mod PinnedPairs
 pub mod Measure
 pub mod OneVictim
 pub mod OneOutcome
-pub mod OneAdmission
 pub mod Room

@@ -47,14 +47,6 @@ module _ {K V : Type 0} (rules : Rules K V) where
     pub cold : (hash : ℕ) → others hash → NoneHas hash old.cold → NoneHas hash new.cold
     pub nothing : (hash : ℕ) → others hash → HasNoHash rules hash old → HasNoHash rules hash new
 
-  brings_none : (others : ℕ → Type 0) (state : CacheState K V) → BringsNo others state state
-  brings_none others state = record {
-    target = refl;
-    capacity = refl;
-    cold = λ hash other none. none;
-    nothing = λ hash other none. none;
-  }
-
   pub brings_both : (others : ℕ → Type 0) (old mid new : CacheState K V) → BringsNo others old mid
       → BringsNo others mid new → BringsNo others old new
   brings_both others old mid new a b = record {

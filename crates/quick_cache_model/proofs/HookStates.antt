@@ -7,7 +7,7 @@ use Rattle.quick_cache_model.specs.Hooks.{HookCall, BeforeEvict, EvictHot, Evict
 use Rattle.quick_cache_model.proofs.EachElement.{all-permutation}
 use Rattle.quick_cache_model.specs.Fates.{residents}
 use Rattle.quick_cache_model.specs.Fitting.{AllFit}
-use Rattle.quick_cache_model.specs.Leads.{Leads, Tells, TellsBeside, TellsResidents}
+use Rattle.quick_cache_model.specs.Leads.{Leads, Tells, TellsBeside}
 use Rattle.quick_cache_model.proofs.Fitting.{PairFits, AllFit-residents}
 
 -- Each hook call at a pair that fits keeps what holds of the request state, and leaves a value that
@@ -47,14 +47,6 @@ module _ {K V S : Type 0} (fits : K → V → Type 0) (hooks : Hooks K V S) (P :
       let was = all-permutation (PairFits fits) pairs ((key, value) ∷ rest) order fit in
       Tells-keeps rest others calls runs.0 last runs.2 leads was.1
       (keep.cold first key value runs.0 runs.1 was.0 holds)
-
-  -- where all that became of the residents was told
-  pub TellsResidents-keeps : (old new : CacheState K V) (calls : List (HookCall K V))
-      (first last : S) → RunsHooks hooks calls first last → TellsResidents old calls new
-      → AllFit fits old → P first → P last
-  TellsResidents-keeps old new calls first last runs tells fit =
-      Tells-keeps (residents old) (residents new) calls first last runs tells
-      (AllFit-residents fits old fit)
 
   -- or of them and of a pair that fits
   pub TellsBeside-keeps : (key : K) (value : V) (old new : CacheState K V)

@@ -87,14 +87,6 @@ module _ {K V : Type 0} where
   HasSameSizes-refl : (state : CacheState K V) → HasSameSizes state state
   HasSameSizes-refl state = record { capacity = refl; hot_target = refl; ghost_limit = refl }
 
-  HasSameSizes-trans : (old mid new : CacheState K V) → HasSameSizes old mid → HasSameSizes mid new
-      → HasSameSizes old new
-  HasSameSizes-trans old mid new a b = record {
-    capacity = b.capacity ∙ a.capacity;
-    hot_target = b.hot_target ∙ a.hot_target;
-    ghost_limit = b.ghost_limit ∙ a.ghost_limit;
-  }
-
   HasSameSizes-equal : (old mid new : CacheState K V) → new ≡ mid → HasSameSizes old mid
       → HasSameSizes old new
   HasSameSizes-equal old mid new is same = record {

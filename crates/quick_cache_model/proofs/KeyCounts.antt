@@ -11,11 +11,6 @@ use Rattle.quick_cache_model.proofs.TouchLaws.{with_touches-key}
 abbrev pub one_if : Bool → ℕ
 one_if passed = cond passed 1 0
 
--- that is at most one
-pub one_if-le : (passed : Bool) → one_if passed ≤ 1
-one_if-le true = omega arith
-one_if-le false = omega arith
-
 -- and nothing only for a test that failed
 pub false-from_one_if : (passed : Bool) → one_if passed ≡ 0 → passed ≡ false
 false-from_one_if true e = absurd (omega (arith, e))

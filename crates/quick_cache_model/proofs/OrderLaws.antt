@@ -1,16 +1,16 @@
--- Laws of states that are the same but for the order of what has none: it is an equivalence, and
+-- Laws of states that are the same but for the order of what has none: they stay so in turn, and
 -- eviction does not look at that order, so from either it leads to the same but for the order.
-use Rattle.std.proofs.Common.{◌≡◌, ℕ, ◌+◌, ◌<◌, ◌≤◌, ◌==◌, Bool, true, false, if◌then◌else◌, cond}
-use Rattle.std.proofs.Common.{List, [], ◌∷◌, ◌++◌, map, IsPermutation, refl, sym, ap, subst, ◌∙◌, arith}
+use Rattle.std.proofs.Common.{◌≡◌, ℕ, ◌+◌, ◌<◌, ◌≤◌, Bool, true, false, cond}
+use Rattle.std.proofs.Common.{List, [], ◌∷◌, ◌++◌, map, IsPermutation, refl, ap, subst, ◌∙◌, arith}
 use Rattle.std.specs.List.{count_by}
-use Rattle.std.proofs.lemmas.List.Sorted.{IsPermutation-refl, IsPermutation-sym}
+use Rattle.std.proofs.lemmas.List.Sorted.{IsPermutation-refl}
 use Rattle.std.proofs.lemmas.List.Sorted.{IsPermutation-trans, IsPermutation-append_left}
 use Rattle.std.proofs.lemmas.List.Sorted.{sum_by-IsPermutation}
 use Rattle.quick_cache_model.specs.declared.queue.Queue.{Queue}
 use Rattle.quick_cache_model.specs.declared.queue.Queue.TheVariants.{Hot, Cold}
 use Rattle.quick_cache_model.specs.CacheState.{CacheState, Item, LoadingEntry, Place, InHot, InCold}
 use Rattle.quick_cache_model.specs.CacheState.{InStill, ring_place, with_items, items_at, entered}
-use Rattle.quick_cache_model.specs.CacheState.{rewritten, place_of_item, restarted_behind, keys_by}
+use Rattle.quick_cache_model.specs.CacheState.{place_of_item, restarted_behind, keys_by}
 use Rattle.quick_cache_model.specs.CacheState.{hot_weight, total_weight, SameButOrder, UpToOrder}
 use Rattle.quick_cache_model.specs.Hooks.{Rules, HookCall}
 use Rattle.quick_cache_model.specs.Touches.{RaisesMarks}
@@ -25,15 +25,6 @@ module _ {K V : Type 0} where
     still = IsPermutation-refl state.still;
     loading = IsPermutation-refl state.loading;
     same = refl;
-  }
-
-  -- the same both ways
-  pub SameButOrder-sym : (old new : CacheState K V) → SameButOrder old new → SameButOrder new old
-  SameButOrder-sym old new order = record {
-    still = IsPermutation-sym old.still new.still order.still;
-    loading = IsPermutation-sym old.loading new.loading order.loading;
-    same = sym (ap (λ (s : CacheState K V). record s { still = old.still; loading = old.loading })
-        order.same);
   }
 
   -- and the same as what that is the same as
@@ -60,11 +51,6 @@ module _ {K V : Type 0} where
             old.loading new.loading order.loading,
       )
 
-  -- and weighs as much
-  pub SameButOrder-weight : (old new : CacheState K V) → SameButOrder old new
-      → total_weight new ≡ total_weight old
-  SameButOrder-weight old new order = ap (λ (s : CacheState K V). total_weight s) order.same
-
   -- what holds of a state holds of it up to the order
   pub UpToOrder-exact : (P : CacheState K V → Type 0) (new : CacheState K V) → P new
       → UpToOrder P new
@@ -82,13 +68,6 @@ module _ {K V : Type 0} where
     holds = up.holds;
     same = SameButOrder-trans up.ordered mid new up.same order;
   }
-
-  -- what follows wherever P holds but for the order follows where it holds up to the order
-  pub UpToOrder-then : (P Q : CacheState K V → Type 0) (mid new : CacheState K V)
-      → UpToOrder P mid
-      → ((state : CacheState K V) → P state → SameButOrder state mid → UpToOrder Q new)
-      → UpToOrder Q new
-  UpToOrder-then P Q mid new up follows = follows up.ordered up.holds up.same
 
   -- one fact in place of another
   pub UpToOrder-map : (P Q : CacheState K V → Type 0) (new : CacheState K V)
@@ -146,32 +125,6 @@ module _ {K V : Type 0} where
       go InStill =
           SameButOrder-still (old.still ++ item ∷ []) (other.still ++ item ∷ []) old other
           (IsPermutation-append_left (item ∷ []) old.still other.still order.still) order
-
-  -- an item that is written over one of a ring
-  pub rewritten-reordered : (queue : Queue) (before : List (Item K V)) (item : Item K V)
-      (after : List (Item K V)) (old other : CacheState K V) → SameButOrder old other
-      → SameButOrder (rewritten (ring_place queue) before item after old)
-      (rewritten (ring_place queue) before item after other)
-  rewritten-reordered Hot before item after old other order = go (item.weight == 0)
-    where
-      written : (state : CacheState K V) (b : Bool) → CacheState K V
-      written state b = if b then entered item
-          (with_items InHot (restarted_behind before after) state)
-          else with_items InHot (before ++ item ∷ after) state
-
-      go : (b : Bool) → SameButOrder (written old b) (written other b)
-      go true = entered-reordered item _ _ (with_items-reordered Hot _ old other order)
-      go false = with_items-reordered Hot _ old other order
-  rewritten-reordered Cold before item after old other order = go (item.weight == 0)
-    where
-      written : (state : CacheState K V) (b : Bool) → CacheState K V
-      written state b = if b then entered item
-          (with_items InCold (restarted_behind before after) state)
-          else with_items InCold (before ++ item ∷ after) state
-
-      go : (b : Bool) → SameButOrder (written old b) (written other b)
-      go true = entered-reordered item _ _ (with_items-reordered Cold _ old other order)
-      go false = with_items-reordered Cold _ old other order
 
 module _ {K V : Type 0} (rules : Rules K V) where
   -- an item of the cold ring that is promoted

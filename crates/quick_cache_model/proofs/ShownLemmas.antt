@@ -1,14 +1,10 @@
 -- For the crates above: what may be shown for keys and values is what the relations say, and more
--- may be shown by wider ones. So where a clone is the very value, a look shows the value that it
--- finds.
-use Rattle.std.proofs.Common.{◌≡◌, Bool, List, [], ◌∷◌, Option, Some, None, refl, sym, subst}
-use Rattle.quick_cache_model.specs.CacheState.{CacheState, UpToOrder}
+-- may be shown by wider ones. What was found is shown by itself.
+use Rattle.std.proofs.Common.{Bool, List, [], ◌∷◌, Option, Some, None, refl}
+use Rattle.quick_cache_model.specs.CacheState.{CacheState}
 use Rattle.quick_cache_model.specs.Hooks.{Rules, HookCall}
-use Rattle.quick_cache_model.specs.Lookups.{LooksUp, Sees}
 use Rattle.quick_cache_model.specs.declared.calls.call.Call.{Call}
-use Rattle.quick_cache_model.specs.declared.calls.call.Call.TheVariants.{Get, Peek}
 use Rattle.quick_cache_model.specs.declared.calls.reply.Reply.{Reply}
-use Rattle.quick_cache_model.specs.declared.calls.reply.Reply.TheVariants.{Value}
 use Rattle.quick_cache_model.specs.CacheRun.{CacheRun}
 use Rattle.quick_cache_model.specs.CacheStep.{CacheStep}
 use Rattle.quick_cache_model.specs.Shown.{IsShown, IsItself, ArePairsShown}
@@ -114,34 +110,3 @@ module _ {K V : Type 0} (shows_key other_key : K → K → Type 0) (shows other 
 pub IsShown-itself : {V : Type 0} (found : Option V) → IsShown IsItself found found
 IsShown-itself None = tt
 IsShown-itself (Some value) = refl
-
--- a value that is shown by itself alone is the one that was found
-pub IsShown-exact : {V : Type 0} (shows : V → V → Type 0)
-    → ((old new : V) → shows old new → new ≡ old) → (found shown : Option V)
-    → IsShown shows found shown → shown ≡ found
-IsShown-exact shows exact None None is = refl
-IsShown-exact shows exact None (Some shown) is = absurd is
-IsShown-exact shows exact (Some value) None is = absurd is
-IsShown-exact shows exact (Some value) (Some shown) is = λ i. Some (exact value shown is i)
-
-module _ {K V F M : Type 0} (rules : Rules K V) (equal : K → K → Bool)
-    (shows_key : K → K → Type 0) (shows : V → V → Type 0)
-    (exact : (old new : V) → shows old new → new ≡ old) (answers : F → K → V → Bool)
-    (old : CacheState K V) where
-  -- so a reply shows what the look-up finds
-  pub gets_exactly : (key : K) (answer : Option V) (calls : List (HookCall K V))
-      (new : CacheState K V)
-      → CacheStep {M = M} rules equal shows_key shows answers old (Get key) (Value answer) calls new
-      → UpToOrder (LooksUp (equal key) old (λ item. item.value) answer) new
-  gets_exactly key _ _ _ (CacheStep.gets _ found shown new looks is) =
-      subst (λ answer. UpToOrder (LooksUp (equal key) old (λ item. item.value) answer) new)
-      (sym (IsShown-exact shows exact found shown is)) looks
-
-  -- and what the peek sees
-  pub peeks_exactly : (key : K) (answer : Option V) (calls : List (HookCall K V))
-      (new : CacheState K V)
-      → CacheStep {M = M} rules equal shows_key shows answers old (Peek key) (Value answer) calls
-      new → Sees (equal key) old (λ item. item.value) answer
-  peeks_exactly key _ _ _ (CacheStep.peeks _ found shown sees is) =
-      subst (λ answer. Sees (equal key) old (λ item. item.value) answer)
-      (sym (IsShown-exact shows exact found shown is)) sees

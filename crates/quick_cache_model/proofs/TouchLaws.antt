@@ -4,10 +4,6 @@ use Rattle.std.proofs.Common.{◌≡◌, ℕ, ◌≤◌, ◌==◌, Bool, true, f
 use Rattle.quick_cache_model.specs.CacheState.{Item}
 use Rattle.quick_cache_model.specs.Touches.{raised_by, counted_up, with_touches, TakesTouches, RaisesMarks}
 
--- a raised mark is at most the greatest
-pub raised_by-le : (cut n mark : ℕ) → raised_by cut n mark ≤ cut
-raised_by-le cut n mark = omega arith
-
 module _ {K V : Type 0} (cut : ℕ) where
   -- touches change no key
   pub with_touches-key : (n : ℕ) (item : Item K V) → (with_touches cut n item).key ≡ item.key

@@ -1,5 +1,4 @@
 mod BesideLemmas
-mod TokenEdits
 mod JoinedLemmas
 mod JoinedEdits
 mod JoinedWalks

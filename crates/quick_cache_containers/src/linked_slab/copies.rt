@@ -4,10 +4,10 @@ ghost use Rattle.std.specs.List.{AllZip};
 ghost use Rattle.quick_cache_containers.specs.LinkedSlab.{AreItemCopies, IsParted};
 ghost use Rattle.quick_cache_containers.specs.Links.{IsNodeCopy};
 
-use crate::linked_slab::{LinkedSlab, SlotNode};
+use crate::linked_slab::LinkedSlab;
+use crate::linked_slab::node::Node;
 use quick_cache_model::Refusal;
 use std::alloc::Allocator;
-use std::marker::PhantomData;
 
 /// How the items of a slab are copied.
 pub trait CopyItem<T> {
@@ -21,25 +21,26 @@ pub trait CopyItem<T> {
 }
 
 // A slot with the same links and a copy of the item, if it has one.
-fn copy_node<T, N: SlotNode<T>, C: CopyItem<T>>(node: &N, copier: &C) -> Result<N, Refusal>
-    ensures copies { IfOk result (IsNodeCopy N.item_of N.next_of N.prev_of (C.is_copy copier.now)
+fn copy_node<T, C: CopyItem<T>>(node: &Node<T>, copier: &C) -> Result<Node<T>, Refusal>
+    ensures copies { IfOk result (IsNodeCopy (C.is_copy copier.now)
         node.now) }
     ensures refused { OnErr result (result ≡ Err Refusal.Memory) }
 {
-    match node.get() {
-        Some(item) => Ok(node.copy_with(copier.copy(item)?)),
-        None => Ok(node.copy_free()),
-    }
+    let item = match node.get() {
+        Some(item) => Some(copier.copy(item)?),
+        None => None,
+    };
+    Ok(node.with(item))
 }
 
 // Copies of the slots, in their order.
-fn copy_nodes<T: Drop, A: Allocator, N: SlotNode<T> + Drop, C: CopyItem<T>>(
-    nodes: &[N],
+fn copy_nodes<T: Drop, A: Allocator, C: CopyItem<T>>(
+    nodes: &[Node<T>],
     alloc: A,
     copier: &C,
-) -> Result<Vec<N, A>, Refusal>
+) -> Result<Vec<Node<T>, A>, Refusal>
     ensures copies { IfOk result (λ copies.
-        AllZip (IsNodeCopy N.item_of N.next_of N.prev_of (C.is_copy copier.now)) nodes.now copies.items) }
+        AllZip (IsNodeCopy (C.is_copy copier.now)) nodes.now copies.items) }
     ensures refused { OnErr result (result ≡ Err Refusal.Memory) }
 {
     let Ok(mut copies) = Vec::with_capacity(alloc, nodes.len()) else {
@@ -51,7 +52,7 @@ fn copy_nodes<T: Drop, A: Allocator, N: SlotNode<T> + Drop, C: CopyItem<T>>(
     Ok(copies)
 }
 
-impl<T: Drop, A: Allocator, N: SlotNode<T> + Drop> LinkedSlab<T, A, N> {
+impl<T: Drop, A: Allocator> LinkedSlab<T, A> {
     /// A slab with a copy of each item under the token that the item has here, in the same rings.
     /// The same tokens are free, and are given out in the same order.
     ///
@@ -64,7 +65,6 @@ impl<T: Drop, A: Allocator, N: SlotNode<T> + Drop> LinkedSlab<T, A, N> {
         Ok(LinkedSlab {
             nodes: copy_nodes(self.nodes.as_slice(), alloc, copier)?,
             next_free: self.next_free,
-            items: PhantomData,
         })
     }
 }

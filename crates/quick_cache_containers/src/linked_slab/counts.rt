@@ -3,12 +3,12 @@ ghost use Rattle.std.specs.Prelude.{◌≡◌, ◌↔◌, ◌+◌, ◌<◌, leng
 ghost use Rattle.std.specs.Int.NonZero.{non_zero_u32_get as number};
 ghost use Rattle.quick_cache_containers.specs.LinkedSlab.{next_token, spare, IsFull, IsParted};
 
-use crate::linked_slab::{LinkedSlab, MAX_SLOTS, SlotNode, links};
+use crate::linked_slab::{LinkedSlab, MAX_SLOTS, links};
 use quick_cache_model::Token;
 use std::alloc::Allocator;
 use std::mem;
 
-impl<T, A: Allocator, N: SlotNode<T>> LinkedSlab<T, A, N> {
+impl<T, A: Allocator> LinkedSlab<T, A> {
     /// The token that the next `insert` gives out: 4294967295 where the slab is full.
     pub fn next_free(&self) -> Token
         ensures token { number result ≡ next_token self.now }

@@ -1,18 +1,18 @@
 //! Takes the items out of a `LinkedSlab`, by ascending token.
 ghost use Rattle.std.specs.Prelude.{◌≡◌, ◌+◌, ◌≤◌};
 
-use crate::linked_slab::{LinkedSlab, Node, SlotNode, past};
+use crate::linked_slab::{LinkedSlab, past};
 use std::alloc::{Allocator, Global};
 use std::iter::FusedIterator;
 
 /// Takes the items out of a slab, and leaves it empty once dropped, with its room.
-pub struct Drain<'a, T, A: Allocator = Global, N: SlotNode<T> = Node<T>> {
-    pub(super) slab: &'a mut LinkedSlab<T, A, N>,
+pub struct Drain<'a, T, A: Allocator = Global> {
+    pub(super) slab: &'a mut LinkedSlab<T, A>,
     // How many slots were visited.
     pub(super) passed: usize,
 }
 
-impl<'a, T: Drop, A: Allocator, N: SlotNode<T> + Drop> Drop for Drain<'a, T, A, N> {
+impl<'a, T: Drop, A: Allocator> Drop for Drain<'a, T, A> {
     ghost use Rattle.quick_cache_containers.specs.LinkedSlab.{emptied};
     ghost use Rattle.quick_cache_containers.specs.SlabDrain.{drain_room};
 
@@ -24,7 +24,7 @@ impl<'a, T: Drop, A: Allocator, N: SlotNode<T> + Drop> Drop for Drain<'a, T, A, 
     }
 }
 
-impl<'a, T: Drop, A: Allocator, N: SlotNode<T> + Drop> Iterator for Drain<'a, T, A, N> {
+impl<'a, T: Drop, A: Allocator> Iterator for Drain<'a, T, A> {
     ghost use Rattle.std.specs.Iterator.{item_count};
     ghost use Rattle.quick_cache_containers.specs.SlabDrain.{drain_rest, DrainSteps, DrainCanStep};
 
@@ -49,4 +49,4 @@ impl<'a, T: Drop, A: Allocator, N: SlotNode<T> + Drop> Iterator for Drain<'a, T,
     }
 }
 
-impl<'a, T: Drop, A: Allocator, N: SlotNode<T> + Drop> FusedIterator for Drain<'a, T, A, N> {}
+impl<'a, T: Drop, A: Allocator> FusedIterator for Drain<'a, T, A> {}

@@ -3,7 +3,7 @@ ghost use Rattle.std.specs.Prelude.{◌≡◌, ◌+◌, ◌-◌, ◌*◌, ◌≤
 ghost use Rattle.quick_cache_containers.specs.LinkedSlab.{spare, left, IsParted};
 
 use crate::linked_slab::links::next_of;
-use crate::linked_slab::{LinkedSlab, MAX_SLOTS, SlotNode};
+use crate::linked_slab::{LinkedSlab, MAX_SLOTS};
 use quick_cache_model::Refusal;
 use std::alloc::{AllocError, Allocator};
 
@@ -29,7 +29,7 @@ pub fn make_room<N, A: Allocator>(
     nodes.reserve_exact(additional.max(doubled))
 }
 
-impl<T, A: Allocator, N: SlotNode<T>> LinkedSlab<T, A, N> {
+impl<T, A: Allocator> LinkedSlab<T, A> {
     /// Makes room for so many more items, or for all that a slab can still have.
     ///
     /// Free slots count, so where these and the room suffice it asks for no memory. It reads at

@@ -3,7 +3,7 @@ ghost use Rattle.std.specs.Prelude.{◌≡◌};
 ghost use Rattle.std.specs.Int.NonZero.{non_zero_u32_get as number};
 ghost use Rattle.quick_cache_containers.specs.LinkedSlab.{item_at, IsOccupied, successor};
 
-use crate::linked_slab::{LinkedSlab, Node, SlotNode};
+use crate::linked_slab::LinkedSlab;
 use quick_cache_model::Token;
 use std::alloc::{Allocator, Global};
 
@@ -11,15 +11,15 @@ use std::alloc::{Allocator, Global};
 ///
 /// It knows that the item is there, so its methods ask nothing.
 #[derive(Drop)]
-pub struct ItemMut<'a, T, A: Allocator = Global, N: SlotNode<T> = Node<T>> {
-    pub(super) slab: &'a mut LinkedSlab<T, A, N>,
+pub struct ItemMut<'a, T, A: Allocator = Global> {
+    pub(super) slab: &'a mut LinkedSlab<T, A>,
     // The number of the token, since no `Option` holds a `&mut` beside a token.
     pub(super) place: u32,
     // There is an item at the token.
     ghost occupied: { IsOccupied slab.now place },
 }
 
-impl<'a, T, A: Allocator, N: SlotNode<T>> ItemMut<'a, T, A, N> {
+impl<'a, T, A: Allocator> ItemMut<'a, T, A> {
     ghost use Rattle.std.specs.Prelude.{Some};
     ghost use Rattle.std.specs.Borrow.{sem};
     ghost use Rattle.quick_cache_containers.specs.SlabLends.{held_slab, held_token, lends_held};
@@ -36,7 +36,7 @@ impl<'a, T, A: Allocator, N: SlotNode<T>> ItemMut<'a, T, A, N> {
     /// The item.
     #[inline]
     pub fn into_mut(self) -> &'a mut T
-        ensures* writes_back { sem 𝓛 (lends_held T.row A.row N.row A.Allocator N.SlotNode self.entry result) }
+        ensures* writes_back { sem 𝓛 (lends_held T.row A.row A.Allocator self.entry result) }
         ensures item { item_at (held_slab self.entry) (held_token self.entry)
             ≡ Some result.now }
     {

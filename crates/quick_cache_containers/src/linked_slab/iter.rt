@@ -3,28 +3,30 @@ ghost use Rattle.std.specs.Prelude.{◌≡◌, ◌+◌, length};
 ghost use Rattle.std.specs.Int.NonZero.{non_zero_u32_get as number};
 ghost use Rattle.std.specs.Iterator.{YieldsFirst, YieldsFirstBy, item_count};
 
-use crate::linked_slab::{Node, SlotNode, past};
+use crate::linked_slab::node::Node;
+use crate::linked_slab::past;
 use quick_cache_model::Token;
 use std::alloc::{Allocator, Global};
 use std::iter::FusedIterator;
-use std::marker::{Model, PhantomData};
+use std::marker::Model;
 
 /// The items of a slab, seen as the list of those that are left.
 #[derive(Drop)]
-pub struct Iter<'a, T, N: SlotNode<T> = Node<T>> {
-    pub(super) nodes: &'a [N],
-    pub(super) items: PhantomData<&'a T>,
+pub struct Iter<'a, T> {
+    pub(super) nodes: &'a [Node<T>],
 }
 
-impl<'a, T, N: SlotNode<T>> Model for Iter<'a, T, N> {
+impl<'a, T> Model for Iter<'a, T> {
     ghost use Rattle.std.specs.Prelude.{List, filter_map, map};
 
     ghost Value = { List T };
 
-    ghost view = { λ it. filter_map (λ slot. slot) (map N.item_of it.nodes.now) };
+    ghost use Rattle.quick_cache_containers.specs.Nodes.{item_of};
+
+    ghost view = { λ it. filter_map (λ slot. slot) (map item_of it.nodes.now) };
 }
 
-impl<'a, T, N: SlotNode<T>> Iterator for Iter<'a, T, N> {
+impl<'a, T> Iterator for Iter<'a, T> {
     type Item = &'a T;
 
     ghost next_gives = { YieldsFirstBy (λ item. item.now) (λ rest. rest) };
@@ -42,30 +44,30 @@ impl<'a, T, N: SlotNode<T>> Iterator for Iter<'a, T, N> {
     }
 }
 
-impl<'a, T, N: SlotNode<T>> FusedIterator for Iter<'a, T, N> {}
+impl<'a, T> FusedIterator for Iter<'a, T> {}
 
 /// The tokens and items of a slab from some token on, seen as the list of those that are left.
 #[derive(Drop)]
-pub struct IterFrom<'a, T, N: SlotNode<T> = Node<T>> {
-    pub(super) nodes: &'a [N],
+pub struct IterFrom<'a, T> {
+    pub(super) nodes: &'a [Node<T>],
     // How many slots come before these.
     pub(super) passed: usize,
-    pub(super) items: PhantomData<&'a T>,
 }
 
-impl<'a, T, N: SlotNode<T>> Model for IterFrom<'a, T, N> {
+impl<'a, T> Model for IterFrom<'a, T> {
     ghost use Rattle.std.specs.Prelude.{ℕ, List, length, map, ◌+◌, ◌<◌};
 
     ghost Value = { List (ℕ × T) };
 
     ghost use Rattle.quick_cache_containers.specs.LinkedSlab.{entries_past};
+    ghost use Rattle.quick_cache_containers.specs.Nodes.{item_of};
 
-    ghost view = { λ it. entries_past it.passed (map N.item_of it.nodes.now) };
+    ghost view = { λ it. entries_past it.passed (map item_of it.nodes.now) };
 
     ghost invariant = { λ it. it.passed + length it.nodes.now < 4294967295 };
 }
 
-impl<'a, T, N: SlotNode<T>> Iterator for IterFrom<'a, T, N> {
+impl<'a, T> Iterator for IterFrom<'a, T> {
     type Item = (Token, &'a T);
 
     ghost next_gives = { YieldsFirstBy (λ entry. (number entry.0, entry.1.now)) (λ rest. rest) };
@@ -85,4 +87,4 @@ impl<'a, T, N: SlotNode<T>> Iterator for IterFrom<'a, T, N> {
     }
 }
 
-impl<'a, T, N: SlotNode<T>> FusedIterator for IterFrom<'a, T, N> {}
+impl<'a, T> FusedIterator for IterFrom<'a, T> {}

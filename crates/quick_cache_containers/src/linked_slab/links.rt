@@ -3,9 +3,10 @@
 ghost use Rattle.std.specs.Prelude.{◌≡◌, ◌≢◌, ◌+◌, ◌<◌, ◌≤◌, true, false, length, map, count_by, is_some, IfSome, IfNone, MatchOption};
 ghost use Rattle.std.specs.Int.NonZero.{non_zero_u32_get as number};
 ghost use Rattle.quick_cache_containers.specs.LinkedSlab.{at_token, with_token};
+ghost use Rattle.quick_cache_containers.specs.Nodes.{item_of, next_link, prev_link};
 ghost use Rattle.quick_cache_containers.specs.Links.{is_taken, link_of, AreLinked, Unlinks, Links};
 
-use crate::linked_slab::node::SlotNode;
+use crate::linked_slab::node::Node;
 use quick_cache_model::Token;
 
 /// Where the slot of a token stands.
@@ -17,54 +18,54 @@ pub(crate) fn place(token: Token) -> usize
 }
 
 #[inline(always)]
-fn set_next<T, N: SlotNode<T>>(nodes: &mut [N], token: Token, next: Token)
+fn set_next<T>(nodes: &mut [Node<T>], token: Token, next: Token)
     requires { number token ≤ length nodes.old }
-    ensures slots { map N.item_of nodes.new ≡ map N.item_of nodes.old }
-    ensures nexts { map N.next_of nodes.new
-        ≡ with_token (map N.next_of nodes.old) (number token) (number next) }
-    ensures prevs { map N.prev_of nodes.new ≡ map N.prev_of nodes.old }
+    ensures slots { map item_of nodes.new ≡ map item_of nodes.old }
+    ensures nexts { map next_link nodes.new
+        ≡ with_token (map next_link nodes.old) (number token) (number next) }
+    ensures prevs { map prev_link nodes.new ≡ map prev_link nodes.old }
 {
     nodes[place(token)].set_next(next);
 }
 
 #[inline(always)]
-fn set_prev<T, N: SlotNode<T>>(nodes: &mut [N], token: Token, prev: Token)
-    requires { is_taken (map N.item_of nodes.old) (number token) ≡ true }
-    ensures slots { map N.item_of nodes.new ≡ map N.item_of nodes.old }
-    ensures nexts { map N.next_of nodes.new ≡ map N.next_of nodes.old }
-    ensures prevs { map N.prev_of nodes.new
-        ≡ with_token (map N.prev_of nodes.old) (number token) (number prev) }
+fn set_prev<T>(nodes: &mut [Node<T>], token: Token, prev: Token)
+    requires { is_taken (map item_of nodes.old) (number token) ≡ true }
+    ensures slots { map item_of nodes.new ≡ map item_of nodes.old }
+    ensures nexts { map next_link nodes.new ≡ map next_link nodes.old }
+    ensures prevs { map prev_link nodes.new
+        ≡ with_token (map prev_link nodes.old) (number token) (number prev) }
 {
     nodes[place(token)].set_prev(prev);
 }
 
 /// The token behind one in its ring, or behind a free one in the list of free tokens.
 #[inline(always)]
-pub(crate) fn next_of<T, N: SlotNode<T>>(nodes: &[N], token: Token) -> Token
+pub(crate) fn next_of<T>(nodes: &[Node<T>], token: Token) -> Token
     requires { number token ≤ length nodes.now }
-    ensures { number result ≡ link_of (map N.next_of nodes.now) (number token) }
+    ensures { number result ≡ link_of (map next_link nodes.now) (number token) }
 {
     nodes[place(token)].next()
 }
 
 #[inline(always)]
-fn prev_of<T, N: SlotNode<T>>(nodes: &[N], token: Token) -> Token
-    requires { is_taken (map N.item_of nodes.now) (number token) ≡ true }
-    ensures { number result ≡ link_of (map N.prev_of nodes.now) (number token) }
+fn prev_of<T>(nodes: &[Node<T>], token: Token) -> Token
+    requires { is_taken (map item_of nodes.now) (number token) ≡ true }
+    ensures { number result ≡ link_of (map prev_link nodes.now) (number token) }
 {
     nodes[place(token)].prev()
 }
 
 /// Takes a slot out of its ring, and answers its old successor if that was another.
 #[inline]
-pub(crate) fn unlink<T, N: SlotNode<T>>(nodes: &mut [N], token: Token) -> Option<Token>
-    requires linked { AreLinked (map N.item_of nodes.old) (map N.next_of nodes.old) (map N.prev_of nodes.old) }
-    requires taken { is_taken (map N.item_of nodes.old) (number token) ≡ true }
-    ensures slots { map N.item_of nodes.new ≡ map N.item_of nodes.old }
-    ensures unlinks { Unlinks (map N.item_of nodes.old) (map N.next_of nodes.old) (map N.prev_of nodes.old)
-        (number token) (map N.next_of nodes.new) (map N.prev_of nodes.new) }
-    ensures next { MatchOption result (link_of (map N.next_of nodes.old) (number token) ≡ number token)
-        (λ next. (number next ≡ link_of (map N.next_of nodes.old) (number token))
+pub(crate) fn unlink<T>(nodes: &mut [Node<T>], token: Token) -> Option<Token>
+    requires linked { AreLinked (map item_of nodes.old) (map next_link nodes.old) (map prev_link nodes.old) }
+    requires taken { is_taken (map item_of nodes.old) (number token) ≡ true }
+    ensures slots { map item_of nodes.new ≡ map item_of nodes.old }
+    ensures unlinks { Unlinks (map item_of nodes.old) (map next_link nodes.old) (map prev_link nodes.old)
+        (number token) (map next_link nodes.new) (map prev_link nodes.new) }
+    ensures next { MatchOption result (link_of (map next_link nodes.old) (number token) ≡ number token)
+        (λ next. (number next ≡ link_of (map next_link nodes.old) (number token))
         × (number next ≢ number token)) }
 {
     let next = next_of(nodes, token);
@@ -81,15 +82,15 @@ pub(crate) fn unlink<T, N: SlotNode<T>>(nodes: &mut [N], token: Token) -> Option
 
 /// Puts a slot that is a ring of one before the head of another ring.
 #[inline]
-pub(crate) fn link<T, N: SlotNode<T>>(nodes: &mut [N], token: Token, head: Token)
-    requires linked { AreLinked (map N.item_of nodes.old) (map N.next_of nodes.old) (map N.prev_of nodes.old) }
-    requires taken { is_taken (map N.item_of nodes.old) (number token) ≡ true }
-    requires head { is_taken (map N.item_of nodes.old) (number head) ≡ true }
-    requires alone { link_of (map N.next_of nodes.old) (number token) ≡ number token }
+pub(crate) fn link<T>(nodes: &mut [Node<T>], token: Token, head: Token)
+    requires linked { AreLinked (map item_of nodes.old) (map next_link nodes.old) (map prev_link nodes.old) }
+    requires taken { is_taken (map item_of nodes.old) (number token) ≡ true }
+    requires head { is_taken (map item_of nodes.old) (number head) ≡ true }
+    requires alone { link_of (map next_link nodes.old) (number token) ≡ number token }
     requires apart { number head ≢ number token }
-    ensures slots { map N.item_of nodes.new ≡ map N.item_of nodes.old }
-    ensures links { Links (map N.item_of nodes.old) (map N.next_of nodes.old) (map N.prev_of nodes.old)
-        (number token) (number head) (map N.next_of nodes.new) (map N.prev_of nodes.new) }
+    ensures slots { map item_of nodes.new ≡ map item_of nodes.old }
+    ensures links { Links (map item_of nodes.old) (map next_link nodes.old) (map prev_link nodes.old)
+        (number token) (number head) (map next_link nodes.new) (map prev_link nodes.new) }
 {
     let last = prev_of(nodes, head);
     set_prev(nodes, head, token);
@@ -100,8 +101,8 @@ pub(crate) fn link<T, N: SlotNode<T>>(nodes: &mut [N], token: Token, head: Token
 
 /// Whether a slot stands at the token and has an item.
 #[inline]
-pub(crate) fn is_occupied<T, N: SlotNode<T>>(nodes: &[N], token: Token) -> bool
-    ensures { result ≡ is_taken (map N.item_of nodes.now) (number token) }
+pub(crate) fn is_occupied<T>(nodes: &[Node<T>], token: Token) -> bool
+    ensures { result ≡ is_taken (map item_of nodes.now) (number token) }
 {
     let at = place(token);
     at < nodes.len() && nodes[at].is_occupied()
@@ -109,12 +110,12 @@ pub(crate) fn is_occupied<T, N: SlotNode<T>>(nodes: &[N], token: Token) -> bool
 
 /// The item of a slot and its link, if it has an item.
 #[inline]
-pub(crate) fn get<T, N: SlotNode<T>>(nodes: &[N], token: Token) -> Option<(&T, Token)>
-    ensures absent { IfNone result (at_token (map N.item_of nodes.now) (number token) None ≡ None) }
+pub(crate) fn get<T>(nodes: &[Node<T>], token: Token) -> Option<(&T, Token)>
+    ensures absent { IfNone result (at_token (map item_of nodes.now) (number token) None ≡ None) }
     ensures item { IfSome result
-        (λ found. at_token (map N.item_of nodes.now) (number token) None ≡ Some found.0.now) }
+        (λ found. at_token (map item_of nodes.now) (number token) None ≡ Some found.0.now) }
     ensures next { IfSome result
-        (λ found. number found.1 ≡ link_of (map N.next_of nodes.now) (number token)) }
+        (λ found. number found.1 ≡ link_of (map next_link nodes.now) (number token)) }
 {
     let at = place(token);
     if at >= nodes.len() {
@@ -129,37 +130,37 @@ pub(crate) fn get<T, N: SlotNode<T>>(nodes: &[N], token: Token) -> Option<(&T, T
 
 /// Puts an item into a free slot, which names itself then, and answers the link that it had.
 #[inline]
-pub(crate) fn fill<T, N: SlotNode<T>>(nodes: &mut [N], token: Token, item: T) -> Token
+pub(crate) fn fill<T>(nodes: &mut [Node<T>], token: Token, item: T) -> Token
     requires within { number token ≤ length nodes.old }
-    requires free { is_taken (map N.item_of nodes.old) (number token) ≡ false }
-    ensures slots { map N.item_of nodes.new
-        ≡ with_token (map N.item_of nodes.old) (number token) (Some item) }
-    ensures nexts { map N.next_of nodes.new
-        ≡ with_token (map N.next_of nodes.old) (number token) (number token) }
-    ensures prevs { map N.prev_of nodes.new
-        ≡ with_token (map N.prev_of nodes.old) (number token) (number token) }
-    ensures link { number result ≡ link_of (map N.next_of nodes.old) (number token) }
+    requires free { is_taken (map item_of nodes.old) (number token) ≡ false }
+    ensures slots { map item_of nodes.new
+        ≡ with_token (map item_of nodes.old) (number token) (Some item) }
+    ensures nexts { map next_link nodes.new
+        ≡ with_token (map next_link nodes.old) (number token) (number token) }
+    ensures prevs { map prev_link nodes.new
+        ≡ with_token (map prev_link nodes.old) (number token) (number token) }
+    ensures link { number result ≡ link_of (map next_link nodes.old) (number token) }
 {
     nodes[place(token)].fill(item, token)
 }
 
 /// Takes the item out of an occupied slot, and gives the slot a link.
 #[inline]
-pub(crate) fn vacate<T, N: SlotNode<T>>(nodes: &mut [N], token: Token, link: Token) -> T
-    requires { is_taken (map N.item_of nodes.old) (number token) ≡ true }
-    ensures item { at_token (map N.item_of nodes.old) (number token) None ≡ Some result }
-    ensures slots { map N.item_of nodes.new ≡ with_token (map N.item_of nodes.old) (number token) None }
-    ensures nexts { map N.next_of nodes.new
-        ≡ with_token (map N.next_of nodes.old) (number token) (number link) }
-    ensures prevs { map N.prev_of nodes.new ≡ with_token (map N.prev_of nodes.old) (number token)
-        (link_of (map N.prev_of nodes.new) (number token)) }
+pub(crate) fn vacate<T>(nodes: &mut [Node<T>], token: Token, link: Token) -> T
+    requires { is_taken (map item_of nodes.old) (number token) ≡ true }
+    ensures item { at_token (map item_of nodes.old) (number token) None ≡ Some result }
+    ensures slots { map item_of nodes.new ≡ with_token (map item_of nodes.old) (number token) None }
+    ensures nexts { map next_link nodes.new
+        ≡ with_token (map next_link nodes.old) (number token) (number link) }
+    ensures prevs { map prev_link nodes.new ≡ with_token (map prev_link nodes.old) (number token)
+        (link_of (map prev_link nodes.new) (number token)) }
 {
     nodes[place(token)].vacate(link)
 }
 
 /// How many slots have an item.
-pub(crate) fn occupied_count<T, N: SlotNode<T>>(nodes: &[N]) -> usize
-    ensures { result ≡ count_by is_some (map N.item_of nodes.now) }
+pub(crate) fn occupied_count<T>(nodes: &[Node<T>]) -> usize
+    ensures { result ≡ count_by is_some (map item_of nodes.now) }
 {
     let mut count = 0;
     for node in nodes {

@@ -4,12 +4,12 @@ ghost use Rattle.std.specs.Int.NonZero.{non_zero_u32_get as number};
 ghost use Rattle.quick_cache_containers.specs.LinkedSlab.{item_at, IsOccupied, IsNextOf, IsParted, removed, successor};
 ghost use Rattle.quick_cache_containers.specs.SlabEdits.{RemovesItem};
 
+use crate::linked_slab::LinkedSlab;
 use crate::linked_slab::links::{place, unlink, vacate};
-use crate::linked_slab::{LinkedSlab, SlotNode};
 use quick_cache_model::Token;
 use std::alloc::Allocator;
 
-impl<T, A: Allocator, N: SlotNode<T>> LinkedSlab<T, A, N> {
+impl<T, A: Allocator> LinkedSlab<T, A> {
     ghost use Rattle.std.specs.Borrow.{sem};
     ghost use Rattle.quick_cache_containers.specs.SlabLends.{lends_item};
 
@@ -28,7 +28,7 @@ impl<T, A: Allocator, N: SlotNode<T>> LinkedSlab<T, A, N> {
     #[inline]
     pub unsafe fn get_mut_unchecked(&mut self, token: Token) -> (&mut T, Token)
         requires { IsOccupied self.old (number token) }
-        ensures* writes_back { sem 𝓛 (lends_item T.row A.row N.row A.Allocator N.SlotNode self.entry (number token)
+        ensures* writes_back { sem 𝓛 (lends_item T.row A.row A.Allocator self.entry (number token)
             result.0) }
         ensures item { item_at self.old (number token) ≡ Some result.0.now }
         ensures next { number result.1 ≡ successor self.old (number token) }

@@ -1,92 +1,15 @@
-//! Places of pairs, in groups of sixteen, and a tag for each place.
-//!
-//! A search reads the group that the hash names, its home, and where pairs had no room there, the
-//! groups at distance 1, 2 and so on, up to the home's reach. The group at a distance is the one
-//! whose number differs from the home's in the bits of that distance, so that the next few lie in
-//! the same line of the cache, and each group is met once.
+//! Places of pairs, in groups of sixteen, and a tag for each place: the groups of the index.
 ghost use Rattle.std.specs.Prelude.{◌≡◌, ◌≢◌, ℕ, List, ◌+◌, ◌-◌, ◌*◌, ◌^◌, ◌<◌, ◌≤◌, ◌==◌, ◌&&◌, false, length, count_by, map, replicate, IsTrue, IsFalse, OnOk, OnErr, IfErr, bit_xor, slice_index, slice_set, vec_len, vec_capacity};
 ghost use Rattle.std.specs.Simd.Lanes.{chunk, mask_l};
 ghost use Rattle.std.specs.Int.{IsPowerOfTwo};
-ghost use Rattle.quick_cache_containers.specs.TableGroups.{hash_at, is_free, place_at, tag_of as tag_number, home_of as home_number, distance, IsReached, IsGrouped, IsHoused, IsBareBelow, IsWhole, capacity_of, HasOneMore, HasSamePairs, HasPairOf, ReachesGrow, empty_place};
+ghost use Rattle.quick_cache_index.specs.Index.{tag_of as tag_number, home_of as home_number, distance, IsReached};
+ghost use Rattle.quick_cache_index.specs.IndexGroups.{capacity_of, ReachesGrow};
+ghost use Rattle.quick_cache_containers.specs.TableGroups.{hash_at, is_free, place_at, IsGrouped, IsHoused, IsBareBelow, IsWhole, HasOneMore, HasSamePairs, HasPairOf, empty_place};
 
 use super::places::{Places, Seen};
+use quick_cache_index::index::groups::{LANES, home_of, tag_of, untagged};
 use quick_cache_model::Refusal;
 use std::alloc::Allocator;
-use std::simd::prelude::*;
-
-// How many places a group has, and how many pairs it is made for.
-pub(crate) const LANES: usize = 16;
-
-pub(crate) const PAIRS_A_GROUP: usize = 14;
-
-// As many pairs as there are tokens.
-pub(crate) const MOST_PAIRS: usize = 4_294_967_294;
-
-// How many pairs so many groups are made for.
-pub(crate) fn capacity(groups: usize) -> usize
-    requires { groups ≤ 2 ^ 29 }
-    ensures { result ≡ capacity_of groups }
-{
-    (PAIRS_A_GROUP * groups).min(MOST_PAIRS)
-}
-
-// How many groups a table of so many pairs has at least, a power of two.
-pub(crate) fn groups_for(pairs: usize) -> usize
-    requires { pairs ≤ 4294967294 }
-    ensures power { IsPowerOfTwo result }
-    ensures few { result ≤ 2 ^ 29 }
-    ensures enough { pairs ≤ capacity_of result }
-{
-    pairs.div_ceil(PAIRS_A_GROUP).next_power_of_two()
-}
-
-// The tag of a hash: its highest byte, but never 0, which is the tag of a free place.
-pub(crate) fn tag_of(hash: u64) -> u8
-    ensures value { result ≡ tag_number hash }
-    ensures some { 0 < result }
-{
-    (hash >> 56).max(1) as u8
-}
-
-// The group at which a search for the hash begins.
-pub(crate) fn home_of(hash: u64, mask: usize) -> usize
-    ensures value { result ≡ home_number mask hash }
-    ensures within { result ≤ mask }
-{
-    hash as usize & mask
-}
-
-// A bit for each place of the group that has the tag.
-pub(crate) fn lanes_of(tags: &[u8], group: usize, tag: u8) -> u64
-    requires { 16 * group + 16 ≤ length tags.now }
-    ensures { result ≡ mask_l (map (λ t. t == tag) (chunk (16 * group) 16 tags.now)) }
-{
-    let lanes = u8x16::from_slice(&tags[LANES * group..]);
-    lanes.simd_eq(u8x16::splat(tag)).to_bitmask()
-}
-
-// The position of a place without a tag, as near to the home as there is one.
-fn untagged(tags: &[u8], mask: usize, home: usize) -> usize
-    requires sized { length tags.now ≡ 16 * (mask + 1) }
-    requires power { IsPowerOfTwo (mask + 1) }
-    requires few { mask < 2 ^ 29 }
-    requires home { home ≤ mask }
-    requires some { 0 < count_by (λ t. t == 0) tags.now }
-    ensures within { result < length tags.now }
-    ensures untagged { slice_index tags.now result ≡ 0 }
-    ensures nearest { (position : ℕ) → position < length tags.now
-        → slice_index tags.now position ≡ 0 → distance home result ≤ distance home position }
-{
-    let mut step = 0;
-    loop {
-        let group = home ^ step;
-        let lanes = lanes_of(tags, group, 0);
-        if lanes != 0 {
-            return LANES * group + lanes.trailing_zeros() as usize;
-        }
-        step += 1;
-    }
-}
 
 // Gives the place the tag of the hash, and has the home reach it.
 fn tag_place(tags: &mut [u8], reaches: &mut [u32], mask: usize, hash: u64, position: usize)

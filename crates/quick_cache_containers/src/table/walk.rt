@@ -2,8 +2,8 @@
 ghost use Rattle.std.specs.Prelude.{◌≡◌, ◌<◌, ◌==◌, ◌∷◌, [], length, count_by, IfSome, IfNone, IsTrue};
 ghost use Rattle.quick_cache_containers.specs.TableGroups.{hash_at, holds_pair, place_at, reach_of, IsWhole, IsWalk, tokens_left, AreTokensOf};
 
-use super::groups::{LANES, home_of, lanes_of, tag_of};
 use super::places::Seen;
+use quick_cache_index::index::groups::{LANES, home_of, lanes_of, tag_of};
 
 /// What is left of the groups in which pairs of a hash can be.
 #[derive(Drop)]

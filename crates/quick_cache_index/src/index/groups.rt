@@ -14,27 +14,28 @@ use quick_cache_model::{Refusal, Token};
 use std::alloc::Allocator;
 use std::simd::prelude::*;
 
-// How many places a group has, and how many tokens it is made for.
-pub(crate) const LANES: usize = 16;
+/// How many places a group has.
+pub const LANES: usize = 16;
 
-pub(crate) const TOKENS_A_GROUP: usize = 14;
+// How many tokens a group is made for.
+const TOKENS_A_GROUP: usize = 14;
 
 // The greatest distance that a byte tells.
 const FAR: usize = 255;
 
-// As many as there are tokens.
-pub(crate) const MOST_TOKENS: usize = 4_294_967_294;
+/// As many as there are tokens.
+pub const MOST_TOKENS: usize = 4_294_967_294;
 
-// How many tokens so many groups are made for.
-pub(crate) fn capacity(groups: usize) -> usize
+/// How many tokens so many groups are made for.
+pub fn capacity(groups: usize) -> usize
     requires { groups ≤ 2 ^ 29 }
     ensures { result ≡ capacity_of groups }
 {
     (TOKENS_A_GROUP * groups).min(MOST_TOKENS)
 }
 
-// How many groups an index of so many tokens has at least, a power of two.
-pub(crate) fn groups_for(tokens: usize) -> usize
+/// How many groups an index of so many tokens has at least, a power of two.
+pub fn groups_for(tokens: usize) -> usize
     requires { tokens ≤ 4294967294 }
     ensures power { IsPowerOfTwo result }
     ensures few { result ≤ 2 ^ 29 }
@@ -44,16 +45,16 @@ pub(crate) fn groups_for(tokens: usize) -> usize
     tokens.div_ceil(TOKENS_A_GROUP).next_power_of_two()
 }
 
-// The tag of a hash: its highest byte, but never 0, which is the tag of a free place.
-pub(crate) fn tag_of(hash: u64) -> u8
+/// The tag of a hash: its highest byte, but never 0, which is the tag of a free place.
+pub fn tag_of(hash: u64) -> u8
     ensures value { result ≡ tag_number hash }
     ensures some { 0 < result }
 {
     (hash >> 56).max(1) as u8
 }
 
-// The group at which a search for the hash begins.
-pub(crate) fn home_of(hash: u64, mask: usize) -> usize
+/// The group at which a search for the hash begins.
+pub fn home_of(hash: u64, mask: usize) -> usize
     ensures value { result ≡ home_number mask hash }
     ensures within { result ≤ mask }
 {
@@ -67,8 +68,8 @@ fn told(step: usize) -> u8
     step.min(FAR) as u8
 }
 
-// A bit for each place of the group that has the tag, or the distance.
-pub(crate) fn lanes_of(tags: &[u8], group: usize, tag: u8) -> u64
+/// A bit for each place of the group that has the tag, or the distance.
+pub fn lanes_of(tags: &[u8], group: usize, tag: u8) -> u64
     requires { 16 * group + 16 ≤ length tags.now }
     ensures { result ≡ mask_l (map (λ t. t == tag) (chunk (16 * group) 16 tags.now)) }
 {
@@ -76,8 +77,8 @@ pub(crate) fn lanes_of(tags: &[u8], group: usize, tag: u8) -> u64
     lanes.simd_eq(u8x16::splat(tag)).to_bitmask()
 }
 
-// The position of a place without a tag, as near to the home as there is one.
-fn untagged(tags: &[u8], mask: usize, home: usize) -> usize
+/// The position of a place without a tag, as near to the home as there is one.
+pub fn untagged(tags: &[u8], mask: usize, home: usize) -> usize
     requires sized { length tags.now ≡ 16 * (mask + 1) }
     requires power { IsPowerOfTwo (mask + 1) }
     requires few { mask < 2 ^ 29 }

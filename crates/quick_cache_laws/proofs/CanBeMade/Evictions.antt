@@ -291,24 +291,6 @@ can_call_idle_hooks = record {
 }
 
 module _ {K V : Type 0} (rules : Rules K V) (may : rules.may_count 0) where
-  -- whatever the hooks may be: a hot advance can be made in each state
-  pub AdvancesHot-ends : (old : CacheState K V) → (answer : Bool) × (calls : List (HookCall K V))
-      × (new : CacheState K V) × AdvancesHot rules old answer calls new
-  AdvancesHot-ends old = let step = AdvancesHot-exists rules may idle_hooks can_call_idle_hooks old
-      tt in (step.answer, step.calls, step.new, step.holds)
-
-  -- and a cold one
-  pub AdvancesCold-ends : (old : CacheState K V) → (answer : Bool) × (calls : List (HookCall K V))
-      × (new : CacheState K V) × AdvancesCold rules old answer calls new
-  AdvancesCold-ends old = let step = AdvancesCold-exists rules may idle_hooks can_call_idle_hooks
-      old tt in (step.answer, step.calls, step.new, step.holds)
-
-  -- the hot ring can be brought to its target
-  pub EvictsToTarget-ends : (old : CacheState K V) → (calls : List (HookCall K V))
-      × (new : CacheState K V) × EvictsToTarget rules old calls new
-  EvictsToTarget-ends old = let all = EvictsToTarget-exists rules may idle_hooks can_call_idle_hooks
-      old tt in (all.calls, all.new, all.holds)
-
   -- and room can be made
   pub EvictsToCapacity-ends : (need : ℕ) (old : CacheState K V) → (calls : List (HookCall K V))
       × (new : CacheState K V) × EvictsToCapacity rules need old calls new

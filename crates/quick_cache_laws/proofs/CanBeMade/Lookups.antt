@@ -1,17 +1,16 @@
--- Laws of existence: a look, a look-up, a removal, a placeholder made, met or given up can be had
--- in every state.
+-- Laws of existence: a look-up, a removal, and a placeholder made or met can be had in every state.
 use Rattle.std.proofs.Common.{◌≡◌, ℕ, ◌==◌, ◌⊎◌, inl, inr, Bool, true, false, List, ◌∷◌, ◌++◌}
-use Rattle.std.proofs.Common.{Option, Some, None, refl, ap, ◌∙◌}
+use Rattle.std.proofs.Common.{Option, Some, None, ap, ◌∙◌}
 use Rattle.std.proofs.lemmas.Bool.{eqb-true, eqb-false}
 use Rattle.quick_cache_model.specs.declared.queue.Queue.TheVariants.{Hot, Cold}
-use Rattle.quick_cache_model.specs.CacheState.{CacheState, Item, LoadingEntry, Place, InHot, InCold}
+use Rattle.quick_cache_model.specs.CacheState.{CacheState, Item, Place, InHot, InCold}
 use Rattle.quick_cache_model.specs.CacheState.{InStill, with_items}
 use Rattle.quick_cache_model.specs.Finding.{Found, FoundItem, FoundLoading, FoundGhost}
 use Rattle.quick_cache_model.specs.Finding.{FoundNothing, IsItemAt, HasNoItem, HasNoKey, Finds}
 use Rattle.quick_cache_model.specs.Placeholders.{with_placeholder, MakesPlaceholder}
-use Rattle.quick_cache_model.specs.Placeholders.{MeetsPlaceholder, GivesUpPlaceholder}
-use Rattle.quick_cache_model.specs.Lookups.{looked_up, after_hit, after_miss, Sees, LooksUp}
-use Rattle.quick_cache_model.specs.Removal.{Removes, RemovesIf}
+use Rattle.quick_cache_model.specs.Placeholders.{MeetsPlaceholder}
+use Rattle.quick_cache_model.specs.Lookups.{looked_up, after_hit, after_miss, LooksUp}
+use Rattle.quick_cache_model.specs.Removal.{Removes}
 use Rattle.quick_cache_model.proofs.EachElement.{all-weaker}
 use Rattle.quick_cache_laws.proofs.CanBeMade.Finding.{Searched, is_there, is_absent, search_list}
 use Rattle.quick_cache_laws.proofs.CanBeMade.Finding.{Finds-some}
@@ -41,16 +40,6 @@ module _ {K V : Type 0} (stands_for : K → Bool) (old : CacheState K V) where
           item_there InStill before item after (record { split = split; passes = passes })
       go (is_absent hot) (is_absent cold) (is_absent still) =
           no_item (record { hot = hot; cold = cold; still = still })
-
-  -- a look
-  pub Sees-exists : {X : Type 0} (of : Item K V → X) → (seen : Option X)
-      × Sees stands_for old of seen
-  Sees-exists {X} of = go find_item
-    where
-      go : ItemFound stands_for old → (seen : Option X) × Sees stands_for old of seen
-      go (item_there place before item after there) =
-          (Some (of item), Sees.is_there place before item after there)
-      go (no_item none) = (None, Sees.is_absent none)
 
   -- a look-up
   pub LooksUp-exists : {X : Type 0} (of : Item K V → X) → (shown : Option X)
@@ -92,51 +81,6 @@ module _ {K V : Type 0} (stands_for : K → Bool) (old : CacheState K V) where
         Removes.of_ghost before after there,
       )
       go FoundNothing nothing = (None, old, Removes.of_nothing nothing)
-
-  -- a removal by a test
-  pub RemovesIf-exists : (passes : V → Bool) → (answer : Option (K × V)) × (new : CacheState K V)
-      × RemovesIf stands_for old passes answer new
-  RemovesIf-exists passes = go find_item
-    where
-      by_test : (place : Place) (before : List (Item K V)) (item : Item K V)
-          (after : List (Item K V)) → IsItemAt stands_for old place before item after
-          → (b : Bool) → passes item.value ≡ b → (answer : Option (K × V)) × (new : CacheState K V)
-          × RemovesIf stands_for old passes answer new
-      by_test place before item after there true is = (
-        Some (item.key, item.value),
-        with_items place (before ++ after)
-            old,
-        RemovesIf.goes place before item after there is,
-      )
-      by_test place before item after there false is =
-          (None, old, RemovesIf.stays place before item after there is)
-
-      go : ItemFound stands_for old → (answer : Option (K × V)) × (new : CacheState K V)
-          × RemovesIf stands_for old passes answer new
-      go (item_there place before item after there) =
-          by_test place before item after there (passes item.value) refl
-      go (no_item none) = (None, old, RemovesIf.absent none)
-
--- a placeholder of a ticket is given up
-pub GivesUpPlaceholder-exists : {K V : Type 0} (ticket : ℕ) (old : CacheState K V)
-    → (new : CacheState K V) × GivesUpPlaceholder ticket old new
-GivesUpPlaceholder-exists {K} {V} ticket old =
-    go (search_list (λ entry. entry.ticket == ticket) old.loading)
-  where
-    go : Searched (λ entry. entry.ticket == ticket) old.loading → (new : CacheState K V)
-        × GivesUpPlaceholder ticket old new
-    go (is_there before entry after split passes) = (
-      record old { loading = before ++ after },
-      GivesUpPlaceholder.was_there before entry after
-          (record { split = split; is_of_ticket = eqb-true entry.ticket ticket passes }),
-    )
-    go (is_absent others) = (
-      old,
-      GivesUpPlaceholder.was_gone (all-weaker
-          (λ (entry : LoadingEntry K). (entry.ticket == ticket) ≡ false)
-          (λ entry. entry.ticket ≡ ticket → ⊥)
-          (λ entry fails. eqb-false entry.ticket ticket fails) old.loading others),
-    )
 
 -- where a query finds no item, a placeholder is made for a key that it stands for, or one is met
 pub Placeholder-exists : {K V : Type 0} (stands_for : K → Bool) (hash : ℕ) (key : K)

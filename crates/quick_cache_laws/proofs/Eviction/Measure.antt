@@ -1,5 +1,5 @@
--- Laws of the measure of the rings: an advance that answers yes lowers it, and no advance raises
--- it.
+-- Laws of the measure of the rings: an advance that answers yes lowers it, and no hot advance
+-- raises it.
 use Rattle.std.proofs.Common.{◌≡◌, ℕ, ◌+◌, ◌-◌, ◌<◌, ◌≤◌, Bool, true, false, List, [], ◌∷◌, ◌++◌}
 use Rattle.std.proofs.Common.{map, length, refl, ap, arith, length-append}
 use Rattle.std.proofs.lemmas.List.{length-map}
@@ -110,19 +110,4 @@ module _ {K V : Type 0} (rules : Rules K V) where
         length-raised old.mark_cut rules.may_count old.cold cold raised,
         AdvancesHot-measure _ new
             calls advances,
-      )
-
-  -- whatever a cold advance answers, the measure does not rise
-  pub AdvancesCold-measure_le : (old new : CacheState K V) (answer : Bool)
-      (calls : List (HookCall K V))
-      → AdvancesCold rules old answer calls new → ring_measure new ≤ ring_measure old
-  AdvancesCold-measure_le old new true calls advances =
-      omega (arith, AdvancesCold-measure old new calls advances)
-  AdvancesCold-measure_le old _ false _ (AdvancesCold.passes_all cold _ calls new raised passed
-      advances) =
-      omega (
-        arith,
-        length-raised old.mark_cut rules.may_count old.cold cold raised,
-        AdvancesHot-measure_le _ new
-            false calls advances,
       )

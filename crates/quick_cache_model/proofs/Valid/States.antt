@@ -4,24 +4,17 @@ use Rattle.std.proofs.Common.{◌≡◌, ℕ, ◌+◌, ◌<◌, ◌≤◌, ◌==
 use Rattle.std.proofs.Common.{arith}
 use Rattle.std.specs.List.{AllByRecursion, count_by}
 use Rattle.quick_cache_model.specs.declared.queue.Queue.{Queue}
-use Rattle.quick_cache_model.specs.declared.queue.Queue.TheVariants.{Hot, Cold}
+use Rattle.quick_cache_model.specs.declared.queue.Queue.TheVariants.{Cold}
 use Rattle.quick_cache_model.specs.CacheState.{CacheState, Item, LoadingEntry, keys_by}
-use Rattle.quick_cache_model.specs.CacheState.{IsRingItem, IsStillItem, IsValid, empty_state}
+use Rattle.quick_cache_model.specs.CacheState.{IsRingItem, IsValid, empty_state}
 use Rattle.quick_cache_model.specs.Hooks.{Rules, HookCall}
-use Rattle.quick_cache_model.specs.Eviction.{EvictsVictim, AdvancesHot, EvictsToTarget}
-use Rattle.quick_cache_model.specs.Eviction.{AdvancesCold, EvictsToCapacity}
+use Rattle.quick_cache_model.specs.Eviction.{EvictsVictim, EvictsToCapacity}
 use Rattle.quick_cache_model.specs.Capacity.{resized, SetsCapacity}
 use Rattle.quick_cache_model.proofs.KeyCounts.{one, keys}
 use Rattle.quick_cache_model.proofs.EvictionKeeps.{newest-within, IsSameBeside}
-use Rattle.quick_cache_model.proofs.EvictionKeeps.{EvictsVictim-beside, AdvancesHot-beside}
-use Rattle.quick_cache_model.proofs.EvictionKeeps.{EvictsToTarget-beside, AdvancesCold-beside}
-use Rattle.quick_cache_model.proofs.EvictionKeeps.{EvictsToCapacity-beside}
-use Rattle.quick_cache_model.proofs.Eviction.Keys.{EvictsVictim-keys, AdvancesHot-keys}
-use Rattle.quick_cache_model.proofs.Eviction.Keys.{EvictsToTarget-keys, AdvancesCold-keys}
-use Rattle.quick_cache_model.proofs.Eviction.Keys.{EvictsToCapacity-keys}
+use Rattle.quick_cache_model.proofs.EvictionKeeps.{EvictsVictim-beside, EvictsToCapacity-beside}
+use Rattle.quick_cache_model.proofs.Eviction.Keys.{EvictsVictim-keys, EvictsToCapacity-keys}
 use Rattle.quick_cache_model.proofs.Eviction.InPlace.{IsInPlace, EvictsVictim-in_place}
-use Rattle.quick_cache_model.proofs.Eviction.InPlace.{AdvancesHot-in_place, EvictsToTarget-in_place}
-use Rattle.quick_cache_model.proofs.Eviction.InPlace.{AdvancesCold-in_place}
 use Rattle.quick_cache_model.proofs.Eviction.InPlace.{EvictsToCapacity-in_place}
 use Rattle.quick_cache_model.proofs.Valid.Places.{IsSameButItems}
 use Rattle.quick_cache_model.proofs.Valid.Tickets.{AreTickets}
@@ -90,19 +83,8 @@ module _ {K V : Type 0} (equal : K → K → Bool) where
       (same.ghosts_within valid.ghosts_within)
       place
 
-  -- A valid state with another hot ring, which has no key more: begun elsewhere, with other marks,
+  -- A valid state with another cold ring, which has no key more: begun elsewhere, with other marks,
   -- or without some of its items.
-  pub IsValid-hot : (hot : List (Item K V)) (state : CacheState K V)
-      → ((test : K → Bool) → keys test hot ≤ keys test state.hot)
-      → AllByRecursion (IsRingItem state.mark_cut Hot) hot → IsValid equal state
-      → IsValid equal (record state { hot = hot })
-  IsValid-hot hot state fewer ring valid =
-      IsValid-parts (record state { hot = hot })
-      (λ k. let was = valid.one_entry_a_key k in omega (arith, was, fewer (equal k)))
-      (IsValid-tickets state valid) valid.ghosts_within
-      (record { in_hot = ring; in_cold = valid.in_cold; in_still = valid.in_still })
-
-  -- with another cold ring
   pub IsValid-cold : (cold : List (Item K V)) (state : CacheState K V)
       → ((test : K → Bool) → keys test cold ≤ keys test state.cold)
       → AllByRecursion (IsRingItem state.mark_cut Cold) cold → IsValid equal state
@@ -112,17 +94,6 @@ module _ {K V : Type 0} (equal : K → K → Bool) where
       (λ k. let was = valid.one_entry_a_key k in omega (arith, was, fewer (equal k)))
       (IsValid-tickets state valid) valid.ghosts_within
       (record { in_hot = valid.in_hot; in_cold = ring; in_still = valid.in_still })
-
-  -- with other items of weight 0
-  pub IsValid-still : (still : List (Item K V)) (state : CacheState K V)
-      → ((test : K → Bool) → keys test still ≤ keys test state.still)
-      → AllByRecursion (IsStillItem state.mark_cut) still → IsValid equal state
-      → IsValid equal (record state { still = still })
-  IsValid-still still state fewer weightless valid =
-      IsValid-parts (record state { still = still })
-      (λ k. let was = valid.one_entry_a_key k in omega (arith, was, fewer (equal k)))
-      (IsValid-tickets state valid) valid.ghosts_within
-      (record { in_hot = valid.in_hot; in_cold = valid.in_cold; in_still = weightless })
 
   -- with other ghosts within their limit
   pub IsValid-ghosts : (ghosts : List ℕ) (state : CacheState K V)
@@ -163,34 +134,6 @@ module _ {K V : Type 0} (equal : K → K → Bool) where
         ))
         (EvictsVictim-in_place rules queue old new item calls evicts marked
         (IsValid-in_place old valid))
-
-    -- a hot advance
-    pub AdvancesHot-valid : (old new : CacheState K V) (answer : Bool) (calls : List (HookCall K V))
-        → AdvancesHot rules old answer calls new → IsValid equal old → IsValid equal new
-    AdvancesHot-valid old new answer calls advances valid =
-        IsValid-beside old new (AdvancesHot-beside rules old new answer calls advances) valid
-        (λ k. let was = valid.one_entry_a_key k in omega
-        (arith, was, AdvancesHot-keys rules (equal k) old new answer calls advances))
-        (AdvancesHot-in_place rules old new answer calls advances (IsValid-in_place old valid))
-
-    -- eviction down to the target
-    pub EvictsToTarget-valid : (old new : CacheState K V) (calls : List (HookCall K V))
-        → EvictsToTarget rules old calls new → IsValid equal old → IsValid equal new
-    EvictsToTarget-valid old new calls evicts valid =
-        IsValid-beside old new (EvictsToTarget-beside rules old new calls evicts) valid
-        (λ k. let was = valid.one_entry_a_key k in omega
-        (arith, was, EvictsToTarget-keys rules (equal k) old new calls evicts))
-        (EvictsToTarget-in_place rules old new calls evicts (IsValid-in_place old valid))
-
-    -- a cold advance
-    pub AdvancesCold-valid : (old new : CacheState K V) (answer : Bool)
-        (calls : List (HookCall K V)) → AdvancesCold rules old answer calls new → IsValid equal old
-        → IsValid equal new
-    AdvancesCold-valid old new answer calls advances valid =
-        IsValid-beside old new (AdvancesCold-beside rules old new answer calls advances) valid
-        (λ k. let was = valid.one_entry_a_key k in omega
-        (arith, was, AdvancesCold-keys rules (equal k) old new answer calls advances))
-        (AdvancesCold-in_place rules old new answer calls advances (IsValid-in_place old valid))
 
     -- eviction down to the capacity
     pub EvictsToCapacity-valid : (need : ℕ) (old new : CacheState K V) (calls : List (HookCall K V))

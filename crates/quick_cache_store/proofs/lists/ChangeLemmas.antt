@@ -1,7 +1,6 @@
 -- An item that is written in its place.
-use Rattle.std.proofs.Common.{◌≡◌, ◌≢◌, ◌<◌, ◌+◌, [], ◌∷◌, arith, ℕ, zero, suc, subst, ◌==◌, if◌then◌else◌, Bool, true, false, cond, eqb, List, map, length, Option, Some, None, is_some, refl, sym, ap, ◌∙◌, inl, inr}
+use Rattle.std.proofs.Common.{◌≡◌, ◌≢◌, ◌<◌, ◌+◌, [], ◌∷◌, arith, ℕ, subst, ◌==◌, if◌then◌else◌, Bool, true, false, cond, eqb, List, map, length, Option, Some, None, is_some, refl, sym, ap, ◌∙◌, inl, inr}
 use Rattle.std.proofs.lemmas.Bool.{cases_eq}
-use Rattle.std.proofs.lemmas.List.{set-get_or}
 use Rattle.quick_cache_model.specs.CacheState.{Item}
 use Rattle.quick_cache_model.specs.Sequences.{times}
 use Rattle.quick_cache_store.specs.Pool.{Pool, at_token, with_token, item_at, next_token, with_item}
@@ -365,23 +364,3 @@ module _ {K V P T : Type 0} where
           within = omega (arith, sound.within, capacity-reweighed rings s);
           bounded = omega (arith, sound.bounded, capacity-reweighed rings s);
         }
-
-module _ {S : Type 0} where
-  slots_same : (slots : List (Option S)) (t : ℕ) (x : Option S) → at_token slots t None ≡ x
-      → with_token slots t x ≡ slots
-  slots_same slots zero x is = refl
-  slots_same slots (suc i) x is =
-      subst (λ (y : Option S). with_token slots (suc i) y ≡ slots) is (set-get_or slots i None)
-
-  -- an item that is written as it was
-  pub with_item-same : (slab : Pool S) (t : ℕ) (x : S) → item_at slab t ≡ Some x
-      → with_item slab t x ≡ slab
-  with_item-same slab t x is = λ i. record slab { slots = slots_same slab.slots t (Some x) is i }
-
-module _ {K V P T : Type 0} where
-  pub lists-same : (slab : Pool (Slot K V P T)) (index : Index) (rings : Rings)
-      (t : ℕ) (x y : Slot K V P T) → item_at slab t ≡ Some x → y ≡ x
-      → lists_of (with_item slab t y) index rings ≡ lists_of slab index rings
-  lists-same slab index rings t x y at same =
-      ap (λ (s : Pool (Slot K V P T)). lists_of s index rings)
-      (ap (λ (z : Slot K V P T). with_item slab t z) same ∙ with_item-same slab t x at)

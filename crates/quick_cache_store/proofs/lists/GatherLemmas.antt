@@ -1,6 +1,6 @@
 -- What stands at tokens, and what becomes of it where one token changes.
 use Rattle.std.proofs.Common.{◌≡◌, ◌≢◌, ℕ, zero, suc, ◌<◌, ◌≤◌, cond, eqb, Bool, true, false, List, [], ◌∷◌, ◌++◌, ◌*◌, sum_by, length, map, Option, Some, None, refl, sym, ap, subst, ◌∙◌, inl, inr, arith, append-nil, ◌+◌}
-use Rattle.std.proofs.lemmas.Bool.{cases_eq, cases_lt, cases_Bool, eqb-true, eq-eqb, ne_eqb}
+use Rattle.std.proofs.lemmas.Bool.{cases_eq, eq-eqb, ne_eqb}
 use Rattle.std.proofs.lemmas.List.Sums.{sum_by-cons}
 use Rattle.std.specs.List.{AllByRecursion}
 use Rattle.std.specs.List.Sorted.{IsPermutation}
@@ -46,13 +46,6 @@ times-upto t (suc n) positive within =
                 (omega (arith, differs)),
             times-other t (suc n) [] differs,
           )
-    ]
-
-pub times-upto_within : (t n : ℕ) → 0 < times t (upto n) → t ≤ n
-times-upto_within t n some =
-    elim (cases_lt n t) [
-      | inl past ↦ absurd (omega (arith, times-upto_past t n past))
-      | inr within ↦ within
     ]
 
 module _ {Y : Type 0} where

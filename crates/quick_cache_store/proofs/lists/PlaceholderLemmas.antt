@@ -9,7 +9,7 @@ use Rattle.quick_cache_store.specs.declared.slots.entry.Entry.{Entry}
 use Rattle.quick_cache_store.specs.declared.slots.entry.Entry.TheVariants.{Item as item_variant, Loading as loading_variant, Ghost as ghost_variant}
 use Rattle.quick_cache_store.specs.declared.slots.entry.Slot.{Slot}
 use Rattle.quick_cache_store.specs.Rings.{Rings}
-use Rattle.quick_cache_store.specs.Lists.{HeldLoading, Lists}
+use Rattle.quick_cache_store.specs.Lists.{HeldLoading}
 use Rattle.quick_cache_store.specs.Placeholders.{HasNoPlaceholder, FindsPlaceholder, is_meant, PassesNoneMeant}
 use Rattle.quick_cache_store.specs.ListSlots.{loading_of}
 use Rattle.quick_cache_store.specs.Sound.{upto, lists_of, IsStanding}
@@ -166,13 +166,3 @@ module _ {K V P T : Type 0} (slab : Pool (Slot K V P T)) (index : Index)
           (subst (AllByRecursion (λ (entry : ℕ × Slot K V P T). is_meant means entry.1 ≡ false))
           (sym (sym are ∙ walk.split ∙ ap (λ xs. walk.passed ++ xs) ends ∙ end walk.passed))
           walk.none) i slot at
-
--- where nothing is being loaded
-pub HasNoPlaceholder-none : {K V P : Type 0} (means : P → Bool) (lists : Lists K V P)
-    → length lists.loading ≡ 0 → HasNoPlaceholder means lists
-HasNoPlaceholder-none {K} {V} {P} means lists none = by_list lists.loading none
-  where
-    by_list : (xs : List (HeldLoading K P)) → length xs ≡ 0
-        → AllByRecursion (λ (waiting : HeldLoading K P). means waiting.placeholder ≡ false) xs
-    by_list [] e = tt
-    by_list (x ∷ xs) e = absurd (omega (arith, e))

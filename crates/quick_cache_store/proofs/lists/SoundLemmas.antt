@@ -1,7 +1,7 @@
 -- What holds of the slots, before and after.
-use Rattle.std.proofs.Common.{◌≡◌, ◌≢◌, ℕ, zero, suc, ◌+◌, ◌*◌, ◌<◌, ◌≤◌, ◌||◌, Bool, true≢false, is_some, List, [], ◌∷◌, ◌++◌, length, Option, Some, None, IsSome, refl, sym, ap, subst, ◌∙◌, inl, inr, arith}
+use Rattle.std.proofs.Common.{◌≡◌, ◌≢◌, ℕ, zero, suc, ◌+◌, ◌*◌, ◌<◌, ◌≤◌, ◌||◌, Bool, true≢false, is_some, List, [], ◌∷◌, ◌++◌, length, Option, Some, None, refl, sym, ap, subst, ◌∙◌, inl, inr, arith}
 use Rattle.std.proofs.lemmas.Bool.{cases_eq, eq-eqb, eqb-true, ne_eqb}
-use Rattle.quick_cache_model.specs.Sequences.{times, joined_around}
+use Rattle.quick_cache_model.specs.Sequences.{times}
 use Rattle.quick_cache_store.specs.Pool.{Pool, item_at, spare}
 use Rattle.quick_cache_index.specs.Index.{Index, HasNone, Leads, has_token, token_count}
 use Rattle.quick_cache_store.proofs.pool.AtTokens.{at_token-past}
@@ -20,10 +20,6 @@ item_at-empty slab zero none = refl
 item_at-empty slab (suc i) none = rw none (at_token-past [] (suc i) None (omega arith))
 
 module _ {K V P T : Type 0} where
-  pub stand-some : (o : Option (Slot K V P T)) (s : Stand) → stand_of o ≡ Some s → IsSome o
-  stand-some None s is = absurd (cc)
-  stand-some (Some x) s is = refl
-
   IsRingOf-empty : (slab : Pool (Slot K V P T)) (s : Stand) → slab.slots ≡ []
       → IsRingOf slab no_ring s
   IsRingOf-empty slab s none = record {

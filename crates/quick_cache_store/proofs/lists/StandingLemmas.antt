@@ -324,28 +324,6 @@ module _ {K V P T : Type 0} (lists : Lists K V P) (apart : AreApart lists) (toke
   entry-loading waiting stands named = known_standing lists apart (Standing.OfLoading waiting)
       (StandsIn-loading lists waiting stands) token hash entry named is
 
-  pub loading-queue : (waiting : HeldLoading K P) → StandsIn lists.loading waiting
-      → waiting.token ≡ token → (awaited : Awaited K P) → entry ≡ loading_variant awaited
-      → awaited.queue ≡ waiting.queue
-  loading-queue waiting stands named awaited e =
-      same (sym (ap (λ (x : Entry K V P T). standing_of token hash x) e)
-      ∙ entry-loading waiting stands named)
-    where
-      same : ◌≡◌ {A = Standing K V P} (Standing.OfLoading (record {
-        token = token;
-        hash = hash;
-        key = awaited.key;
-        queue = awaited.queue;
-        placeholder = awaited.placeholder;
-      })) (Standing.OfLoading waiting) → awaited.queue ≡ waiting.queue
-      same s = let one : record {
-        token = token;
-        hash = hash;
-        key = awaited.key;
-        queue = awaited.queue;
-        placeholder = awaited.placeholder;
-      } ≡ waiting = cc s in ap (λ (w : HeldLoading K P). w.queue) one
-
   pub loading-not_item : (waiting : HeldLoading K P) → StandsIn lists.loading waiting
       → waiting.token ≡ token → (item : Item K V) → entry ≡ item_variant item → ⊥
   loading-not_item waiting stands named item e =

@@ -1,5 +1,5 @@
--- What stands at a token of a list, and what a write, a map or a push makes of it.
-use Rattle.std.proofs.Common.{◌≡◌, ◌≢◌, ℕ, zero, suc, ◌+◌, ◌<◌, ◌≤◌, List, [], ◌∷◌, ◌++◌, length, map, get_or, set, refl, sym, ap, subst, ◌∙◌, inl, inr, arith, length-set}
+-- What stands at a token of a list, and what a write or a push makes of it.
+use Rattle.std.proofs.Common.{◌≡◌, ◌≢◌, ℕ, zero, suc, ◌+◌, ◌<◌, ◌≤◌, List, [], ◌∷◌, ◌++◌, length, get_or, set, refl, sym, ap, subst, ◌∙◌, inl, inr, arith, length-set}
 use Rattle.std.proofs.lemmas.Bool.{cases_lt}
 use Rattle.std.proofs.lemmas.List.{get_or-set_same, get_or-set_other, get_or_past, get_or_push, get_or_append_left, length_push}
 use Rattle.quick_cache_store.specs.Pool.{at_token, with_token}
@@ -34,17 +34,6 @@ at_token-with_other xs (suc i) (suc j) x d differs =
 pub at_token-past : {X : Type 0} (xs : List X) (t : ℕ) (d : X) → length xs < t → at_token xs t d ≡ d
 at_token-past xs zero d past = refl
 at_token-past xs (suc i) d past = get_or_past xs i d (omega arith)
-
-pub get_or-map_all : {X Y : Type 0} (f : X → Y) (xs : List X) (i : ℕ) (d : X)
-    → get_or (map f xs) i (f d) ≡ f (get_or xs i d)
-get_or-map_all f [] i d = refl
-get_or-map_all f (x ∷ xs) zero d = refl
-get_or-map_all f (x ∷ xs) (suc i) d = get_or-map_all f xs i d
-
-pub at_token-map : {X Y : Type 0} (f : X → Y) (xs : List X) (t : ℕ) (d : X)
-    → at_token (map f xs) t (f d) ≡ f (at_token xs t d)
-at_token-map f xs zero d = refl
-at_token-map f xs (suc i) d = get_or-map_all f xs i d
 
 pub at_token-push_same : {X : Type 0} (xs : List X) (x d : X)
     → at_token (xs ++ x ∷ []) (length xs + 1) d ≡ x

@@ -1,7 +1,7 @@
 -- What the edits of the pool and of what stands beside it do to the pool of whole slots.
-use Rattle.std.proofs.Common.{◌≡◌, ◌≢◌, ◌⊎◌, ℕ, zero, suc, ◌+◌, ◌<◌, ◌≤◌, min, cond, List, [], ◌∷◌, ◌++◌, length, count_by, Option, Some, None, is_some, get_or, set, refl, sym, ap, ◌∙◌, inl, inr, arith}
+use Rattle.std.proofs.Common.{◌≡◌, ◌⊎◌, ℕ, zero, suc, ◌+◌, ◌<◌, ◌≤◌, min, cond, List, [], ◌∷◌, ◌++◌, length, count_by, Option, Some, None, is_some, get_or, set, refl, sym, ap, ◌∙◌, inl, inr, arith}
 use Rattle.std.proofs.lemmas.Bool.{eq-eqb}
-use Rattle.std.proofs.lemmas.List.{length_push}
+use Rattle.std.proofs.lemmas.List.{get_or_default, length_push}
 use Rattle.std.proofs.lemmas.List.Sums.{sum_by-cons}
 use Rattle.quick_cache_store.specs.Pool.{Pool, at_token, with_token, item_at, next_token, IsParted, emptied, placed, removed}
 use Rattle.quick_cache_store.specs.PoolEdits.{PlacesItem}
@@ -12,7 +12,7 @@ use Rattle.quick_cache_store.specs.Stored.{slot_of}
 use Rattle.quick_cache_store.specs.Joined.{joined_slot, joined_slots, joined, AreBeside}
 use Rattle.quick_cache_store.specs.Walks.{no_aside}
 use Rattle.quick_cache_store.proofs.slots.JoinedLemmas.{item_at-joined, occupied-apart, occupied-within}
-use Rattle.quick_cache_store.proofs.slots.TokenEdits.{length-at_token, with_token-place, at_token-written, at_token-unwritten, at_token-pushed, at_token-unpushed, at_token-read}
+use Rattle.quick_cache_store.proofs.pool.AtTokens.{with_token-suc, at_token-suc, length-with_token}
 
 -- how a thing of a token is kept beside the slots: in the place of an old one, or as the last
 abbrev pub Keeps : (asides new : List Beside) → ℕ → Beside → Type 0
@@ -24,28 +24,18 @@ Keeps asides new t aside =
 pub keeps_old : (asides new : List Beside) (t i : ℕ) (aside : Beside) → i + 1 ≡ t → i < length asides
     → new ≡ set asides i aside → Keeps asides new t aside
 keeps_old asides new t i aside at below written =
-    inl (omega arith, omega arith, written ∙ sym (with_token-place asides t i aside at))
+    inl (omega arith, omega arith, written ∙ sym (with_token-suc asides t i aside at))
 
 -- or as the last
 pub keeps_last : (asides new : List Beside) (t : ℕ) (aside : Beside) → t ≡ length asides + 1
     → new ≡ asides ++ aside ∷ [] → Keeps asides new t aside
 keeps_last asides new t aside last pushed = inr (last, pushed)
 
--- it stands at the token
-keeps_here : (asides new : List Beside) (t : ℕ) (aside : Beside) → Keeps asides new t aside
-    → at_token new t no_aside ≡ aside
-keeps_here asides new t aside (inl old) =
-    rw old.2 (at_token-written asides t aside no_aside old.0 old.1)
-keeps_here asides new t aside (inr last) =
-    rw last.1 (at_token-pushed asides t aside no_aside last.0)
-
--- and all else as it was
-keeps_else : (asides new : List Beside) (t u : ℕ) (aside : Beside) → Keeps asides new t aside
-    → u ≢ t → at_token new u no_aside ≡ at_token asides u no_aside
-keeps_else asides new t u aside (inl old) differs =
-    rw old.2 (at_token-unwritten asides t u aside no_aside differs)
-keeps_else asides new t u aside (inr last) differs =
-    rw last.1 (at_token-unpushed asides u aside no_aside (λ same. differs (same ∙ sym last.0)))
+-- what is read at the place of a token stands at the token
+at_token-read : {X : Type 0} (xs : List X) (t i : ℕ) (x d : X) → i + 1 ≡ t → t ≤ length xs
+    → x ≡ get_or xs i x → at_token xs t d ≡ x
+at_token-read xs t i x d at within read =
+    at_token-suc xs t i d at ∙ get_or_default xs i d x (omega arith) ∙ sym read
 
 module _ {K V P T : Type 0} where
   -- a stored entry with what stands beside it is the slot of its token
@@ -209,7 +199,7 @@ module _ {K V P T : Type 0} where
           let slots : pool'.slots ≡ with_token pool.slots x (Some stored) =
           ap (λ (s : Pool (StoredEntry K V P T)). s.slots) done ∙ rw some refl in
           let same : length pool'.slots ≡ length pool.slots =
-          ap length slots ∙ length-at_token pool.slots x (Some stored) in
+          ap length slots ∙ length-with_token pool.slots x (Some stored) in
           let within = edit.within.1 in
           absurd (omega (arith, last.0))
       by_free (x ∷ rest) some (inl old) =
@@ -240,7 +230,7 @@ module _ {K V P T : Type 0} where
           let slots : pool'.slots ≡ with_token pool.slots x (Some stored) =
           ap (λ (s : Pool (StoredEntry K V P T)). s.slots) done ∙ rw some refl in
           let same : length pool'.slots ≡ length pool.slots =
-          ap length slots ∙ length-at_token pool.slots x (Some stored) in
+          ap length slots ∙ length-with_token pool.slots x (Some stored) in
           let within = edit.within.1 in
           absurd (omega arith)
 
@@ -267,14 +257,14 @@ module _ {K V P T : Type 0} where
           let slots : pool'.slots ≡ with_token pool.slots x (Some stored) =
           ap (λ (s : Pool (StoredEntry K V P T)). s.slots) done ∙ rw some refl in
           let same : length pool'.slots ≡ length pool.slots =
-          ap length slots ∙ length-at_token pool.slots x (Some stored) in
+          ap length slots ∙ length-with_token pool.slots x (Some stored) in
           let within = edit.within.1 in
           absurd (omega (arith, last.0))
       by_free (x ∷ rest) some (inl old) =
           let slots : pool'.slots ≡ with_token pool.slots x (Some stored) =
           ap (λ (s : Pool (StoredEntry K V P T)). s.slots) done ∙ rw some refl in
-          rw (old.2, slots) (length-at_token asides t aside ∙ beside
-          ∙ sym (length-at_token pool.slots x (Some stored)))
+          rw (old.2, slots) (length-with_token asides t aside ∙ beside
+          ∙ sym (length-with_token pool.slots x (Some stored)))
 
   -- no token is free where the next is past the end
   pub none_free : (pool : Pool (StoredEntry K V P T)) → IsParted pool
@@ -299,7 +289,7 @@ module _ {K V P T : Type 0} where
   pub beside-removed : (pool pool' : Pool (StoredEntry K V P T)) (asides : List Beside) (t : ℕ)
       → pool' ≡ removed pool t → AreBeside pool asides → AreBeside pool' asides
   beside-removed pool pool' asides t done beside =
-      rw done (beside ∙ sym (length-at_token pool.slots t None))
+      rw done (beside ∙ sym (length-with_token pool.slots t None))
 
   -- nothing is left of an empty pool
   pub emptied-joined : (pool : Pool (StoredEntry K V P T)) (asides : List Beside)

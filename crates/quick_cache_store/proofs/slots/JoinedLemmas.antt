@@ -32,22 +32,10 @@ module _ {K V P T : Type 0} where
       (at_token asides t no_aside)
   item_at-joined pool asides left t beside = at_token-joined pool.slots asides t beside
 
-  IsSome-joined : (stored : Option (StoredEntry K V P T)) (aside : Beside) → IsSome stored
-      → IsSome (joined_slot stored aside)
-  IsSome-joined None aside some = some
-  IsSome-joined (Some stored) aside some = refl
-
   IsSome-apart : (stored : Option (StoredEntry K V P T)) (aside : Beside)
       → IsSome (joined_slot stored aside) → IsSome stored
   IsSome-apart None aside some = some
   IsSome-apart (Some stored) aside some = refl
-
-  -- an occupied token is so in the pool of whole slots
-  pub occupied-joined : (pool : Pool (StoredEntry K V P T)) (asides : List Beside)
-      (left t : ℕ) → AreBeside pool asides → IsOccupied pool t
-      → IsOccupied (joined pool asides left) t
-  occupied-joined pool asides left t beside some =
-      rw (item_at-joined pool asides left t beside) (IsSome-joined _ _ some)
 
   -- and the other way round
   pub occupied-apart : (pool : Pool (StoredEntry K V P T)) (asides : List Beside) (left t : ℕ)

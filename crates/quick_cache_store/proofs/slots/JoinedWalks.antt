@@ -10,7 +10,7 @@ use Rattle.quick_cache_store.specs.declared.slots.entry.Slot.{Slot}
 use Rattle.quick_cache_store.specs.declared.slots.stored.StoredEntry.{StoredEntry}
 use Rattle.quick_cache_store.specs.Joined.{joined_slots, joined, AreBeside}
 use Rattle.quick_cache_store.specs.Walks.{no_aside, entries_beside, AreCovered}
-use Rattle.quick_cache_store.proofs.slots.TokenEdits.{at_token-place}
+use Rattle.quick_cache_store.proofs.pool.AtTokens.{at_token-suc}
 
 -- the items of the entries, in their order
 pub entries_past-items : {X : Type 0} (passed : ℕ) (slots : List (Option X))
@@ -34,7 +34,7 @@ first_beside all passed aside rest left =
           let first : aside ≡ get_or all passed no_aside = cc in
           let others : rest ≡ drop (passed + 1) all = cc in (
             below,
-            at_token-place all (passed + 1) passed no_aside refl ∙ sym first,
+            at_token-suc all (passed + 1) passed no_aside refl ∙ sym first,
             others,
           )
       | inr above ↦

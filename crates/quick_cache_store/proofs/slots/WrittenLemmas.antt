@@ -1,7 +1,7 @@
 -- A write to the entry of a token and to what stands beside it, in the pool of whole slots.
 use Rattle.std.proofs.Common.{◌≡◌, ℕ, zero, suc, ◌+◌, ◌<◌, ◌≤◌, min, length, List, [], ◌∷◌, Option, Some, None, IsSome, is_some, get_or, set, refl, sym, ap, subst, ◌∙◌, arith}
 use Rattle.std.proofs.lemmas.List.{get_or_read, get_or_default, set-get_or, set-set}
-use Rattle.quick_cache_store.proofs.pool.AtTokens.{at_token-with_same}
+use Rattle.quick_cache_store.proofs.pool.AtTokens.{with_token-suc, at_token-suc, at_token-with_same}
 use Rattle.quick_cache_store.specs.Pool.{Pool, at_token, with_token, item_at, IsOccupied, with_item}
 use Rattle.quick_cache_model.specs.CacheState.{Item}
 use Rattle.quick_cache_store.specs.declared.slots.beside.Beside.{Beside}
@@ -27,18 +27,6 @@ use Rattle.quick_cache_store.proofs.slots.JoinedLemmas.{item_at-joined, occupied
 -- there is something where there is this
 IsSome-some : {X : Type 0} (o : Option X) (x : X) → o ≡ Some x → IsSome o
 IsSome-some o x is = ap is_some is
-
--- a write at a place is one at the token of that place
-set-token : {X : Type 0} (xs : List X) (t i : ℕ) (x : X) → i + 1 ≡ t
-    → set xs i x ≡ with_token xs t x
-set-token xs t i x place = let e : suc i ≡ t = omega arith in
-    subst (λ (u : ℕ). set xs i x ≡ with_token xs u x) e refl
-
--- and what stands at the token is what stands at the place
-at_token-read : {X : Type 0} (xs : List X) (t i : ℕ) (d : X) → i + 1 ≡ t
-    → at_token xs t d ≡ get_or xs i d
-at_token-read xs t i d place = let e : suc i ≡ t = omega arith in
-    subst (λ (u : ℕ). at_token xs u d ≡ get_or xs i d) e refl
 
 -- a list with what stands at a token written there is the same
 with_token-same : {X : Type 0} (xs : List X) (t : ℕ) (d : X) → with_token xs t (at_token xs t d) ≡ xs
@@ -145,7 +133,7 @@ module _ {K V P T : Type 0} where
   aside-read pool asides t i stored aside beside at place read =
       let within = occupied-within pool asides t beside (IsSome-some _ _ at) in
       let high = within.1 in
-      at_token-read asides t i no_aside place
+      at_token-suc asides t i no_aside place
       ∙ sym (get_or_read asides i aside (omega arith) read no_aside)
 
   -- ---- the slots after the write
@@ -195,7 +183,7 @@ module _ {K V P T : Type 0} where
           slot = slot_of stored aside;
           was = slot-joined pool asides left t stored aside beside at
               (aside-read pool asides t i stored aside beside at place read);
-          is = ap (λ xs. joined (with_item pool t new) xs left) (set-token asides t i new_aside place)
+          is = ap (λ xs. joined (with_item pool t new) xs left) (sym (with_token-suc asides t i new_aside place))
               ∙ with_item-joined pool asides left t new new_aside
               ∙ ap (λ (s : Slot K V P T). with_item (joined pool asides left) t s) is;
         }
@@ -243,7 +231,7 @@ module _ {K V P T : Type 0} where
     pub beside_token-read : at_token asides t no_aside
         ≡ get_or asides i (at_token asides t no_aside)
     beside_token-read =
-        let read = at_token-read asides t i no_aside place in
+        let read = at_token-suc asides t i no_aside place in
         read ∙ get_or_default asides i no_aside (at_token asides t no_aside) place-within
 
     pub Writes-mark : (mark : ℕ) → Writes (joined pool asides left)

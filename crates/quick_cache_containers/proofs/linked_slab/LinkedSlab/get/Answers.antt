@@ -2,6 +2,7 @@ use Rattle.std.proofs.Common.{Bor, vec_len, vec_capacity, arith}
 use Rattle.quick_cache_containers.specs.Links.{room_of}
 use Rattle.quick_cache_containers.proofs.SlabViews.{successor_found}
 use Rattle.quick_cache_containers.proofs.PartedRings.{alone_found, IsParted-nodes}
+use Rattle.quick_cache_containers.specs.Nodes.{item_of}
 use Rattle.quick_cache_containers.proofs.linked_slab.LinkedSlab.get.Goals as goal
 
 pub returns-clause-next : goal.returns-clause-next
@@ -25,5 +26,5 @@ returns-clause-alone g c =
 pub returns-clause-parted : goal.returns-clause-parted
 returns-clause-parted g c =
     let nodes = c.self.inside.nodes in
-    rw (← c.self.view_is) (IsParted-nodes g.N.SlotNode.item_of nodes.items c.self.inside.next_free.value
+    rw (← c.self.view_is) (IsParted-nodes item_of nodes.items c.self.inside.next_free.value
     (vec_capacity nodes) (vec_len nodes) (omega arith) c.self.invariant)

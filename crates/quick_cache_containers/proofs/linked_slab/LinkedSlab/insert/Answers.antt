@@ -7,6 +7,7 @@ use Rattle.quick_cache_containers.proofs.PartedRings.{IsParted-nodes}
 use Rattle.quick_cache_containers.proofs.EditsByToken.{PlacesItem-from, spare-placed}
 use Rattle.quick_cache_containers.specs.LinkedSlab.{IsParted}
 use Rattle.quick_cache_containers.proofs.linked_slab.LinkedSlab.insert.Goals as goal
+use Rattle.quick_cache_containers.specs.Nodes.{item_of}
 use Rattle.quick_cache_containers.proofs.linked_slab.LinkedSlab.insert.Goals.{then-get, else-get}
 
 pub invariant_of-self : goal.invariant_of-self
@@ -14,10 +15,10 @@ invariant_of-self g c =
     let nodes = c.self.inside.nodes in
     let first = c.self.inside.next_free.value in
     let items = with_items_is nodes c.fill-link.new.nodes (omega arith) in
-    let long = length-map nodes.items g.N.SlotNode.item_of in
+    let long = length-map nodes.items item_of in
     let link = rw c.as_mut_slice.ensures.value at c.fill-link.ensures.link in
     let choice : ((c.fill-link.result.value ≡ first)
-    × (c.if-get.self.value ≡ length (map g.N.SlotNode.item_of nodes.items) + 1))
+    × (c.if-get.self.value ≡ length (map item_of nodes.items) + 1))
     ⊎ ((c.fill-link.result.value ≢ first) × (c.if-get.self.value ≡ c.fill-link.result.value)) =
     elim c.if-get.branch [
       | then-get w ↦ inl (
@@ -28,7 +29,7 @@ invariant_of-self g c =
       | else-get w ↦ inr (λ same. omega (arith, w.if-get.false), rw w.self-is)
     ] in
     let after = rw link at (next_after c.fill-link.result.value first
-    (length (map g.N.SlotNode.item_of nodes.items) + 1) c.if-get.self.value choice) in
+    (length (map item_of nodes.items) + 1) c.if-get.self.value choice) in
     let reused = Reused-at _ _ _ first
     (room_of (vec_capacity nodes) (vec_len nodes)) c.args.item c.if-get.self.value
     c.self.invariant (omega arith) after in
@@ -45,10 +46,10 @@ returns-then-get-len-clause-placed g c =
     let nodes = c.self.inside.nodes in
     let first = c.self.inside.next_free.value in
     let items = with_items_is nodes c.fill-link.new.nodes (omega arith) in
-    let long = length-map nodes.items g.N.SlotNode.item_of in
+    let long = length-map nodes.items item_of in
     let link = rw c.as_mut_slice.ensures.value at c.fill-link.ensures.link in
     let choice : ((c.fill-link.result.value ≡ first)
-    × (c.if-get.self.value ≡ length (map g.N.SlotNode.item_of nodes.items) + 1))
+    × (c.if-get.self.value ≡ length (map item_of nodes.items) + 1))
     ⊎ ((c.fill-link.result.value ≢ first) × (c.if-get.self.value ≡ c.fill-link.result.value)) =
     elim c.if-get.branch [
       | then-get w ↦ inl (
@@ -59,7 +60,7 @@ returns-then-get-len-clause-placed g c =
       | else-get w ↦ inr (λ same. omega (arith, w.if-get.false), rw w.self-is)
     ] in
     let after = rw link at (next_after c.fill-link.result.value first
-    (length (map g.N.SlotNode.item_of nodes.items) + 1) c.if-get.self.value choice) in
+    (length (map item_of nodes.items) + 1) c.if-get.self.value choice) in
     let reused = Reused-at _ _ _ first
     (room_of (vec_capacity nodes) (vec_len nodes)) c.args.item c.if-get.self.value
     c.self.invariant (omega arith) after in
@@ -76,10 +77,10 @@ returns-then-get-len-clause-item g c =
     let nodes = c.self.inside.nodes in
     let first = c.self.inside.next_free.value in
     let items = with_items_is nodes c.fill-link.new.nodes (omega arith) in
-    let long = length-map nodes.items g.N.SlotNode.item_of in
+    let long = length-map nodes.items item_of in
     let link = rw c.as_mut_slice.ensures.value at c.fill-link.ensures.link in
     let choice : ((c.fill-link.result.value ≡ first)
-    × (c.if-get.self.value ≡ length (map g.N.SlotNode.item_of nodes.items) + 1))
+    × (c.if-get.self.value ≡ length (map item_of nodes.items) + 1))
     ⊎ ((c.fill-link.result.value ≢ first) × (c.if-get.self.value ≡ c.fill-link.result.value)) =
     elim c.if-get.branch [
       | then-get w ↦ inl (
@@ -90,7 +91,7 @@ returns-then-get-len-clause-item g c =
       | else-get w ↦ inr (λ same. omega (arith, w.if-get.false), rw w.self-is)
     ] in
     let after = rw link at (next_after c.fill-link.result.value first
-    (length (map g.N.SlotNode.item_of nodes.items) + 1) c.if-get.self.value choice) in
+    (length (map item_of nodes.items) + 1) c.if-get.self.value choice) in
     let reused = Reused-at _ _ _ first
     (room_of (vec_capacity nodes) (vec_len nodes)) c.args.item c.if-get.self.value
     c.self.invariant (omega arith) after in
@@ -101,10 +102,10 @@ returns-then-get-len-clause-alone g c =
     let nodes = c.self.inside.nodes in
     let first = c.self.inside.next_free.value in
     let items = with_items_is nodes c.fill-link.new.nodes (omega arith) in
-    let long = length-map nodes.items g.N.SlotNode.item_of in
+    let long = length-map nodes.items item_of in
     let link = rw c.as_mut_slice.ensures.value at c.fill-link.ensures.link in
     let choice : ((c.fill-link.result.value ≡ first)
-    × (c.if-get.self.value ≡ length (map g.N.SlotNode.item_of nodes.items) + 1))
+    × (c.if-get.self.value ≡ length (map item_of nodes.items) + 1))
     ⊎ ((c.fill-link.result.value ≢ first) × (c.if-get.self.value ≡ c.fill-link.result.value)) =
     elim c.if-get.branch [
       | then-get w ↦ inl (
@@ -115,7 +116,7 @@ returns-then-get-len-clause-alone g c =
       | else-get w ↦ inr (λ same. omega (arith, w.if-get.false), rw w.self-is)
     ] in
     let after = rw link at (next_after c.fill-link.result.value first
-    (length (map g.N.SlotNode.item_of nodes.items) + 1) c.if-get.self.value choice) in
+    (length (map item_of nodes.items) + 1) c.if-get.self.value choice) in
     let reused = Reused-at _ _ _ first
     (room_of (vec_capacity nodes) (vec_len nodes)) c.args.item c.if-get.self.value
     c.self.invariant (omega arith) after in
@@ -125,7 +126,7 @@ returns-then-get-len-clause-alone g c =
 -- a free token is there, so the slab is not full
 pub returns-then-get-len-clause-full : goal.returns-then-get-len-clause-full
 returns-then-get-len-clause-full g c =
-    let long = length-map c.self.inside.nodes.items g.N.SlotNode.item_of in (
+    let long = length-map c.self.inside.nodes.items item_of in (
       λ e. absurd (cc),
       λ full. absurd
           (some_free _ _ _ _ c.self.invariant (omega arith) (rw (← c.self.view_is) at full.0)),
@@ -137,7 +138,7 @@ invariant_of-self-then-is_err g c = rw c.make_room.ensures.items c.self.invarian
 pub invariant_of-self-2 : goal.invariant_of-self-2
 invariant_of-self-2 g c =
     let nodes = c.self.inside.nodes in
-    let long = length-map nodes.items g.N.SlotNode.item_of in
+    let long = length-map nodes.items item_of in
     let last = none_free _ _ _ _ c.self.invariant (omega arith) in
     let grown = Grown-at _ _ _ c.self.inside.next_free.value
     (room_of (vec_capacity nodes) (vec_len nodes))
@@ -158,7 +159,7 @@ pub returns-clause-placed : goal.returns-clause-placed
 returns-clause-placed g c =
     let nodes = c.self.inside.nodes in
     let grown_nodes = c.push_reserved.new.self in
-    let long = length-map nodes.items g.N.SlotNode.item_of in
+    let long = length-map nodes.items item_of in
     let last = none_free _ _ _ _ c.self.invariant (omega arith) in
     let grown = Grown-at _ _ _ c.self.inside.next_free.value
     (room_of (vec_capacity nodes) (vec_len nodes))
@@ -179,7 +180,7 @@ pub returns-clause-item : goal.returns-clause-item
 returns-clause-item g c =
     let nodes = c.self.inside.nodes in
     let grown_nodes = c.push_reserved.new.self in
-    let long = length-map nodes.items g.N.SlotNode.item_of in
+    let long = length-map nodes.items item_of in
     let last = none_free _ _ _ _ c.self.invariant (omega arith) in
     let grown = Grown-at _ _ _ c.self.inside.next_free.value
     (room_of (vec_capacity nodes) (vec_len nodes))
@@ -192,7 +193,7 @@ pub returns-clause-alone : goal.returns-clause-alone
 returns-clause-alone g c =
     let nodes = c.self.inside.nodes in
     let grown_nodes = c.push_reserved.new.self in
-    let long = length-map nodes.items g.N.SlotNode.item_of in
+    let long = length-map nodes.items item_of in
     let last = none_free _ _ _ _ c.self.invariant (omega arith) in
     let grown = Grown-at _ _ _ c.self.inside.next_free.value
     (room_of (vec_capacity nodes) (vec_len nodes))
@@ -208,7 +209,7 @@ returns-then-get-len-clause-edit g c =
     let at = next_token-is _ _ _ c.self.inside.next_free.value
     (room_of (vec_capacity nodes) (vec_len nodes)) c.self.invariant in
     let parted : IsParted c.args.self.now =
-    rw (← c.self.view_is) (IsParted-nodes g.N.SlotNode.item_of nodes.items c.self.inside.next_free.value
+    rw (← c.self.view_is) (IsParted-nodes item_of nodes.items c.self.inside.next_free.value
     (vec_capacity nodes) (vec_len nodes) (omega arith) c.self.invariant) in
     PlacesItem-from c.args.self.now _ c.self.inside.next_free.value c.args.item parted
     (rw (← c.self.view_is) at) (returns-then-get-len-clause-placed g c)
@@ -216,12 +217,12 @@ returns-then-get-len-clause-edit g c =
 pub returns-then-get-len-clause-parted : goal.returns-then-get-len-clause-parted
 returns-then-get-len-clause-parted g c =
     let items = with_items_is c.self.inside.nodes c.fill-link.new.nodes (omega arith) in
-    IsParted-nodes g.N.SlotNode.item_of _ _ _ _ (omega (arith, ap length items)) (invariant_of-self g c)
+    IsParted-nodes item_of _ _ _ _ (omega (arith, ap length items)) (invariant_of-self g c)
 
 pub returns-then-get-len-clause-spare : goal.returns-then-get-len-clause-spare
 returns-then-get-len-clause-spare g c =
     let nodes = c.self.inside.nodes in
-    let long = length-map nodes.items g.N.SlotNode.item_of in
+    let long = length-map nodes.items item_of in
     let some = some_free _ _ _ _ c.self.invariant (omega arith) in
     spare-placed c.args.self.now _ c.args.item (returns-then-get-len-clause-placed g c)
     (λ _. rw (← c.self.view_is) refl) (λ none. absurd (some (rw (← c.self.view_is) at none)))
@@ -229,12 +230,12 @@ returns-then-get-len-clause-spare g c =
 pub returns-then-len-ge-MAX_SLOTS-clause-parted : goal.returns-then-len-ge-MAX_SLOTS-clause-parted
 returns-then-len-ge-MAX_SLOTS-clause-parted g c =
     let nodes = c.self.inside.nodes in
-    rw (← c.self.view_is) (IsParted-nodes g.N.SlotNode.item_of nodes.items c.self.inside.next_free.value
+    rw (← c.self.view_is) (IsParted-nodes item_of nodes.items c.self.inside.next_free.value
     (vec_capacity nodes) (vec_len nodes) (omega arith) c.self.invariant)
 
 pub returns-then-is_err-clause-parted : goal.returns-then-is_err-clause-parted
 returns-then-is_err-clause-parted g c =
-    IsParted-nodes g.N.SlotNode.item_of _ _ _ _ (omega (arith, ap length c.make_room.ensures.items))
+    IsParted-nodes item_of _ _ _ _ (omega (arith, ap length c.make_room.ensures.items))
     (invariant_of-self-then-is_err g c)
 
 pub returns-clause-edit : goal.returns-clause-edit
@@ -243,19 +244,19 @@ returns-clause-edit g c =
     let at = next_token-is _ _ _ c.self.inside.next_free.value
     (room_of (vec_capacity nodes) (vec_len nodes)) c.self.invariant in
     let parted : IsParted c.args.self.now =
-    rw (← c.self.view_is) (IsParted-nodes g.N.SlotNode.item_of nodes.items c.self.inside.next_free.value
+    rw (← c.self.view_is) (IsParted-nodes item_of nodes.items c.self.inside.next_free.value
     (vec_capacity nodes) (vec_len nodes) (omega arith) c.self.invariant) in
     PlacesItem-from c.args.self.now _ c.self.inside.next_free.value c.args.item parted
     (rw (← c.self.view_is) at) (returns-clause-placed g c)
 
 pub returns-clause-parted : goal.returns-clause-parted
 returns-clause-parted g c =
-    IsParted-nodes g.N.SlotNode.item_of _ _ _ _ (omega arith) (invariant_of-self-2 g c)
+    IsParted-nodes item_of _ _ _ _ (omega arith) (invariant_of-self-2 g c)
 
 pub returns-clause-spare : goal.returns-clause-spare
 returns-clause-spare g c =
     let nodes = c.self.inside.nodes in
-    let long = length-map nodes.items g.N.SlotNode.item_of in
+    let long = length-map nodes.items item_of in
     let last = none_free _ _ _ _ c.self.invariant (omega arith) in
     let room : c.args.self.now.room ≡ room_of (vec_capacity nodes) (vec_len nodes) =
     rw (← c.self.view_is) refl in

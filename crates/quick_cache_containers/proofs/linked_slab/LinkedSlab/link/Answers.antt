@@ -5,6 +5,7 @@ use Rattle.quick_cache_containers.proofs.SlabViews.{alone-to_link, IsSound-linke
 use Rattle.quick_cache_containers.proofs.PartedRings.{ring_from-linked, IsParted-nodes}
 use Rattle.quick_cache_containers.proofs.EditsByToken.{LinksToken-from}
 use Rattle.quick_cache_containers.specs.LinkedSlab.{ring_from, IsParted}
+use Rattle.quick_cache_containers.specs.Nodes.{item_of}
 use Rattle.quick_cache_containers.proofs.linked_slab.LinkedSlab.link.Goals as goal
 
 pub link-requires-clause-linked : goal.link-requires-clause-linked
@@ -58,7 +59,7 @@ pub returns-clause-edit : goal.returns-clause-edit
 returns-clause-edit g c =
     let nodes = c.self.inside.nodes in
     let parted : IsParted c.args.self.now =
-    rw (← c.self.view_is) (IsParted-nodes g.N.SlotNode.item_of nodes.items c.self.inside.next_free.value
+    rw (← c.self.view_is) (IsParted-nodes item_of nodes.items c.self.inside.next_free.value
     (vec_capacity nodes) (vec_len nodes) (omega arith) c.self.invariant) in
     let joins = rw c.in-Some.is at (returns-clause-ring g c) in
     let done = rw c.in-Some.is at (returns-clause-linked g c) in
@@ -68,4 +69,4 @@ returns-clause-edit g c =
 pub returns-clause-parted : goal.returns-clause-parted
 returns-clause-parted g c =
     let items = with_items_is c.self.inside.nodes c.link.new.nodes (omega arith) in
-    IsParted-nodes g.N.SlotNode.item_of _ _ _ _ (omega (arith, ap length items)) (invariant_of-self g c)
+    IsParted-nodes item_of _ _ _ _ (omega (arith, ap length items)) (invariant_of-self g c)

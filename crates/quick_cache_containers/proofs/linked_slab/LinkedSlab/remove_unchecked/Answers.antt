@@ -1,4 +1,4 @@
-use Rattle.std.proofs.Common.{map, None, is_some, ◌≡◌, ◌⊎◌, ◌<◌, ◌≤◌, length, inl, inr, sym, ap, ◌∙◌, vec_len, vec_capacity, arith}
+use Rattle.std.proofs.Common.{map, None, is_some, ◌≡◌, ◌⊎◌, ◌<◌, ◌≤◌, length, inl, inr, ap, vec_len, vec_capacity, arith}
 use Rattle.std.proofs.lemmas.List.{with_items_is}
 use Rattle.quick_cache_containers.specs.Links.{room_of}
 use Rattle.std.proofs.lemmas.List.{length-map}
@@ -7,8 +7,9 @@ use Rattle.quick_cache_containers.proofs.AtTokens.{at_token-with_same}
 use Rattle.quick_cache_containers.proofs.SlotRings.{taken_within}
 use Rattle.quick_cache_containers.proofs.PartedRings.{IsParted-nodes}
 use Rattle.quick_cache_containers.proofs.EditsByToken.{RemovesItem-from}
-use Rattle.quick_cache_containers.specs.LinkedSlab.{IsOccupied, IsParted}
+use Rattle.quick_cache_containers.specs.LinkedSlab.{IsParted}
 use Rattle.quick_cache_containers.proofs.linked_slab.LinkedSlab.remove_unchecked.Goals as goal
+use Rattle.quick_cache_containers.specs.Nodes.{item_of}
 use Rattle.quick_cache_containers.proofs.linked_slab.LinkedSlab.remove_unchecked.Goals.{then-get-len, else-get-len}
 
 pub unlink-next-requires-clause-linked : goal.unlink-next-requires-clause-linked
@@ -22,10 +23,10 @@ invariant_of-self g c =
     let done = rw c.as_mut_slice-nodes.ensures.value at c.unlink-next.ensures.unlinks in
     let slots = rw c.as_mut_slice-nodes.ensures.value at c.unlink-next.ensures.slots in
     let taken = rw (← c.self.view_is) at c.requires in
-    let long = length-map nodes.items g.N.SlotNode.item_of in
-    let choice : ((c.self.inside.next_free.value ≤ length (map g.N.SlotNode.item_of nodes.items))
+    let long = length-map nodes.items item_of in
+    let choice : ((c.self.inside.next_free.value ≤ length (map item_of nodes.items))
     × (c.if-get-len.link.value ≡ c.self.inside.next_free.value))
-    ⊎ ((length (map g.N.SlotNode.item_of nodes.items) < c.self.inside.next_free.value)
+    ⊎ ((length (map item_of nodes.items) < c.self.inside.next_free.value)
     × (c.if-get-len.link.value ≡ c.args.token.value)) =
     elim c.if-get-len.branch [
       | then-get-len w ↦ inl (omega (arith, w.if-get-len.true), rw w.link-is)
@@ -35,7 +36,7 @@ invariant_of-self g c =
     (room_of (vec_capacity nodes) (vec_len nodes)) c.args.token.value _ _
     c.if-get-len.link.value c.self.invariant taken done choice in
     let here = taken_within _ c.args.token.value taken in
-    let free = ap is_some (at_token-with_same (map g.N.SlotNode.item_of nodes.items)
+    let free = ap is_some (at_token-with_same (map item_of nodes.items)
     c.args.token.value None None here.0 here.1) in
     rw (
       items,
@@ -61,10 +62,10 @@ returns-clause-removed g c =
     let done = rw c.as_mut_slice-nodes.ensures.value at c.unlink-next.ensures.unlinks in
     let slots = rw c.as_mut_slice-nodes.ensures.value at c.unlink-next.ensures.slots in
     let taken = rw (← c.self.view_is) at c.requires in
-    let long = length-map nodes.items g.N.SlotNode.item_of in
-    let choice : ((c.self.inside.next_free.value ≤ length (map g.N.SlotNode.item_of nodes.items))
+    let long = length-map nodes.items item_of in
+    let choice : ((c.self.inside.next_free.value ≤ length (map item_of nodes.items))
     × (c.if-get-len.link.value ≡ c.self.inside.next_free.value))
-    ⊎ ((length (map g.N.SlotNode.item_of nodes.items) < c.self.inside.next_free.value)
+    ⊎ ((length (map item_of nodes.items) < c.self.inside.next_free.value)
     × (c.if-get-len.link.value ≡ c.args.token.value)) =
     elim c.if-get-len.branch [
       | then-get-len w ↦ inl (omega (arith, w.if-get-len.true), rw w.link-is)
@@ -80,11 +81,11 @@ pub returns-clause-edit : goal.returns-clause-edit
 returns-clause-edit g c =
     let nodes = c.self.inside.nodes in
     let parted : IsParted c.args.self.now =
-    rw (← c.self.view_is) (IsParted-nodes g.N.SlotNode.item_of nodes.items c.self.inside.next_free.value
+    rw (← c.self.view_is) (IsParted-nodes item_of nodes.items c.self.inside.next_free.value
     (vec_capacity nodes) (vec_len nodes) (omega arith) c.self.invariant) in
     RemovesItem-from c.args.self.now _ c.args.token.value parted c.requires (returns-clause-removed g c)
 
 pub returns-clause-parted : goal.returns-clause-parted
 returns-clause-parted g c =
     let items = with_items_is c.self.inside.nodes c.vacate-item.new.nodes (omega arith) in
-    IsParted-nodes g.N.SlotNode.item_of _ _ _ _ (omega (arith, ap length items)) (invariant_of-self g c)
+    IsParted-nodes item_of _ _ _ _ (omega (arith, ap length items)) (invariant_of-self g c)

@@ -5,6 +5,7 @@ use Rattle.quick_cache_containers.proofs.SlabViews.{IsSound-unlinked, view-unlin
 use Rattle.quick_cache_containers.proofs.PartedRings.{ring_from-unlinked, IsParted-nodes}
 use Rattle.quick_cache_containers.proofs.EditsByToken.{UnlinksToken-from}
 use Rattle.quick_cache_containers.specs.LinkedSlab.{ring_from, IsParted}
+use Rattle.quick_cache_containers.specs.Nodes.{item_of}
 use Rattle.quick_cache_containers.proofs.linked_slab.LinkedSlab.unlink.Goals as goal
 
 pub unlink-requires-clause-linked : goal.unlink-requires-clause-linked
@@ -54,7 +55,7 @@ pub returns-clause-edit : goal.returns-clause-edit
 returns-clause-edit g c =
     let nodes = c.self.inside.nodes in
     let parted : IsParted c.args.self.now =
-    rw (← c.self.view_is) (IsParted-nodes g.N.SlotNode.item_of nodes.items c.self.inside.next_free.value
+    rw (← c.self.view_is) (IsParted-nodes item_of nodes.items c.self.inside.next_free.value
     (vec_capacity nodes) (vec_len nodes) (omega arith) c.self.invariant) in
     UnlinksToken-from c.args.self.now _ c.args.token.value parted c.requires
     (returns-clause-unlinked g c)
@@ -62,4 +63,4 @@ returns-clause-edit g c =
 pub returns-clause-parted : goal.returns-clause-parted
 returns-clause-parted g c =
     let items = with_items_is c.self.inside.nodes c.unlink.new.nodes (omega arith) in
-    IsParted-nodes g.N.SlotNode.item_of _ _ _ _ (omega (arith, ap length items)) (invariant_of-self g c)
+    IsParted-nodes item_of _ _ _ _ (omega (arith, ap length items)) (invariant_of-self g c)

@@ -15,7 +15,7 @@ loop-i-preserved g c =
     rw at at (take_more xs c.loop-i.i node within) in
     record {
       copied = rw (more, c.push_reserved.ensures.items)
-          (AllZip-push (IsNodeCopy g.N.SlotNode.item_of g.N.SlotNode.next_of g.N.SlotNode.prev_of (g.C.CopyItem.is_copy c.args.copier.now))
+          (AllZip-push (IsNodeCopy (g.C.CopyItem.is_copy c.args.copier.now))
           (take c.loop-i.i xs) c.loop-i.copies.items node c.in_ok-copy_node.field-0
           c.loop-i.invariant.copied c.in_ok-copy_node.ensures.copies);
       len = search rules;

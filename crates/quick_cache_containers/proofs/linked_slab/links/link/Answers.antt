@@ -1,6 +1,7 @@
 use Rattle.std.proofs.Common.{arith}
 use Rattle.quick_cache_containers.proofs.NodeFields.{taken_in_nodes, prev_taken}
 use Rattle.quick_cache_containers.proofs.RingEditsOfSlots.{Links-written}
+use Rattle.quick_cache_containers.specs.Nodes.{item_of}
 use Rattle.quick_cache_containers.proofs.linked_slab.links.link.Goals as goal
 
 pub prev_of-last-requires : goal.prev_of-last-requires
@@ -8,9 +9,9 @@ prev_of-last-requires g c = c.requires.head
 
 pub set_next-requires : goal.set_next-requires
 set_next-requires g c =
-    let prev = prev_taken g.N.SlotNode.item_of c.args.nodes.now c.args.head.value _ _
+    let prev = prev_taken item_of c.args.nodes.now c.args.head.value _ _
     c.requires.linked c.requires.head in
-    let within = taken_in_nodes g.N.SlotNode.item_of c.args.nodes.now _ prev in
+    let within = taken_in_nodes item_of c.args.nodes.now _ prev in
     omega arith
 
 pub returns-clause-links : goal.returns-clause-links

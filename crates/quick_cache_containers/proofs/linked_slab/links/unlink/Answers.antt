@@ -2,14 +2,15 @@ use Rattle.std.proofs.Common.{map, ◌≡◌, ◌≢◌, sym, ◌∙◌, arith}
 use Rattle.quick_cache_containers.specs.Links.{link_of}
 use Rattle.quick_cache_containers.proofs.NodeFields.{taken_in_nodes, prev_taken}
 use Rattle.quick_cache_containers.proofs.RingEditsOfSlots.{Unlinks-alone, Unlinks-written}
+use Rattle.quick_cache_containers.specs.Nodes.{item_of, next_link}
 use Rattle.quick_cache_containers.proofs.linked_slab.links.unlink.Goals as goal
 
 pub next_of-next-requires : goal.next_of-next-requires
-next_of-next-requires g c = taken_in_nodes g.N.SlotNode.item_of c.args.nodes.now c.args.token.value c.requires.taken
+next_of-next-requires g c = taken_in_nodes item_of c.args.nodes.now c.args.token.value c.requires.taken
 
 pub returns-then-get-clause-unlinks : goal.returns-then-get-clause-unlinks
 returns-then-get-clause-unlinks g c =
-    let own : link_of (map g.N.SlotNode.next_of c.args.nodes.now) c.args.token.value ≡ c.args.token.value =
+    let own : link_of (map next_link c.args.nodes.now) c.args.token.value ≡ c.args.token.value =
     sym c.next_of-next.ensures ∙ omega arith in
     Unlinks-alone _ _ _ c.args.token.value c.requires.linked c.requires.taken own
 
@@ -21,9 +22,9 @@ set_prev-requires g c = rw c.set_next.ensures.slots c.requires.taken
 
 pub set_next-requires-2 : goal.set_next-requires-2
 set_next-requires-2 g c =
-    let prev = prev_taken g.N.SlotNode.item_of c.args.nodes.now c.args.token.value _ _
+    let prev = prev_taken item_of c.args.nodes.now c.args.token.value _ _
     c.requires.linked c.requires.taken in
-    let within = taken_in_nodes g.N.SlotNode.item_of c.args.nodes.now _ prev in
+    let within = taken_in_nodes item_of c.args.nodes.now _ prev in
     omega arith
 
 pub returns-clause-unlinks : goal.returns-clause-unlinks

@@ -3,7 +3,8 @@ use Rattle.std.proofs.lemmas.List.{with_items_is}
 use Rattle.std.specs.Int.NonZero.{non_zero_u32_get}
 use Rattle.quick_cache_containers.specs.Places.{Place}
 use Rattle.quick_cache_containers.specs.Table.{in_order}
-use Rattle.quick_cache_containers.specs.TableGroups.{pairs_of, capacity_of}
+use Rattle.quick_cache_index.specs.IndexGroups.{capacity_of}
+use Rattle.quick_cache_containers.specs.TableGroups.{pairs_of}
 use Rattle.quick_cache_containers.proofs.ShownPairs.{IsSound-gain, AddsPair-from_more, count_by-absent, free-from_room, HasOneMore-put}
 use Rattle.quick_cache_containers.proofs.table.Table.insert_reserved.Goals as goal
 

@@ -1,7 +1,8 @@
 -- The pair goes to a place that has no tag, and so no housed pair, and gets its tag there.
 use Rattle.std.proofs.Common.{◌≡◌, ◌<◌, length, get_or, set, sym, ap, subst, ◌∙◌, arith}
 use Rattle.std.specs.List.{swap}
-use Rattle.quick_cache_containers.specs.TableGroups.{hash_at, tag_of, place_at, IsReached, IsHoused, IsBareBelow, HasSamePairs}
+use Rattle.quick_cache_index.specs.Index.{tag_of, IsReached}
+use Rattle.quick_cache_containers.specs.TableGroups.{hash_at, place_at, IsHoused, IsBareBelow, HasSamePairs}
 use Rattle.quick_cache_containers.proofs.HousedPairs.{HasSamePairs-swap, HasSamePairs-then, IsHoused-move, IsBareBelow-move}
 use Rattle.quick_cache_containers.proofs.table.groups.house.Goals as goal
 

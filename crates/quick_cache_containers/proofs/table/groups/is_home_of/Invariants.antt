@@ -1,5 +1,6 @@
 use Rattle.std.proofs.Common.{◌≡◌, ℕ, ◌+◌, ◌*◌, ◌<◌}
-use Rattle.quick_cache_containers.specs.TableGroups.{hash_at, place_at, home_of}
+use Rattle.quick_cache_index.specs.Index.{home_of}
+use Rattle.quick_cache_containers.specs.TableGroups.{hash_at, place_at}
 use Rattle.quick_cache_containers.proofs.table.groups.is_home_of.Given as goal
 
 -- none of the lanes so far has a pair of that home

@@ -1,6 +1,6 @@
 use Rattle.std.proofs.Common.{◌≤◌, rules, arith}
 use Rattle.std.specs.Int.Bits.{bit_xor}
-use Rattle.quick_cache_containers.proofs.Distances.{xor-within}
+use Rattle.quick_cache_index.proofs.Distances.{xor-within}
 use Rattle.quick_cache_containers.proofs.FreedPlaces.{AreWithin-less}
 use Rattle.quick_cache_containers.proofs.table.groups.shorten.Goals as goal
 

@@ -1,8 +1,8 @@
 -- The distance of two groups is below how many there are.
 use Rattle.std.proofs.Common.{◌/◌, arith}
 use Rattle.std.specs.Int.Bits.{bit_xor}
-use Rattle.quick_cache_containers.proofs.Distances.{xor-within}
-use Rattle.quick_cache_containers.proofs.HousedPairs.{within-set}
+use Rattle.quick_cache_index.proofs.Distances.{xor-within}
+use Rattle.quick_cache_index.proofs.CountedTokens.{within-set}
 use Rattle.quick_cache_containers.proofs.table.groups.tag_place.Goals as goal
 
 pub returns-then-step-reaches-clause-near : goal.returns-then-step-reaches-clause-near

@@ -4,7 +4,7 @@ use Rattle.std.proofs.lemmas.Bool.{eq-eqb}
 use Rattle.quick_cache_containers.specs.Places.{Place}
 use Rattle.quick_cache_containers.specs.TableGroups.{is_free, place_at, HasOneMore}
 use Rattle.quick_cache_containers.proofs.CountedPlaces.{HasOneMore-take}
-use Rattle.quick_cache_containers.proofs.NearestFreePlace.{untagged_some, taken_is}
+use Rattle.quick_cache_containers.proofs.FreePlaces.{untagged_some, taken_is}
 use Rattle.quick_cache_containers.proofs.table.groups.take_place.Goals as goal
 
 pub untagged-position-requires-clause-some : goal.untagged-position-requires-clause-some

@@ -2,7 +2,7 @@ use Rattle.std.proofs.Common.{◌≡◌, ◌<◌, List, ◌∷◌, length, arith
 use Rattle.quick_cache_containers.specs.Places.{Place}
 use Rattle.quick_cache_containers.specs.declared.table.walk.Walk.{Walk}
 use Rattle.quick_cache_containers.specs.TableGroups.{hash_at, place_at, tokens_left}
-use Rattle.quick_cache_containers.proofs.GroupLanes.{turned_lowest}
+use Rattle.quick_cache_containers.proofs.TurnedLanes.{turned_lowest}
 use Rattle.quick_cache_containers.proofs.WalkedTokens.{looks_at_lane, behind_lane, lane_position}
 use Rattle.quick_cache_containers.proofs.table.walk.Walk.next_in_group.Goals as goal
 

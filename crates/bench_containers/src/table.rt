@@ -1,6 +1,4 @@
-//! The table, for a program in Rust that times it beside other tables.
-#![tactic(auto)]
-
+//! The table: one call fills a new one and goes over a list of hashes.
 ghost use Rattle.std.specs.Prelude.{◌<◌, length};
 
 use quick_cache_containers::Table;

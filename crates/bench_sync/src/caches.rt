@@ -1,48 +1,14 @@
-//! What a round does: how much, by how many threads, to which keys of which cache.
+//! Caches of numbers, the keys that are drawn of them, and the error of one that gets no memory.
 use quick_cache::sync::{Cache, DefaultLifecycle};
 use quick_cache::{DefaultHashBuilder, OptionsBuilder, Refusal, UnitWeighter};
 use std::alloc::Global;
 use std::io;
+use std::sync::Wait;
 
-/// How much is done, and by how many threads.
-#[derive(Drop)]
-pub struct Trace {
-    pub threads: u32,
-    pub operations: u32,
-    pub items: u32,
-    pub rounds: u32,
-    pub is_timed: bool,
-}
-
-impl Trace {
-    /// What four numbers say, or one small round where there are not four.
-    pub fn of(numbers: &[u32]) -> Self {
-        match numbers {
-            [threads, operations, items, rounds] => Trace {
-                threads: *threads,
-                operations: *operations,
-                items: *items,
-                rounds: *rounds,
-                is_timed: true,
-            },
-            _ => Trace {
-                threads: 4,
-                operations: 4000,
-                items: 1000,
-                rounds: 1,
-                is_timed: false,
-            },
-        }
-    }
-
-    /// What each thread does of the operations.
-    pub fn part(&self) -> u32 {
-        self.operations / self.threads.max(1)
-    }
-}
+pub type Numbers = Cache<u64, u64>;
 
 /// An empty cache of so many items over 16 shards, or fewer where there are less than 512 items.
-pub fn empty(alloc: Global, items: u32) -> Result<Cache<u64, u64>, Refusal> {
+pub fn empty(alloc: Global, items: u32) -> Result<Numbers, Refusal> {
     let mut options = OptionsBuilder::new();
     options
         .shards(16)
@@ -58,6 +24,23 @@ pub fn empty(alloc: Global, items: u32) -> Result<Cache<u64, u64>, Refusal> {
         DefaultHashBuilder::new(),
         DefaultLifecycle::new(),
     )
+}
+
+/// Puts so many items into a cache, each key with itself as its value.
+pub fn fill<R: Wait>(rt: &R, cache: &Numbers, items: u64) -> Result<(), Refusal> {
+    for key in 0..items {
+        cache
+            .insert(rt, key, key)
+            .map_err(|(_, _, refusal)| refusal)?;
+    }
+    Ok(())
+}
+
+/// A cache of the default shards that has so many items, and room for as many more.
+pub fn filled<R: Wait>(rt: &R, alloc: Global, items: u32) -> Result<Numbers, Refusal> {
+    let cache = Cache::new(alloc, (items as usize).saturating_mul(2))?;
+    fill(rt, &cache, u64::from(items))?;
+    Ok(cache)
 }
 
 /// A refusal, as the error of a program. A cache of so few items is refused for memory alone.

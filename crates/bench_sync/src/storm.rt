@@ -1,4 +1,5 @@
 //! Four threads that ask for a thousand keys, by a clock that rises with each get.
+use crate::caches::drawn;
 use read_through::{ReadThrough, Refusal};
 use std::alloc::{AllocError, Global};
 use std::sync::Wait;
@@ -19,13 +20,6 @@ pub struct Seen {
     pub wrong: u64,
     /// Loads within the life of the one before of their key.
     pub early: u64,
-}
-
-/// The next state of a generator of numbers.
-pub fn drawn(state: u64) -> u64 {
-    state
-        .wrapping_mul(6364136223846793005)
-        .wrapping_add(1442695040888963407)
 }
 
 /// What is loaded for a key at a moment.

@@ -1,6 +1,6 @@
 use Rattle.std.proofs.Common.{◌≡◌, ◌+◌, ◌<◌, ◌≤◌, ℕ, false, length}
 use Rattle.quick_cache_containers.specs.Table.{has_pair}
-use Rattle.table_bench.proofs.filled.Given as goal
+use Rattle.bench_containers.proofs.table.filled.Given as goal
 
 -- there is room for the hashes to come, and their tokens are new
 abbrev pub invariant-loop-hash : goal.invariant-loop-hash

@@ -1,7 +1,4 @@
-//! The slab as a static library: one call runs a list of operations on a new slab, and writes each
-//! answer.
-#![tactic(auto)]
-
+//! The slab: one call runs a list of operations on a new one, and writes each answer.
 use quick_cache_containers::linked_slab::{LinkedSlab, Token};
 use std::alloc::Global;
 
