@@ -16,27 +16,12 @@ use Rattle.qcrun_parts.specs.declared.command.Command.TheVariants.{Peek, Remove,
 use Rattle.qcrun_parts.specs.declared.command.Command.TheVariants.{Load, Fail, Guard, Drop, Stats}
 use Rattle.qcrun_parts.specs.declared.command.Command.TheVariants.{Clear, Capacity, Hits, Show}
 
--- an answer of Ok, where P holds of its value alone, and one of Err, where P holds of none
-pub IsOkExactly-ok : {X E : Type 0} (P : X → Type 0) (value : X) → P value
-    → ((other : X) → P other → other ≡ value)
-    → IsOkExactly {X = X} {E = E} (Ok value) P
-IsOkExactly-ok P value holds only =
-    λ other. (
-      (λ also. ap Ok (sym (only other also))),
-      (λ same. let known : value ≡ other = cc in subst P known holds),
-    )
-
 pub IsOkExactly-err : {X E : Type 0} (P : X → Type 0) (answer : Result X E) → IsErr answer
     → ((other : X) → P other → ⊥)
     → IsOkExactly answer P
 IsOkExactly-err P (Ok value) is none = absurd cc
 IsOkExactly-err P (Err error) is none =
     λ other. ((λ holds. absurd (none other holds)), (λ same. absurd cc))
-
--- one answer is Ok of one value
-pub same_ok : {X E : Type 0} (answer : Result X E) {one other : X} → answer ≡ Ok one
-    → answer ≡ Ok other → one ≡ other
-same_ok answer is_one is_other = cc
 
 -- two words with one space between
 abbrev pub spaced : List ℕ → List ℕ → List ℕ
@@ -159,33 +144,6 @@ pub IsOkExactly-as : {X E : Type 0} (answer : Result X E) (P Q : X → Type 0)
     → IsOkExactly answer P → IsOkExactly answer Q
 IsOkExactly-as answer P Q there back exact =
     λ value. (λ holds. (exact value).0 (back value holds), λ is. there value ((exact value).1 is))
-
--- a line without a space is the name of a command that has no number
-pub IsLineOf-alone : (line : List ℕ) → LacksSpace line → (command : Command)
-    → IsLineOf line command → HasNumbers line [] command
-IsLineOf-alone line lacks command is = go (numbers_of command) is.2
-  where
-    go : (numbers : List ℕ) → AreNumbers is.0 numbers
-        → (line ≡ name_of command) × ([] ≡ numbers) × HasSharesInRange command
-    go [] none = (
-      is.1 ∙ ap (λ (words : List ℕ). name_of command ++ words) none
-          ∙ append-nil (name_of command),
-      refl,
-      is.3,
-    )
-    go (number ∷ numbers) are =
-        absurd (spaced-has_space (name_of command) (are.0 ++ are.1)
-        (subst LacksSpace (is.1 ∙ ap (λ (words : List ℕ). name_of command ++ words) are.4) lacks))
-
--- and so is each such name
-pub HasNumbers-alone : (line : List ℕ) (command : Command) → HasNumbers line [] command
-    → IsLineOf line command
-HasNumbers-alone line command has = (
-  [],
-  has.0 ∙ sym (append-nil (name_of command)),
-  subst (λ (numbers : List ℕ). AreNumbers [] numbers) has.1 refl,
-  has.2,
-)
 
 module _ (line name words : List ℕ) (split : line ≡ spaced name words) (lacks : LacksSpace name)
   where

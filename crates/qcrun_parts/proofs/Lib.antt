@@ -3,4 +3,3 @@ mod LineLemmas
 pub mod EventLemmas
 mod StillLemmas
 mod LoadLemmas
-mod ServedLemmas

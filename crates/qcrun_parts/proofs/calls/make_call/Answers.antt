@@ -4,7 +4,7 @@ use Rattle.quick_cache_model.specs.CacheState.{Item, UpToOrder}
 use Rattle.quick_cache_model.specs.Lookups.{Sees, LooksUp}
 use Rattle.quick_cache_model.specs.CacheStep.{CacheStep}
 use Rattle.quick_cache_model.specs.declared.calls.call.Call.TheVariants as call
-use Rattle.qcrun_parts.proofs.ServedLemmas.{IsShown-itself}
+use Rattle.quick_cache_model.proofs.ShownLemmas.{IsShown-itself}
 use Rattle.qcrun_parts.proofs.calls.make_call.Goals as goal
 
 -- the reply is a copy of what the look-up shows
