@@ -8,13 +8,12 @@ use Rattle.quick_cache_model.specs.Hooks.{Rules, Hooks, HookCall, EvictCold, Cal
 use Rattle.quick_cache_model.specs.Refusals.{IsProvided, MayRefuse, memory_refused, slots_full, slots_taken}
 use Rattle.quick_cache_model.specs.Writes.{Strategy, Insert, Replace, SoftReplace, IsReplace, Writes, WritesAdmitted, RejectsTooHeavy, TakesOutItem}
 use Rattle.quick_cache_model.proofs.OrderLaws.{UpToOrder-exact, UpToOrder-map}
-use Rattle.quick_cache_store.specs.declared.lists.found.Found.{Found}
-use Rattle.quick_cache_store.specs.declared.lists.found.Found.TheVariants.{Item as found_item, Loading as found_loading, Ghost as found_ghost, Nothing as found_nothing}
 use Rattle.quick_cache_policy.specs.declared.writing.admission.Admission.TheVariants.{Admitted as code_admitted, TooHeavy as code_too_heavy}
 use Rattle.std.proofs.lemmas.List.{length-map}
-use Rattle.quick_cache_store.specs.Lists.{HeldItem, HeldGhost, Finds, entry_count}
+use Rattle.quick_cache_store.specs.Lists.{HeldItem, HeldGhost, entry_count}
 use Rattle.quick_cache_store.specs.Views.{loading_entry}
 use Rattle.quick_cache_policy.specs.declared.contents.Contents.{Contents}
+use Rattle.quick_cache_policy.specs.declared.writing.plan.Plan.{Plan}
 use Rattle.quick_cache_policy.specs.Contents.{state_of}
 use Rattle.quick_cache_policy.specs.Work.{Work, WorksWithin}
 use Rattle.quick_cache_policy.proofs.HotLemmas.{counted_up-zero}
@@ -22,9 +21,9 @@ use Rattle.quick_cache_model.specs.Fates.{residents}
 use Rattle.quick_cache_model.specs.Leads.{TellsBeside}
 use Rattle.quick_cache_model.proofs.Leads.{Leads-same, Leads-changes, Leads-leaves, Leads-beside, Tells-append}
 use Rattle.quick_cache_policy.specs.Advances.{AreEvictions}
-use Rattle.quick_cache_policy.specs.Finding.{TakesSlot, Provides}
+use Rattle.quick_cache_policy.specs.Finding.{IsPlanned, TakesSlot, Provides}
 use Rattle.quick_cache_policy.specs.Writing.{is_insert, needs_of_write, IsReplacement, AreAdmittedCalls, AreWriteCalls, Writing, WritingAdmitted, Rejecting, Checks, Wrote}
-use Rattle.quick_cache_policy.proofs.FindLemmas.{Finds-nothing}
+use Rattle.quick_cache_policy.proofs.PlanLemmas.{IsPlanned-takes}
 use Rattle.quick_cache_policy.proofs.TellLemmas.{Checks-tells, TakesOutItem-tells}
 
 -- what makes items is an insert
@@ -118,48 +117,33 @@ module _ {K V : Type 0} (steady : Type 0) (rules : Rules K V) (equal_to : K → 
         (Leads-changes key value left rejects.2),
   )
 
-module _ {K V : Type 0} (stands_for : K → Bool) (hash : ℕ) (state : CacheState K V)
-    (found : Found) (some : HasNothing stands_for hash state → found ≡ found_nothing)
-    (room : ℕ) where
+module _ {K V : Type 0} (stands_for : K → Bool) (hash : ℕ) (state : CacheState K V) (plan : Plan)
+    (strategy : Strategy) (room : ℕ) where
   -- there was room for what the write needs
-  pub Provides-provided : (strategy : Strategy)
-      → Provides found strategy (slots_taken state) room None
+  pub Provides-provided : (strategy ≡ Insert → HasNothing stands_for hash state → TakesSlot plan)
+      → Provides plan (slots_taken state) room None
       → IsProvided (needs_of_write stands_for hash state strategy) state
-  Provides-provided Insert p = record {
-    ticket = λ e. absurd e;
-    slot = λ none. p.0 (subst (λ f. TakesSlot f Insert) (sym (some none)) refl);
-  }
-  Provides-provided Replace p = record { ticket = λ e. absurd e; slot = λ e. absurd e }
-  Provides-provided SoftReplace p = record { ticket = λ e. absurd e; slot = λ e. absurd e }
-
-  -- a new entry is made by an insert where nothing was found
-  takes-slot : (f : Found) (strategy : Strategy) → TakesSlot f strategy
-      → (f ≡ found_nothing) × (is_insert strategy ≡ true)
-  takes-slot (found_item token) strategy takes = absurd takes
-  takes-slot (found_loading token) strategy takes = absurd takes
-  takes-slot (found_ghost token) strategy takes = absurd takes
-  takes-slot found_nothing strategy takes = (refl, takes)
+  Provides-provided some p = go strategy refl
+    where
+      go : (s : Strategy) → strategy ≡ s → IsProvided (needs_of_write stands_for hash state s) state
+      go Insert is = record { ticket = λ e. absurd e; slot = λ none. p.0 (some is none) }
+      go Replace is = record { ticket = λ e. absurd e; slot = λ e. absurd e }
+      go SoftReplace is = record { ticket = λ e. absurd e; slot = λ e. absurd e }
 
   -- there was none
-  pub Provides-refused : (found ≡ found_nothing → HasNothing stands_for hash state)
-      → (strategy : Strategy) (refusal : Refusal)
-      → Provides found strategy (slots_taken state) room (Some refusal)
+  pub Provides-refused : (TakesSlot plan → (strategy ≡ Insert) × HasNothing stands_for hash state)
+      → (refusal : Refusal) → Provides plan (slots_taken state) room (Some refusal)
       → MayRefuse (needs_of_write stands_for hash state strategy) state refusal
-  Provides-refused none Insert Memory p =
-      memory_refused (record { ticket = λ e. absurd e; slot = λ _. p.1 })
-      (none (takes-slot found Insert p.0).0)
-  Provides-refused none Insert SlotsFull p =
-      slots_full (λ e. absurd e) (none (takes-slot found Insert p.0).0) p.1
-  Provides-refused none Replace Memory p =
-      absurd (true≢false (sym (takes-slot found Replace p.0).1))
-  Provides-refused none Replace SlotsFull p =
-      absurd (true≢false (sym (takes-slot found Replace p.0).1))
-  Provides-refused none SoftReplace Memory p =
-      absurd (true≢false (sym (takes-slot found SoftReplace p.0).1))
-  Provides-refused none SoftReplace SlotsFull p =
-      absurd (true≢false (sym (takes-slot found SoftReplace p.0).1))
-  Provides-refused none strategy TicketsSpent p = absurd p
-  Provides-refused none strategy Finished p = absurd p
+  Provides-refused none Memory p =
+      let made = none p.0 in
+      subst (λ s. MayRefuse (needs_of_write stands_for hash state s) state Memory) (sym made.0)
+      (memory_refused (record { ticket = λ e. absurd e; slot = λ _. p.1 }) made.1)
+  Provides-refused none SlotsFull p =
+      let made = none p.0 in
+      subst (λ s. MayRefuse (needs_of_write stands_for hash state s) state SlotsFull) (sym made.0)
+      (slots_full (λ e. absurd e) made.1 p.1)
+  Provides-refused none TicketsSpent p = absurd p
+  Provides-refused none Finished p = absurd p
 
 -- no work is within each bound
 pub WorksWithin-none : (cut n : ℕ) (work : Work) → work.advances < 2 ^ 64 → work.visits < 2 ^ 64
@@ -192,22 +176,22 @@ entry_count-taken {K = K} {V = V} {P = P} ticket_of contents = omega (
 
 module _ {K V P W A T S : Type 0} (steady : Type 0) (hooks : Hooks K V S) (rules : Rules K V)
     (equal : K → K → Bool) (ticket_of : P → ℕ) (strategy : Strategy)
-    (old ready : Contents K V W A T P) (first last : S) (key : K) (value : V) (found : Found)
+    (old ready : Contents K V W A T P) (first last : S) (key : K) (value : V) (plan : Plan)
     (answer : Option (K × V)) (new : CacheState K V) where
   -- a pair was written after room was made where it needed some: the state does not look at room
-  pub Wrote-provided : Finds (equal key) (rules.hash key) old.lists found
-      → Provides found strategy (entry_count old.lists) ready.lists.room None
+  pub Wrote-provided : IsPlanned (equal key) (rules.hash key) old.lists strategy plan
+      → Provides plan (entry_count old.lists) ready.lists.room None
       → ready ≡ record old { lists = record old.lists { room = ready.lists.room } }
       → Calls hooks (Writing steady rules (equal key) key strategy (state_of ticket_of ready) value
       answer new) first last
       → Wrote steady hooks rules equal strategy (state_of ticket_of old) first key value answer new
       last
-  Wrote-provided finds provides same writes = record {
-    provided = Provides-provided (equal key) (rules.hash key) (state_of ticket_of old) found
-        (Finds-nothing ticket_of (equal key) (rules.hash key) old found finds) ready.lists.room
-        strategy
-        (subst (λ (n : ℕ). Provides found strategy n ready.lists.room None)
-        (entry_count-taken ticket_of old) provides);
+  Wrote-provided planned provides same writes = record {
+    provided = Provides-provided (equal key) (rules.hash key) (state_of ticket_of old) plan strategy
+        ready.lists.room
+        (IsPlanned-takes ticket_of (equal key) (rules.hash key) old strategy plan planned)
+        (subst (λ (n : ℕ). Provides plan n ready.lists.room None) (entry_count-taken ticket_of old)
+        provides);
     step = subst (λ (state : CacheState K V). Calls hooks
         (Writing steady rules (equal key) key strategy state value answer new) first last)
         (ap (state_of ticket_of) same) writes;

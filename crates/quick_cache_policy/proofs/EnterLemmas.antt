@@ -8,7 +8,7 @@ use Rattle.quick_cache_model.specs.CacheState.{place_of_item}
 use Rattle.quick_cache_model.specs.CacheState.{items_at as model_items_at, with_items as model_with_items}
 use Rattle.quick_cache_model.specs.CacheState.{entered as model_entered, rewritten}
 use Rattle.quick_cache_model.proofs.EachElement.{all-push, all-without, all-instead, all-restarted, all-middle}
-use Rattle.quick_cache_store.specs.Lists.{HeldItem, Lists, items_at, with_items, entered, held_rewritten}
+use Rattle.quick_cache_store.specs.Lists.{HeldItem, Lists, Rewrites, items_at, with_items, entered, held_rewritten}
 use Rattle.quick_cache_store.specs.Views.{items_of}
 use Rattle.quick_cache_store.proofs.lists.CallerLemmas.{items_of-split}
 use Rattle.quick_cache_policy.specs.declared.contents.Contents.{Contents}
@@ -134,6 +134,47 @@ entered-count held lists = go (place_of_item held.item)
     go InHot = omega (arith, length-append lists.hot (held ∷ []))
     go InCold = omega (arith, length-append lists.cold (held ∷ []))
     go InStill = omega arith
+
+-- ---- room
+
+module _ {K V P : Type 0} where
+  -- items take no room
+  with_items-room : (place : Place) (items : List (HeldItem K V)) (lists : Lists K V P)
+      → (with_items place items lists).room ≡ lists.room
+  with_items-room InHot items lists = refl
+  with_items-room InCold items lists = refl
+  with_items-room InStill items lists = refl
+
+  -- nor does one that stands in for another
+  rewritten-room : (place : Place) (before : List (HeldItem K V)) (held : HeldItem K V)
+      (after : List (HeldItem K V)) (lists : Lists K V P)
+      → (held_rewritten place before held after lists).room ≡ lists.room
+  rewritten-room InStill before held after lists = go (held.item.weight == 0)
+    where
+      go : (b : Bool) → (if b then with_items InStill (before ++ held ∷ after) lists
+          else entered held (with_items InStill (before ++ after) lists)).room ≡ lists.room
+      go true = refl
+      go false = with_items-room (place_of_item held.item) _
+          (with_items InStill (before ++ after) lists)
+  rewritten-room InHot before held after lists = go (held.item.weight == 0)
+    where
+      go : (b : Bool) → (if b then entered held (with_items InHot (after ++ before) lists)
+          else with_items InHot (before ++ held ∷ after) lists).room ≡ lists.room
+      go true = with_items-room (place_of_item held.item) _
+          (with_items InHot (after ++ before) lists)
+      go false = refl
+  rewritten-room InCold before held after lists = go (held.item.weight == 0)
+    where
+      go : (b : Bool) → (if b then entered held (with_items InCold (after ++ before) lists)
+          else with_items InCold (before ++ held ∷ after) lists).room ≡ lists.room
+      go true = with_items-room (place_of_item held.item) _
+          (with_items InCold (after ++ before) lists)
+      go false = refl
+
+  pub Rewrites-room : (old new : Lists K V P) (token : ℕ) (item was : Item K V)
+      → Rewrites old token item was new → new.room ≡ old.room
+  Rewrites-room old new token item was r = ap (λ (l : Lists K V P). l.room) r.rewritten.same
+      ∙ rewritten-room r.place r.before _ r.after old
 
 -- ---- keys under their hashes
 

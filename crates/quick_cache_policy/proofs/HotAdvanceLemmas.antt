@@ -1,9 +1,9 @@
 -- A hot advance over the contents of a cache: what its visits and its eviction come to.
-use Rattle.std.proofs.Common.{◌≡◌, ◌≢◌, ℕ, ◌+◌, ◌*◌, ◌≤◌, Bool, true, false, [], length}
+use Rattle.std.proofs.Common.{◌≡◌, ℕ, ◌+◌, ◌*◌, ◌≤◌, Bool, true, false, [], length}
 use Rattle.std.proofs.Common.{IsPermutation, refl, sym, ap, subst, arith}
 use Rattle.std.proofs.Math.Nat.{mul-le-mul_left}
 use Rattle.std.proofs.lemmas.List.{length-map}
-use Rattle.quick_cache_model.specs.declared.queue.Queue.TheVariants.{Hot, Cold}
+use Rattle.quick_cache_model.specs.declared.queue.Queue.TheVariants.{Hot}
 use Rattle.quick_cache_model.specs.CacheState.{CacheState, InHot, with_items}
 use Rattle.quick_cache_model.specs.Eviction.{AdvancesHot, EvictsVictim}
 use Rattle.quick_cache_model.specs.Hooks.{Rules, Hooks, Calls}
@@ -21,10 +21,6 @@ use Rattle.quick_cache_policy.specs.HotRounds.{VisitsHot, SeekEnds}
 use Rattle.quick_cache_policy.specs.Work.{Work, PaysFor}
 use Rattle.quick_cache_policy.proofs.TellLemmas.{FirstIsEvicted-tells, SeekEnds-order}
 use Rattle.quick_cache_policy.proofs.AdvanceLemmas.{AdvancesHot-met, AdvancesHot-none, MeetsVictim-within, GivesUp-within}
-
--- the queues are two
-pub cold≢hot : Cold ≢ Hot
-cold≢hot e = cc
 
 -- One advance, which counts one unless it is paid for.
 pub PaysFor-advance : (cut extra old_hot cold new_hot new_cold visits : ℕ) (old new : Work)

@@ -1,22 +1,21 @@
 -- That placeholders that come, go and are filled, and an item that is weighed anew, move no item.
-use Rattle.std.proofs.Common.{◌≡◌, ◌⊎◌, inl, inr, ℕ, ◌<◌, ◌≤◌, Bool, true, false, cond, eqb, List, [], ◌∷◌, ◌++◌, refl, sym, ap, subst, ◌∙◌, arith}
+use Rattle.std.proofs.Common.{◌≡◌, ◌⊎◌, inl, inr, ℕ, Bool, true, false, cond, eqb, List, [], ◌∷◌, ◌++◌, refl, sym, ap, subst, ◌∙◌, arith}
 use Rattle.std.specs.Cmp.{IsEquivalence}
 use Rattle.std.specs.List.{Contains}
 use Rattle.std.proofs.lemmas.List.{map-append}
 use Rattle.std.proofs.lemmas.List.Elements.{Contains-append_cases}
-use Rattle.quick_cache_model.specs.CacheState.{Item, keys_by}
+use Rattle.quick_cache_model.specs.CacheState.{Item}
 use Rattle.quick_cache_store.specs.declared.slots.entry.Awaited.{Awaited}
 use Rattle.quick_cache_store.specs.declared.slots.entry.Entry.TheVariants.{Loading as loading_variant}
 use Rattle.quick_cache_store.specs.Fills.{FillsToken}
-use Rattle.quick_cache_store.specs.Lists.{HeldItem, HeldLoading, HeldGhost, Lists, AreApart, StandsIn, PutsItem, PutsLast, Replaces, Reweighs, behind, ahead_of, restarted, without_entry, with_weight}
+use Rattle.quick_cache_store.specs.Lists.{HeldItem, HeldLoading, HeldGhost, Lists, AreApart, StandsIn, PutsItem, PutsLast, Reweighs, behind, ahead_of, restarted, without_entry, with_weight}
 use Rattle.quick_cache_store.proofs.lists.CallerLemmas.{without-ghost}
 use Rattle.quick_cache_policy.specs.declared.contents.Contents.{Contents}
-use Rattle.quick_cache_policy.specs.Contents.{IsSound, state_of}
+use Rattle.quick_cache_policy.specs.Contents.{IsSound}
 use Rattle.quick_cache_policy.specs.Places.{place_at, places_in, places_of, LosesOnly, KeepsPlaces}
-use Rattle.quick_cache_policy.proofs.EnterLemmas.{state_with}
 use Rattle.quick_cache_policy.proofs.FillLemmas.{awaited-is_loading, left-nowhere}
 use Rattle.quick_cache_policy.proofs.LookupLemmas.{without_loading}
-use Rattle.quick_cache_policy.proofs.PlaceLemmas.{LosesOnly-lists, LosesOnly-append}
+use Rattle.quick_cache_policy.proofs.PlaceLemmas.{LosesOnly-lists}
 use Rattle.quick_cache_policy.proofs.RetainLemmas.{Sifted, IsSifting}
 use Rattle.quick_cache_policy.proofs.WrittenPlaces.{Contains-later, keyed, keyed-some, keyed-state, one-place, entered-places, reordered-places, kept-places, dropped-places, without-places, rewritten-places, HasItem-place}
 

@@ -16,6 +16,7 @@ mod SoundLemmas
 mod KeyLemmas
 pub mod FindLemmas
 mod AdmissionLemmas
+mod PlanLemmas
 pub mod AnswerLemmas
 mod EnterLemmas
 pub mod LookupLemmas
@@ -43,3 +44,4 @@ mod KeptPlaces
 mod AskLemmas
 mod ThereLemmas
 mod TellLemmas
+mod StaysLemmas

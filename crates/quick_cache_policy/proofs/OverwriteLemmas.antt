@@ -2,11 +2,14 @@
 -- leads to before room is made, but for the order of what has none, and stay sound.
 use Rattle.std.proofs.Common.{◌≡◌, ℕ, ◌+◌, ◌≤◌, Bool, false, List, ◌∷◌, ◌++◌, length, None, refl, sym, ap, subst, ◌∙◌, arith}
 use Rattle.std.specs.Cmp.{IsEquivalence}
+use Rattle.std.specs.Int.NonZero.{non_zero_u32_get}
+use Rattle.std.specs.declared.num.NonZeroU32.{NonZeroU32 as Token}
 use Rattle.std.proofs.lemmas.List.{map-append}
 use Rattle.quick_cache_model.specs.CacheState.{CacheState, Item, LoadingEntry, SameButOrder, UpToOrder, keys_by}
+use Rattle.quick_cache_model.specs.declared.queue.Queue.{Queue}
 use Rattle.quick_cache_model.specs.declared.queue.Queue.TheVariants.{Hot}
 use Rattle.quick_cache_model.specs.CacheState.{entered as model_entered}
-use Rattle.quick_cache_model.specs.Finding.{IsLoadingAt, IsGhostAt}
+use Rattle.quick_cache_model.specs.Finding.{IsLoadingAt, IsGhostAt, HasNoItem}
 use Rattle.quick_cache_model.specs.Hooks.{Rules, HookCall}
 use Rattle.quick_cache_model.specs.Eviction.{EvictsToCapacity}
 use Rattle.quick_cache_model.specs.Touches.{first_mark}
@@ -27,9 +30,9 @@ use Rattle.quick_cache_store.specs.Views.{hashes_of, loading_entry, loading_entr
 use Rattle.quick_cache_store.proofs.lists.StandingLemmas.{ghost-hash, loading-hash}
 use Rattle.quick_cache_policy.specs.declared.contents.Contents.{Contents}
 use Rattle.quick_cache_policy.specs.Contents.{AreHashed, IsSound, state_of}
-use Rattle.quick_cache_policy.specs.Finding.{AreUnder}
+use Rattle.quick_cache_policy.specs.Finding.{AreUnder, EntersAt, at_ghost, at_loading}
 use Rattle.quick_cache_policy.proofs.SoundLemmas.{state_of-reordered, AreHashed-reordered}
-use Rattle.quick_cache_policy.proofs.FindLemmas.{IsGhostAt-stands, IsLoadingAt-stands}
+use Rattle.quick_cache_policy.proofs.FindLemmas.{IsGhostAt-stands, IsLoadingAt-stands, HasNoKey-state, HasNoItem-loading}
 use Rattle.quick_cache_policy.proofs.EnterLemmas.{state_with, entered-state, AreHashed-entered, AreHashed-room, entered-count}
 use Rattle.quick_cache_policy.proofs.LookupLemmas.{without_ghost, without_loading}
 use Rattle.quick_cache_policy.proofs.TellLemmas.{entered-tells}
@@ -90,6 +93,22 @@ module _ {K V P W A T X : Type 0} (ticket_of : P → ℕ) (contents : Contents K
       (AreHashed-entered hash held (record others { next = next; room = room }) under
       (AreHashed-room hash next room others hashed)))
 
+-- An item came in under the key, and leads to the write once room is made.
+pub record Entered {K V P W A X : Type 0} (ticket_of : P → ℕ) (contents : Contents K V W A X P)
+    (equal : K → K → Bool) (rules : Rules K V) (key : K) (value : V) (new : Lists K V P)
+    : Type 0 where
+  pub absent : HasNoItem (equal key) (state_of ticket_of contents)
+  pub sound : IsSound ticket_of equal rules.hash (record contents { lists = new })
+  pub count : length new.hot + length new.cold
+      ≤ length contents.lists.hot + length contents.lists.cold + 1
+  pub writes : (last : CacheState K V) (calls : List (HookCall K V))
+      → UpToOrder (EvictsToCapacity rules 0 (state_with ticket_of contents new) calls) last
+      → UpToOrder (WritesAdmitted rules (equal key) key Insert (state_of ticket_of contents) value
+      calls None) last
+  pub tells : (last : CacheState K V) (calls : List (HookCall K V))
+      → TellsResidents (state_with ticket_of contents new) calls last
+      → TellsBeside key value (state_of ticket_of contents) calls None last
+
 -- ---- over a ghost
 
 module _ {K V P W A T X : Type 0} (ticket_of : P → ℕ) (contents : Contents K V W A X P)
@@ -117,7 +136,7 @@ module _ {K V P W A T X : Type 0} (ticket_of : P → ℕ) (contents : Contents K
       (without_ghost ticket_of contents apart (equal key) (rules.hash key) token stands))
 
   -- the write over the ghost
-  pub over_ghost-writes : item ≡ new_item rules key value Hot 0 → (last : CacheState K V)
+  over_ghost-writes : item ≡ new_item rules key value Hot 0 → (last : CacheState K V)
       (calls : List (HookCall K V))
       → UpToOrder (EvictsToCapacity rules 0 (state_with ticket_of contents new) calls) last
       → UpToOrder (WritesAdmitted rules (equal key) key Insert (state_of ticket_of contents) value
@@ -133,7 +152,7 @@ module _ {K V P W A T X : Type 0} (ticket_of : P → ℕ) (contents : Contents K
       (evicts-from rules _ (state_with ticket_of contents new) last calls over_ghost-state evicts)
 
   -- what is told from there is told of the pair too
-  pub over_ghost-tells : pair_of item ≡ (key, value) → (last : CacheState K V)
+  over_ghost-tells : pair_of item ≡ (key, value) → (last : CacheState K V)
       (calls : List (HookCall K V))
       → TellsResidents (state_with ticket_of contents new) calls last
       → TellsBeside key value (state_of ticket_of contents) calls None last
@@ -145,7 +164,7 @@ module _ {K V P W A T X : Type 0} (ticket_of : P → ℕ) (contents : Contents K
       }) (state_with ticket_of contents new) last calls over_ghost-state tells)
 
   -- the rings have one item more
-  pub over_ghost-count : length new.hot + length new.cold
+  over_ghost-count : length new.hot + length new.cold
       ≤ length contents.lists.hot + length contents.lists.cold + 1
   over_ghost-count = replaced-count ticket_of contents token item was new replaces
       (record contents.lists { ghosts = stands.before ++ stands.after }) token
@@ -153,7 +172,7 @@ module _ {K V P W A T X : Type 0} (ticket_of : P → ℕ) (contents : Contents K
       (without_ghost ticket_of contents apart (equal key) (rules.hash key) token stands)
 
   -- the lists are sound before room is made
-  pub over_ghost-sound : item.key ≡ key → item.mark ≡ 0
+  over_ghost-sound : item.key ≡ key → item.mark ≡ 0
       → IsSound ticket_of equal rules.hash contents
       → IsSound ticket_of equal rules.hash (record contents { lists = new })
   over_ghost-sound same unmarked sound = record {
@@ -179,6 +198,19 @@ module _ {K V P W A T X : Type 0} (ticket_of : P → ℕ) (contents : Contents K
           still = sound.hashed.still;
           loading = sound.hashed.loading;
         });
+  }
+
+  -- so much for the ghost
+  over_ghost-enters : IsSound ticket_of equal rules.hash contents
+      → item ≡ new_item rules key value Hot 0
+      → Entered ticket_of contents equal rules key value new
+  over_ghost-enters sound is = record {
+    absent = (HasNoKey-state ticket_of (equal key) (rules.hash key) contents under none).items;
+    sound = over_ghost-sound (ap (λ (i : Item K V). i.key) is) (ap (λ (i : Item K V). i.mark) is)
+        sound;
+    count = over_ghost-count;
+    writes = over_ghost-writes is;
+    tells = over_ghost-tells (ap pair_of is);
   }
 
 -- ---- over a placeholder
@@ -209,7 +241,7 @@ module _ {K V P W A T X : Type 0} (ticket_of : P → ℕ) (contents : Contents K
       found.stands found.named))
 
   -- the write over the placeholder
-  pub over_loading-writes : item ≡ new_item rules key value found.waiting.queue
+  over_loading-writes : item ≡ new_item rules key value found.waiting.queue
       (first_mark contents.mark_cut)
       → (last : CacheState K V) (calls : List (HookCall K V))
       → UpToOrder (EvictsToCapacity rules 0 (state_with ticket_of contents new) calls) last
@@ -228,7 +260,7 @@ module _ {K V P W A T X : Type 0} (ticket_of : P → ℕ) (contents : Contents K
       (evicts-from rules _ (state_with ticket_of contents new) last calls over_loading-state evicts)
 
   -- what is told from there is told of the pair too
-  pub over_loading-tells : pair_of item ≡ (key, value) → (last : CacheState K V)
+  over_loading-tells : pair_of item ≡ (key, value) → (last : CacheState K V)
       (calls : List (HookCall K V))
       → TellsResidents (state_with ticket_of contents new) calls last
       → TellsBeside key value (state_of ticket_of contents) calls None last
@@ -241,7 +273,7 @@ module _ {K V P W A T X : Type 0} (ticket_of : P → ℕ) (contents : Contents K
       }) (state_with ticket_of contents new) last calls over_loading-state tells)
 
   -- the rings have one item more
-  pub over_loading-count : length new.hot + length new.cold
+  over_loading-count : length new.hot + length new.cold
       ≤ length contents.lists.hot + length contents.lists.cold + 1
   over_loading-count = replaced-count ticket_of contents token item was new replaces
       (record contents.lists { loading = found.stands.before ++ found.stands.after })
@@ -250,7 +282,7 @@ module _ {K V P W A T X : Type 0} (ticket_of : P → ℕ) (contents : Contents K
       found.stands found.named)
 
   -- the lists are sound before room is made
-  pub over_loading-sound : item.key ≡ key → item.mark ≡ 1
+  over_loading-sound : item.key ≡ key → item.mark ≡ 1
       → IsSound ticket_of equal rules.hash contents
       → IsSound ticket_of equal rules.hash (record contents { lists = new })
   over_loading-sound same marked sound = record {
@@ -291,3 +323,44 @@ module _ {K V P W A T X : Type 0} (ticket_of : P → ℕ) (contents : Contents K
               (λ w. w.hash ≡ rules.hash w.key) l) found.stands.split sound.hashed.loading);
         });
   }
+
+  -- so much for the placeholder
+  over_loading-enters : IsSound ticket_of equal rules.hash contents
+      → item ≡ new_item rules key value found.waiting.queue 1
+      → Entered ticket_of contents equal rules key value new
+  over_loading-enters sound is = record {
+    absent = HasNoItem-loading (equal key) (state_of ticket_of contents) _ _ _
+        (sound.valid.one_entry_a_key key) waits;
+    sound = over_loading-sound (ap (λ (i : Item K V). i.key) is)
+        (ap (λ (i : Item K V). i.mark) is) sound;
+    count = over_loading-count;
+    writes = over_loading-writes (is ∙ (λ i. new_item rules key value found.waiting.queue
+        (first sound.sized.some_mark i)));
+    tells = over_loading-tells (ap pair_of is);
+  }
+    where
+      first : 1 ≤ contents.mark_cut → 1 ≡ first_mark contents.mark_cut
+      first some = omega (arith, some)
+
+-- ---- over either
+
+-- an item that came in as a pair does, at a token
+pub EntersAt-enters : {K V P W A T X : Type 0} (ticket_of : P → ℕ) (contents : Contents K V W A X P)
+    (apart : AreApart contents.lists) (equal : K → K → Bool) (laws : IsEquivalence equal)
+    (rules : Rules K V) (key : K) (value : V) (token : Token) (queue : Queue) (mark : ℕ)
+    → AreUnder (equal key) (rules.hash key) contents.lists
+    → EntersAt (equal key) (rules.hash key) contents.lists token queue mark
+    → (item : Item K V) (was : Entry K V P T) (new : Lists K V P)
+    → Replaces contents.lists (non_zero_u32_get token) false (item_variant item) was new
+    → IsSound ticket_of equal rules.hash contents → item ≡ new_item rules key value queue mark
+    → Entered ticket_of contents equal rules key value new
+EntersAt-enters ticket_of contents apart equal laws rules key value token queue mark under
+    (at_ghost found hot none) item was new replaces sound is =
+    over_ghost-enters ticket_of contents apart equal laws rules key value (non_zero_u32_get token)
+    under found.0 found.1 item was new replaces sound
+    (is ∙ (λ i. new_item rules key value (hot i) (none i)))
+EntersAt-enters ticket_of contents apart equal laws rules key value token queue mark under
+    (at_loading found same one) item was new replaces sound is =
+    over_loading-enters ticket_of contents apart equal laws rules key value (non_zero_u32_get token)
+    found item was new replaces sound
+    (is ∙ (λ i. new_item rules key value (same i) (one i)))

@@ -1,19 +1,18 @@
 -- What hook calls tell of residents, step by step: whether pinning is steady does not matter for
 -- this.
-use Rattle.std.proofs.Common.{◌≡◌, ℕ, ◌-◌, ◌==◌, Bool, true, false, if◌then◌else◌, List, [], ◌∷◌, ◌++◌, map, Option, None, IsPermutation, refl, sym, ap, subst, ◌∙◌, inl, inr}
-use Rattle.std.specs.Prelude.{◌⊎◌}
+use Rattle.std.proofs.Common.{◌≡◌, ℕ, ◌-◌, Bool, true, false, List, [], ◌∷◌, ◌++◌, map, IsPermutation, sym, subst, inl, inr}
 use Rattle.std.proofs.lemmas.List.{map-append}
 use Rattle.std.proofs.lemmas.List.Sorted.{IsPermutation-refl, IsPermutation-sym, IsPermutation-trans, IsPermutation-append_comm, IsPermutation-cons}
 use Rattle.quick_cache_model.specs.declared.queue.Queue.{Queue}
-use Rattle.quick_cache_model.specs.declared.queue.Queue.TheVariants.{Hot, Cold}
+use Rattle.quick_cache_model.specs.declared.queue.Queue.TheVariants.{Hot}
 use Rattle.quick_cache_model.specs.CacheState.{CacheState, Item, Place, InHot, InCold, SameButOrder, ring_place, items_at, with_items, entered, rewritten}
-use Rattle.quick_cache_model.specs.Hooks.{Rules, HookCall, BeforeEvict, EvictCold, evicted}
+use Rattle.quick_cache_model.specs.Hooks.{Rules, HookCall, evicted}
 use Rattle.quick_cache_model.specs.Removal.{pair_of}
 use Rattle.quick_cache_model.specs.Writes.{TakesOutItem}
 use Rattle.quick_cache_model.specs.Fates.{residents}
-use Rattle.quick_cache_model.specs.Leads.{Leads, Tells, TellsResidents, TellsBeside}
-use Rattle.quick_cache_model.proofs.Leads.{Leads-same, Leads-from, Leads-to, Leads-changes, Leads-beside, Tells-append, swapped}
-use Rattle.quick_cache_model.proofs.Residents.{residents-split, residents-put, residents-entered, residents-rewritten, residents-reordered, residents-ordered, pairs-raised}
+use Rattle.quick_cache_model.specs.Leads.{Tells, TellsResidents}
+use Rattle.quick_cache_model.proofs.Leads.{Leads-same, Leads-from, Leads-to, Leads-changes, Tells-append, swapped}
+use Rattle.quick_cache_model.proofs.Residents.{residents-split, residents-put, residents-entered, residents-rewritten, residents-ordered, pairs-raised}
 use Rattle.quick_cache_model.proofs.Victims.{evicted-tells, EvictsVictim-tells}
 use Rattle.quick_cache_policy.specs.declared.writing.admission.Admission.TheVariants.{Admitted as code_admitted}
 use Rattle.quick_cache_policy.specs.declared.evicting.cold.Search.{Search}

@@ -1,10 +1,10 @@
 -- Entry calls: what the lists are once an item whose value was written goes, or gives its slot to a
 -- placeholder.
-use Rattle.std.proofs.Common.{◌≡◌, ℕ, ◌+◌, ◌<◌, ◌==◌, Bool, true, false, List, [], ◌∷◌, ◌++◌, refl, sym, ap, subst, ◌∙◌, arith}
+use Rattle.std.proofs.Common.{◌≡◌, ℕ, ◌+◌, ◌==◌, Bool, true, false, List, [], ◌∷◌, ◌++◌, refl, sym, ap, subst, ◌∙◌}
 use Rattle.std.specs.Cmp.{IsEquivalence}
 use Rattle.std.proofs.lemmas.List.{map-append}
 use Rattle.quick_cache_model.specs.declared.queue.Queue.{Queue}
-use Rattle.quick_cache_model.specs.CacheState.{CacheState, Item, LoadingEntry, Place, InHot, InCold, InStill, SameButOrder, IsValid, UpToOrder}
+use Rattle.quick_cache_model.specs.CacheState.{CacheState, Item, Place, InHot, InCold, InStill, SameButOrder, UpToOrder}
 use Rattle.quick_cache_model.specs.Entries.{Remove, ReplaceWithGuard, Removed, Replaced, ActsOnEntry}
 use Rattle.quick_cache_model.specs.Finding.{IsItemAt}
 use Rattle.quick_cache_model.specs.Hooks.{Rules}

@@ -6,7 +6,7 @@ use Rattle.quick_cache_model.specs.declared.queue.Queue.{Queue}
 use Rattle.quick_cache_model.specs.declared.refusal.Refusal.{Refusal}
 pub use Rattle.quick_cache_model.specs.Callbacks.{Leaves, choice_of, ActsAsChosen}
 use Rattle.quick_cache_model.specs.CacheState.{CacheState, Item, Place, UpToOrder, with_items}
-use Rattle.quick_cache_model.specs.Entries.{EntryChoice, Retain, Remove, ReplaceWithGuard, EntryOutcome, Kept, Removed, Replaced, Refused, ActsOnEntry}
+use Rattle.quick_cache_model.specs.Entries.{EntryChoice, Remove, ReplaceWithGuard, EntryOutcome, Kept, Removed, Replaced, Refused, ActsOnEntry}
 use Rattle.quick_cache_model.specs.Finding.{IsItemAt}
 use Rattle.quick_cache_model.specs.Hooks.{Rules}
 use Rattle.quick_cache_model.specs.Lookups.{looked_up, after_hit}
@@ -18,7 +18,6 @@ use Rattle.quick_cache_model.specs.declared.calls.entry.EntryAction.{EntryAction
 use Rattle.quick_cache_model.specs.declared.calls.entry.EntryAction.TheVariants.{Retain as retain, Remove as remove, ReplaceWithGuard as replace}
 use Rattle.quick_cache_model.specs.declared.calls.entry.EntryOrPlaceholder.{EntryOrPlaceholder}
 use Rattle.quick_cache_model.specs.declared.calls.entry.EntryOrPlaceholder.TheVariants.{Kept as kept, Removed as removed, Replaced as replaced, ExistingPlaceholder as existing, NewPlaceholder as new_one}
-use Rattle.quick_cache_policy.specs.Contents.{state_of}
 use Rattle.quick_cache_policy.specs.Loading.{IsMade, MakesNone}
 
 module _ {F K V R : Type 0}

@@ -17,3 +17,4 @@ pub mod Tokens
 pub mod Places
 pub mod Stats
 pub mod Entering
+pub mod Stays

@@ -1,5 +1,5 @@
 //! The lists and the numbers of a cache.
-ghost use Rattle.std.specs.Prelude.{◌≡◌, ℕ, IfOk, IfErr, IsOk, OnOk, ◌≤◌, ◌+◌, ◌-◌, min, max};
+ghost use Rattle.std.specs.Prelude.{◌≡◌, ℕ, IfOk, IfErr, IsOk, OnOk, ◌<◌, ◌≤◌, ◌+◌, ◌-◌, ◌^◌, min, max};
 ghost use Rattle.quick_cache_store.specs.Room.{most_room};
 ghost use Rattle.quick_cache_model.specs.CacheState.{empty_state};
 ghost use Rattle.quick_cache_model.specs.Refusals.{slot_count, slots_taken};
@@ -72,6 +72,15 @@ impl<K: Eq + Hash, V, P: SharedPlaceholder<K>, A: Allocator> Contents<K, V, P, A
             advances: 0,
             visits: 0,
         })
+    }
+
+    /// For the prover alone: the counts of work are what a u64 holds.
+    pub(crate) fn facts(&self)
+        ensures advances { self.now.advances < 2 ^ 64 }
+        ensures visits { self.now.visits < 2 ^ 64 }
+    {
+        let _advances = self.advances;
+        let _visits = self.visits;
     }
 
     /// Makes room for so many more entries, and for the ghosts that as many inserts can leave.

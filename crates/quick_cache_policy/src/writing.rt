@@ -3,4 +3,5 @@
 pub mod admission;
 pub mod insert;
 pub mod overwrite;
+pub mod plan;
 pub mod reference;

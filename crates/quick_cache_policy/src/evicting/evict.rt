@@ -1,13 +1,11 @@
 //! How room is made: advances, one after another.
-ghost use Rattle.std.specs.Prelude.{◌≡◌, ◌+◌, ◌*◌, ◌^◌, ◌<◌, ◌≤◌, Bool, if◌then◌else◌};
-ghost use Rattle.quick_cache_model.specs.CacheState.{keys_by};
+ghost use Rattle.std.specs.Prelude.{◌≡◌, ◌+◌, ◌*◌, ◌≤◌, if◌then◌else◌};
 ghost use Rattle.quick_cache_model.specs.Eviction.{EvictsToTarget, AdvancesCold, EvictsToCapacity};
 ghost use Rattle.quick_cache_model.specs.Hooks.{Calls};
 ghost use Rattle.quick_cache_policy.specs.Advances.{Evicting};
-ghost use Rattle.quick_cache_policy.specs.Contents.{IsSound, state_of, ring_count, work_of, KeepsNumbers};
-ghost use Rattle.quick_cache_policy.specs.Places.{places_of, LosesOnly};
+ghost use Rattle.quick_cache_policy.specs.Contents.{IsSound, state_of, ring_count};
 ghost use Rattle.quick_cache_policy.specs.Policies.{rules_by};
-ghost use Rattle.quick_cache_policy.specs.Work.{PaysFor};
+ghost use Rattle.quick_cache_policy.specs.Stays.{MakesRoom};
 
 use crate::contents::Contents;
 use crate::evicting::cold::Search;
@@ -15,12 +13,6 @@ use crate::policy::Policy;
 use quick_cache_model::{Queue, SharedPlaceholder};
 use std::alloc::Allocator;
 use std::hash::Hash;
-
-/// The counts of work are what a u64 holds. Only contracts go by it.
-fn counts_fit(advances: u64, visits: u64)
-    ensures advances { advances < 2 ^ 64 }
-    ensures visits { visits < 2 ^ 64 }
-{}
 
 impl<K: Eq + Hash + Drop, V: Drop, P: SharedPlaceholder<K>, A: Allocator> Contents<K, V, P, A> {
     /// Makes hot advances while the hot ring weighs more than its target, up to one that answers
@@ -36,22 +28,11 @@ impl<K: Eq + Hash + Drop, V: Drop, P: SharedPlaceholder<K>, A: Allocator> Conten
             (EvictsToTarget (rules_by M.Policy P.Touch.may_count terms.now))
             (state_of P.ticket_of self.old) (state_of P.ticket_of self.new))
             state.old state.new }
-        ensures sound { IsSound P.ticket_of K.eq (M.hashed terms.now) self.new }
-        ensures room { self.old.lists.room ≤ self.new.lists.room }
-        // What makes room brings no key.
-        ensures keys { (test : K → Bool) → keys_by test (state_of P.ticket_of self.new)
-            ≤ keys_by test (state_of P.ticket_of self.old) }
-        // And none moves.
-        ensures places { LosesOnly (places_of self.old.lists) (places_of self.new.lists) }
         ensures fewer { ring_count Queue.Hot self.new ≤ ring_count Queue.Hot self.old }
         ensures cold { ring_count Queue.Cold self.new ≡ ring_count Queue.Cold self.old }
-        ensures work { PaysFor self.old.mark_cut 1
-            (ring_count Queue.Hot self.old) (ring_count Queue.Cold self.old)
-            (ring_count Queue.Hot self.new) (ring_count Queue.Cold self.new)
-            (work_of self.old) (work_of self.new) }
-        ensures same { KeepsNumbers self.old self.new }
+        ensures stays { MakesRoom P.ticket_of K.eq (M.hashed terms.now) 1 self.old self.new }
     {
-        counts_fit(self.advances, self.visits);
+        self.facts();
         while self.lists.weight(Queue::Hot) > u128::from(self.hot_target) {
             if !self.advance_hot(terms, state) {
                 return;
@@ -74,23 +55,13 @@ impl<K: Eq + Hash + Drop, V: Drop, P: SharedPlaceholder<K>, A: Allocator> Conten
             (λ old. AdvancesCold (rules_by M.Policy P.Touch.may_count terms.now) old result)
             (state_of P.ticket_of self.old) (state_of P.ticket_of self.new))
             state.old state.new }
-        ensures sound { IsSound P.ticket_of K.eq (M.hashed terms.now) self.new }
-        ensures room { self.old.lists.room ≤ self.new.lists.room }
-        // What makes room brings no key.
-        ensures keys { (test : K → Bool) → keys_by test (state_of P.ticket_of self.new)
-            ≤ keys_by test (state_of P.ticket_of self.old) }
-        // And none moves.
-        ensures places { LosesOnly (places_of self.old.lists) (places_of self.new.lists) }
         ensures falls { ring_count Queue.Hot self.new + 2 * ring_count Queue.Cold self.new
             + (if result then 1 else 0)
             ≤ ring_count Queue.Hot self.old + 2 * ring_count Queue.Cold self.old }
-        ensures work { PaysFor self.old.mark_cut (if result then 0 else 1)
-            (ring_count Queue.Hot self.old) (ring_count Queue.Cold self.old)
-            (ring_count Queue.Hot self.new) (ring_count Queue.Cold self.new)
-            (work_of self.old) (work_of self.new) }
-        ensures same { KeepsNumbers self.old self.new }
+        ensures stays { MakesRoom P.ticket_of K.eq (M.hashed terms.now) (if result then 0 else 1)
+            self.old self.new }
     {
-        counts_fit(self.advances, self.visits);
+        self.facts();
         match self.search_cold(terms) {
             Search::Marked => {
                 self.promote_first(terms);
@@ -98,7 +69,7 @@ impl<K: Eq + Hash + Drop, V: Drop, P: SharedPlaceholder<K>, A: Allocator> Conten
                 true
             }
             Search::Victim => {
-                self.evict_first(Queue::Cold, terms, state);
+                self.evict_cold(terms, state);
                 true
             }
             Search::AllPassed => self.advance_hot(terms, state),
@@ -120,20 +91,9 @@ impl<K: Eq + Hash + Drop, V: Drop, P: SharedPlaceholder<K>, A: Allocator> Conten
             (EvictsToCapacity (rules_by M.Policy P.Touch.may_count terms.now) need)
             (state_of P.ticket_of self.old) (state_of P.ticket_of self.new))
             state.old state.new }
-        ensures sound { IsSound P.ticket_of K.eq (M.hashed terms.now) self.new }
-        ensures room { self.old.lists.room ≤ self.new.lists.room }
-        // What makes room brings no key.
-        ensures keys { (test : K → Bool) → keys_by test (state_of P.ticket_of self.new)
-            ≤ keys_by test (state_of P.ticket_of self.old) }
-        // And none moves.
-        ensures places { LosesOnly (places_of self.old.lists) (places_of self.new.lists) }
-        ensures work { PaysFor self.old.mark_cut 1
-            (ring_count Queue.Hot self.old) (ring_count Queue.Cold self.old)
-            (ring_count Queue.Hot self.new) (ring_count Queue.Cold self.new)
-            (work_of self.old) (work_of self.new) }
-        ensures same { KeepsNumbers self.old self.new }
+        ensures stays { MakesRoom P.ticket_of K.eq (M.hashed terms.now) 1 self.old self.new }
     {
-        counts_fit(self.advances, self.visits);
+        self.facts();
         while self.lists.weight(Queue::Hot) + self.lists.weight(Queue::Cold) + u128::from(need)
             > u128::from(self.capacity)
         {

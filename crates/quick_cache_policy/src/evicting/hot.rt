@@ -1,17 +1,16 @@
 //! Hot advances: items are visited from the head of the hot ring, round and round, and pay a mark
 //! each time, up to the first that is not pinned and has no mark to pay.
-ghost use Rattle.std.specs.Prelude.{◌≡◌, ◌+◌, ◌<◌, ◌≤◌, Bool, if◌then◌else◌};
+ghost use Rattle.std.specs.Prelude.{◌≡◌, ◌+◌, ◌<◌, if◌then◌else◌};
 ghost use Rattle.std.specs.Int.NonZero.{non_zero_u32_get as number};
 ghost use Rattle.quick_cache_store.specs.Lists.{HasItemToken};
-ghost use Rattle.quick_cache_model.specs.CacheState.{keys_by};
 ghost use Rattle.quick_cache_model.specs.Eviction.{AdvancesHot};
 ghost use Rattle.quick_cache_model.specs.Hooks.{Calls};
 ghost use Rattle.quick_cache_policy.specs.Advances.{Evicting, HasTakenTouches, IsVisited};
-ghost use Rattle.quick_cache_policy.specs.Contents.{IsSound, state_of, ring_count, work_of, KeepsNumbers};
+ghost use Rattle.quick_cache_policy.specs.Contents.{IsSound, state_of, ring_count};
 ghost use Rattle.quick_cache_policy.specs.HotRounds.{VisitsHot, VisitsFirst, RoundEnds, SeekEnds};
-ghost use Rattle.quick_cache_policy.specs.Places.{places_in, places_of, LosesOnly};
+ghost use Rattle.quick_cache_policy.specs.Places.{places_in, LosesOnly};
 ghost use Rattle.quick_cache_policy.specs.Policies.{rules_by};
-ghost use Rattle.quick_cache_policy.specs.Work.{PaysFor};
+ghost use Rattle.quick_cache_policy.specs.Stays.{MakesRoom};
 
 use crate::contents::Contents;
 use crate::policy::Policy;
@@ -107,8 +106,7 @@ impl<K: Eq + Hash + Drop, V: Drop, P: SharedPlaceholder<K>, A: Allocator> Conten
           visits = self.new.visits;
         } }
     {
-        // Read for the proof: the count is within its type.
-        let _visits = self.visits;
+        self.facts();
         let mut is_unpinned = false;
         for _ in 0..self.lists.count(Queue::Hot) {
             match self.visit_first(takes_touches, terms) {
@@ -142,8 +140,7 @@ impl<K: Eq + Hash + Drop, V: Drop, P: SharedPlaceholder<K>, A: Allocator> Conten
           visits = self.new.visits;
         } }
     {
-        // Read for the proof: the count is within its type.
-        let _visits = self.visits;
+        self.facts();
         let mut takes_touches = true;
         loop {
             match self.go_round(takes_touches, terms) {
@@ -172,26 +169,17 @@ impl<K: Eq + Hash + Drop, V: Drop, P: SharedPlaceholder<K>, A: Allocator> Conten
             (λ old. AdvancesHot (rules_by M.Policy P.Touch.may_count terms.now) old result)
             (state_of P.ticket_of self.old) (state_of P.ticket_of self.new))
             state.old state.new }
-        ensures sound { IsSound P.ticket_of K.eq (M.hashed terms.now) self.new }
-        ensures room { self.old.lists.room ≤ self.new.lists.room }
-        // What makes room brings no key.
-        ensures keys { (test : K → Bool) → keys_by test (state_of P.ticket_of self.new)
-            ≤ keys_by test (state_of P.ticket_of self.old) }
-        ensures places { LosesOnly (places_of self.old.lists) (places_of self.new.lists) }
         ensures falls { ring_count Queue.Hot self.new + (if result then 1 else 0)
             ≡ ring_count Queue.Hot self.old }
         ensures cold { ring_count Queue.Cold self.new ≡ ring_count Queue.Cold self.old }
-        ensures work { PaysFor self.old.mark_cut (if result then 0 else 1)
-            (ring_count Queue.Hot self.old) (ring_count Queue.Cold self.old)
-            (ring_count Queue.Hot self.new) (ring_count Queue.Cold self.new)
-            (work_of self.old) (work_of self.new) }
-        ensures same { KeepsNumbers self.old self.new }
+        ensures stays { MakesRoom P.ticket_of K.eq (M.hashed terms.now) (if result then 0 else 1)
+            self.old self.new }
     {
         self.advances = self.advances.saturating_add(1);
         if !self.seek_victim(terms) {
             return false;
         }
-        self.evict_first(Queue::Hot, terms, state);
+        self.evict_hot(terms, state);
         true
     }
 }

@@ -1,16 +1,15 @@
 //! The items that leave a ring.
-ghost use Rattle.std.specs.Prelude.{◌≡◌, ◌≢◌, ◌+◌, ◌-◌, ◌<◌, ◌≤◌, Some, length, drop};
-ghost use Rattle.quick_cache_store.specs.Lists.{IsFirstOf};
+ghost use Rattle.std.specs.Prelude.{◌≡◌, ◌+◌, ◌-◌, ◌<◌, ◌≤◌, length, drop};
 ghost use Rattle.quick_cache_store.specs.Views.{hashes_of};
 ghost use Rattle.quick_cache_model.specs.Hooks.{Calls};
 ghost use Rattle.quick_cache_policy.specs.Advances.{AreEvictions, Decides, FirstIsEvicted, FirstIsPromoted};
 ghost use Rattle.quick_cache_policy.specs.Contents.{IsSound, state_of, ring_count};
-ghost use Rattle.quick_cache_policy.specs.Places.{places_of, LosesOnly};
 ghost use Rattle.quick_cache_policy.specs.Policies.{rules_by};
+ghost use Rattle.quick_cache_policy.specs.Stays.{LosesEntries, KeepsEntries};
 
 use crate::contents::Contents;
 use crate::policy::Policy;
-use quick_cache_model::{Queue, SharedPlaceholder, Token, Touches};
+use quick_cache_model::{Queue, SharedPlaceholder, Touches};
 use quick_cache_store::lists::{Entry, Marked};
 use std::alloc::Allocator;
 use std::hash::Hash;
@@ -40,56 +39,23 @@ fn decide<K: Eq + Hash, V, T: Touches, M: Policy<K, V>>(
 }
 
 impl<K: Eq + Hash + Drop, V: Drop, P: SharedPlaceholder<K>, A: Allocator> Contents<K, V, P, A> {
-    /// Lets the first item of a ring go. `before_evict` may change its value, which is then
-    /// weighed: of weight 0 it stays, beside the rings; else it leaves, and a cold one leaves a
-    /// ghost.
-    #[inline(always)]
-    pub(crate) fn evict_first<M: Policy<K, V>>(
-        &mut self,
-        queue: Queue,
-        terms: &M,
-        state: &mut M::RequestState,
-    )
+    /// Lets the first hot item go. `before_evict` may change its value, which is then weighed: of
+    /// weight 0 it stays, beside the rings; else it leaves.
+    pub(crate) fn evict_hot<M: Policy<K, V>>(&mut self, terms: &M, state: &mut M::RequestState)
         requires sound { IsSound P.ticket_of K.eq (M.hashed terms.now) self.old }
-        requires there { 0 < ring_count queue self.old }
-        ensures evicts { Calls (M.hooks terms.now)
-            (λ calls. FirstIsEvicted (rules_by M.Policy P.Touch.may_count terms.now) queue
-            (state_of P.ticket_of self.old) calls (state_of P.ticket_of self.new)
-            × AreEvictions calls)
-            state.old state.new }
-        ensures sound { IsSound P.ticket_of K.eq (M.hashed terms.now) self.new }
-        ensures room { self.old.lists.room ≤ self.new.lists.room }
-        ensures falls { ring_count queue self.new + 1 ≡ ring_count queue self.old }
-        ensures places { LosesOnly (places_of self.old.lists) (places_of self.new.lists) }
-        ensures others { (other : Queue) → other ≢ queue
-            → ring_count other self.new ≡ ring_count other self.old }
-        ensures same { self.new ≡ record self.old { lists = self.new.lists } }
-    {
-        let Some(token) = self.lists.first(queue) else {
-            unreachable!();
-        };
-        match queue {
-            Queue::Hot => self.evict_hot(token, terms, state),
-            Queue::Cold => self.evict_cold(token, terms, state),
-        }
-    }
-
-    /// Lets the first hot item go.
-    fn evict_hot<M: Policy<K, V>>(&mut self, token: Token, terms: &M, state: &mut M::RequestState)
-        requires sound { IsSound P.ticket_of K.eq (M.hashed terms.now) self.old }
-        requires first { IsFirstOf (λ held. held.token) self.old.lists.hot (Some token) }
+        requires there { 0 < ring_count Queue.Hot self.old }
         ensures evicts { Calls (M.hooks terms.now)
             (λ calls. FirstIsEvicted (rules_by M.Policy P.Touch.may_count terms.now) Queue.Hot
             (state_of P.ticket_of self.old) calls (state_of P.ticket_of self.new)
             × AreEvictions calls)
             state.old state.new }
-        ensures sound { IsSound P.ticket_of K.eq (M.hashed terms.now) self.new }
-        ensures room { self.old.lists.room ≤ self.new.lists.room }
         ensures falls { ring_count Queue.Hot self.new + 1 ≡ ring_count Queue.Hot self.old }
-        ensures places { LosesOnly (places_of self.old.lists) (places_of self.new.lists) }
         ensures cold { ring_count Queue.Cold self.new ≡ ring_count Queue.Cold self.old }
-        ensures same { self.new ≡ record self.old { lists = self.new.lists } }
+        ensures stays { LosesEntries P.ticket_of K.eq (M.hashed terms.now) self.old self.new }
     {
+        let Some(token) = self.lists.first(Queue::Hot) else {
+            unreachable!();
+        };
         self.lists.apart();
         let slot = self.lists.take(token, false);
         let hash = slot.hash;
@@ -105,23 +71,24 @@ impl<K: Eq + Hash + Drop, V: Drop, P: SharedPlaceholder<K>, A: Allocator> Conten
         }
     }
 
-    /// Lets the first cold item go. Where it leaves, its hash becomes the newest ghost.
+    /// Lets the first cold item go, as `evict_hot` does. Where it leaves, its hash becomes the
+    /// newest ghost.
     #[inline(always)]
-    fn evict_cold<M: Policy<K, V>>(&mut self, token: Token, terms: &M, state: &mut M::RequestState)
+    pub(crate) fn evict_cold<M: Policy<K, V>>(&mut self, terms: &M, state: &mut M::RequestState)
         requires sound { IsSound P.ticket_of K.eq (M.hashed terms.now) self.old }
-        requires first { IsFirstOf (λ held. held.token) self.old.lists.cold (Some token) }
+        requires there { 0 < ring_count Queue.Cold self.old }
         ensures evicts { Calls (M.hooks terms.now)
             (λ calls. FirstIsEvicted (rules_by M.Policy P.Touch.may_count terms.now) Queue.Cold
             (state_of P.ticket_of self.old) calls (state_of P.ticket_of self.new)
             × AreEvictions calls)
             state.old state.new }
-        ensures sound { IsSound P.ticket_of K.eq (M.hashed terms.now) self.new }
-        ensures room { self.old.lists.room ≤ self.new.lists.room }
         ensures falls { ring_count Queue.Cold self.new + 1 ≡ ring_count Queue.Cold self.old }
-        ensures places { LosesOnly (places_of self.old.lists) (places_of self.new.lists) }
         ensures hot { ring_count Queue.Hot self.new ≡ ring_count Queue.Hot self.old }
-        ensures same { self.new ≡ record self.old { lists = self.new.lists } }
+        ensures stays { LosesEntries P.ticket_of K.eq (M.hashed terms.now) self.old self.new }
     {
+        let Some(token) = self.lists.first(Queue::Cold) else {
+            unreachable!();
+        };
         self.lists.apart();
         match decide(self.lists.bury(token), terms, state) {
             Fate::Stays(item) => {
@@ -187,10 +154,7 @@ impl<K: Eq + Hash + Drop, V: Drop, P: SharedPlaceholder<K>, A: Allocator> Conten
         requires there { 0 < ring_count Queue.Cold self.old }
         ensures promotes { FirstIsPromoted (state_of P.ticket_of self.old)
             (state_of P.ticket_of self.new) }
-        ensures sound { IsSound P.ticket_of K.eq (M.hashed terms.now) self.new }
-        ensures room { self.new.lists.room ≡ self.old.lists.room }
-        ensures places { LosesOnly (places_of self.old.lists) (places_of self.new.lists) }
-        ensures same { self.new ≡ record self.old { lists = self.new.lists } }
+        ensures stays { KeepsEntries P.ticket_of K.eq (M.hashed terms.now) self.old self.new }
     {
         let Some(token) = self.lists.first(Queue::Cold) else {
             unreachable!();

@@ -1,12 +1,13 @@
 //! The item of a token, which is weighed anew.
-ghost use Rattle.std.specs.Prelude.{◌≡◌, ℕ, Bool};
+ghost use Rattle.std.specs.Prelude.{ℕ, Bool};
 ghost use Rattle.std.specs.List.{Contains};
 ghost use Rattle.std.specs.Int.NonZero.{non_zero_u32_get as number};
 ghost use Rattle.quick_cache_store.specs.Lists.{FindsItem, HasItemToken};
 ghost use Rattle.quick_cache_policy.specs.Contents.{IsSound, state_of};
-ghost use Rattle.quick_cache_policy.specs.Places.{places_of, LosesOnly};
+ghost use Rattle.quick_cache_policy.specs.Places.{places_of};
 ghost use Rattle.quick_cache_policy.specs.Policies.{rules_by};
 ghost use Rattle.quick_cache_policy.specs.References.{ReweighsUnder};
+ghost use Rattle.quick_cache_policy.specs.Stays.{KeepsEntries};
 
 use crate::contents::Contents;
 use crate::policy::Policy;
@@ -23,12 +24,9 @@ impl<K: Eq + Hash, V, P: SharedPlaceholder<K>, A: Allocator> Contents<K, V, P, A
             → FindsItem stands_for hash self.old.lists (number token)
             → ReweighsUnder stands_for (rules_by M.Policy P.Touch.may_count terms.now)
             (state_of P.ticket_of self.old) (state_of P.ticket_of self.new) }
-        ensures sound { IsSound P.ticket_of K.eq (M.hashed terms.now) self.new }
-        // An item stands at the token still, and none moves.
+        // An item stands at the token still.
         ensures there { (key : K) × Contains (places_of self.new.lists) (number token, key) }
-        ensures places { LosesOnly (places_of self.old.lists) (places_of self.new.lists) }
-        ensures room { self.new.lists.room ≡ self.old.lists.room }
-        ensures same { self.new ≡ record self.old { lists = self.new.lists } }
+        ensures stays { KeepsEntries P.ticket_of K.eq (M.hashed terms.now) self.old self.new }
     {
         self.lists.apart();
         let item = self.lists.item(token);

@@ -1,13 +1,14 @@
 //! Look-ups and removals.
-ghost use Rattle.std.specs.Prelude.{◌≡◌, ℕ, ◌≤◌, MatchOption};
+ghost use Rattle.std.specs.Prelude.{◌≡◌, ◌≤◌, MatchOption};
 ghost use Rattle.std.specs.Int.NonZero.{non_zero_u32_get as number};
 ghost use Rattle.quick_cache_store.specs.Lists.{Finds, FindsItem, HasNoItem};
 ghost use Rattle.quick_cache_model.specs.Removal.{Removes};
 ghost use Rattle.quick_cache_model.specs.CacheState.{UpToOrder};
-ghost use Rattle.quick_cache_policy.specs.Contents.{IsSound, state_of};
+ghost use Rattle.quick_cache_policy.specs.Contents.{state_of};
 ghost use Rattle.quick_cache_policy.specs.Entering.{CountsHit};
 ghost use Rattle.quick_cache_policy.specs.Finding.{AreUnder, IsLookedUp, IsMissed};
 ghost use Rattle.quick_cache_policy.specs.Places.{places_of, LosesOnly};
+ghost use Rattle.quick_cache_policy.specs.Stays.{KeepsSound};
 
 use crate::contents::Contents;
 use quick_cache_model::{Equivalent, SharedPlaceholder, Token};
@@ -23,8 +24,7 @@ impl<K: Eq + Hash, V, P: SharedPlaceholder<K>, A: Allocator> Contents<K, V, P, A
         ensures looks_up { MatchOption result
             (IsMissed P.ticket_of (Q.equivalent query.now) self.old self.new)
             (λ token. IsLookedUp P.ticket_of (Q.equivalent query.now) self.old token self.new) }
-        ensures sound { (hashed : K → ℕ) → IsSound P.ticket_of K.eq hashed self.old
-            → IsSound P.ticket_of K.eq hashed self.new }
+        ensures sound { KeepsSound P.ticket_of K.eq self.old self.new }
         // No item moves.
         ensures places { places_of self.new.lists ≡ places_of self.old.lists }
         ensures room { self.new.lists.room ≡ self.old.lists.room }
@@ -75,8 +75,7 @@ impl<K: Eq + Hash, V, P: SharedPlaceholder<K>, A: Allocator> Contents<K, V, P, A
         ensures counts { CountsHit (Q.equivalent _query.now) (state_of P.ticket_of self.old)
             (state_of P.ticket_of self.new) }
         ensures found { FindsItem (Q.equivalent _query.now) hash self.new.lists (number token) }
-        ensures sound { (hashed : K → ℕ) → IsSound P.ticket_of K.eq hashed self.old
-            → IsSound P.ticket_of K.eq hashed self.new }
+        ensures sound { KeepsSound P.ticket_of K.eq self.old self.new }
         // No item moves.
         ensures places { places_of self.new.lists ≡ places_of self.old.lists }
         ensures room { self.new.lists.room ≡ self.old.lists.room }
@@ -108,8 +107,7 @@ impl<K: Eq + Hash, V, P: SharedPlaceholder<K>, A: Allocator> Contents<K, V, P, A
         ensures removes { UpToOrder
             (Removes (Q.equivalent query.now) (state_of P.ticket_of self.old) hash result)
             (state_of P.ticket_of self.new) }
-        ensures sound { (hashed : K → ℕ) → IsSound P.ticket_of K.eq hashed self.old
-            → IsSound P.ticket_of K.eq hashed self.new }
+        ensures sound { KeepsSound P.ticket_of K.eq self.old self.new }
         ensures places { LosesOnly (places_of self.old.lists) (places_of self.new.lists) }
         ensures room { self.old.lists.room ≤ self.new.lists.room }
         ensures same { self.new ≡ record self.old { lists = self.new.lists } }

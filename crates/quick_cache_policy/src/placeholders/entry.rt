@@ -1,5 +1,5 @@
 //! A call that shows an item to a callback of the caller's, and does what that chooses.
-ghost use Rattle.std.specs.Prelude.{◌≡◌, ℕ, ◌+◌, ◌≤◌, true, IfOk};
+ghost use Rattle.std.specs.Prelude.{◌≡◌, ◌+◌, ◌≤◌, true, IfOk};
 ghost use Rattle.std.specs.Int.NonZero.{non_zero_u32_get as number};
 ghost use Rattle.quick_cache_store.specs.Lists.{FindsItem, HasItemToken};
 ghost use Rattle.quick_cache_model.specs.Entries.{Retain as chosen_retain, Kept as came_kept};
@@ -8,6 +8,7 @@ ghost use Rattle.quick_cache_policy.specs.Entering.{ActsOnWritten, AnswersEntry,
 ghost use Rattle.quick_cache_policy.specs.Finding.{AreUnder};
 ghost use Rattle.quick_cache_policy.specs.Places.{places_of, LosesOnly};
 ghost use Rattle.quick_cache_policy.specs.Policies.{rules_by};
+ghost use Rattle.quick_cache_policy.specs.Stays.{LosesEntries, KeepsSound};
 
 use crate::contents::Contents;
 use crate::policy::Policy;
@@ -34,8 +35,7 @@ impl<K: Eq + Hash + Drop, V: Drop, P: SharedPlaceholder<K>, A: Allocator> Conten
         ensures shows { ShowsAt F.FnMut (Q.equivalent _query.now) callback.old
             (state_of P.ticket_of self.old) result callback.new (state_of P.ticket_of self.new) }
         ensures found { FindsItem (Q.equivalent _query.now) hash self.new.lists (number token) }
-        ensures sound { (hashed : K → ℕ) → IsSound P.ticket_of K.eq hashed self.old
-            → IsSound P.ticket_of K.eq hashed self.new }
+        ensures sound { KeepsSound P.ticket_of K.eq self.old self.new }
         // No item moves.
         ensures places { places_of self.new.lists ≡ places_of self.old.lists }
         ensures room { self.new.lists.room ≡ self.old.lists.room }
@@ -149,10 +149,7 @@ impl<K: Eq + Hash + Drop, V: Drop, P: SharedPlaceholder<K>, A: Allocator> Conten
         ensures removes { RemovesWritten (rules_by M.Policy P.Touch.may_count terms.now)
             (Q.equivalent _query.now) (state_of P.ticket_of self.old) result
             (state_of P.ticket_of self.new) }
-        ensures sound { IsSound P.ticket_of K.eq (M.hashed terms.now) self.new }
-        ensures places { LosesOnly (places_of self.old.lists) (places_of self.new.lists) }
-        ensures room { self.old.lists.room ≤ self.new.lists.room }
-        ensures same { self.new ≡ record self.old { lists = self.new.lists } }
+        ensures stays { LosesEntries P.ticket_of K.eq (M.hashed terms.now) self.old self.new }
     {
         self.lists.apart();
         let (pair, _) = self.take_weighed(token, terms);

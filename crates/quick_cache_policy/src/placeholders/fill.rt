@@ -1,15 +1,15 @@
 //! A placeholder that is filled with a value, or given up.
-ghost use Rattle.std.specs.Prelude.{◌≡◌, ℕ, ◌+◌, ◌≤◌, ◌<◌, MatchOption, ◌==◌, None, if◌then◌else◌};
+ghost use Rattle.std.specs.Prelude.{◌≡◌, ◌+◌, ◌≤◌, ◌<◌, MatchOption, ◌==◌, None, if◌then◌else◌};
 ghost use Rattle.std.specs.Int.NonZero.{non_zero_u32_get as number};
 ghost use Rattle.quick_cache_store.specs.Placeholders.{FindsPlaceholder};
 ghost use Rattle.quick_cache_model.specs.CacheState.{UpToOrder};
 ghost use Rattle.quick_cache_model.specs.Hooks.{Calls};
 ghost use Rattle.quick_cache_model.specs.Placeholders.{GivesUpPlaceholder, HasNoTicket};
 ghost use Rattle.quick_cache_policy.specs.Places.{places_of, KeepsPlaces, LosesOnly};
-ghost use Rattle.quick_cache_policy.specs.Contents.{IsSound, state_of, ring_count, work_of, KeepsNumbers};
+ghost use Rattle.quick_cache_policy.specs.Contents.{IsSound, state_of};
 ghost use Rattle.quick_cache_policy.specs.Filling.{AnswersFill, AwaitsKey, Fills};
 ghost use Rattle.quick_cache_policy.specs.Policies.{rules_by};
-ghost use Rattle.quick_cache_policy.specs.Work.{WorksWithin};
+ghost use Rattle.quick_cache_policy.specs.Stays.{WritesWithin, KeepsSound};
 
 use crate::contents::Contents;
 use crate::policy::Policy;
@@ -63,17 +63,10 @@ impl<K: Eq + Hash + Drop, V: Drop, P: SharedPlaceholder<K>, A: Allocator> Conten
             (state_of P.ticket_of self.old) (rules_by M.Policy P.Touch.may_count terms.now)
             marked value (state_of P.ticket_of self.new))
             state.old state.new }
-        ensures sound { IsSound P.ticket_of K.eq (M.hashed terms.now) self.new }
-        ensures places { KeepsPlaces K.eq (places_of self.old.lists) (places_of self.new.lists) }
-        ensures room { self.old.lists.room ≤ self.new.lists.room }
-        ensures work { WorksWithin self.old.mark_cut
-            (ring_count Queue.Hot self.old + ring_count Queue.Cold self.old + 1)
-            (work_of self.old) (work_of self.new) }
-        ensures same { KeepsNumbers self.old self.new }
+        ensures stays { WritesWithin P.ticket_of K.eq (M.hashed terms.now) (KeepsPlaces K.eq) 0
+            self.old self.new }
     {
-        // Read for the proof: the counts are within their types.
-        let _advances = self.advances;
-        let _visits = self.visits;
+        self.facts();
         self.lists.apart();
         let awaited = self.lists.awaited(token);
         let otherwise = awaited.queue();
@@ -125,17 +118,10 @@ impl<K: Eq + Hash + Drop, V: Drop, P: SharedPlaceholder<K>, A: Allocator> Conten
             (state_of P.ticket_of self.old) (rules_by M.Policy P.Touch.may_count terms.now)
             marked value result (state_of P.ticket_of self.new))
             state.old state.new }
-        ensures sound { IsSound P.ticket_of K.eq (M.hashed terms.now) self.new }
-        ensures places { KeepsPlaces K.eq (places_of self.old.lists) (places_of self.new.lists) }
-        ensures room { self.old.lists.room ≤ self.new.lists.room }
-        ensures work { WorksWithin self.old.mark_cut
-            (ring_count Queue.Hot self.old + ring_count Queue.Cold self.old + 1)
-            (work_of self.old) (work_of self.new) }
-        ensures same { KeepsNumbers self.old self.new }
+        ensures stays { WritesWithin P.ticket_of K.eq (M.hashed terms.now) (KeepsPlaces K.eq) 0
+            self.old self.new }
     {
-        // Read for the proof: the counts are within their types.
-        let _advances = self.advances;
-        let _visits = self.visits;
+        self.facts();
         let named = placeholder.idx();
         let Some(token) = self
             .lists
@@ -173,8 +159,7 @@ impl<K: Eq + Hash + Drop, V: Drop, P: SharedPlaceholder<K>, A: Allocator> Conten
         ensures gives_up { UpToOrder
             (GivesUpPlaceholder (P.own_ticket placeholder.now) (state_of P.ticket_of self.old))
             (state_of P.ticket_of self.new) }
-        ensures sound { (hashed : K → ℕ) → IsSound P.ticket_of K.eq hashed self.old
-            → IsSound P.ticket_of K.eq hashed self.new }
+        ensures sound { KeepsSound P.ticket_of K.eq self.old self.new }
         ensures places { LosesOnly (places_of self.old.lists) (places_of self.new.lists) }
         ensures room { self.old.lists.room ≤ self.new.lists.room }
         ensures same { self.new ≡ record self.old { lists = self.new.lists } }

@@ -1,13 +1,14 @@
 //! Removals by a predicate of the caller, and of all that there is.
-ghost use Rattle.std.specs.Prelude.{◌≡◌, ℕ, ◌+◌, ◌≤◌};
+ghost use Rattle.std.specs.Prelude.{◌≡◌, ◌+◌, ◌≤◌};
 ghost use Rattle.std.specs.Fn.{FnOnceReturnsAt};
 ghost use Rattle.quick_cache_model.specs.CacheState.{UpToOrder};
 ghost use Rattle.quick_cache_model.specs.Removal.{cleared};
 ghost use Rattle.quick_cache_store.specs.Lists.{entry_count};
-ghost use Rattle.quick_cache_policy.specs.Contents.{IsSound, state_of};
+ghost use Rattle.quick_cache_policy.specs.Contents.{state_of};
 ghost use Rattle.quick_cache_policy.specs.Finding.{AreUnder};
 ghost use Rattle.quick_cache_policy.specs.Places.{places_of, LosesOnly};
 ghost use Rattle.quick_cache_policy.specs.Predicates.{Answers, MayBeAskedUnder, MayBeAskedOfEach, RemovesAsked, RetainsAsked};
+ghost use Rattle.quick_cache_policy.specs.Stays.{KeepsSound};
 
 use crate::contents::Contents;
 use quick_cache_model::{Equivalent, SharedPlaceholder};
@@ -29,8 +30,7 @@ impl<K: Eq + Hash, V, P: SharedPlaceholder<K>, A: Allocator> Contents<K, V, P, A
         ensures removes { UpToOrder (RemovesAsked (Q.equivalent query.now)
             (state_of P.ticket_of self.old) (FnOnceReturnsAt F.FnOnce wanted) result)
             (state_of P.ticket_of self.new) }
-        ensures sound { (hashed : K → ℕ) → IsSound P.ticket_of K.eq hashed self.old
-            → IsSound P.ticket_of K.eq hashed self.new }
+        ensures sound { KeepsSound P.ticket_of K.eq self.old self.new }
         ensures places { LosesOnly (places_of self.old.lists) (places_of self.new.lists) }
         ensures room { self.old.lists.room ≤ self.new.lists.room }
         ensures same { self.new ≡ record self.old { lists = self.new.lists } }
@@ -54,8 +54,7 @@ impl<K: Eq + Hash, V, P: SharedPlaceholder<K>, A: Allocator> Contents<K, V, P, A
         requires callable { MayBeAskedOfEach F.Fn keep (state_of P.ticket_of self.old) }
         ensures retains { UpToOrder (RetainsAsked (Answers F.Fn keep)
             (state_of P.ticket_of self.old)) (state_of P.ticket_of self.new) }
-        ensures sound { (hashed : K → ℕ) → IsSound P.ticket_of K.eq hashed self.old
-            → IsSound P.ticket_of K.eq hashed self.new }
+        ensures sound { KeepsSound P.ticket_of K.eq self.old self.new }
         ensures places { LosesOnly (places_of self.old.lists) (places_of self.new.lists) }
         ensures room { self.old.lists.room ≤ self.new.lists.room }
         ensures same { self.new ≡ record self.old { lists = self.new.lists } }
@@ -78,8 +77,7 @@ impl<K: Eq + Hash, V, P: SharedPlaceholder<K>, A: Allocator> Contents<K, V, P, A
         K: Drop,
         V: Drop,
         ensures clears { state_of P.ticket_of self.new ≡ cleared (state_of P.ticket_of self.old) }
-        ensures sound { (hashed : K → ℕ) → IsSound P.ticket_of K.eq hashed self.old
-            → IsSound P.ticket_of K.eq hashed self.new }
+        ensures sound { KeepsSound P.ticket_of K.eq self.old self.new }
         ensures room { self.new.lists.room ≡ self.old.lists.room + entry_count self.old.lists }
         ensures same { self.new ≡ record self.old { lists = self.new.lists } }
     {

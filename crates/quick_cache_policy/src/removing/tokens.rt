@@ -1,10 +1,11 @@
 //! Items by their tokens.
-ghost use Rattle.std.specs.Prelude.{◌≡◌, ℕ, ◌≤◌, IfSome, MatchOption};
+ghost use Rattle.std.specs.Prelude.{◌≡◌, ◌≤◌, IfSome, MatchOption};
 ghost use Rattle.std.specs.Int.NonZero.{non_zero_u32_get as number};
 ghost use Rattle.std.specs.Option.{option_map};
 ghost use Rattle.quick_cache_store.specs.Lists.{HasItemToken, IsFirstAbove, IsItemOf, number_or_zero};
 ghost use Rattle.quick_cache_model.specs.CacheState.{item_count};
-ghost use Rattle.quick_cache_policy.specs.Contents.{IsSound, state_of};
+ghost use Rattle.quick_cache_policy.specs.Contents.{state_of};
+ghost use Rattle.quick_cache_policy.specs.Stays.{KeepsSound};
 ghost use Rattle.quick_cache_policy.specs.Tokens.{TakesItem, TakesToken};
 
 use crate::contents::Contents;
@@ -32,8 +33,7 @@ impl<K: Eq + Hash, V, P: SharedPlaceholder<K>, A: Allocator> Contents<K, V, P, A
             (state_of P.ticket_of self.new ≡ state_of P.ticket_of self.old)
             (λ pair. TakesItem (state_of P.ticket_of self.old) pair
             (state_of P.ticket_of self.new)) }
-        ensures sound { (hashed : K → ℕ) → IsSound P.ticket_of K.eq hashed self.old
-            → IsSound P.ticket_of K.eq hashed self.new }
+        ensures sound { KeepsSound P.ticket_of K.eq self.old self.new }
         ensures room { self.old.lists.room ≤ self.new.lists.room }
         ensures same { self.new ≡ record self.old { lists = self.new.lists } }
     {
@@ -55,8 +55,7 @@ impl<K: Eq + Hash, V, P: SharedPlaceholder<K>, A: Allocator> Contents<K, V, P, A
         ensures takes { IfSome result
             (λ taken. TakesItem (state_of P.ticket_of self.old) (taken.1, taken.2)
             (state_of P.ticket_of self.new)) }
-        ensures sound { (hashed : K → ℕ) → IsSound P.ticket_of K.eq hashed self.old
-            → IsSound P.ticket_of K.eq hashed self.new }
+        ensures sound { KeepsSound P.ticket_of K.eq self.old self.new }
         ensures room { self.old.lists.room ≤ self.new.lists.room }
         ensures same { self.new ≡ record self.old { lists = self.new.lists } }
     {
@@ -77,8 +76,7 @@ impl<K: Eq + Hash, V, P: SharedPlaceholder<K>, A: Allocator> Contents<K, V, P, A
             (state_of P.ticket_of self.new)) }
         ensures token { IfSome result
             (λ taken. TakesToken self.old (number taken.0) taken.1 self.new) }
-        ensures sound { (hashed : K → ℕ) → IsSound P.ticket_of K.eq hashed self.old
-            → IsSound P.ticket_of K.eq hashed self.new }
+        ensures sound { KeepsSound P.ticket_of K.eq self.old self.new }
         ensures room { self.old.lists.room ≤ self.new.lists.room }
         ensures same { self.new ≡ record self.old { lists = self.new.lists } }
     {
@@ -104,8 +102,7 @@ impl<K: Eq + Hash, V, P: SharedPlaceholder<K>, A: Allocator> Contents<K, V, P, A
     pub(crate) fn take_item(&mut self, token: Token) -> (K, V)
         requires { HasItemToken self.old.lists (number token) }
         ensures takes { TakesToken self.old (number token) result self.new }
-        ensures sound { (hashed : K → ℕ) → IsSound P.ticket_of K.eq hashed self.old
-            → IsSound P.ticket_of K.eq hashed self.new }
+        ensures sound { KeepsSound P.ticket_of K.eq self.old self.new }
     {
         self.lists.apart();
         let slot = self.lists.take(token, false);

@@ -1,18 +1,19 @@
 //! Whether a pair may come in at all, and what becomes of one that may not.
-ghost use Rattle.std.specs.Prelude.{◌≡◌, ◌≤◌, [], ◌∷◌, None, true};
-ghost use Rattle.quick_cache_store.specs.Lists.{Finds};
+ghost use Rattle.std.specs.Prelude.{◌≡◌, [], ◌∷◌, None, true};
 ghost use Rattle.quick_cache_model.specs.Hooks.{Calls, RunsHooks, evicted};
-ghost use Rattle.quick_cache_model.specs.Writes.{TakesOutItem};
+ghost use Rattle.quick_cache_model.specs.Writes.{Strategy, TakesOutItem};
 ghost use Rattle.quick_cache_policy.specs.Contents.{IsSound, state_of};
-ghost use Rattle.quick_cache_policy.specs.Places.{places_of, LosesOnly};
+ghost use Rattle.quick_cache_policy.specs.Finding.{IsPlanned};
 ghost use Rattle.quick_cache_policy.specs.Policies.{rules_by};
+ghost use Rattle.quick_cache_policy.specs.Stays.{LosesEntries};
 ghost use Rattle.quick_cache_policy.specs.Writing.{strategy_of, is_insert, Checks, IsReplacement, Rejecting};
 
 use crate::contents::Contents;
 use crate::policy::Policy;
 use crate::strategy::InsertStrategy;
+use crate::writing::plan::Plan;
 use quick_cache_model::{Queue, SharedPlaceholder};
-use quick_cache_store::lists::{Entry, Found};
+use quick_cache_store::lists::Entry;
 use std::alloc::Allocator;
 use std::hash::Hash;
 
@@ -76,10 +77,10 @@ impl<K: Eq + Hash + Drop, V: Drop, P: SharedPlaceholder<K>, A: Allocator> Conten
         Admission::TooHeavy(value)
     }
 
-    /// Takes the item that was found out, if it is one, and tells it to its hook.
+    /// Takes the item out that was to be written over, if there is one, and tells it to its hook.
     fn take_out_item<M: Policy<K, V>>(
         &mut self,
-        found: Found,
+        plan: Plan,
         terms: &M,
         state: &mut M::RequestState,
         key: &K,
@@ -87,17 +88,15 @@ impl<K: Eq + Hash + Drop, V: Drop, P: SharedPlaceholder<K>, A: Allocator> Conten
     )
         requires sound { IsSound P.ticket_of K.eq (M.hashed terms.now) self.old }
         requires hash_is { hash ≡ M.hashed terms.now key.now }
-        requires found { Finds (K.eq key.now) hash self.old.lists found }
+        requires planned { (strategy : Strategy)
+            × IsPlanned (K.eq key.now) hash self.old.lists strategy plan }
         ensures takes { Calls (M.hooks terms.now)
             (λ calls. TakesOutItem (K.eq key.now) (state_of P.ticket_of self.old) calls
             (state_of P.ticket_of self.new) × IsReplacement calls)
             state.old state.new }
-        ensures sound { IsSound P.ticket_of K.eq (M.hashed terms.now) self.new }
-        ensures places { LosesOnly (places_of self.old.lists) (places_of self.new.lists) }
-        ensures room { self.old.lists.room ≤ self.new.lists.room }
-        ensures same { self.new ≡ record self.old { lists = self.new.lists } }
+        ensures stays { LosesEntries P.ticket_of K.eq (M.hashed terms.now) self.old self.new }
     {
-        let Found::Item(token) = found else {
+        let Plan::OverItem(token) = plan else {
             return;
         };
         self.lists.apart();
@@ -117,7 +116,7 @@ impl<K: Eq + Hash + Drop, V: Drop, P: SharedPlaceholder<K>, A: Allocator> Conten
     /// to the cold hook, a replace gives it back.
     pub(crate) fn reject_too_heavy<M: Policy<K, V>>(
         &mut self,
-        found: Found,
+        plan: Plan,
         terms: &M,
         state: &mut M::RequestState,
         hash: u64,
@@ -127,19 +126,16 @@ impl<K: Eq + Hash + Drop, V: Drop, P: SharedPlaceholder<K>, A: Allocator> Conten
     ) -> Option<(K, V)>
         requires sound { IsSound P.ticket_of K.eq (M.hashed terms.now) self.old }
         requires hash_is { hash ≡ M.hashed terms.now key }
-        requires found { Finds (K.eq key) hash self.old.lists found }
+        requires planned { IsPlanned (K.eq key) hash self.old.lists (strategy_of strategy) plan }
         ensures rejects { Calls (M.hooks terms.now)
             (Rejecting (K.eq key) key (strategy_of strategy) (state_of P.ticket_of self.old) value
             result (state_of P.ticket_of self.new))
             state.old state.new }
         // An insert takes the pair.
         ensures taken { is_insert (strategy_of strategy) ≡ true → result ≡ None }
-        ensures sound { IsSound P.ticket_of K.eq (M.hashed terms.now) self.new }
-        ensures places { LosesOnly (places_of self.old.lists) (places_of self.new.lists) }
-        ensures room { self.old.lists.room ≤ self.new.lists.room }
-        ensures same { self.new ≡ record self.old { lists = self.new.lists } }
+        ensures stays { LosesEntries P.ticket_of K.eq (M.hashed terms.now) self.old self.new }
     {
-        self.take_out_item(found, terms, state, &key, hash);
+        self.take_out_item(plan, terms, state, &key, hash);
         if !strategy.makes_items() {
             return Some((key, value));
         }

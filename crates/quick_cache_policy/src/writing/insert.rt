@@ -1,48 +1,27 @@
 //! Writes: inserts and replaces.
 ghost use Rattle.std.specs.Prelude.{◌≡◌, ◌+◌, ◌≤◌, ◌<◌, None, Some, IfErr, IsSome, true, false};
-ghost use Rattle.quick_cache_store.specs.Lists.{Finds, entry_count};
+ghost use Rattle.quick_cache_store.specs.Lists.{Finds};
 ghost use Rattle.quick_cache_model.specs.Hooks.{Calls};
 ghost use Rattle.quick_cache_model.specs.Writes.{Insert};
 ghost use Rattle.quick_cache_model.specs.declared.refusal.Refusal.TheVariants.{Memory};
-ghost use Rattle.quick_cache_policy.specs.Contents.{IsSound, state_of, ring_count, work_of, KeepsNumbers};
-ghost use Rattle.quick_cache_policy.specs.Finding.{TakesSlot, Provides};
-ghost use Rattle.quick_cache_policy.specs.Places.{places_of, KeepsPlaces, WritesPlace};
+ghost use Rattle.quick_cache_policy.specs.Contents.{IsSound, state_of};
+ghost use Rattle.quick_cache_policy.specs.Finding.{IsPlanned, TakesSlot};
+ghost use Rattle.quick_cache_policy.specs.Places.{KeepsPlaces, WritesPlace};
 ghost use Rattle.quick_cache_policy.specs.Policies.{rules_by};
-ghost use Rattle.quick_cache_policy.specs.Work.{WorksWithin};
+ghost use Rattle.quick_cache_policy.specs.Stays.{WritesWithin};
 ghost use Rattle.quick_cache_policy.specs.Writing.{strategy_of, is_insert, Writing, WritingAdmitted, AnswersWrite};
 
 use crate::contents::Contents;
 use crate::policy::Policy;
 use crate::strategy::InsertStrategy;
 use crate::writing::admission::{Admission, Weighed};
+use crate::writing::plan::Plan;
 use quick_cache_model::{Queue, Refusal, SharedPlaceholder};
 use quick_cache_store::lists::{Entry, Found, Marked};
 use std::alloc::Allocator;
 use std::hash::Hash;
 
 impl<K: Eq + Hash + Drop, V: Drop, P: SharedPlaceholder<K>, A: Allocator> Contents<K, V, P, A> {
-    /// Makes room for an entry where the write will need it, or answers why there is none.
-    fn provide(&mut self, found: Found, strategy: InsertStrategy) -> Option<Refusal>
-        ensures lists { self.new ≡ record self.old {
-          lists = record self.old.lists {
-            room = self.new.lists.room;
-          };
-        } }
-        ensures grows { self.old.lists.room ≤ self.new.lists.room }
-        ensures provides { Provides found (strategy_of strategy) (entry_count self.old.lists)
-            self.new.lists.room result }
-        // Memory is asked for only where there is no room.
-        ensures asks { result ≡ Some Memory → self.old.lists.room ≡ 0 }
-    {
-        let Found::Nothing = found else {
-            return None;
-        };
-        if !strategy.makes_items() {
-            return None;
-        }
-        self.lists.make_room().err()
-    }
-
     /// Inserts a pair under a key of which nothing is known. Its ring is chosen before room is
     /// made.
     fn insert_new<M: Policy<K, V>>(
@@ -63,14 +42,9 @@ impl<K: Eq + Hash + Drop, V: Drop, P: SharedPlaceholder<K>, A: Allocator> Conten
             (rules_by M.Policy P.Touch.may_count terms.now) (K.eq key) key Insert
             (state_of P.ticket_of self.old) weighed.value None (state_of P.ticket_of self.new))
             state.old state.new }
-        ensures sound { IsSound P.ticket_of K.eq (M.hashed terms.now) self.new }
         // No other item moves.
-        ensures places { WritesPlace K.eq key (places_of self.old.lists) (places_of self.new.lists) }
-        ensures room { self.old.lists.room ≤ self.new.lists.room + 1 }
-        ensures work { WorksWithin self.old.mark_cut
-            (ring_count Queue.Hot self.old + ring_count Queue.Cold self.old + 1)
-            (work_of self.old) (work_of self.new) }
-        ensures same { KeepsNumbers self.old self.new }
+        ensures stays { WritesWithin P.ticket_of K.eq (M.hashed terms.now) (WritesPlace K.eq key) 1
+            self.old self.new }
     {
         let Weighed { value, weight } = weighed;
         let hot_weight = self.lists.weight(Queue::Hot) + u128::from(weight);
@@ -88,7 +62,7 @@ impl<K: Eq + Hash + Drop, V: Drop, P: SharedPlaceholder<K>, A: Allocator> Conten
     #[inline(always)]
     fn write_admitted<M: Policy<K, V>>(
         &mut self,
-        found: Found,
+        plan: Plan,
         terms: &M,
         state: &mut M::RequestState,
         hash: u64,
@@ -99,8 +73,8 @@ impl<K: Eq + Hash + Drop, V: Drop, P: SharedPlaceholder<K>, A: Allocator> Conten
         requires sound { IsSound P.ticket_of K.eq (M.hashed terms.now) self.old }
         requires hash_is { hash ≡ M.hashed terms.now key }
         requires weight_is { weighed.weight ≡ M.weight_of terms.now key weighed.value }
-        requires found { Finds (K.eq key) hash self.old.lists found }
-        requires room { TakesSlot found (strategy_of strategy) → 0 < self.old.lists.room }
+        requires planned { IsPlanned (K.eq key) hash self.old.lists (strategy_of strategy) plan }
+        requires room { TakesSlot plan → 0 < self.old.lists.room }
         ensures writes { Calls (M.hooks terms.now)
             (WritingAdmitted (M.steady terms.now)
             (rules_by M.Policy P.Touch.may_count terms.now) (K.eq key) key (strategy_of strategy)
@@ -108,47 +82,34 @@ impl<K: Eq + Hash + Drop, V: Drop, P: SharedPlaceholder<K>, A: Allocator> Conten
             state.old state.new }
         // An insert takes the pair.
         ensures taken { is_insert (strategy_of strategy) ≡ true → result ≡ None }
-        ensures sound { IsSound P.ticket_of K.eq (M.hashed terms.now) self.new }
-        // No other item moves.
-        ensures places { WritesPlace K.eq key (places_of self.old.lists) (places_of self.new.lists) }
-        ensures room { self.old.lists.room ≤ self.new.lists.room + 1 }
         // A replace takes none.
         ensures keeps_room { is_insert (strategy_of strategy) ≡ false
             → self.old.lists.room ≤ self.new.lists.room }
-        ensures work { WorksWithin self.old.mark_cut
-            (ring_count Queue.Hot self.old + ring_count Queue.Cold self.old + 1)
-            (work_of self.old) (work_of self.new) }
-        ensures same { KeepsNumbers self.old self.new }
+        // No other item moves.
+        ensures stays { WritesWithin P.ticket_of K.eq (M.hashed terms.now) (WritesPlace K.eq key) 1
+            self.old self.new }
     {
-        // Read for the proof: the counts are within their types.
-        let _advances = self.advances;
-        let _visits = self.visits;
-        match found {
-            Found::Item(token) => {
-                self.overwrite(token, terms, state, hash, key, weighed, strategy);
-                return None;
-            }
-            Found::Loading(_) => {}
-            Found::Ghost(_) => {}
-            Found::Nothing => {}
-        }
-        if !strategy.makes_items() {
-            return Some((key, weighed.value));
-        }
-        match found {
-            Found::Item(_) => unreachable!(),
-            Found::Loading(token) => {
-                self.insert_over_loading(token, terms, state, hash, key, weighed);
-                None
-            }
-            Found::Ghost(token) => {
-                self.insert_over_ghost(token, terms, state, hash, key, weighed);
-                None
-            }
-            Found::Nothing => {
+        self.facts();
+        match plan {
+            Plan::InsertNew => {
                 self.insert_new(terms, state, hash, key, weighed);
                 None
             }
+            Plan::OverGhost(token) => {
+                self.enter_at(token, Queue::Hot, 0, terms, state, hash, key, weighed);
+                None
+            }
+            Plan::OverLoading(token) => {
+                self.lists.apart();
+                let queue = self.lists.awaited(token).queue();
+                self.enter_at(token, queue, 1, terms, state, hash, key, weighed);
+                None
+            }
+            Plan::OverItem(token) => {
+                self.overwrite(token, terms, state, hash, key, weighed, strategy);
+                None
+            }
+            Plan::GiveBack => Some((key, weighed.value)),
         }
     }
 
@@ -156,7 +117,7 @@ impl<K: Eq + Hash + Drop, V: Drop, P: SharedPlaceholder<K>, A: Allocator> Conten
     #[inline(always)]
     fn write<M: Policy<K, V>>(
         &mut self,
-        found: Found,
+        plan: Plan,
         terms: &M,
         state: &mut M::RequestState,
         hash: u64,
@@ -166,8 +127,8 @@ impl<K: Eq + Hash + Drop, V: Drop, P: SharedPlaceholder<K>, A: Allocator> Conten
     ) -> Option<(K, V)>
         requires sound { IsSound P.ticket_of K.eq (M.hashed terms.now) self.old }
         requires hash_is { hash ≡ M.hashed terms.now key }
-        requires found { Finds (K.eq key) hash self.old.lists found }
-        requires room { TakesSlot found (strategy_of strategy) → 0 < self.old.lists.room }
+        requires planned { IsPlanned (K.eq key) hash self.old.lists (strategy_of strategy) plan }
+        requires room { TakesSlot plan → 0 < self.old.lists.room }
         ensures writes { Calls (M.hooks terms.now)
             (Writing (M.steady terms.now) (rules_by M.Policy P.Touch.may_count terms.now)
             (K.eq key) key (strategy_of strategy) (state_of P.ticket_of self.old) value
@@ -175,27 +136,20 @@ impl<K: Eq + Hash + Drop, V: Drop, P: SharedPlaceholder<K>, A: Allocator> Conten
             state.old state.new }
         // An insert takes the pair.
         ensures taken { is_insert (strategy_of strategy) ≡ true → result ≡ None }
-        ensures sound { IsSound P.ticket_of K.eq (M.hashed terms.now) self.new }
-        // No other item moves.
-        ensures places { WritesPlace K.eq key (places_of self.old.lists) (places_of self.new.lists) }
-        ensures room { self.old.lists.room ≤ self.new.lists.room + 1 }
         // A replace takes none.
         ensures keeps_room { is_insert (strategy_of strategy) ≡ false
             → self.old.lists.room ≤ self.new.lists.room }
-        ensures work { WorksWithin self.old.mark_cut
-            (ring_count Queue.Hot self.old + ring_count Queue.Cold self.old + 1)
-            (work_of self.old) (work_of self.new) }
-        ensures same { KeepsNumbers self.old self.new }
+        // No other item moves.
+        ensures stays { WritesWithin P.ticket_of K.eq (M.hashed terms.now) (WritesPlace K.eq key) 1
+            self.old self.new }
     {
-        // Read for the proof: the counts are within their types.
-        let _advances = self.advances;
-        let _visits = self.visits;
+        self.facts();
         match self.admit(terms, state, &key, value) {
             Admission::Admitted(weighed) => {
-                self.write_admitted(found, terms, state, hash, key, weighed, strategy)
+                self.write_admitted(plan, terms, state, hash, key, weighed, strategy)
             }
             Admission::TooHeavy(value) => {
-                self.reject_too_heavy(found, terms, state, hash, key, value, strategy)
+                self.reject_too_heavy(plan, terms, state, hash, key, value, strategy)
             }
         }
     }
@@ -222,28 +176,21 @@ impl<K: Eq + Hash + Drop, V: Drop, P: SharedPlaceholder<K>, A: Allocator> Conten
             → IfErr result (λ back. IsSome back.2) }
         ensures unrefused { is_insert (strategy_of strategy) ≡ false
             → IfErr result (λ back. back.2 ≡ None) }
-        ensures sound { IsSound P.ticket_of K.eq (M.hashed terms.now) self.new }
-        // No item that stays moves.
-        ensures places { KeepsPlaces K.eq (places_of self.old.lists) (places_of self.new.lists) }
-        // It takes room for one entry at most, and asks for memory only where there is no room.
-        ensures room { self.old.lists.room ≤ self.new.lists.room + 1 }
         // A replace takes none.
         ensures keeps_room { is_insert (strategy_of strategy) ≡ false
             → self.old.lists.room ≤ self.new.lists.room }
+        // It asks for memory only where there is no room.
         ensures asks { IfErr result (λ back. back.2 ≡ Some Memory → self.old.lists.room ≡ 0) }
-        ensures work { WorksWithin self.old.mark_cut
-            (ring_count Queue.Hot self.old + ring_count Queue.Cold self.old + 1)
-            (work_of self.old) (work_of self.new) }
-        ensures same { KeepsNumbers self.old self.new }
+        // No item that stays moves, and it takes room for one entry at most.
+        ensures stays { WritesWithin P.ticket_of K.eq (M.hashed terms.now) (KeepsPlaces K.eq) 1
+            self.old self.new }
     {
-        // Read for the proof: the counts are within their types.
-        let _advances = self.advances;
-        let _visits = self.visits;
-        let found = self.lists.find(hash, &key);
-        if let Some(refusal) = self.provide(found, strategy) {
+        self.facts();
+        let plan = self.plan_write(hash, &key, strategy);
+        if let Some(refusal) = self.provide(plan) {
             return Err((key, value, Some(refusal)));
         }
-        match self.write(found, terms, state, hash, key, value, strategy) {
+        match self.write(plan, terms, state, hash, key, value, strategy) {
             None => Ok(()),
             Some((key, value)) => Err((key, value, None)),
         }

@@ -1,12 +1,13 @@
 //! A pair over what stands under its key: an item, a placeholder, or a ghost of its hash.
-ghost use Rattle.std.specs.Prelude.{◌≡◌, ◌+◌, ◌≤◌, None};
+ghost use Rattle.std.specs.Prelude.{◌≡◌, ◌+◌, None};
 ghost use Rattle.quick_cache_store.specs.Lists.{Finds};
 ghost use Rattle.quick_cache_model.specs.Hooks.{Calls};
 ghost use Rattle.quick_cache_model.specs.Writes.{Insert};
-ghost use Rattle.quick_cache_policy.specs.Contents.{IsSound, state_of, ring_count, work_of, KeepsNumbers};
-ghost use Rattle.quick_cache_policy.specs.Places.{places_of, WritesPlace};
+ghost use Rattle.quick_cache_policy.specs.Contents.{IsSound, state_of};
+ghost use Rattle.quick_cache_policy.specs.Places.{WritesPlace};
+ghost use Rattle.quick_cache_policy.specs.Finding.{EntersAt};
 ghost use Rattle.quick_cache_policy.specs.Policies.{rules_by};
-ghost use Rattle.quick_cache_policy.specs.Work.{WorksWithin};
+ghost use Rattle.quick_cache_policy.specs.Stays.{WritesWithin};
 ghost use Rattle.quick_cache_policy.specs.Writing.{strategy_of, WritingAdmitted};
 
 use crate::contents::Contents;
@@ -40,14 +41,9 @@ impl<K: Eq + Hash + Drop, V: Drop, P: SharedPlaceholder<K>, A: Allocator> Conten
             (rules_by M.Policy P.Touch.may_count terms.now) (K.eq key) key (strategy_of strategy)
             (state_of P.ticket_of self.old) weighed.value None (state_of P.ticket_of self.new))
             state.old state.new }
-        ensures sound { IsSound P.ticket_of K.eq (M.hashed terms.now) self.new }
         // No other item moves.
-        ensures places { WritesPlace K.eq key (places_of self.old.lists) (places_of self.new.lists) }
-        ensures room { self.old.lists.room ≤ self.new.lists.room }
-        ensures work { WorksWithin self.old.mark_cut
-            (ring_count Queue.Hot self.old + ring_count Queue.Cold self.old + 1)
-            (work_of self.old) (work_of self.new) }
-        ensures same { KeepsNumbers self.old self.new }
+        ensures stays { WritesWithin P.ticket_of K.eq (M.hashed terms.now) (WritesPlace K.eq key) 0
+            self.old self.new }
     {
         self.lists.apart();
         let touches = self.lists.take_touch(token);
@@ -65,10 +61,13 @@ impl<K: Eq + Hash + Drop, V: Drop, P: SharedPlaceholder<K>, A: Allocator> Conten
         self.evict_to_capacity(0, terms, state);
     }
 
-    /// Inserts a pair over a ghost of its hash: it is hot, whatever the target.
-    pub(crate) fn insert_over_ghost<M: Policy<K, V>>(
+    /// Inserts a pair in the place of a ghost of its hash or of the placeholder of its key, with
+    /// this queue and this mark.
+    pub(crate) fn enter_at<M: Policy<K, V>>(
         &mut self,
         token: Token,
+        queue: Queue,
+        mark: u8,
         terms: &M,
         state: &mut M::RequestState,
         hash: u64,
@@ -78,62 +77,20 @@ impl<K: Eq + Hash + Drop, V: Drop, P: SharedPlaceholder<K>, A: Allocator> Conten
         requires sound { IsSound P.ticket_of K.eq (M.hashed terms.now) self.old }
         requires hash_is { hash ≡ M.hashed terms.now key }
         requires weight_is { weighed.weight ≡ M.weight_of terms.now key weighed.value }
-        requires found { Finds (K.eq key) hash self.old.lists (Found.Ghost token) }
+        requires enters { EntersAt (K.eq key) hash self.old.lists token queue mark }
         ensures writes { Calls (M.hooks terms.now)
             (WritingAdmitted (M.steady terms.now)
             (rules_by M.Policy P.Touch.may_count terms.now) (K.eq key) key Insert
             (state_of P.ticket_of self.old) weighed.value None (state_of P.ticket_of self.new))
             state.old state.new }
-        ensures sound { IsSound P.ticket_of K.eq (M.hashed terms.now) self.new }
         // No other item moves.
-        ensures places { WritesPlace K.eq key (places_of self.old.lists) (places_of self.new.lists) }
-        ensures room { self.old.lists.room ≤ self.new.lists.room }
-        ensures work { WorksWithin self.old.mark_cut
-            (ring_count Queue.Hot self.old + ring_count Queue.Cold self.old + 1)
-            (work_of self.old) (work_of self.new) }
-        ensures same { KeepsNumbers self.old self.new }
+        ensures stays { WritesWithin P.ticket_of K.eq (M.hashed terms.now) (WritesPlace K.eq key) 0
+            self.old self.new }
     {
         self.lists.apart();
         let Weighed { value, weight } = weighed;
-        let item = Marked::new(key, value, weight, 0, Queue::Hot, P::Touch::default());
-        let _ = self.lists.replace(token, false, Entry::Item(item));
-        self.evict_to_capacity(0, terms, state);
-    }
-
-    /// Inserts a pair over the placeholder of its key: it takes the placeholder's queue, and a
-    /// mark.
-    pub(crate) fn insert_over_loading<M: Policy<K, V>>(
-        &mut self,
-        token: Token,
-        terms: &M,
-        state: &mut M::RequestState,
-        hash: u64,
-        key: K,
-        weighed: Weighed<V>,
-    )
-        requires sound { IsSound P.ticket_of K.eq (M.hashed terms.now) self.old }
-        requires hash_is { hash ≡ M.hashed terms.now key }
-        requires weight_is { weighed.weight ≡ M.weight_of terms.now key weighed.value }
-        requires found { Finds (K.eq key) hash self.old.lists (Found.Loading token) }
-        ensures writes { Calls (M.hooks terms.now)
-            (WritingAdmitted (M.steady terms.now)
-            (rules_by M.Policy P.Touch.may_count terms.now) (K.eq key) key Insert
-            (state_of P.ticket_of self.old) weighed.value None (state_of P.ticket_of self.new))
-            state.old state.new }
-        ensures sound { IsSound P.ticket_of K.eq (M.hashed terms.now) self.new }
-        // No other item moves.
-        ensures places { WritesPlace K.eq key (places_of self.old.lists) (places_of self.new.lists) }
-        ensures room { self.old.lists.room ≤ self.new.lists.room }
-        ensures work { WorksWithin self.old.mark_cut
-            (ring_count Queue.Hot self.old + ring_count Queue.Cold self.old + 1)
-            (work_of self.old) (work_of self.new) }
-        ensures same { KeepsNumbers self.old self.new }
-    {
-        self.lists.apart();
-        let queue = self.lists.awaited(token).queue();
-        let Weighed { value, weight } = weighed;
-        let item = Marked::new(key, value, weight, 1, queue, P::Touch::default());
-        let _ = self.lists.replace(token, false, Entry::Item(item));
+        let entered = Marked::new(key, value, weight, mark, queue, P::Touch::default());
+        let _ = self.lists.replace(token, false, Entry::Item(entered));
         self.evict_to_capacity(0, terms, state);
     }
 }

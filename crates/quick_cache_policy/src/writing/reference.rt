@@ -1,13 +1,13 @@
 //! A value that is written where it stands, and its item, which is weighed anew.
-ghost use Rattle.std.specs.Prelude.{◌≡◌, ◌<◌};
+ghost use Rattle.std.specs.Prelude.{◌<◌};
 ghost use Rattle.std.specs.Borrow.{sem};
 ghost use Rattle.std.specs.Int.NonZero.{non_zero_u32_get as number};
 ghost use Rattle.quick_cache_store.specs.Lists.{FindsItem, HasItemToken, IsValueAt};
 ghost use Rattle.quick_cache_policy.specs.Contents.{IsSound, state_of};
 ghost use Rattle.quick_cache_policy.specs.Finding.{AreUnder};
-ghost use Rattle.quick_cache_policy.specs.Places.{places_of, LosesOnly};
 ghost use Rattle.quick_cache_policy.specs.Policies.{rules_by};
 ghost use Rattle.quick_cache_policy.specs.References.{count_under, ReweighsUnder};
+ghost use Rattle.quick_cache_policy.specs.Stays.{KeepsEntries};
 
 use crate::contents::Contents;
 use crate::policy::Policy;
@@ -68,10 +68,7 @@ impl<K: Eq + Hash, V, P: SharedPlaceholder<K>, A: Allocator> Contents<K, V, P, A
             (rules_by M.Policy P.Touch.may_count terms.now) (state_of P.ticket_of self.old)
             (state_of P.ticket_of self.new) }
         ensures there { 0 < count_under (Q.equivalent query.now) (state_of P.ticket_of self.new) }
-        ensures sound { IsSound P.ticket_of K.eq (M.hashed terms.now) self.new }
-        ensures places { LosesOnly (places_of self.old.lists) (places_of self.new.lists) }
-        ensures room { self.new.lists.room ≡ self.old.lists.room }
-        ensures same { self.new ≡ record self.old { lists = self.new.lists } }
+        ensures stays { KeepsEntries P.ticket_of K.eq (M.hashed terms.now) self.old self.new }
     {
         let token = self.token_under(thought, hash, query);
         self.weigh_item(token, hash, query, terms);
@@ -90,11 +87,8 @@ impl<K: Eq + Hash, V, P: SharedPlaceholder<K>, A: Allocator> Contents<K, V, P, A
         ensures reweighs { ReweighsUnder (Q.equivalent _query.now)
             (rules_by M.Policy P.Touch.may_count terms.now) (state_of P.ticket_of self.old)
             (state_of P.ticket_of self.new) }
-        ensures sound { IsSound P.ticket_of K.eq (M.hashed terms.now) self.new }
         ensures there { 0 < count_under (Q.equivalent _query.now) (state_of P.ticket_of self.new) }
-        ensures places { LosesOnly (places_of self.old.lists) (places_of self.new.lists) }
-        ensures room { self.new.lists.room ≡ self.old.lists.room }
-        ensures same { self.new ≡ record self.old { lists = self.new.lists } }
+        ensures stays { KeepsEntries P.ticket_of K.eq (M.hashed terms.now) self.old self.new }
     {
         self.lists.apart();
         let item = self.lists.item(token);

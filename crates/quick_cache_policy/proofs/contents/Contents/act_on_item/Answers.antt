@@ -1,4 +1,4 @@
-use Rattle.std.proofs.Common.{◌≡◌, sym, ap, subst, ◌∙◌}
+use Rattle.std.proofs.Common.{◌≡◌, ap, subst, ◌∙◌}
 use Rattle.quick_cache_model.specs.CacheState.{Item}
 use Rattle.quick_cache_model.specs.Entries.{Retain, Remove, ReplaceWithGuard, Kept, Removed, Replaced, Refused}
 use Rattle.quick_cache_policy.specs.declared.contents.Contents.{Contents}
@@ -149,7 +149,7 @@ returns-in-Retain-clause-places g c = λ place there.
 pub returns-in-Remove-clause-places : goal.returns-in-Remove-clause-places
 returns-in-Remove-clause-places g c = λ place there.
     subst (λ l. Contains l place) c.show_item.ensures.places
-    (c.remove_item-key.ensures.places place there)
+    (c.remove_item-key.ensures.stays.places place there)
 
 pub returns-in-Ok-clause-places : goal.returns-in-Ok-clause-places
 returns-in-Ok-clause-places g c = λ place there.

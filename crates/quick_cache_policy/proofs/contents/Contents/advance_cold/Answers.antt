@@ -1,5 +1,5 @@
-use Rattle.std.proofs.Common.{◌∙◌, ap, subst, arith, length, true}
-use Rattle.quick_cache_model.specs.declared.queue.Queue.TheVariants.{Hot, Cold}
+use Rattle.std.proofs.Common.{rules, ◌∙◌, ap, subst, arith, length, true}
+use Rattle.quick_cache_model.specs.declared.queue.Queue.TheVariants.{Cold}
 use Rattle.quick_cache_model.specs.CacheState.{CacheState}
 use Rattle.quick_cache_model.specs.Eviction.{AdvancesHot, AdvancesCold, EvictsToTarget}
 use Rattle.quick_cache_model.specs.Hooks.{Calls}
@@ -15,6 +15,8 @@ use Rattle.quick_cache_policy.proofs.KeyLemmas.{FirstIsEvicted-keys, FirstIsProm
 use Rattle.quick_cache_policy.proofs.LoopLemmas.{Calls-map}
 use Rattle.quick_cache_policy.proofs.PlaceLemmas.{LosesOnly-cold}
 use Rattle.quick_cache_policy.proofs.WorkLemmas.{PaysFor-evicted}
+use Rattle.std.proofs.lemmas.Grind.{common_steps}
+use Rattle.quick_cache_policy.proofs.StaysLemmas.{KeepsNumbers-from}
 use Rattle.quick_cache_policy.proofs.contents.Contents.advance_cold.Goals as goal
 
 pub returns-in-Marked-clause-advances : goal.returns-in-Marked-clause-advances
@@ -42,38 +44,26 @@ returns-in-Victim-clause-advances g c =
     let cold = items_of c.search_cold.new.self.lists.cold in
     let is = ap (λ (r : Contents _ _ _ _ _ _). state_of g.P.SharedPlaceholder.ticket_of r)
     c.search_cold.ensures.same in
-    let new = state_of g.P.SharedPlaceholder.ticket_of c.evict_first.new.self in
+    let new = state_of g.P.SharedPlaceholder.ticket_of c.evict_cold.new.self in
     let steady = g.M.Policy.steady c.args.terms.now in
     Calls-map (g.M.Policy.hooks c.args.terms.now)
     (λ calls. FirstIsEvicted rules Cold (record old { cold = cold }) calls new × AreEvictions calls)
     (Evicting steady (λ state. AdvancesCold rules state true) old new)
-    c.args.state.now c.evict_first.new.state
+    c.args.state.now c.evict_cold.new.state
     (λ calls. AdvancesCold-evicted rules steady old cold new calls
     c.in-Victim.ensures.searches)
     (subst (λ (s : CacheState _ _). Calls (g.M.Policy.hooks c.args.terms.now)
     (λ calls. FirstIsEvicted rules Cold s calls new × AreEvictions calls)
-    c.args.state.now c.evict_first.new.state) is c.evict_first.ensures.evicts)
+    c.args.state.now c.evict_cold.new.state) is c.evict_cold.ensures.evicts)
 
 pub returns-in-Victim-clause-falls : goal.returns-in-Victim-clause-falls
 returns-in-Victim-clause-falls g c = omega (
   arith,
-  c.evict_first.ensures.falls,
-  c.evict_first.ensures.others Hot (λ e. absurd (cc)),
+  c.evict_cold.ensures.falls,
+  c.evict_cold.ensures.hot,
   c.search_cold.ensures.count,
   ap (λ (r : Contents _ _ _ _ _ _). length r.lists.hot) c.search_cold.ensures.same,
 )
-
-pub returns-in-Victim-clause-work : goal.returns-in-Victim-clause-work
-returns-in-Victim-clause-work g c =
-    PaysFor-evicted c.args.self.now.mark_cut (length c.args.self.now.lists.hot) (length c.args.self.now.lists.cold)
-    (length c.evict_first.new.self.lists.hot) (length c.evict_first.new.self.lists.cold)
-    (work_of c.args.self.now) (work_of c.evict_first.new.self)
-    (c.evict_first.ensures.others Hot (λ e. absurd (cc))
-    ∙ ap (λ (r : Contents _ _ _ _ _ _). length r.lists.hot) c.search_cold.ensures.same)
-    (omega (arith, c.evict_first.ensures.falls, c.search_cold.ensures.count))
-    (ap (λ (r : Contents _ _ _ _ _ _). work_of r) c.evict_first.ensures.same
-    ∙ ap (λ (r : Contents _ _ _ _ _ _). work_of r) c.search_cold.ensures.same)
-    c.counts_fit.ensures.advances c.counts_fit.ensures.visits
 
 pub returns-in-AllPassed-clause-advances : goal.returns-in-AllPassed-clause-advances
 returns-in-AllPassed-clause-advances g c =
@@ -96,72 +86,106 @@ returns-in-AllPassed-clause-advances g c =
     c.args.state.now c.advance_hot.new.state) is c.advance_hot.ensures.advances)
 
 -- the search turns the ring
-pub returns-in-Marked-clause-keys : goal.returns-in-Marked-clause-keys
-returns-in-Marked-clause-keys g c test =
-    omega (
-      arith,
-      keys_by-cold g.P.SharedPlaceholder.ticket_of test c.args.self.now c.search_cold.new.self
-          c.search_cold.ensures.same
-          (Searches-keys test (g.M.Policy.steady c.args.terms.now)
-          (g.M.Policy.pinned c.args.terms.now) c.args.self.now.mark_cut
-          g.P.Touch.Touches.may_count
-          (items_of c.args.self.now.lists.cold) (items_of c.search_cold.new.self.lists.cold)
-          c.search_cold.result c.search_cold.ensures.searches),
-      FirstIsPromoted-keys test (state_of g.P.SharedPlaceholder.ticket_of c.search_cold.new.self)
-          (state_of g.P.SharedPlaceholder.ticket_of c.promote_first.new.self)
-          c.promote_first.ensures.promotes,
-      c.evict_to_target.ensures.keys test,
-    )
+pub returns-in-Marked-clause-stays : goal.returns-in-Marked-clause-stays
+returns-in-Marked-clause-stays g c =
+    record {
+      sound = c.evict_to_target.ensures.stays.sound;
+      keys = λ test. omega (
+        arith,
+        keys_by-cold g.P.SharedPlaceholder.ticket_of test c.args.self.now c.search_cold.new.self
+            c.search_cold.ensures.same
+            (Searches-keys test (g.M.Policy.steady c.args.terms.now)
+            (g.M.Policy.pinned c.args.terms.now) c.args.self.now.mark_cut
+            g.P.Touch.Touches.may_count
+            (items_of c.args.self.now.lists.cold) (items_of c.search_cold.new.self.lists.cold)
+            c.search_cold.result c.search_cold.ensures.searches),
+        FirstIsPromoted-keys test (state_of g.P.SharedPlaceholder.ticket_of c.search_cold.new.self)
+            (state_of g.P.SharedPlaceholder.ticket_of c.promote_first.new.self)
+            c.promote_first.ensures.promotes,
+        c.evict_to_target.ensures.stays.keys test,
+      );
+      places = λ place there. LosesOnly-cold c.args.self.now.lists c.search_cold.new.self.lists
+          (ap (λ (r : Contents _ _ _ _ _ _). r.lists) c.search_cold.ensures.same)
+          c.search_cold.ensures.places place
+          (c.promote_first.ensures.stays.places place (c.evict_to_target.ensures.stays.places place
+          there));
+      room = omega (
+        arith,
+        ap (λ (r : Contents _ _ _ _ _ _). r.lists.room)
+            c.search_cold.ensures.same,
+      );
+      work = grind (arith, common_steps);
+      same = search rules;
+    }
 
-pub returns-in-Victim-clause-keys : goal.returns-in-Victim-clause-keys
-returns-in-Victim-clause-keys g c test =
-    let e = c.evict_first.ensures.evicts in
+pub returns-in-Victim-clause-stays : goal.returns-in-Victim-clause-stays
+returns-in-Victim-clause-stays g c =
+    let e = c.evict_cold.ensures.evicts in
     let rules = rules_by g.M.Policy g.P.Touch.Touches.may_count c.args.terms.now in
-    omega (
-      arith,
-      keys_by-cold g.P.SharedPlaceholder.ticket_of test c.args.self.now c.search_cold.new.self
-          c.search_cold.ensures.same
-          (Searches-keys test (g.M.Policy.steady c.args.terms.now)
-          (g.M.Policy.pinned c.args.terms.now) c.args.self.now.mark_cut
-          g.P.Touch.Touches.may_count
-          (items_of c.args.self.now.lists.cold) (items_of c.search_cold.new.self.lists.cold)
-          c.search_cold.result c.search_cold.ensures.searches),
-      FirstIsEvicted-keys test rules Cold
-          (state_of g.P.SharedPlaceholder.ticket_of c.search_cold.new.self)
-          (state_of g.P.SharedPlaceholder.ticket_of c.evict_first.new.self) e.calls e.holds.0,
-    )
+    record {
+      sound = c.evict_cold.ensures.stays.sound;
+      keys = λ test. omega (
+        arith,
+        keys_by-cold g.P.SharedPlaceholder.ticket_of test c.args.self.now c.search_cold.new.self
+            c.search_cold.ensures.same
+            (Searches-keys test (g.M.Policy.steady c.args.terms.now)
+            (g.M.Policy.pinned c.args.terms.now) c.args.self.now.mark_cut
+            g.P.Touch.Touches.may_count
+            (items_of c.args.self.now.lists.cold) (items_of c.search_cold.new.self.lists.cold)
+            c.search_cold.result c.search_cold.ensures.searches),
+        FirstIsEvicted-keys test rules Cold
+            (state_of g.P.SharedPlaceholder.ticket_of c.search_cold.new.self)
+            (state_of g.P.SharedPlaceholder.ticket_of c.evict_cold.new.self) e.calls e.holds.0,
+      );
+      places = λ place there. LosesOnly-cold c.args.self.now.lists c.search_cold.new.self.lists
+          (ap (λ (r : Contents _ _ _ _ _ _). r.lists) c.search_cold.ensures.same)
+          c.search_cold.ensures.places place
+          (c.evict_cold.ensures.stays.places place there);
+      room = omega (
+        arith,
+        ap (λ (r : Contents _ _ _ _ _ _). r.lists.room)
+            c.search_cold.ensures.same,
+      );
+      work = PaysFor-evicted c.args.self.now.mark_cut (length c.args.self.now.lists.hot)
+          (length c.args.self.now.lists.cold)
+          (length c.evict_cold.new.self.lists.hot) (length c.evict_cold.new.self.lists.cold)
+          (work_of c.args.self.now) (work_of c.evict_cold.new.self)
+          (c.evict_cold.ensures.hot
+          ∙ ap (λ (r : Contents _ _ _ _ _ _). length r.lists.hot) c.search_cold.ensures.same)
+          (omega (arith, c.evict_cold.ensures.falls, c.search_cold.ensures.count))
+          (ap (λ (r : Contents _ _ _ _ _ _). work_of r) c.evict_cold.ensures.stays.same
+          ∙ ap (λ (r : Contents _ _ _ _ _ _). work_of r) c.search_cold.ensures.same)
+          c.facts.ensures.advances c.facts.ensures.visits;
+      same = KeepsNumbers-from c.args.self.now c.evict_cold.new.self c.evict_cold.new.self.lists _ _
+          (c.evict_cold.ensures.stays.same
+          ∙ ap (λ (r : Contents _ _ _ _ _ _). record r { lists = c.evict_cold.new.self.lists })
+          c.search_cold.ensures.same);
+    }
 
-pub returns-in-AllPassed-clause-keys : goal.returns-in-AllPassed-clause-keys
-returns-in-AllPassed-clause-keys g c test =
-    omega (
-      arith,
-      keys_by-cold g.P.SharedPlaceholder.ticket_of test c.args.self.now c.search_cold.new.self
-          c.search_cold.ensures.same
-          (Searches-keys test (g.M.Policy.steady c.args.terms.now)
-          (g.M.Policy.pinned c.args.terms.now) c.args.self.now.mark_cut
-          g.P.Touch.Touches.may_count
-          (items_of c.args.self.now.lists.cold) (items_of c.search_cold.new.self.lists.cold)
-          c.search_cold.result c.search_cold.ensures.searches),
-      c.advance_hot.ensures.keys test,
-    )
-
-pub returns-in-Marked-clause-places : goal.returns-in-Marked-clause-places
-returns-in-Marked-clause-places g c = λ place there.
-    LosesOnly-cold c.args.self.now.lists c.search_cold.new.self.lists
-    (ap (λ (r : Contents _ _ _ _ _ _). r.lists) c.search_cold.ensures.same)
-    c.search_cold.ensures.places place
-    (c.promote_first.ensures.places place (c.evict_to_target.ensures.places place there))
-
-pub returns-in-Victim-clause-places : goal.returns-in-Victim-clause-places
-returns-in-Victim-clause-places g c = λ place there.
-    LosesOnly-cold c.args.self.now.lists c.search_cold.new.self.lists
-    (ap (λ (r : Contents _ _ _ _ _ _). r.lists) c.search_cold.ensures.same)
-    c.search_cold.ensures.places place
-    (c.evict_first.ensures.places place there)
-
-pub returns-in-AllPassed-clause-places : goal.returns-in-AllPassed-clause-places
-returns-in-AllPassed-clause-places g c = λ place there.
-    LosesOnly-cold c.args.self.now.lists c.search_cold.new.self.lists
-    (ap (λ (r : Contents _ _ _ _ _ _). r.lists) c.search_cold.ensures.same)
-    c.search_cold.ensures.places place
-    (c.advance_hot.ensures.places place there)
+pub returns-in-AllPassed-clause-stays : goal.returns-in-AllPassed-clause-stays
+returns-in-AllPassed-clause-stays g c =
+    record {
+      sound = c.advance_hot.ensures.stays.sound;
+      keys = λ test. omega (
+        arith,
+        keys_by-cold g.P.SharedPlaceholder.ticket_of test c.args.self.now c.search_cold.new.self
+            c.search_cold.ensures.same
+            (Searches-keys test (g.M.Policy.steady c.args.terms.now)
+            (g.M.Policy.pinned c.args.terms.now) c.args.self.now.mark_cut
+            g.P.Touch.Touches.may_count
+            (items_of c.args.self.now.lists.cold) (items_of c.search_cold.new.self.lists.cold)
+            c.search_cold.result c.search_cold.ensures.searches),
+        c.advance_hot.ensures.stays.keys test,
+      );
+      places = λ place there. LosesOnly-cold c.args.self.now.lists c.search_cold.new.self.lists
+          (ap (λ (r : Contents _ _ _ _ _ _). r.lists) c.search_cold.ensures.same)
+          c.search_cold.ensures.places place
+          (c.advance_hot.ensures.stays.places place there);
+      room = omega (
+        arith,
+        ap (λ (r : Contents _ _ _ _ _ _). r.lists.room)
+            c.search_cold.ensures.same,
+      );
+      work = search rules;
+      same = search rules;
+    }

@@ -1,4 +1,4 @@
-use Rattle.std.proofs.Common.{[], ◌∷◌, length, refl, sym, ap, subst, ◌∙◌, arith}
+use Rattle.std.proofs.Common.{rules, [], ◌∷◌, length, refl, sym, ap, subst, ◌∙◌, arith}
 use Rattle.std.specs.Int.NonZero.{non_zero_u32_get as number}
 use Rattle.quick_cache_model.specs.declared.queue.Queue.TheVariants.{Hot, Cold}
 use Rattle.quick_cache_model.specs.Hooks.{BeforeEvict, EvictCold}
@@ -21,13 +21,13 @@ use Rattle.quick_cache_policy.proofs.contents.Contents.evict_cold.Goals as goal
 -- there is one ghost more
 pub forget_oldest-requires : goal.forget_oldest-requires
 forget_oldest-requires g c =
-    let first = c.requires.first in
+    let first = c.in-Some.ensures in
     let lists = c.args.self.now.lists in
     record {
       one = ghosts-one_more c.args.self.now.ghost_limit lists.ghosts c.bury.new.self.ghosts
-          (record { token = number c.args.token; hash = c.bury.ensures.hash })
+          (record { token = number c.in-Some.token; hash = c.bury.ensures.hash })
           (ap (λ (l : Lists _ _ _). l.ghosts)
-          (Replaces-ghost lists c.apart.ensures.apart first.0 first.1 (number c.args.token) _
+          (Replaces-ghost lists c.apart.ensures.apart first.0 first.1 (number c.in-Some.token) _
           c.bury.new.self c.bury.ensures first.2 first.3))
           c.requires.sound.valid.ghosts_within;
     }
@@ -35,11 +35,11 @@ forget_oldest-requires g c =
 -- the ghost goes again where the victim stays among the weightless
 pub returns-in-Stays-clause-evicts : goal.returns-in-Stays-clause-evicts
 returns-in-Stays-clause-evicts g c =
-    let first = c.requires.first in
+    let first = c.in-Some.ensures in
     let contents = c.args.self.now in
     let lists = contents.lists in
     let apart = c.apart.ensures.apart in
-    let t = number c.args.token in
+    let t = number c.in-Some.token in
     let hash = c.bury.ensures.hash in
     let item = c.bury.result in
     let kept = c.in-Stays.item in
@@ -62,31 +62,6 @@ returns-in-Stays-clause-evicts g c =
       runs = (c.decide.new.state, c.in-Stays.ensures.0, refl);
     }
 
-pub returns-in-Stays-clause-sound : goal.returns-in-Stays-clause-sound
-returns-in-Stays-clause-sound g c =
-    let first = c.requires.first in
-    let contents = c.args.self.now in
-    let lists = contents.lists in
-    let apart = c.apart.ensures.apart in
-    let t = number c.args.token in
-    let hash = c.bury.ensures.hash in
-    let item = c.bury.result in
-    let kept = c.in-Stays.item in
-    let new = c.replace.new.self in
-    let split = ring-first lists apart Cold first.0 first.1 t hash item first.2 first.3
-    c.bury.ensures.taken in
-    let is = Replaces-ghost lists apart first.0 first.1 t _ c.bury.new.self c.bury.ensures first.2
-    first.3 in
-    let order = Replaces-stays lists c.bury.new.self c.apart-in-Stays.ensures.apart first.1 t
-    hash item kept kept.value c.replace.result new is c.in-Stays.ensures.2 c.replace.ensures in
-    let evicts = returns-in-Stays-clause-evicts g c in
-    IsSound-evicted g.P.SharedPlaceholder.ticket_of contents
-    (rules_by g.M.Policy g.P.Touch.Touches.may_count c.args.terms.now) g.K.PartialEq.eq
-    (g.M.Policy.hashed c.args.terms.now) Cold evicts.calls new evicts.holds.0 c.requires.sound
-    (AreHashed-stays (g.M.Policy.hashed c.args.terms.now) Cold
-    (record { token = t; hash = hash; item = item }) first.1 lists new new.next new.room t
-    kept.value split c.requires.sound.hashed order)
-
 pub returns-in-Stays-clause-falls : goal.returns-in-Stays-clause-falls
 returns-in-Stays-clause-falls g c =
     ring_count-falls g.P.SharedPlaceholder.ticket_of c.args.self.now
@@ -102,11 +77,11 @@ returns-in-Stays-clause-hot g c =
 -- it is the newest where the victim leaves
 pub returns-in-Leaves-clause-evicts : goal.returns-in-Leaves-clause-evicts
 returns-in-Leaves-clause-evicts g c =
-    let first = c.requires.first in
+    let first = c.in-Some.ensures in
     let contents = c.args.self.now in
     let lists = contents.lists in
     let apart = c.apart.ensures.apart in
-    let t = number c.args.token in
+    let t = number c.in-Some.token in
     let hash = c.bury.ensures.hash in
     let item = c.bury.result in
     let left = c.in-Leaves.value in
@@ -148,82 +123,96 @@ returns-in-Leaves-clause-evicts g c =
       );
     }
 
-pub returns-in-Leaves-clause-sound : goal.returns-in-Leaves-clause-sound
-returns-in-Leaves-clause-sound g c =
-    let first = c.requires.first in
-    let contents = c.args.self.now in
-    let lists = contents.lists in
-    let hash = g.M.Policy.hashed c.args.terms.now in
-    let new = c.forget_oldest.new.self in
-    let rules = rules_by g.M.Policy g.P.Touch.Touches.may_count c.args.terms.now in
-    let same = without-ghosts g.P.SharedPlaceholder.ticket_of contents c.bury.new.self first.1 _
-    new (Replaces-ghost lists c.apart.ensures.apart first.0 first.1 (number c.args.token) _
-    c.bury.new.self c.bury.ensures first.2 first.3)
-    c.forget_oldest.ensures.same in
-    let evicts = returns-in-Leaves-clause-evicts g c in
-    subst (λ (s : Contents _ _ _ _ _ _). IsSound g.P.SharedPlaceholder.ticket_of g.K.PartialEq.eq
-    hash s) (sym same)
-    (IsSound-evicted g.P.SharedPlaceholder.ticket_of contents rules g.K.PartialEq.eq hash Cold
-    evicts.calls _
-    (subst (λ (s : Contents _ _ _ _ _ _). FirstIsEvicted rules Cold
-    (state_of g.P.SharedPlaceholder.ticket_of contents) evicts.calls
-    (state_of g.P.SharedPlaceholder.ticket_of s)) same evicts.holds.0) c.requires.sound
-    (AreHashed-ghosts hash new.lists.ghosts _
-    (AreHashed-rest hash Cold first.0 first.1 new.lists.next new.lists.room lists first.2
-    c.requires.sound.hashed)))
-
 pub returns-in-Leaves-clause-falls : goal.returns-in-Leaves-clause-falls
 returns-in-Leaves-clause-falls g c =
-    let first = c.requires.first in
+    let first = c.in-Some.ensures in
     let contents = c.args.self.now in
     let same = without-ghosts g.P.SharedPlaceholder.ticket_of contents c.bury.new.self first.1 _
     c.forget_oldest.new.self
-    (Replaces-ghost contents.lists c.apart.ensures.apart first.0 first.1 (number c.args.token) _
+    (Replaces-ghost contents.lists c.apart.ensures.apart first.0 first.1 (number c.in-Some.token) _
     c.bury.new.self c.bury.ensures first.2 first.3)
     c.forget_oldest.ensures.same in
     omega (arith, ap (λ (s : Contents _ _ _ _ _ _). ring_count Cold s) same, ap length first.2)
 
 pub returns-in-Leaves-clause-hot : goal.returns-in-Leaves-clause-hot
 returns-in-Leaves-clause-hot g c =
-    let first = c.requires.first in
+    let first = c.in-Some.ensures in
     let contents = c.args.self.now in
     ap (λ (s : Contents _ _ _ _ _ _). ring_count Hot s)
     (without-ghosts g.P.SharedPlaceholder.ticket_of contents c.bury.new.self first.1 _
     c.forget_oldest.new.self
-    (Replaces-ghost contents.lists c.apart.ensures.apart first.0 first.1 (number c.args.token) _
+    (Replaces-ghost contents.lists c.apart.ensures.apart first.0 first.1 (number c.in-Some.token) _
     c.bury.new.self c.bury.ensures first.2 first.3)
     c.forget_oldest.ensures.same)
 
 -- it comes back under its token
-pub returns-in-Stays-clause-places : goal.returns-in-Stays-clause-places
-returns-in-Stays-clause-places g c =
-    let first = c.requires.first in
-    let lists = c.args.self.now.lists in
+pub returns-in-Stays-clause-stays : goal.returns-in-Stays-clause-stays
+returns-in-Stays-clause-stays g c =
+    let first = c.in-Some.ensures in
+    let contents = c.args.self.now in
     let apart = c.apart.ensures.apart in
-    let t = number c.args.token in
+    let t = number c.in-Some.token in
     let hash = c.bury.ensures.hash in
     let item = c.bury.result in
     let kept = c.in-Stays.item in
     let new = c.replace.new.self in
+    let evicts = returns-in-Stays-clause-evicts g c in
+    let lists = contents.lists in
     let split = ring-first lists apart Cold first.0 first.1 t hash item first.2 first.3
     c.bury.ensures.taken in
     let is = Replaces-ghost lists apart first.0 first.1 t _ c.bury.new.self c.bury.ensures first.2
     first.3 in
     let order = Replaces-stays lists c.bury.new.self c.apart-in-Stays.ensures.apart first.1 t
     hash item kept kept.value c.replace.result new is c.in-Stays.ensures.2 c.replace.ensures in
-    LosesOnly-stays Cold (record { token = t; hash = hash; item = item }) first.1 lists new new.next
-    new.room t hash kept.value split refl order
+    record {
+      sound = IsSound-evicted g.P.SharedPlaceholder.ticket_of contents
+          (rules_by g.M.Policy g.P.Touch.Touches.may_count c.args.terms.now) g.K.PartialEq.eq
+          (g.M.Policy.hashed c.args.terms.now) Cold evicts.calls new evicts.holds.0 c.requires.sound
+          (AreHashed-stays (g.M.Policy.hashed c.args.terms.now) Cold
+          (record { token = t; hash = hash; item = item }) first.1 lists new new.next new.room t
+          kept.value split c.requires.sound.hashed order);
+      places = LosesOnly-stays Cold (record { token = t; hash = hash; item = item }) first.1 lists
+          new new.next
+          new.room t hash kept.value split refl order;
+      room = omega arith;
+      same = search rules;
+    }
 
-pub returns-in-Leaves-clause-places : goal.returns-in-Leaves-clause-places
-returns-in-Leaves-clause-places g c = λ place there.
-    let first = c.requires.first in
+pub returns-in-Leaves-clause-stays : goal.returns-in-Leaves-clause-stays
+returns-in-Leaves-clause-stays g c =
+    let first = c.in-Some.ensures in
     let contents = c.args.self.now in
     let lists = contents.lists in
-    LosesOnly-gone Cold first.0 first.1 lists (record lists { cold = first.1 }) lists.next lists.room
-    first.2 refl place
-    (subst (λ (r : Contents _ _ _ _ _ _). Contains (places_of r.lists) place)
-    (without-ghosts g.P.SharedPlaceholder.ticket_of contents c.bury.new.self first.1 _
-    c.forget_oldest.new.self
-    (Replaces-ghost lists c.apart.ensures.apart first.0 first.1 (number c.args.token) _
+    let hash = g.M.Policy.hashed c.args.terms.now in
+    let new = c.forget_oldest.new.self in
+    let rules = rules_by g.M.Policy g.P.Touch.Touches.may_count c.args.terms.now in
+    let same = without-ghosts g.P.SharedPlaceholder.ticket_of contents c.bury.new.self first.1 _
+    new (Replaces-ghost lists c.apart.ensures.apart first.0 first.1 (number c.in-Some.token) _
     c.bury.new.self c.bury.ensures first.2 first.3)
-    c.forget_oldest.ensures.same) there)
+    c.forget_oldest.ensures.same in
+    let evicts = returns-in-Leaves-clause-evicts g c in
+    record {
+      sound = subst (λ (s : Contents _ _ _ _ _ _). IsSound g.P.SharedPlaceholder.ticket_of
+          g.K.PartialEq.eq
+          hash s) (sym same)
+          (IsSound-evicted g.P.SharedPlaceholder.ticket_of contents rules g.K.PartialEq.eq hash Cold
+          evicts.calls _
+          (subst (λ (s : Contents _ _ _ _ _ _). FirstIsEvicted rules Cold
+          (state_of g.P.SharedPlaceholder.ticket_of contents) evicts.calls
+          (state_of g.P.SharedPlaceholder.ticket_of s)) same evicts.holds.0) c.requires.sound
+          (AreHashed-ghosts hash new.lists.ghosts _
+          (AreHashed-rest hash Cold first.0 first.1 new.lists.next new.lists.room lists first.2
+          c.requires.sound.hashed)));
+      places = λ place there. LosesOnly-gone Cold first.0 first.1 lists
+          (record lists { cold = first.1 }) lists.next lists.room
+          first.2 refl place
+          (subst (λ (r : Contents _ _ _ _ _ _). Contains (places_of r.lists) place)
+          (without-ghosts g.P.SharedPlaceholder.ticket_of contents c.bury.new.self first.1 _
+          c.forget_oldest.new.self
+          (Replaces-ghost lists c.apart.ensures.apart first.0 first.1 (number c.in-Some.token) _
+          c.bury.new.self c.bury.ensures first.2 first.3)
+          c.forget_oldest.ensures.same) there);
+      room = omega arith;
+      same = ap (λ (r : Contents _ _ _ _ _ _). record r { lists = new.lists })
+          c.forget_oldest.ensures.same;
+    }

@@ -1,14 +1,13 @@
-use Rattle.std.proofs.Common.{◌<◌, ◌≤◌, ◌+◌, ◌∙◌, ap, arith, refl, length, true, false}
+use Rattle.std.proofs.Common.{◌<◌, ◌≤◌, ◌+◌, arith, true, false}
 use Rattle.quick_cache_model.specs.CacheState.{total_weight}
 use Rattle.quick_cache_model.specs.Eviction.{AdvancesCold, EvictsToCapacity}
 use Rattle.quick_cache_model.proofs.OrderLaws.{SameButOrder-refl, EvictsToCapacity-has_room}
 use Rattle.quick_cache_model.proofs.OrderLaws.{EvictsToCapacity-gives_up, EvictsToCapacity-goes_on}
 use Rattle.quick_cache_store.proofs.lists.CallerLemmas.{weight_of-items}
-use Rattle.quick_cache_policy.specs.declared.contents.Contents.{Contents}
-use Rattle.quick_cache_policy.specs.Contents.{state_of, work_of}
+use Rattle.quick_cache_policy.specs.Contents.{state_of}
 use Rattle.quick_cache_policy.specs.Policies.{rules_by}
 use Rattle.quick_cache_policy.proofs.LoopLemmas.{GoesOn-begins, GoesOn-steps, GoesOn-stops, GoesOn-ends}
-use Rattle.quick_cache_policy.proofs.WorkLemmas.{PaysFor-none, PaysFor-then}
+use Rattle.quick_cache_policy.proofs.StaysLemmas.{MakesRoom-none, MakesRoom-then, MakesRoom-paid}
 use Rattle.quick_cache_policy.proofs.contents.Contents.evict_to_capacity.Goals as goal
 
 pub loop-self-init : goal.loop-self-init
@@ -17,13 +16,9 @@ loop-self-init g c = record {
       (EvictsToCapacity (rules_by g.M.Policy g.P.Touch.Touches.may_count c.args.terms.now)
       c.args.need)
       (state_of g.P.SharedPlaceholder.ticket_of c.args.self.now) c.args.state.now;
-  sound = c.requires.sound;
-  room = omega arith;
-  keys = λ test. omega arith;
-  places = λ place there. there;
-  work = PaysFor-none c.args.self.now.mark_cut (length c.args.self.now.lists.hot) (length c.args.self.now.lists.cold)
-      (work_of c.args.self.now) c.counts_fit.ensures.advances c.counts_fit.ensures.visits;
-  same = refl;
+  stays = MakesRoom-none g.P.SharedPlaceholder.ticket_of g.K.PartialEq.eq
+      (g.M.Policy.hashed c.args.terms.now) c.args.self.now c.requires.sound
+      c.facts.ensures.advances c.facts.ensures.visits;
 }
 
 -- all weighs more than the capacity, and the advance answers no
@@ -51,14 +46,11 @@ returns-then-not-advance_cold-clause-evicts g c =
     (λ calls. EvictsToCapacity-gives_up rules c.args.need mid
     (state_of g.P.SharedPlaceholder.ticket_of c.advance_cold.new.self) calls above)
 
-pub returns-then-not-advance_cold-clause-work : goal.returns-then-not-advance_cold-clause-work
-returns-then-not-advance_cold-clause-work g c =
-    PaysFor-then c.args.self.now.mark_cut c.loop-self.self.mark_cut 0 1 (length c.args.self.now.lists.hot) (length c.args.self.now.lists.cold)
-    (length c.loop-self.self.lists.hot) (length c.loop-self.self.lists.cold)
-    (length c.advance_cold.new.self.lists.hot) (length c.advance_cold.new.self.lists.cold)
-    (work_of c.args.self.now) (work_of c.loop-self.self) (work_of c.advance_cold.new.self)
-    (ap (λ (r : Contents _ _ _ _ _ _). r.mark_cut) c.loop-self.invariant.same)
-    c.loop-self.invariant.work c.if-not-advance_cold.ensures.work
+pub returns-then-not-advance_cold-clause-stays : goal.returns-then-not-advance_cold-clause-stays
+returns-then-not-advance_cold-clause-stays g c =
+    MakesRoom-then g.P.SharedPlaceholder.ticket_of g.K.PartialEq.eq
+    (g.M.Policy.hashed c.args.terms.now) 1 c.args.self.now c.loop-self.self c.advance_cold.new.self
+    c.loop-self.invariant.stays c.if-not-advance_cold.ensures.stays
 
 pub loop-self-preserved : goal.loop-self-preserved
 loop-self-preserved g c =
@@ -86,21 +78,9 @@ loop-self-preserved g c =
           e.advances
           (λ calls rest end.
           EvictsToCapacity-goes_on rules c.args.need mid new end calls rest above);
-      sound = e.sound;
-      room = omega (arith, i.room, e.room);
-      keys = λ test. omega (arith, i.keys test, e.keys test);
-      places = λ place there. i.places place (e.places place there);
-      work = PaysFor-then c.args.self.now.mark_cut c.loop-self.self.mark_cut 0 0 (length c.args.self.now.lists.hot)
-          (length c.args.self.now.lists.cold) (length c.loop-self.self.lists.hot)
-          (length c.loop-self.self.lists.cold) (length c.advance_cold.new.self.lists.hot)
-          (length c.advance_cold.new.self.lists.cold) (work_of c.args.self.now)
-          (work_of c.loop-self.self) (work_of c.advance_cold.new.self)
-          (ap (λ (r : Contents _ _ _ _ _ _). r.mark_cut) i.same) i.work e.work;
-      same = e.same ∙ ap (λ (r : Contents _ _ _ _ _ _). record r {
-        lists = c.advance_cold.new.self.lists;
-        advances = c.advance_cold.new.self.advances;
-        visits = c.advance_cold.new.self.visits;
-      }) i.same;
+      stays = MakesRoom-then g.P.SharedPlaceholder.ticket_of g.K.PartialEq.eq
+          (g.M.Policy.hashed c.args.terms.now) 0 c.args.self.now c.loop-self.self
+          c.advance_cold.new.self i.stays e.stays;
     }
 
 -- there is room for what is needed
@@ -125,10 +105,8 @@ returns-clause-evicts g c =
     c.args.state.now c.loop-self.state c.loop-self.invariant.so_far
     (EvictsToCapacity-has_room rules c.args.need mid mid within (SameButOrder-refl mid))
 
-pub returns-then-not-advance_cold-clause-keys : goal.returns-then-not-advance_cold-clause-keys
-returns-then-not-advance_cold-clause-keys g c test =
-    omega (arith, c.loop-self.invariant.keys test, c.if-not-advance_cold.ensures.keys test)
-
-pub returns-then-not-advance_cold-clause-places : goal.returns-then-not-advance_cold-clause-places
-returns-then-not-advance_cold-clause-places g c = λ place there.
-    c.loop-self.invariant.places place (c.if-not-advance_cold.ensures.places place there)
+pub returns-clause-stays : goal.returns-clause-stays
+returns-clause-stays g c =
+    MakesRoom-paid g.P.SharedPlaceholder.ticket_of g.K.PartialEq.eq
+    (g.M.Policy.hashed c.args.terms.now) c.args.self.now c.loop-self.self
+    c.loop-self.invariant.stays

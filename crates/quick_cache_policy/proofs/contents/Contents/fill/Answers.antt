@@ -1,4 +1,4 @@
-use Rattle.std.proofs.Common.{◌≡◌, ◌==◌, true, false, Bool, ℕ, ◌+◌, ◌≤◌, [], ◌∷◌, ◌++◌, if◌then◌else◌, refl, sym, ap, subst, ◌∙◌, inl, inr, arith}
+use Rattle.std.proofs.Common.{rules, ◌≡◌, ◌==◌, true, false, Bool, ℕ, ◌+◌, ◌≤◌, [], ◌∷◌, ◌++◌, if◌then◌else◌, refl, sym, ap, subst, ◌∙◌, inl, inr, arith}
 use Rattle.std.specs.Int.NonZero.{non_zero_u32_get as number}
 use Rattle.quick_cache_model.specs.declared.queue.Queue.TheVariants.{Hot, Cold}
 use Rattle.quick_cache_model.specs.CacheState.{CacheState, entered}
@@ -63,33 +63,12 @@ evict_to_capacity-requires g c =
     let stands : StandsIn contents.lists.loading waiting = c.awaited-awaited.ensures.1 in
     record {
       sound = filled-sound ticket_of contents apart t waiting stands refl c.if-hot_weight-from.queue
-          c.mark_if-mark.result c.in-Admitted.weighed.weight c.in-Admitted.weighed.value c.fill.new.self
+          c.mark_if-mark.result c.in-Admitted.weighed.weight c.in-Admitted.weighed.value
+          c.fill.new.self
           c.fill.ensures equal g.met.K.Eq.laws hashed
-          (few contents.mark_cut c.requires.sound.sized.some_mark c.args.marked c.mark_if-mark.result c.mark_if-mark.ensures) c.requires.sound;
+          (few contents.mark_cut c.requires.sound.sized.some_mark c.args.marked
+          c.mark_if-mark.result c.mark_if-mark.ensures) c.requires.sound;
     }
-
-pub returns-else-weight-gt0-clause-sound : goal.returns-else-weight-gt0-clause-sound
-returns-else-weight-gt0-clause-sound g c =
-    let ticket_of = g.P.SharedPlaceholder.ticket_of in
-    let equal = g.K.PartialEq.eq in
-    let hashed = g.M.Policy.hashed c.args.terms.now in
-    let contents = c.args.self.now in
-    let t = number c.args.token in
-    let apart = c.apart.ensures.apart in
-    let found = c.requires.found in
-    let awaited = c.awaited-awaited.result in
-    let waiting : HeldLoading _ _ = record {
-      token = t;
-      hash = c.awaited-awaited.ensures.0;
-      key = awaited.key;
-      queue = awaited.queue;
-      placeholder = awaited.placeholder;
-    } in
-    let stands : StandsIn contents.lists.loading waiting = c.awaited-awaited.ensures.1 in
-    filled-sound ticket_of contents apart t waiting stands refl c.if-hot_weight-from.queue
-    c.mark_if-mark.result c.in-Admitted.weighed.weight c.in-Admitted.weighed.value c.fill.new.self
-    c.fill.ensures equal g.met.K.Eq.laws hashed
-    (few contents.mark_cut c.requires.sound.sized.some_mark c.args.marked c.mark_if-mark.result c.mark_if-mark.ensures) c.requires.sound
 
 -- the calls of the check, and then those of making room
 pub returns-then-weight-gt0-clause-fills : goal.returns-then-weight-gt0-clause-fills
@@ -297,29 +276,6 @@ returns-else-weight-gt0-clause-fills g c =
       runs = refl;
     })
 
-pub returns-then-weight-gt0-clause-work : goal.returns-then-weight-gt0-clause-work
-returns-then-weight-gt0-clause-work g c =
-    let ticket_of = g.P.SharedPlaceholder.ticket_of in
-    let equal = g.K.PartialEq.eq in
-    let hashed = g.M.Policy.hashed c.args.terms.now in
-    let contents = c.args.self.now in
-    let t = number c.args.token in
-    let apart = c.apart.ensures.apart in
-    let found = c.requires.found in
-    let awaited = c.awaited-awaited.result in
-    let waiting : HeldLoading _ _ = record {
-      token = t;
-      hash = c.awaited-awaited.ensures.0;
-      key = awaited.key;
-      queue = awaited.queue;
-      placeholder = awaited.placeholder;
-    } in
-    let stands : StandsIn contents.lists.loading waiting = c.awaited-awaited.ensures.1 in
-    PaysFor-within _ _ _ _ _ _ _ _ (filled-count ticket_of contents apart t waiting stands refl c.if-hot_weight-from.queue
-    c.mark_if-mark.result c.in-Admitted.weighed.weight c.in-Admitted.weighed.value c.fill.new.self
-    c.fill.ensures)
-    c.evict_to_capacity.ensures.work
-
 pub take-slot-requires : goal.take-slot-requires
 take-slot-requires g c =
     inr (inl (c.requires.found.waiting, c.requires.found.stands, c.requires.found.named))
@@ -338,21 +294,6 @@ unreachable-requires-in-Ghost g c =
     loading-not_ghost c.args.self.now.lists c.apart.ensures.apart (number c.args.token)
     c.take-slot.result.hash c.take-slot.result.entry c.take-slot.ensures.taken found.waiting
     found.stands found.named c.in-Ghost.is
-
--- without the placeholder the lists are sound
-pub returns-in-Loading-clause-sound : goal.returns-in-Loading-clause-sound
-returns-in-Loading-clause-sound g c =
-    let ticket_of = g.P.SharedPlaceholder.ticket_of in
-    let equal = g.K.PartialEq.eq in
-    let hashed = g.M.Policy.hashed c.args.terms.now in
-    let contents = c.args.self.now in
-    let t = number c.args.token in
-    let apart = c.apart.ensures.apart in
-    let found = c.requires.found in
-    subst (λ (l : Lists _ _ _). IsSound ticket_of equal hashed (record contents { lists = l }))
-    (sym c.take-slot.ensures.rest)
-    (left-sound ticket_of contents apart t found.waiting found.stands found.named equal hashed
-    c.requires.sound)
 
 -- or the one that tells of the pair
 pub returns-in-Loading-clause-fills : goal.returns-in-Loading-clause-fills
@@ -417,37 +358,107 @@ returns-in-Loading-clause-fills g c =
       );
     })
 
--- a pair that is turned away takes no work
-pub returns-in-Loading-clause-work : goal.returns-in-Loading-clause-work
-returns-in-Loading-clause-work g c =
-    WorksWithin-none c.args.self.now.mark_cut (ring_count Hot c.args.self.now + ring_count Cold c.args.self.now + 1)
-    (work_of c.args.self.now) (omega arith) (omega arith)
-
 -- the key of the placeholder stood nowhere
-pub returns-then-weight-gt0-clause-places : goal.returns-then-weight-gt0-clause-places
-returns-then-weight-gt0-clause-places g c =
+pub returns-then-weight-gt0-clause-stays : goal.returns-then-weight-gt0-clause-stays
+returns-then-weight-gt0-clause-stays g c =
+    let ticket_of = g.P.SharedPlaceholder.ticket_of in
+    let equal = g.K.PartialEq.eq in
+    let hashed = g.M.Policy.hashed c.args.terms.now in
+    let contents = c.args.self.now in
+    let t = number c.args.token in
+    let apart = c.apart.ensures.apart in
     let found = c.requires.found in
-    filled-keeps g.P.SharedPlaceholder.ticket_of c.args.self.now c.apart.ensures.apart
-    (number c.args.token) found.waiting found.stands found.named g.K.PartialEq.eq g.met.K.Eq.laws
-    (g.M.Policy.hashed c.args.terms.now) c.requires.sound
-    (filled c.if-hot_weight-from.queue c.mark_if-mark.result c.in-Admitted.weighed.weight
-    c.in-Admitted.weighed.value) (λ key. refl) c.fill.new.self c.fill.ensures
-    (places_of c.evict_to_capacity.new.self.lists) c.evict_to_capacity.ensures.places
+    let awaited = c.awaited-awaited.result in
+    let waiting : HeldLoading _ _ = record {
+      token = t;
+      hash = c.awaited-awaited.ensures.0;
+      key = awaited.key;
+      queue = awaited.queue;
+      placeholder = awaited.placeholder;
+    } in
+    let stands : StandsIn contents.lists.loading waiting = c.awaited-awaited.ensures.1 in
+    record {
+      sound = c.evict_to_capacity.ensures.stays.sound;
+      places = filled-keeps g.P.SharedPlaceholder.ticket_of c.args.self.now c.apart.ensures.apart
+          (number c.args.token) found.waiting found.stands found.named g.K.PartialEq.eq
+          g.met.K.Eq.laws
+          (g.M.Policy.hashed c.args.terms.now) c.requires.sound
+          (filled c.if-hot_weight-from.queue c.mark_if-mark.result c.in-Admitted.weighed.weight
+          c.in-Admitted.weighed.value) (λ key. refl) c.fill.new.self c.fill.ensures
+          (places_of c.evict_to_capacity.new.self.lists) c.evict_to_capacity.ensures.stays.places;
+      room = omega arith;
+      work = PaysFor-within _ _ _ _ _ _ _ _ (filled-count ticket_of contents apart t waiting stands
+          refl c.if-hot_weight-from.queue
+          c.mark_if-mark.result c.in-Admitted.weighed.weight c.in-Admitted.weighed.value
+          c.fill.new.self
+          c.fill.ensures)
+          c.evict_to_capacity.ensures.stays.work;
+      same = c.evict_to_capacity.ensures.stays.same;
+    }
 
-pub returns-else-weight-gt0-clause-places : goal.returns-else-weight-gt0-clause-places
-returns-else-weight-gt0-clause-places g c =
+pub returns-else-weight-gt0-clause-stays : goal.returns-else-weight-gt0-clause-stays
+returns-else-weight-gt0-clause-stays g c =
+    let ticket_of = g.P.SharedPlaceholder.ticket_of in
+    let equal = g.K.PartialEq.eq in
+    let hashed = g.M.Policy.hashed c.args.terms.now in
+    let contents = c.args.self.now in
+    let t = number c.args.token in
+    let apart = c.apart.ensures.apart in
     let found = c.requires.found in
-    filled-keeps g.P.SharedPlaceholder.ticket_of c.args.self.now c.apart.ensures.apart
-    (number c.args.token) found.waiting found.stands found.named g.K.PartialEq.eq g.met.K.Eq.laws
-    (g.M.Policy.hashed c.args.terms.now) c.requires.sound
-    (filled c.if-hot_weight-from.queue c.mark_if-mark.result c.in-Admitted.weighed.weight
-    c.in-Admitted.weighed.value) (λ key. refl) c.fill.new.self c.fill.ensures
-    (places_of c.fill.new.self) (λ place there. there)
+    let awaited = c.awaited-awaited.result in
+    let waiting : HeldLoading _ _ = record {
+      token = t;
+      hash = c.awaited-awaited.ensures.0;
+      key = awaited.key;
+      queue = awaited.queue;
+      placeholder = awaited.placeholder;
+    } in
+    let stands : StandsIn contents.lists.loading waiting = c.awaited-awaited.ensures.1 in
+    record {
+      sound = filled-sound ticket_of contents apart t waiting stands refl c.if-hot_weight-from.queue
+          c.mark_if-mark.result c.in-Admitted.weighed.weight c.in-Admitted.weighed.value
+          c.fill.new.self
+          c.fill.ensures equal g.met.K.Eq.laws hashed
+          (few contents.mark_cut c.requires.sound.sized.some_mark c.args.marked
+          c.mark_if-mark.result c.mark_if-mark.ensures) c.requires.sound;
+      places = filled-keeps g.P.SharedPlaceholder.ticket_of c.args.self.now c.apart.ensures.apart
+          (number c.args.token) found.waiting found.stands found.named g.K.PartialEq.eq
+          g.met.K.Eq.laws
+          (g.M.Policy.hashed c.args.terms.now) c.requires.sound
+          (filled c.if-hot_weight-from.queue c.mark_if-mark.result c.in-Admitted.weighed.weight
+          c.in-Admitted.weighed.value) (λ key. refl) c.fill.new.self c.fill.ensures
+          (places_of c.fill.new.self) (λ place there. there);
+      room = omega arith;
+      work = search rules;
+      same = search rules;
+    }
 
+-- without the placeholder the lists are sound
+-- a pair that is turned away takes no work
 -- the placeholder alone left
-pub returns-in-Loading-clause-places : goal.returns-in-Loading-clause-places
-returns-in-Loading-clause-places g c =
-    LosesOnly-keeps g.P.SharedPlaceholder.ticket_of c.args.self.now g.K.PartialEq.eq
-    g.met.K.Eq.laws c.requires.sound.valid (places_of c.take-slot.new.self)
-    (subst (λ (l : Lists _ _ _). LosesOnly (places_of c.args.self.now.lists) (places_of l))
-    (sym c.take-slot.ensures.rest) (without-places (number c.args.token) c.args.self.now.lists))
+pub returns-in-Loading-clause-stays : goal.returns-in-Loading-clause-stays
+returns-in-Loading-clause-stays g c =
+    let ticket_of = g.P.SharedPlaceholder.ticket_of in
+    let equal = g.K.PartialEq.eq in
+    let hashed = g.M.Policy.hashed c.args.terms.now in
+    let contents = c.args.self.now in
+    let t = number c.args.token in
+    let apart = c.apart.ensures.apart in
+    let found = c.requires.found in
+    record {
+      sound = subst (λ (l : Lists _ _ _). IsSound ticket_of equal hashed
+          (record contents { lists = l }))
+          (sym c.take-slot.ensures.rest)
+          (left-sound ticket_of contents apart t found.waiting found.stands found.named equal hashed
+          c.requires.sound);
+      places = LosesOnly-keeps g.P.SharedPlaceholder.ticket_of c.args.self.now g.K.PartialEq.eq
+          g.met.K.Eq.laws c.requires.sound.valid (places_of c.take-slot.new.self)
+          (subst (λ (l : Lists _ _ _). LosesOnly (places_of c.args.self.now.lists) (places_of l))
+          (sym c.take-slot.ensures.rest) (without-places (number c.args.token)
+          c.args.self.now.lists));
+      room = omega (arith, ap (λ (l : Lists _ _ _). l.room) c.take-slot.ensures.rest);
+      work = WorksWithin-none c.args.self.now.mark_cut (ring_count Hot c.args.self.now + ring_count
+          Cold c.args.self.now + 1)
+          (work_of c.args.self.now) (omega arith) (omega arith);
+      same = search rules;
+    }

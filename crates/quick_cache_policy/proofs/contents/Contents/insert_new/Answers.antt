@@ -18,6 +18,8 @@ use Rattle.quick_cache_policy.proofs.contents.Contents.insert_new.Goals.{then-ho
 use Rattle.std.proofs.Common.{inl, inr}
 use Rattle.quick_cache_policy.proofs.AdmissionLemmas.{Finds-no_item}
 use Rattle.quick_cache_policy.proofs.WrittenPlaces.{no-place, put-places}
+use Rattle.quick_cache_policy.specs.declared.contents.Contents.{Contents}
+use Rattle.quick_cache_policy.proofs.BoundLemmas.{PaysFor-within}
 use Rattle.quick_cache_policy.proofs.contents.Contents.insert_new.Goals as goal
 
 pub returns-clause-writes : goal.returns-clause-writes
@@ -64,7 +66,8 @@ returns-clause-writes g c =
             key value
             (HasNothing-state ticket_of (g.K.PartialEq.eq key) (rules.hash key) c.args.self.now
             under found)
-            c.evict_to_capacity.ensures.keys (number c.put.result) c.new-item.result c.put.new.self
+            c.evict_to_capacity.ensures.stays.keys (number c.put.result) c.new-item.result
+            c.put.new.self
             (subst (λ (h : ℕ). PutsLast {T = g.row.P-Touch.Denot} made.lists (number c.put.result) h
             (item_variant c.new-item.result) c.put.new.self) c.requires.hash_is c.put.ensures.last)
             (c.new-item.ensures ∙ (λ i. record c.new-item.result {
@@ -81,7 +84,8 @@ returns-clause-writes g c =
         new-tells ticket_of c.args.self.now made g.K.PartialEq.eq g.met.K.Eq.laws rules key value
             (HasNothing-state ticket_of (g.K.PartialEq.eq key) (rules.hash key) c.args.self.now
             under found)
-            c.evict_to_capacity.ensures.keys (number c.put.result) c.new-item.result c.put.new.self
+            c.evict_to_capacity.ensures.stays.keys (number c.put.result) c.new-item.result
+            c.put.new.self
             (subst (λ (h : ℕ). PutsLast {T = g.row.P-Touch.Denot} made.lists (number c.put.result) h
             (item_variant c.new-item.result) c.put.new.self) c.requires.hash_is c.put.ensures.last)
             (ap pair_of c.new-item.ensures) evicts.calls evicts.holds.2,
@@ -90,8 +94,9 @@ returns-clause-writes g c =
     }
 
 -- the key is nowhere where room was made, for making room brings none
-pub returns-clause-sound : goal.returns-clause-sound
-returns-clause-sound g c =
+-- the key stood nowhere
+pub returns-clause-stays : goal.returns-clause-stays
+returns-clause-stays g c =
     let rules = rules_by g.M.Policy g.P.Touch.Touches.may_count c.args.terms.now in
     let ticket_of = g.P.SharedPlaceholder.ticket_of in
     let key = c.args.key in
@@ -102,31 +107,36 @@ returns-clause-sound g c =
     let under = AreHashed-under (g.K.PartialEq.eq key) (rules.hash key) lists rules.hash
     (λ k same. sym (g.met.M.Policy.same_hash c.args.terms.now key k same))
     c.requires.sound.hashed in
-    new-sound ticket_of c.args.self.now made g.K.PartialEq.eq g.met.K.Eq.laws rules key
-    c.args.weighed.value
-    (HasNothing-state ticket_of (g.K.PartialEq.eq key) (rules.hash key) c.args.self.now under found)
-    c.evict_to_capacity.ensures.keys (number c.put.result) c.new-item.result c.put.new.self
-    (subst (λ (h : ℕ). PutsLast {T = g.row.P-Touch.Denot} made.lists (number c.put.result) h
-    (item_variant c.new-item.result) c.put.new.self) c.requires.hash_is c.put.ensures.last)
-    (ap (λ (i : Item _ _). i.key) c.new-item.ensures)
-    (ap (λ (i : Item _ _). i.mark) c.new-item.ensures) c.evict_to_capacity.ensures.sound
-
--- the key stood nowhere
-pub returns-clause-places : goal.returns-clause-places
-returns-clause-places g c = λ place there.
-    let key = c.args.key in
     let none = Finds-no_item g.P.SharedPlaceholder.ticket_of g.K.PartialEq.eq key c.args.hash
     c.args.self.now c.requires.sound.valid
     (AreHashed-under (g.K.PartialEq.eq key) c.args.hash c.args.self.now.lists
     (g.M.Policy.hashed c.args.terms.now)
     (λ k same. sym (c.requires.hash_is ∙ g.met.M.Policy.same_hash c.args.terms.now key k same))
     c.requires.sound.hashed) found_nothing c.requires.found (λ token e. absurd (cc)) in
-    elim (put-places {T = g.row.P-Touch.Denot} c.evict_to_capacity.new.self.lists c.put.new.self
-    (number c.put.result) c.args.hash c.new-item.result c.put.ensures.last place there) [
-      | inl stood ↦ inl (c.evict_to_capacity.ensures.places place stood)
-      | inr made ↦ inr (
-        ap (λ p. p.1) made ∙ ap (λ (i : Item _ _). i.key) c.new-item.ensures,
-        λ other there same. absurd (no-place g.P.SharedPlaceholder.ticket_of c.args.self.now
-            (g.K.PartialEq.eq key) none other there same),
-      )
-    ]
+    record {
+      sound = new-sound ticket_of c.args.self.now made g.K.PartialEq.eq g.met.K.Eq.laws rules key
+          c.args.weighed.value
+          (HasNothing-state ticket_of (g.K.PartialEq.eq key) (rules.hash key) c.args.self.now under
+          found)
+          c.evict_to_capacity.ensures.stays.keys (number c.put.result) c.new-item.result
+          c.put.new.self
+          (subst (λ (h : ℕ). PutsLast {T = g.row.P-Touch.Denot} made.lists (number c.put.result) h
+          (item_variant c.new-item.result) c.put.new.self) c.requires.hash_is c.put.ensures.last)
+          (ap (λ (i : Item _ _). i.key) c.new-item.ensures)
+          (ap (λ (i : Item _ _). i.mark) c.new-item.ensures)
+          c.evict_to_capacity.ensures.stays.sound;
+      places = λ place there. elim (put-places {T = g.row.P-Touch.Denot}
+          c.evict_to_capacity.new.self.lists c.put.new.self
+          (number c.put.result) c.args.hash c.new-item.result c.put.ensures.last place there) [
+            | inl stood ↦ inl (c.evict_to_capacity.ensures.stays.places place stood)
+            | inr made ↦ inr (
+              ap (λ p. p.1) made ∙ ap (λ (i : Item _ _). i.key) c.new-item.ensures,
+              λ other there same. absurd (no-place g.P.SharedPlaceholder.ticket_of c.args.self.now
+                  (g.K.PartialEq.eq key) none other there same),
+            )
+          ];
+      room = omega arith;
+      work = PaysFor-within _ _ _ _ _ _ _ _ (omega arith) c.evict_to_capacity.ensures.stays.work;
+      same = ap (λ (r : Contents _ _ _ _ _ _). record r { lists = c.put.new.self })
+          c.evict_to_capacity.ensures.stays.same;
+    }

@@ -27,4 +27,4 @@ returns-clause-acts g c =
 pub returns-clause-places : goal.returns-clause-places
 returns-clause-places g c = λ place there.
     subst (λ l. Contains l place) c.count_hit.ensures.places
-    (c.weigh_item.ensures.places place there)
+    (c.weigh_item.ensures.stays.places place there)

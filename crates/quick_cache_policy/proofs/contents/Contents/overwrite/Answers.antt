@@ -14,6 +14,7 @@ use Rattle.quick_cache_policy.specs.Contents.{state_of}
 use Rattle.quick_cache_policy.specs.Policies.{rules_by}
 use Rattle.quick_cache_policy.specs.Writing.{AreAdmittedCalls, IsReplacement, strategy_of}
 use Rattle.quick_cache_policy.proofs.RewriteLemmas.{over_item-same, over_item-writes, over_item-tells, over_item-sound, over_item-count}
+use Rattle.quick_cache_policy.proofs.EnterLemmas.{Rewrites-room}
 use Rattle.quick_cache_policy.proofs.BoundLemmas.{PaysFor-within}
 use Rattle.std.proofs.Common.{inl, inr}
 use Rattle.quick_cache_policy.proofs.WrittenPlaces.{rewritten-places, one-place, HasItem-place}
@@ -136,42 +137,44 @@ returns-clause-writes g c =
           c.args.state.now c.report.new.state c.evict_to_capacity.new.state told evicts.runs;
     }
 
-pub returns-clause-work : goal.returns-clause-work
-returns-clause-work g c =
+-- the item under the key stood at the token
+pub returns-clause-stays : goal.returns-clause-stays
+returns-clause-stays g c =
     let rules = rules_by g.M.Policy g.P.Touch.Touches.may_count c.args.terms.now in
     let key = c.args.key in
     let lists = c.args.self.now.lists in
     let token = number c.args.token in
     let was = c.rewrite.result in
-    let found = subst (λ h. Finds (g.K.PartialEq.eq key) h lists (found_item c.args.token))
-    c.requires.hash_is c.requires.found in
+    let found = c.requires.found in
+    let finds = subst (λ h. Finds (g.K.PartialEq.eq key) h lists (found_item c.args.token))
+    c.requires.hash_is found in
     let rewrites = subst (λ l. Rewrites l token c.new-item.result was c.rewrite.new.self)
     c.take_touch-touches.ensures.same c.rewrite.ensures in
-    PaysFor-within _ _ _ _ _ _ _ _
-    (over_item-count g.P.SharedPlaceholder.ticket_of c.args.self.now c.apart.ensures.apart
-    g.K.PartialEq.eq rules key token found c.new-item.result was c.rewrite.new.self rewrites)
-    c.evict_to_capacity.ensures.work
-
--- the item under the key stood at the token
-pub returns-clause-places : goal.returns-clause-places
-returns-clause-places g c = λ place there.
-    let key = c.args.key in
-    let lists = c.args.self.now.lists in
-    let token = number c.args.token in
-    let found = c.requires.found in
-    let rewrites = subst (λ l. Rewrites l token c.new-item.result c.rewrite.result
-    c.rewrite.new.self) c.take_touch-touches.ensures.same c.rewrite.ensures in
-    elim (rewritten-places lists c.rewrite.new.self token c.new-item.result c.rewrite.result rewrites
-    place (c.evict_to_capacity.ensures.places place there)) [
-      | inl stood ↦ inl stood
-      | inr made ↦ inr (
-        ap (λ p. p.1) made ∙ ap (λ (i : Item _ _). i.key) c.new-item.ensures,
-        λ other also same. ap (λ p. p.0)
-            (one-place g.P.SharedPlaceholder.ticket_of c.args.self.now g.K.PartialEq.eq
-            c.requires.sound.valid key other (token, found.item.key) also
-            (HasItem-place lists
-            (record { token = token; hash = c.args.hash; item = found.item }) found.stands)
-            same found.passes)
-            ∙ sym (ap (λ p. p.0) made),
-      )
-    ]
+    record {
+      sound = c.evict_to_capacity.ensures.stays.sound;
+      places = λ place there. elim (rewritten-places lists c.rewrite.new.self token
+          c.new-item.result was rewrites
+          place (c.evict_to_capacity.ensures.stays.places place there)) [
+            | inl stood ↦ inl stood
+            | inr made ↦ inr (
+              ap (λ p. p.1) made ∙ ap (λ (i : Item _ _). i.key) c.new-item.ensures,
+              λ other also same. ap (λ p. p.0)
+                  (one-place g.P.SharedPlaceholder.ticket_of c.args.self.now g.K.PartialEq.eq
+                  c.requires.sound.valid key other (token, found.item.key) also
+                  (HasItem-place lists
+                  (record { token = token; hash = c.args.hash; item = found.item }) found.stands)
+                  same found.passes)
+                  ∙ sym (ap (λ p. p.0) made),
+            )
+          ];
+      room = omega (
+        arith,
+        Rewrites-room lists c.rewrite.new.self token c.new-item.result was
+            rewrites,
+      );
+      work = PaysFor-within _ _ _ _ _ _ _ _
+          (over_item-count g.P.SharedPlaceholder.ticket_of c.args.self.now c.apart.ensures.apart
+          g.K.PartialEq.eq rules key token finds c.new-item.result was c.rewrite.new.self rewrites)
+          c.evict_to_capacity.ensures.stays.work;
+      same = c.evict_to_capacity.ensures.stays.same;
+    }

@@ -1,4 +1,4 @@
-use Rattle.std.proofs.Common.{◌-◌, [], refl, sym, ap, ◌∙◌, arith}
+use Rattle.std.proofs.Common.{rules, ◌-◌, [], refl, sym, ap, ◌∙◌, arith}
 use Rattle.std.specs.Int.NonZero.{non_zero_u32_get as number}
 use Rattle.quick_cache_model.specs.declared.queue.Queue.TheVariants.{Hot, Cold}
 use Rattle.quick_cache_model.specs.CacheState.{ring_place}
@@ -41,29 +41,9 @@ returns-clause-promotes g c =
     (omega (arith, c.saturating_sub-mark.ensures, c.mark.ensures, ap (λ i. i.mark) seen))
     c.requeue.ensures)
 
-pub returns-clause-sound : goal.returns-clause-sound
-returns-clause-sound g c =
-    let first = c.in-Some.ensures in
-    let contents = c.args.self.now in
-    let lists = contents.lists in
-    let t = number c.in-Some.token in
-    let seen = ap (λ (h : HeldItem _ _). h.item)
-    (first-item lists c.apart.ensures.apart first.0 first.1 Cold _ first.2 c.item-item.ensures.1
-    (sym first.3)) in
-    IsSound-promoted g.P.SharedPlaceholder.ticket_of contents first.0 first.1 g.K.PartialEq.eq
-    (g.M.Policy.hashed c.args.terms.now) c.requeue.new.self first.2
-    (Requeues-promotes lists c.requeue.new.self c.apart.ensures.apart first.0 first.1 t
-    c.saturating_sub-mark.result c.weight-weight.result first.2 first.3
-    (first_cold-weighs g.P.SharedPlaceholder.ticket_of contents first.0 first.1 g.K.PartialEq.eq
-    (g.M.Policy.hashed c.args.terms.now) first.2 c.requires.sound)
-    (c.weight-weight.ensures ∙ ap (λ i. i.weight) seen)
-    (omega (arith, c.saturating_sub-mark.ensures, c.mark.ensures, ap (λ i. i.mark) seen))
-    c.requeue.ensures)
-    c.requires.sound
-
 -- it takes its token along
-pub returns-clause-places : goal.returns-clause-places
-returns-clause-places g c =
+pub returns-clause-stays : goal.returns-clause-stays
+returns-clause-stays g c =
     let first = c.in-Some.ensures in
     let contents = c.args.self.now in
     let lists = contents.lists in
@@ -71,13 +51,32 @@ returns-clause-places g c =
     let seen = ap (λ (h : HeldItem _ _). h.item)
     (first-item lists c.apart.ensures.apart first.0 first.1 Cold _ first.2 c.item-item.ensures.1
     (sym first.3)) in
-    LosesOnly-promoted first.0
-    (record first.0 { item = record first.0.item { mark = first.0.item.mark - 1; queue = Hot } })
-    first.1 lists c.requeue.new.self first.2 refl
-    (Requeues-promotes lists c.requeue.new.self c.apart.ensures.apart first.0 first.1 t
-    c.saturating_sub-mark.result c.weight-weight.result first.2 first.3
-    (first_cold-weighs g.P.SharedPlaceholder.ticket_of contents first.0 first.1 g.K.PartialEq.eq
-    (g.M.Policy.hashed c.args.terms.now) first.2 c.requires.sound)
-    (c.weight-weight.ensures ∙ ap (λ i. i.weight) seen)
-    (omega (arith, c.saturating_sub-mark.ensures, c.mark.ensures, ap (λ i. i.mark) seen))
-    c.requeue.ensures)
+    record {
+      sound = IsSound-promoted g.P.SharedPlaceholder.ticket_of contents first.0 first.1
+          g.K.PartialEq.eq
+          (g.M.Policy.hashed c.args.terms.now) c.requeue.new.self first.2
+          (Requeues-promotes lists c.requeue.new.self c.apart.ensures.apart first.0 first.1 t
+          c.saturating_sub-mark.result c.weight-weight.result first.2 first.3
+          (first_cold-weighs g.P.SharedPlaceholder.ticket_of contents first.0 first.1
+          g.K.PartialEq.eq
+          (g.M.Policy.hashed c.args.terms.now) first.2 c.requires.sound)
+          (c.weight-weight.ensures ∙ ap (λ i. i.weight) seen)
+          (omega (arith, c.saturating_sub-mark.ensures, c.mark.ensures, ap (λ i. i.mark) seen))
+          c.requeue.ensures)
+          c.requires.sound;
+      places = LosesOnly-promoted first.0
+          (record first.0 {
+            item = record first.0.item { mark = first.0.item.mark - 1; queue = Hot };
+          })
+          first.1 lists c.requeue.new.self first.2 refl
+          (Requeues-promotes lists c.requeue.new.self c.apart.ensures.apart first.0 first.1 t
+          c.saturating_sub-mark.result c.weight-weight.result first.2 first.3
+          (first_cold-weighs g.P.SharedPlaceholder.ticket_of contents first.0 first.1
+          g.K.PartialEq.eq
+          (g.M.Policy.hashed c.args.terms.now) first.2 c.requires.sound)
+          (c.weight-weight.ensures ∙ ap (λ i. i.weight) seen)
+          (omega (arith, c.saturating_sub-mark.ensures, c.mark.ensures, ap (λ i. i.mark) seen))
+          c.requeue.ensures);
+      room = omega arith;
+      same = search rules;
+    }

@@ -1,4 +1,4 @@
-use Rattle.std.proofs.Common.{◌≡◌, ◌+◌, sym, ap, subst, ◌∙◌, arith, ◌==◌}
+use Rattle.std.proofs.Common.{◌+◌, sym, ap, subst, ◌∙◌, arith, ◌==◌}
 use Rattle.std.specs.Int.NonZero.{non_zero_u32_get as number}
 use Rattle.quick_cache_model.specs.declared.refusal.Refusal.TheVariants.{TicketsSpent}
 use Rattle.quick_cache_model.specs.Refusals.{IsProvided, MayRefuse, needs_of_replacement}

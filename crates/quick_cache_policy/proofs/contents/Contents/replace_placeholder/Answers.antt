@@ -25,17 +25,20 @@ returns-in_default-clause-fills g c =
     }
 
 -- and no work was done
-pub returns-in_default-clause-work : goal.returns-in_default-clause-work
-returns-in_default-clause-work g c = record {
-  advances = 0;
-  visits = 0;
-  does = DoesMore-none (work_of c.args.self.now) (search rules) (search rules);
-  few_advances = omega arith;
-  few_visits = omega arith;
-}
-
-pub returns-in_default-clause-places : goal.returns-in_default-clause-places
-returns-in_default-clause-places g c =
-    LosesOnly-keeps g.P.SharedPlaceholder.ticket_of c.args.self.now g.K.PartialEq.eq
-    g.met.K.Eq.laws c.requires.sound.valid (places_of c.args.self.now.lists)
-    (λ place there. there)
+pub returns-in_default-clause-stays : goal.returns-in_default-clause-stays
+returns-in_default-clause-stays g c =
+    record {
+      sound = search rules;
+      places = LosesOnly-keeps g.P.SharedPlaceholder.ticket_of c.args.self.now g.K.PartialEq.eq
+          g.met.K.Eq.laws c.requires.sound.valid (places_of c.args.self.now.lists)
+          (λ place there. there);
+      room = omega arith;
+      work = record {
+        advances = 0;
+        visits = 0;
+        does = DoesMore-none (work_of c.args.self.now) (search rules) (search rules);
+        few_advances = omega arith;
+        few_visits = omega arith;
+      };
+      same = search rules;
+    }

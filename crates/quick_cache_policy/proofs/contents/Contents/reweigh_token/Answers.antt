@@ -4,6 +4,7 @@ use Rattle.quick_cache_model.specs.CacheState.{Item}
 use Rattle.quick_cache_store.specs.Lists.{with_weight}
 use Rattle.quick_cache_policy.specs.Policies.{rules_by}
 use Rattle.quick_cache_policy.proofs.ReferenceLemmas.{found-value, reweighed-under, reweighed-sound}
+use Rattle.quick_cache_policy.proofs.EnterLemmas.{Rewrites-room}
 use Rattle.quick_cache_policy.proofs.KeptPlaces.{reweighed-places}
 use Rattle.quick_cache_policy.proofs.ThereLemmas.{rewritten-there}
 use Rattle.quick_cache_policy.proofs.contents.Contents.reweigh_token.Goals as goal
@@ -23,23 +24,26 @@ returns-clause-reweighs g c = λ stands_for hash found.
     stands_for hash found g.K.PartialEq.eq g.met.K.Eq.laws rules c.requires.sound
     c.reweigh.new.self c.weigh-weight.result weight c.reweigh.ensures
 
-pub returns-clause-sound : goal.returns-clause-sound
-returns-clause-sound g c =
+pub returns-clause-stays : goal.returns-clause-stays
+returns-clause-stays g c =
     let rules = rules_by g.M.Policy g.P.Touch.Touches.may_count c.args.terms.now in
     let t = number c.args.token in
     let is = c.item-item.ensures in
     let weight : c.weigh-weight.result
     ≡ rules.weight c.item-item.result.key c.item-item.result.value =
     c.weigh-weight.ensures ∙ (λ i. rules.weight (c.key.ensures i) (c.value.ensures i)) in
-    reweighed-sound g.P.SharedPlaceholder.ticket_of c.args.self.now c.apart.ensures.apart t
-    (λ key. true) is.0 (record { item = c.item-item.result; stands = is.1; passes = refl })
-    g.K.PartialEq.eq g.met.K.Eq.laws rules c.requires.sound
-    c.reweigh.new.self c.weigh-weight.result weight c.reweigh.ensures
-
-pub returns-clause-places : goal.returns-clause-places
-returns-clause-places g c =
-    reweighed-places c.args.self.now.lists c.reweigh.new.self (number c.args.token)
-    c.weigh-weight.result c.reweigh.ensures
+    record {
+      sound = reweighed-sound g.P.SharedPlaceholder.ticket_of c.args.self.now c.apart.ensures.apart
+          t
+          (λ key. true) is.0 (record { item = c.item-item.result; stands = is.1; passes = refl })
+          g.K.PartialEq.eq g.met.K.Eq.laws rules c.requires.sound
+          c.reweigh.new.self c.weigh-weight.result weight c.reweigh.ensures;
+      places = reweighed-places c.args.self.now.lists c.reweigh.new.self (number c.args.token)
+          c.weigh-weight.result c.reweigh.ensures;
+      room = Rewrites-room c.args.self.now.lists c.reweigh.new.self (number c.args.token) _ _
+          c.reweigh.ensures.1;
+      same = refl;
+    }
 
 pub returns-clause-there : goal.returns-clause-there
 returns-clause-there g c =

@@ -75,9 +75,9 @@ returns-clause-work g c =
       ap (λ (s : Contents _ _ _ _ _ _). ring_count Hot s) same,
       ap (λ (s : Contents _ _ _ _ _ _). ring_count Cold s) same,
     ))
-    c.evict_to_capacity.ensures.work))
+    c.evict_to_capacity.ensures.stays.work))
 
 pub returns-clause-places : goal.returns-clause-places
 returns-clause-places g c = λ place there.
     subst (λ (r : Contents _ _ _ _ _ _). Contains (places_of r.lists) place)
-    c.forget_ghosts.ensures.same (c.evict_to_capacity.ensures.places place there)
+    c.forget_ghosts.ensures.same (c.evict_to_capacity.ensures.stays.places place there)

@@ -1,8 +1,9 @@
-use Rattle.std.proofs.Common.{◌≡◌, ◌∙◌, ap}
+use Rattle.std.proofs.Common.{refl, ◌≡◌, ◌∙◌, ap}
 use Rattle.std.specs.Int.NonZero.{non_zero_u32_get as number}
 use Rattle.quick_cache_model.specs.CacheState.{Item}
 use Rattle.quick_cache_policy.specs.Policies.{rules_by}
 use Rattle.quick_cache_policy.proofs.ReferenceLemmas.{found-value, reweighed-under, reweighed-there, reweighed-sound}
+use Rattle.quick_cache_policy.proofs.EnterLemmas.{Rewrites-room}
 use Rattle.quick_cache_policy.proofs.KeptPlaces.{reweighed-places}
 use Rattle.quick_cache_policy.proofs.contents.Contents.weigh_item.Goals as goal
 
@@ -38,8 +39,8 @@ returns-clause-there g c =
     stands_for c.args.hash found g.K.PartialEq.eq g.met.K.Eq.laws rules c.requires.sound
     c.reweigh.new.self c.weigh-weight.result weight c.reweigh.ensures
 
-pub returns-clause-sound : goal.returns-clause-sound
-returns-clause-sound g c =
+pub returns-clause-stays : goal.returns-clause-stays
+returns-clause-stays g c =
     let rules = rules_by g.M.Policy g.P.Touch.Touches.may_count c.args.terms.now in
     let found = c.requires.found in
     let stands_for = g.Q.Equivalent.equivalent c.args._query.now in
@@ -50,11 +51,14 @@ returns-clause-sound g c =
     c.weigh-weight.ensures
     ∙ (λ i. rules.weight (c.key.ensures i) (c.value.ensures i))
     ∙ ap (λ (item : Item g.row.K.Denot g.row.V.Denot). rules.weight item.key item.value) same in
-    reweighed-sound g.P.SharedPlaceholder.ticket_of c.args.self.now c.apart.ensures.apart t
-    stands_for c.args.hash found g.K.PartialEq.eq g.met.K.Eq.laws rules c.requires.sound
-    c.reweigh.new.self c.weigh-weight.result weight c.reweigh.ensures
-
-pub returns-clause-places : goal.returns-clause-places
-returns-clause-places g c =
-    reweighed-places c.args.self.now.lists c.reweigh.new.self (number c.args.token)
-    c.weigh-weight.result c.reweigh.ensures
+    record {
+      sound = reweighed-sound g.P.SharedPlaceholder.ticket_of c.args.self.now c.apart.ensures.apart
+          t
+          stands_for c.args.hash found g.K.PartialEq.eq g.met.K.Eq.laws rules c.requires.sound
+          c.reweigh.new.self c.weigh-weight.result weight c.reweigh.ensures;
+      places = reweighed-places c.args.self.now.lists c.reweigh.new.self (number c.args.token)
+          c.weigh-weight.result c.reweigh.ensures;
+      room = Rewrites-room c.args.self.now.lists c.reweigh.new.self (number c.args.token) _ _
+          c.reweigh.ensures.1;
+      same = refl;
+    }

@@ -1,4 +1,4 @@
-use Rattle.std.proofs.Common.{◌+◌, sym, ap, subst, arith, inl}
+use Rattle.std.proofs.Common.{rules, ◌+◌, sym, ap, subst, arith, inl}
 use Rattle.quick_cache_model.specs.declared.queue.Queue.TheVariants.{Hot, Cold}
 use Rattle.quick_cache_policy.specs.Work.{WorksWithin}
 use Rattle.quick_cache_policy.specs.Contents.{state_of, ring_count, work_of}
@@ -35,14 +35,18 @@ returns-in-TooHeavy-clause-writes g c =
     c.in-TooHeavy.ensures.checks c.reject_too_heavy.ensures.rejects
 
 -- a rejection takes no work
-pub returns-in-TooHeavy-clause-work : goal.returns-in-TooHeavy-clause-work
-returns-in-TooHeavy-clause-work g c =
+pub returns-in-TooHeavy-clause-stays : goal.returns-in-TooHeavy-clause-stays
+returns-in-TooHeavy-clause-stays g c =
     let old = c.args.self.now in
-    subst (WorksWithin old.mark_cut (ring_count Hot old + ring_count Cold old + 1) (work_of old))
-    (sym (ap work_of c.reject_too_heavy.ensures.same))
-    (WorksWithin-none old.mark_cut (ring_count Hot old + ring_count Cold old + 1) (work_of old) (omega arith)
-    (omega arith))
-
-pub returns-in-TooHeavy-clause-places : goal.returns-in-TooHeavy-clause-places
-returns-in-TooHeavy-clause-places g c = λ place there.
-    inl (c.reject_too_heavy.ensures.places place there)
+    record {
+      sound = search rules;
+      places = λ place there. inl (c.reject_too_heavy.ensures.stays.places place there);
+      room = omega arith;
+      work = subst (WorksWithin old.mark_cut (ring_count Hot old + ring_count Cold old + 1)
+          (work_of old))
+          (sym (ap work_of c.reject_too_heavy.ensures.stays.same))
+          (WorksWithin-none old.mark_cut (ring_count Hot old + ring_count Cold old + 1)
+          (work_of old) (omega arith)
+          (omega arith));
+      same = search rules;
+    }

@@ -5,4 +5,4 @@ pub returns-clause-fills : goal.returns-clause-fills
 returns-clause-fills g c = rw (← c.self.view_is) c.replace_placeholder-answer.ensures.fills
 
 pub returns-clause-places : goal.returns-clause-places
-returns-clause-places g c = rw (← c.self.view_is) c.replace_placeholder-answer.ensures.places
+returns-clause-places g c = rw (← c.self.view_is) c.replace_placeholder-answer.ensures.stays.places

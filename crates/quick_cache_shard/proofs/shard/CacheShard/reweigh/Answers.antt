@@ -16,4 +16,4 @@ pub returns-clause-reweighs : goal.returns-clause-reweighs
 returns-clause-reweighs g c = rw (← c.self.view_is) c.reweigh.ensures.reweighs
 
 pub returns-clause-places : goal.returns-clause-places
-returns-clause-places g c = rw (← c.self.view_is) c.reweigh.ensures.places
+returns-clause-places g c = rw (← c.self.view_is) c.reweigh.ensures.stays.places

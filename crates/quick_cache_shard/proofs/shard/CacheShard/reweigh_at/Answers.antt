@@ -18,7 +18,7 @@ returns-clause-reweighs g c = rw (← c.self.view_is) (λ stands_for under.
     c.reweigh_token.ensures.reweighs stands_for found.0 found.1)
 
 pub returns-clause-places : goal.returns-clause-places
-returns-clause-places g c = rw (← c.self.view_is) c.reweigh_token.ensures.places
+returns-clause-places g c = rw (← c.self.view_is) c.reweigh_token.ensures.stays.places
 
 pub returns-clause-there : goal.returns-clause-there
 returns-clause-there g c =
