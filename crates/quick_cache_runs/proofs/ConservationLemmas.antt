@@ -8,7 +8,7 @@ use Rattle.quick_cache_model.specs.declared.calls.call.Call.{Call}
 use Rattle.quick_cache_model.specs.declared.calls.reply.Reply.{Reply}
 use Rattle.quick_cache_model.specs.CacheRun.{RunsCalls}
 use Rattle.quick_cache_runs.specs.Conservation.{ConservesCalls}
-use Rattle.quick_cache_runs.proofs.Runs.{CacheRun-conserves}
+use Rattle.quick_cache_runs.proofs.RunBooks.{CacheRun-conserves}
 
 module _ {K V F M : Type 0} (rules : Rules K V) (equal : K → K → Bool)
     (laws : IsEquivalence equal) (shows_key : K → K → Type 0) (shows : V → V → Type 0)

@@ -8,7 +8,7 @@ mod Writes
 mod Fills
 mod Quiet
 mod Steps
-mod Runs
+mod RunBooks
 pub mod ConservationLemmas
 mod Examples
 mod FreshCalls

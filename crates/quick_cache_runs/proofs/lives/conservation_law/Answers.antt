@@ -1,6 +1,6 @@
 use Rattle.quick_cache_runs.proofs.Books.{book_of}
 use Rattle.quick_cache_runs.proofs.Residents.{value_of_key}
-use Rattle.quick_cache_runs.proofs.Runs.{CacheRun-conserves}
+use Rattle.quick_cache_runs.proofs.RunBooks.{CacheRun-conserves}
 use Rattle.quick_cache_runs.proofs.lives.conservation_law.Goals as goal
 
 pub returns-clause-opens : goal.returns-clause-opens
