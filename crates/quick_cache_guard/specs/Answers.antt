@@ -1,7 +1,7 @@
 -- What one who asks for a value is answered.
 use Rattle.std.specs.Prelude.{⊤, Bool, true, false, Option, Some, None, Result, Ok, Err}
 use Rattle.quick_cache_model.specs.declared.refusal.Refusal.{Refusal}
-use Rattle.quick_cache_loading.specs.Waiters.{IsLoadRefusal}
+pub use Rattle.quick_cache_loading.specs.Waiters.{IsLoadRefusal}
 use Rattle.quick_cache_loading.specs.declared.waiting.waited.Waited.{Waited}
 use Rattle.quick_cache_loading.specs.declared.waiting.waited.Waited.TheVariants as waited
 use Rattle.quick_cache_guard.specs.declared.results.GuardResult.{GuardResult}

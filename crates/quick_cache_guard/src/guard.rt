@@ -172,7 +172,7 @@ impl<
             }
         };
         let named = SharedPlaceholder::named(&placeholder);
-        let put = shard.write(rt).fill(&named, filled, &key, value, state);
+        let put = filled.settle(&mut *shard.write(rt), &named, &key, value, state);
         match put {
             Ok(()) => Ok(()),
             Err(value) => Err(FillError::Gone(value)),

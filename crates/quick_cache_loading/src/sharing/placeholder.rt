@@ -14,7 +14,7 @@ use futures::task::{Context, Source};
 use quick_cache_model::{Equivalent, Lifecycle, Token};
 use std::alloc::{Allocator, Global};
 use std::hash::Hash;
-use std::sync::{Condvar, Mutex, MutexGuard, Wait};
+use std::sync::{Condvar, Mutex, Wait};
 use std::time::Clock;
 
 /// A key that is being loaded. Its state lies behind a lock of its own, which is never held while
@@ -62,11 +62,6 @@ impl<K: Eq + Drop, V: Drop, L: Lifecycle<K, V>, A: Allocator> Placeholder<K, V, 
             state: Mutex::new(state),
             ready: Condvar::new(),
         }
-    }
-
-    /// Its state, for as long as the lock is held.
-    pub fn state<R: Wait>(&self, rt: &R) -> MutexGuard<'_, State<K, V, L, A>> {
-        self.state.lock(rt)
     }
 
     /// Hands the guard of a share on where anyone waits. Else the share comes back: a guard is given
@@ -122,7 +117,7 @@ impl<K: Eq + Hash + Drop, V: Clone, L: Lifecycle<K, V>, A: Allocator> Placeholde
         drop(state);
         self.ready.notify_all();
         if let Some(ended) = ended {
-            locked.give_up(&SharedPlaceholder::named(self), ended);
+            ended.settle(locked, &SharedPlaceholder::named(self));
         }
     }
 
@@ -143,7 +138,7 @@ impl<K: Eq + Hash + Drop, V: Clone, L: Lifecycle<K, V>, A: Allocator> Placeholde
         drop(state);
         self.ready.notify_all();
         if let Some(ended) = ended {
-            locked.give_up(&SharedPlaceholder::named(self), ended);
+            ended.settle(locked, &SharedPlaceholder::named(self));
         }
     }
 

@@ -69,20 +69,20 @@ pub trait LoadingShard<K: Eq + Hash + Drop, V: Clone, L: Lifecycle<K, V>, A: All
     fn fill(
         &mut self,
         placeholder: &SharedPlaceholder<K, V, L, A>,
-        filled: Filled,
+        filled: &Filled,
         key: &K,
         value: V,
         state: &mut L::RequestState,
     ) -> Result<(), V>
         requires fits { L.fits key.now value }
-        requires filled { filled.ticket ≡ placeholder.now.ticket }
+        requires filled { filled.now.ticket ≡ placeholder.now.ticket }
         ensures back { IfErr result (λ back. back ≡ value) }
         ensures unchanged { OnErr result (state.new ≡ state.old) }
         ensures told { OnOk result
-            (fills filled.ticket filled.waited key.now value state.old state.new) };
+            (fills filled.now.ticket filled.now.waited key.now value state.old state.new) };
 
     /// Takes the placeholder out whose life has ended, if it is there.
-    fn give_up(&mut self, placeholder: &SharedPlaceholder<K, V, L, A>, ended: Ended)
-        requires ended { ended.ticket ≡ placeholder.now.ticket }
-        ensures gives_up { gives_up ended.ticket self.old self.new };
+    fn give_up(&mut self, placeholder: &SharedPlaceholder<K, V, L, A>, ended: &Ended)
+        requires ended { ended.now.ticket ≡ placeholder.now.ticket }
+        ensures gives_up { gives_up ended.now.ticket self.old self.new };
 }
