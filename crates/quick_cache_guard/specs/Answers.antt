@@ -1,6 +1,7 @@
 -- What one who asks for a value is answered.
-use Rattle.std.specs.Prelude.{⊤, Option, Some, None, Result, Ok, Err}
+use Rattle.std.specs.Prelude.{⊤, Bool, true, false, Option, Some, None, Result, Ok, Err}
 use Rattle.quick_cache_model.specs.declared.refusal.Refusal.{Refusal}
+pub use Rattle.quick_cache_loading.specs.Waiters.{IsLoadRefusal}
 use Rattle.quick_cache_loading.specs.declared.waiting.waited.Waited.{Waited}
 use Rattle.quick_cache_loading.specs.declared.waiting.waited.Waited.TheVariants as waited
 use Rattle.quick_cache_guard.specs.declared.results.GuardResult.{GuardResult}
@@ -39,3 +40,18 @@ abbrev pub IfGiven : {V G : Type 0} → (V → Type 0) → (G → Type 0)
 IfGiven P R (Ok (Ok value)) = P value
 IfGiven P R (Ok (Err guard)) = R guard
 IfGiven P R (Err refusal) = ⊤
+
+-- it is refused only for what a load may be refused for
+abbrev pub RefusesAsLoad : {V G : Type 0} → GuardResult V G → Type 0
+RefusesAsLoad (guard_result.Refused refusal) = IsLoadRefusal refusal
+RefusesAsLoad _ = ⊤
+
+-- the time was over
+abbrev pub is_timeout : {V G : Type 0} → GuardResult V G → Bool
+is_timeout guard_result.Timeout = true
+is_timeout _ = false
+
+-- a future is refused only for what a load may be refused for
+abbrev pub IsRefusedAsLoad : {V G : Type 0} → Result (Result V G) Refusal → Type 0
+IsRefusedAsLoad (Ok given) = ⊤
+IsRefusedAsLoad (Err refusal) = IsLoadRefusal refusal

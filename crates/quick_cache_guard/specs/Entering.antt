@@ -1,5 +1,5 @@
 -- What a contract sees of a future that acts on an entry.
-use Rattle.std.specs.Prelude.{◌≡◌, ⊤, ℕ, Bool, Option, Some, None, IsSomeAnd}
+use Rattle.std.specs.Prelude.{◌≡◌, ⊤, ℕ, Bool, Option, Some, None, IsSome, IsSomeAnd}
 use Rattle.quick_cache_guard.specs.Futures.{Joining}
 use Rattle.quick_cache_guard.specs.declared.results.EntryResult.{EntryResult}
 use Rattle.quick_cache_guard.specs.declared.results.EntryResult.TheVariants as entry_result
@@ -16,6 +16,10 @@ pub record EntryState (Q F : Type 0) : Type 0 where
 abbrev pub WaitsFor : {Q F : Type 0} → EntryState Q F → ℕ → Type 0
 WaitsFor state s =
     IsSomeAnd state.joining (λ joining. IsSomeAnd joining.source (λ source. s ≡ source))
+
+-- it has its place among those who wait
+abbrev pub HasPlace : {Q F : Type 0} → EntryState Q F → Type 0
+HasPlace state = IsSomeAnd state.joining (λ joining. IsSome joining.source)
 
 -- What one answers who has no time limit: of a value that it gives back the first is true, of what
 -- the callback told the second, and of a guard, which is seen as its key, the third. It is never

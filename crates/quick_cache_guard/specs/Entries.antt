@@ -1,7 +1,8 @@
 -- What an entry call answers.
-use Rattle.std.specs.Prelude.{◌≡◌, ◌⊎◌, ⊤, Bool, Option, Some, None, Result, Ok, Err}
+use Rattle.std.specs.Prelude.{◌≡◌, ◌⊎◌, ⊤, Bool, true, false, Option, Some, None, Result, Ok, Err}
 use denote.Ref.{Bor, MutBor}
 use denote.Param.Members.{Mut}
+use Rattle.quick_cache_loading.specs.Waiters.{IsLoadRefusal}
 use Rattle.quick_cache_guard.specs.declared.results.EntryResult.{EntryResult}
 use Rattle.quick_cache_guard.specs.declared.results.EntryResult.TheVariants as entry_result
 use Rattle.quick_cache_model.specs.declared.calls.entry.EntryAction.{EntryAction}
@@ -25,6 +26,16 @@ module _ {T K V G : Type 0} where
   IfGuarded (entry_result.Replaced guard value) P = P guard
   IfGuarded (entry_result.Vacant guard) P = P guard
   IfGuarded _ P = ⊤
+
+  -- it is refused only for what a load may be refused for
+  abbrev pub IsRefusedAsLoad : EntryResult T K V G → Type 0
+  IsRefusedAsLoad (entry_result.Refused refusal) = IsLoadRefusal refusal
+  IsRefusedAsLoad _ = ⊤
+
+  -- the time was over
+  abbrev pub is_late : EntryResult T K V G → Bool
+  is_late entry_result.Timeout = true
+  is_late _ = false
 
 -- of one who came to the shard: what it answers, where it neither waits nor looks again
 abbrev pub IfAnswered : {W E : Type 0} → Result W (Option E) → (E → Type 0) → Type 0

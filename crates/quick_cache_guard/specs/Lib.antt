@@ -1,4 +1,3 @@
-pub mod Begins
 pub mod Fills
 pub mod Answers
 pub mod Futures

@@ -1,30 +1,31 @@
 //! One who comes to a shard for the value of a key: it waits, or is told at once.
-ghost use Rattle.std.specs.Prelude.{◌≡◌, true, IfOk, IfErr, IfSome};
+ghost use Rattle.std.specs.Prelude.{◌≡◌, true, false, IfOk, IfErr, IfSome, IsErr, is_some};
 ghost use Rattle.std.specs.Arc.{arc_value};
 ghost use Rattle.quick_cache_loading.specs.Waiters.{IfGuard as IfShare};
 ghost use Rattle.quick_cache_loading.specs.Fitting.{ClonesFit, FitsQuery};
-ghost use Rattle.quick_cache_guard.specs.Answers.{IfValue, IfGuard, answer_of, output_of};
+ghost use Rattle.quick_cache_guard.specs.Answers.{IfValue, IfGuard, RefusesAsLoad, answer_of, is_timeout, output_of};
+ghost use Rattle.quick_cache_loading.specs.Turns.{none_left};
 
 use crate::guard::PlaceholderGuard;
 use crate::results::GuardResult;
-use crate::shard::{Begun, LoadingShard};
-use quick_cache_loading::sharing::{Placeholder, Turns};
-use quick_cache_loading::waiting::Waited;
+use quick_cache_loading::sharing::{Begun, LoadingShard, Placeholder, Turns};
+use quick_cache_loading::waiting::{Place, Waited};
 use quick_cache_model::{Lifecycle, Refusal, ToKey};
 use std::alloc::Allocator;
 use std::hash::Hash;
 use std::sync::{Arc, RwLock, Wait};
 use std::time::Clock;
 
-/// One who waits at a placeholder, with a copy of the key for the guard that it may get.
-#[derive(Drop)]
+/// One who waits at a placeholder, with a copy of the key for the guard that it may get. It has no
+/// drop: its place is given back.
 pub struct Waiting<K: Eq + Drop, V: Drop, L: Lifecycle<K, V>, A: Allocator> {
     /// Where it waits.
     pub placeholder: Arc<Placeholder<K, V, L, A>, A>,
-    /// Its number there.
-    pub waiter: u64,
+    /// Its place there.
+    pub place: Place,
     /// The copy of the key.
     pub key: K,
+    ghost of_ticket: { place.ticket ≡ (arc_value placeholder).ticket },
 }
 
 /// What one answers who is told this. Nothing is answered where it has to look again.
@@ -90,6 +91,10 @@ pub fn come<
         (λ value. FitsQuery L.fits (Q.equivalent query.now) value))) }
     ensures key { IfErr result (λ told. IfSome told (λ answer. IfGuard answer
         (λ key. Q.to_key_gives query.now key))) }
+    ensures over { is_over ≡ true → IsErr result }
+    ensures refused { IfErr result (λ told. IfSome told RefusesAsLoad) }
+    ensures timely { is_over ≡ false
+        → IfErr result (λ told. IfSome told (λ answer. is_timeout answer ≡ false)) }
 {
     let key = match query.to_key() {
         Ok(key) => key,
@@ -104,12 +109,12 @@ pub fn come<
     let Some(placeholder) = shared.placeholder() else {
         return Err(Some(GuardResult::Refused(Refusal::Memory)));
     };
-    let entered = placeholder.enter(rt, query, is_task, is_over);
+    let entered = placeholder.enter(rt, &mut *locked, query, is_task, is_over);
     drop(locked);
     match entered {
-        Ok(waiter) => Ok(Waiting {
+        Ok(place) => Ok(Waiting {
             placeholder,
-            waiter,
+            place,
             key,
         }),
         Err(told) => Err(answer(rt, shard, placeholder, key, told)),
@@ -138,16 +143,18 @@ pub fn come_and_wait<
         (λ value. FitsQuery L.fits (Q.equivalent query.now) value)) }
     ensures key { IfSome result (λ answer. IfGuard answer
         (λ key. Q.to_key_gives query.now key)) }
+    ensures refused { IfSome result RefusesAsLoad }
+    ensures timely { IfSome result (λ answer. is_timeout answer ≡ false) }
 {
     match come(rt, shard, query, false, false) {
         Ok(
             Waiting {
                 placeholder,
-                waiter,
+                place,
                 key,
             },
         ) => {
-            let told = placeholder.wait(rt, waiter, query);
+            let told = placeholder.wait(rt, place, query);
             answer(rt, shard, placeholder, key, told)
         }
         Err(told) => told,
@@ -177,16 +184,21 @@ pub fn come_and_wait_within<
         (λ value. FitsQuery L.fits (Q.equivalent query.now) value)) }
     ensures key { IfSome result (λ answer. IfGuard answer
         (λ key. Q.to_key_gives query.now key)) }
+    ensures refused { IfSome result RefusesAsLoad }
+    // Its time is over only where no turn is left.
+    ensures timely { IfSome result (λ answer. is_timeout answer ≡ true
+        → none_left turns.new.left ≡ true) }
+    ensures counted { is_some turns.new.left ≡ is_some turns.old.left }
 {
     match come(rt, shard, query, false, turns.is_over()) {
         Ok(
             Waiting {
                 placeholder,
-                waiter,
+                place,
                 key,
             },
         ) => {
-            let told = placeholder.wait_within(rt, waiter, query, turns);
+            let told = placeholder.wait_within(rt, place, query, turns);
             answer(rt, shard, placeholder, key, told)
         }
         Err(told) => told,

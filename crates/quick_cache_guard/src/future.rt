@@ -1,22 +1,22 @@
 //! A value, or the guard of a key that is absent, for a task, which waits without a thread.
-ghost use Rattle.std.specs.Prelude.{◌≡◌, true, Some};
+ghost use Rattle.std.specs.Prelude.{◌≡◌, ◌⊎◌, true, false, Some, None, IsSome};
 ghost use Rattle.std.specs.Option.{IfSome, IsSomeAnd};
 ghost use Rattle.futures.specs.Poll.{IfReady, OnPending};
 ghost use Rattle.futures.specs.Task.{Covers, Keeps};
 ghost use Rattle.quick_cache_loading.specs.Fitting.{ClonesFit, FitsQuery};
-ghost use Rattle.quick_cache_guard.specs.Answers.{IfGiven, IfGuard, IfValue};
+ghost use Rattle.quick_cache_guard.specs.Answers.{IfGiven, IfGuard, IfValue, IsRefusedAsLoad, RefusesAsLoad};
 
 use crate::coming::{Waiting, answer, come, output};
 use crate::guard::PlaceholderGuard;
 use crate::results::GuardResult;
-use crate::shard::LoadingShard;
 use futures::Future;
 use futures::task::{Context, Poll};
-use quick_cache_loading::sharing::SharedPlaceholder;
+use quick_cache_loading::sharing::LoadingShard;
 use quick_cache_model::{Lifecycle, Refusal, ToKey};
 use std::alloc::{Allocator, Global};
 use std::hash::Hash;
 use std::marker::Model;
+use std::mem::replace;
 use std::sync::{RwLock, Wait};
 
 /// Gives the value under the query's key, or the right to load it.
@@ -61,6 +61,7 @@ impl<
     ghost view = { λ f. record {
       query = f.query.now;
       source = read_off f.waiting (λ waiting. (arc_value waiting.placeholder).source.id);
+      is_finished = f.is_finished;
     } };
 
     ghost invariant = { λ f. ((key : K) → Q.to_key_gives f.query.now key
@@ -85,11 +86,15 @@ impl<
             waiting,
             is_finished: _,
         } = self;
-        if let Some(waiting) = waiting {
-            let mut locked = shard.write(rt);
-            if waiting.placeholder.withdraw(rt, waiting.waiter) {
-                locked.give_up(&SharedPlaceholder::named(&waiting.placeholder));
-            }
+        if let Some(
+            Waiting {
+                placeholder,
+                place,
+                key: _key,
+            },
+        ) = waiting
+        {
+            placeholder.withdraw(rt, &mut *shard.write(rt), place);
         }
     }
 }
@@ -109,6 +114,7 @@ impl<
         requires stands { (key : K) → Q.to_key_gives query.now key
             → Q.equivalent query.now key ≡ true }
         ensures query { result.query ≡ query.now }
+        ensures begins { result.is_finished ≡ false }
     {
         JoinFuture {
             rt,
@@ -130,6 +136,7 @@ impl<
             → Q.equivalent query.now key ≡ true }
         requires keyed { Q.to_key_gives query.now waiting.key }
         ensures query { result.query ≡ query.now }
+        ensures begins { result.is_finished ≡ false }
     {
         JoinFuture {
             rt,
@@ -149,6 +156,15 @@ impl<
             (λ value. ClonesFit L.fits V.is_clone
             → FitsQuery L.fits (Q.equivalent self.old.query) value)
             (λ key. Q.to_key_gives self.old.query key) output) }
+        // It answers once, and is refused as a load is; then it is refused as `Finished`.
+        ensures finished { IfReady result (λ output. self.new.is_finished ≡ true) }
+        ensures refused { self.old.is_finished ≡ true
+            → result ≡ Poll.Ready (Err Refusal.Finished) }
+        ensures unfinished { self.old.is_finished ≡ false → IfReady result IsRefusedAsLoad }
+        ensures goes_on { OnPending result (self.new.is_finished ≡ self.old.is_finished) }
+        // A pending poll has its place, or has asked for another.
+        ensures place { OnPending result
+            ((cx.new.is_woken ≡ true) ⊎ IsSome self.new.source) }
         ensures query { self.new.query ≡ self.old.query }
         ensures registered { OnPending result
             (Covers cx.new (λ s. IsSomeAnd self.new.source (λ source. s ≡ source))) }
@@ -173,29 +189,40 @@ impl<
         cx: &mut Context<'_>,
     ) -> Poll<Result<Result<V, PlaceholderGuard<'a, K, V, L, S, R, A>>, Refusal>>
         requires keyed { Q.to_key_gives self.old.query waiting.key }
+        requires none { self.old.source ≡ None }
         ensures value { IfReady result (λ output. IfGiven
             (λ value. ClonesFit L.fits V.is_clone
             → FitsQuery L.fits (Q.equivalent self.old.query) value)
             (λ key. Q.to_key_gives self.old.query key) output) }
+        ensures finished { IfReady result (λ output. self.new.is_finished ≡ true) }
+        ensures unfinished { IfReady result IsRefusedAsLoad }
+        ensures goes_on { OnPending result (self.new.is_finished ≡ self.old.is_finished) }
+        ensures place { OnPending result
+            ((cx.new.is_woken ≡ true) ⊎ IsSome self.new.source) }
         ensures query { self.new.query ≡ self.old.query }
         ensures registered { OnPending result
             (Covers cx.new (λ s. IsSomeAnd self.new.source (λ source. s ≡ source))) }
         ensures kept { Keeps cx.old cx.new }
     {
-        let polled = waiting
-            .placeholder
-            .poll(self.rt, waiting.waiter, self.query, cx);
-        match polled {
-            Poll::Pending => {
-                self.waiting = Some(waiting);
+        let Waiting {
+            placeholder,
+            place,
+            key,
+        } = waiting;
+        match placeholder.poll(self.rt, place, self.query, cx) {
+            Err(place) => {
+                let waiting = Waiting {
+                    placeholder,
+                    place,
+                    key,
+                };
+                // It held none.
+                if let Some(_other) = replace(&mut self.waiting, Some(waiting)) {
+                    unreachable!()
+                }
                 Poll::Pending
             }
-            Poll::Ready(told) => {
-                let Waiting {
-                    placeholder,
-                    waiter: _,
-                    key,
-                } = waiting;
+            Ok(told) => {
                 let told = answer(self.rt, self.shard, placeholder, key, told);
                 self.give(told, cx)
             }
@@ -213,11 +240,16 @@ impl<
             (λ value. FitsQuery L.fits (Q.equivalent self.old.query) value)) }
         requires key { IfSome told (λ answer. IfGuard answer
             (λ key. Q.to_key_gives self.old.query key)) }
+        requires refused { IfSome told RefusesAsLoad }
         ensures value { IfReady result (λ output. IfGiven
             (λ value. ClonesFit L.fits V.is_clone
             → FitsQuery L.fits (Q.equivalent self.old.query) value)
             (λ key. Q.to_key_gives self.old.query key) output) }
-        ensures same { self.new ≡ self.old }
+        ensures unfinished { IfReady result IsRefusedAsLoad }
+        ensures finished { IfReady result (λ output. self.new.is_finished ≡ true) }
+        ensures goes_on { OnPending result (self.new ≡ self.old) }
+        ensures woken { OnPending result (cx.new.is_woken ≡ true) }
+        ensures query { self.new.query ≡ self.old.query }
         ensures registered { OnPending result
             (Covers cx.new (λ s. IsSomeAnd self.new.source (λ source. s ≡ source))) }
         ensures kept { Keeps cx.old cx.new }

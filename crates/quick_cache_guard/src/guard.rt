@@ -1,11 +1,10 @@
 //! The right to load a key.
-ghost use Rattle.std.specs.Prelude.{◌≡◌, IfErr, Some, codes};
+ghost use Rattle.std.specs.Prelude.{◌≡◌, IfErr, OnOk, OnErr, Some, codes};
 ghost use Rattle.std.specs.Arc.{arc_value};
 ghost use Rattle.quick_cache_loading.specs.Fitting.{ClonesFit};
-ghost use Rattle.quick_cache_guard.specs.Fills.{back_of};
+ghost use Rattle.quick_cache_guard.specs.Fills.{FilledBy, IfBack, back_of};
 
-use crate::shard::LoadingShard;
-use quick_cache_loading::sharing::{Placeholder, SharedPlaceholder};
+use quick_cache_loading::sharing::{LoadingShard, Placeholder, SharedPlaceholder};
 use quick_cache_loading::waiting::Share;
 use quick_cache_model::Lifecycle;
 use std::alloc::{Allocator, Global};
@@ -46,6 +45,10 @@ impl<
     ghost Value = { K };
 
     ghost view = { λ guard. guard.key };
+
+    ghost use Rattle.std.specs.Arc.{arc_value};
+
+    ghost invariant = { λ guard. guard.share ≡ (arc_value guard.placeholder).ticket };
 }
 
 /// Why a value did not stay, where `G` is the guard that was to put it in.
@@ -74,10 +77,7 @@ impl<
             share,
         } = self;
         if let Err(share) = placeholder.hand_on(rt, share) {
-            let mut locked = shard.write(rt);
-            if placeholder.give_up(rt, share) {
-                locked.give_up(&SharedPlaceholder::named(&placeholder));
-            }
+            placeholder.give_up(rt, &mut *shard.write(rt), share);
         }
     }
 }
@@ -142,6 +142,10 @@ impl<
         requires fits { L.fits self value }
         requires clones { ClonesFit L.fits V.is_clone }
         ensures back { IfErr result (λ error. back_of error ≡ value) }
+        // Where memory was refused the guard comes back, and wherever it fails no hook was called.
+        ensures guard { IfErr result (λ error. IfBack error (λ guard. guard ≡ self.entry)) }
+        ensures unchanged { OnErr result (state.new ≡ state.old) }
+        ensures told { OnOk result (FilledBy S.fills self.entry value state.old state.new) }
     {
         let copy = match value.clone() {
             Ok(copy) => copy,
@@ -154,13 +158,22 @@ impl<
             key,
             share,
         } = self;
-        let waited = match placeholder.fill(rt, &key, share, copy) {
-            Ok(waited) => waited,
-            Err(_) => return Err(FillError::Gone(value)),
+        let filled = match placeholder.fill(rt, &key, share, copy) {
+            Ok(filled) => filled,
+            Err((share, _)) => {
+                drop(PlaceholderGuard {
+                    rt,
+                    shard,
+                    placeholder,
+                    key,
+                    share,
+                });
+                return Err(FillError::Gone(value));
+            }
         };
         let named = SharedPlaceholder::named(&placeholder);
-        let filled = shard.write(rt).fill(&named, &key, waited, value, state);
-        match filled {
+        let put = filled.settle(&mut *shard.write(rt), &named, &key, value, state);
+        match put {
             Ok(()) => Ok(()),
             Err(value) => Err(FillError::Gone(value)),
         }

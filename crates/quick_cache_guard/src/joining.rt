@@ -1,13 +1,12 @@
 //! A value, or the guard of a key that is absent, for a thread that waits where another loads it.
-ghost use Rattle.std.specs.Prelude.{◌≡◌, true};
+ghost use Rattle.std.specs.Prelude.{◌≡◌, true, false, None};
 ghost use Rattle.quick_cache_loading.specs.Fitting.{ClonesFit, FitsQuery};
-ghost use Rattle.quick_cache_guard.specs.Answers.{IfGiven, IfGuard, IfValue};
+ghost use Rattle.quick_cache_guard.specs.Answers.{IfGiven, IfGuard, IfValue, IsRefusedAsLoad, RefusesAsLoad, is_timeout};
 
 use crate::coming::{come_and_wait, come_and_wait_within, output};
 use crate::guard::PlaceholderGuard;
 use crate::results::GuardResult;
-use crate::shard::LoadingShard;
-use quick_cache_loading::sharing::Turns;
+use quick_cache_loading::sharing::{LoadingShard, Turns};
 use quick_cache_model::{Lifecycle, Refusal, ToKey};
 use std::alloc::Allocator;
 use std::hash::Hash;
@@ -41,6 +40,9 @@ impl<
             → IfValue result (λ value. FitsQuery L.fits (Q.equivalent query.now) value) }
         // The guard is for a key that the query becomes.
         ensures key { IfGuard result (λ key. Q.to_key_gives query.now key) }
+        // It is refused as a load is, and in time where there is no limit.
+        ensures refused { RefusesAsLoad result }
+        ensures timely { limit ≡ None → is_timeout result ≡ false }
     {
         let mut turns = Turns::within(limit);
         for _ in rt.forever() {
@@ -65,6 +67,7 @@ impl<
             (λ value. ClonesFit L.fits V.is_clone
             → FitsQuery L.fits (Q.equivalent query.now) value)
             (λ key. Q.to_key_gives query.now key) result }
+        ensures refused { IsRefusedAsLoad result }
     {
         for _ in rt.forever() {
             let answer = come_and_wait(rt, shard, query);

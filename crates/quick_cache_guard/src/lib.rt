@@ -9,11 +9,10 @@ mod guard;
 mod joining;
 pub mod loads;
 mod results;
-mod shard;
 pub mod tasks;
 
 pub use coming::Waiting;
 pub use future::JoinFuture;
 pub use guard::{FillError, PlaceholderGuard};
+pub use quick_cache_loading::sharing::{Begun, LoadingShard};
 pub use results::{EntryResult, GuardResult};
-pub use shard::{Begun, LoadingShard};

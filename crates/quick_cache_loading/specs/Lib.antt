@@ -9,4 +9,6 @@ pub mod Tasks
 pub mod Fitting
 pub mod Waiters
 pub mod Entering
+pub mod Begins
 pub mod Touches
+pub mod Turns

@@ -1,6 +1,6 @@
 -- The wakers of the tasks that wait.
-use Rattle.std.specs.Prelude.{◌≡◌, ◌==◌, not, ℕ, List, Any, IsSomeAnd}
-use Rattle.std.specs.List.{filter}
+use Rattle.std.specs.Prelude.{◌≡◌, ◌==◌, ◌++◌, ◌∷◌, not, ℕ, Bool, List, [], None, Any, is_some, IsSomeAnd, Result, Ok, Err}
+use Rattle.std.specs.List.{filter, position}
 use Rattle.futures.specs.Task.{Wakes}
 use Rattle.futures.specs.declared.task.context.Context.{Context}
 use Rattle.quick_cache_loading.specs.declared.protocol.events.Answer.{Answer}
@@ -20,3 +20,16 @@ slots_of_others waiter slots = filter (λ slot. not (slot.waiter == waiter)) slo
 abbrev pub slots_after : {V : Type 0} → Answer V → List Slot → List Slot
 slots_after (HandedTo waiter) slots = slots_of_others waiter slots
 slots_after _ slots = slots
+
+-- the slots after a fill: all are woken by it, and none where it was refused
+abbrev pub slots_after_fill : {A B : Type 0} → Result A B → List Slot → List Slot
+slots_after_fill (Ok done) slots = []
+slots_after_fill (Err back) slots = slots
+
+-- the waiter has a slot
+abbrev pub has_slot : ℕ → List Slot → Bool
+has_slot waiter slots = is_some (position (λ slot. slot.waiter == waiter) slots)
+
+-- the slots with one more, which has no waker yet
+abbrev pub with_slot : ℕ → List Slot → List Slot
+with_slot waiter slots = slots ++ record { waiter = waiter; waker = None } ∷ []

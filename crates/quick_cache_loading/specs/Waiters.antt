@@ -1,7 +1,8 @@
 -- What is seen of a placeholder's locked state.
 use Rattle.std.specs.Prelude.{◌≡◌, ℕ, ◌⊎◌, ⊤, Bool, true, false, List, Option, Some, None, Result, Ok, Err}
-use Rattle.futures.specs.declared.task.Poll.{Poll}
-use Rattle.futures.specs.declared.task.Poll.TheVariants.{Ready, Pending}
+use Rattle.quick_cache_model.specs.declared.refusal.Refusal.{Refusal}
+use Rattle.quick_cache_model.specs.declared.refusal.Refusal.TheVariants as refusal
+use Rattle.quick_cache_model.specs.declared.refusal.Refusal.TheVariants.{Memory}
 use Rattle.quick_cache_loading.specs.LoadingStep.{LoadingStep}
 use Rattle.quick_cache_loading.specs.declared.protocol.events.Event.{Event}
 use Rattle.quick_cache_loading.specs.declared.protocol.events.Event.TheVariants as event
@@ -12,18 +13,36 @@ use Rattle.quick_cache_loading.specs.declared.protocol.events.Answer.TheVariants
 use Rattle.quick_cache_loading.specs.declared.waiting.waited.Waited.{Waited}
 use Rattle.quick_cache_loading.specs.declared.waiting.waited.Waited.TheVariants as waited
 use Rattle.quick_cache_loading.specs.declared.waiting.tasks.Slot.{Slot}
+use Rattle.quick_cache_loading.specs.declared.waiting.place.Place.{Place}
 
--- its ticket, its own copy of the key, its life, and the tasks that wait
+-- its ticket, its own copy of the key, its life, the tasks that wait, and its counter
 pub record WaitingState (K V : Type 0) : Type 0 where
   pub ticket : ℕ
   pub key : K
   pub core : CoreState V
   pub tasks : List Slot
+  -- the number of the next one who comes to wait
+  pub next : ℕ
 
 -- the answer of the core to a fill
-abbrev pub answer_of_fill : {V : Type 0} → Result (Unit {0}) V → Answer V
+abbrev pub answer_of_fill : {B V : Type 0} → Result (Unit {0}) B → Answer V
 answer_of_fill (Ok done) = Done
-answer_of_fill (Err value) = NotNow
+answer_of_fill (Err back) = NotNow
+
+-- the life is given up by this answer, so that its placeholder is to leave the shard
+abbrev pub ends_life : {V : Type 0} → Answer V → Bool
+ends_life answer.GivenUp = true
+ends_life _ = false
+
+-- one joined, and waits from now on
+abbrev pub has_joined : {V : Type 0} → Answer V → Bool
+has_joined answer.Joined = true
+has_joined _ = false
+
+-- one goes on waiting
+abbrev pub waits_on : {V : Type 0} → Answer V → Bool
+waits_on answer.Waiting = true
+waits_on _ = false
 
 -- what a waiter that looks does: it takes what has come, for the last time or not
 abbrev pub look_event : {V : Type 0} → ℕ → Bool → Event V
@@ -44,25 +63,58 @@ abbrev pub IsGuard : {V : Type 0} → Option (Waited V) → Type 0
 IsGuard (Some (waited.Guard share)) = ⊤
 IsGuard _ = ⊥
 
+-- what one is told of a value: it, or that one looks again exactly where the query does not stand
+-- for the key
+abbrev pub value_or_again : {V : Type 0} → Bool → V → Waited V
+value_or_again true value = waited.Value value
+value_or_again false value = waited.Again
+
 -- What one who waits is told of the core's answer: the value, or that it looks again where that is
--- of another key; and nothing while it goes on waiting.
-abbrev pub Tells : {V : Type 0} → Answer V → Option (Waited V) → Type 0
-Tells (answer.Value v) told = (told ≡ Some (waited.Value v)) ⊎ (told ≡ Some waited.Again)
-Tells answer.Created told = IsGuard told
-Tells answer.Guard told = IsGuard told
-Tells answer.Waiting told = told ≡ None
-Tells answer.TimedOut told = told ≡ Some waited.Timeout
-Tells (answer.Refused why) told = told ≡ Some (waited.Refused why)
-Tells _ told = told ≡ Some waited.Again
+-- of another key; and nothing while it goes on waiting. The core refuses for want of memory alone.
+abbrev pub Tells : {V : Type 0} → Bool → Answer V → Option (Waited V) → Type 0
+Tells stands (answer.Value v) told = told ≡ Some (value_or_again stands v)
+Tells stands answer.Created told = IsGuard told
+Tells stands answer.Guard told = IsGuard told
+Tells stands answer.Waiting told = told ≡ None
+Tells stands answer.TimedOut told = told ≡ Some waited.Timeout
+Tells stands (answer.Refused why) told = told ≡ Some (waited.Refused Memory)
+Tells stands _ told = told ≡ Some waited.Again
 
 -- it looks: the core makes the event, and it is told so
-pub record Looks {V : Type 0} (shows : V → V → Type 0) (old : CoreState V) (e : Event V)
-    (told : Option (Waited V)) (new : CoreState V) : Type 0 where
+pub record Looks {V : Type 0} (shows : V → V → Type 0) (stands : Bool) (old : CoreState V)
+    (e : Event V) (told : Option (Waited V)) (new : CoreState V) : Type 0 where
   pub answer : Answer V
   pub step : LoadingStep shows old e answer new
-  pub tells : Tells answer told
+  pub tells : Tells stands answer told
 
--- what a poll gives, and nothing while it is pending
-abbrev pub ready_or_none : {A : Type 0} → Poll A → Option A
-ready_or_none (Ready x) = Some x
-ready_or_none Pending = None
+-- what loading may be refused for: memory, a slot or a ticket
+abbrev pub IsLoadRefusal : Refusal → Type 0
+IsLoadRefusal refusal.Memory = ⊤
+IsLoadRefusal refusal.SlotsFull = ⊤
+IsLoadRefusal refusal.TicketsSpent = ⊤
+IsLoadRefusal refusal.Finished = ⊥
+
+-- one is told a refusal only where loading may be refused so
+abbrev pub RefusesAsLoad : {V : Type 0} → Waited V → Type 0
+RefusesAsLoad (waited.Refused why) = IsLoadRefusal why
+RefusesAsLoad _ = ⊤
+
+-- one is told that its time is over
+abbrev pub is_timeout : {V : Type 0} → Waited V → Bool
+is_timeout waited.Timeout = true
+is_timeout _ = false
+
+-- the core answers that a waiter's time is over
+abbrev pub is_timed_out : {V : Type 0} → Answer V → Bool
+is_timed_out answer.TimedOut = true
+is_timed_out _ = false
+
+-- what one is told, and nothing where it keeps its place
+abbrev pub told_or_none : {A B : Type 0} → Result A B → Option A
+told_or_none (Ok told) = Some told
+told_or_none (Err place) = None
+
+-- a place, by its number
+abbrev pub by_number : {B : Type 0} → Result Place B → Result ℕ B
+by_number (Ok place) = Ok place.number
+by_number (Err told) = Err told

@@ -15,7 +15,7 @@ use Rattle.quick_cache_model.proofs.EachElement.{all-instead}
 use Rattle.quick_cache_shard.specs.Filling.{AnswersFill}
 use Rattle.quick_cache_shard.specs.Loading.{IsMadeOrMet, LooksUpOrMakes}
 use Rattle.quick_cache_shard.specs.References.{NotesLookUp}
-use Rattle.quick_cache_guard.specs.declared.shard.Begun.TheVariants.{Found}
+use Rattle.quick_cache_loading.specs.declared.sharing.shard.Begun.TheVariants.{Found}
 use Rattle.quick_cache_shard.specs.Lifecycles.{hooks_by}
 use Rattle.quick_cache_locked.specs.Fitting.{FitsIn, AllFit}
 use Rattle.quick_cache_locked.specs.Loads.{BeginsLoad, EndsLoad}

@@ -6,5 +6,6 @@ mod FitWalks
 mod FitLoads
 mod TicketLemmas
 mod EntryFits
+mod LoadLemmas
 mod WalkLemmas
 mod PlaceLemmas

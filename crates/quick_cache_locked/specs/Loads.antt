@@ -1,15 +1,17 @@
 -- Loads in a shard behind its lock: how they begin, and how they end.
 use Rattle.std.specs.Prelude.{◌≡◌, ℕ, Bool, true, false, Some, Result, Ok, Err}
 use Rattle.quick_cache_model.specs.declared.refusal.Refusal.{Refusal}
+use Rattle.quick_cache_model.specs.declared.terms.lifecycle.Lifecycle as lifecycle
 use Rattle.quick_cache_model.specs.CacheState.{CacheState, UpToOrder}
 use Rattle.quick_cache_model.specs.Hooks.{Rules, Hooks, Calls}
 use Rattle.quick_cache_model.specs.Lookups.{LooksUp}
 use Rattle.quick_cache_shard.specs.Filling.{AnswersFill, AwaitsKey}
 use Rattle.quick_cache_shard.specs.Loading.{IsMadeOrMet, MakesNone}
-use Rattle.quick_cache_guard.specs.declared.shard.Begun.{Begun}
-use Rattle.quick_cache_guard.specs.declared.shard.Begun.TheVariants.{Found, Loading}
+use Rattle.quick_cache_loading.specs.declared.sharing.shard.Begun.{Begun}
+use Rattle.quick_cache_loading.specs.declared.sharing.shard.Begun.TheVariants.{Found, Loading}
 use Rattle.quick_cache_shard.specs.Shard.{Shard}
 use Rattle.quick_cache_shard.specs.Steps.{Goes, steady_in, hooks_in, rules_in}
+use Rattle.quick_cache_locked.specs.Locked.{FromSome}
 use Rattle.quick_cache_locked.specs.Peeks.{Peeks}
 
 -- the query stands for each key that it may give
@@ -57,3 +59,11 @@ abbrev pub EndsLoadBy : {K V We B L S : Type 0} → Goes K V We B L S → (may_c
 EndsLoadBy goes may_count old equal ticket marked key value answer new first last =
     EndsLoad (steady_in goes old) (hooks_in goes old) (rules_in goes may_count old) equal ticket
     old.state marked key value first answer new.state last
+
+-- a load ended with this value in some shard that was kept, and left some shard
+abbrev pub EndsSomeLoad : {K V We B L S : Type 0} → lifecycle.Ghosts L K V S → (K → K → Bool)
+    → Goes K V We B L S → (may_count : ℕ → Type 0) → (ticket : ℕ) → (marked : Bool) → (key : K)
+    → (value : V) → S → S → Type 0
+EndsSomeLoad {K} {V} {We} {B} {L} life equal goes may_count ticket marked key value first last =
+    FromSome life equal (λ old. (new : Shard K V We B L) × EndsLoadBy goes may_count old equal ticket
+    marked key value (Ok tt) new first last)

@@ -1,8 +1,9 @@
 //! The entry call.
-ghost use Rattle.std.specs.Prelude.{◌≡◌, true, IfOk, IfSome, IfNone};
+ghost use Rattle.std.specs.Prelude.{◌≡◌, true, false, None, IfOk, IfSome, IfNone, is_some};
 ghost use Rattle.quick_cache_loading.specs.Fitting.{FitsQuery};
+ghost use Rattle.quick_cache_loading.specs.Turns.{none_left};
 ghost use Rattle.quick_cache_guard.specs.Acts.{LeavesFit, MayTell};
-ghost use Rattle.quick_cache_guard.specs.Entries.{AnswersAsChosen, IfAnswered, IfGivenBack, IfGuarded, IfRetained, IfUncalled};
+ghost use Rattle.quick_cache_guard.specs.Entries.{AnswersAsChosen, IfAnswered, IfGivenBack, IfGuarded, IfRetained, IfUncalled, IsRefusedAsLoad, is_late};
 
 use crate::entries::entering::{answer, join_there, share_of_new};
 use crate::entries::shard::EntryShard;
@@ -55,6 +56,9 @@ pub fn entry<
     // The answer is what the callback chose, by its one call.
     ensures chosen { AnswersAsChosen F.FnMut L.fits
         (Q.equivalent query.now) callback.old result callback.new }
+    // It is refused as a load is, and in time where there is no limit.
+    ensures refused { IsRefusedAsLoad result }
+    ensures timely { limit ≡ None → is_late result ≡ false }
 {
     let mut turns = Turns::within(limit);
     for _ in rt.forever() {
@@ -99,16 +103,21 @@ fn come_and_wait<
     ensures uncalled { IfNone result (callback.new ≡ callback.old) }
     ensures chosen { IfSome result (λ answer. AnswersAsChosen F.FnMut L.fits
         (Q.equivalent query.now) callback.old answer callback.new) }
+    ensures refused { IfSome result IsRefusedAsLoad }
+    // Its time is over only where no turn is left.
+    ensures timely { IfSome result (λ answer. is_late answer ≡ true
+        → none_left turns.new.left ≡ true) }
+    ensures counted { is_some turns.new.left ≡ is_some turns.old.left }
 {
     match come(rt, shard, query, callback, false, turns.is_over()) {
         Ok(
             Waiting {
                 placeholder,
-                waiter,
+                place,
                 key,
             },
         ) => {
-            let told = placeholder.wait_within(rt, waiter, query, turns);
+            let told = placeholder.wait_within(rt, place, query, turns);
             answer(rt, shard, placeholder, key, told)
         }
         Err(told) => told,
@@ -160,6 +169,8 @@ pub fn come<
     ensures uncalled { IfUncalled result (callback.new ≡ callback.old) }
     ensures chosen { IfAnswered result (λ answer. AnswersAsChosen F.FnMut L.fits
         (Q.equivalent query.now) callback.old answer callback.new) }
+    ensures refused { IfAnswered result IsRefusedAsLoad }
+    ensures timely { is_over ≡ false → IfAnswered result (λ answer. is_late answer ≡ false) }
 {
     // The copy of the key is made before the shard changes.
     let own = match query.to_key() {
@@ -171,15 +182,12 @@ pub fn come<
         Ok(EntryOrPlaceholder::Kept(told)) => Err(Some(EntryResult::Retained(told))),
         Ok(EntryOrPlaceholder::Removed(key, value)) => Err(Some(EntryResult::Removed(key, value))),
         Ok(EntryOrPlaceholder::Replaced(shared, value)) => {
-            match share_of_new(rt, &shared, query) {
+            match share_of_new(rt, &mut *locked, &shared, query) {
                 Some((placeholder, share)) => {
                     let guard = PlaceholderGuard::start_loading(rt, shard, placeholder, own, share);
                     Err(Some(EntryResult::Replaced(guard, value)))
                 }
-                None => {
-                    locked.give_up(&shared);
-                    Err(Some(EntryResult::Removed(own, value)))
-                }
+                None => Err(Some(EntryResult::Removed(own, value))),
             }
         }
         Ok(EntryOrPlaceholder::ExistingPlaceholder(shared)) => {

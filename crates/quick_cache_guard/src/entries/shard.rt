@@ -1,6 +1,7 @@
 //! A shard, as entry calls use it while they hold its lock.
-ghost use Rattle.std.specs.Prelude.{◌≡◌, true};
+ghost use Rattle.std.specs.Prelude.{◌≡◌, true, IfErr};
 ghost use Rattle.quick_cache_loading.specs.Fitting.{FitsQuery};
+ghost use Rattle.quick_cache_loading.specs.Waiters.{IsLoadRefusal};
 ghost use Rattle.quick_cache_guard.specs.Acts.{DoesAsChosen, IfAbsent, IfGone, IfKept, LeavesFit, MayTell};
 
 use crate::LoadingShard;
@@ -36,6 +37,7 @@ pub trait EntryShard<K: Eq + Hash + Drop, V: Clone, L: Lifecycle<K, V>, A: Alloc
         ensures tells { IfKept result (λ told. MayTell F.FnMut L.fits
             (Q.equivalent query.now) callback.old told) }
         ensures uncalled { IfAbsent result (callback.new ≡ callback.old) }
+        ensures refused { IfErr result IsLoadRefusal }
         // What comes of it is what the callback chose, by its one call.
         ensures chosen { DoesAsChosen F.FnMut L.fits
             (Q.equivalent query.now) callback.old result callback.new };

@@ -1,11 +1,11 @@
 //! The entry call, for a task.
-ghost use Rattle.std.specs.Prelude.{◌≡◌, true, false, Some, None, IfSome};
+ghost use Rattle.std.specs.Prelude.{◌≡◌, ◌⊎◌, true, false, Some, None, IfSome};
 ghost use Rattle.futures.specs.Poll.{IfReady, OnPending};
 ghost use Rattle.futures.specs.Task.{Covers, Keeps};
 ghost use Rattle.quick_cache_loading.specs.Fitting.{FitsQuery};
 ghost use Rattle.quick_cache_guard.specs.Acts.{LeavesFit, MayTell};
-ghost use Rattle.quick_cache_guard.specs.Entries.{AnswersAsChosen};
-ghost use Rattle.quick_cache_guard.specs.Entering.{IfActed, WaitsFor, in_time_of};
+ghost use Rattle.quick_cache_guard.specs.Entries.{AnswersAsChosen, IsRefusedAsLoad};
+ghost use Rattle.quick_cache_guard.specs.Entering.{HasPlace, IfActed, WaitsFor, in_time_of};
 
 use crate::entries::{EntryShard, come};
 use crate::{EntryResult, JoinFuture, LoadingShard, PlaceholderGuard, Waiting};
@@ -58,7 +58,7 @@ impl<
     F: Drop,
     A: Allocator,
 > Model for EntryFuture<'a, Q, K, V, L, S, R, T, F, A> {
-    ghost use Rattle.std.specs.Prelude.{◌≡◌, true, IfSome};
+    ghost use Rattle.std.specs.Prelude.{◌≡◌, true, false, IfSome};
     ghost use Rattle.quick_cache_guard.specs.Entering.{EntryState};
 
     ghost Value = { EntryState Q F };
@@ -72,7 +72,8 @@ impl<
 
     ghost invariant = { λ f. ((key : K) → Q.to_key_gives f.query.now key
         → Q.equivalent f.query.now key ≡ true)
-        × IfSome f.joining (λ joining. joining.query ≡ f.query.now) };
+        × IfSome f.joining (λ joining. (joining.query ≡ f.query.now)
+        × (joining.is_finished ≡ false)) };
 }
 
 impl<
@@ -124,8 +125,12 @@ impl<
         ensures chosen { IfReady result (λ output. AnswersAsChosen F.FnMut L.fits
             (Q.equivalent self.old.query) self.old.callback output self.new.callback) }
         ensures finished { IfReady result (λ output. self.new.is_finished ≡ true) }
+        // It answers once, and is refused as a load is; then it is refused as `Finished`.
         ensures refused { self.old.is_finished ≡ true
             → result ≡ Poll.Ready (EntryResult.Refused Refusal.Finished) }
+        ensures unfinished { self.old.is_finished ≡ false → IfReady result IsRefusedAsLoad }
+        // A pending poll has its place, or has asked for another.
+        ensures place { OnPending result ((cx.new.is_woken ≡ true) ⊎ HasPlace self.new) }
         ensures query { self.new.query ≡ self.old.query }
         ensures uncalled { OnPending result (self.new.callback ≡ self.old.callback) }
         ensures goes_on { OnPending result (self.new.is_finished ≡ self.old.is_finished) }
@@ -158,6 +163,8 @@ impl<
             (λ key. Q.to_key_gives self.old.query key) output)) }
         ensures chosen { IfReady result (λ told. IfSome told (λ output. AnswersAsChosen F.FnMut L.fits
             (Q.equivalent self.old.query) self.old.callback output self.new.callback)) }
+        ensures refused { IfReady result (λ told. IfSome told IsRefusedAsLoad) }
+        ensures place { OnPending result ((cx.new.is_woken ≡ true) ⊎ HasPlace self.new) }
         ensures callback { self.new.callback ≡ self.old.callback }
         ensures finished { self.new.is_finished ≡ self.old.is_finished }
         ensures query { self.new.query ≡ self.old.query }
@@ -178,6 +185,7 @@ impl<
         cx: &mut Context<'_>,
     ) -> Poll<Option<EntryResult<T, K, V, PlaceholderGuard<'a, K, V, L, S, R, A>>>>
         requires query { joining.query ≡ self.old.query }
+        requires begins { joining.is_finished ≡ false }
         ensures value { IfReady result (λ told. IfSome told (λ output. IfActed
             (λ value. FitsQuery L.fits (Q.equivalent self.old.query) value)
             (λ told. MayTell F.FnMut L.fits (Q.equivalent self.old.query)
@@ -185,6 +193,8 @@ impl<
             (λ key. Q.to_key_gives self.old.query key) output)) }
         ensures chosen { IfReady result (λ told. IfSome told (λ output. AnswersAsChosen F.FnMut L.fits
             (Q.equivalent self.old.query) self.old.callback output self.new.callback)) }
+        ensures refused { IfReady result (λ told. IfSome told IsRefusedAsLoad) }
+        ensures place { OnPending result ((cx.new.is_woken ≡ true) ⊎ HasPlace self.new) }
         ensures callback { self.new.callback ≡ self.old.callback }
         ensures finished { self.new.is_finished ≡ self.old.is_finished }
         ensures query { self.new.query ≡ self.old.query }
@@ -218,6 +228,8 @@ impl<
             (λ key. Q.to_key_gives self.old.query key) output) }
         ensures chosen { IfReady result (λ output. AnswersAsChosen F.FnMut L.fits
             (Q.equivalent self.old.query) self.old.callback output self.new.callback) }
+        ensures refused { IfReady result IsRefusedAsLoad }
+        ensures place { OnPending result ((cx.new.is_woken ≡ true) ⊎ HasPlace self.new) }
         ensures finished { IfReady result (λ output. self.new.is_finished ≡ true) }
         ensures query { self.new.query ≡ self.old.query }
         ensures uncalled { OnPending result (self.new.callback ≡ self.old.callback) }
@@ -252,6 +264,8 @@ impl<
             (λ key. Q.to_key_gives self.old.query key) output) }
         ensures chosen { IfReady result (λ output. AnswersAsChosen F.FnMut L.fits
             (Q.equivalent self.old.query) self.old.callback output self.new.callback) }
+        ensures refused { IfReady result IsRefusedAsLoad }
+        ensures place { OnPending result ((cx.new.is_woken ≡ true) ⊎ HasPlace self.new) }
         ensures finished { IfReady result (λ output. self.new.is_finished ≡ true) }
         ensures query { self.new.query ≡ self.old.query }
         ensures callback { self.new.callback ≡ self.old.callback }
@@ -279,6 +293,7 @@ impl<
           is_finished = true;
         }) }
         ensures same { OnPending result (self.new ≡ self.old) }
+        ensures woken { OnPending result (cx.new.is_woken ≡ true) }
         ensures registered { OnPending result (Covers cx.new (WaitsFor self.new)) }
         ensures kept { Keeps cx.old cx.new }
     {

@@ -1,6 +1,7 @@
 //! A look beside other readers, before the shard is locked for itself.
-ghost use Rattle.std.specs.Prelude.{IfOk, IfSome};
+ghost use Rattle.std.specs.Prelude.{IfOk, IfSome, IfErr};
 ghost use Rattle.quick_cache_loading.specs.Fitting.{ClonesFit, FitsQuery};
+ghost use Rattle.quick_cache_loading.specs.Waiters.{IsLoadRefusal};
 
 use crate::LoadingShard;
 use quick_cache_model::{Equivalent, Lifecycle, Refusal};
@@ -27,6 +28,7 @@ pub fn look<
     // Whatever other threads do, the value fits a key that the query stands for.
     ensures fits { ClonesFit L.fits V.is_clone → IfOk result
         (λ found. IfSome found (λ value. FitsQuery L.fits (Q.equivalent query.now) value)) }
+    ensures refused { IfErr result IsLoadRefusal }
 {
     // A try that succeeds takes fewer steps than the call that may wait.
     match shard.try_read() {

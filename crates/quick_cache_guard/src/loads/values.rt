@@ -1,7 +1,8 @@
 //! The value of a key, which one thread loads while others wait for it.
-ghost use Rattle.std.specs.Prelude.{◌≡◌, true, Ok, Err, IfOk, IfErr};
+ghost use Rattle.std.specs.Prelude.{◌≡◌, true, false, None, Ok, Err, IfOk, IfErr};
 ghost use Rattle.quick_cache_loading.specs.Fitting.{ClonesFit, FitsQuery};
-ghost use Rattle.quick_cache_guard.specs.Answers.{IfGuard, IfValue};
+ghost use Rattle.quick_cache_guard.specs.Answers.{IfGuard, IfValue, RefusesAsLoad, is_timeout};
+ghost use Rattle.quick_cache_loading.specs.Waiters.{IsLoadRefusal};
 
 use crate::loads::looking::look;
 use crate::{GuardResult, LoadingShard, PlaceholderGuard};
@@ -39,6 +40,9 @@ pub fn get_value_or_guard<
         → IfValue result (λ value. FitsQuery L.fits (Q.equivalent query.now) value) }
     // The guard is for a key that the query becomes.
     ensures key { IfGuard result (λ key. Q.to_key_gives query.now key) }
+    // It is refused as a load is, and in time where there is no limit.
+    ensures refused { RefusesAsLoad result }
+    ensures timely { limit ≡ None → is_timeout result ≡ false }
 {
     match look(rt, shard, query) {
         Ok(Some(value)) => GuardResult::Value(value),
@@ -77,6 +81,7 @@ pub fn get_or_insert_with<
     ensures fits { IfOk result (λ loaded. IfOk loaded
         (λ value. FitsQuery L.fits (Q.equivalent query.now) value)) }
     ensures error { IfOk result (λ loaded. IfErr loaded (λ error. F.post loader (Err error))) }
+    ensures refused { IfErr result IsLoadRefusal }
 {
     match look(rt, shard, query) {
         Ok(Some(value)) => Ok(Ok(value)),

@@ -1,8 +1,9 @@
 //! The value of a key, which a future of the caller's loads where there is none.
-ghost use Rattle.std.specs.Prelude.{◌≡◌, true, false, Ok, Err};
+ghost use Rattle.std.specs.Prelude.{◌≡◌, ◌⊎◌, true, false, Ok, Err, IsSome};
 ghost use Rattle.futures.specs.Poll.{IfReady, OnPending};
 ghost use Rattle.futures.specs.Task.{Covers, Keeps};
 ghost use Rattle.quick_cache_loading.specs.Fitting.{ClonesFit, FitsQuery};
+ghost use Rattle.quick_cache_guard.specs.Answers.{IsRefusedAsLoad};
 ghost use Rattle.quick_cache_guard.specs.Loaders.{IfLoaded, NeedsOf};
 
 use crate::loads::keep;
@@ -72,6 +73,7 @@ impl<
         → Q.equivalent f.waiting.query key ≡ true)
         × IfSome f.guard (λ key. Q.to_key_gives f.waiting.query key)
         × ClonesFit L.fits V.is_clone
+        × (f.is_finished ≡ false → f.waiting.is_finished ≡ is_some f.guard)
         × (f.is_finished ≡ false → F.can_poll f.loader
         × ((value : V) → F.gives f.loader (Ok value) → (key : K)
         → Q.to_key_gives f.waiting.query key → L.fits key value)) };
@@ -110,17 +112,61 @@ impl<
         }
     }
 
-    /// Polls the loader, for this guard.
-    fn load(
-        &mut self,
-        guard: PlaceholderGuard<'a, K, V, L, S, R, A>,
-        cx: &mut Context<'_>,
-    ) -> Poll<Result<Result<V, E>, Refusal>>
-        requires keyed { Q.to_key_gives self.old.query guard }
+    /// A poll, which keeps the query.
+    pub fn go_on(&mut self, cx: &mut Context<'_>) -> Poll<Result<Result<V, E>, Refusal>>
+        ensures value { IfReady result (λ output. IfLoaded
+            (λ value. FitsQuery L.fits (Q.equivalent self.old.query) value)
+            (λ error. F.gives self.old.loader (Err error)) output) }
+        // It answers once, and is refused as a load is; then it is refused as `Finished`.
+        ensures finished { IfReady result (λ output. self.new.is_finished ≡ true) }
+        ensures refused { self.old.is_finished ≡ true
+            → result ≡ Poll.Ready (Err Refusal.Finished) }
+        ensures unfinished { self.old.is_finished ≡ false → IfReady result IsRefusedAsLoad }
+        ensures goes_on { OnPending result (self.new.is_finished ≡ self.old.is_finished) }
+        // A pending poll has the guard, or its place, or has asked for another.
+        ensures place { OnPending result ((self.new.has_guard ≡ true)
+            ⊎ ((cx.new.is_woken ≡ true) ⊎ IsSome self.new.source)) }
+        ensures query { self.new.query ≡ self.old.query }
+        ensures loader { OnPending result ((x : _) → F.gives self.new.loader x
+            → F.gives self.old.loader x) }
+        ensures registered { OnPending result (Covers cx.new
+            (NeedsOf F.needs self.new.has_guard self.new.source self.new.loader)) }
+        ensures kept { Keeps cx.old cx.new }
+    {
+        if self.is_finished {
+            return Poll::Ready(Err(Refusal::Finished));
+        }
+        if self.guard.is_some() {
+            return self.load(cx);
+        }
+        match self.waiting.go_on(cx) {
+            Poll::Pending => Poll::Pending,
+            Poll::Ready(Ok(Ok(value))) => {
+                self.is_finished = true;
+                Poll::Ready(Ok(Ok(value)))
+            }
+            Poll::Ready(Ok(Err(guard))) => {
+                self.guard = Some(guard);
+                self.load(cx)
+            }
+            Poll::Ready(Err(refusal)) => {
+                self.is_finished = true;
+                Poll::Ready(Err(refusal))
+            }
+        }
+    }
+
+    /// Polls the loader, for the guard that it has.
+    fn load(&mut self, cx: &mut Context<'_>) -> Poll<Result<Result<V, E>, Refusal>>
+        requires guard { self.old.has_guard ≡ true }
         requires goes_on { self.old.is_finished ≡ false }
         ensures value { IfReady result (λ output. IfLoaded
             (λ value. FitsQuery L.fits (Q.equivalent self.old.query) value)
             (λ error. F.gives self.old.loader (Err error)) output) }
+        ensures finished { IfReady result (λ output. self.new.is_finished ≡ true) }
+        ensures unfinished { IfReady result IsRefusedAsLoad }
+        ensures goes_on { OnPending result (self.new.is_finished ≡ self.old.is_finished) }
+        ensures guard { OnPending result (self.new.has_guard ≡ true) }
         ensures query { self.new.query ≡ self.old.query }
         ensures loader { OnPending result ((x : _) → F.gives self.new.loader x
             → F.gives self.old.loader x) }
@@ -129,13 +175,13 @@ impl<
         ensures kept { Keeps cx.old cx.new }
     {
         match self.loader.poll(cx) {
-            Poll::Pending => {
-                self.guard = Some(guard);
-                Poll::Pending
-            }
+            Poll::Pending => Poll::Pending,
             Poll::Ready(loaded) => {
                 self.is_finished = true;
-                Poll::Ready(Ok(keep(guard, loaded)))
+                match self.guard.take() {
+                    Some(guard) => Poll::Ready(Ok(keep(guard, loaded))),
+                    None => unreachable!(),
+                }
             }
         }
     }
@@ -164,23 +210,6 @@ impl<
         (λ error. F.gives f.loader (Err error)) output };
 
     fn poll(&mut self, cx: &mut Context<'_>) -> Poll<Self::Output> {
-        if self.is_finished {
-            return Poll::Ready(Err(Refusal::Finished));
-        }
-        match self.guard.take() {
-            Some(guard) => self.load(guard, cx),
-            None => match self.waiting.go_on(cx) {
-                Poll::Pending => Poll::Pending,
-                Poll::Ready(Ok(Ok(value))) => {
-                    self.is_finished = true;
-                    Poll::Ready(Ok(Ok(value)))
-                }
-                Poll::Ready(Ok(Err(guard))) => self.load(guard, cx),
-                Poll::Ready(Err(refusal)) => {
-                    self.is_finished = true;
-                    Poll::Ready(Err(refusal))
-                }
-            },
-        }
+        self.go_on(cx)
     }
 }

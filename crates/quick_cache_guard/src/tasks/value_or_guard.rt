@@ -1,10 +1,10 @@
 //! A value, or the guard of a key that is absent.
-ghost use Rattle.std.specs.Prelude.{◌≡◌, true};
+ghost use Rattle.std.specs.Prelude.{◌≡◌, ◌⊎◌, true, false, Err, IsSome};
 ghost use Rattle.std.specs.Option.{IfSome, IsSomeAnd};
 ghost use Rattle.futures.specs.Poll.{IfReady, OnPending};
 ghost use Rattle.futures.specs.Task.{Covers, Keeps};
 ghost use Rattle.quick_cache_loading.specs.Fitting.{ClonesFit, FitsQuery};
-ghost use Rattle.quick_cache_guard.specs.Answers.{IfGiven};
+ghost use Rattle.quick_cache_guard.specs.Answers.{IfGiven, IsRefusedAsLoad};
 
 use crate::loads::look;
 use crate::{JoinFuture, LoadingShard, PlaceholderGuard};
@@ -50,14 +50,15 @@ impl<
     R: Wait,
     A: Allocator,
 > Model for ValueOrGuard<'a, Q, K, V, L, S, R, A> {
-    ghost use Rattle.std.specs.Prelude.{◌≡◌};
+    ghost use Rattle.std.specs.Prelude.{◌≡◌, false};
     ghost use Rattle.quick_cache_guard.specs.Futures.{Joining};
 
     ghost Value = { Joining Q };
 
-    ghost view = { λ f. f.joining };
+    ghost view = { λ f. record f.joining { is_finished = f.is_finished } };
 
-    ghost invariant = { λ f. f.joining.query ≡ f.query.now };
+    ghost invariant = { λ f. (f.joining.query ≡ f.query.now)
+        × (f.is_finished ≡ false → f.joining.is_finished ≡ false) };
 }
 
 impl<
@@ -75,6 +76,7 @@ impl<
         requires stands { (key : K) → Q.to_key_gives query.now key
             → Q.equivalent query.now key ≡ true }
         ensures query { result.query ≡ query.now }
+        ensures begins { result.is_finished ≡ false }
     {
         ValueOrGuard {
             rt,
@@ -95,19 +97,37 @@ impl<
             (λ value. ClonesFit L.fits V.is_clone
             → FitsQuery L.fits (Q.equivalent self.old.query) value)
             (λ key. Q.to_key_gives self.old.query key) output) }
+        // It answers once, and is refused as a load is; then it is refused as `Finished`.
+        ensures finished { IfReady result (λ output. self.new.is_finished ≡ true) }
+        ensures refused { self.old.is_finished ≡ true
+            → result ≡ Poll.Ready (Err Refusal.Finished) }
+        ensures unfinished { self.old.is_finished ≡ false → IfReady result IsRefusedAsLoad }
+        ensures goes_on { OnPending result (self.new.is_finished ≡ self.old.is_finished) }
+        // A pending poll has its place, or has asked for another.
+        ensures place { OnPending result
+            ((cx.new.is_woken ≡ true) ⊎ IsSome self.new.source) }
         ensures query { self.new.query ≡ self.old.query }
         ensures registered { OnPending result
             (Covers cx.new (λ s. IsSomeAnd self.new.source (λ source. s ≡ source))) }
         ensures kept { Keeps cx.old cx.new }
     {
-        match self.found() {
-            Some(output) => Poll::Ready(output),
-            None => self.joining.go_on(cx),
+        if self.is_finished {
+            return Poll::Ready(Err(Refusal::Finished));
+        }
+        if let Some(output) = self.found() {
+            self.is_finished = true;
+            return Poll::Ready(output);
+        }
+        match self.joining.go_on(cx) {
+            Poll::Pending => Poll::Pending,
+            Poll::Ready(output) => {
+                self.is_finished = true;
+                Poll::Ready(output)
+            }
         }
     }
 
-    /// What it gives before it joins anyone: that it has answered already, or what the first look
-    /// finds.
+    /// What the first look finds. Nothing is given where there is none, or it has looked before.
     fn found(
         &mut self,
     ) -> Option<Result<Result<V, PlaceholderGuard<'a, K, V, L, S, R, A>>, Refusal>>
@@ -115,25 +135,17 @@ impl<
             (λ value. ClonesFit L.fits V.is_clone
             → FitsQuery L.fits (Q.equivalent self.old.query) value)
             (λ key. Q.to_key_gives self.old.query key) output) }
+        ensures refused { IfSome result IsRefusedAsLoad }
         ensures same { self.new ≡ self.old }
     {
-        if self.is_finished {
-            return Some(Err(Refusal::Finished));
-        }
         if !self.is_new {
             return None;
         }
         self.is_new = false;
         match look(self.rt, self.shard, self.query) {
-            Ok(Some(value)) => {
-                self.is_finished = true;
-                Some(Ok(Ok(value)))
-            }
+            Ok(Some(value)) => Some(Ok(Ok(value))),
             Ok(None) => None,
-            Err(refusal) => {
-                self.is_finished = true;
-                Some(Err(refusal))
-            }
+            Err(refusal) => Some(Err(refusal)),
         }
     }
 }

@@ -25,14 +25,15 @@ module _ {V : Type 0} (old : CoreState V) (a : Answer V) (new : CoreState V) whe
   went_on (Filled v) step gives = step
   went_on GivenUp step gives = absurd (cc)
 
-module _ {V : Type 0} (shows : V → V → Type 0) (is_over : Bool) (old : CoreState V) where
+module _ {V : Type 0} (shows : V → V → Type 0) (stands : Bool) (n : ℕ) (is_over : Bool)
+    (old : CoreState V) where
   -- one who comes to a life that goes on joins, or there is no room for its waker
-  pub came : (n : ℕ) (a : Answer V) (told : Result ℕ (Waited V)) (mid new : CoreState V)
+  pub came : (a : Answer V) (told : Result ℕ (Waited V)) (mid new : CoreState V)
       → is_over ≡ false → LoadingStep shows old Create NotNow old → mid ≡ old
       → LoadingStep shows mid (Join n) a new ⊎ ((a ≡ Refused Memory) × (new ≡ mid))
-      → TellsNewcomer n a told → Enters shows is_over old told new
-  came n a told mid new over create same (inl step) tells =
-      Enters.joins n a told new over create (rw same at step) tells
-  came n a told mid new over create same (inr refused) tells =
+      → TellsNewcomer stands n a told → Enters shows stands n is_over old told new
+  came a told mid new over create same (inl step) tells =
+      Enters.joins a told new over create (rw same at step) tells
+  came a told mid new over create same (inr refused) tells =
       let is : told ≡ Err (waited.Refused Memory) = rw refused.0 at tells in
       rw (is, refused.1, same) (Enters.lacks_room over create)

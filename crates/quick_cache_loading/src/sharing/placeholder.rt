@@ -1,19 +1,20 @@
 //! A key that is being loaded, as threads share it: its state behind a lock of its own.
-ghost use Rattle.std.specs.Prelude.{◌≡◌, IfSome, IfErr};
+ghost use Rattle.std.specs.Prelude.{◌≡◌, ◌⊎◌, true, false, is_some, IfSome, IfOk, IfErr, IsErr, OnErr};
 ghost use Rattle.std.specs.Int.NonZero.{non_zero_u32_get};
-ghost use Rattle.futures.specs.Poll.{IfReady, OnPending};
 ghost use Rattle.futures.specs.Task.{Covers, Keeps};
 ghost use Rattle.quick_cache_loading.specs.Fitting.{ClonesFit, FitsQuery};
-ghost use Rattle.quick_cache_loading.specs.Waiters.{IfGuard, IfValue};
+ghost use Rattle.quick_cache_loading.specs.Waiters.{IfGuard, IfValue, RefusesAsLoad, is_timeout};
+ghost use Rattle.quick_cache_loading.specs.Turns.{none_left};
 
-use crate::protocol::Answer;
+use crate::sharing::shard::LoadingShard;
+use crate::sharing::shared::SharedPlaceholder;
 use crate::sharing::turns::{Turns, turn};
-use crate::waiting::{Share, State, Waited};
-use futures::task::{Context, Poll, Source};
+use crate::waiting::{Filled, Place, Share, State, Waited};
+use futures::task::{Context, Source};
 use quick_cache_model::{Equivalent, Lifecycle, Token};
 use std::alloc::{Allocator, Global};
 use std::hash::Hash;
-use std::sync::{Condvar, Mutex, MutexGuard, Wait};
+use std::sync::{Condvar, Mutex, Wait};
 use std::time::Clock;
 
 /// A key that is being loaded. Its state lies behind a lock of its own, which is never held while
@@ -63,149 +64,155 @@ impl<K: Eq + Drop, V: Drop, L: Lifecycle<K, V>, A: Allocator> Placeholder<K, V, 
         }
     }
 
-    /// Its state, for as long as the lock is held.
-    pub fn state<R: Wait>(&self, rt: &R) -> MutexGuard<'_, State<K, V, L, A>> {
-        self.state.lock(rt)
-    }
-
     /// Hands the guard of a share on where anyone waits. Else the share comes back: a guard is given
     /// up only while the lock of the shard is held. It takes the state's lock.
-    pub fn hand_on<R: Wait>(&self, rt: &R, share: Share) -> Result<(), Share> {
+    pub fn hand_on<R: Wait>(&self, rt: &R, share: Share) -> Result<(), Share>
+        ensures back { IfErr result (λ back. back ≡ share) }
+    {
         let mut state = self.state.lock(rt);
-        if !state.has_waiters() {
-            return Err(share);
-        }
-        state.abandon_by(share);
+        state.hand_on(share)?;
         self.ready.notify_all();
         Ok(())
-    }
-
-    /// Gives the guard of a share up, or hands it on where anyone waits by now. The lock of the
-    /// shard is held, and it takes the state's. The answer tells whether nobody waited, so that the
-    /// placeholder is to leave.
-    pub fn give_up<R: Wait>(&self, rt: &R, share: Share) -> bool {
-        let mut state = self.state.lock(rt);
-        let answer = state.abandon_by(share);
-        self.ready.notify_all();
-        matches!(answer, Some(Answer::GivenUp))
-    }
-
-    /// Withdraws a waiter. The lock of the shard is held, and it takes the state's. The answer tells
-    /// whether it was the last and the guard was on its way to it, so that the placeholder is to
-    /// leave.
-    pub fn withdraw<R: Wait>(&self, rt: &R, waiter: u64) -> bool {
-        let mut state = self.state.lock(rt);
-        let answer = state.cancel(waiter);
-        self.ready.notify_all();
-        matches!(answer, Answer::GivenUp)
     }
 }
 
 impl<K: Eq + Hash + Drop, V: Clone, L: Lifecycle<K, V>, A: Allocator> Placeholder<K, V, L, A> {
-    /// Fills it with a value that fits the key, and wakes who waits, under the state's lock. The
-    /// answer tells whether anyone waited.
+    /// Fills it with a value that fits the key, and wakes who waits, under the state's lock. What it
+    /// gives tells the shard so.
     ///
     /// # Errors
     ///
-    /// The value, where the share or the key is of another placeholder.
-    pub fn fill<R: Wait>(&self, rt: &R, key: &K, share: Share, value: V) -> Result<bool, V>
+    /// The share and the value, where either the share or the key is of another placeholder.
+    pub fn fill<R: Wait>(
+        &self,
+        rt: &R,
+        key: &K,
+        share: Share,
+        value: V,
+    ) -> Result<Filled, (Share, V)>
         requires fits { L.fits key.now value }
-        ensures back { IfErr result (λ back. back ≡ value) }
+        ensures filled { IfOk result (λ filled. filled.ticket ≡ share) }
+        ensures back { IfErr result (λ back. (back.0 ≡ share) × (back.1 ≡ value)) }
     {
         let mut state = self.state.lock(rt);
-        let waited = state.fill_for(key, share, value)?;
+        let filled = state.fill_for(key, share, value)?;
         self.ready.notify_all();
-        Ok(waited)
+        Ok(filled)
     }
 
-    /// Looks once whether the guard or the value has come to a waiter, for the last time where its
-    /// time is over. A share of another placeholder is of no use, and the waiter looks again.
-    pub fn look<Q: Equivalent<K>>(
+    /// Gives the guard of a share up, or hands it on where anyone waits by now. The lock of the
+    /// shard is held, and it takes the state's. Where nobody waited the placeholder leaves the shard.
+    pub fn give_up<S: LoadingShard<K, V, L, A>, R: Wait>(
         &self,
-        state: &mut State<K, V, L, A>,
-        waiter: u64,
-        query: &Q,
-        is_over: bool,
-    ) -> Option<Waited<V>>
-        ensures share { IfSome result (λ told. IfGuard told (λ share. share ≡ self.now.ticket)) }
-        ensures fits { ClonesFit L.fits V.is_clone → IfSome result
-            (λ told. IfValue told (λ value. FitsQuery L.fits (Q.equivalent query.now) value)) }
+        rt: &R,
+        locked: &mut S,
+        share: Share,
+    )
+        requires share { share ≡ self.now.ticket }
+        ensures leaves { (locked.new ≡ locked.old)
+            ⊎ S.gives_up self.now.ticket locked.old locked.new }
     {
-        match state.look(waiter, query, is_over)? {
-            Waited::Guard(share) => Some(self.own(share)),
-            told => Some(told),
+        let mut state = self.state.lock(rt);
+        let (_, ended) = state.abandon_by(share);
+        drop(state);
+        self.ready.notify_all();
+        if let Some(ended) = ended {
+            ended.settle(locked, &SharedPlaceholder::named(self));
         }
     }
 
-    /// One comes to load the value or to wait for it, while the lock of the shard is held. It takes
-    /// the state's lock, and gives the number by which one waits.
+    /// Withdraws a waiter. The lock of the shard is held, and it takes the state's. Where it was the
+    /// last and the guard was on its way to it, the placeholder leaves the shard.
+    pub fn withdraw<S: LoadingShard<K, V, L, A>, R: Wait>(
+        &self,
+        rt: &R,
+        locked: &mut S,
+        place: Place,
+    )
+        requires place { place.ticket ≡ self.now.ticket }
+        ensures leaves { (locked.new ≡ locked.old)
+            ⊎ S.gives_up self.now.ticket locked.old locked.new }
+    {
+        let mut state = self.state.lock(rt);
+        let (_, ended) = state.withdraw(place);
+        drop(state);
+        self.ready.notify_all();
+        if let Some(ended) = ended {
+            ended.settle(locked, &SharedPlaceholder::named(self));
+        }
+    }
+
+    /// One comes to load the value or to wait for it, while the lock of the shard is held, as the
+    /// shard itself bears witness. It takes the state's lock, and gives the place of one who waits.
     ///
     /// # Errors
     ///
     /// What one is told who does not wait: that it has the guard, the value, that its time is over,
     /// that it looks in the shard again, or that memory was refused.
-    pub fn enter<Q: Equivalent<K>, R: Wait>(
+    pub fn enter<S: LoadingShard<K, V, L, A>, Q: Equivalent<K>, R: Wait>(
         &self,
         rt: &R,
+        _locked: &mut S,
         query: &Q,
         is_task: bool,
         is_over: bool,
-    ) -> Result<u64, Waited<V>>
+    ) -> Result<Place, Waited<V>>
+        ensures place { IfOk result (λ place. place.ticket ≡ self.now.ticket) }
+        ensures shard { _locked.new ≡ _locked.old }
+        ensures over { is_over ≡ true → IsErr result }
+        ensures refused { IfErr result RefusesAsLoad }
+        ensures timely { is_over ≡ false → IfErr result (λ told. is_timeout told ≡ false) }
         ensures share { IfErr result (λ told. IfGuard told (λ share. share ≡ self.now.ticket)) }
         ensures fits { ClonesFit L.fits V.is_clone → IfErr result
             (λ told. IfValue told (λ value. FitsQuery L.fits (Q.equivalent query.now) value)) }
     {
-        match self.state.lock(rt).enter(query, is_task, is_over) {
-            Err(Waited::Guard(share)) => Err(self.own(share)),
-            entered => entered,
+        let mut state = self.state.lock(rt);
+        if state.ticket() != self.ticket {
+            return Err(Waited::Again);
         }
+        state.enter(query, is_task, is_over)
     }
 
     /// A task looks whether the guard or the value has come to its waiter, and leaves its waker
     /// where it goes on waiting. It takes the state's lock, and waits for nothing else.
+    ///
+    /// # Errors
+    ///
+    /// Its place, where it goes on waiting.
     pub fn poll<Q: Equivalent<K>, R: Wait>(
         &self,
         rt: &R,
-        waiter: u64,
+        place: Place,
         query: &Q,
         cx: &mut Context<'_>,
-    ) -> Poll<Waited<V>>
-        ensures share { IfReady result (λ told. IfGuard told (λ share. share ≡ self.now.ticket)) }
-        ensures fits { ClonesFit L.fits V.is_clone → IfReady result
+    ) -> Result<Waited<V>, Place>
+        ensures place { IfErr result (λ kept. kept ≡ place) }
+        ensures refused { IfOk result RefusesAsLoad }
+        ensures timely { IfOk result (λ told. is_timeout told ≡ false) }
+        ensures share { IfOk result (λ told. IfGuard told (λ share. share ≡ place.ticket)) }
+        ensures fits { ClonesFit L.fits V.is_clone → IfOk result
             (λ told. IfValue told (λ value. FitsQuery L.fits (Q.equivalent query.now) value)) }
-        ensures registered { OnPending result (Covers cx.new (λ s. s ≡ self.now.source.id)) }
+        ensures registered { OnErr result (Covers cx.new (λ s. s ≡ self.now.source.id)) }
         ensures kept { Keeps cx.old cx.new }
     {
-        match self.state.lock(rt).poll(waiter, query, &self.source, cx) {
-            Poll::Ready(Waited::Guard(share)) => Poll::Ready(self.own(share)),
-            polled => polled,
-        }
-    }
-
-    /// What a waiter is told that is given this share.
-    fn own(&self, share: Share) -> Waited<V>
-        ensures share { IfGuard result (λ share. share ≡ self.now.ticket) }
-        ensures value { IfValue result (λ value. ⊥) }
-    {
-        if share.ticket() == self.ticket {
-            Waited::Guard(share)
-        } else {
-            share.end();
-            Waited::Again
-        }
+        self.state.lock(rt).poll(place, query, &self.source, cx)
     }
 
     /// Waits until the guard or the value comes to a waiter. It takes the state's lock, and lets it
     /// go while it sleeps.
-    pub fn wait<Q: Equivalent<K>, R: Wait>(&self, rt: &R, waiter: u64, query: &Q) -> Waited<V>
-        ensures share { IfGuard result (λ share. share ≡ self.now.ticket) }
+    pub fn wait<Q: Equivalent<K>, R: Wait>(&self, rt: &R, place: Place, query: &Q) -> Waited<V>
+        ensures refused { RefusesAsLoad result }
+        ensures timely { is_timeout result ≡ false }
+        ensures share { IfGuard result (λ share. share ≡ place.ticket) }
         ensures fits { ClonesFit L.fits V.is_clone
             → IfValue result (λ value. FitsQuery L.fits (Q.equivalent query.now) value) }
     {
+        let mut place = place;
         for _ in rt.forever() {
             let mut state = self.state.lock(rt);
-            if let Some(told) = self.look(&mut *state, waiter, query, false) {
-                return told;
+            match state.look(place, query, false) {
+                Ok(told) => return told,
+                Err(kept) => place = kept,
             }
             drop(self.ready.wait(rt, state));
         }
@@ -216,21 +223,27 @@ impl<K: Eq + Hash + Drop, V: Clone, L: Lifecycle<K, V>, A: Allocator> Placeholde
     pub fn wait_within<Q: Equivalent<K>, R: Wait + Clock>(
         &self,
         rt: &R,
-        waiter: u64,
+        place: Place,
         query: &Q,
         turns: &mut Turns,
     ) -> Waited<V>
-        ensures share { IfGuard result (λ share. share ≡ self.now.ticket) }
+        ensures refused { RefusesAsLoad result }
+        // Its time is over only where no turn is left.
+        ensures timely { is_timeout result ≡ true → none_left turns.new.left ≡ true }
+        ensures counted { is_some turns.new.left ≡ is_some turns.old.left }
+        ensures share { IfGuard result (λ share. share ≡ place.ticket) }
         ensures fits { ClonesFit L.fits V.is_clone
             → IfValue result (λ value. FitsQuery L.fits (Q.equivalent query.now) value) }
     {
         if !turns.is_counted() {
-            return self.wait(rt, waiter, query);
+            return self.wait(rt, place, query);
         }
+        let mut place = place;
         for _ in rt.forever() {
             let mut state = self.state.lock(rt);
-            if let Some(told) = self.look(&mut *state, waiter, query, turns.is_over()) {
-                return told;
+            match state.look(place, query, turns.is_over()) {
+                Ok(told) => return told,
+                Err(kept) => place = kept,
             }
             let (state, waited) = self.ready.wait_timeout(rt, state, turn());
             drop(state);

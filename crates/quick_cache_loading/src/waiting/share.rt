@@ -32,8 +32,9 @@ impl Share {
         self.ticket
     }
 
-    /// Lets go of a share that is of no use: its placeholder is not the one that it is brought to.
-    pub fn end(self) {
+    /// Lets go of a share that is of no use: its placeholder is not the one that it is brought to,
+    /// or no guard of that is held.
+    pub(crate) fn end(self) {
         let Share { ticket: _ } = self;
     }
 }

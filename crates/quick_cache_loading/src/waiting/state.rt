@@ -1,14 +1,17 @@
 //! The state of a placeholder, as its lock keeps it.
-ghost use Rattle.std.specs.Prelude.{◌≡◌, ◌≢◌, ◌==◌, true, false, MatchOption, not, length, Some, []};
+ghost use Rattle.std.specs.Prelude.{◌≡◌, ◌≢◌, ◌==◌, ◌+◌, true, false, MatchOption, MatchResult, not, length, Some, None, [], IfSome, is_some};
 ghost use Rattle.quick_cache_loading.specs.Core.{new_core, is_sound, waiters_of, waits};
 ghost use Rattle.quick_cache_loading.specs.LoadingStep.{LoadingStep};
 ghost use Rattle.quick_cache_loading.specs.LoadingLaws.{ShowsNothing};
 ghost use Rattle.quick_cache_loading.specs.Tasks.{slots_after, slots_of_others};
+ghost use Rattle.quick_cache_loading.specs.Waiters.{ends_life};
 
 mod events;
 mod visits;
 
 use crate::protocol::{Answer, Core, Event, abandon, cancel};
+use crate::waiting::ended::Ended;
+use crate::waiting::place::Place;
 use crate::waiting::share::Share;
 use crate::waiting::tasks::Tasks;
 use quick_cache_model::Lifecycle;
@@ -37,7 +40,7 @@ impl<K: Eq + Drop, V: Drop, L: Lifecycle<K, V>, A: Allocator> Model for State<K,
 
     ghost Value = { WaitingState K V };
 
-    ghost view = { λ s. record { ticket = s.ticket; key = s.key; core = s.core; tasks = s.tasks } };
+    ghost view = { λ s. record { ticket = s.ticket; key = s.key; core = s.core; tasks = s.tasks; next = s.next } };
 
     ghost invariant = { λ s. (is_some s.share ≡ (held_count s.core == 0))
         × IfSome s.share (λ share. share ≡ s.ticket) × FilledFits L.fits s.key s.core.life };
@@ -71,10 +74,30 @@ fn keep(place: &mut Option<Share>, share: Share)
     }
 }
 
+/// What tells the shard that a life ended, exactly where it did.
+fn ended_by<V>(ticket: u64, answer: &Answer<V>) -> Option<Ended>
+    ensures ends { is_some result ≡ ends_life answer.now }
+    ensures ended { IfSome result (λ ended. ended.ticket ≡ ticket) }
+{
+    match answer {
+        Answer::GivenUp => Some(Ended::new(ticket)),
+        Answer::Created => None,
+        Answer::Joined => None,
+        Answer::Value(_) => None,
+        Answer::Guard => None,
+        Answer::Waiting => None,
+        Answer::TimedOut => None,
+        Answer::HandedTo(_) => None,
+        Answer::Done => None,
+        Answer::Refused(_) => None,
+        Answer::NotNow => None,
+    }
+}
+
 impl<K: Eq + Drop, V: Drop, L: Lifecycle<K, V>, A: Allocator> State<K, V, L, A> {
     /// A state whose life has not begun, with the one share of its ticket. It allocates nothing.
     pub fn new(alloc: A, tasks: A, ticket: u64, key: K) -> Self
-        ensures { result ≡ record { ticket = ticket; key = key; core = new_core; tasks = [] } }
+        ensures { result ≡ record { ticket = ticket; key = key; core = new_core; tasks = []; next = 0 } }
     {
         State {
             ticket,
@@ -108,22 +131,32 @@ impl<K: Eq + Drop, V: Drop, L: Lifecycle<K, V>, A: Allocator> State<K, V, L, A> 
         self.core.is_held();
     }
 
-    /// A number for one who comes to wait: one that nobody had, until all are spent.
-    pub fn next_waiter(&mut self) -> u64
-        ensures { self.new ≡ self.old }
+    /// A number for one who comes to wait, which nobody had: they are counted up. Nothing changes
+    /// where all are spent.
+    pub fn next_waiter(&mut self) -> Option<u64>
+        ensures { MatchOption result
+            ((self.new ≡ self.old) × (self.old.next ≡ u64.MAX))
+            (λ waiter. (waiter ≡ self.old.next)
+            × (self.new ≡ record self.old { next = self.old.next + 1 })) }
     {
         let waiter = self.next;
-        self.next = self.next.saturating_add(1);
-        waiter
+        if waiter == u64::MAX {
+            return None;
+        }
+        self.next = waiter + 1;
+        Some(waiter)
     }
 
     /// Gives the guard of a share up, as `abandon` does. A share of another placeholder ends, and
     /// there is no answer.
-    pub fn abandon_by(&mut self, share: Share) -> Option<Answer<V>>
-        ensures event { MatchOption result
-            ((share ≢ self.old.ticket) × (self.new ≡ self.old))
-            (λ answer. LoadingStep ShowsNothing self.old.core Event.Abandon answer
-            self.new.core) }
+    pub fn abandon_by(&mut self, share: Share) -> (Option<Answer<V>>, Option<Ended>)
+        ensures event { MatchOption result.0
+            ((share ≢ self.old.ticket) × (self.new ≡ self.old) × (result.1 ≡ None))
+            (λ answer. (share ≡ self.old.ticket)
+            × LoadingStep ShowsNothing self.old.core Event.Abandon answer self.new.core
+            × (is_some result.1 ≡ ends_life answer)
+            × (self.new.tasks ≡ slots_after answer self.old.tasks)) }
+        ensures ended { IfSome result.1 (λ ended. ended.ticket ≡ share) }
         ensures same { self.new ≡ record self.old {
           core = self.new.core;
           tasks = self.new.tasks;
@@ -131,9 +164,35 @@ impl<K: Eq + Drop, V: Drop, L: Lifecycle<K, V>, A: Allocator> State<K, V, L, A> 
     {
         if share.ticket() != self.ticket {
             share.end();
-            return None;
+            return (None, None);
         }
-        Some(self.abandon(share))
+        let (answer, ended) = self.abandon(share);
+        (Some(answer), ended)
+    }
+
+    /// Hands the guard of a share on where anyone waits. Else the share comes back. A share of
+    /// another placeholder ends.
+    pub fn hand_on(&mut self, share: Share) -> Result<Option<Answer<V>>, Share>
+        ensures event { MatchResult result
+            (λ handed. MatchOption handed
+            ((share ≢ self.old.ticket) × (self.new ≡ self.old))
+            (λ answer. LoadingStep ShowsNothing self.old.core Event.Abandon answer self.new.core
+            × (self.new.tasks ≡ slots_after answer self.old.tasks)))
+            (λ back. (back ≡ share) × (waiters_of self.old.core.life ≡ [])
+            × (self.new ≡ self.old)) }
+        ensures same { self.new ≡ record self.old {
+          core = self.new.core;
+          tasks = self.new.tasks;
+        } }
+    {
+        if !self.has_waiters() {
+            return Err(share);
+        }
+        let (answer, ended) = self.abandon_by(share);
+        match ended {
+            None => Ok(answer),
+            Some(_ended) => unreachable!(),
+        }
     }
 
     /// Whether anyone waits.
@@ -144,11 +203,14 @@ impl<K: Eq + Drop, V: Drop, L: Lifecycle<K, V>, A: Allocator> State<K, V, L, A> 
     }
 
     /// Gives the guard up, which takes its share back. Where it is not held, the share ends.
-    pub fn abandon(&mut self, share: Share) -> Answer<V>
+    pub fn abandon(&mut self, share: Share) -> (Answer<V>, Option<Ended>)
         requires share { share ≡ self.old.ticket }
-        ensures event { LoadingStep ShowsNothing self.old.core Event.Abandon result self.new.core }
+        ensures event { LoadingStep ShowsNothing self.old.core Event.Abandon result.0 self.new.core }
+        // What tells the shard comes exactly where the life was given up.
+        ensures ends { is_some result.1 ≡ ends_life result.0 }
+        ensures ended { IfSome result.1 (λ ended. ended.ticket ≡ self.old.ticket) }
         // The task of the one to whom the guard is handed is woken, and no other.
-        ensures woken { self.new.tasks ≡ slots_after result self.old.tasks }
+        ensures woken { self.new.tasks ≡ slots_after result.0 self.old.tasks }
         ensures same { self.new ≡ record self.old {
           core = self.new.core;
           tasks = self.new.tasks;
@@ -156,31 +218,64 @@ impl<K: Eq + Drop, V: Drop, L: Lifecycle<K, V>, A: Allocator> State<K, V, L, A> 
     {
         let answer = abandon(&mut self.core);
         self.tasks.wake_handed(&answer);
+        let ended = ended_by(self.ticket, &answer);
         match answer {
             Answer::NotNow => share.end(),
             _ => keep(&mut self.share, share),
         }
-        answer
+        (answer, ended)
     }
 
     /// Withdraws a waiter, whose task is woken. A guard that was on its way to it is handed on, or
     /// given up.
-    pub fn cancel(&mut self, waiter: u64) -> Answer<V>
-        ensures event { LoadingStep ShowsNothing self.old.core (Event.Cancel waiter) result
+    pub fn cancel(&mut self, place: Place) -> (Answer<V>, Option<Ended>)
+        requires place { place.ticket ≡ self.old.ticket }
+        ensures event { LoadingStep ShowsNothing self.old.core (Event.Cancel place.number) result.0
             self.new.core }
+        // What tells the shard comes exactly where the life was given up.
+        ensures ends { is_some result.1 ≡ ends_life result.0 }
+        ensures ended { IfSome result.1 (λ ended. ended.ticket ≡ self.old.ticket) }
         // It waits no more, and its slot is gone.
-        ensures withdrawn { waits waiter self.new.core ≡ false }
+        ensures withdrawn { waits place.number self.new.core ≡ false }
         ensures woken { self.new.tasks
-            ≡ slots_after result (slots_of_others waiter self.old.tasks) }
+            ≡ slots_after result.0 (slots_of_others place.number self.old.tasks) }
         ensures same { self.new ≡ record self.old {
           core = self.new.core;
           tasks = self.new.tasks;
         } }
     {
         self.is_sound();
+        let waiter = place.end();
         self.tasks.wake(waiter);
         let answer = cancel(&mut self.core, waiter);
         self.tasks.wake_handed(&answer);
-        answer
+        let ended = ended_by(self.ticket, &answer);
+        (answer, ended)
+    }
+
+    /// Withdraws a waiter, as `cancel` does. A place at another placeholder ends, and there is no
+    /// answer.
+    pub fn withdraw(&mut self, place: Place) -> (Option<Answer<V>>, Option<Ended>)
+        ensures event { MatchOption result.0
+            ((place.ticket ≢ self.old.ticket) × (self.new ≡ self.old) × (result.1 ≡ None))
+            (λ answer. (place.ticket ≡ self.old.ticket)
+            × LoadingStep ShowsNothing self.old.core (Event.Cancel place.number) answer
+            self.new.core
+            × (waits place.number self.new.core ≡ false)
+            × (is_some result.1 ≡ ends_life answer)
+            × (self.new.tasks
+            ≡ slots_after answer (slots_of_others place.number self.old.tasks))) }
+        ensures ended { IfSome result.1 (λ ended. ended.ticket ≡ place.ticket) }
+        ensures same { self.new ≡ record self.old {
+          core = self.new.core;
+          tasks = self.new.tasks;
+        } }
+    {
+        if place.ticket() != self.ticket {
+            place.end();
+            return (None, None);
+        }
+        let (answer, ended) = self.cancel(place);
+        (Some(answer), ended)
     }
 }

@@ -1,8 +1,9 @@
 //! The wakers of the tasks that wait.
-ghost use Rattle.std.specs.Prelude.{◌≡◌, ◌⊎◌, ◌<◌, ◌++◌, ◌∷◌, true, [], None, IfSome, OnOk, OnErr, HoldsAt, vec_len};
+ghost use Rattle.std.specs.Prelude.{◌≡◌, ◌⊎◌, ◌<◌, ◌==◌, ◌++◌, ◌∷◌, true, false, [], None, IfSome, OnOk, OnErr, HoldsAt, vec_len};
+ghost use Rattle.std.specs.List.{position};
 ghost use Rattle.futures.specs.Poll.{OnPending};
 ghost use Rattle.futures.specs.Task.{Covers, Keeps};
-ghost use Rattle.quick_cache_loading.specs.Tasks.{HasWaker, slots_after, slots_of_others};
+ghost use Rattle.quick_cache_loading.specs.Tasks.{HasWaker, has_slot, slots_after, slots_of_others};
 
 use crate::protocol::Answer;
 use futures::task::{Context, Poll, Source, Waker};
@@ -63,13 +64,16 @@ impl<A: Allocator> Tasks<A> {
         ensures registered { Covers cx.new (λ s. s ≡ source.now.id) }
         ensures kept { Keeps cx.old cx.new }
         ensures waker { (cx.new.lacks_waker ≡ true)
-            ⊎ ((cx.new.is_woken ≡ true) ⊎ HasWaker waiter cx.old self.new) }
+            ⊎ (((has_slot waiter self.old ≡ false) × (cx.new.is_woken ≡ true))
+            ⊎ HasWaker waiter cx.old self.new) }
     {
-        let Some(at) = place_of(&self.slots, waiter) else {
-            return cx.yield_now();
-        };
-        let slot = &mut self.slots[at];
-        cx.register(source, &mut slot.waker)
+        match place_of(&self.slots, waiter) {
+            None => cx.yield_now(),
+            Some(at) => {
+                let slot = &mut self.slots[at];
+                cx.register(source, &mut slot.waker)
+            }
+        }
     }
 
     /// Takes the waiter's slot out, and so wakes its task, and no other.
@@ -100,6 +104,7 @@ impl<A: Allocator> Tasks<A> {
 fn place_of<A: Allocator>(slots: &Vec<Slot, A>, waiter: u64) -> Option<usize>
     ensures range { IfSome result (λ at. at < vec_len slots.now) }
     ensures place { IfSome result (HoldsAt (λ slot. slot.waiter ≡ waiter) slots.now.items) }
+    ensures found { result ≡ position (λ slot. slot.waiter == waiter) slots.now.items }
 {
     slots.iter().position(|slot| slot.waiter == waiter)
 }

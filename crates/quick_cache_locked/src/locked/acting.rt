@@ -1,5 +1,6 @@
 //! Entry calls on a shard behind its lock.
-ghost use Rattle.std.specs.Prelude.{◌≡◌};
+ghost use Rattle.std.specs.Prelude.{◌≡◌, IfErr};
+ghost use Rattle.quick_cache_loading.specs.Waiters.{IsLoadRefusal};
 ghost use Rattle.quick_cache_guard.specs.Acts.{DoesAsChosen, IfAbsent, IfGone, IfKept, LeavesFit, MayTell};
 ghost use Rattle.quick_cache_shard.specs.Entering.{AnswersEntry};
 ghost use Rattle.quick_cache_shard.specs.Shard.{LosesOnly, KeepsWork};
@@ -43,6 +44,7 @@ impl<
         ensures tells { IfKept result (λ told. MayTell F.FnMut L.fits
             (Q.equivalent query.now) callback.old told) }
         ensures uncalled { IfAbsent result (callback.new ≡ callback.old) }
+        ensures refused { IfErr result IsLoadRefusal }
         ensures chosen { DoesAsChosen F.FnMut L.fits
             (Q.equivalent query.now) callback.old result callback.new }
         ensures places { LosesOnly self.old.places self.new.places }

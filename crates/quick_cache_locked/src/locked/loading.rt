@@ -2,15 +2,16 @@
 ghost use Rattle.std.specs.Prelude.{◌≡◌, IfOk};
 ghost use Rattle.quick_cache_model.specs.Placeholders.{GivesUpPlaceholder};
 ghost use Rattle.quick_cache_shard.specs.Shard.{KeepsPlaces, LosesOnly, UpToOrder};
-ghost use Rattle.quick_cache_guard.specs.Begins.{IfFound};
+ghost use Rattle.quick_cache_loading.specs.Begins.{IfFound};
 ghost use Rattle.quick_cache_locked.specs.Fitting.{ClonesFit, FitsQuery};
-ghost use Rattle.quick_cache_locked.specs.Loads.{BeginsLoad, EndsLoadBy, StandsForGiven};
+ghost use Rattle.quick_cache_locked.specs.Loads.{BeginsLoad, EndsLoadBy, EndsSomeLoad, StandsForGiven};
 ghost use Rattle.quick_cache_locked.specs.Locked.{IsKept};
 ghost use Rattle.quick_cache_locked.specs.Touches.{any_touches};
 
 use crate::locked::LockedShard;
 use quick_cache_guard::{Begun, LoadingShard};
 use quick_cache_loading::sharing::SharedPlaceholder;
+use quick_cache_loading::waiting::{Ended, Filled};
 use quick_cache_model::{Equivalent, Lifecycle, Refusal, ToKey, Weighter};
 use quick_cache_shard::{Going, Keyed};
 use std::alloc::Allocator;
@@ -118,6 +119,12 @@ impl<
     L: Lifecycle<K, V>,
     A: Allocator + Clone,
 > LoadingShard<K, V, L, A> for LockedShard<K, V, We, B, L, A> {
+    ghost gives_up = { λ ticket old new.
+        UpToOrder (GivesUpPlaceholder ticket old.state) new.state };
+
+    // A load ended so in some shard that a lock kept. Nobody knows which one it was.
+    ghost fills = { EndsSomeLoad L.Lifecycle K.eq ⟦<Self as Going>⟧.goes any_touches };
+
     fn find<Q: Equivalent<K>>(&self, query: &Q) -> Result<Option<V>, Refusal> {
         self.find(query)
     }
@@ -132,15 +139,15 @@ impl<
     fn fill(
         &mut self,
         placeholder: &SharedPlaceholder<K, V, L, A>,
+        filled: &Filled,
         key: &K,
-        waited: bool,
         value: V,
         state: &mut L::RequestState,
     ) -> Result<(), V> {
-        self.end_load(placeholder, key, waited, value, state)
+        self.end_load(placeholder, key, filled.waited(), value, state)
     }
 
-    fn give_up(&mut self, placeholder: &SharedPlaceholder<K, V, L, A>) {
+    fn give_up(&mut self, placeholder: &SharedPlaceholder<K, V, L, A>, _ended: &Ended) {
         self.give_up_load(placeholder);
     }
 }

@@ -1,12 +1,15 @@
 //! What happens to a placeholder: each call is one event of its core.
-ghost use Rattle.std.specs.Prelude.{◌≡◌, ◌⊎◌, ◌==◌, MatchResult, not, length, IfSome, IfErr, is_some};
-ghost use Rattle.quick_cache_loading.specs.Core.{waiters_of};
+ghost use Rattle.std.specs.Prelude.{◌≡◌, ◌≢◌, ◌⊎◌, ◌==◌, MatchResult, not, length, IfSome, IfOk, IfErr, IsSome, OnErr, is_some, false};
+ghost use Rattle.quick_cache_loading.specs.Core.{held_count, waiters_of};
 ghost use Rattle.quick_cache_loading.specs.LoadingStep.{LoadingStep};
 ghost use Rattle.quick_cache_loading.specs.LoadingLaws.{given_by, shown_by};
 ghost use Rattle.quick_cache_loading.specs.Fitting.{ClonesFit};
-ghost use Rattle.quick_cache_loading.specs.Waiters.{answer_of_fill};
+ghost use Rattle.quick_cache_loading.specs.Waiters.{answer_of_fill, has_joined, is_timed_out, waits_on};
+ghost use Rattle.quick_cache_loading.specs.Tasks.{slots_after_fill, with_slot};
 
 use crate::protocol::{Answer, Event, step};
+use crate::waiting::ended::Filled;
+use crate::waiting::place::Place;
 use crate::waiting::share::Share;
 use crate::waiting::state::{State, keep};
 use quick_cache_model::{Lifecycle, Refusal};
@@ -28,56 +31,99 @@ impl<K: Eq + Drop, V: Clone, L: Lifecycle<K, V>, A: Allocator> State<K, V, L, A>
         (answer, share)
     }
 
-    /// A waiter asks for the value, and waits for it where it is loading.
-    pub fn join(&mut self, waiter: u64) -> Answer<V>
-        ensures event { LoadingStep V.is_clone self.old.core (Event.Join waiter) result
+    /// A waiter asks for the value, and waits for it where it is loading. It gets its place exactly
+    /// where it joined.
+    pub fn join(&mut self, waiter: u64) -> (Answer<V>, Option<Place>)
+        ensures event { LoadingStep V.is_clone self.old.core (Event.Join waiter) result.0
             self.new.core }
+        ensures gives { is_some result.1 ≡ has_joined result.0 }
+        ensures place { IfSome result.1 (λ place. place ≡ record {
+          ticket = self.old.ticket;
+          number = waiter;
+        }) }
         ensures fits { ClonesFit L.fits V.is_clone
-            → IfSome (shown_by result) (λ value. L.fits self.old.key value) }
+            → IfSome (shown_by result.0) (λ value. L.fits self.old.key value) }
         ensures same { self.new ≡ record self.old { core = self.new.core } }
     {
-        step(&mut self.core, Event::Join(waiter))
+        let answer = step(&mut self.core, Event::Join(waiter));
+        let place = match answer {
+            Answer::Joined => Some(Place::new(self.ticket, waiter)),
+            _ => None,
+        };
+        (answer, place)
     }
 
     /// As `join`, for a task, which gets a slot for its waker first.
-    pub fn join_as_task(&mut self, waiter: u64) -> Answer<V>
-        ensures event { LoadingStep V.is_clone self.old.core (Event.Join waiter) result
+    pub fn join_as_task(&mut self, waiter: u64) -> (Answer<V>, Option<Place>)
+        ensures event { LoadingStep V.is_clone self.old.core (Event.Join waiter) result.0
             self.new.core
-            ⊎ ((result ≡ Answer.Refused Refusal.Memory) × (self.new.core ≡ self.old.core)) }
+            ⊎ ((result.0 ≡ Answer.Refused Refusal.Memory) × (self.new.core ≡ self.old.core)) }
+        ensures gives { is_some result.1 ≡ has_joined result.0 }
+        ensures place { IfSome result.1 (λ place. place ≡ record {
+          ticket = self.old.ticket;
+          number = waiter;
+        }) }
+        // It has a slot, and the others keep theirs.
+        ensures slot { IsSome result.1 → self.new.tasks ≡ with_slot waiter self.old.tasks }
         ensures fits { ClonesFit L.fits V.is_clone
-            → IfSome (shown_by result) (λ value. L.fits self.old.key value) }
+            → IfSome (shown_by result.0) (λ value. L.fits self.old.key value) }
         ensures same { self.new ≡ record self.old {
           core = self.new.core;
           tasks = self.new.tasks;
         } }
     {
         if self.tasks.add(waiter).is_err() {
-            return Answer::Refused(Refusal::Memory);
+            return (Answer::Refused(Refusal::Memory), None);
         }
-        let answer = self.join(waiter);
-        match &answer {
-            Answer::Joined => {}
-            _ => self.tasks.wake(waiter),
+        let (answer, place) = self.join(waiter);
+        match &place {
+            Some(_) => {}
+            None => self.tasks.wake(waiter),
         }
-        answer
+        (answer, place)
+    }
+
+    /// Joins as a task, or as a thread.
+    pub(crate) fn join_by(&mut self, waiter: u64, is_task: bool) -> (Answer<V>, Option<Place>)
+        ensures event { LoadingStep V.is_clone self.old.core (Event.Join waiter) result.0
+            self.new.core
+            ⊎ ((result.0 ≡ Answer.Refused Refusal.Memory) × (self.new.core ≡ self.old.core)) }
+        ensures gives { is_some result.1 ≡ has_joined result.0 }
+        ensures place { IfSome result.1 (λ place. place ≡ record {
+          ticket = self.old.ticket;
+          number = waiter;
+        }) }
+        ensures fits { ClonesFit L.fits V.is_clone
+            → IfSome (shown_by result.0) (λ value. L.fits self.old.key value) }
+        ensures same { self.new ≡ record self.old {
+          core = self.new.core;
+          tasks = self.new.tasks;
+        } }
+    {
+        if is_task {
+            self.join_as_task(waiter)
+        } else {
+            self.join(waiter)
+        }
     }
 
     /// Fills the placeholder with a value that fits its key, and takes the share back. Where no
-    /// guard is held the share ends, and the value comes back.
-    pub fn fill(&mut self, share: Share, value: V) -> Result<(), V>
+    /// guard is held the share and the value come back.
+    pub fn fill(&mut self, share: Share, value: V) -> Result<(), (Share, V)>
         requires share { share ≡ self.old.ticket }
         requires fits { L.fits self.old.key value }
         ensures event { LoadingStep V.is_clone self.old.core (Event.Fill value)
             (answer_of_fill result) self.new.core }
-        ensures back { IfErr result (λ back. back ≡ value) }
+        ensures back { IfErr result (λ back. (back.0 ≡ share) × (back.1 ≡ value)) }
+        // All tasks are woken by a fill, and by nothing else.
+        ensures woken { self.new.tasks ≡ slots_after_fill result self.old.tasks }
         ensures same { self.new ≡ record self.old {
           core = self.new.core;
           tasks = self.new.tasks;
         } }
     {
         if !self.core.is_held() {
-            share.end();
-            return Err(value);
+            return Err((share, value));
         }
         step(&mut self.core, Event::Fill(value));
         keep(&mut self.share, share);
@@ -86,59 +132,86 @@ impl<K: Eq + Drop, V: Clone, L: Lifecycle<K, V>, A: Allocator> State<K, V, L, A>
     }
 
     /// Fills the placeholder as `fill` does, with a value that fits the guard's own copy of the
-    /// key, and tells whether anyone waited. A share of another placeholder ends, and so does that
-    /// of another key: the value comes back.
-    pub fn fill_for(&mut self, key: &K, share: Share, value: V) -> Result<bool, V>
+    /// key, and gives what tells the shard so, and whether anyone waited. Where the share is of
+    /// another placeholder, or the key is, both come back.
+    pub fn fill_for(&mut self, key: &K, share: Share, value: V) -> Result<Filled, (Share, V)>
         requires fits { L.fits key.now value }
         ensures event { MatchResult result
-            (λ waited. (waited ≡ not (length (waiters_of self.old.core.life) == 0))
-            × LoadingStep V.is_clone self.old.core (Event.Fill value) Answer.Done self.new.core)
+            (λ filled. (filled ≡ record {
+              ticket = self.old.ticket;
+              waited = not (length (waiters_of self.old.core.life) == 0);
+            }) × LoadingStep V.is_clone self.old.core (Event.Fill value) Answer.Done self.new.core
+            × (share ≡ self.old.ticket))
             (λ back. self.new.core ≡ self.old.core) }
-        // It comes back where the placeholder was another, or no guard was held.
-        ensures back { IfErr result (λ back. back ≡ value) }
+        ensures woken { self.new.tasks ≡ slots_after_fill result self.old.tasks }
+        // It comes back where the placeholder was another, or no guard was held, and only there.
+        ensures back { IfErr result (λ back. (back.0 ≡ share) × (back.1 ≡ value)) }
+        ensures refused { OnErr result ((share ≢ self.old.ticket) ⊎ ((key.now ≢ self.old.key)
+            ⊎ (held_count self.old.core ≡ 0))) }
         ensures same { self.new ≡ record self.old {
           core = self.new.core;
           tasks = self.new.tasks;
         } }
     {
-        if share.ticket() != self.ticket || *key != self.key {
-            share.end();
-            return Err(value);
+        if share.ticket() != self.ticket {
+            return Err((share, value));
+        }
+        if *key != self.key {
+            return Err((share, value));
         }
         let waited = self.has_waiters();
         self.fill(share, value)?;
-        Ok(waited)
+        Ok(Filled::new(self.ticket, waited))
     }
 
     /// A waiter looks whether the guard or the value has come.
-    pub fn take(&mut self, waiter: u64) -> (Answer<V>, Option<Share>)
-        ensures event { LoadingStep V.is_clone self.old.core (Event.Take waiter) result.0
-            self.new.core }
-        ensures gives { is_some result.1 ≡ (given_by result.0 == 1) }
-        ensures share { IfSome result.1 (λ share. share ≡ self.old.ticket) }
-        ensures fits { ClonesFit L.fits V.is_clone
-            → IfSome (shown_by result.0) (λ value. L.fits self.old.key value) }
+    ///
+    /// # Errors
+    ///
+    /// Its place, exactly where it goes on waiting.
+    pub fn take(&mut self, place: Place) -> Result<(Answer<V>, Option<Share>), Place>
+        requires place { place.ticket ≡ self.old.ticket }
+        ensures event { MatchResult result
+            (λ given. (waits_on given.0 ≡ false) × (is_timed_out given.0 ≡ false)
+            × LoadingStep V.is_clone self.old.core (Event.Take place.number) given.0
+            self.new.core)
+            (λ kept. (kept ≡ place)
+            × LoadingStep V.is_clone self.old.core (Event.Take place.number) Answer.Waiting
+            self.new.core) }
+        ensures gives { IfOk result (λ given. is_some given.1 ≡ (given_by given.0 == 1)) }
+        ensures share { IfOk result (λ given. IfSome given.1
+            (λ share. share ≡ self.old.ticket)) }
+        ensures fits { ClonesFit L.fits V.is_clone → IfOk result
+            (λ given. IfSome (shown_by given.0) (λ value. L.fits self.old.key value)) }
         ensures same { self.new ≡ record self.old { core = self.new.core } }
     {
-        let answer = step(&mut self.core, Event::Take(waiter));
-        let share = match answer {
-            Answer::Guard => self.share.take(),
-            _ => None,
-        };
-        (answer, share)
+        let answer = step(&mut self.core, Event::Take(place.number()));
+        match answer {
+            Answer::Waiting => Err(place),
+            Answer::Guard => {
+                place.end();
+                Ok((Answer::Guard, self.share.take()))
+            }
+            other => {
+                place.end();
+                Ok((other, None))
+            }
+        }
     }
 
     /// A waiter's time is over: it takes what has come, or waits no more.
-    pub fn time_out(&mut self, waiter: u64) -> (Answer<V>, Option<Share>)
-        ensures event { LoadingStep V.is_clone self.old.core (Event.TimeOut waiter) result.0
+    pub fn time_out(&mut self, place: Place) -> (Answer<V>, Option<Share>)
+        requires place { place.ticket ≡ self.old.ticket }
+        ensures event { LoadingStep V.is_clone self.old.core (Event.TimeOut place.number) result.0
             self.new.core }
         ensures gives { is_some result.1 ≡ (given_by result.0 == 1) }
         ensures share { IfSome result.1 (λ share. share ≡ self.old.ticket) }
+        ensures ends { waits_on result.0 ≡ false }
         ensures fits { ClonesFit L.fits V.is_clone
             → IfSome (shown_by result.0) (λ value. L.fits self.old.key value) }
         ensures same { self.new ≡ record self.old { core = self.new.core } }
     {
-        let answer = step(&mut self.core, Event::TimeOut(waiter));
+        let answer = step(&mut self.core, Event::TimeOut(place.end()));
         let share = match answer {
             Answer::Guard => self.share.take(),
             _ => None,

@@ -1,19 +1,19 @@
 //! Those who come to a placeholder and look at it again: what each of them is told.
-ghost use Rattle.std.specs.Prelude.{◌≡◌, ◌⊎◌, ◌==◌, true, IfSome, IfErr, is_some};
-ghost use Rattle.futures.specs.Poll.{IfReady, OnPending};
+ghost use Rattle.std.specs.Prelude.{◌≡◌, ◌≢◌, ◌⊎◌, ◌==◌, ◌+◌, ◌≤◌, ℕ, true, false, Some, IfSome, IfOk, IfErr, IsOk, IsErr, OnOk, OnErr, is_some};
 ghost use Rattle.futures.specs.Task.{Covers, Keeps};
 ghost use Rattle.quick_cache_loading.specs.LoadingLaws.{given_by, shown_by};
 ghost use Rattle.quick_cache_loading.specs.Fitting.{ClonesFit, FitsQuery};
-ghost use Rattle.quick_cache_loading.specs.Tasks.{HasWaker};
-ghost use Rattle.quick_cache_loading.specs.Waiters.{look_event, Looks, Tells, IfGuard, IfValue, ready_or_none};
+ghost use Rattle.quick_cache_loading.specs.Tasks.{HasWaker, has_slot};
+ghost use Rattle.quick_cache_loading.specs.Waiters.{look_event, Looks, Tells, IfGuard, IfValue, RefusesAsLoad, by_number, has_joined, is_timed_out, is_timeout, told_or_none, waits_on};
 ghost use Rattle.quick_cache_loading.specs.Entering.{Enters, LooksOnce, TellsNewcomer};
 
 use crate::protocol::{Answer, Event};
+use crate::waiting::place::Place;
 use crate::waiting::share::Share;
 use crate::waiting::state::State;
 use crate::waiting::waited::Waited;
 use futures::task::{Context, Poll, Source};
-use quick_cache_model::{Equivalent, Lifecycle};
+use quick_cache_model::{Equivalent, Lifecycle, Refusal};
 use std::alloc::Allocator;
 use std::hash::Hash;
 
@@ -26,164 +26,221 @@ impl<K: Eq + Hash + Drop, V: Clone, L: Lifecycle<K, V>, A: Allocator> State<K, V
     }
 
     /// A waiter looks whether the guard or the value has come, for the last time where its time is
-    /// over. Nothing is told to one who goes on waiting.
+    /// over. One who goes on waiting keeps its place. A place at another placeholder ends, and who
+    /// has it looks in the shard again.
     pub fn look<Q: Equivalent<K>>(
         &mut self,
-        waiter: u64,
+        place: Place,
         query: &Q,
         is_over: bool,
-    ) -> Option<Waited<V>>
-        ensures looks { Looks V.is_clone self.old.core (look_event waiter is_over) result
-            self.new.core }
-        ensures share { IfSome result (λ told. IfGuard told (λ share. share ≡ self.old.ticket)) }
-        ensures fits { ClonesFit L.fits V.is_clone → IfSome result
+    ) -> Result<Waited<V>, Place>
+        ensures looks { place.ticket ≡ self.old.ticket
+            → Looks V.is_clone (Q.equivalent query.now self.old.key) self.old.core (look_event place.number is_over)
+            (told_or_none result) self.new.core }
+        ensures elsewhere { place.ticket ≢ self.old.ticket
+            → (result ≡ Ok Waited.Again) × (self.new ≡ self.old) }
+        ensures place { IfErr result (λ kept. kept ≡ place) }
+        ensures over { is_over ≡ true → IsOk result }
+        ensures refused { IfOk result RefusesAsLoad }
+        ensures timely { is_over ≡ false → IfOk result (λ told. is_timeout told ≡ false) }
+        ensures share { IfOk result (λ told. IfGuard told (λ share. share ≡ place.ticket)) }
+        ensures fits { ClonesFit L.fits V.is_clone → IfOk result
             (λ told. IfValue told (λ value. FitsQuery L.fits (Q.equivalent query.now) value)) }
         ensures same { self.new ≡ record self.old { core = self.new.core } }
     {
+        if place.ticket() != self.ticket {
+            place.end();
+            return Ok(Waited::Again);
+        }
         if is_over {
-            let (answer, share) = self.time_out(waiter);
-            self.told(query, answer, share)
-        } else {
-            let (answer, share) = self.take(waiter);
-            self.told(query, answer, share)
+            return Ok(self.look_last(place, query));
+        }
+        match self.take(place) {
+            Ok((answer, share)) => Ok(self.told(query, answer, share)),
+            Err(place) => Err(place),
         }
     }
 
-    /// What a waiter is told of the core's answer, and of the share that came with it.
+    /// A waiter whose time is over looks for the last time.
+    fn look_last<Q: Equivalent<K>>(&mut self, place: Place, query: &Q) -> Waited<V>
+        requires place { place.ticket ≡ self.old.ticket }
+        ensures looks { Looks V.is_clone (Q.equivalent query.now self.old.key) self.old.core (Event.TimeOut place.number) (Some result)
+            self.new.core }
+        ensures refused { RefusesAsLoad result }
+        ensures share { IfGuard result (λ share. share ≡ self.old.ticket) }
+        ensures fits { ClonesFit L.fits V.is_clone
+            → IfValue result (λ value. FitsQuery L.fits (Q.equivalent query.now) value) }
+        ensures same { self.new ≡ record self.old { core = self.new.core } }
+    {
+        let (answer, share) = self.time_out(place);
+        self.told(query, answer, share)
+    }
+
+    /// What a waiter that waits no more is told of the core's answer, and of the share that came
+    /// with it.
     fn told<Q: Equivalent<K>>(
         &self,
         query: &Q,
         answer: Answer<V>,
         share: Option<Share>,
-    ) -> Option<Waited<V>>
+    ) -> Waited<V>
         requires gives { is_some share ≡ (given_by answer == 1) }
+        requires ends { waits_on answer ≡ false }
         requires share { IfSome share (λ share. share ≡ self.now.ticket) }
-        ensures tells { Tells answer result }
-        ensures share { IfSome result (λ told. IfGuard told (λ share. share ≡ self.now.ticket)) }
+        ensures tells { Tells (Q.equivalent query.now self.now.key) answer (Some result) }
+        ensures refused { RefusesAsLoad result }
+        ensures timely { is_timed_out answer ≡ false → is_timeout result ≡ false }
+        ensures share { IfGuard result (λ share. share ≡ self.now.ticket) }
         ensures fits { IfSome (shown_by answer) (λ value. L.fits self.now.key value)
-            → IfSome result
-            (λ told. IfValue told (λ value. FitsQuery L.fits (Q.equivalent query.now) value)) }
+            → IfValue result (λ value. FitsQuery L.fits (Q.equivalent query.now) value) }
     {
         if let Some(share) = share {
-            return Some(Waited::Guard(share));
+            return Waited::Guard(share);
         }
         match answer {
             Answer::Value(value) => {
                 if self.is_for(query) {
-                    Some(Waited::Value(value))
+                    Waited::Value(value)
                 } else {
-                    Some(Waited::Again)
+                    Waited::Again
                 }
             }
-            Answer::Waiting => None,
-            Answer::TimedOut => Some(Waited::Timeout),
-            Answer::Refused(refusal) => Some(Waited::Refused(refusal)),
+            Answer::TimedOut => Waited::Timeout,
+            Answer::Refused(_) => Waited::Refused(Refusal::Memory),
+            Answer::Waiting => unreachable!(),
             Answer::Created => unreachable!(),
             Answer::Guard => unreachable!(),
-            Answer::Joined => Some(Waited::Again),
-            Answer::HandedTo(_) => Some(Waited::Again),
-            Answer::GivenUp => Some(Waited::Again),
-            Answer::Done => Some(Waited::Again),
-            Answer::NotNow => Some(Waited::Again),
+            Answer::Joined => Waited::Again,
+            Answer::HandedTo(_) => Waited::Again,
+            Answer::GivenUp => Waited::Again,
+            Answer::Done => Waited::Again,
+            Answer::NotNow => Waited::Again,
         }
     }
 
     /// As `look`, for a task, which leaves its waker where it goes on waiting.
+    ///
+    /// # Errors
+    ///
+    /// Its place, where it goes on waiting.
     pub fn poll<Q: Equivalent<K>>(
         &mut self,
-        waiter: u64,
+        place: Place,
         query: &Q,
         source: &Source,
         cx: &mut Context<'_>,
-    ) -> Poll<Waited<V>>
-        ensures looks { Looks V.is_clone self.old.core (Event.Take waiter) (ready_or_none result)
-            self.new.core }
-        ensures share { IfReady result (λ told. IfGuard told (λ share. share ≡ self.old.ticket)) }
-        ensures fits { ClonesFit L.fits V.is_clone → IfReady result
+    ) -> Result<Waited<V>, Place>
+        ensures looks { place.ticket ≡ self.old.ticket
+            → Looks V.is_clone (Q.equivalent query.now self.old.key) self.old.core (Event.Take place.number)
+            (told_or_none result) self.new.core }
+        ensures place { IfErr result (λ kept. kept ≡ place) }
+        ensures refused { IfOk result RefusesAsLoad }
+        ensures timely { IfOk result (λ told. is_timeout told ≡ false) }
+        ensures share { IfOk result (λ told. IfGuard told (λ share. share ≡ place.ticket)) }
+        ensures fits { ClonesFit L.fits V.is_clone → IfOk result
             (λ told. IfValue told (λ value. FitsQuery L.fits (Q.equivalent query.now) value)) }
         ensures same { self.new ≡ record self.old {
           core = self.new.core;
           tasks = self.new.tasks;
         } }
-        ensures registered { OnPending result (Covers cx.new (λ s. s ≡ source.now.id)) }
+        ensures registered { OnErr result (Covers cx.new (λ s. s ≡ source.now.id)) }
         ensures kept { Keeps cx.old cx.new }
-        // A pending poll has left its waker, or is polled again.
-        ensures waker { OnPending result ((cx.new.lacks_waker ≡ true)
-            ⊎ ((cx.new.is_woken ≡ true) ⊎ HasWaker waiter cx.old self.new.tasks)) }
+        // A pending poll has left its waker, or has no slot and is polled again.
+        ensures waker { OnErr result ((cx.new.lacks_waker ≡ true)
+            ⊎ (((has_slot place.number self.old.tasks ≡ false) × (cx.new.is_woken ≡ true))
+            ⊎ HasWaker place.number cx.old self.new.tasks)) }
     {
-        match self.look(waiter, query, false) {
-            Some(told) => Poll::Ready(told),
-            None => self.tasks.wait(waiter, source, cx),
+        let looked = self.look(place, query, false);
+        if let Err(place) = &looked {
+            let _: Poll<()> = self.tasks.wait(place.number(), source, cx);
         }
+        looked
     }
 
     /// One comes to load the value or to wait for it. It gets the share of a life that begins, or
-    /// the value; or it is added to those who wait, by this number. One whose time is over is told
-    /// what has come, and never waits. A task gets a slot for its waker.
+    /// the value; or it is added to those who wait, and gets its place. One whose time is over is
+    /// told what has come, and never waits. A task gets a slot for its waker.
     pub fn enter<Q: Equivalent<K>>(
         &mut self,
         query: &Q,
         is_task: bool,
         is_over: bool,
-    ) -> Result<u64, Waited<V>>
-        ensures enters { Enters V.is_clone is_over self.old.core result self.new.core }
+    ) -> Result<Place, Waited<V>>
+        ensures enters { Enters V.is_clone (Q.equivalent query.now self.old.key) self.old.next is_over
+            self.old.core (by_number result) self.new.core }
+        // Its number is one that nobody had.
+        ensures place { IfOk result (λ place. place ≡ record {
+          ticket = self.old.ticket;
+          number = self.old.next;
+        }) }
+        ensures next { OnOk result (self.new.next ≡ self.old.next + 1) }
+        ensures grows { self.old.next ≤ self.new.next }
+        ensures over { is_over ≡ true → IsErr result }
+        ensures refused { IfErr result RefusesAsLoad }
+        ensures timely { is_over ≡ false → IfErr result (λ told. is_timeout told ≡ false) }
         ensures share { IfErr result (λ told. IfGuard told (λ share. share ≡ self.old.ticket)) }
         ensures fits { ClonesFit L.fits V.is_clone → IfErr result
             (λ told. IfValue told (λ value. FitsQuery L.fits (Q.equivalent query.now) value)) }
         ensures same { self.new ≡ record self.old {
           core = self.new.core;
           tasks = self.new.tasks;
+          next = self.new.next;
         } }
     {
         let (_, share) = self.create();
         if let Some(share) = share {
             return Err(Waited::Guard(share));
         }
-        let waiter = self.next_waiter();
+        let Some(waiter) = self.next_waiter() else {
+            return Err(Waited::Refused(Refusal::TicketsSpent));
+        };
         if is_over {
             return Err(self.look_once(waiter, query));
         }
-        let answer = if is_task {
-            self.join_as_task(waiter)
-        } else {
-            self.join(waiter)
-        };
-        self.told_newcomer(waiter, query, answer)
+        let (answer, place) = self.join_by(waiter, is_task);
+        self.told_newcomer(place, query, answer)
     }
 
     /// One who comes when its time is over looks once.
     fn look_once<Q: Equivalent<K>>(&mut self, waiter: u64, query: &Q) -> Waited<V>
-        ensures looks { LooksOnce V.is_clone self.old.core waiter result self.new.core }
+        ensures looks { LooksOnce V.is_clone (Q.equivalent query.now self.old.key) self.old.core waiter result self.new.core }
+        ensures refused { RefusesAsLoad result }
         ensures share { IfGuard result (λ share. share ≡ self.old.ticket) }
         ensures fits { ClonesFit L.fits V.is_clone
             → IfValue result (λ value. FitsQuery L.fits (Q.equivalent query.now) value) }
         ensures same { self.new ≡ record self.old { core = self.new.core } }
     {
-        match self.look(waiter, query, true) {
-            None => Waited::Timeout,
-            Some(Waited::Again) => Waited::Timeout,
-            Some(Waited::Timeout) => Waited::Timeout,
-            Some(Waited::Value(value)) => Waited::Value(value),
-            Some(Waited::Guard(share)) => Waited::Guard(share),
-            Some(Waited::Refused(refusal)) => Waited::Refused(refusal),
+        match self.look_last(Place::new(self.ticket, waiter), query) {
+            Waited::Again => Waited::Timeout,
+            Waited::Timeout => Waited::Timeout,
+            Waited::Value(value) => Waited::Value(value),
+            Waited::Guard(share) => Waited::Guard(share),
+            Waited::Refused(refusal) => Waited::Refused(refusal),
         }
     }
 
     /// What one who came to wait is told of the core's answer.
     fn told_newcomer<Q: Equivalent<K>>(
         &self,
-        waiter: u64,
+        place: Option<Place>,
         query: &Q,
         answer: Answer<V>,
-    ) -> Result<u64, Waited<V>>
-        ensures tells { TellsNewcomer waiter answer result }
+    ) -> Result<Place, Waited<V>>
+        requires gives { is_some place ≡ has_joined answer }
+        ensures tells { (n : ℕ) → IfSome place (λ place. place.number ≡ n)
+            → TellsNewcomer (Q.equivalent query.now self.now.key) n answer (by_number result) }
+        ensures place { IfOk result (λ own. place ≡ Some own) }
+        ensures refused { IfErr result RefusesAsLoad }
+        ensures timely { IfErr result (λ told. is_timeout told ≡ false) }
         ensures share { IfErr result (λ told. IfGuard told (λ share. ⊥)) }
         ensures fits { IfSome (shown_by answer) (λ value. L.fits self.now.key value)
             → IfErr result
             (λ told. IfValue told (λ value. FitsQuery L.fits (Q.equivalent query.now) value)) }
     {
+        if let Some(place) = place {
+            return Ok(place);
+        }
         match answer {
-            Answer::Joined => Ok(waiter),
             Answer::Value(value) => {
                 if self.is_for(query) {
                     Err(Waited::Value(value))
@@ -191,7 +248,8 @@ impl<K: Eq + Hash + Drop, V: Clone, L: Lifecycle<K, V>, A: Allocator> State<K, V
                     Err(Waited::Again)
                 }
             }
-            Answer::Refused(refusal) => Err(Waited::Refused(refusal)),
+            Answer::Refused(_) => Err(Waited::Refused(Refusal::Memory)),
+            Answer::Joined => unreachable!(),
             Answer::Created => Err(Waited::Again),
             Answer::Guard => Err(Waited::Again),
             Answer::Waiting => Err(Waited::Again),

@@ -1,4 +1,5 @@
 use Rattle.quick_cache_locked.proofs.EntryFits.{AnswersEntry-fits, AnswersEntry-chosen, AnswersEntry-gives, AnswersEntry-tells, AnswersEntry-uncalled}
+use Rattle.quick_cache_locked.proofs.LoadLemmas.{AnswersEntry-refusal}
 use Rattle.quick_cache_locked.proofs.locked.LockedShard.act_on.Goals as goal
 
 -- what the callback leaves fits, and the other values stay as they were
@@ -43,3 +44,9 @@ returns-clause-chosen g c =
     c.args.callback.now c.self.inside.shard.state _ _ _ g.L.Lifecycle.fits
     c.self.invariant
     c.entry_or_placeholder.result _ _ c.entry_or_placeholder.ensures.answers
+
+pub returns-clause-refused : goal.returns-clause-refused
+returns-clause-refused g c =
+    AnswersEntry-refusal g.F.FnMut _ (g.Q.Equivalent.equivalent c.args.query.now)
+    c.args.callback.now c.self.inside.shard.state _ _ _ c.entry_or_placeholder.result _ _
+    c.entry_or_placeholder.ensures.answers

@@ -1,7 +1,7 @@
 -- What a load begins with.
 use Rattle.std.specs.Prelude.{⊤}
-use Rattle.quick_cache_guard.specs.declared.shard.Begun.{Begun}
-use Rattle.quick_cache_guard.specs.declared.shard.Begun.TheVariants as begun
+use Rattle.quick_cache_loading.specs.declared.sharing.shard.Begun.{Begun}
+use Rattle.quick_cache_loading.specs.declared.sharing.shard.Begun.TheVariants as begun
 
 -- where a value was found, this is true of it
 abbrev pub IfFound : {V P : Type 0} → Begun V P → (V → Type 0) → Type 0

@@ -1,9 +1,11 @@
 //! A shard, as those who load its keys use it while they hold its lock.
-ghost use Rattle.std.specs.Prelude.{◌≡◌, IfOk, IfErr, IfSome, true};
+ghost use Rattle.std.specs.Prelude.{◌≡◌, ℕ, Bool, IfOk, IfErr, OnOk, OnErr, IfSome, true};
 ghost use Rattle.quick_cache_loading.specs.Fitting.{ClonesFit, FitsQuery};
-ghost use Rattle.quick_cache_guard.specs.Begins.{IfFound};
+ghost use Rattle.quick_cache_loading.specs.Begins.{IfFound};
+ghost use Rattle.quick_cache_loading.specs.Waiters.{IsLoadRefusal};
 
-use quick_cache_loading::sharing::SharedPlaceholder;
+use crate::sharing::shared::SharedPlaceholder;
+use crate::waiting::{Ended, Filled};
 use quick_cache_model::{Equivalent, Lifecycle, Refusal, ToKey};
 use std::alloc::Allocator;
 use std::hash::Hash;
@@ -19,6 +21,13 @@ pub enum Begun<V, P> {
 
 /// A shard, as those who load its keys use it while they hold its lock.
 pub trait LoadingShard<K: Eq + Hash + Drop, V: Clone, L: Lifecycle<K, V>, A: Allocator> {
+    /// What becomes of a shard that takes the placeholder of this ticket out.
+    ghost gives_up: { ℕ → Self → Self → Type 0 };
+
+    /// What a fill may make of a request state: some shard put this value in under this key, for the
+    /// placeholder of this ticket, and whether anyone waited for it.
+    ghost fills: { ℕ → Bool → K → V → L.RequestState → L.RequestState → Type 0 };
+
     /// Looks the query's key up beside other readers, and gives a clone of its value. A find counts
     /// a hit and a touch of the item. Where there is none nothing is counted, since the caller goes
     /// on to `begin`.
@@ -30,7 +39,8 @@ pub trait LoadingShard<K: Eq + Hash + Drop, V: Clone, L: Lifecycle<K, V>, A: All
         // Where clones fit as their values do.
         ensures fits { ClonesFit L.fits V.is_clone → IfOk result
             (λ found. IfSome found
-            (λ value. FitsQuery L.fits (Q.equivalent query.now) value)) };
+            (λ value. FitsQuery L.fits (Q.equivalent query.now) value)) }
+        ensures refused { IfErr result IsLoadRefusal };
 
     /// Looks the query's key up. Where no item stands under it, a placeholder is made or met.
     ///
@@ -47,10 +57,11 @@ pub trait LoadingShard<K: Eq + Hash + Drop, V: Clone, L: Lifecycle<K, V>, A: All
         // Where clones fit as their values do.
         ensures fits { ClonesFit L.fits V.is_clone → IfOk result
             (λ begun. IfFound begun
-            (λ value. FitsQuery L.fits (Q.equivalent query.now) value)) };
+            (λ value. FitsQuery L.fits (Q.equivalent query.now) value)) }
+        ensures refused { IfErr result IsLoadRefusal };
 
-    /// Fills the placeholder with a value that fits the key, if it is there and is for that key. The
-    /// flag tells whether anyone waited for it.
+    /// Puts the value of a placeholder that was filled into its place, if it is there and is for that
+    /// key. Its mark is whether anyone waited for it.
     ///
     /// # Errors
     ///
@@ -58,14 +69,20 @@ pub trait LoadingShard<K: Eq + Hash + Drop, V: Clone, L: Lifecycle<K, V>, A: All
     fn fill(
         &mut self,
         placeholder: &SharedPlaceholder<K, V, L, A>,
+        filled: &Filled,
         key: &K,
-        waited: bool,
         value: V,
         state: &mut L::RequestState,
     ) -> Result<(), V>
         requires fits { L.fits key.now value }
-        ensures back { IfErr result (λ back. back ≡ value) };
+        requires filled { filled.now.ticket ≡ placeholder.now.ticket }
+        ensures back { IfErr result (λ back. back ≡ value) }
+        ensures unchanged { OnErr result (state.new ≡ state.old) }
+        ensures told { OnOk result
+            (fills filled.now.ticket filled.now.waited key.now value state.old state.new) };
 
-    /// Takes the placeholder out, if it is there.
-    fn give_up(&mut self, placeholder: &SharedPlaceholder<K, V, L, A>);
+    /// Takes the placeholder out whose life has ended, if it is there.
+    fn give_up(&mut self, placeholder: &SharedPlaceholder<K, V, L, A>, ended: &Ended)
+        requires ended { ended.now.ticket ≡ placeholder.now.ticket }
+        ensures gives_up { gives_up ended.now.ticket self.old self.new };
 }

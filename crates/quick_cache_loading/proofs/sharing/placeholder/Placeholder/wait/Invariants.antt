@@ -1,0 +1,8 @@
+use Rattle.std.proofs.Common.{◌≡◌}
+use Rattle.quick_cache_loading.proofs.sharing.placeholder.Placeholder.wait.Given as goal
+
+-- it keeps its place
+abbrev pub invariant-loop : goal.invariant-loop
+invariant-loop g l =
+    (goal.iterator-loop g).can_next l.iterator' × (goal.iterator-loop g).is_finite l.iterator'
+    × (l.place ≡ l.fn.place)
