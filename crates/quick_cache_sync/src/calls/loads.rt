@@ -8,9 +8,7 @@ ghost use Rattle.quick_cache_locked.specs.Fitting.{ClonesFit, FitsQuery};
 ghost use Rattle.quick_cache_locked.specs.Loads.{StandsForGiven};
 
 use crate::cache::Cache;
-use quick_cache_guard as entries;
-use quick_cache_guard as loads;
-use quick_cache_guard::{EntryResult, GuardResult, PlaceholderGuard};
+use quick_cache_guard::{EntryResult, GuardResult, PlaceholderGuard, entries, loads};
 use quick_cache_locked::LockedShard;
 use quick_cache_model::{Lifecycle, Refusal, ToKey, Weighter};
 use quick_cache_shard::EntryAction;
