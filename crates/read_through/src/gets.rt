@@ -117,7 +117,7 @@ impl<
             EntryResult::Vacant(guard) => Ok(load_by(guard, key, now, load)),
             // There was no memory for a guard.
             EntryResult::Removed(_, _) => Ok(load()),
-            EntryResult::Timeout => Ok(load()),
+            EntryResult::Timeout => unreachable!(),
             EntryResult::Refused(refusal) => Err(refusal),
         }
     }

@@ -1,9 +1,9 @@
 //! Calls of a cache that load a value where none is there, and make others wait for it. Whatever
 //! other threads do, what they give fits a key that the query stands for.
-ghost use Rattle.std.specs.Prelude.{◌≡◌, Ok, Err, IfOk, IfErr};
-ghost use Rattle.quick_cache_guard.specs.Answers.{IfGuard, IfValue};
+ghost use Rattle.std.specs.Prelude.{◌≡◌, false, None, Ok, Err, IfOk, IfErr};
+ghost use Rattle.quick_cache_guard.specs.Answers.{IfGuard, IfValue, IsLoadRefusal, RefusesAsLoad, is_timeout};
 ghost use Rattle.quick_cache_guard.specs.Acts.{LeavesFit, MayTell};
-ghost use Rattle.quick_cache_guard.specs.Entries.{AnswersAsChosen, IfGivenBack, IfGuarded, IfRetained};
+ghost use Rattle.quick_cache_guard.specs.Entries.{AnswersAsChosen, IfGivenBack, IfGuarded, IfRetained, IsRefusedAsLoad, is_late};
 ghost use Rattle.quick_cache_locked.specs.Fitting.{ClonesFit, FitsQuery};
 ghost use Rattle.quick_cache_locked.specs.Loads.{StandsForGiven};
 
@@ -42,6 +42,9 @@ impl<
             → IfValue result (λ value. FitsQuery L.fits (Q.equivalent query.now) value) }
         // The guard is for a key that the query becomes.
         ensures key { IfGuard result (λ key. Q.to_key_gives query.now key) }
+        // It is refused as a load is, and in time where there is no limit.
+        ensures refused { RefusesAsLoad result }
+        ensures timely { limit ≡ None → is_timeout result ≡ false }
     {
         loads::get_value_or_guard(rt, self.shard_of(query), query, limit)
     }
@@ -69,6 +72,7 @@ impl<
         ensures fits { IfOk result (λ loaded. IfOk loaded
             (λ value. FitsQuery L.fits (Q.equivalent query.now) value)) }
         ensures error { IfOk result (λ loaded. IfErr loaded (λ error. F.post loader (Err error))) }
+        ensures refused { IfErr result IsLoadRefusal }
     {
         loads::get_or_insert_with(rt, self.shard_of(query), query, loader)
     }
@@ -102,6 +106,9 @@ impl<
         // shard then. Where none did, it was not called.
         ensures chosen { AnswersAsChosen F.FnMut L.fits
             (Q.equivalent query.now) callback.old result callback.new }
+        // It is refused as a load is, and in time where there is no limit.
+        ensures refused { IsRefusedAsLoad result }
+        ensures timely { limit ≡ None → is_late result ≡ false }
     {
         entries::entry(rt, self.shard_of(query), query, limit, callback)
     }

@@ -1,11 +1,13 @@
 //! A placeholder that is filled and still stands in its shard, as between the two steps of a guard
 //! that puts its value in.
+ghost use Rattle.std.specs.Prelude.{◌≡◌, IfSome};
+
 use futures::task::Poll;
 use futures::test::MockTask;
 use quick_cache_guard::entry_tasks::EntryFuture;
 use quick_cache_guard::{Begun, EntryResult, LoadingShard};
 use quick_cache_loading::sharing::Placeholder;
-use quick_cache_loading::waiting::Waited;
+use quick_cache_loading::waiting::{Filled, Waited};
 use quick_cache_locked::LockedShard;
 use quick_cache_model::{DefaultHashBuilder, UnitWeighter};
 use quick_cache_options::OptionsBuilder;
@@ -16,18 +18,27 @@ use std::alloc::Allocator;
 use std::sync::{RwLock, Wait};
 use test_tools::{expect, expect_ok};
 
-/// Loads the key 1 as 5, and gives that to those who wait. Nothing is put into the shard.
-fn load_and_tell<R: Wait, A: Allocator>(
+/// Loads the key 1 as 5, and gives that to those who wait. Nothing is put into the shard yet.
+fn load_and_tell<S: LoadingShard<u64, u64, DefaultLifecycle<u64, u64>, A>, R: Wait, A: Allocator>(
     rt: &R,
+    locked: &mut S,
     placeholder: &Placeholder<u64, u64, DefaultLifecycle<u64, u64>, A>,
-) -> bool {
-    match placeholder.enter(rt, &1, false, true) {
-        Err(Waited::Guard(share)) => placeholder.fill(rt, &1, share, 5).is_ok(),
-        Err(Waited::Value(_)) => false,
-        Err(Waited::Timeout) => false,
-        Err(Waited::Again) => false,
-        Err(Waited::Refused(_)) => false,
-        Ok(_) => false,
+) -> Option<Filled>
+    ensures { IfSome result (λ filled. filled.ticket ≡ placeholder.now.ticket) }
+{
+    match placeholder.enter(rt, locked, &1, false, true) {
+        Err(Waited::Guard(share)) => match placeholder.fill(rt, &1, share, 5) {
+            Ok(filled) => Some(filled),
+            Err((share, _)) => {
+                placeholder.give_up(rt, locked, share);
+                None
+            }
+        },
+        Err(Waited::Value(_)) => None,
+        Err(Waited::Timeout) => None,
+        Err(Waited::Again) => None,
+        Err(Waited::Refused(_)) => None,
+        Ok(_place) => unreachable!(),
     }
 }
 
@@ -56,7 +67,9 @@ fn an_entry_call_asks_for_another_poll(rt: HostRuntime) {
     let Some(placeholder) = shared.placeholder() else {
         panic!(rt; "it has few owners");
     };
-    expect!(rt; load_and_tell(rt, &placeholder));
+    let Some(filled) = load_and_tell(rt, &mut *shard.write(rt), &placeholder) else {
+        panic!(rt; "its life begins");
+    };
     let mut acts = EntryFuture::new(
         rt,
         &shard,
@@ -66,11 +79,7 @@ fn an_entry_call_asks_for_another_poll(rt: HostRuntime) {
     let task = expect_ok!(rt; MockTask::new(rt));
     expect!(rt; task.poll(&mut acts).is_pending() && task.is_woken());
     let mut state = [None, None];
-    expect!(rt;
-        shard
-            .write(rt)
-            .fill(&shared, &1, false, 5, &mut state)
-            .is_ok()
-    );
+    let put = filled.settle(&mut *shard.write(rt), &shared, &1, 5, &mut state);
+    expect!(rt; put.is_ok());
     expect!(rt; matches!(task.poll(&mut acts), Poll::Ready(EntryResult::Retained(5))));
 }
