@@ -35,13 +35,7 @@ module _ {K V : Type 0} (gives : K → ℕ → V → Type 0) (equal : K → K �
     fresh = IsFresh-own life now;
   }
 
-  -- so where a load gives a value, it is an answer
-  pub Answers-loaded : {E : Type 0} (key : K) (life now : ℕ) (loaded : Result V E)
-      → IfOk loaded (gives key now) → IfOk loaded (Answers gives equal key life now)
-  Answers-loaded key life now (Ok value) gave = Answers-own key life now value gave
-  Answers-loaded key life now (Err error) gave = tt
-
-  -- the same by what a call of the load may give
+  -- so where a load gives a value, it is an answer, by what a call of the load may give
   pub Answers-called : {E : Type 0} (key : K) (life now : ℕ) (may : Result V E → Type 0)
       → ((value : V) → may (Ok value) → gives key now value) → (loaded : Result V E) → may loaded
       → IfOk loaded (Answers gives equal key life now)

@@ -1,5 +1,5 @@
 //! Answers: what is stored and still lives, or what the loader gives.
-ghost use Rattle.std.specs.Prelude.{◌≡◌, IsTrue, Ok, Err, IfOk, IfErr};
+ghost use Rattle.std.specs.Prelude.{◌≡◌, IsTrue, Ok, Err, IfOk, IfErr, IfSome};
 ghost use Rattle.read_through.specs.Answers.{Answers, GivesClones};
 ghost use Rattle.read_through.specs.Loads.{Loads, LoadsFrom, LoadsOkFrom};
 ghost use Rattle.read_through.specs.Looks.{IfRetain};
@@ -113,8 +113,18 @@ impl<
         match self.cache.entry(rt, key, None, &mut looks) {
             EntryResult::Retained(Ok(value)) => Ok(Ok(value)),
             EntryResult::Retained(Err(refusal)) => Err(refusal),
-            EntryResult::Replaced(guard, _) => Ok(load_by(guard, key, now, load)),
-            EntryResult::Vacant(guard) => Ok(load_by(guard, key, now, load)),
+            EntryResult::Replaced(guard, _) => {
+                let loaded = load();
+                let mut guard = Some(guard);
+                fill_by(&mut guard, key, now, &loaded);
+                Ok(loaded)
+            }
+            EntryResult::Vacant(guard) => {
+                let loaded = load();
+                let mut guard = Some(guard);
+                fill_by(&mut guard, key, now, &loaded);
+                Ok(loaded)
+            }
             // There was no memory for a guard.
             EntryResult::Removed(_, _) => Ok(load()),
             EntryResult::Timeout => unreachable!(),
@@ -123,9 +133,9 @@ impl<
     }
 }
 
-/// Loads a value, puts a clone of it in by the guard, and gives it. The guard is let go where the
-/// load fails, or the clone.
-fn load_by<
+/// Puts a clone of what was loaded in by the guard, which is let go where the load failed, or the
+/// clone. It is taken from where it stands, since a call that takes it by value gets no proof.
+fn fill_by<
     K: Eq + Hash + Drop,
     V: Clone + Drop,
     S: Source<K, V>,
@@ -133,26 +143,24 @@ fn load_by<
     R: Wait,
     A: Allocator,
     E,
-    G: FnOnce() -> Result<V, E>,
 >(
-    guard: PlaceholderGuard<'_, K, Loaded<V>, Fresh<S>, T, R, A>,
+    guard: &mut Option<PlaceholderGuard<'_, K, Loaded<V>, Fresh<S>, T, R, A>>,
     key: &K,
     now: u64,
-    load: G,
-) -> Result<V, E>
-    requires same { IsTrue (K.eq key.now guard) }
-    requires callable { G.pre load }
-    requires loads { (value : V) → G.post load (Ok value) → S.gives key.now now value }
+    loaded: &Result<V, E>,
+)
+    requires same { IfSome guard.old (λ guard. IsTrue (K.eq key.now guard)) }
+    requires gave { IfOk loaded.now (S.gives key.now now) }
     requires clones { GivesClones S.gives V.is_clone }
-    ensures gave { IfOk result (S.gives key.now now) }
-    ensures error { IfErr result (λ error. G.post load (Err error)) }
 {
-    let value = load()?;
-    if let Ok(copy) = value.clone() {
-        drop(guard.insert(Loaded {
-            value: copy,
-            moment: now,
-        }));
+    if let Some(guard) = guard.take() {
+        if let Ok(value) = loaded {
+            if let Ok(copy) = value.clone() {
+                drop(guard.insert(Loaded {
+                    value: copy,
+                    moment: now,
+                }));
+            }
+        }
     }
-    Ok(value)
 }

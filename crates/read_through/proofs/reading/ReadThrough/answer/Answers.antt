@@ -1,7 +1,7 @@
 use Rattle.std.proofs.Common.{sym, subst, IfOk}
 use Rattle.read_through.specs.Answers.{Answers}
 use Rattle.read_through.specs.Moments.{Serves}
-use Rattle.read_through.proofs.AnswerLemmas.{Answers-stored, Answers-loaded, Answers-called}
+use Rattle.read_through.proofs.AnswerLemmas.{Answers-stored, Answers-called}
 use Rattle.read_through.proofs.reading.ReadThrough.answer.Goals as goal
 
 -- the look told a clone of a value that is stored under an equal key and serves
@@ -44,27 +44,31 @@ returns-in-Retained-Ok-clause-fresh g c =
 -- who has the guard loads
 pub returns-in-Replaced-clause-fresh : goal.returns-in-Replaced-clause-fresh
 returns-in-Replaced-clause-fresh g c =
-    Answers-loaded
+    Answers-called
     g.S.Source.gives
     g.K.PartialEq.eq
     g.met.K.Eq.laws
     c.args.key.now
     c.args.self.now.life
     c.args.now
-    c.load_by.result
-    c.load_by.ensures.gave
+    (g.G.FnOnce.post c.args.load tt)
+    c.requires.loads
+    c.load-loaded.result
+    c.load-loaded.ensures
 
 pub returns-in-Vacant-clause-fresh : goal.returns-in-Vacant-clause-fresh
 returns-in-Vacant-clause-fresh g c =
-    Answers-loaded
+    Answers-called
     g.S.Source.gives
     g.K.PartialEq.eq
     g.met.K.Eq.laws
     c.args.key.now
     c.args.self.now.life
     c.args.now
-    c.load_by-in-Vacant.result
-    c.load_by-in-Vacant.ensures.gave
+    (g.G.FnOnce.post c.args.load tt)
+    c.requires.loads
+    c.load-loaded-in-Vacant.result
+    c.load-loaded-in-Vacant.ensures
 
 -- so does who can have none
 pub returns-in-Removed-clause-fresh : goal.returns-in-Removed-clause-fresh
