@@ -17,7 +17,9 @@ fn colours(alloc: Global) -> Result<Cache<&'static str, &'static str>, Refusal> 
 }
 
 fn main(rt: HostRuntime) -> io::Result<()> {
-    let mut cache = colours(rt.alloc())?;
+    let Ok(mut cache) = colours(rt.alloc()) else {
+        return println!(rt; "no memory");
+    };
     for shape in ["square", "circle", "triangle"] {
         match cache.get(&shape) {
             Some(colour) => println!(rt; "{shape} is {colour}")?,
