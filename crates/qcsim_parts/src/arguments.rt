@@ -3,11 +3,11 @@
 use crate::line::Format;
 use crate::trace::Reading;
 use clap::error::ErrorKind;
-use clap::{Arg, ArgAction, ArgMatches, Command, Error, value_parser};
+use clap::{Arg, ArgAction, ArgMatches, Command, Error};
 use std::alloc::{AllocError, Global};
 
 /// How the shares of hits are shown.
-#[derive(Debug, Clone, Copy, PartialEq, Eq)]
+#[derive(Clone, Copy, PartialEq, Eq)]
 pub enum Form {
     /// A line of numbers for each capacity.
     Table,
@@ -16,7 +16,7 @@ pub enum Form {
 }
 
 /// What this project's cache is made with.
-#[derive(Debug, Clone, Copy, PartialEq, Eq)]
+#[derive(Clone, Copy)]
 pub struct Shares {
     /// The share of the capacity that hot keys may have, in parts per million.
     pub hot: u32,
@@ -27,7 +27,7 @@ pub struct Shares {
 }
 
 /// What was asked for.
-#[derive(Debug, Drop)]
+#[derive(Drop)]
 pub struct Arguments<'a> {
     /// The file that the trace is read from; none is standard input.
     pub file: Option<&'a str>,
@@ -43,151 +43,210 @@ pub struct Arguments<'a> {
     pub capacities: Vec<u64>,
 }
 
-/// An argument with a value.
-fn valued<'a>(
-    alloc: Global,
-    name: &'a str,
-    value: &'a str,
-    standard: &'a str,
-    help: &'a str,
-) -> Arg<'a> {
-    Arg::new(alloc, name)
-        .long(name)
-        .value_name(value)
-        .default_value(standard)
-        .help(help)
+/// An argument that begins with its name.
+struct Named {
+    name: &'static str,
+    /// What its value is called; without one it is there or not.
+    value: Option<&'static str>,
+    /// Its value where it is not given.
+    standard: Option<&'static str>,
+    help: &'static str,
 }
 
-/// An argument that is there or not.
-fn flag<'a>(alloc: Global, name: &'a str, help: &'a str) -> Arg<'a> {
-    Arg::new(alloc, name)
-        .long(name)
-        .action(ArgAction::SetTrue)
-        .help(help)
+/// All of them, in the order in which the help shows them.
+static NAMED: [Named; 9] = [
+    Named {
+        name: "format",
+        value: Some("FORMAT"),
+        standard: Some("keys"),
+        help: "A line: keys (a number), text, arc (start count ignored request), csv:N[:WEIGHT] (columns)",
+    },
+    Named {
+        name: "file",
+        value: Some("FILE"),
+        standard: None,
+        help: "The trace; standard input where there is none",
+    },
+    Named {
+        name: "weights",
+        value: None,
+        standard: None,
+        help: "Behind each key stands its weight, and a capacity is a weight",
+    },
+    Named {
+        name: "skip-bad",
+        value: None,
+        standard: None,
+        help: "Pass over lines that are no keys",
+    },
+    Named {
+        name: "hot",
+        value: Some("MILLIONTHS"),
+        standard: Some("970000"),
+        help: "The share of this cache's capacity that hot keys may have",
+    },
+    Named {
+        name: "ghosts",
+        value: Some("MILLIONTHS"),
+        standard: Some("500000"),
+        help: "The share of the keys that this cache keeps as ghosts",
+    },
+    Named {
+        name: "mark-cut",
+        value: Some("1..3"),
+        standard: Some("2"),
+        help: "How many uses of a key this cache counts at most",
+    },
+    Named {
+        name: "svg",
+        value: None,
+        standard: None,
+        help: "Write a chart in place of a table",
+    },
+    Named {
+        name: "title",
+        value: Some("TITLE"),
+        standard: Some("Hit ratios"),
+        help: "The title of the chart",
+    },
+];
+
+fn argument<'a>(alloc: Global, named: &Named) -> Arg<'a> {
+    let argument = Arg::new(alloc, named.name)
+        .long(named.name)
+        .help(named.help);
+    let Some(value) = named.value else {
+        return argument.action(ArgAction::SetTrue);
+    };
+    let argument = argument.value_name(value);
+    match named.standard {
+        Some(standard) => argument.default_value(standard),
+        None => argument,
+    }
 }
 
-/// Adds what says how the trace is read.
-fn add_reading<'a>(alloc: Global, command: Command<'a>) -> Result<Command<'a>, AllocError> {
-    let format = valued(
-        alloc,
-        "format",
-        "FORMAT",
-        "keys",
-        "What a line is: keys (a number), text, arc (start count ignored request), csv:N or csv:N:WEIGHT (columns)",
-    );
-    let file = Arg::new(alloc, "file")
-        .long("file")
-        .value_name("FILE")
-        .help("The trace; standard input where it is not given");
-    command
-        .arg(format)?
-        .arg(file)?
-        .arg(flag(
-            alloc,
-            "weights",
-            "A weight stands behind each key, and capacities are weights",
-        ))?
-        .arg(flag(alloc, "skip-bad", "Pass over lines that are no keys"))
-}
-
-/// Adds what says how this project's cache is made.
-fn add_shares<'a>(alloc: Global, command: Command<'a>) -> Result<Command<'a>, AllocError> {
-    let hot = valued(
-        alloc,
-        "hot",
-        "MILLIONTHS",
-        "970000",
-        "The share of this cache's capacity that hot keys may have",
-    );
-    let ghosts = valued(
-        alloc,
-        "ghosts",
-        "MILLIONTHS",
-        "500000",
-        "The share of the keys that this cache keeps as ghosts",
-    );
-    let mark_cut = valued(
-        alloc,
-        "mark-cut",
-        "1..3",
-        "2",
-        "How many uses of a key this cache counts at most",
-    );
-    command
-        .arg(hot.value_parser(value_parser!(u32).range(0..=1_000_000)))?
-        .arg(ghosts.value_parser(value_parser!(u32).range(0..=1_000_000)))?
-        .arg(mark_cut.value_parser(value_parser!(u8).range(1..=3)))
-}
-
-/// Adds what says how the shares of hits are shown, and the capacities.
-fn add_showing<'a>(alloc: Global, command: Command<'a>) -> Result<Command<'a>, AllocError> {
-    let title = valued(
-        alloc,
-        "title",
-        "TITLE",
-        "Hit ratios",
-        "The title of a chart",
-    );
-    let capacities = Arg::new(alloc, "capacity")
+fn capacity<'a>(alloc: Global) -> Arg<'a> {
+    Arg::new(alloc, "capacity")
         .value_name("CAPACITY")
         .required(true)
         .num_args(1..)
-        .action(ArgAction::Append)
-        .value_parser(value_parser!(u64).range(1..))
-        .help("How many keys each cache may hold, or with weights, what they may weigh");
-    command
-        .arg(flag(alloc, "svg", "Write a chart, and no table"))?
-        .arg(title)?
-        .arg(capacities)
+        .help("How many keys each cache may hold, or what they may weigh")
 }
 
 /// All that may be asked for.
 fn command<'a>(alloc: Global) -> Result<Command<'a>, AllocError> {
-    let command = Command::new(alloc, "qcsim")
+    let mut command = Command::new(alloc, "qcsim")
         .about("Shows which share of the keys of a trace each of some caches has")
         .no_binary_name(true);
-    let command = add_reading(alloc, command)?;
-    let command = add_shares(alloc, command)?;
-    add_showing(alloc, command)
+    for named in NAMED.iter() {
+        command = command.arg(argument(alloc, named))?;
+    }
+    command.arg(capacity(alloc))
 }
 
-/// How a trace is read, where that has a meaning.
-fn reading_of(matches: &ArgMatches<'_>) -> Option<Reading> {
-    let format = Format::named(matches.get_str("format").unwrap_or("keys"))?;
-    let asks_weights = matches.get_flag("weights");
-    let weighted = match format {
-        Format::Keys | Format::Text => asks_weights,
+/// Why a value was not understood.
+enum Misread {
+    /// What it should be.
+    Value(&'static str),
+    /// There was no memory.
+    Memory,
+}
+
+impl From<AllocError> for Misread {
+    fn from(_error: AllocError) -> Misread {
+        Misread::Memory
+    }
+}
+
+/// A number of an argument, in a range.
+fn number(matches: &ArgMatches<'_>, name: &str, least: u32, most: u32) -> Option<u32> {
+    match matches.get_str(name)?.parse() {
+        Ok(number) if least <= number && number <= most => Some(number),
+        _ => None,
+    }
+}
+
+fn shares_of(matches: &ArgMatches<'_>) -> Option<Shares> {
+    Some(Shares {
+        hot: number(matches, "hot", 0, 1_000_000)?,
+        ghosts: number(matches, "ghosts", 0, 1_000_000)?,
+        mark_cut: number(matches, "mark-cut", 1, 3)? as u8,
+    })
+}
+
+/// Whether the keys have weights, where that has a meaning.
+fn is_weighted(format: Format, asks_weights: bool) -> Option<bool> {
+    match format {
+        Format::Keys | Format::Text => Some(asks_weights),
         Format::Csv {
             weight: Some(_),
             ..
-        } => true,
-        Format::Arc | Format::Csv { weight: None, .. } if asks_weights => return None,
-        Format::Arc | Format::Csv { weight: None, .. } => false,
-    };
+        } => Some(true),
+        _ if asks_weights => None,
+        _ => Some(false),
+    }
+}
+
+fn reading_of(matches: &ArgMatches<'_>) -> Option<Reading> {
+    let format = Format::named(matches.get_str("format")?)?;
     Some(Reading {
         format,
-        weighted,
+        weighted: is_weighted(format, matches.get_flag("weights"))?,
         skips_bad: matches.get_flag("skip-bad"),
     })
 }
 
-fn shares_of(matches: &ArgMatches<'_>) -> Shares {
-    Shares {
-        hot: matches.get_one("hot").unwrap_or(970_000),
-        ghosts: matches.get_one("ghosts").unwrap_or(500_000),
-        mark_cut: matches.get_one("mark-cut").unwrap_or(2),
-    }
-}
-
-fn capacities_of(alloc: Global, matches: &ArgMatches<'_>) -> Result<Vec<u64>, AllocError> {
+/// The capacities, where each is a number above 0.
+fn capacities_of(alloc: Global, words: &[&str]) -> Result<Option<Vec<u64>>, AllocError> {
     let mut capacities = Vec::new(alloc);
-    if let Some(words) = matches.get_strs("capacity") {
-        for word in words {
-            capacities.push(word.parse().unwrap_or(1))?;
+    for word in words {
+        match word.parse() {
+            Ok(capacity) if capacity > 0u64 => capacities.push(capacity)?,
+            _ => return Ok(None),
         }
     }
     capacities.sort()?;
-    Ok(capacities)
+    Ok(Some(capacities))
+}
+
+fn arguments_of<'a>(alloc: Global, matches: &ArgMatches<'a>) -> Result<Arguments<'a>, Misread> {
+    let Some(reading) = reading_of(matches) else {
+        return Err(Misread::Value(
+            "FORMAT is keys, text, arc, csv:N or csv:N:WEIGHT, and arc and csv:N have no weights",
+        ));
+    };
+    let Some(shares) = shares_of(matches) else {
+        return Err(Misread::Value("a share is a number up to 1000000, and the mark cut 1, 2 or 3"));
+    };
+    let words = matches.get_strs("capacity").unwrap_or(&[]);
+    let Some(capacities) = capacities_of(alloc, words)? else {
+        return Err(Misread::Value("CAPACITY is a number of 64 bits above 0"));
+    };
+    let form = if matches.get_flag("svg") {
+        Form::Chart
+    } else {
+        Form::Table
+    };
+    Ok(Arguments {
+        file: matches.get_str("file"),
+        reading,
+        shares,
+        form,
+        title: matches.get_str("title").unwrap_or(""),
+        capacities,
+    })
+}
+
+/// What is written of a value that was not understood.
+fn error_of(mut command: Command<'_>, misread: Misread) -> Error {
+    let error = match misread {
+        Misread::Value(wanted) => command.error(ErrorKind::InvalidValue, wanted),
+        Misread::Memory => Err(AllocError),
+    };
+    match error {
+        Ok(error) => error,
+        Err(error) => Error::from(error),
+    }
 }
 
 /// Reads the arguments, without the name of the program.
@@ -198,22 +257,8 @@ fn capacities_of(alloc: Global, matches: &ArgMatches<'_>) -> Result<Vec<u64>, Al
 pub fn read_arguments<'a>(alloc: Global, words: &'a [String]) -> Result<Arguments<'a>, Error> {
     let mut command = command(alloc)?;
     let matches = command.try_get_matches_from_mut(words)?;
-    let Some(reading) = reading_of(&matches) else {
-        let format =
-            "the format is keys, text, arc, csv:N or csv:N:WEIGHT, and there is no weight in arc or csv:N";
-        return Err(command.error(ErrorKind::InvalidValue, format)?);
-    };
-    let form = if matches.get_flag("svg") {
-        Form::Chart
-    } else {
-        Form::Table
-    };
-    Ok(Arguments {
-        file: matches.get_str("file"),
-        reading,
-        shares: shares_of(&matches),
-        form,
-        title: matches.get_str("title").unwrap_or("Hit ratios"),
-        capacities: capacities_of(alloc, &matches)?,
-    })
+    match arguments_of(alloc, &matches) {
+        Ok(arguments) => Ok(arguments),
+        Err(why) => Err(error_of(command, why)),
+    }
 }

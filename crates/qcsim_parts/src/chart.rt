@@ -4,8 +4,8 @@ mod lines;
 mod scale;
 
 use crate::hits::{Hits, Policy};
-use lines::{write_figures, write_legend, write_line};
-use scale::{BOTTOM, LEFT, RIGHT, Scale, TOP};
+use lines::{write_figures, write_legend, write_line, write_style};
+use scale::{LEFT, RIGHT, Scale};
 use std::io::{self, Write};
 
 /// Writes a text of the caller's, with what SVG has a meaning for written as it wants it.
@@ -27,24 +27,10 @@ fn write_title<W: Write>(writer: &mut W, title: &str) -> io::Result<()> {
     write_escaped(writer, title)?;
     write!(
         writer,
-        "</title>\n<text x=\"{LEFT}\" y=\"250\" font-size=\"170\" font-weight=\"bold\">"
+        "</title>\n<text x=\"700\" y=\"250\" font-size=\"170\" font-weight=\"bold\">"
     )?;
     write_escaped(writer, title)?;
     writeln!(writer, "</text>")
-}
-
-/// Writes a straight line.
-fn write_rule<W: Write>(
-    writer: &mut W,
-    from: (u64, u64),
-    to: (u64, u64),
-    colour: &str,
-) -> io::Result<()> {
-    writeln!(
-        writer,
-        "<path d=\"M{} {}L{} {}\" stroke=\"{colour}\" stroke-width=\"10\"/>",
-        from.0, from.1, to.0, to.1
-    )
 }
 
 /// Writes five lines across the field, each with its share in percent.
@@ -52,21 +38,20 @@ fn write_shares<W: Write>(writer: &mut W, scale: &Scale) -> io::Result<()> {
     for fifth in 0..6u64 {
         let share = scale.top.saturating_mul(fifth) / 5;
         let down = scale.down(share);
-        let colour = if fifth == 0 { "#333" } else { "#ddd" };
-        write_rule(writer, (LEFT, down), (RIGHT, down), colour)?;
         writeln!(
             writer,
-            "<text x=\"{}\" y=\"{}\" text-anchor=\"end\">{}</text>",
-            LEFT - 80,
-            down.saturating_add(45),
-            share / 100
+            "<path d=\"M{LEFT} {down}H{RIGHT}\" stroke=\"#ccc\" stroke-width=\"10\"/>"
+        )?;
+        let down = down.saturating_add(45);
+        let share = share / 100;
+        writeln!(
+            writer,
+            "<text x=\"620\" y=\"{down}\" text-anchor=\"end\">{share}</text>"
         )?;
     }
     writeln!(
         writer,
-        "<text x=\"{}\" y=\"{}\">hits in percent of the keys</text>",
-        LEFT - 400,
-        TOP - 120
+        "<text x=\"300\" y=\"480\">hits in percent of the keys</text>"
     )
 }
 
@@ -75,22 +60,18 @@ fn write_capacities<W: Write>(writer: &mut W, scale: &Scale, all: &[Hits]) -> io
     let mut free_from = 0u64;
     for hits in all {
         let across = scale.across(hits.capacity);
-        write_rule(writer, (across, BOTTOM), (across, BOTTOM + 60), "#333")?;
         if across >= free_from {
+            let capacity = hits.capacity;
             writeln!(
                 writer,
-                "<text x=\"{across}\" y=\"{}\" text-anchor=\"middle\">{}</text>",
-                BOTTOM + 200,
-                hits.capacity
+                "<text x=\"{across}\" y=\"4300\" text-anchor=\"middle\">{capacity}</text>"
             )?;
             free_from = across.saturating_add(550);
         }
     }
     writeln!(
         writer,
-        "<text x=\"{}\" y=\"{}\" text-anchor=\"middle\">capacity, on a logarithmic scale</text>",
-        (LEFT + RIGHT) / 2,
-        BOTTOM + 400
+        "<text x=\"3800\" y=\"4500\" text-anchor=\"middle\">capacity, on a logarithmic scale</text>"
     )
 }
 
@@ -107,6 +88,7 @@ pub fn write_chart<W: Write>(
         writer,
         "<svg xmlns=\"http://www.w3.org/2000/svg\" width=\"860\" height=\"460\" viewBox=\"0 0 8600 4600\" font-family=\"sans-serif\" font-size=\"130\" fill=\"#333\">"
     )?;
+    write_style(writer)?;
     write_title(writer, title)?;
     write_shares(writer, &scale)?;
     write_capacities(writer, &scale, all)?;

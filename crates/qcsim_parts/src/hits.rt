@@ -1,7 +1,7 @@
 //! How many keys of a trace each cache of a capacity had.
 
 /// The caches that are compared.
-#[derive(Debug, Clone, Copy, PartialEq, Eq)]
+#[derive(Clone, Copy)]
 pub enum Policy {
     Cache,
     Lru,
@@ -42,7 +42,7 @@ impl Policy {
 }
 
 /// The hits of each cache of a capacity.
-#[derive(Debug, Clone, Copy, PartialEq, Eq)]
+#[derive(Clone, Copy)]
 pub struct Hits {
     /// How many keys each cache may hold, or what they may weigh.
     pub capacity: u64,

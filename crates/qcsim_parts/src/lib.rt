@@ -8,8 +8,6 @@ pub mod hits;
 pub mod line;
 pub mod policies;
 pub mod table;
-#[cfg(test)]
-mod tests;
 pub mod trace;
 
 pub use arguments::{Arguments, Form, Shares, read_arguments};

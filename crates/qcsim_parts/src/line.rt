@@ -4,7 +4,7 @@ use std::hash::{FoldHasher, Hasher};
 use std::{fmt, str};
 
 /// What a line of a trace is.
-#[derive(Debug, Clone, Copy, PartialEq, Eq)]
+#[derive(Clone, Copy, PartialEq, Eq)]
 pub enum Format {
     /// A key, as a number. With weights, a space and the weight come behind it.
     Keys,
@@ -53,7 +53,7 @@ impl Format {
 }
 
 /// What a line asks for: keys one behind another, each of the same weight.
-#[derive(Debug, Clone, Copy, PartialEq, Eq)]
+#[derive(Clone, Copy)]
 pub struct Asked {
     /// The first key.
     pub first: u64,
@@ -64,7 +64,7 @@ pub struct Asked {
 }
 
 /// Why a line was not understood.
-#[derive(Debug, Clone, Copy, PartialEq, Eq)]
+#[derive(Clone, Copy, PartialEq, Eq)]
 pub enum Flaw {
     /// From this byte on, the first being 1, it is no UTF-8.
     NotUtf8(usize),

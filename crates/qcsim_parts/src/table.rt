@@ -19,12 +19,17 @@ pub fn write_table<W: Write>(writer: &mut W, keys: usize, all: &[Hits]) -> io::R
     }
     writeln!(writer)?;
     for hits in all {
-        write!(writer, "{:>10}", hits.capacity)?;
-        for policy in Policy::ALL {
-            let share = share(hits.of(policy), keys);
-            write!(writer, " {:>7}.{:02}", share / 100, share % 100)?;
-        }
-        writeln!(writer)?;
+        write_row(writer, keys, hits)?;
     }
     Ok(())
+}
+
+/// Writes the line of a capacity.
+fn write_row<W: Write>(writer: &mut W, keys: usize, hits: &Hits) -> io::Result<()> {
+    write!(writer, "{:>10}", hits.capacity)?;
+    for policy in Policy::ALL {
+        let share = share(hits.of(policy), keys);
+        write!(writer, " {:>7}.{:02}", share / 100, share % 100)?;
+    }
+    writeln!(writer)
 }

@@ -9,7 +9,7 @@ const SHOWN_BYTES: usize = 40;
 
 /// Keys in turn. It takes 8 bytes a key, and 12 where they have weights, once it is read; while it
 /// grows, twice that at most.
-#[derive(Debug, Drop)]
+#[derive(Drop)]
 pub struct Trace {
     keys: Vec<u64>,
     /// The weight of each key, or none where each weighs one.
@@ -71,7 +71,7 @@ impl Trace {
 }
 
 /// How a trace is read.
-#[derive(Debug, Clone, Copy, PartialEq, Eq)]
+#[derive(Clone, Copy)]
 pub struct Reading {
     /// What a line is.
     pub format: Format,
@@ -82,7 +82,7 @@ pub struct Reading {
 }
 
 /// A line that is no key.
-#[derive(Debug, Drop)]
+#[derive(Drop)]
 pub struct BadLine {
     /// Its number, the first being 1.
     pub number: u64,
@@ -93,7 +93,7 @@ pub struct BadLine {
 }
 
 /// Why a trace was not read.
-#[derive(Debug, Drop)]
+#[derive(Drop)]
 pub enum BadTrace {
     /// A line was not understood.
     Line(BadLine),
@@ -101,12 +101,6 @@ pub enum BadTrace {
     Read(io::Error),
     /// There was no memory for the keys.
     Memory,
-}
-
-impl From<AllocError> for BadTrace {
-    fn from(_error: AllocError) -> BadTrace {
-        BadTrace::Memory
-    }
 }
 
 fn bad_line(alloc: Global, number: u64, line: &[u8], flaw: Flaw) -> BadTrace {
@@ -119,6 +113,18 @@ fn bad_line(alloc: Global, number: u64, line: &[u8], flaw: Flaw) -> BadTrace {
             flaw,
         }),
         Err(_) => BadTrace::Memory,
+    }
+}
+
+impl Trace {
+    /// Adds what a line asks for, or passes it over.
+    fn add_line(&mut self, reading: Reading, line: &[u8]) -> Result<Result<(), Flaw>, AllocError> {
+        match read_line(reading.format, reading.weighted, line) {
+            Ok(asked) => self.add(asked, reading.weighted)?,
+            Err(flaw) if !reading.skips_bad => return Ok(Err(flaw)),
+            Err(_) => self.skipped = self.skipped.saturating_add(1),
+        }
+        Ok(Ok(()))
     }
 }
 
@@ -139,14 +145,18 @@ pub fn read_trace<R: BufRead + Drop, E: Eprint>(
             Ok(_) => {}
             Err(error) => return Err(BadTrace::Read(error)),
         }
-        match read_line(reading.format, reading.weighted, &line) {
-            Ok(asked) => trace.add(asked, reading.weighted)?,
-            Err(_) if reading.skips_bad => trace.skipped = trace.skipped.saturating_add(1),
-            Err(flaw) => return Err(bad_line(alloc, number, &line, flaw)),
-        }
-        if number % 1_000_000 == 0 {
-            let _ = eprintln!(rt; "qcsim: {number} lines");
+        match trace.add_line(reading, &line) {
+            Ok(Ok(())) => tell(rt, number),
+            Ok(Err(flaw)) => return Err(bad_line(alloc, number, &line, flaw)),
+            Err(_) => return Err(BadTrace::Memory),
         }
     }
     Ok(trace)
+}
+
+/// Says how many lines were read, at each million.
+fn tell<E: Eprint>(rt: &E, lines: u64) {
+    if lines % 1_000_000 == 0 {
+        let _ = eprintln!(rt; "qcsim: {lines} lines");
+    }
 }

@@ -1,39 +1,29 @@
 //! The lines of a chart, what they stand for, and the figures at them.
 
-use crate::chart::scale::{RIGHT, Scale, TOP};
+use crate::chart::scale::{Scale, TOP};
 use crate::hits::{Hits, Policy, share};
 use std::io::{self, Write};
 
-fn colour(policy: Policy) -> &'static str {
-    match policy {
-        Policy::Cache => "#c0392b",
-        Policy::Lru => "#2c6fbb",
-        Policy::Fifo => "#7a7a7a",
-        Policy::Clock => "#8e6bbf",
-        Policy::S3Fifo => "#1e8449",
-        Policy::TinyLfu => "#d68910",
-        Policy::Arc => "#0e9aa7",
-        Policy::Best => "#111111",
-    }
-}
+/// How the caches look, by their places in `Policy::ALL`: a colour, a thickness, and the strokes and
+/// gaps of the line. Of two lines that meet, each shows in the gaps of the other.
+const STYLE: &[u8] = b"<style>
+polyline{fill:none;stroke-width:18}
+.p0{stroke:#c0392b;stroke-width:30}
+.p1{stroke:#2c6fbb;stroke-dasharray:150 50}
+.p2{stroke:#7a7a7a;stroke-dasharray:50 50}
+.p3{stroke:#8e6bbf;stroke-dasharray:100 100}
+.p4{stroke:#1e8449;stroke-dasharray:200 40}
+.p5{stroke:#d68910;stroke-dasharray:120 40 30 40}
+.p6{stroke:#0e9aa7;stroke-dasharray:60 30}
+.p7{stroke:#111;stroke-dasharray:25 60}
+circle{stroke-width:50;stroke-dasharray:none;fill:none}
+.figure{font-size:105px;text-anchor:middle}
+</style>
+";
 
-/// The strokes and gaps of a line: of two lines that meet, each shows in the gaps of the other.
-fn dashes(policy: Policy) -> &'static str {
-    match policy {
-        Policy::Cache => "none",
-        Policy::Lru => "150 50",
-        Policy::Fifo => "50 50",
-        Policy::Clock => "100 100",
-        Policy::S3Fifo => "200 40",
-        Policy::TinyLfu => "120 40 30 40",
-        Policy::Arc => "60 30",
-        Policy::Best => "25 60",
-    }
-}
-
-/// How thick a line is.
-fn thickness(policy: Policy) -> u64 {
-    if policy == Policy::Cache { 30 } else { 18 }
+/// Writes how the lines look.
+pub fn write_style<W: Write>(writer: &mut W) -> io::Result<()> {
+    writer.write_all(STYLE)
 }
 
 /// Where a point stands, from the left and from above. Each cache is a little to the right of the
@@ -50,24 +40,25 @@ fn write_share<W: Write>(writer: &mut W, share: u64) -> io::Result<()> {
     write!(writer, "{}.{:02}", share / 100, share % 100)
 }
 
-/// Writes a dot, which tells what it stands for where it is pointed at.
-fn write_dot<W: Write>(
+/// Writes the dots of a cache. Each tells what it stands for where it is pointed at.
+fn write_dots<W: Write>(
     writer: &mut W,
-    point: (u64, u64),
+    scale: &Scale,
+    all: &[Hits],
     policy: Policy,
-    capacity: u64,
-    share: u64,
+    index: usize,
 ) -> io::Result<()> {
-    write!(
-        writer,
-        "<circle cx=\"{}\" cy=\"{}\" r=\"32\" fill=\"{}\"><title>{}, {capacity}: ",
-        point.0,
-        point.1,
-        colour(policy),
-        policy.name()
-    )?;
-    write_share(writer, share)?;
-    writeln!(writer, "</title></circle>")
+    for hits in all {
+        let (across, down) = point(scale, hits, policy, index);
+        write!(
+            writer,
+            "<circle class=\"p{index}\" cx=\"{across}\" cy=\"{down}\" r=\"8\"><title>"
+        )?;
+        write!(writer, "{}, {}: ", policy.name(), hits.capacity)?;
+        write_share(writer, share(hits.of(policy), scale.keys))?;
+        writeln!(writer, "</title></circle>")?;
+    }
+    Ok(())
 }
 
 /// Writes the line of one cache, with a dot at each capacity.
@@ -78,24 +69,13 @@ pub fn write_line<W: Write>(
     policy: Policy,
     index: usize,
 ) -> io::Result<()> {
-    write!(
-        writer,
-        "<polyline fill=\"none\" stroke=\"{}\" stroke-width=\"{}\" stroke-dasharray=\"{}\" points=\"",
-        colour(policy),
-        thickness(policy),
-        dashes(policy)
-    )?;
+    write!(writer, "<polyline class=\"p{index}\" points=\"")?;
     for hits in all {
         let (across, down) = point(scale, hits, policy, index);
         write!(writer, "{across},{down} ")?;
     }
     writeln!(writer, "\"/>")?;
-    for hits in all {
-        let share = share(hits.of(policy), scale.keys);
-        let point = point(scale, hits, policy, index);
-        write_dot(writer, point, policy, hits.capacity, share)?;
-    }
-    Ok(())
+    write_dots(writer, scale, all, policy, index)
 }
 
 /// Writes what a line stands for, beside the field.
@@ -103,34 +83,21 @@ pub fn write_legend<W: Write>(writer: &mut W, policy: Policy, index: usize) -> i
     let down = (index as u64).saturating_mul(260).saturating_add(TOP + 150);
     writeln!(
         writer,
-        "<path d=\"M{} {down}h400\" stroke=\"{}\" stroke-width=\"{}\" stroke-dasharray=\"{}\"/>",
-        RIGHT + 150,
-        colour(policy),
-        thickness(policy),
-        dashes(policy)
+        "<polyline class=\"p{index}\" points=\"7050,{down} 7450,{down}\"/>"
     )?;
+    let down = down.saturating_add(45);
     writeln!(
         writer,
-        "<text x=\"{}\" y=\"{}\">{}</text>",
-        RIGHT + 620,
-        down.saturating_add(45),
+        "<text x=\"7520\" y=\"{down}\">{}</text>",
         policy.name()
     )
 }
 
-/// Writes a figure at a point of a cache's line.
-fn write_figure<W: Write>(
-    writer: &mut W,
-    point: (u64, u64),
-    policy: Policy,
-    share: u64,
-) -> io::Result<()> {
+/// Writes a figure at a point.
+fn write_figure<W: Write>(writer: &mut W, across: u64, down: u64, share: u64) -> io::Result<()> {
     write!(
         writer,
-        "<text x=\"{}\" y=\"{}\" font-size=\"105\" text-anchor=\"middle\" fill=\"{}\">",
-        point.0,
-        point.1,
-        colour(policy)
+        "<text class=\"figure\" x=\"{across}\" y=\"{down}\">"
     )?;
     write_share(writer, share)?;
     writeln!(writer, "</text>")
@@ -139,22 +106,11 @@ fn write_figure<W: Write>(
 /// Writes the figures of the best possible line above it, and those of this cache below its line.
 pub fn write_figures<W: Write>(writer: &mut W, scale: &Scale, all: &[Hits]) -> io::Result<()> {
     for hits in all {
-        let (across, down) = point(scale, hits, Policy::Best, 3);
+        let across = scale.across(hits.capacity);
         let best = share(hits.best, scale.keys);
-        write_figure(
-            writer,
-            (across, down.saturating_sub(70)),
-            Policy::Best,
-            best,
-        )?;
-        let (across, down) = point(scale, hits, Policy::Cache, 3);
+        write_figure(writer, across, scale.down(best).saturating_sub(70), best)?;
         let own = share(hits.cache, scale.keys);
-        write_figure(
-            writer,
-            (across, down.saturating_add(160)),
-            Policy::Cache,
-            own,
-        )?;
+        write_figure(writer, across, scale.down(own).saturating_add(160), own)?;
     }
     Ok(())
 }

@@ -15,7 +15,7 @@ pub const TOP: u64 = 600;
 pub const BOTTOM: u64 = 4100;
 
 /// What the field shows.
-#[derive(Debug, Clone, Copy, PartialEq, Eq)]
+#[derive(Clone, Copy)]
 pub struct Scale {
     /// How many keys the trace has.
     pub keys: usize,

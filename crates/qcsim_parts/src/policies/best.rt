@@ -59,7 +59,7 @@ fn exact_hits(alloc: Global, keys: &[u64], capacity: u64) -> Result<u64, AllocEr
 }
 
 /// When a key was last asked for, and the least that it weighed so far.
-#[derive(Debug, Clone, Copy, PartialEq, Eq)]
+#[derive(Clone, Copy)]
 struct Use {
     time: usize,
     weight: u32,

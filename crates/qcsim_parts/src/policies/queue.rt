@@ -4,7 +4,7 @@ use lru::LruCache;
 use std::alloc::{AllocError, Global};
 
 /// What a policy keeps of a key.
-#[derive(Debug, Clone, Copy, PartialEq, Eq)]
+#[derive(Clone, Copy)]
 pub struct Entry {
     /// What the key weighed when it was put in.
     pub weight: u32,

@@ -1,11 +1,14 @@
 //! What each policy has of traces that were worked by hand, that are known, or that were run through
 //! models of the policies which stand outside this project.
 
-use crate::line::Asked;
-use crate::trace::Trace;
-use crate::{arc_hits, best_hits, clock_hits, fifo_hits, lru_hits, s3_fifo_hits, tiny_lfu_hits};
+use qcsim_parts::line::Asked;
+use qcsim_parts::trace::Trace;
+use qcsim_parts::{
+    arc_hits, best_hits, clock_hits, fifo_hits, lru_hits, s3_fifo_hits, tiny_lfu_hits,
+};
 use std::alloc::{AllocError, Global};
 use std::test::Fail;
+use test_tools::expect;
 
 /// The hits of all policies: LRU, FIFO, CLOCK, S3-FIFO, W-TinyLFU, ARC and the best possible.
 fn all_hits(alloc: Global, trace: &Trace, capacity: u64) -> Result<[u64; 7], AllocError> {
@@ -112,5 +115,30 @@ fn models_of_the_policies_agree(rt: HostRuntime) -> Result<(), Fail> {
         let found = all_hits(rt.alloc(), &trace, capacity)?;
         assert!(rt; found == wanted, "{weighted} {capacity}: {found:?}");
     }
+    Ok(())
+}
+
+/// What was read twice, a scan of a thousand fresh keys, and the first ones again.
+fn scan(alloc: Global) -> Result<Trace, AllocError> {
+    let mut trace = Trace::new(alloc);
+    for (first, count) in [(1000, 97), (1000, 97), (2000, 1000), (1000, 97)] {
+        let asked = Asked {
+            first,
+            count,
+            weight: 1,
+        };
+        trace.add(asked, false)?;
+    }
+    Ok(trace)
+}
+
+// Each of the 97 is the second read of a hot key before the scan. Of LRU, FIFO, CLOCK and S3-FIFO,
+// which asks for two more uses, none comes behind it; ARC has all the 97 then, and W-TinyLFU those of
+// its protected segment and some more.
+#[test]
+fn a_scan_takes_every_hot_key_from_a_plain_list(rt: HostRuntime) -> Result<(), Fail> {
+    let trace = scan(rt.alloc())?;
+    let found = all_hits(rt.alloc(), &trace, 100)?;
+    expect!(rt; found == [97, 97, 97, 97, 183, 194, 194]);
     Ok(())
 }

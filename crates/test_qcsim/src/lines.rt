@@ -1,7 +1,7 @@
 //! The formats of a trace, and its bad lines.
 
-use crate::line::{Asked, Flaw, Format, read_line};
-use crate::trace::{BadTrace, Reading, Trace, read_trace};
+use qcsim_parts::line::{Asked, Flaw, Format, read_line};
+use qcsim_parts::trace::{BadTrace, Reading, Trace, read_trace};
 use std::alloc::Global;
 use std::io::BufReader;
 use std::test::Fail;

@@ -1,7 +1,7 @@
 //! Arguments that are understood, and that are not.
 
-use crate::arguments::{Form, read_arguments};
-use crate::line::Format;
+use qcsim_parts::arguments::{Form, read_arguments};
+use qcsim_parts::line::Format;
 use std::alloc::Global;
 use std::test::Fail;
 
@@ -73,7 +73,7 @@ fn arguments_are_understood_or_end_with_a_status(rt: HostRuntime) -> Result<(), 
     ];
     for (at, (words, wanted)) in rows.into_iter().enumerate() {
         let read = read(rt.alloc(), words)?;
-        assert!(rt; read == wanted, "row {at}: {read:?}");
+        assert!(rt; read == wanted, "row {at}");
     }
     Ok(())
 }

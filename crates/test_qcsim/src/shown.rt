@@ -1,6 +1,6 @@
 //! What is written.
 
-use crate::{Hits, write_chart, write_table};
+use qcsim_parts::{Hits, write_chart, write_table};
 use std::test::Fail;
 use test_tools::expect;
 
