@@ -1,4 +1,5 @@
 //! The cache for one thread: first examples, texts, a scan, and refused growths.
+mod answered;
 mod great;
 mod memory;
 

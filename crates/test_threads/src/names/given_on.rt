@@ -33,7 +33,7 @@ pub mod in_shard {
 
 pub mod in_unsync {
     pub use quick_cache::unsync::{
-        Cache, Call, DefaultLifecycle, Drain, Guard, Iter, RefMut, Reply, run,
+        Cache, Call, DefaultLifecycle, Drain, Guard, Iter, LoadError, NotLoaded, RefMut, Reply, run,
     };
 }
 
@@ -46,8 +46,8 @@ pub mod in_sync_placeholder {
 
 pub mod in_sync {
     pub use quick_cache::sync::{
-        Cache, DefaultLifecycle, Drain, EntryAction, EntryFuture, EntryResult, GetOrInsert,
-        GuardResult, Iter, LockContention, PlaceholderGuard, Seat, TraceCall, Traced, TryError,
-        ValueOrGuard,
+        Cache, DefaultLifecycle, Drain, EntryAction, EntryFuture, EntryResult, Fetched,
+        GetOrInsert, GuardResult, Iter, LockContention, PlaceholderGuard, Seat, TraceCall, Traced,
+        TryError, ValueOrGuard,
     };
 }

@@ -5,7 +5,7 @@ ghost use Rattle.quick_cache_loading.specs.LoadingStep.{LoadingStep};
 ghost use Rattle.quick_cache_loading.specs.LoadingLaws.{given_by, shown_by};
 ghost use Rattle.quick_cache_loading.specs.Fitting.{ClonesFit};
 ghost use Rattle.quick_cache_loading.specs.Waiters.{answer_of_fill, back_after_fill, has_joined, is_timed_out, waits_on};
-ghost use Rattle.quick_cache_loading.specs.Tasks.{slots_after_fill, with_slot};
+ghost use Rattle.quick_cache_loading.specs.Tasks.{slots_after_answer, slots_after_fill, with_slot};
 
 use crate::protocol::{Answer, Event, step};
 use crate::waiting::ended::Filled;
@@ -115,6 +115,8 @@ impl<K: Eq + Drop, V: Clone, L: Lifecycle<K, V>, A: Allocator> State<K, V, L, A>
         ensures event { LoadingStep V.is_clone self.old.core (Event.Fill value) result.0
             self.new.core }
         ensures back { result.1 ≡ back_after_fill result.0 value }
+        // All tasks are woken by a fill, and by nothing else.
+        ensures woken { self.new.tasks ≡ slots_after_answer result.0 self.old.tasks }
         ensures same { self.new ≡ record self.old {
           core = self.new.core;
           tasks = self.new.tasks;
