@@ -1,7 +1,6 @@
 //! A block cache: a block that someone still holds is pinned, and stays.
-ghost use Rattle.std.specs.Prelude.{◌≡◌};
-
-use quick_cache_unsync::{Cache, DefaultHashBuilder, Lifecycle, Refusal, UnitWeighter};
+use quick_cache_listeners::PinHeld;
+use quick_cache_unsync::{Cache, DefaultHashBuilder, DefaultLifecycle, Refusal, UnitWeighter};
 use std::alloc::Global;
 use std::rc::Rc;
 
@@ -9,39 +8,7 @@ use std::rc::Rc;
 pub type Block = [u8; 16];
 
 /// Pins each block to which a handle is out beside the cache's own.
-#[derive(Drop)]
-pub struct InUse;
-
-impl Lifecycle<u64, Rc<Block>> for InUse {
-    type RequestState = ();
-
-    // Handles come and go while the pair stays, so pins are no function of the pair.
-    ghost steady = { λ _. ⊥ };
-
-    ghost before_evict_gives = { λ _ _ _ value _ left. left ≡ value };
-
-    ghost on_evict_gives = { λ _ _ _ _ _. Unit {0} };
-
-    ghost on_evict_cold_gives = { λ _ _ _ _ _. Unit {0} };
-
-    ghost on_evict_hot_gives = { λ _ _ _ _ _. Unit {0} };
-
-    ghost keeps_fits = { λ _ _ _ _ _ _ _ fits. fits };
-
-    ghost same_fits = { λ _ _ _ _ fits. fits };
-
-    fn is_pinned(&self, _number: &u64, block: &Rc<Block>) -> bool {
-        Rc::strong_count(block) > 1
-    }
-
-    fn before_evict(&self, _state: &mut (), _number: &u64, _block: &mut Rc<Block>) {}
-
-    fn on_evict(&self, _state: &mut (), _number: u64, _block: Rc<Block>) {}
-
-    fn on_evict_cold(&self, _state: &mut (), _number: u64, _block: Rc<Block>) {}
-
-    fn on_evict_hot(&self, _state: &mut (), _number: u64, _block: Rc<Block>) {}
-}
+pub type InUse = PinHeld<DefaultLifecycle<u64, Rc<Block>>>;
 
 /// Blocks by their numbers.
 pub type Blocks = Cache<u64, Rc<Block>, UnitWeighter, DefaultHashBuilder, InUse>;
@@ -54,7 +21,7 @@ pub fn blocks(alloc: Global, count: usize) -> Result<Blocks, Refusal> {
         count as u64,
         UnitWeighter,
         DefaultHashBuilder::new(),
-        InUse,
+        PinHeld(DefaultLifecycle::new()),
     )
 }
 

@@ -3,6 +3,7 @@
 
 pub mod blocks;
 pub mod borrowed;
+pub mod counted;
 pub mod listener;
 pub mod memo;
 pub mod promises;

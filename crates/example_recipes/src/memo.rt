@@ -1,5 +1,5 @@
 //! A function that may fail, remembered: what was computed once is not computed again.
-use quick_cache_unsync::{Cache, NotLoaded};
+use quick_cache_unsync::{Cache, LoadError};
 
 /// The number is no square.
 #[derive(Debug, PartialEq, Drop)]
@@ -20,9 +20,8 @@ pub fn root_of(square: u64) -> Result<u64, NoSquare> {
 pub fn remembered_root(
     roots: &mut Cache<u64, u64>,
     square: u64,
-) -> Result<u64, NotLoaded<NoSquare>> {
-    let root = roots.get_or_insert_with(&square, || root_of(square))?;
-    Ok(*root)
+) -> Result<u64, LoadError<NoSquare>> {
+    roots.get_or_load(&square, || root_of(square))
 }
 
 #[cfg(test)]
@@ -38,9 +37,17 @@ mod tests {
         }
         assert_eq!(rt;
             remembered_root(&mut roots, 50),
-            Err(NotLoaded::Failed(NoSquare))
+            Err(LoadError::Failed(NoSquare))
         );
         assert_eq!(rt; (roots.hits(), roots.misses(), roots.len()), (2, 2, 1));
+        Ok(())
+    }
+
+    #[test]
+    fn a_root_is_answered_where_none_is_kept(rt: HostRuntime) -> Result<(), Fail> {
+        let mut none: Cache<u64, u64> = Cache::new(rt.alloc(), 0)?;
+        assert_eq!(rt; remembered_root(&mut none, 49), Ok(7));
+        assert!(rt; none.is_empty());
         Ok(())
     }
 }

@@ -4,7 +4,7 @@ use Rattle.std.specs.Prelude.{nat_eq}
 use Rattle.quick_cache_model.specs.CacheState.{CacheState, empty_state}
 use Rattle.quick_cache_model.specs.Hooks.{Rules, HookCall}
 use Rattle.quick_cache_model.specs.Sizes.{hot_target_of, ghost_limit_of}
-use Rattle.quick_cache_model.specs.Sizes.{default_hot_share, default_ghost_share}
+use Rattle.quick_cache_options.specs.Options.{Settings}
 use Rattle.quick_cache_model.specs.declared.calls.call.Call.{Call}
 use Rattle.quick_cache_model.specs.declared.calls.call.Call.TheVariants.{Insert, Get}
 use Rattle.quick_cache_model.specs.declared.calls.reply.Reply.{Reply}
@@ -42,6 +42,14 @@ pub record Simulates {K : Type 0} (rules : Rules K (Unit {0})) (equal : K → K 
   pub asks : Asks keys calls replies hits
   pub run : CacheRun rules equal IsItself IsItself asks_none old calls replies hook_calls new
 
+-- the empty cache with these settings
+abbrev pub made_by : Settings → CacheState ℕ (Unit {0})
+made_by settings = record (empty_state settings.weight_capacity
+    (hot_target_of settings.weight_capacity settings.hot_allocation)
+    (ghost_limit_of settings.estimated_items_capacity settings.ghost_allocation)) {
+      mark_cut = settings.mark_cut;
+    }
+
 -- what a cache of items goes by: each weighs one, and none is pinned
 abbrev pub item_rules : (ℕ → ℕ) → Rules ℕ (Unit {0})
 item_rules hash = record {
@@ -51,11 +59,9 @@ item_rules hash = record {
   may_count = λ count. count ≡ 0;
 }
 
--- An empty cache for so many items has so many keys of a trace when they are asked for, by some
+-- An empty cache with these settings has so many keys of a trace when they are asked for, by some
 -- hash.
-pub record HasHits (capacity : ℕ) (keys : List ℕ) (hits : ℕ) : Type 0 where
+pub record HasHits (settings : Settings) (keys : List ℕ) (hits : ℕ) : Type 0 where
   pub hash : ℕ → ℕ
   pub new : CacheState ℕ (Unit {0})
-  pub simulates : Simulates (item_rules hash) nat_eq
-      (empty_state capacity (hot_target_of capacity default_hot_share)
-      (ghost_limit_of capacity default_ghost_share)) keys hits new
+  pub simulates : Simulates (item_rules hash) nat_eq (made_by settings) keys hits new

@@ -4,8 +4,12 @@ ghost use Rattle.quick_cache_shard.specs.Steps.{rules_in};
 ghost use Rattle.quick_cache_unsync.specs.Touches.{no_touches};
 ghost use Rattle.qcsim.specs.Simulation.{Simulates, HasHits, counted};
 
+use qcsim_parts::Trace;
+use quick_cache_options::Options;
 use quick_cache_shard::Going;
-use quick_cache_unsync::{Cache, Lifecycle, Refusal, Weighter};
+use quick_cache_unsync::{
+    Cache, DefaultHashBuilder, DefaultLifecycle, Lifecycle, Refusal, UnitWeighter, Weighter,
+};
 use std::alloc::Global;
 use std::hash::{BuildHasher, Hash};
 
@@ -51,15 +55,47 @@ fn ask_for_all<
     Ok(hits)
 }
 
-/// How many keys of a trace a cache of so many items has when they are asked for, where it is empty
-/// at first.
+/// How many keys of a trace a cache with these options has when they are asked for, where it is empty
+/// at first and each key weighs one.
 ///
 /// # Errors
 ///
 /// `Memory` or `SlotsFull`, where a key could not be put in.
-pub fn cache_hits(alloc: Global, keys: &[u64], capacity: u32) -> Result<u64, Refusal>
-    ensures hits { IfOk result (HasHits capacity keys.now) }
+pub fn cache_hits(alloc: Global, keys: &[u64], options: Options) -> Result<u64, Refusal>
+    ensures hits { IfOk result (HasHits options keys.now) }
 {
-    let mut cache = Cache::new(alloc, capacity as usize)?;
+    let (builder, lifecycle) = (DefaultHashBuilder::new(), DefaultLifecycle::new());
+    let mut cache = Cache::with_options(alloc, options, UnitWeighter, builder, lifecycle)?;
     ask_for_all(&mut cache, keys)
+}
+
+/// Weighs a key by its value.
+#[derive(Drop)]
+struct ByValue;
+
+impl Weighter<u64, u32> for ByValue {
+    ghost weight_of = { λ _ _ weight. weight };
+
+    fn weight(&self, _key: &u64, weight: &u32) -> u64 {
+        u64::from(*weight)
+    }
+}
+
+/// The same of keys with weights of their own.
+///
+/// # Errors
+///
+/// `Memory` or `SlotsFull`, where a key could not be put in.
+pub fn weighed_hits(alloc: Global, trace: &Trace, options: Options) -> Result<u64, Refusal> {
+    let (builder, lifecycle) = (DefaultHashBuilder::new(), DefaultLifecycle::new());
+    let mut cache = Cache::with_options(alloc, options, ByValue, builder, lifecycle)?;
+    let mut hits = 0u64;
+    for (index, key) in trace.keys().iter().enumerate() {
+        if cache.get(key).is_some() {
+            hits = hits.saturating_add(1);
+        } else if let Err((_, _, refusal)) = cache.insert(*key, trace.weight(index)) {
+            return Err(refusal);
+        }
+    }
+    Ok(hits)
 }

@@ -1,23 +1,28 @@
-//! Reads keys, one a line, and shows which share of them a cache of each capacity has when they are
-//! asked for: this project's cache, an LRU cache and a FIFO cache.
+//! Reads a trace of keys, and shows which share of them a cache of each capacity has when they are
+//! asked for: this project's cache, those of six other policies, and the best that there can be.
 //!
-//! Its arguments are the capacities. It writes a table, or, where `svg` stands before them, a line
-//! chart. At an argument or a line that it does not understand, it says which, and ends with status
-//! 2; where there is no memory, or where it cannot read or write, with status 1.
+//! `--help` tells its arguments. It writes a table, or a line chart. At an argument or a line that it
+//! does not understand, and where there are no keys, it says so, and ends with status 2; where there
+//! is no memory, or where it cannot read or write, with status 1.
 #![tactic(auto)]
 
 mod cached;
 
-use cached::cache_hits;
+use cached::{cache_hits, weighed_hits};
+use clap::error::ErrorKind as ArgumentError;
 use qcsim_parts::{
-    Arguments, BadArgument, BadTrace, Form, Hits, hits_by_age, hits_by_use, read_arguments,
-    read_trace, write_chart, write_table,
+    Arguments, BadTrace, Form, Hits, Shares, Trace, arc_hits, best_hits, clock_hits, fifo_hits,
+    lru_hits, read_arguments, read_trace, s3_fifo_hits, tiny_lfu_hits, write_chart, write_table,
 };
+use quick_cache_options::{Options, OptionsBuilder};
 use std::alloc::{AllocError, Global};
 use std::env;
-use std::io::{self, BufReader, BufWriter, ErrorKind, Write};
-use std::num::NonZeroUsize;
+use std::fs::File;
+use std::io::{self, BufReader, BufWriter, ErrorKind, Read, Write};
 use std::process::ExitCode;
+
+/// From how many keys on each capacity is told on standard error.
+const TOLD_KEYS: usize = 1_000_000;
 
 fn no_memory() -> io::Error {
     io::Error::from(ErrorKind::OutOfMemory)
@@ -32,89 +37,150 @@ fn words(rt: &HostRuntime) -> io::Result<Vec<String>> {
     Ok(words)
 }
 
-/// The hits of each cache, at one capacity. Of capacity 0 there is none.
-fn hits_at(alloc: Global, keys: &[u64], capacity: u32) -> Result<Hits, AllocError> {
-    let Some(places) = NonZeroUsize::new(capacity as usize) else {
-        return Ok(Hits {
-            capacity,
-            cache: 0,
-            by_use: 0,
-            by_age: 0,
-        });
+/// What this project's cache is made with, for a trace and a capacity.
+fn options(shares: Shares, trace: &Trace, capacity: u64) -> Option<Options> {
+    let items = if trace.is_weighted() {
+        trace.keys_within(capacity)
+    } else {
+        capacity as usize
     };
-    let Ok(cache) = cache_hits(alloc, keys, capacity) else {
-        return Err(AllocError);
+    let built = OptionsBuilder::new()
+        .estimated_items_capacity(items)
+        .weight_capacity(capacity)
+        .hot_allocation(shares.hot)
+        .ghost_allocation(shares.ghosts)
+        .mark_cut(shares.mark_cut)
+        .build();
+    built.ok()
+}
+
+/// The hits of this project's cache, at one capacity.
+fn own_hits(
+    alloc: Global,
+    shares: Shares,
+    trace: &Trace,
+    capacity: u64,
+) -> Result<u64, AllocError> {
+    let Some(options) = options(shares, trace, capacity) else {
+        return Ok(0);
     };
+    let hits = if trace.is_weighted() {
+        weighed_hits(alloc, trace, options)
+    } else {
+        cache_hits(alloc, trace.keys(), options)
+    };
+    match hits {
+        Ok(hits) => Ok(hits),
+        Err(_) => Err(AllocError),
+    }
+}
+
+/// The hits of each cache, at one capacity.
+fn hits_at(
+    alloc: Global,
+    shares: Shares,
+    trace: &Trace,
+    capacity: u64,
+) -> Result<Hits, AllocError> {
     Ok(Hits {
         capacity,
-        cache,
-        by_use: hits_by_use(alloc, keys, places)?,
-        by_age: hits_by_age(alloc, keys, places)?,
+        cache: own_hits(alloc, shares, trace, capacity)?,
+        lru: lru_hits(alloc, trace, capacity)?,
+        fifo: fifo_hits(alloc, trace, capacity)?,
+        clock: clock_hits(alloc, trace, capacity)?,
+        s3_fifo: s3_fifo_hits(alloc, trace, capacity)?,
+        tiny_lfu: tiny_lfu_hits(alloc, trace, capacity)?,
+        arc: arc_hits(alloc, trace, capacity)?,
+        best: best_hits(alloc, trace, capacity)?,
     })
 }
 
-/// Runs the trace through the caches of each capacity, and writes what came of it. How far it is
-/// stands on standard error, where the trace has a million keys or more.
-fn simulate(rt: &HostRuntime, arguments: &Arguments, keys: &[u64]) -> io::Result<()> {
+/// Runs the trace through the caches of each capacity. How far it is stands on standard error, where
+/// the trace is long.
+fn simulate(rt: &HostRuntime, arguments: &Arguments<'_>, trace: &Trace) -> io::Result<Vec<Hits>> {
+    let keys = trace.keys().len();
     let mut all = Vec::new(rt.alloc());
     for capacity in arguments.capacities.iter() {
-        if keys.len() >= 1_000_000 {
-            eprintln!(rt; "capacity {capacity}: {} keys", keys.len())?;
+        if keys >= TOLD_KEYS {
+            eprintln!(rt; "qcsim: capacity {capacity}: {keys} keys")?;
         }
-        let Ok(hits) = hits_at(rt.alloc(), keys, *capacity) else {
-            return Err(no_memory());
-        };
-        all.push(hits)?;
+        match hits_at(rt.alloc(), arguments.shares, trace, *capacity) {
+            Ok(hits) => all.push(hits)?,
+            Err(_) => return Err(no_memory()),
+        }
     }
+    Ok(all)
+}
+
+/// Writes what came of a trace.
+fn show(rt: &HostRuntime, arguments: &Arguments<'_>, trace: &Trace) -> io::Result<ExitCode> {
+    let all = simulate(rt, arguments, trace)?;
+    let keys = trace.keys().len();
     let mut writer = BufWriter::new(rt.alloc(), io::writer(rt))?;
     match arguments.form {
-        Form::Table => write_table(&mut writer, keys.len(), &all)?,
-        Form::Chart => write_chart(&mut writer, keys.len(), &all)?,
+        Form::Table => write_table(&mut writer, keys, &all)?,
+        Form::Chart => write_chart(&mut writer, arguments.title, keys, &all)?,
     }
-    writer.flush()
+    writer.flush()?;
+    Ok(ExitCode::SUCCESS)
 }
 
-/// Says what was wrong with the arguments, and how they are given.
-fn refuse_argument(rt: &HostRuntime, bad: BadArgument) -> io::Result<ExitCode> {
-    match bad {
-        BadArgument::Memory => return Err(no_memory()),
-        BadArgument::NoCapacity => eprintln!(rt; "qcsim: no capacity is given")?,
-        BadArgument::NoNumber(place) => {
-            eprintln!(rt; "qcsim: argument {place} is no number from 1 to 4294967295")?;
-        }
+/// Goes on with a trace that was read.
+fn take(rt: &HostRuntime, arguments: &Arguments<'_>, trace: &Trace) -> io::Result<ExitCode> {
+    if trace.skipped() > 0 {
+        eprintln!(rt; "qcsim: {} bad lines were passed over", trace.skipped())?;
     }
-    eprintln!(rt; "usage: qcsim [svg] CAPACITY.. < KEYS")?;
-    Ok(ExitCode::from(2))
+    if trace.keys().is_empty() {
+        eprintln!(rt; "qcsim: no keys")?;
+        return Ok(ExitCode::from(2));
+    }
+    show(rt, arguments, trace)
 }
 
-/// Says which line of the trace is no key.
-fn refuse_trace(rt: &HostRuntime, bad: BadTrace) -> io::Result<ExitCode> {
-    match bad {
-        BadTrace::Memory => Err(no_memory()),
-        BadTrace::Read(error) => Err(error),
-        BadTrace::Line(number) => {
-            eprintln!(rt; "qcsim: line {number} is no number from 0 to 18446744073709551615")?;
+/// Reads a trace, and goes on with it, or says why it was not read.
+fn run_over<R: Read + Drop>(
+    rt: &HostRuntime,
+    arguments: &Arguments<'_>,
+    reader: R,
+) -> io::Result<ExitCode> {
+    let reader = BufReader::new(rt.alloc(), reader)?;
+    match read_trace(rt.alloc(), rt, reader, arguments.reading) {
+        Ok(trace) => take(rt, arguments, &trace),
+        Err(BadTrace::Memory) => Err(no_memory()),
+        Err(BadTrace::Read(error)) => Err(error),
+        Err(BadTrace::Line(bad)) => {
+            eprintln!(rt;
+                "qcsim: line {} is bad: {}: {:?}",
+                bad.number, bad.flaw, bad.start
+            )?;
             Ok(ExitCode::from(2))
         }
     }
 }
 
-fn run(rt: &HostRuntime) -> io::Result<ExitCode> {
-    let words = words(rt)?;
-    let arguments = match read_arguments(rt.alloc(), &words) {
-        Ok(arguments) => arguments,
-        Err(bad) => return refuse_argument(rt, bad),
+/// Opens the trace.
+fn run(rt: &HostRuntime, arguments: &Arguments<'_>) -> io::Result<ExitCode> {
+    let Some(path) = arguments.file else {
+        return run_over(rt, arguments, rt.reader());
     };
-    let reader = BufReader::new(rt.alloc(), rt.reader())?;
-    match read_trace(rt.alloc(), reader) {
-        Ok(keys) => {
-            simulate(rt, &arguments, &keys)?;
-            Ok(ExitCode::SUCCESS)
+    match File::open(rt, path) {
+        Ok(file) => run_over(rt, arguments, file),
+        Err(error) => {
+            eprintln!(rt; "qcsim: {path}: {error}")?;
+            Ok(ExitCode::FAILURE)
         }
-        Err(bad) => refuse_trace(rt, bad),
     }
 }
 
 fn main(rt: HostRuntime) -> io::Result<ExitCode> {
-    run(&rt)
+    let words = words(&rt)?;
+    match read_arguments(rt.alloc(), &words) {
+        Ok(arguments) => run(&rt, &arguments),
+        Err(error) if error.kind() == ArgumentError::OutOfMemory => Err(no_memory()),
+        Err(error) => {
+            error.print(&rt)?;
+            let status = if error.use_stderr() { 2 } else { 0 };
+            Ok(ExitCode::from(status))
+        }
+    }
 }

@@ -1,9 +1,13 @@
-//! The arguments of `qcsim`: perhaps the word `svg`, and then the capacities.
+//! The arguments of `qcsim`.
 
-use std::alloc::Global;
+use crate::line::Format;
+use crate::trace::Reading;
+use clap::error::ErrorKind;
+use clap::{Arg, ArgAction, ArgMatches, Command, Error};
+use std::alloc::{AllocError, Global};
 
 /// How the shares of hits are shown.
-#[derive(Debug, Clone, Copy, PartialEq, Eq)]
+#[derive(Clone, Copy, PartialEq, Eq)]
 pub enum Form {
     /// A line of numbers for each capacity.
     Table,
@@ -11,51 +15,250 @@ pub enum Form {
     Chart,
 }
 
-/// What was asked for.
-#[derive(Debug, Drop)]
-pub struct Arguments {
-    /// How it is shown.
-    pub form: Form,
-    /// The capacities, the least first. None is 0, and there is one at least.
-    pub capacities: Vec<u32>,
+/// What this project's cache is made with.
+#[derive(Clone, Copy)]
+pub struct Shares {
+    /// The share of the capacity that hot keys may have, in parts per million.
+    pub hot: u32,
+    /// The share of the keys that is kept as ghosts, in parts per million.
+    pub ghosts: u32,
+    /// How many uses of a key count at most.
+    pub mark_cut: u8,
 }
 
-/// Why arguments were not understood.
-#[derive(Debug, Clone, Copy, PartialEq, Eq)]
-pub enum BadArgument {
-    /// There was no capacity.
-    NoCapacity,
-    /// The argument of this place, the first being 1, is no number from 1 to 4294967295.
-    NoNumber(usize),
+/// What was asked for.
+#[derive(Drop)]
+pub struct Arguments<'a> {
+    /// The file that the trace is read from; none is standard input.
+    pub file: Option<&'a str>,
+    /// How it is read.
+    pub reading: Reading,
+    /// How the cache is made.
+    pub shares: Shares,
+    /// How the shares of hits are shown.
+    pub form: Form,
+    /// The title of a chart.
+    pub title: &'a str,
+    /// The capacities, the least first. None is 0, and there is one at least.
+    pub capacities: Vec<u64>,
+}
+
+/// An argument that begins with its name.
+struct Named {
+    name: &'static str,
+    /// What its value is called; without one it is there or not.
+    value: Option<&'static str>,
+    /// Its value where it is not given.
+    standard: Option<&'static str>,
+    help: &'static str,
+}
+
+/// All of them, in the order in which the help shows them.
+static NAMED: [Named; 9] = [
+    Named {
+        name: "format",
+        value: Some("FORMAT"),
+        standard: Some("keys"),
+        help: "A line: keys (a number), text, arc (start count ignored request), csv:N[:WEIGHT] (columns)",
+    },
+    Named {
+        name: "file",
+        value: Some("FILE"),
+        standard: None,
+        help: "The trace; standard input where there is none",
+    },
+    Named {
+        name: "weights",
+        value: None,
+        standard: None,
+        help: "Behind each key stands its weight, and a capacity is a weight",
+    },
+    Named {
+        name: "skip-bad",
+        value: None,
+        standard: None,
+        help: "Pass over lines that are no keys",
+    },
+    Named {
+        name: "hot",
+        value: Some("MILLIONTHS"),
+        standard: Some("970000"),
+        help: "The share of this cache's capacity that hot keys may have",
+    },
+    Named {
+        name: "ghosts",
+        value: Some("MILLIONTHS"),
+        standard: Some("500000"),
+        help: "The share of the keys that this cache keeps as ghosts",
+    },
+    Named {
+        name: "mark-cut",
+        value: Some("1..3"),
+        standard: Some("2"),
+        help: "How many uses of a key this cache counts at most",
+    },
+    Named {
+        name: "svg",
+        value: None,
+        standard: None,
+        help: "Write a chart in place of a table",
+    },
+    Named {
+        name: "title",
+        value: Some("TITLE"),
+        standard: Some("Hit ratios"),
+        help: "The title of the chart",
+    },
+];
+
+fn argument<'a>(alloc: Global, named: &Named) -> Arg<'a> {
+    let argument = Arg::new(alloc, named.name)
+        .long(named.name)
+        .help(named.help);
+    let Some(value) = named.value else {
+        return argument.action(ArgAction::SetTrue);
+    };
+    let argument = argument.value_name(value);
+    match named.standard {
+        Some(standard) => argument.default_value(standard),
+        None => argument,
+    }
+}
+
+fn capacity<'a>(alloc: Global) -> Arg<'a> {
+    Arg::new(alloc, "capacity")
+        .value_name("CAPACITY")
+        .required(true)
+        .num_args(1..)
+        .help("How many keys each cache may hold, or what they may weigh")
+}
+
+/// All that may be asked for.
+fn command<'a>(alloc: Global) -> Result<Command<'a>, AllocError> {
+    let mut command = Command::new(alloc, "qcsim")
+        .about("Shows which share of the keys of a trace each of some caches has")
+        .no_binary_name(true);
+    for named in NAMED.iter() {
+        command = command.arg(argument(alloc, named))?;
+    }
+    command.arg(capacity(alloc))
+}
+
+/// Why a value was not understood.
+enum Misread {
+    /// What it should be.
+    Value(&'static str),
     /// There was no memory.
     Memory,
 }
 
-/// Reads the arguments, without the name of the program.
-pub fn read_arguments(alloc: Global, words: &[String]) -> Result<Arguments, BadArgument> {
-    let is_chart = match words.first() {
-        Some(word) => word.as_str() == "svg",
-        None => false,
-    };
+impl From<AllocError> for Misread {
+    fn from(_error: AllocError) -> Misread {
+        Misread::Memory
+    }
+}
+
+/// A number of an argument, in a range.
+fn number(matches: &ArgMatches<'_>, name: &str, least: u32, most: u32) -> Option<u32> {
+    match matches.get_str(name)?.parse() {
+        Ok(number) if least <= number && number <= most => Some(number),
+        _ => None,
+    }
+}
+
+fn shares_of(matches: &ArgMatches<'_>) -> Option<Shares> {
+    Some(Shares {
+        hot: number(matches, "hot", 0, 1_000_000)?,
+        ghosts: number(matches, "ghosts", 0, 1_000_000)?,
+        mark_cut: number(matches, "mark-cut", 1, 3)? as u8,
+    })
+}
+
+/// Whether the keys have weights, where that has a meaning.
+fn is_weighted(format: Format, asks_weights: bool) -> Option<bool> {
+    match format {
+        Format::Keys | Format::Text => Some(asks_weights),
+        Format::Csv {
+            weight: Some(_),
+            ..
+        } => Some(true),
+        _ if asks_weights => None,
+        _ => Some(false),
+    }
+}
+
+fn reading_of(matches: &ArgMatches<'_>) -> Option<Reading> {
+    let format = Format::named(matches.get_str("format")?)?;
+    Some(Reading {
+        format,
+        weighted: is_weighted(format, matches.get_flag("weights"))?,
+        skips_bad: matches.get_flag("skip-bad"),
+    })
+}
+
+/// The capacities, where each is a number above 0.
+fn capacities_of(alloc: Global, words: &[&str]) -> Result<Option<Vec<u64>>, AllocError> {
     let mut capacities = Vec::new(alloc);
-    for (index, word) in words.iter().enumerate() {
-        if index == 0 && is_chart {
-            continue;
-        }
-        let capacity: u32 = word.parse().unwrap_or(0);
-        if capacity == 0 {
-            return Err(BadArgument::NoNumber(index.saturating_add(1)));
-        }
-        if capacities.push(capacity).is_err() {
-            return Err(BadArgument::Memory);
+    for word in words {
+        match word.parse() {
+            Ok(capacity) if capacity > 0u64 => capacities.push(capacity)?,
+            _ => return Ok(None),
         }
     }
-    if capacities.is_empty() {
-        return Err(BadArgument::NoCapacity);
+    capacities.sort()?;
+    Ok(Some(capacities))
+}
+
+fn arguments_of<'a>(alloc: Global, matches: &ArgMatches<'a>) -> Result<Arguments<'a>, Misread> {
+    let Some(reading) = reading_of(matches) else {
+        return Err(Misread::Value(
+            "FORMAT is keys, text, arc, csv:N or csv:N:WEIGHT, and arc and csv:N have no weights",
+        ));
+    };
+    let Some(shares) = shares_of(matches) else {
+        return Err(Misread::Value("a share is a number up to 1000000, and the mark cut 1, 2 or 3"));
+    };
+    let words = matches.get_strs("capacity").unwrap_or(&[]);
+    let Some(capacities) = capacities_of(alloc, words)? else {
+        return Err(Misread::Value("CAPACITY is a number of 64 bits above 0"));
+    };
+    let form = if matches.get_flag("svg") {
+        Form::Chart
+    } else {
+        Form::Table
+    };
+    Ok(Arguments {
+        file: matches.get_str("file"),
+        reading,
+        shares,
+        form,
+        title: matches.get_str("title").unwrap_or(""),
+        capacities,
+    })
+}
+
+/// What is written of a value that was not understood.
+fn error_of(mut command: Command<'_>, misread: Misread) -> Error {
+    let error = match misread {
+        Misread::Value(wanted) => command.error(ErrorKind::InvalidValue, wanted),
+        Misread::Memory => Err(AllocError),
+    };
+    match error {
+        Ok(error) => error,
+        Err(error) => Error::from(error),
     }
-    if capacities.sort().is_err() {
-        return Err(BadArgument::Memory);
+}
+
+/// Reads the arguments, without the name of the program.
+///
+/// # Errors
+///
+/// What is to be written, and the status: the help, or what was not understood.
+pub fn read_arguments<'a>(alloc: Global, words: &'a [String]) -> Result<Arguments<'a>, Error> {
+    let mut command = command(alloc)?;
+    let matches = command.try_get_matches_from_mut(words)?;
+    match arguments_of(alloc, &matches) {
+        Ok(arguments) => Ok(arguments),
+        Err(why) => Err(error_of(command, why)),
     }
-    let form = if is_chart { Form::Chart } else { Form::Table };
-    Ok(Arguments { form, capacities })
 }

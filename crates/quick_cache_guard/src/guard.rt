@@ -8,7 +8,8 @@ use quick_cache_loading::sharing::{LoadingShard, Placeholder, SharedPlaceholder}
 use quick_cache_loading::waiting::Share;
 use quick_cache_model::Lifecycle;
 use std::alloc::{Allocator, Global};
-use std::fmt::{Debug, Formatter, Write};
+use std::error::Error;
+use std::fmt::{Debug, Display, Formatter, Write};
 use std::hash::Hash;
 use std::marker::Model;
 use std::sync::{Arc, RwLock, Wait};
@@ -59,6 +60,21 @@ pub enum FillError<V, G> {
     /// Memory was refused for the clone, and the guard stands.
     Memory(G, V),
 }
+
+impl<V, G> Display for FillError<V, G> {
+    ghost use Rattle.quick_cache_guard.specs.Fills.{fill_error_text};
+
+    ghost output = { λ error. Some (fill_error_text error) };
+
+    fn fmt<W: Write>(&self, f: &mut Formatter<W>) -> std::fmt::Result {
+        f.write_str(match self {
+            FillError::Gone(_) => "the placeholder had left the cache",
+            FillError::Memory(_, _) => "no memory for a clone of the value",
+        })
+    }
+}
+
+impl<V: Debug + Drop, G: Debug + Drop> Error for FillError<V, G> {}
 
 impl<
     K: Eq + Hash + Drop,

@@ -15,4 +15,4 @@ pub use coming::Waiting;
 pub use future::JoinFuture;
 pub use guard::{FillError, PlaceholderGuard};
 pub use quick_cache_loading::sharing::{Begun, LoadingShard};
-pub use results::{EntryResult, GuardResult};
+pub use results::{EntryResult, Fetched, GuardResult};

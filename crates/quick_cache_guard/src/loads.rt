@@ -3,5 +3,5 @@
 mod looking;
 mod values;
 
-pub use looking::look;
-pub use values::{get_or_insert_with, get_value_or_guard, keep};
+pub use looking::{look, reading};
+pub use values::{get_or_insert_told, get_or_insert_with, get_value_or_guard, keep};

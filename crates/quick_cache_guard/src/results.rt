@@ -30,3 +30,12 @@ pub enum EntryResult<T, K, V, G> {
     /// The call was refused. Where the callback had run, the entry is as it left it.
     Refused(Refusal),
 }
+
+/// A value, and whether this call loaded it.
+#[derive(Debug, Drop)]
+pub struct Fetched<V> {
+    /// The value.
+    pub value: V,
+    /// Whether the loader of this call gave it. Else it was found, or another's load gave it.
+    pub loaded: bool,
+}

@@ -1,1 +1,5 @@
 pub mod Kept
+pub mod Causes
+pub mod Requests
+pub mod CauseLaws
+pub mod Tallies

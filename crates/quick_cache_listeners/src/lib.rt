@@ -1,13 +1,19 @@
-//! Lifecycles and weighers that are ready to be used: a listener of what leaves, pins by a test,
-//! weights by length.
+//! Lifecycles and weighers that are ready to be used: listeners of what leaves and why, counts of it,
+//! pins by a test or by what others hold, weights by length.
 #![tactic(auto)]
 
 pub mod by_length;
+pub mod causes;
 pub mod collect;
 pub mod listener;
 pub mod pins;
 
 pub use by_length::{ByLength, HasLength};
+pub use causes::cause::{Cause, Stage};
+pub use causes::counted::{Counted, Counts};
+pub use causes::counted_by_threads::CountedByThreads;
+pub use causes::listener::{ListenerWhy, OnLeaveWhy, Request};
+pub use causes::tallies::{SharedTallies, Tallies, Tally};
 pub use collect::{Collect, Collected};
 pub use listener::{Listener, OnLeave};
-pub use pins::{Pin, PinBy};
+pub use pins::{Held, Pin, PinBy, PinHeld};

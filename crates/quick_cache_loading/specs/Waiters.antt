@@ -29,6 +29,11 @@ abbrev pub answer_of_fill : {B V : Type 0} → Result (Unit {0}) B → Answer V
 answer_of_fill (Ok done) = Done
 answer_of_fill (Err back) = NotNow
 
+-- the value comes back where no guard was held
+abbrev pub back_after_fill : {V : Type 0} → Answer V → V → Option V
+back_after_fill NotNow value = Some value
+back_after_fill _ value = None
+
 -- the life is given up by this answer, so that its placeholder is to leave the shard
 abbrev pub ends_life : {V : Type 0} → Answer V → Bool
 ends_life answer.GivenUp = true

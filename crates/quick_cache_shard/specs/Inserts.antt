@@ -6,6 +6,12 @@ use Rattle.quick_cache_model.specs.Hooks.{Rules, Hooks}
 use Rattle.quick_cache_model.specs.Writes.{Insert}
 use Rattle.quick_cache_shard.specs.Shard.{Wrote, RefusesWrite}
 
+-- what an insert of the pair answers, where the pair comes back with a refusal
+abbrev pub with_pair : {K V : Type 0} → K → V → Result (Unit {0}) Refusal
+    → Result (Unit {0}) (K × V × Refusal)
+with_pair key value (Ok done) = Ok done
+with_pair key value (Err refusal) = Err (key, value, refusal)
+
 module _ {K V S : Type 0} (steady : Type 0) (hooks : Hooks K V S) (rules : Rules K V)
     (equal : K → K → Bool) (old : CacheState K V) where
   -- The pair was written, or it was refused and comes back. The hooks led the request state from

@@ -34,3 +34,4 @@ pub use Rattle.quick_cache_model.specs.Lookups
 pub use Rattle.quick_cache_model.specs.Removal
 pub use Rattle.quick_cache_model.specs.Sizes
 pub use Rattle.quick_cache_model.specs.Refusals
+pub mod Texts

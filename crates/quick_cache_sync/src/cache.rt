@@ -5,6 +5,7 @@ ghost use Rattle.quick_cache_model.specs.Sizes.{IsShardCount};
 ghost use Rattle.quick_cache_options.specs.Options.{default_shards};
 ghost use Rattle.quick_cache_sync.specs.Answers.{InsertsAloneBy, InsertsSoBy};
 ghost use Rattle.quick_cache_locked.specs.Locked.{FromSome};
+ghost use Rattle.quick_cache_shard.specs.Inserts.{with_pair};
 
 use crate::lifecycle::DefaultLifecycle;
 use crossbeam_utils::CachePadded;
@@ -224,6 +225,25 @@ impl<
     {
         let mut state = L::RequestState::default();
         self.insert_with_lifecycle(rt, key, value, &mut state)
+    }
+
+    /// Inserts a pair as `insert` does, for who does not want a refused pair back: it is dropped once
+    /// the lock is released.
+    ///
+    /// # Errors
+    ///
+    /// Why it was refused: `SlotsFull` or `Memory`, only where nothing stood under its key. Nothing
+    /// changed then, and no hook was called.
+    pub fn put<R: Wait>(&self, rt: &R, key: K, value: V) -> Result<(), Refusal>
+        requires fits { L.fits key value }
+        ensures answers { FromSome L.Lifecycle K.eq (λ shard.
+            InsertsAloneBy ⟦<Self as Going>⟧.goes K.eq shard
+            L.RequestState.is_default key value (with_pair key value result)) }
+    {
+        match self.insert(rt, key, value) {
+            Ok(()) => Ok(()),
+            Err((_key, _value, refusal)) => Err(refusal),
+        }
     }
 
     /// Inserts a pair, and hands what leaves to the lifecycle, with this request state. A pair that

@@ -5,6 +5,7 @@ ghost use Rattle.quick_cache_sync.specs.Shards.{IsDivision, IsLockAt, shard_of_h
 
 use crate::cache::Cache;
 use crossbeam_utils::CachePadded;
+use quick_cache_guard::loads::reading;
 use quick_cache_locked::LockedShard;
 use quick_cache_model::{Equivalent, Lifecycle, hash_of};
 use std::alloc::Allocator;
@@ -45,19 +46,14 @@ impl<K: Eq + Hash + Drop, V: Drop, We, B: BuildHasher, L: Lifecycle<K, V>, A: Al
         lock_of(&self.shards, &self.builder, query)
     }
 
-    /// The read lock of the query's shard. It is tried once before the call waits for it, since a
-    /// try that succeeds takes a third of the steps.
+    /// The read lock of the query's shard.
     #[inline(always)]
     pub(crate) fn reading<R: Wait, Q: Equivalent<K>>(
         &self,
         rt: &R,
         query: &Q,
     ) -> RwLockReadGuard<'_, LockedShard<K, V, We, B, L, A>> {
-        let lock = self.shard_of(query);
-        match lock.try_read() {
-            Some(guard) => guard,
-            None => wait_to_read(lock, rt),
-        }
+        reading(rt, self.shard_of(query))
     }
 }
 
@@ -89,11 +85,4 @@ fn lock_of<'a, K: Eq + Hash, Q: Equivalent<K>, T, B: BuildHasher, A: Allocator>(
         (hash_of B.BuildHasher B.Hasher.Hasher builder.now (Q.hash_input query.now))) result.now }
 {
     &locks[place_of(locks.len(), builder, query)]
-}
-
-/// The read lock, waited for. Apart from the try it leaves its registers to the look-up.
-#[cold]
-#[inline(never)]
-fn wait_to_read<'a, T, R: Wait>(lock: &'a RwLock<T>, rt: &R) -> RwLockReadGuard<'a, T> {
-    lock.read(rt)
 }

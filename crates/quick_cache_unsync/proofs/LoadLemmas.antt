@@ -18,6 +18,8 @@ use Rattle.std.specs.Bool.{OnTrue, OnFalse}
 use Rattle.quick_cache_model.specs.Finding.{HasNoItem, IsItemAt}
 use Rattle.quick_cache_shard.specs.Shard.{HasItem}
 use Rattle.quick_cache_unsync.specs.Loads.{IsAwaited, Takes, EndsLoad, AnswersLoad, OnResident}
+use Rattle.quick_cache_unsync.specs.Fetches.{EndsFetch, Fetches}
+use Rattle.quick_cache_unsync.specs.declared.loading.not_loaded.LoadError.{LoadError}
 
 module _ {K V : Type 0} (stands_for : K → Bool) (gives : K → Type 0) (hash : ℕ)
     (old : CacheState K V) where
@@ -136,6 +138,21 @@ ends-load-by steady hooks rules now before same is_default stands_for gives hash
     ends-load (steady before) (hooks before) (rules before) is_default stands_for gives hash given
     old mid new ticket answer takes
     (subst (λ s. EndsLoad (steady s) (hooks s) (rules s) is_default stands_for ticket given mid
+    answer new) same ends)
+
+-- a placeholder that was taken and ended, by what stood before it was taken
+pub fetches-by : {K V S E X : Type 0} (steady : X → Type 0) (hooks : X → Hooks K V S)
+    (rules : X → Rules K V) (now before : X) → now ≡ before
+    → (is_default : S → Type 0) (is_clone : V → V → Type 0) (stands_for : K → Bool)
+    (gives : K → Type 0) (hash : ℕ) (given : Result V E → Type 0) (old mid new : CacheState K V)
+    (ticket : ℕ) (answer : Result V (LoadError E)) → Takes stands_for gives hash old ticket mid
+    → EndsFetch (steady now) (hooks now) (rules now) is_default is_clone ticket given mid answer new
+    → Fetches (steady before) (hooks before) (rules before) is_default is_clone stands_for gives hash
+    given old answer new
+fetches-by steady hooks rules now before same is_default is_clone stands_for gives hash given old
+    mid new ticket answer takes ends =
+    Fetches.loads answer ticket mid new takes
+    (subst (λ s. EndsFetch (steady s) (hooks s) (rules s) is_default is_clone ticket given mid
     answer new) same ends)
 
 module _ {K V : Type 0} (stands_for : K → Bool) where

@@ -7,6 +7,8 @@ pub mod Lent
 pub mod CacheDrain
 pub mod References
 pub mod Loads
+pub mod Fetches
+pub mod LoadTexts
 pub mod Steps
 pub use Rattle.quick_cache_shard.specs.Shard
 pub use Rattle.quick_cache_shard.specs.Copies

@@ -18,7 +18,7 @@ pub use lent::reference::RefMut;
 pub use lent::writes_through::{poke, set};
 pub use lifecycle::DefaultLifecycle;
 pub use loading::guard::Guard;
-pub use loading::not_loaded::NotLoaded;
+pub use loading::not_loaded::{LoadError, NotLoaded};
 pub use quick_cache_model::{
     Bytes, BytesIn, DefaultHashBuilder, Equivalent, ItemStats, Lifecycle, MemoryUsed, Refusal,
     Text, TextIn, ToKey, UnitWeighter, Weighter, hash_of,

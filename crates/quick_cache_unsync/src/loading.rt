@@ -1,5 +1,6 @@
 //! Calls that load a value, and the guard of a key that is being loaded.
 
+pub mod fetching;
 pub mod filling;
 pub mod guard;
 pub mod guarding;

@@ -5,6 +5,7 @@ ghost use Rattle.quick_cache_shard.specs.Shard.{KeepsTerms, WorksAsWrite};
 ghost use Rattle.quick_cache_shard.specs.Alone.{IsDoneAlone};
 ghost use Rattle.quick_cache_unsync.specs.Touches.{no_touches};
 ghost use Rattle.quick_cache_shard.specs.Steps.{InsertsBy, ReplacesBy};
+ghost use Rattle.quick_cache_shard.specs.Inserts.{with_pair};
 
 use crate::cache::Cache;
 use quick_cache_model::{Lifecycle, Refusal, Weighter};
@@ -39,6 +40,29 @@ impl<
     {
         let mut state = L::RequestState::default();
         self.insert_with_lifecycle(key, value, &mut state)
+    }
+
+    /// Inserts a pair as `insert` does, for who does not want a refused pair back: it is dropped.
+    ///
+    /// # Errors
+    ///
+    /// Why it was refused: `SlotsFull` or `Memory`, only where nothing stood under its key. Nothing
+    /// changed then, and no hook was called.
+    #[inline]
+    pub fn put(&mut self, key: K, value: V) -> Result<(), Refusal>
+        // It is the insert of the pair, with the same room and work.
+        ensures puts { IsDoneAlone L.RequestState.is_default
+            (InsertsBy ⟦<Self as Going>⟧.goes no_touches self.old K.eq key value
+            (with_pair key value result) self.new) }
+        ensures room { self.old.room ≤ self.new.room + 1 }
+        ensures asks { IfErr result (λ refusal. refusal ≡ Memory → self.old.room ≡ 0) }
+        ensures work { WorksAsWrite self.old self.new }
+        ensures same { KeepsTerms self.old self.new }
+    {
+        match self.insert(key, value) {
+            Ok(()) => Ok(()),
+            Err((_key, _value, refusal)) => Err(refusal),
+        }
     }
 
     /// Inserts a pair, and hands what leaves to the lifecycle, with this request state. A pair that

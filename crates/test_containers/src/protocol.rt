@@ -137,14 +137,26 @@ const SCHEDULES: [Schedule; 10] = [
     ),
 ];
 
+/// Whether the answers are those of a schedule, one for each event.
+fn are_of(answers: &[Answer<u64>], schedule: &[(Happens, Answer<u64>)]) -> bool {
+    for (answer, (_, wanted)) in answers.iter().zip(schedule.iter()) {
+        if *answer != *wanted {
+            return false;
+        }
+    }
+    answers.len() == schedule.len()
+}
+
 #[test]
 fn schedules_have_their_answers(rt: HostRuntime) {
-    for (shown, events) in SCHEDULES {
-        let mut core: Core<u64> = Core::new(rt.alloc());
-        for (event, wanted) in events {
-            let answer = step(&mut core, event.of_core());
-            assert_eq!(rt; answer, *wanted, "{shown}");
+    for (shown, schedule) in SCHEDULES {
+        let mut events = Vec::new(rt.alloc());
+        for (event, _) in schedule {
+            expect_ok!(rt; events.push(event.of_core()));
         }
+        let mut core: Core<u64> = Core::new(rt.alloc());
+        let answers = expect_ok!(rt; run(&mut core, events));
+        assert!(rt; are_of(&answers, schedule), "{shown}");
     }
 }
 

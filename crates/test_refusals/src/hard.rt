@@ -1,13 +1,15 @@
-//! Weights that together pass a `u64`, and pins that change from one question to the next.
+//! Weights that together pass a `u64`, items that all weigh nothing, and pins that change from one
+//! question to the next.
 ghost use Rattle.std.specs.Prelude.{◌≡◌};
 
 use quick_cache_model::{DefaultHashBuilder, Lifecycle, UnitWeighter, Weighter};
 use quick_cache_options::OptionsBuilder;
+use quick_cache_options::options::DEFAULT_HOT_ALLOCATION;
 use quick_cache_unsync::Cache;
 use std::alloc::Global;
 use std::cell::Cell;
 use std::test::Fail;
-use test_tools::expect;
+use test_tools::{expect, expect_eq};
 
 /// Weighs a number as itself.
 #[derive(Drop)]
@@ -18,6 +20,18 @@ impl Weighter<u64, u64> for AsItself {
 
     fn weight(&self, _key: &u64, value: &u64) -> u64 {
         *value
+    }
+}
+
+/// Weighs everything as nothing.
+#[derive(Drop)]
+struct AsNothing;
+
+impl Weighter<u64, u64> for AsNothing {
+    ghost weight_of = { λ _ _ _. 0 };
+
+    fn weight(&self, _key: &u64, _value: &u64) -> u64 {
+        0
     }
 }
 
@@ -71,11 +85,12 @@ impl Lifecycle<u64, u64> for Counting<'_> {
 /// A cache with such pins.
 type Pinning<'a, We> = Cache<u64, u64, We, DefaultHashBuilder, Counting<'a>>;
 
-/// A cache all of whose items may be hot.
+/// A cache in which this share of the weight may be hot.
 fn pinning<'a, We: Weighter<u64, u64> + Drop>(
     alloc: Global,
     items: usize,
     weight: u64,
+    hot: u32,
     weigher: We,
     pins: Counting<'a>,
 ) -> Result<Pinning<'a, We>, Fail> {
@@ -83,7 +98,7 @@ fn pinning<'a, We: Weighter<u64, u64> + Drop>(
     options
         .estimated_items_capacity(items)
         .weight_capacity(weight)
-        .hot_allocation(1000000);
+        .hot_allocation(hot);
     let builder = DefaultHashBuilder::new();
     Ok(Cache::with_options(alloc, options.build()?, weigher, builder, pins)?)
 }
@@ -107,7 +122,7 @@ fn two_pinned_items_of_the_greatest_weight_stay(rt: HostRuntime) -> Result<(), F
         asked: &odd,
         adds: 0,
     };
-    let mut cache = pinning(rt.alloc(), 2, u64::MAX, AsItself, pins)?;
+    let mut cache = pinning(rt.alloc(), 2, u64::MAX, 1000000, AsItself, pins)?;
     let mut is_right = true;
     for (key, items) in [(1, 1), (2, 2)] {
         let events = put(&mut cache, key, u64::MAX);
@@ -128,7 +143,7 @@ fn each_call_returns_where_pins_come_and_go(rt: HostRuntime) -> Result<(), Fail>
         asked: &turns,
         adds: 1,
     };
-    let mut cache = pinning(rt.alloc(), 4, 4, UnitWeighter, pins)?;
+    let mut cache = pinning(rt.alloc(), 4, 4, DEFAULT_HOT_ALLOCATION, UnitWeighter, pins)?;
     for key in 0..200 {
         let is_in = put(&mut cache, key, key).is_some();
         let is_its_own = match cache.get(&key) {
@@ -138,5 +153,19 @@ fn each_call_returns_where_pins_come_and_go(rt: HostRuntime) -> Result<(), Fail>
         let (items, weight) = sizes(&cache);
         assert!(rt; is_in && is_its_own && weight == items as u64, "at {key}");
     }
+    Ok(())
+}
+
+#[test]
+fn what_weighs_nothing_stays_where_there_is_no_capacity(rt: HostRuntime) -> Result<(), Fail> {
+    let even = Cell::new(0);
+    let pins = Counting {
+        asked: &even,
+        adds: 0,
+    };
+    let mut cache = pinning(rt.alloc(), 0, 0, DEFAULT_HOT_ALLOCATION, AsNothing, pins)?;
+    let events = put(&mut cache, 1, 10);
+    let found = cache.get(&1).copied();
+    expect_eq!(rt; (events, found, sizes(&cache)), (Some(0), Some(10), (1, 0)));
     Ok(())
 }

@@ -41,7 +41,7 @@ fn shared_calls_act(rt: HostRuntime) {
     expect_eq!(rt; cache.len(&rt), 1);
     expect_eq!(rt; cache.remove(&rt, &3), None);
     expect_eq!(rt; cache.remove(&rt, &1), Some((1, 10)));
-    expect_eq!(rt; cache.insert(&rt, 1, 10), Ok(()));
+    expect_eq!(rt; cache.put(&rt, 1, 10), Ok(()));
     expect_eq!(rt; cache.capacity(&rt), 100);
     cache.set_capacity(&rt, 40);
     expect_eq!(rt; cache.capacity(&rt), 40);

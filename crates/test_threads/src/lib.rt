@@ -18,6 +18,5 @@ mod not_waiting;
 mod refused;
 #[cfg(test)]
 mod shards;
-pub mod upper;
 #[cfg(test)]
 mod walks;

@@ -2,6 +2,7 @@
 ghost use Rattle.std.specs.Cmp.Rules.{comparing, hashing};
 ghost use Rattle.std.proofs.Common.{rules};
 
+mod given_on;
 mod lending;
 mod one_thread;
 mod parts;
@@ -10,9 +11,11 @@ use quick_cache::shard::{
     CacheShard, Drain, EntryAction, EntryOrPlaceholder, GhostIter, InsertStrategy, Iter, IterFrom,
     MakesPlaceholders, RingIter, SharedPlaceholder, Touches,
 };
-use quick_cache::sync::{Cache, DefaultLifecycle, LockContention, TryError};
+use quick_cache::sync::{Cache, DefaultLifecycle, EntryAction as Choice, EntryResult, GuardResult};
 use quick_cache::unsync::{DefaultLifecycle as Dropping, Placeholder};
 use quick_cache::{DefaultHashBuilder, UnitWeighter};
+use std::sync::Wait;
+use std::time::Clock;
 use test_tools::{expect, expect_eq, expect_ok};
 
 type Shard = CacheShard<
@@ -104,9 +107,21 @@ fn shard_has_its_names(rt: HostRuntime) {
     );
 }
 
-/// Whether a call did not get its lock.
-fn is_contended(error: &TryError) -> bool {
-    matches!(error, TryError::Contended(LockContention))
+/// Whether a guard of 1 takes a value in.
+fn is_filled<R: Wait + Clock>(rt: &R, cache: &Cache<u64, u64>, value: u64) -> bool {
+    match cache.get_value_or_guard(rt, &1, None) {
+        GuardResult::Guard(guard) => guard.insert(value).is_ok(),
+        _ => false,
+    }
+}
+
+/// The pair that an entry call takes out.
+fn goes<R: Wait + Clock>(rt: &R, cache: &Cache<u64, u64>) -> Option<(u64, u64)> {
+    let mut callback = |_: &u64, _: &mut u64| -> Choice<()> { Choice::Remove };
+    match cache.entry(rt, &1, None, &mut callback) {
+        EntryResult::Removed(key, value) => Some((key, value)),
+        _ => None,
+    }
 }
 
 #[test]
@@ -119,9 +134,7 @@ fn sync_has_its_names(rt: HostRuntime) {
         DefaultHashBuilder::new(),
         DefaultLifecycle::new(),
     ));
-    let in_vain = match cache.try_get(&1) {
-        Ok(found) => found.is_some(),
-        Err(error) => is_contended(&error),
-    };
-    expect!(rt; !in_vain);
+    expect!(rt; is_filled(&rt, &cache, 10));
+    expect_eq!(rt; cache.try_get(&1), Ok(Some(10)));
+    expect_eq!(rt; goes(&rt, &cache), Some((1, 10)));
 }

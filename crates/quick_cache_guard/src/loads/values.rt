@@ -5,6 +5,7 @@ ghost use Rattle.quick_cache_guard.specs.Answers.{IfGuard, IfValue, RefusesAsLoa
 ghost use Rattle.quick_cache_loading.specs.Waiters.{IsLoadRefusal};
 
 use crate::loads::looking::look;
+use crate::results::Fetched;
 use crate::{GuardResult, LoadingShard, PlaceholderGuard};
 use quick_cache_model::{Lifecycle, Refusal, ToKey};
 use std::alloc::Allocator;
@@ -83,15 +84,60 @@ pub fn get_or_insert_with<
     ensures error { IfOk result (λ loaded. IfErr loaded (λ error. F.post loader (Err error))) }
     ensures refused { IfErr result IsLoadRefusal }
 {
-    match look(rt, shard, query) {
-        Ok(Some(value)) => Ok(Ok(value)),
-        Ok(None) => match PlaceholderGuard::join_for_good(rt, shard, query) {
-            Ok(Ok(value)) => Ok(Ok(value)),
-            Ok(Err(guard)) => Ok(keep(guard, loader())),
-            Err(refusal) => Err(refusal),
-        },
+    match get_or_insert_told(rt, shard, query, loader) {
+        Ok(Ok(fetched)) => Ok(Ok(fetched.value)),
+        Ok(Err(error)) => Ok(Err(error)),
         Err(refusal) => Err(refusal),
     }
+}
+
+/// As `get_or_insert_with`, and tells whether this call's loader gave the value.
+pub fn get_or_insert_told<
+    K: Eq + Hash + Drop,
+    V: Clone,
+    L: Lifecycle<K, V>,
+    S: LoadingShard<K, V, L, A>,
+    R: Wait,
+    A: Allocator,
+    Q: ToKey<K>,
+    E: Drop,
+    F: FnOnce() -> Result<V, E>,
+>(rt: &R, shard: &RwLock<S>, query: &Q, loader: F) -> Result<Result<Fetched<V>, E>, Refusal>
+    requires stands { (key : K) → Q.to_key_gives query.now key
+        → Q.equivalent query.now key ≡ true }
+    requires loader { F.pre loader }
+    // What it gives fits each key that the query becomes, and so do the clones of what fits.
+    requires loads { (value : V) → F.post loader (Ok value)
+        → (key : K) → Q.to_key_gives query.now key → L.fits key value }
+    requires clones { ClonesFit L.fits V.is_clone }
+    // Whatever other threads do, the value fits a key that the query stands for.
+    ensures fits { IfOk result (λ loaded. IfOk loaded
+        (λ fetched. FitsQuery L.fits (Q.equivalent query.now) fetched.value)) }
+    // Where it is told to be loaded, the loader gave it.
+    ensures loaded { IfOk result (λ loaded. IfOk loaded
+        (λ fetched. fetched.loaded ≡ true → F.post loader (Ok fetched.value))) }
+    ensures error { IfOk result (λ loaded. IfErr loaded (λ error. F.post loader (Err error))) }
+    ensures refused { IfErr result IsLoadRefusal }
+{
+    let value = match look(rt, shard, query) {
+        Ok(Some(value)) => value,
+        Ok(None) => match PlaceholderGuard::join_for_good(rt, shard, query) {
+            Ok(Ok(value)) => value,
+            Ok(Err(guard)) => return match keep(guard, loader()) {
+                Ok(value) => Ok(Ok(Fetched {
+                    value,
+                    loaded: true,
+                })),
+                Err(error) => Ok(Err(error)),
+            },
+            Err(refusal) => return Err(refusal),
+        },
+        Err(refusal) => return Err(refusal),
+    };
+    Ok(Ok(Fetched {
+        value,
+        loaded: false,
+    }))
 }
 
 /// Puts what was loaded in for the guard, and gives it back. Where nothing was, or a clone is

@@ -1,6 +1,6 @@
 //! Calls of a cache that load a value where none is there, and make others wait for it. Whatever
 //! other threads do, what they give fits a key that the query stands for.
-ghost use Rattle.std.specs.Prelude.{◌≡◌, false, None, Ok, Err, IfOk, IfErr};
+ghost use Rattle.std.specs.Prelude.{◌≡◌, true, false, None, Ok, Err, IfOk, IfErr};
 ghost use Rattle.quick_cache_guard.specs.Answers.{IfGuard, IfValue, IsLoadRefusal, RefusesAsLoad, is_timeout};
 ghost use Rattle.quick_cache_guard.specs.Acts.{LeavesFit, MayTell};
 ghost use Rattle.quick_cache_guard.specs.Entries.{AnswersAsChosen, IfGivenBack, IfGuarded, IfRetained, IsRefusedAsLoad, is_late};
@@ -8,7 +8,7 @@ ghost use Rattle.quick_cache_locked.specs.Fitting.{ClonesFit, FitsQuery};
 ghost use Rattle.quick_cache_locked.specs.Loads.{StandsForGiven};
 
 use crate::cache::Cache;
-use quick_cache_guard::{EntryResult, GuardResult, PlaceholderGuard, entries, loads};
+use quick_cache_guard::{EntryResult, Fetched, GuardResult, PlaceholderGuard, entries, loads};
 use quick_cache_locked::LockedShard;
 use quick_cache_model::{Lifecycle, Refusal, ToKey, Weighter};
 use quick_cache_shard::EntryAction;
@@ -75,6 +75,30 @@ impl<
         ensures refused { IfErr result IsLoadRefusal }
     {
         loads::get_or_insert_with(rt, self.shard_of(query), query, loader)
+    }
+
+    /// As `get_or_insert_with`, and tells whether this call's loader gave the value.
+    pub fn get_or_insert_told<Q: ToKey<K>, R: Wait, E: Drop, F: FnOnce() -> Result<V, E>>(
+        &self,
+        rt: &R,
+        query: &Q,
+        loader: F,
+    ) -> Result<Result<Fetched<V>, E>, Refusal>
+        requires stands { StandsForGiven (Q.to_key_gives query.now) (Q.equivalent query.now) }
+        requires loader { F.pre loader }
+        // What it gives fits each key that the query becomes, and so do the clones of what fits.
+        requires loads { (value : V) → F.post loader (Ok value)
+            → (key : K) → Q.to_key_gives query.now key → L.fits key value }
+        requires clones { ClonesFit L.fits V.is_clone }
+        ensures fits { IfOk result (λ loaded. IfOk loaded
+            (λ fetched. FitsQuery L.fits (Q.equivalent query.now) fetched.value)) }
+        // Where it is told to be loaded, the loader gave it.
+        ensures loaded { IfOk result (λ loaded. IfOk loaded
+            (λ fetched. fetched.loaded ≡ true → F.post loader (Ok fetched.value))) }
+        ensures error { IfOk result (λ loaded. IfErr loaded (λ error. F.post loader (Err error))) }
+        ensures refused { IfErr result IsLoadRefusal }
+    {
+        loads::get_or_insert_told(rt, self.shard_of(query), query, loader)
     }
 
     /// Shows the item under the query's key to the callback, under the write lock of the key's

@@ -63,6 +63,19 @@ impl<'a, K: Eq + Hash, V> Debug for Iter<'a, K, V> {
     }
 }
 
+impl<'a, K: Eq + Hash, V, We, B: BuildHasher, L, A: Allocator> IntoIterator
+    for &'a Cache<K, V, We, B, L, A> {
+    type Item = (&'a K, &'a V);
+
+    type IntoIter = Iter<'a, K, V>;
+
+    ghost into_iter_gives = { λ cache pairs. AreResidents cache.now.state pairs };
+
+    fn into_iter(self) -> Iter<'a, K, V> {
+        self.iter()
+    }
+}
+
 impl<K: Eq + Hash, V, We, B: BuildHasher, L, A: Allocator> Cache<K, V, We, B, L, A> {
     /// All items, each once as its key and its value. Their order is open. It is no use of them,
     /// and it takes no memory.

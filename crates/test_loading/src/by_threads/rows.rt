@@ -28,16 +28,21 @@ fn outcome<R: Wait + Clock>(rt: &R, cache: &Numbers, key: u64, limit: Option<u64
     }
 }
 
-// What a loader gives: the value, or none where it is 0; and the calls are counted.
+// What a loader gives: the value, or none where it is 0; and whether it is told that it did. The
+// calls are counted.
 fn loaded<R: Wait>(
     rt: &R,
     cache: &Numbers,
     calls: &mut u64,
     value: u64,
-) -> Result<Result<u64, ()>, Refusal> {
-    cache.get_or_insert_with(rt, &4, || {
+) -> Result<Result<(u64, bool), ()>, Refusal> {
+    let told = cache.get_or_insert_told(rt, &4, || {
         *calls = calls.saturating_add(1);
         if value == 0 { Err(()) } else { Ok(value) }
+    })?;
+    Ok(match told {
+        Ok(fetched) => Ok((fetched.value, fetched.loaded)),
+        Err(()) => Err(()),
     })
 }
 
@@ -46,15 +51,16 @@ fn the_loader_is_called_until_it_gives_a_value(rt: HostRuntime) {
     let cache: Numbers = expect_ok!(rt; Cache::new(rt.alloc(), 100));
     let mut calls = 0;
     expect_eq!(rt; loaded(&rt, &cache, &mut calls, 0), Ok(Err(())));
-    expect_eq!(rt; loaded(&rt, &cache, &mut calls, 4), Ok(Ok(4)));
-    expect_eq!(rt; loaded(&rt, &cache, &mut calls, 5), Ok(Ok(4)));
+    expect_eq!(rt; loaded(&rt, &cache, &mut calls, 4), Ok(Ok((4, true))));
+    expect_eq!(rt; loaded(&rt, &cache, &mut calls, 5), Ok(Ok((4, false))));
     expect_eq!(rt; outcome(&rt, &cache, 4, None), 4);
     expect_eq!(rt; (calls, cache.hits(&rt), cache.misses(&rt)), (2, 2, 2));
 }
 
 #[test]
 fn a_guard_whose_placeholder_left_is_gone(rt: HostRuntime) {
-    let cache: Numbers = expect_ok!(rt; Cache::new(rt.alloc(), 100));
+    // All keys of so small a cache have one shard.
+    let cache: Numbers = expect_ok!(rt; Cache::new(rt.alloc(), 8));
     let GuardResult::Guard(guard) = cache.get_value_or_guard(&rt, &1, None) else {
         panic!(rt; "the key is absent");
     };
@@ -63,12 +69,8 @@ fn a_guard_whose_placeholder_left_is_gone(rt: HostRuntime) {
     expect_eq!(rt; cache.insert(&rt, 2, 22), Ok(()));
     expect!(rt; matches!(guard.insert(5), Err(FillError::Gone(5))));
     expect_eq!(rt;
-        (
-            expect_ok!(rt; cache.peek(&rt, &1)),
-            expect_ok!(rt; cache.peek(&rt, &2)),
-            cache.misses(&rt)
-        ),
-        (None, Some(22), 1)
+        (expect_ok!(rt; cache.get(&rt, &1)), expect_ok!(rt; cache.get(&rt, &2))),
+        (None, Some(22))
     );
     let GuardResult::Guard(guard) = cache.get_value_or_guard(&rt, &1, None) else {
         panic!(rt; "the key is absent");
@@ -78,7 +80,7 @@ fn a_guard_whose_placeholder_left_is_gone(rt: HostRuntime) {
     drop(guard);
     expect_eq!(rt;
         (expect_ok!(rt; cache.get(&rt, &1)), cache.len(&rt), cache.misses(&rt)),
-        (Some(3), 2, 2)
+        (Some(3), 2, 3)
     );
 }
 
@@ -99,6 +101,7 @@ fn one_of_two_threads_loads_what_a_third_gave_up(rt: HostRuntime) {
     let GuardResult::Guard(guard) = cache.get_value_or_guard(rt, &1, None) else {
         panic!(rt; "the key is absent");
     };
+    expect_eq!(rt; cache.misses(rt), 1);
     let text = expect_ok!(rt; format!(in rt.alloc(); "{guard:?}"));
     expect_eq!(rt; text.as_str(), "PlaceholderGuard { .. }");
     let mut keeps = |_: &u64, _: &mut u64| -> EntryAction<u64> { EntryAction::Retain(0) };

@@ -5,10 +5,10 @@ use quick_cache_runs::Call;
 pub(crate) type Step = Call<u64, u64, ()>;
 
 /// What a row shows, the items and the weight of its cache, and its calls.
-pub(crate) type Row = (&'static str, usize, u64, &'static [Step]);
+pub(crate) type Row<'r> = (&'static str, usize, u64, &'r [Step]);
 
 /// The rows.
-pub(crate) const ROWS: [Row; 18] = [
+pub(crate) const ROWS: [Row<'static>; 23] = [
     (
         "two are found, and one is not",
         5,
@@ -165,6 +165,65 @@ pub(crate) const ROWS: [Row; 18] = [
             Call::Insert(2, 98),
             Call::Replace(1, 90, false),
             Call::Insert(3, 30),
+        ],
+    ),
+    (
+        "an item leaves by its mark beside a pinned one",
+        4,
+        4,
+        &[
+            Call::Insert(1, 101),
+            Call::Insert(2, 1),
+            Call::Insert(3, 1),
+            Call::Insert(4, 1),
+            Call::Get(1),
+            Call::Get(1),
+            Call::Get(2),
+            Call::Get(3),
+            Call::Get(4),
+            Call::Insert(5, 1),
+            Call::Insert(6, 1),
+            Call::Get(6),
+            Call::Insert(7, 1),
+        ],
+    ),
+    (
+        "a value grows and loses its weight where it stands",
+        100,
+        100000,
+        &[
+            Call::Insert(1, 401),
+            Call::GetMut(1, 402),
+            Call::GetMut(1, 400),
+            Call::Get(1),
+        ],
+    ),
+    (
+        "a capacity changes four times before the first item",
+        100,
+        100,
+        &[
+            Call::SetCapacity(50),
+            Call::SetCapacity(200),
+            Call::SetCapacity(0),
+            Call::SetCapacity(100),
+            Call::Insert(1, 401),
+        ],
+    ),
+    (
+        "a load fails and the next one gives",
+        100,
+        100,
+        &[Call::Load(4, None), Call::Load(4, Some(404)), Call::Counts],
+    ),
+    (
+        "two years are two keys",
+        5,
+        5,
+        &[
+            Call::Insert(2022, 401),
+            Call::Insert(2023, 501),
+            Call::Get(2022),
         ],
     ),
     (

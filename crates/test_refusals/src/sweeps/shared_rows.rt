@@ -1,6 +1,6 @@
 //! Rows of calls for the cache that threads share, made by one thread.
 
-/// A call with numbers for keys and values. A key is below ten. A value weighs its last two digits,
+/// A call with numbers for keys and values. A key that is loaded is below ten. A value weighs its last two digits,
 /// and is plain from 400 on.
 #[derive(Clone, Copy)]
 pub(crate) enum Step {
@@ -11,6 +11,8 @@ pub(crate) enum Step {
     TryGet(u64),
     Peek(u64),
     TryPeek(u64),
+    Contains(u64),
+    Stats(u64),
     Remove(u64),
     Reserve(usize),
     SetCapacity(u64),
@@ -51,10 +53,10 @@ pub(crate) enum Step {
 }
 
 /// What a row shows, the items and the weight of its cache, and its calls.
-pub(crate) type Row = (&'static str, usize, u64, &'static [Step]);
+pub(crate) type Row<'r> = (&'static str, usize, u64, &'r [Step]);
 
 /// The rows.
-pub(crate) const ROWS: [Row; 14] = [
+pub(crate) const ROWS: [Row<'static>; 14] = [
     (
         "calls that write and read",
         100,

@@ -4,9 +4,10 @@
 //! as all runs do: with what is loading while the guards and the tasks go, and with calls whose
 //! victims tell what stood where. It has to tell the same as one that stopped before that call.
 use crate::drawn::Drawn;
+use crate::sweeps::long_rows::{blocks_of_try, shared_mixed, walked_and_drained};
 use crate::sweeps::shared_rows::{ROWS, Row, Step};
 use crate::sweeps::slip::{ByDigits, ByHundreds, Slip};
-use crate::sweeps::stage::{AMPLE, Outcome, Slips, Stage, next_shown};
+use crate::sweeps::stage::{AMPLE, Outcome, Slips, Stage};
 use futures::test::MockTask;
 use quick_cache_sync::Cache;
 use std::alloc::Global;
@@ -14,7 +15,7 @@ use std::sync::Wait;
 use std::test::Fail;
 use std::time::Clock;
 use test_parts::thousand::Thousand;
-use test_tools::{Rationed, expect, expect_ok};
+use test_tools::{Rationed, expect_ok};
 
 /// How far a row is made.
 #[derive(Clone, Copy)]
@@ -27,6 +28,8 @@ struct Plan {
     blocks: u64,
     /// Whether a refused call is made again, with ample memory, and all others behind it.
     goes_on: bool,
+    /// Whether each call is made with memory for no block, for one, and so on, until it is made.
+    refuses_each: bool,
 }
 
 /// What came of a row.
@@ -58,6 +61,29 @@ fn make_again<R: Wait + Clock>(stage: &mut Stage<'_, '_, R>, step: Step) -> Resu
     }
 }
 
+/// Makes a call with memory for no block, for one, and so on, until it is made, or with the memory
+/// that there is. The place of the call is kept where it was refused.
+fn make_step<R: Wait + Clock>(
+    stage: &mut Stage<'_, '_, R>,
+    step: Step,
+    refuses_each: bool,
+    refused: &mut Option<usize>,
+    at: usize,
+) -> Result<Outcome, Fail> {
+    if !refuses_each {
+        return stage.make(step);
+    }
+    for tries in 0..AMPLE {
+        stage.ration.allow(blocks_of_try(tries));
+        let outcome = stage.make(step)?;
+        if let Outcome::Made(_) = outcome {
+            return Ok(outcome);
+        }
+        *refused = Some(at);
+    }
+    Err(Fail::new("a call is refused with ample memory"))
+}
+
 /// Makes the calls of a plan.
 fn make_all<R: Wait + Clock>(
     stage: &mut Stage<'_, '_, R>,
@@ -75,7 +101,7 @@ fn make_all<R: Wait + Clock>(
         if at >= plan.count {
             break;
         }
-        let mut outcome = stage.make(*step)?;
+        let mut outcome = make_step(stage, *step, plan.refuses_each, &mut ended.refused, at)?;
         if !matches!(outcome, Outcome::Made(_)) {
             ended.refused = Some(at);
             ended.is_not_kept = matches!(outcome, Outcome::NotKept);
@@ -171,7 +197,7 @@ fn go<R: Wait + Clock>(
     rt: &R,
     alloc: Global,
     polls: &MockTask,
-    row: &Row,
+    row: &Row<'_>,
     plan: Plan,
 ) -> Result<Ended, Fail> {
     let ration = Rationed::new(alloc, AMPLE);
@@ -212,12 +238,13 @@ fn is_same(ended: &Ended, wanted: &Ended, step: Step, more_misses: u64) -> bool 
 }
 
 /// All calls of a row, with ample memory.
-fn whole_of(row: &Row) -> Plan {
+fn whole_of(row: &Row<'_>) -> Plan {
     Plan {
         count: row.3.len(),
         last: None,
         blocks: AMPLE,
         goes_on: true,
+        refuses_each: false,
     }
 }
 
@@ -236,7 +263,7 @@ fn is_right<R: Wait + Clock>(
     rt: &R,
     alloc: Global,
     polls: &MockTask,
-    row: &Row,
+    row: &Row<'_>,
     wanted: &Ended,
     stopped: &Ended,
     blocks: u64,
@@ -282,13 +309,15 @@ fn a_refused_call_is_as_if_it_had_not_been_made(rt: HostRuntime) -> Result<(), F
                 ..whole
             };
             let stopped = go(&rt, rt.alloc(), &polls, row, plan)?;
+            let is_over = stopped.refused.is_none();
+            let is_right = is_right(&rt, rt.alloc(), &polls, row, &wanted, &stopped, blocks)?;
             assert!(rt;
-                is_right(&rt, rt.alloc(), &polls, row, &wanted, &stopped, blocks)?,
+                is_right && (blocks > 0 || !is_over),
                 "{} with {blocks} blocks, at call {:?}",
                 row.0,
                 stopped.refused
             );
-            if stopped.refused.is_none() {
+            if is_over {
                 expect_ok!(rt; println!(rt; "{}: {blocks} requests were refused in turn", row.0));
                 break;
             }
@@ -298,25 +327,23 @@ fn a_refused_call_is_as_if_it_had_not_been_made(rt: HostRuntime) -> Result<(), F
 }
 
 #[test]
-fn a_walk_goes_on_where_a_clone_was_refused(rt: HostRuntime) {
-    let ration = Rationed::new(rt.alloc(), AMPLE);
-    let cache: Slips<'_> =
-        expect_ok!(rt; Cache::with(&ration, 8, 8, ByDigits, Thousand, ByHundreds));
-    for key in 1..4 {
-        drop(cache.insert(&rt, Slip::new(&ration, key), Slip::new(&ration, 401)));
-    }
-    let mut walk = cache.iter(&rt);
-    let mut keys = [0, 0, 0, 0, 0, 0];
-    // A pair takes two blocks. The second one is refused, and then its value alone.
-    for (at, blocks) in [2, 0, 1, 2, 2, 2].into_iter().enumerate() {
-        ration.allow(blocks);
-        keys[at] = match next_shown(&mut walk) {
-            Some(Ok(shown)) => shown[0],
-            Some(Err(_)) => 100,
-            None => 200,
+fn each_call_of_a_long_row_is_refused_and_then_made(rt: HostRuntime) -> Result<(), Fail> {
+    let (alloc, polls) = (rt.alloc(), expect_ok!(rt; MockTask::new(&rt)));
+    let (mixed, walked) = (shared_mixed(alloc)?, walked_and_drained(alloc)?);
+    let rows: [Row<'_>; 2] = [
+        ("a mixed run", 8, 8, &mixed),
+        ("a walk and a drain", 1000, 1000, &walked),
+    ];
+    for row in &rows {
+        let whole = whole_of(row);
+        let wanted = go(&rt, alloc, &polls, row, whole)?;
+        let plan = Plan {
+            refuses_each: true,
+            ..whole
         };
+        let ended = go(&rt, alloc, &polls, row, plan)?;
+        let is_right = is_same(&ended, &wanted, Step::Walk, 0) && ended.refused.is_some();
+        assert!(rt; is_right, "{}", row.0);
     }
-    let given = [keys[0], keys[3], keys[4]];
-    let each_once = (1..4).all(|key| given.contains(&key));
-    expect!(rt; each_once && keys[1] == 100 && keys[2] == 100 && keys[5] == 200);
+    Ok(())
 }

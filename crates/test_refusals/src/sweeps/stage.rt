@@ -41,7 +41,7 @@ type Shard<'a> = LockedShard<
 >;
 
 /// A walk over it.
-type SlipWalk<'c, 'a, R> = Iter<
+pub(crate) type SlipWalk<'c, 'a, R> = Iter<
     'c,
     Slip<'a>,
     Slip<'a>,
@@ -307,6 +307,13 @@ impl<'c, 'a, R: Wait + Clock> Stage<'c, 'a, R> {
             Step::Peek(key) => return seen(self.cache.peek(rt, &self.slip(key))),
             Step::TryGet(key) => return tried(self.cache.try_get(&self.slip(key))),
             Step::TryPeek(key) => return tried(self.cache.try_peek(&self.slip(key))),
+            Step::Contains(key) => {
+                return made(&[21, self.cache.contains_key(rt, &self.slip(key)) as u64]);
+            }
+            Step::Stats(key) => {
+                let stats = self.cache.item_stats(rt, &self.slip(key));
+                return made(&[22, stats.map_or(u64::MAX, |stats| stats.access_count)]);
+            }
             Step::Reserve(additional) => {
                 if self.cache.reserve(rt, additional).is_err() {
                     return Outcome::Refused;

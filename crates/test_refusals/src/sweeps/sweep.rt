@@ -2,6 +2,7 @@
 ghost use Rattle.quick_cache_runs.specs.Asked.{IfAsks};
 
 use crate::drawn::Drawn;
+use crate::sweeps::long_rows::{beside_a_weightless_item, blocks_of_try, mixed, scan};
 use crate::sweeps::rows::{ROWS, Row, Step};
 use crate::sweeps::slip::{ByDigits, ByHundreds, Slip};
 use quick_cache_model::Refusal;
@@ -205,7 +206,7 @@ struct Ended {
 
 /// Makes the calls of a row with memory for so many blocks up to the first refusal. There is ample
 /// memory from then on, and the refused call is made again.
-fn go(alloc: Global, row: &Row, blocks: u64) -> Result<Ended, Fail> {
+fn go(alloc: Global, row: &Row<'_>, blocks: u64) -> Result<Ended, Fail> {
     let ration = Rationed::new(alloc, blocks);
     let (_, items, weight, steps) = *row;
     let mut cache: Slips<'_> = Cache::with(&ration, items, weight, ByDigits, Thousand, ByHundreds)?;
@@ -262,17 +263,88 @@ fn a_refused_call_is_as_if_it_had_not_been_made(rt: HostRuntime) -> Result<(), F
         let whole = go(rt.alloc(), row, AMPLE)?;
         for blocks in 0..AMPLE {
             let ended = go(rt.alloc(), row, blocks)?;
+            let is_over = ended.refused.is_none();
             assert!(rt;
-                ended.is_unchanged && ended.drawn == whole.drawn,
+                ended.is_unchanged && ended.drawn == whole.drawn && (blocks > 0 || !is_over),
                 "{} with {blocks} blocks, at call {:?}",
                 row.0,
                 ended.refused
             );
-            if ended.refused.is_none() {
+            if is_over {
                 expect_ok!(rt; println!(rt; "{}: {blocks} requests were refused in turn", row.0));
                 break;
             }
         }
+    }
+    Ok(())
+}
+
+/// Makes a call with memory for no block, for one, and so on, until it is made. It answers how often
+/// it was refused.
+fn make_at_last<'a>(
+    ration: &'a Rationed<Global>,
+    cache: &mut Slips<'a>,
+    step: &Step,
+    ended: &mut Ended,
+) -> Result<u64, Fail> {
+    let before = picture(cache);
+    for tries in 0..AMPLE {
+        ration.allow(blocks_of_try(tries));
+        let mut told = Drawn::default();
+        match make(ration, cache, step, &mut told)? {
+            Outcome::Made(answer) => {
+                ended.drawn.add(&[answer.sum, told.sum]);
+                return Ok(tries);
+            }
+            Outcome::Refused => {
+                let is_unchanged = picture(cache) == before && told == Drawn::default();
+                ended.is_unchanged = ended.is_unchanged && is_unchanged;
+            }
+            Outcome::Lost => return Err(Fail::new("a call loses what it was handed")),
+        }
+    }
+    Err(Fail::new("a call is refused with ample memory"))
+}
+
+/// Makes all calls of a row so, and tells how often one was refused.
+fn go_on(alloc: Global, row: &Row<'_>) -> Result<(Ended, u64), Fail> {
+    let ration = Rationed::new(alloc, AMPLE);
+    let (_, items, weight, steps) = *row;
+    let mut cache: Slips<'_> = Cache::with(&ration, items, weight, ByDigits, Thousand, ByHundreds)?;
+    let mut ended = Ended {
+        drawn: Drawn::default(),
+        refused: None,
+        is_unchanged: true,
+    };
+    let mut refusals = 0u64;
+    for step in steps {
+        let refused = make_at_last(&ration, &mut cache, step, &mut ended)?;
+        refusals = refusals.saturating_add(refused);
+    }
+    ration.allow(AMPLE);
+    copy(&ration, &cache, steps.len(), &mut ended)?;
+    Ok((ended, refusals))
+}
+
+#[test]
+fn each_call_of_a_long_row_is_refused_and_then_made(rt: HostRuntime) -> Result<(), Fail> {
+    let alloc = rt.alloc();
+    let (scan, mixed) = (scan(alloc)?, mixed(alloc)?);
+    let beside = beside_a_weightless_item(alloc)?;
+    let rows: [Row<'_>; 3] = [
+        ("a thousand keys pass ninety-seven", 100, 100, &scan),
+        ("an item of weight 0 outlives others", 100, 100, &beside),
+        ("a mixed run", 8, 8, &mixed),
+    ];
+    for row in &rows {
+        let whole = go(alloc, row, AMPLE)?;
+        let (ended, refusals) = go_on(alloc, row)?;
+        assert!(rt;
+            ended.is_unchanged && ended.drawn == whole.drawn && refusals > 0,
+            "{}",
+            row.0
+        );
+        expect_ok!(rt; println!(rt; "{}: {refusals} refusals", row.0));
     }
     Ok(())
 }

@@ -1,49 +1,29 @@
 //! Entry calls of two threads: each inside its callback while the other is, and one beside a guard.
 use quick_cache_guard::{EntryResult, GuardResult};
-use quick_cache_model::{DefaultHashBuilder, UnitWeighter};
+use quick_cache_model::UnitWeighter;
 use quick_cache_options::OptionsBuilder;
 use quick_cache_shard::EntryAction;
 use quick_cache_sync::{Cache, DefaultLifecycle};
 use std::sync::Wait;
-use std::sync::atomic::{AtomicBool, Ordering};
-use std::thread::{join, yield_now};
+use std::sync::atomic::AtomicU64;
+use std::thread::join;
 use std::time::{Clock, Duration};
+use test_parts::meeting::raise_and_meet;
+use test_parts::upper::Upper;
 use test_tools::{expect_eq, expect_ok};
 
 type Numbers = Cache<u64, u64>;
 
-/// Raises a flag inside the callback of an entry call, and tells whether it saw the other one's
-/// there within 5000 turns.
-fn meets<R: Wait + Clock>(
-    rt: &R,
-    cache: &Numbers,
-    key: u64,
-    own: &AtomicBool,
-    other: &AtomicBool,
-) -> bool {
-    let mut looks = |_: &u64, _: &mut u64| -> EntryAction<bool> {
-        own.store(true, Ordering::SeqCst);
-        let mut has_met = false;
-        for _ in 0..5000 {
-            has_met = has_met || other.load(Ordering::SeqCst);
-            if !has_met {
-                yield_now();
-            }
-        }
-        EntryAction::Retain(has_met)
-    };
-    let acted = cache.entry(rt, &key, None, &mut looks);
-    matches!(acted, EntryResult::Retained(true))
-}
+/// A cache in which the upper half of a hash is the key, and so the shard of a key is known.
+type Divided = Cache<u64, u64, UnitWeighter, Upper>;
 
-/// The first key of a shard.
-fn first_of(cache: &Numbers, shard: usize) -> u64 {
-    for key in 0..1000 {
-        if cache.shard_index(&key) == shard {
-            return key;
-        }
-    }
-    1000
+/// Whether an entry call meets another one, each inside its callback.
+fn meets<R: Wait + Clock>(rt: &R, cache: &Divided, key: u64, flags: &AtomicU64) -> bool {
+    let mut callback = |_: &u64, _: &mut u64| -> EntryAction<bool> {
+        EntryAction::Retain(raise_and_meet(flags))
+    };
+    let acted = cache.entry(rt, &key, None, &mut callback);
+    matches!(acted, EntryResult::Retained(true))
 }
 
 #[test]
@@ -53,30 +33,27 @@ fn callbacks_of_two_shards_overlap(rt: HostRuntime) {
         .estimated_items_capacity(64)
         .weight_capacity(64)
         .shards(2);
-    let (builder, lifecycle) = (DefaultHashBuilder::new(), DefaultLifecycle::new());
-    let cache: Numbers = expect_ok!(rt; Cache::with_options(
+    let cache: Divided = expect_ok!(rt; Cache::with_options(
         rt.alloc(),
         expect_ok!(rt; options.build()),
         UnitWeighter,
-        builder,
-        lifecycle,
+        Upper,
+        DefaultLifecycle::new(),
     ));
-    let (cache, first, second) = (&cache, first_of(&cache, 0), first_of(&cache, 1));
-    let inserted = (cache.insert(&rt, first, 1), cache.insert(&rt, second, 2));
-    let mut both = false;
-    // A thread may start late, so they have some rounds for it. Where the two took one lock, the
-    // first of them would see no flag but its own in any round.
+    let (rt, cache) = (&rt, &cache);
+    let inserted = (cache.insert(rt, 0, 10), cache.insert(rt, 1, 11));
+    expect_eq!(rt; inserted, (Ok(()), Ok(())));
+    // Where the two took one lock, the first of them would see no flag but its own.
     for _ in 0..50 {
-        let (one, other) = (AtomicBool::new(false), AtomicBool::new(false));
-        let (one, other) = (&one, &other);
+        let flags = AtomicU64::new(0);
+        let flags = &flags;
         let met = join(
-            &rt,
-            || meets(&rt, cache, first, one, other),
-            || meets(&rt, cache, second, other, one),
+            rt,
+            || meets(rt, cache, 0, flags),
+            || meets(rt, cache, 1, flags),
         );
-        both = both || met == (true, true);
+        expect_eq!(rt; met, (true, true));
     }
-    expect_eq!(rt; (inserted, both), ((Ok(()), Ok(())), true));
 }
 
 /// What an entry call tells that waits for a millisecond at most, and keeps what it finds: nothing

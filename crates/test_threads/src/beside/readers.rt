@@ -3,11 +3,12 @@ ghost use Rattle.std.specs.Prelude.{⊤};
 
 use quick_cache::sync::Cache;
 use std::alloc::AllocError;
-use std::sync::atomic::{AtomicU64, Ordering};
-use std::thread::{join, yield_now};
+use std::sync::atomic::AtomicU64;
+use std::thread::join;
+use test_parts::meeting::raise_and_meet;
 use test_tools::{expect, expect_eq, expect_ok};
 
-/// A value whose clone raises a flag, and sees whether another one's is up within 5000 turns.
+/// A value whose clone raises a flag, and waits for another one's.
 #[derive(Drop)]
 struct Guest<'a> {
     flags: &'a AtomicU64,
@@ -18,17 +19,9 @@ impl<'a> Clone for Guest<'a> {
     ghost is_clone = { λ _ _. ⊤ };
 
     fn clone(&self) -> Result<Self, AllocError> {
-        self.flags.fetch_add(1, Ordering::SeqCst);
-        let mut has_met = false;
-        for _ in 0..5000 {
-            has_met = has_met || self.flags.load(Ordering::SeqCst) > 1;
-            if !has_met {
-                yield_now();
-            }
-        }
         Ok(Guest {
             flags: self.flags,
-            has_met,
+            has_met: raise_and_meet(self.flags),
         })
     }
 }
@@ -43,12 +36,10 @@ fn met(guest: Option<Guest<'_>>) -> bool {
 
 #[test]
 fn readers_of_one_shard_overlap(rt: HostRuntime) {
-    let mut both = false;
-    // A thread may start late, so they have some rounds for it. Where look-ups took turns, the
-    // first of two would see no flag but its own in any round.
+    // Where look-ups took turns, the first of two would see no flag but its own.
     for _ in 0..50 {
         let flags = AtomicU64::new(0);
-        let cache: Cache<u64, Guest<'_>> = expect_ok!(rt; Cache::new(rt.alloc(), 2));
+        let cache: Cache<u64, Guest<'_>> = expect_ok!(rt; Cache::new(rt.alloc(), 100));
         let guest = Guest {
             flags: &flags,
             has_met: false,
@@ -56,9 +47,8 @@ fn readers_of_one_shard_overlap(rt: HostRuntime) {
         expect!(rt; cache.insert(&rt, 1, guest).is_ok());
         let shared = &cache;
         let (first, second) = join(&rt, || shared.get(&rt, &1), || shared.get(&rt, &1));
-        both = both || (met(expect_ok!(rt; first)) && met(expect_ok!(rt; second)));
+        expect!(rt; met(expect_ok!(rt; first)) && met(expect_ok!(rt; second)));
     }
-    expect!(rt; both);
 }
 
 #[test]

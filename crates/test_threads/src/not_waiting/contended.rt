@@ -1,28 +1,10 @@
 //! The calls that do not wait, while another call has a lock to write. A predicate of `remove_if`
 //! runs under that lock, and tries them on the same cache: an item that leaves says that each of
 //! them gave the answer that is wanted.
-use quick_cache::sync::{Cache, DefaultLifecycle, LockContention, TryError};
-use quick_cache::{DefaultHashBuilder, OptionsBuilder, UnitWeighter};
-use std::alloc::Global;
+use crate::shards::divided;
+use quick_cache::sync::{Cache, LockContention, TryError};
 use std::test::Fail;
 use test_tools::expect_eq;
-
-/// A cache for a hundred items, divided into so many shards.
-fn divided(alloc: Global, shards: usize) -> Option<Cache<u64, u64>> {
-    let mut options = OptionsBuilder::new();
-    options
-        .estimated_items_capacity(100)
-        .weight_capacity(100)
-        .shards(shards);
-    Cache::with_options(
-        alloc,
-        options.build().ok()?,
-        UnitWeighter,
-        DefaultHashBuilder::new(),
-        DefaultLifecycle::new(),
-    )
-    .ok()
-}
 
 /// Whether each call that does not wait answers contention, and gives back the pair (3, 30) and the
 /// request state as they were.
@@ -41,7 +23,7 @@ fn each_is_contended(cache: &Cache<u64, u64>) -> bool {
 
 #[test]
 fn each_call_answers_contention_under_a_lock_to_write(rt: HostRuntime) -> Result<(), Fail> {
-    let Some(cache) = divided(rt.alloc(), 1) else {
+    let Some(cache) = divided(rt.alloc(), 1, 100) else {
         panic!(rt; "there is memory");
     };
     let shared = &cache;
@@ -63,7 +45,7 @@ fn each_call_answers_contention_under_a_lock_to_write(rt: HostRuntime) -> Result
 
 #[test]
 fn a_lock_is_of_its_shard_alone(rt: HostRuntime) -> Result<(), Fail> {
-    let Some(cache) = divided(rt.alloc(), 2) else {
+    let Some(cache) = divided(rt.alloc(), 2, 100) else {
         panic!(rt; "there is memory");
     };
     let shared = &cache;

@@ -62,6 +62,20 @@ fn great_weights_are_kept_whole(rt: HostRuntime) -> Result<(), Fail> {
     Ok(())
 }
 
+#[test]
+fn an_item_of_weight_0_outlives_a_hundred_that_weigh_more(rt: HostRuntime) {
+    let mut cache: Cache<u64, u64, AsItself> =
+        expect_ok!(rt; Cache::with_weighter(rt.alloc(), 100, 100, AsItself));
+    expect_ok!(rt; cache.insert(0, 0));
+    expect_eq!(rt; cache.weight(), 0);
+    for number in 1..100 {
+        for _ in 0..2 {
+            expect_ok!(rt; cache.insert(number, number));
+        }
+    }
+    expect_eq!(rt; cache.get(&0).copied(), Some(0));
+}
+
 /// Weighs a text by its bytes.
 #[derive(Drop)]
 struct ByLength;

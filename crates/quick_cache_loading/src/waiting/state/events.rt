@@ -4,8 +4,8 @@ ghost use Rattle.quick_cache_loading.specs.Core.{held_count, waiters_of};
 ghost use Rattle.quick_cache_loading.specs.LoadingStep.{LoadingStep};
 ghost use Rattle.quick_cache_loading.specs.LoadingLaws.{given_by, shown_by};
 ghost use Rattle.quick_cache_loading.specs.Fitting.{ClonesFit};
-ghost use Rattle.quick_cache_loading.specs.Waiters.{answer_of_fill, has_joined, is_timed_out, waits_on};
-ghost use Rattle.quick_cache_loading.specs.Tasks.{slots_after_fill, with_slot};
+ghost use Rattle.quick_cache_loading.specs.Waiters.{answer_of_fill, back_after_fill, has_joined, is_timed_out, waits_on};
+ghost use Rattle.quick_cache_loading.specs.Tasks.{slots_after_answer, slots_after_fill, with_slot};
 
 use crate::protocol::{Answer, Event, step};
 use crate::waiting::ended::Filled;
@@ -108,8 +108,31 @@ impl<K: Eq + Drop, V: Clone, L: Lifecycle<K, V>, A: Allocator> State<K, V, L, A>
     }
 
     /// Fills the placeholder with a value that fits its key, and takes the share back. Where no
-    /// guard is held the share and the value come back.
-    pub fn fill(&mut self, share: Share, value: V) -> Result<(), (Share, V)>
+    /// guard is held the share ends, and the value comes back.
+    pub fn fill(&mut self, share: Share, value: V) -> (Answer<V>, Option<V>)
+        requires share { share ≡ self.old.ticket }
+        requires fits { L.fits self.old.key value }
+        ensures event { LoadingStep V.is_clone self.old.core (Event.Fill value) result.0
+            self.new.core }
+        ensures back { result.1 ≡ back_after_fill result.0 value }
+        // All tasks are woken by a fill, and by nothing else.
+        ensures woken { self.new.tasks ≡ slots_after_answer result.0 self.old.tasks }
+        ensures same { self.new ≡ record self.old {
+          core = self.new.core;
+          tasks = self.new.tasks;
+        } }
+    {
+        match self.try_fill(share, value) {
+            Ok(()) => (Answer::Done, None),
+            Err((share, value)) => {
+                share.end();
+                (Answer::NotNow, Some(value))
+            }
+        }
+    }
+
+    // The same, but where no guard is held the share and the value come back.
+    fn try_fill(&mut self, share: Share, value: V) -> Result<(), (Share, V)>
         requires share { share ≡ self.old.ticket }
         requires fits { L.fits self.old.key value }
         ensures event { LoadingStep V.is_clone self.old.core (Event.Fill value)
@@ -160,7 +183,7 @@ impl<K: Eq + Drop, V: Clone, L: Lifecycle<K, V>, A: Allocator> State<K, V, L, A>
             return Err((share, value));
         }
         let waited = self.has_waiters();
-        self.fill(share, value)?;
+        self.try_fill(share, value)?;
         Ok(Filled::new(self.ticket, waited))
     }
 

@@ -1,5 +1,5 @@
 use Rattle.std.proofs.Common.{◌≡◌, ◌+◌, ◌*◌, ◌%◌, ◌^◌, take, fold}
-use Rattle.test_threads.proofs.upper.UpperHalfHasher.write.Given as goal
+use Rattle.test_parts.proofs.upper.UpperHalfHasher.write.Given as goal
 
 -- the bytes so far were taken in
 abbrev pub invariant-loop-b : goal.invariant-loop-b

@@ -1,6 +1,6 @@
 use Rattle.std.proofs.Common.{take_all, rules}
 use Rattle.std.proofs.hash.Loops.{byte_more}
-use Rattle.test_threads.proofs.upper.UpperHalfHasher.write.Goals as goal
+use Rattle.test_parts.proofs.upper.UpperHalfHasher.write.Goals as goal
 
 pub loop-b-preserved : goal.loop-b-preserved
 loop-b-preserved c = search (rules, byte_more)

@@ -4,7 +4,7 @@ use Rattle.lru.specs.LruCache.{LruCache, lru_cache, put_entries}
 use Rattle.qcsim_parts.specs.Policies.{by_age, holds}
 use Rattle.qcsim_parts.proofs.CountLemmas.{hit, miss}
 use Rattle.qcsim_parts.proofs.ListLemmas.{holds-keys_of, by_age-put_entries, by_age-held}
-use Rattle.qcsim_parts.proofs.policies.hits_by_age.Goals as goal
+use Rattle.qcsim_parts.proofs.policies.fifo.hits_by_age.Goals as goal
 
 pub loop-key-preserved-then-contains : goal.loop-key-preserved-then-contains
 loop-key-preserved-then-contains c =

@@ -1,0 +1,3 @@
+mod Runs
+mod Told
+mod Written

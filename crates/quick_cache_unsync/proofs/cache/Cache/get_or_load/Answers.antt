@@ -1,0 +1,39 @@
+use Rattle.quick_cache_shard.specs.Steps.{goes_by, steady_in, hooks_in, rules_in}
+use Rattle.quick_cache_unsync.specs.Fetches.{Fetches}
+use Rattle.quick_cache_unsync.specs.Touches.{no_touches}
+use Rattle.quick_cache_unsync.proofs.LoadLemmas.{Takes-awaited, counted-found, fetches-by}
+use Rattle.quick_cache_unsync.proofs.cache.Cache.get_or_load.Goals as goal
+
+-- the item that was found is there
+pub value_under-requires-clause-there : goal.value_under-requires-clause-there
+value_under-requires-clause-there g c =
+    let up = rw c.in-Ok-Ok.field-0-is at c.in-Ok-Ok.ensures.takes in
+    counted-found (g.Q.Equivalent.equivalent c.args.query.now) c.args.self.now.state up.0
+    c.begin_load.new.self.state up.1
+
+-- the placeholder that was taken is
+pub end_fetch-requires-clause-awaited : goal.end_fetch-requires-clause-awaited
+end_fetch-requires-clause-awaited g c =
+    Takes-awaited (g.Q.Equivalent.equivalent c.args.query.now)
+    (g.Q.ToKey.to_key_gives c.args.query.now) c.hash_of.result c.args.self.now.state
+    c.in-Ok-Err.placeholder.ticket c.begin_load.new.self.state
+    (rw c.in-Ok-Err.field-0-is at c.in-Ok-Err.ensures.takes)
+
+pub returns-in-Ok-Ok-in-Ok-clause-fetches : goal.returns-in-Ok-Ok-in-Ok-clause-fetches
+returns-in-Ok-Ok-in-Ok-clause-fetches g c = ?
+
+-- the load goes by what the cache was made with, which a placeholder does not change
+pub returns-in-Ok-Err-clause-fetches : goal.returns-in-Ok-Err-clause-fetches
+returns-in-Ok-Err-clause-fetches g c =
+    let goes = goes_by g.K.Hash.hash_input g.We.Weighter g.B.BuildHasher g.B.Hasher.Hasher
+    g.L.Lifecycle in
+    fetches-by (steady_in goes) (hooks_in goes) (rules_in goes no_touches) _ _
+    c.begin_load.ensures.stays.same
+    g.L.RequestState.Default.is_default g.V.Clone.is_clone
+    (g.Q.Equivalent.equivalent c.args.query.now) (g.Q.ToKey.to_key_gives c.args.query.now) _ _
+    c.args.self.now.state c.begin_load.new.self.state c.end_fetch.new.self.state
+    c.in-Ok-Err.placeholder.ticket c.end_fetch.result
+    (rw c.in-Ok-Err.field-0-is at c.in-Ok-Err.ensures.takes) c.end_fetch.ensures.ends
+
+pub returns-in-Err-clause-fetches : goal.returns-in-Err-clause-fetches
+returns-in-Err-clause-fetches g c = Fetches.refused c.in-Err.refusal _ c.in-Err.ensures.takes

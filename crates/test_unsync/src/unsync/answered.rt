@@ -1,0 +1,44 @@
+//! Calls that spare their caller a step: pairs are put, walked in a loop, and loaded with an answer.
+use quick_cache_unsync::{Cache, LoadError, NotLoaded, Refusal};
+use test_tools::{expect, expect_eq, expect_ok};
+
+#[test]
+fn pairs_that_are_put_are_met_in_a_loop(rt: HostRuntime) {
+    let mut cache: Cache<u64, u64> = expect_ok!(rt; Cache::new(rt.alloc(), 10));
+    for key in 0..5 {
+        expect!(rt; cache.put(key, key * 2).is_ok());
+    }
+    let mut sum = 0u64;
+    for (key, value) in &cache {
+        sum = sum.saturating_add(key.saturating_add(*value));
+    }
+    expect_eq!(rt; sum, 30);
+}
+
+#[test]
+fn a_load_answers_its_value_kept_or_not(rt: HostRuntime) {
+    for items in [0, 10] {
+        let mut cache: Cache<u64, u64> = expect_ok!(rt; Cache::new(rt.alloc(), items));
+        for _ in 0..2 {
+            let loaded: Result<u64, LoadError<u8>> = cache.get_or_load(&1, || Ok(7));
+            expect_eq!(rt; loaded, Ok(7));
+        }
+        let failed: Result<u64, LoadError<u8>> = cache.get_or_load(&2, || Err(3));
+        expect_eq!(rt; failed, Err(LoadError::Failed(3)));
+        let kept = if items == 0 { 0 } else { 1 };
+        expect_eq!(rt; cache.len(), kept);
+        expect_eq!(rt; (cache.hits(), cache.misses()), (kept as u64, 3 - kept as u64));
+    }
+}
+
+#[test]
+fn errors_read_as_sentences(rt: HostRuntime) {
+    let kept = NotLoaded::<Refusal>::NotKept;
+    let failed = NotLoaded::Failed(Refusal::Memory);
+    let refused = LoadError::<Refusal>::Refused(Refusal::SlotsFull);
+    let text = expect_ok!(rt; format!(in rt.alloc(); "{kept}; {failed}; {refused}"));
+    expect_eq!(rt;
+        text.as_str(),
+        "the loaded value did not stay; not loaded: no memory; refused: no slot is left"
+    );
+}
