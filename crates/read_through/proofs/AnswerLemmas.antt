@@ -26,6 +26,16 @@ module _ {K V : Type 0} (gives : K → ℕ → V → Type 0) (equal : K → K �
     gave = gave;
   }
 
+  -- a clone of what the source gives is what it gives
+  pub IsOf-clone : (is_clone : V → V → Type 0) → GivesClones gives is_clone → (key : K)
+      (moment : ℕ) (value clone : V) → is_clone value clone → IsOf gives equal key moment value
+      → IsOf gives equal key moment clone
+  IsOf-clone is_clone clones key moment value clone cloned source = record {
+    key = source.key;
+    same = source.same;
+    gave = clones source.key moment value clone cloned source.gave;
+  }
+
   -- what was loaded now for the key is an answer
   pub Answers-own : (key : K) (life now : ℕ) (value : V) → gives key now value
       → Answers gives equal key life now value
@@ -43,18 +53,25 @@ module _ {K V : Type 0} (gives : K → ℕ → V → Type 0) (equal : K → K �
       Answers-own key life now value (loads value called)
   Answers-called key life now may loads (Err error) called = tt
 
-  -- so is a clone of what is stored under an equal key, and serves
+  -- so is what is stored under an equal key, and serves
+  pub Answers-found : (asked key : K) (life moment now : ℕ) (value : V) → IsTrue (equal asked key)
+      → IsOf gives equal key moment value → Serves life moment now
+      → Answers gives equal asked life now value
+  Answers-found asked key life moment now value same source serves = record {
+    moment = moment;
+    source = record {
+      key = source.key;
+      same = laws.congr asked key source.key same ∙ source.same;
+      gave = source.gave;
+    };
+    fresh = IsFresh-stored life moment now serves;
+  }
+
+  -- and a clone of it
   pub Answers-stored : (is_clone : V → V → Type 0) → GivesClones gives is_clone
       → (asked key : K) (life moment now : ℕ) (value clone : V) → IsTrue (equal asked key)
       → IsOf gives equal key moment value → Serves life moment now → is_clone value clone
       → Answers gives equal asked life now clone
   Answers-stored is_clone clones asked key life moment now value clone same source serves cloned =
-      record {
-        moment = moment;
-        source = record {
-          key = source.key;
-          same = laws.congr asked key source.key same ∙ source.same;
-          gave = clones source.key moment value clone cloned source.gave;
-        };
-        fresh = IsFresh-stored life moment now serves;
-      }
+      Answers-found asked key life moment now clone same (IsOf-clone is_clone clones key moment value
+      clone cloned source) serves

@@ -9,7 +9,7 @@ use crate::fresh::Fresh;
 use crate::loaded::{Loaded, look};
 use crate::reading::ReadThrough;
 use crate::source::Source;
-use quick_cache_guard::{EntryResult, LoadingShard, PlaceholderGuard};
+use quick_cache_guard::{EntryResult, GuardResult, LoadingShard, PlaceholderGuard};
 use quick_cache_model::Refusal;
 use quick_cache_shard::EntryAction;
 use std::alloc::Allocator;
@@ -88,8 +88,45 @@ impl<
         self.answer(rt, key, now, load)
     }
 
-    /// Answers what is stored and serves, or what the load gives, which is called once at most.
+    /// Answers what is stored and serves, or what the load gives, which is called once at most. A
+    /// value that serves is found under the read lock of the key's shard. Where none is there, the
+    /// guard comes of the same look.
     fn answer<R: Wait + Clock, E: Drop, G: FnOnce() -> Result<V, E>>(
+        &self,
+        rt: &R,
+        key: &K,
+        now: u64,
+        load: G,
+    ) -> Result<Result<V, E>, Refusal>
+        requires keys { (copy : K) → K.is_clone key.now copy → IsTrue (K.eq key.now copy) }
+        requires callable { G.pre load }
+        requires loads { (value : V) → G.post load (Ok value) → S.gives key.now now value }
+        requires clones { GivesClones S.gives V.is_clone }
+        ensures fresh { IfOk result (λ loaded. IfOk loaded
+            (Answers S.gives K.eq key.now self.now.life now)) }
+        ensures error { IfOk result (λ loaded. IfErr loaded (λ error. G.post load (Err error))) }
+    {
+        match self.cache.get_value_or_guard(rt, key, None) {
+            GuardResult::Value(found) => {
+                if found.serves(self.life, now) {
+                    return Ok(Ok(found.value));
+                }
+                self.answer_anew(rt, key, now, load)
+            }
+            GuardResult::Guard(guard) => {
+                let loaded = load();
+                let mut guard = Some(guard);
+                fill_by(&mut guard, key, now, &loaded);
+                Ok(loaded)
+            }
+            GuardResult::Timeout => unreachable!(),
+            GuardResult::Refused(refusal) => Err(refusal),
+        }
+    }
+
+    /// The same where what was found is too old: by an entry call, since another may have loaded the
+    /// key anew by now.
+    fn answer_anew<R: Wait + Clock, E: Drop, G: FnOnce() -> Result<V, E>>(
         &self,
         rt: &R,
         key: &K,

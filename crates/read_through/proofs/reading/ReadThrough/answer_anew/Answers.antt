@@ -2,7 +2,7 @@ use Rattle.std.proofs.Common.{sym, subst, IfOk}
 use Rattle.read_through.specs.Answers.{Answers}
 use Rattle.read_through.specs.Moments.{Serves}
 use Rattle.read_through.proofs.AnswerLemmas.{Answers-stored, Answers-called}
-use Rattle.read_through.proofs.reading.ReadThrough.answer.Goals as goal
+use Rattle.read_through.proofs.reading.ReadThrough.answer_anew.Goals as goal
 
 -- the look told a clone of a value that is stored under an equal key and serves
 pub returns-in-Retained-Ok-clause-fresh : goal.returns-in-Retained-Ok-clause-fresh
