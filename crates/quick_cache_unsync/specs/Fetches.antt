@@ -16,6 +16,13 @@ use Rattle.quick_cache_unsync.specs.Loads.{Takes}
 use Rattle.quick_cache_unsync.specs.declared.loading.not_loaded.LoadError.{LoadError}
 use Rattle.quick_cache_unsync.specs.declared.loading.not_loaded.LoadError.TheVariants.{Failed, Refused}
 
+-- it is a clone of the value that stands under the query
+pub record IsCloneUnder {K V : Type 0} (is_clone : V → V → Type 0) (stands_for : K → Bool)
+    (state : CacheState K V) (copy : V) : Type 0 where
+  pub shown : V
+  pub stands : IsValueUnder stands_for state shown
+  pub cloned : is_clone shown copy
+
 module _ {K V S E : Type 0} (steady : Type 0) (hooks : Hooks K V S) (rules : Rules K V)
     (is_default : S → Type 0) (is_clone : V → V → Type 0) where
   module _ (ticket : ℕ) (given : Result V E → Type 0) (old : CacheState K V) where
@@ -48,9 +55,9 @@ module _ {K V S E : Type 0} (steady : Type 0) (hooks : Hooks K V S) (rules : Rul
     -- query, or that clone was refused. Or a placeholder was taken, and what the loader gave ends it
     -- and is the answer. Or none was made, no loader was called, and nothing changed.
     pub data Fetches : Result V (LoadError E) → CacheState K V → Type 0 where
-      found : (value shown copy : V) (new : CacheState K V)
+      found : (value copy : V) (new : CacheState K V)
           → UpToOrder (LooksUp stands_for old (λ item. item.value) (Some value)) new
-          → IsValueUnder stands_for new shown → is_clone shown copy → Fetches (Ok copy) new
+          → IsCloneUnder is_clone stands_for new copy → Fetches (Ok copy) new
       not_cloned : (value : V) (new : CacheState K V)
           → UpToOrder (LooksUp stands_for old (λ item. item.value) (Some value)) new
           → Fetches (Err (Refused Memory)) new

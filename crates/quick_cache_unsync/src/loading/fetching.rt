@@ -1,15 +1,16 @@
 //! Values that are answered as clones, whether they were found or loaded.
-ghost use Rattle.std.specs.Prelude.{◌≡◌, ◌+◌, ◌≤◌, true};
+ghost use Rattle.std.specs.Prelude.{◌≡◌, ◌<◌, ◌+◌, ◌≤◌, IfSome, true};
+ghost use Rattle.quick_cache_shard.specs.References.{count_under};
 ghost use Rattle.quick_cache_shard.specs.Shard.{IsSoundShard, KeepsTerms};
 ghost use Rattle.quick_cache_shard.specs.Stays.{StaysWithin};
-ghost use Rattle.quick_cache_unsync.specs.Fetches.{FetchesBy, EndsFetchBy};
+ghost use Rattle.quick_cache_unsync.specs.Fetches.{FetchesBy, EndsFetchBy, IsCloneUnder};
 ghost use Rattle.quick_cache_unsync.specs.Loads.{IsAwaited};
 ghost use Rattle.quick_cache_unsync.specs.Touches.{no_touches};
 
 use crate::cache::Cache;
 use crate::loading::not_loaded::LoadError;
 use quick_cache_model::{Lifecycle, Refusal, ToKey, Weighter};
-use quick_cache_shard::{Going, Keyed, Placeholder};
+use quick_cache_shard::{Going, Keyed, Placeholder, Token};
 use std::alloc::Allocator;
 use std::hash::{BuildHasher, Hash};
 
@@ -52,13 +53,48 @@ impl<
         ensures sound { IsSoundShard K.eq self.new }
     {
         let hash = self.hash_of(query);
+        self.fetch_by(hash, query, loader)
+    }
+
+    // The same, with the query's hash.
+    fn fetch_by<Q: ToKey<K>, E, F: FnOnce() -> Result<V, E>>(
+        &mut self,
+        hash: u64,
+        query: &Q,
+        loader: F,
+    ) -> Result<V, LoadError<E>>
+    where
+        V: Clone,
+        requires hash_is { hash ≡ ⟦<Self as Keyed>⟧.hash self.old.builder (Q.hash_input query.now) }
+        requires stands { (key : K) → Q.to_key_gives query.now key
+            → Q.equivalent query.now key ≡ true }
+        requires loader { F.pre loader }
+        ensures fetches { FetchesBy ⟦<Self as Going>⟧.goes no_touches self.old
+            L.RequestState.is_default V.is_clone (Q.equivalent query.now) (Q.to_key_gives query.now)
+            hash (F.post loader) result self.new }
+        ensures stays { StaysWithin K.eq 1 self.old self.new }
+    {
         match self.begin_load(hash, query) {
-            Ok(Ok(token)) => match self.value_under(Some(token), hash, query).clone() {
-                Ok(copy) => Ok(copy),
-                Err(_) => Err(LoadError::Refused(Refusal::Memory)),
+            Ok(Ok(token)) => match self.clone_under(token, hash, query) {
+                Some(copy) => Ok(copy),
+                None => Err(LoadError::Refused(Refusal::Memory)),
             },
             Ok(Err(placeholder)) => self.end_fetch(&placeholder, loader),
             Err(refusal) => Err(LoadError::Refused(refusal)),
+        }
+    }
+
+    // A clone of the value under the query, which is known to be there, if there is memory for it.
+    fn clone_under<Q: ToKey<K>>(&self, token: Token, hash: u64, query: &Q) -> Option<V>
+    where
+        V: Clone,
+        requires hash_is { hash ≡ ⟦<Self as Keyed>⟧.hash self.now.builder (Q.hash_input query.now) }
+        requires there { 0 < count_under (Q.equivalent query.now) self.now.state }
+        ensures { IfSome result (IsCloneUnder V.is_clone (Q.equivalent query.now) self.now.state) }
+    {
+        match self.value_under(Some(token), hash, query).clone() {
+            Ok(copy) => Some(copy),
+            Err(_) => None,
         }
     }
 

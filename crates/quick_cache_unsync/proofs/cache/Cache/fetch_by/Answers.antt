@@ -2,11 +2,11 @@ use Rattle.quick_cache_shard.specs.Steps.{goes_by, steady_in, hooks_in, rules_in
 use Rattle.quick_cache_unsync.specs.Fetches.{Fetches}
 use Rattle.quick_cache_unsync.specs.Touches.{no_touches}
 use Rattle.quick_cache_unsync.proofs.LoadLemmas.{Takes-awaited, counted-found, fetches-by}
-use Rattle.quick_cache_unsync.proofs.cache.Cache.get_or_load.Goals as goal
+use Rattle.quick_cache_unsync.proofs.cache.Cache.fetch_by.Goals as goal
 
 -- the item that was found is there
-pub value_under-requires-clause-there : goal.value_under-requires-clause-there
-value_under-requires-clause-there g c =
+pub clone_under-requires-clause-there : goal.clone_under-requires-clause-there
+clone_under-requires-clause-there g c =
     let up = rw c.in-Ok-Ok.field-0-is at c.in-Ok-Ok.ensures.takes in
     counted-found (g.Q.Equivalent.equivalent c.args.query.now) c.args.self.now.state up.0
     c.begin_load.new.self.state up.1
@@ -15,12 +15,9 @@ value_under-requires-clause-there g c =
 pub end_fetch-requires-clause-awaited : goal.end_fetch-requires-clause-awaited
 end_fetch-requires-clause-awaited g c =
     Takes-awaited (g.Q.Equivalent.equivalent c.args.query.now)
-    (g.Q.ToKey.to_key_gives c.args.query.now) c.hash_of.result c.args.self.now.state
+    (g.Q.ToKey.to_key_gives c.args.query.now) c.args.hash c.args.self.now.state
     c.in-Ok-Err.placeholder.ticket c.begin_load.new.self.state
     (rw c.in-Ok-Err.field-0-is at c.in-Ok-Err.ensures.takes)
-
-pub returns-in-Ok-Ok-in-Ok-clause-fetches : goal.returns-in-Ok-Ok-in-Ok-clause-fetches
-returns-in-Ok-Ok-in-Ok-clause-fetches g c = ?
 
 -- the load goes by what the cache was made with, which a placeholder does not change
 pub returns-in-Ok-Err-clause-fetches : goal.returns-in-Ok-Err-clause-fetches
@@ -35,5 +32,17 @@ returns-in-Ok-Err-clause-fetches g c =
     c.in-Ok-Err.placeholder.ticket c.end_fetch.result
     (rw c.in-Ok-Err.field-0-is at c.in-Ok-Err.ensures.takes) c.end_fetch.ensures.ends
 
-pub returns-in-Err-clause-fetches : goal.returns-in-Err-clause-fetches
-returns-in-Err-clause-fetches g c = Fetches.refused c.in-Err.refusal _ c.in-Err.ensures.takes
+-- what was found is answered by a clone, or by why there is none
+pub returns-in-Some-clause-fetches : goal.returns-in-Some-clause-fetches
+returns-in-Some-clause-fetches g c =
+    let up = rw c.in-Ok-Ok.field-0-is at c.in-Ok-Ok.ensures.takes in
+    Fetches.found up.0 c.in-Some.copy _ up.1 (rw c.in-Some.is at c.clone_under.ensures)
+
+pub returns-in-Ok-Ok-clause-fetches : goal.returns-in-Ok-Ok-clause-fetches
+returns-in-Ok-Ok-clause-fetches g c =
+    let up = rw c.in-Ok-Ok.field-0-is at c.in-Ok-Ok.ensures.takes in
+    Fetches.not_cloned up.0 _ up.1
+
+pub returns-clause-fetches : goal.returns-clause-fetches
+returns-clause-fetches g c =
+    Fetches.refused c.in-Err.refusal _ (rw c.in-Err.is at c.begin_load.ensures.takes)
