@@ -1,7 +1,6 @@
 //! Tests of one shard: what its calls leave, on rows that were worked out by hand.
 
 pub mod entries;
-pub mod laws;
 pub mod placeholders;
 pub mod reserved;
 pub mod rows;

@@ -5,8 +5,11 @@ ghost use Rattle.quick_cache_model.specs.Finding.{HasNoItem};
 ghost use Rattle.quick_cache_model.specs.Refusals.{slots_taken, slot_count};
 ghost use Rattle.quick_cache_unsync.specs.Copies.{ClonesAreEqual};
 ghost use Rattle.quick_cache_model.specs.Sizes.{hot_target_of, ghost_limit_of, default_hot_share, default_ghost_share};
+ghost use Rattle.quick_cache_laws.specs.Laws.{EvictionEnds, EvictionIsDetermined};
+ghost use Rattle.quick_cache_unsync.specs.Touches.{no_touches};
 
-use quick_cache_base::laws::removal_law;
+use quick_cache_base::laws::{eviction_law, removal_law};
+use quick_cache_shard::NoTouches;
 use quick_cache_unsync::{Cache, Lifecycle, Options, Refusal, Weighter};
 use std::alloc::Global;
 use std::hash::{BuildHasher, Hash};
@@ -93,6 +96,15 @@ pub fn insert_in_room<
         Ok(()) => Ok(false),
         Err((_, _, refusal)) => Ok(refusal == Refusal::Memory),
     }
+}
+
+/// Room is made in one way alone, which ends: the laws speak of the very rules that the contracts of
+/// a cache for one thread name.
+pub fn evict_in_one_way<K, V>()
+    ensures ends { EvictionEnds K V no_touches }
+    ensures determined { EvictionIsDetermined K V no_touches }
+{
+    eviction_law::<K, V, NoTouches>();
 }
 
 /// A second removal finds nothing.
