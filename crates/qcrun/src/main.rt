@@ -1,6 +1,7 @@
-//! Reads commands for a cache, one a line, and prints their replies.
+//! Reads commands for a cache, one a line, and prints their replies. `--help` prints the commands.
 #![tactic(auto)]
 
+mod help;
 mod options;
 mod print;
 #[cfg(test)]
@@ -8,11 +9,26 @@ mod scripts;
 mod serve;
 mod session;
 
-use std::io;
+use help::HELP;
 use std::process::ExitCode;
+use std::{env, io};
 
-/// Serves standard input to standard output. It looks at no arguments.
+/// Whether the first word behind the program's name asks for help.
+fn asks_for_help(rt: &HostRuntime) -> io::Result<bool> {
+    match env::args(rt)?.nth(1) {
+        Some(word) => Ok(word.as_str() == "--help"),
+        None => Ok(false),
+    }
+}
+
+/// Serves standard input to standard output, and tells standard error why a line is bad.
 fn main(rt: HostRuntime) -> ExitCode {
-    let mut writer = io::writer(&rt);
-    serve::serve(rt.alloc(), rt.reader(), &mut writer)
+    if let Ok(true) = asks_for_help(&rt) {
+        return match print!(rt; "{HELP}") {
+            Ok(()) => ExitCode::from(0),
+            Err(_) => ExitCode::from(1),
+        };
+    }
+    let (mut writer, mut reasons) = (io::writer(&rt), rt.stderr());
+    ExitCode::from(serve::serve(rt.alloc(), rt.reader(), &mut writer, &mut reasons))
 }

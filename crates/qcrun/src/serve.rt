@@ -8,11 +8,10 @@ ghost use Rattle.qcrun.specs.Runs.{PrintsLine, ServesKnown, ServesLine, bad_line
 
 use crate::print::print;
 use crate::session::{Outcome, Session};
-use qcrun_parts::{Line, NumberCache, command_of, read_line};
+use qcrun_parts::{Fault, Line, NumberCache, command_of, fault_of, read_line};
 use quick_cache_shard::Going;
 use std::alloc::Allocator;
 use std::io::{self, BufReader, ErrorKind, Read, Write};
-use std::process::ExitCode;
 
 /// How serving came to its end.
 #[derive(Debug, Clone, Copy, PartialEq, Eq)]
@@ -62,29 +61,31 @@ impl<A: Allocator + Copy> LineServer for Session<A> {
 ///
 /// 0 at the end of the input; 1 where a read or a write failed, or where there was no memory to
 /// read into, and then nothing more is written; 2 behind a line that could not be served, which is
-/// told by its number.
-pub fn serve<A: Allocator + Copy, R: Read + Drop, W: Write>(
+/// told by its number. Why it could not be is written to `reasons`, if that can be written to.
+pub fn serve<A: Allocator + Copy, R: Read + Drop, W: Write, E: Write>(
     alloc: A,
     reader: R,
     writer: &mut W,
-) -> ExitCode
-    ensures { (exit_status result ≡ 1 → ⊥) → ServesKnown ⟦<Session<A> as LineServer>⟧.serves_line
-        (record { alloc = alloc; cache = None }) (R.remaining reader) (exit_status result)
+    reasons: &mut E,
+) -> u8
+    ensures { (result ≡ 1 → ⊥) → ServesKnown ⟦<Session<A> as LineServer>⟧.serves_line
+        (record { alloc = alloc; cache = None }) (R.remaining reader) result
         (W.contents writer.old) (W.contents writer.new) }
 {
-    match serve_lines(alloc, Session::new(alloc), reader, writer) {
-        Ok(Ending::EndOfInput) => ExitCode::from(0),
-        Ok(Ending::BadLine) => ExitCode::from(2),
-        Err(_) => ExitCode::from(1),
+    match serve_lines(alloc, Session::new(alloc), reader, writer, reasons) {
+        Ok(Ending::EndOfInput) => 0,
+        Ok(Ending::BadLine) => 2,
+        Err(_) => 1,
     }
 }
 
 /// Serves the lines of a reader up to its end, or up to the first bad one.
-fn serve_lines<A: Allocator + Copy, S: LineServer + Drop, R: Read + Drop, W: Write>(
+fn serve_lines<A: Allocator + Copy, S: LineServer + Drop, R: Read + Drop, W: Write, E: Write>(
     alloc: A,
     mut server: S,
     reader: R,
     writer: &mut W,
+    reasons: &mut E,
 ) -> io::Result<Ending>
     ensures { IfOk result (λ ending. ServesKnown S.serves_line server (R.remaining reader)
         (status_of ending) (W.contents writer.old) (W.contents writer.new)) }
@@ -94,10 +95,10 @@ fn serve_lines<A: Allocator + Copy, S: LineServer + Drop, R: Read + Drop, W: Wri
     for number in 1..u64::MAX {
         match read_line(&mut reader, &mut line)? {
             Line::End => return Ok(Ending::EndOfInput),
-            Line::TooLong => return tell_bad_line(number, writer),
+            Line::TooLong => return tell_bad_line(number, Fault::TooLong, writer, reasons),
             Line::Whole => {
                 if !server.serve_line(&line, writer)? {
-                    return tell_bad_line(number, writer);
+                    return tell_bad_line(number, fault_of(&line), writer, reasons);
                 }
             }
         }
@@ -106,12 +107,19 @@ fn serve_lines<A: Allocator + Copy, S: LineServer + Drop, R: Read + Drop, W: Wri
     Err(io::Error::from(ErrorKind::OutOfMemory))
 }
 
-/// Tells which line is bad.
-fn tell_bad_line<W: Write>(number: u64, writer: &mut W) -> io::Result<Ending>
+/// Tells which line is bad, and why.
+fn tell_bad_line<W: Write, E: Write>(
+    number: u64,
+    fault: Fault,
+    writer: &mut W,
+    reasons: &mut E,
+) -> io::Result<Ending>
     ensures ends { IfOk result (λ ending. ending ≡ Ending.BadLine) }
     ensures tells { OnOk result (Appends (W.contents writer.old) (W.contents writer.new)
         (bad_line number)) }
 {
     writeln!(writer, "bad line {number}")?;
+    // Who does not read the reasons gets the same lines and the same status.
+    let _ = writeln!(reasons, "line {number}: {fault}");
     Ok(Ending::BadLine)
 }

@@ -5,9 +5,8 @@ ghost use Rattle.quick_cache_unsync.specs.Touches.{no_touches};
 ghost use Rattle.qcrun.specs.Sessions.{MakesCache, ServesCommand, ShowsCache};
 
 use crate::options::options_of;
-use qcrun_parts::still::still;
 use qcrun_parts::{
-    Answer, ByKind, Command, Events, LastDigits, NumberCache, RemainderBuilder, make_call,
+    Answer, ByKind, Command, Events, LastDigits, NumberCache, RemainderBuilder, make_call, still,
 };
 use quick_cache_model::Refusal;
 use quick_cache_options::options::OptionsBuilder;

@@ -1,6 +1,7 @@
 pub mod Commands
 pub mod Lines
 pub mod Events
+pub mod Faults
 pub mod Kinds
 pub mod Remainder
 pub mod Still

@@ -80,7 +80,7 @@ const MOST_SHARE: u64 = 4294967295;
 const MOST_MARK: u64 = 255;
 
 /// The number that a word writes: one to twenty digits, of at most the greatest `u64`.
-fn number(word: &str) -> Result<u64, NotACommand>
+pub(crate) fn number(word: &str) -> Result<u64, NotACommand>
     ensures { OkIff result (IsNumeralInRange word.now) (digits_value 10 word.now) }
 {
     if word.len() > MOST_DIGITS || word.starts_with('+') {

@@ -1,21 +1,22 @@
-//! What `qcrun` does to its cache for a command: the call that it asks for, and the answer to its reply.
+//! The parts of `qcrun`: the lines that it reads, the commands that they are and why some are none,
+//! its cache of numbers, the calls that commands ask for, and what is printed for them.
 #![tactic(auto)]
 
 pub mod calls;
 pub mod command;
 pub mod events;
-pub mod hash;
-pub mod kinds;
+pub mod fault;
 pub mod lines;
 pub mod numbers;
 pub mod reply;
-pub mod still;
 
 pub use calls::make_call;
 pub use command::{Command, command_of};
 pub use events::{Event, Events};
-pub use hash::RemainderBuilder;
-pub use kinds::{ByKind, LastDigits};
+pub use fault::{Fault, fault_of};
 pub use lines::{Line, read_line};
 pub use numbers::NumberCache;
+pub use numbers::hash::RemainderBuilder;
+pub use numbers::kinds::{ByKind, LastDigits};
+pub use numbers::still::still;
 pub use reply::Answer;

@@ -1,6 +1,11 @@
-//! The cache of numbers.
-use crate::hash::RemainderBuilder;
-use crate::kinds::{ByKind, LastDigits};
+//! The cache of numbers: how a key is hashed, what a value weighs, and what stands in no ring.
+
+pub mod hash;
+pub mod kinds;
+pub mod still;
+
+use hash::RemainderBuilder;
+use kinds::{ByKind, LastDigits};
 use quick_cache_unsync::Cache;
 
 /// A cache of numbers.

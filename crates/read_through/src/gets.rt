@@ -16,6 +16,7 @@ use std::alloc::Allocator;
 use std::convert::Infallible;
 use std::hash::Hash;
 use std::sync::Wait;
+use std::sync::atomic::Ordering;
 use std::time::Clock;
 
 impl<
@@ -111,6 +112,7 @@ impl<
                 if found.serves(self.life, now) {
                     return Ok(Ok(found.value));
                 }
+                self.too_old.fetch_add(1, Ordering::SeqCst);
                 self.answer_anew(rt, key, now, load)
             }
             GuardResult::Guard(guard) => {

@@ -12,6 +12,7 @@ use std::alloc::{Allocator, Global};
 use std::hash::Hash;
 use std::marker::Model;
 use std::sync::Wait;
+use std::sync::atomic::{AtomicU64, Ordering};
 
 /// A loader, `F: Fn(&K, u64) -> V`, and the cache of what it gave, which threads share by reference.
 /// `S` says for contracts what the loader gives.
@@ -28,6 +29,8 @@ pub struct ReadThrough<
     pub(crate) cache: Cache<K, Loaded<V>, UnitWeighter, DefaultHashBuilder, Fresh<S>, A>,
     pub(crate) life: u64,
     pub(crate) loader: F,
+    // How many gets found what is too old, each of which the cache counted as a hit.
+    pub(crate) too_old: AtomicU64,
 }
 
 impl<K: Eq + Hash + Drop, V: Drop, F, S: Source<K, V>, A: Allocator> Model
@@ -65,6 +68,7 @@ impl<K: Eq + Hash + Drop, V: Drop, F, S: Source<K, V>, A: Allocator> ReadThrough
             cache,
             life,
             loader,
+            too_old: AtomicU64::new(0),
         })
     }
 
@@ -86,11 +90,13 @@ impl<K: Eq + Hash + Drop, V: Drop, F, S: Source<K, V>, A: Allocator> ReadThrough
 
     /// How many gets found a value that serves, or one that was being loaded.
     pub fn hits<R: Wait>(&self, rt: &R) -> u64 {
-        self.cache.hits(rt)
+        let too_old = self.too_old.load(Ordering::SeqCst);
+        self.cache.hits(rt).saturating_sub(too_old)
     }
 
-    /// How many gets found nothing. One that found what is too old counts as neither.
+    /// How many gets found nothing, or what is too old.
     pub fn misses<R: Wait>(&self, rt: &R) -> u64 {
-        self.cache.misses(rt)
+        let too_old = self.too_old.load(Ordering::SeqCst);
+        self.cache.misses(rt).saturating_add(too_old)
     }
 }

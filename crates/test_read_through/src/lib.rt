@@ -1,4 +1,5 @@
-//! Uses of a loader with its cache.
+//! Tests of a loader with its cache, and three uses of it: prices that grow old, tokens that are
+//! signed anew, and a loader whose source is its graph.
 #![tactic(auto)]
 
 #[cfg(test)]

@@ -75,10 +75,9 @@ fn what_is_removed_is_loaded_anew(rt: HostRuntime) {
     for now in [5, 6, 15] {
         expect_ok!(rt; loaded.get(&rt, &1, now));
     }
-    // The first found nothing. The second was a hit, and so was the third, which found what is too
-    // old.
+    // The first found nothing, the second was a hit, and the third found what is too old.
     let counts = (loaded.len(&rt), loaded.hits(&rt), loaded.misses(&rt));
-    expect_eq!(rt; counts, (1, 2, 1));
+    expect_eq!(rt; counts, (1, 1, 2));
     let Some(Loaded { value, moment }) = loaded.remove(&rt, &1) else {
         panic!(rt; "it is stored");
     };

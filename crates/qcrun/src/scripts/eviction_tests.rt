@@ -2,7 +2,6 @@
 use crate::scripts::tests::{check_all, write_each};
 use crate::serve::serve;
 use std::io::Write;
-use std::process::ExitCode;
 use std::test::Fail;
 
 #[test]
@@ -99,8 +98,13 @@ fn a_scan_of_fresh_keys_takes_no_hot_one(rt: HostRuntime) -> Result<(), Fail> {
     write_each(&mut script, "get", 1000..=1096, "")?;
     write!(script, "hits\n")?;
     let mut written = Vec::new(rt.alloc());
-    let ended = serve(rt.alloc(), script.as_slice(), &mut written);
-    assert_eq!(rt; ended, ExitCode::from(0));
+    let ended = serve(
+        rt.alloc(),
+        script.as_slice(),
+        &mut written,
+        &mut Vec::new(rt.alloc()),
+    );
+    assert_eq!(rt; ended, 0);
     let told = b"some 1\nsome 1\nsome 1\nhits 194 misses 0\n";
     assert!(rt; written.as_slice().ends_with(told.as_slice()));
     Ok(())

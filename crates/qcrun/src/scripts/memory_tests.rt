@@ -2,7 +2,6 @@
 use crate::serve::serve;
 use std::alloc::Global;
 use std::io::{self, Read};
-use std::process::ExitCode;
 use test_tools::Rationed;
 
 /// Gives a line at each read, and allows so many blocks from then on.
@@ -46,8 +45,8 @@ fn what_lacks_memory_is_told_and_leaves_the_cache(rt: HostRuntime) {
         next: 0,
     };
     let mut written = Vec::new(rt.alloc());
-    let status = serve(&ration, reader, &mut written);
-    assert_eq!(rt; status, ExitCode::from(0));
+    let status = serve(&ration, reader, &mut written, &mut Vec::new(rt.alloc()));
+    assert_eq!(rt; status, 0);
     // A new cache takes no memory, so that its line is not refused.
     let wanted = "ok\nrefused memory\nok\nevents lost\nok\nsome 2\nok\nrefused memory\n\
          hot 1:2:2\ncold\nghosts\nstill 7:200\ncount 2 2 53 27\nok\nnone\n";

@@ -1,5 +1,6 @@
 //! What is printed for a cache with shares, and what stands behind it.
-use crate::scripts::tests::{check, check_all};
+use crate::scripts::tests::{check_all, check_bad};
+use std::fmt::Write;
 use std::process::Abort;
 
 #[test]
@@ -64,28 +65,31 @@ fn what_stands_behind_a_cache_line(rt: HostRuntime) {
         ),
     ];
     check_all(&rt, rt.alloc(), &scripts);
-    check(
+    check_bad(
         &rt,
         rt.alloc(),
         b"cache 5 5 0 0\ninsert 1 1\ncache 5 5 0 1000001\n\nget 1\n",
         "ok\nok\noptions: ghost_allocation is out of range\nbad line 5\n",
-        2,
+        "line 5: no cache stands\n",
     );
 }
 
 #[test]
 fn a_share_above_the_greatest_is_bad(rt: HostRuntime) {
-    let scripts: [(&[u8], &str); 5] = [
-        (b"cache 1 1 4294967296 0", "bad line 1\n"),
-        (b"cache 1 1 1000001 0 256", "bad line 1\n"),
-        (b"cache 1 1 0 4294967296", "bad line 1\n"),
-        (b"cache 5 5 1000001 4294967296", "bad line 1\n"),
+    let scripts: [(&[u8], &str, &str); 5] = [
+        (b"cache 1 1 4294967296 0", "bad line 1\n", "line 1: "),
+        (b"cache 1 1 1000001 0 256", "bad line 1\n", "line 1: "),
+        (b"cache 1 1 0 4294967296", "bad line 1\n", "line 1: "),
+        (b"cache 5 5 1000001 4294967296", "bad line 1\n", "line 1: "),
         (
             b"cache 5 5 1000001 0\ncache 5 5 0 18446744073709551615",
             "options: hot_allocation is out of range\nbad line 2\n",
+            "line 2: ",
         ),
     ];
-    for (script, wanted) in scripts {
-        check(&rt, rt.alloc(), script, wanted, 2);
+    for (script, wanted, line) in scripts {
+        let mut reason = String::new(rt.alloc());
+        assert!(rt; writeln!(reason, "{line}other numbers are wanted").is_ok());
+        check_bad(&rt, rt.alloc(), script, wanted, &reason);
     }
 }

@@ -5,5 +5,5 @@ use crate::scripts::tests::check;
 
 #[test]
 fn a_stored_script_prints_its_stored_replies(rt: HostRuntime) {
-    check(&rt, rt.alloc(), SCRIPT.as_bytes(), REPLIES, 0);
+    check(&rt, rt.alloc(), SCRIPT.as_bytes(), REPLIES);
 }

@@ -1,16 +1,34 @@
 //! What is printed for whole scripts, and the status at the end.
+use crate::help::HELP;
 use crate::serve::serve;
 use std::alloc::Global;
 use std::io::{self, ErrorKind, Read, Write};
 use std::ops::RangeInclusive;
-use std::process::{Abort, ExitCode};
+use std::process::Abort;
 use std::test::Fail;
 
-/// Serves a script, and checks what is written and the status.
-pub fn check(rt: &impl Abort, alloc: Global, script: &[u8], wanted: &str, status: u8) {
-    let mut written = Vec::new(alloc);
-    let ended = serve(alloc, script, &mut written);
-    assert_eq!(rt; ended, ExitCode::from(status));
+/// Serves a script to its end, and checks what is written.
+pub fn check(rt: &impl Abort, alloc: Global, script: &[u8], wanted: &str) {
+    check_end(rt, alloc, script, wanted, 0, "");
+}
+
+/// Serves a script up to a bad line, and checks what is written and which reason is told.
+pub fn check_bad(rt: &impl Abort, alloc: Global, script: &[u8], wanted: &str, reason: &str) {
+    check_end(rt, alloc, script, wanted, 2, reason);
+}
+
+/// Serves a script, and checks what is written, the status and the reason.
+fn check_end(
+    rt: &impl Abort,
+    alloc: Global,
+    script: &[u8],
+    wanted: &str,
+    status: u8,
+    reason: &str,
+) {
+    let (mut written, mut reasons) = (Vec::new(alloc), Vec::new(alloc));
+    let ended = serve(alloc, script, &mut written, &mut reasons);
+    assert_eq!(rt; (ended, reasons.as_slice()), (status, reason.as_bytes()));
     assert_eq!(rt; written.as_slice(), wanted.as_bytes());
 }
 
@@ -50,8 +68,8 @@ fn scripts_print_their_replies(rt: HostRuntime) {
             "ok\nok\nsome 1\nbefore 1 1\nhot 1 1\nok\nsome 401\nnone\nsome 2 401\nnone\n",
         ),
         (
-            "cache 0 0\ninsert 1 1\nget 1\nshow\n",
-            "ok\nbefore 1 1\ncold 1 1\nok\nnone\nhot\ncold\nghosts\nstill\ncount 0 0 0 0\n",
+            "cache 0 0\ninsert 1 10\nget 1\nshow\n",
+            "ok\nbefore 1 10\ncold 1 10\nok\nnone\nhot\ncold\nghosts\nstill\ncount 0 0 0 0\n",
         ),
         (
             "cache 0 0\ninsert 1 400\nget 1\nshow\n",
@@ -88,20 +106,20 @@ fn scripts_print_their_replies(rt: HostRuntime) {
              before 4 10\ncold 4 10\nok\nhot\ncold 3:110:0\nghosts\nstill 1:200\ncount 2 10 8 4\n",
         ),
         (
-            "cache 5 5\ninsert 1 18446744073709551615\nshow\n",
-            "ok\nbefore 1 18446744073709551615\ncold 1 18446744073709551615\nok\n\
+            "cache 5 5\ninsert 1 18446744073709551615\nget 00000000000000000001\nshow\n",
+            "ok\nbefore 1 18446744073709551615\ncold 1 18446744073709551615\nok\nnone\n\
              hot\ncold\nghosts\nstill\ncount 0 0 4 2\n",
         ),
     ];
     for (script, wanted) in scripts {
-        check(&rt, rt.alloc(), script.as_bytes(), wanted, 0);
+        check(&rt, rt.alloc(), script.as_bytes(), wanted);
     }
 }
 
 /// Serves scripts that end well, and checks what is written.
 pub fn check_all(rt: &impl Abort, alloc: Global, scripts: &[(&str, &str)]) {
     for (script, wanted) in scripts {
-        check(rt, alloc, script.as_bytes(), wanted, 0);
+        check(rt, alloc, script.as_bytes(), wanted);
     }
 }
 
@@ -206,42 +224,79 @@ fn values_are_loaded(rt: HostRuntime) {
 
 #[test]
 fn a_bad_line_ends_the_script(rt: HostRuntime) {
-    check(&rt, rt.alloc(), b"get 1\n", "bad line 1\n", 2);
-    let lines: [&str; 20] = [
-        "get 1\r",
-        "\r",
-        "get  1",
-        "get 1 ",
-        " get 1",
-        "get",
-        "get +1",
-        "get -1",
-        "get 000000000000000000001",
-        "get 18446744073709551616",
-        "show all",
-        "cache 1 1 1",
-        "cache 1 1 1 1 1 1",
-        "insert 1 1 1 1",
-        "replace 1",
-        "removeif 1",
-        "stats",
-        "clear 1",
-        "hits 1",
-        "capacity 1 1",
-    ];
-    for line in lines {
-        let mut script = Vec::new(rt.alloc());
-        let made = write!(script, "cache 1 1\n\n{line}\nget 1\n");
-        assert!(rt; made.is_ok());
-        check(&rt, rt.alloc(), script.as_slice(), "ok\nbad line 3\n", 2);
-    }
-    check(
+    check_bad(
         &rt,
         rt.alloc(),
-        b"cache 1 1\nget \xff\n",
-        "ok\nbad line 2\n",
-        2,
+        b"get 1\n",
+        "bad line 1\n",
+        "line 1: no cache stands\n",
     );
+    let lines: [(&str, &str); 22] = [
+        ("get 1\r", "a number is wanted"),
+        ("\r", "unknown command"),
+        ("get  1", "a number is wanted"),
+        ("get 1 ", "a number is wanted"),
+        (" get 1", "unknown command"),
+        ("get", "a number is wanted"),
+        ("gets 1", "unknown command"),
+        ("get one", "a number is wanted"),
+        ("get +1", "a number is wanted"),
+        ("get -1", "a number is wanted"),
+        ("get 000000000000000000001", "a number is wanted"),
+        ("get 18446744073709551616", "a number is wanted"),
+        ("show all", "a number is wanted"),
+        ("cache 1 1 1", "other numbers are wanted"),
+        ("cache 1 1 1 1 1 1", "other numbers are wanted"),
+        ("cache 1 1 4294967296 1", "other numbers are wanted"),
+        ("insert 1 1 1 1", "other numbers are wanted"),
+        ("replace 1", "other numbers are wanted"),
+        ("removeif 1", "other numbers are wanted"),
+        ("stats", "a number is wanted"),
+        ("clear 1", "other numbers are wanted"),
+        ("capacity 1 1", "other numbers are wanted"),
+    ];
+    for (line, reason) in lines {
+        let (mut script, mut told) = (Vec::new(rt.alloc()), String::new(rt.alloc()));
+        let made = write!(script, "cache 5 5\n{line}\nget 1\n");
+        let also = writeln!(told, "line 2: {reason}");
+        assert!(rt; made.is_ok() && also.is_ok());
+        check_bad(
+            &rt,
+            rt.alloc(),
+            script.as_slice(),
+            "ok\nbad line 2\n",
+            &told,
+        );
+    }
+    check_bad(
+        &rt,
+        rt.alloc(),
+        b"cache 1 1\n\nget \xff\n",
+        "ok\nbad line 3\n",
+        "line 3: unknown command\n",
+    );
+}
+
+#[test]
+fn each_command_of_the_help_is_served(rt: HostRuntime) -> Result<(), Fail> {
+    let mut script = Vec::new(rt.alloc());
+    for line in HELP.lines() {
+        let Some((command, _)) = line.split_once(':') else {
+            return Err(Fail::new("a line has a command and what it does"));
+        };
+        for (at, word) in command.split(' ').enumerate() {
+            if at == 0 {
+                write!(script, "{word}")?;
+            } else {
+                write!(script, " 1")?;
+            }
+        }
+        writeln!(script)?;
+    }
+    let (mut written, mut reasons) = (Vec::new(rt.alloc()), Vec::new(rt.alloc()));
+    let ended = serve(rt.alloc(), script.as_slice(), &mut written, &mut reasons);
+    assert_eq!(rt; (ended, reasons.len()), (0, 0));
+    Ok(())
 }
 
 /// Writes a command with each of the numbers, one a line; the second number of an insert is 1.
@@ -270,8 +325,13 @@ fn a_bad_line_is_told_by_its_number(rt: HostRuntime) -> Result<(), Fail> {
     write!(script, "\nget\nget 2\n")?;
     writeln!(wanted, "bad line 152")?;
     let mut written = Vec::new(rt.alloc());
-    let ended = serve(rt.alloc(), script.as_slice(), &mut written);
-    assert_eq!(rt; ended, ExitCode::from(2));
+    let ended = serve(
+        rt.alloc(),
+        script.as_slice(),
+        &mut written,
+        &mut Vec::new(rt.alloc()),
+    );
+    assert_eq!(rt; ended, 2);
     assert_eq!(rt; written.as_slice(), wanted.as_slice());
     Ok(())
 }
@@ -291,8 +351,13 @@ fn a_hundred_keys_of_one_hash_are_found_and_go_once(rt: HostRuntime) -> Result<(
         writeln!(wanted, "some {key}01\nsome {key}000 {key}01\nnone")?;
     }
     let mut written = Vec::new(rt.alloc());
-    let ended = serve(rt.alloc(), script.as_slice(), &mut written);
-    assert!(rt; ended == ExitCode::from(0) && written.as_slice() == wanted.as_slice());
+    let ended = serve(
+        rt.alloc(),
+        script.as_slice(),
+        &mut written,
+        &mut Vec::new(rt.alloc()),
+    );
+    assert!(rt; ended == 0 && written.as_slice() == wanted.as_slice());
     Ok(())
 }
 
@@ -304,8 +369,13 @@ fn two_of_each_are_shown_in_order(rt: HostRuntime) -> Result<(), Fail> {
     write_each(&mut script, "remove", 1..=30, "")?;
     write!(script, "get 32\nget 36\nshow\n")?;
     let mut written = Vec::new(rt.alloc());
-    let ended = serve(rt.alloc(), script.as_slice(), &mut written);
-    assert_eq!(rt; ended, ExitCode::from(0));
+    let ended = serve(
+        rt.alloc(),
+        script.as_slice(),
+        &mut written,
+        &mut Vec::new(rt.alloc()),
+    );
+    assert_eq!(rt; ended, 0);
     let shown =
         "some 1\nsome 1\nhot 31:1:0 32:1:1\ncold 35:1:0 36:1:1\nghosts 33 34\nstill\ncount 4 4 32 17\n";
     assert!(rt; written.as_slice().ends_with(shown.as_bytes()));
@@ -314,14 +384,24 @@ fn two_of_each_are_shown_in_order(rt: HostRuntime) -> Result<(), Fail> {
 
 #[test]
 fn a_long_line_is_bad_however_long(rt: HostRuntime) -> Result<(), Fail> {
-    for length in [200, 201, 100000] {
+    for (length, reason) in [
+        (200, "line 2: unknown command\n"),
+        (201, "line 2: more than 200 bytes\n"),
+        (100000, "line 2: more than 200 bytes\n"),
+    ] {
         let mut script = Vec::new(rt.alloc());
-        write!(script, "cache 1 1\n")?;
+        write!(script, "cache 5 5\n")?;
         for _ in 0..length {
             script.push(b'1')?;
         }
         write!(script, "\nget 1\n")?;
-        check(&rt, rt.alloc(), script.as_slice(), "ok\nbad line 2\n", 2);
+        check_bad(
+            &rt,
+            rt.alloc(),
+            script.as_slice(),
+            "ok\nbad line 2\n",
+            reason,
+        );
     }
     Ok(())
 }
@@ -351,8 +431,8 @@ fn a_failed_read_ends_it(rt: HostRuntime) {
         text: b"cache 1 1\nget 1\nget",
         is_read: false,
     };
-    let status = serve(rt.alloc(), reader, &mut written);
-    assert_eq!(rt; status, ExitCode::from(1));
+    let status = serve(rt.alloc(), reader, &mut written, &mut Vec::new(rt.alloc()));
+    assert_eq!(rt; status, 1);
     assert_eq!(rt; written.as_slice(), b"ok\nnone\n".as_slice());
 }
 
@@ -387,7 +467,8 @@ fn a_failed_write_ends_it(rt: HostRuntime) {
         rt.alloc(),
         b"cache 1 1\nget 1\nget x\n".as_slice(),
         &mut writer,
+        &mut Vec::new(rt.alloc()),
     );
-    assert_eq!(rt; status, ExitCode::from(1));
+    assert_eq!(rt; status, 1);
     assert_eq!(rt; writer.writes, 2);
 }

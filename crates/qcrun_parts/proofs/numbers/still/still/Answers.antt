@@ -1,6 +1,6 @@
 use Rattle.std.proofs.Common.{rules, IsPermutation, subst}
 use Rattle.std.proofs.lemmas.List.Sorted.{IsNonDecreasingBy-from_sort_by_key}
-use Rattle.qcrun_parts.proofs.still.still.Goals as goal
+use Rattle.qcrun_parts.proofs.numbers.still.still.Goals as goal
 
 -- the pairs that were found are put in order
 pub returns : goal.returns

@@ -1,6 +1,6 @@
 use Rattle.std.proofs.Common.{◌≡◌, ◌++◌, filter}
 use Rattle.qcrun_parts.specs.Still.{is_weightless}
-use Rattle.qcrun_parts.proofs.still.weightless.Given as goal
+use Rattle.qcrun_parts.proofs.numbers.still.weightless.Given as goal
 
 -- what was found, and what is left to find, is what all pairs have
 abbrev pub invariant-loop-key : goal.invariant-loop-key

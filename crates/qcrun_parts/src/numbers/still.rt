@@ -2,8 +2,8 @@
 ghost use Rattle.std.specs.Prelude.{◌≡◌, IfOk, filter};
 ghost use Rattle.qcrun_parts.specs.Still.{AreStill, is_weightless};
 
-use crate::kinds::weight_of;
 use crate::numbers::NumberCache;
+use crate::numbers::kinds::weight_of;
 use quick_cache_shard::Iter;
 use quick_cache_unsync::Placeholder;
 use std::alloc::{AllocError, Allocator};

@@ -1,7 +1,7 @@
 use Rattle.std.proofs.Common.{◌++◌, filter, sym, ap, ◌∙◌}
 use Rattle.qcrun_parts.specs.Still.{is_weightless}
 use Rattle.qcrun_parts.proofs.StillLemmas.{filter-weighty}
-use Rattle.qcrun_parts.proofs.still.weightless.Goals as goal
+use Rattle.qcrun_parts.proofs.numbers.still.weightless.Goals as goal
 
 -- the pair weighs something
 pub loop-key-preserved : goal.loop-key-preserved
