@@ -9,9 +9,7 @@ use std::io;
 fn colours(alloc: Global) -> Result<Cache<&'static str, &'static str>, Refusal> {
     let mut cache = Cache::new(alloc, 5)?;
     for (shape, colour) in [("square", "blue"), ("circle", "black")] {
-        cache
-            .insert(shape, colour)
-            .map_err(|(_, _, refusal)| refusal)?;
+        cache.put(shape, colour)?;
     }
     Ok(cache)
 }
