@@ -9,8 +9,10 @@ use std::alloc::{AllocError, Global};
 /// How the shares of hits are shown.
 #[derive(Clone, Copy, PartialEq, Eq)]
 pub enum Form {
-    /// A line of numbers for each capacity.
+    /// A line of percents for each capacity.
     Table,
+    /// A line of counts for each capacity.
+    Counts,
     /// A line chart, as SVG.
     Chart,
 }
@@ -54,7 +56,7 @@ struct Named {
 }
 
 /// All of them, in the order in which the help shows them.
-static NAMED: [Named; 9] = [
+static NAMED: [Named; 10] = [
     Named {
         name: "format",
         value: Some("FORMAT"),
@@ -96,6 +98,12 @@ static NAMED: [Named; 9] = [
         value: Some("1..3"),
         standard: Some("2"),
         help: "How many uses of a key this cache counts at most",
+    },
+    Named {
+        name: "counts",
+        value: None,
+        standard: None,
+        help: "Write how many keys are hits in place of percents",
     },
     Named {
         name: "svg",
@@ -196,6 +204,16 @@ fn reading_of(matches: &ArgMatches<'_>) -> Option<Reading> {
     })
 }
 
+fn form_of(matches: &ArgMatches<'_>) -> Form {
+    if matches.get_flag("svg") {
+        Form::Chart
+    } else if matches.get_flag("counts") {
+        Form::Counts
+    } else {
+        Form::Table
+    }
+}
+
 /// The capacities, where each is a number above 0.
 fn capacities_of(alloc: Global, words: &[&str]) -> Result<Option<Vec<u64>>, AllocError> {
     let mut capacities = Vec::new(alloc);
@@ -222,16 +240,11 @@ fn arguments_of<'a>(alloc: Global, matches: &ArgMatches<'a>) -> Result<Arguments
     let Some(capacities) = capacities_of(alloc, words)? else {
         return Err(Misread::Value("CAPACITY is a number of 64 bits above 0"));
     };
-    let form = if matches.get_flag("svg") {
-        Form::Chart
-    } else {
-        Form::Table
-    };
     Ok(Arguments {
         file: matches.get_str("file"),
         reading,
         shares,
-        form,
+        form: form_of(matches),
         title: matches.get_str("title").unwrap_or(""),
         capacities,
     })
