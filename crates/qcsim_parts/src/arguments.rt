@@ -178,7 +178,7 @@ fn shares_of(matches: &ArgMatches<'_>) -> Option<Shares> {
     Some(Shares {
         hot: number(matches, "hot", 0, 1_000_000)?,
         ghosts: number(matches, "ghosts", 0, 1_000_000)?,
-        mark_cut: number(matches, "mark-cut", 1, 3)? as u8,
+        mark_cut: u8::try_from(number(matches, "mark-cut", 1, 3)?).unwrap_or(2),
     })
 }
 
