@@ -10,19 +10,21 @@ trace=$(mktemp)
 trap 'rm -f "$trace"' EXIT
 mkdir -p "$charts"
 
-# NAME, and what trace.awk is told
+# NAME, the chart's title, and what trace.awk is told
 made() {
   name=$1
-  shift
+  title=$2
+  shift 2
   awk -v keys=1000000 -v items=20000 "$@" -f trace.awk > "$trace"
   echo "$name"
-  "$qcsim" $capacities < "$trace"
-  "$qcsim" svg $capacities < "$trace" > "$charts/$name.svg"
+  "$qcsim" --file "$trace" $capacities
+  "$qcsim" --file "$trace" --svg --title "$title" $capacities > "$charts/$name.svg"
 }
 
-made zipf-0.7 -v kind=zipf -v skew=0.7
-made zipf-0.9 -v kind=zipf -v skew=0.9
-made zipf-1.1 -v kind=zipf -v skew=1.1
-made scans -v kind=scans -v skew=0.9 -v every=10000 -v scan=5000
-made loop -v kind=loop
-made shift -v kind=shift -v skew=0.9 -v every=100000
+made zipf-0.7 "Zipf's law, skew 0.7" -v kind=zipf -v skew=0.7
+made zipf-0.9 "Zipf's law, skew 0.9" -v kind=zipf -v skew=0.9
+made zipf-1.1 "Zipf's law, skew 1.1" -v kind=zipf -v skew=1.1
+made scans "Zipf's law, skew 0.9, with scans" -v kind=scans -v skew=0.9 -v every=10000 -v scan=5000
+made loop "A loop of 20,000 keys" -v kind=loop
+made shift "A hot set that shifts" -v kind=shift -v skew=0.9 -v every=100000
+made backup "A database and its backup" -v kind=backup -v skew=0.9 -v every=1 -v scan=2

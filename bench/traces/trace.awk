@@ -8,6 +8,9 @@
 #      scans   the same, and behind each `every` keys a scan of `scan` keys that never came before
 #      loop    keys 1 to items in turn, again and again
 #      shift   as zipf, but behind each `every` keys each rank goes to the next tenth of the items
+#      backup  a database and its backup: a query asks for the index page of a data page and then for
+#              that page itself, whose ranks lie scattered; and from the second fifth of the keys to
+#              the fourth a backup reads each data page in turn, `scan` of them behind `every` queries
 
 # a number from 0 to 1, without both
 function drawn() {
@@ -28,6 +31,22 @@ function rank(  wanted, low, high, middle) {
   return low
 }
 
+# a query, and what the backup reads behind it
+function queried(  page, more) {
+  page = rank() * 7919 % items + 1
+  print items + 1 + int(page / 100)
+  print page
+  made += 2
+  if (++since < every) return
+  since = 0
+  if (made < keys / 5 || made > keys * 4 / 5) return
+  for (more = 0; more < scan; more++) {
+    print backed % items + 1
+    backed++
+    made++
+  }
+}
+
 # so many keys that never came before
 function scanned(count) {
   for (; count > 0 && made < keys; count--) {
@@ -41,6 +60,10 @@ BEGIN {
   fresh = items
   for (i = 1; i <= items; i++) upto[i] = upto[i - 1] + 1 / i ^ skew
   while (made < keys) {
+    if (kind == "backup") {
+      queried()
+      continue
+    }
     if (kind == "loop") print made % items + 1
     else if (kind == "shift") print (rank() + int(made / every) * int(items / 10)) % items + 1
     else print rank()

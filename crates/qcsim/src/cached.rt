@@ -2,7 +2,7 @@
 ghost use Rattle.std.specs.Prelude.{◌≡◌, ◌∷◌, [], IfOk};
 ghost use Rattle.quick_cache_shard.specs.Steps.{rules_in};
 ghost use Rattle.quick_cache_unsync.specs.Touches.{no_touches};
-ghost use Rattle.qcsim.specs.Simulation.{Simulates, HasHits, counted};
+ghost use Rattle.qcsim.specs.Simulation.{Simulates, HasHits, counted, made_by};
 
 use qcsim_parts::Trace;
 use quick_cache_options::Options;
@@ -55,6 +55,14 @@ fn ask_for_all<
     Ok(hits)
 }
 
+/// An empty cache with these options, in which each key weighs one.
+fn cache_with(alloc: Global, options: Options) -> Result<Cache<u64, ()>, Refusal>
+    ensures makes { IfOk result (λ cache. cache.state ≡ made_by options) }
+{
+    let (builder, lifecycle) = (DefaultHashBuilder::new(), DefaultLifecycle::new());
+    Cache::with_options(alloc, options, UnitWeighter, builder, lifecycle)
+}
+
 /// How many keys of a trace a cache with these options has when they are asked for, where it is empty
 /// at first and each key weighs one.
 ///
@@ -64,8 +72,7 @@ fn ask_for_all<
 pub fn cache_hits(alloc: Global, keys: &[u64], options: Options) -> Result<u64, Refusal>
     ensures hits { IfOk result (HasHits options keys.now) }
 {
-    let (builder, lifecycle) = (DefaultHashBuilder::new(), DefaultLifecycle::new());
-    let mut cache = Cache::with_options(alloc, options, UnitWeighter, builder, lifecycle)?;
+    let mut cache = cache_with(alloc, options)?;
     ask_for_all(&mut cache, keys)
 }
 

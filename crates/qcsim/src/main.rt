@@ -12,7 +12,8 @@ use cached::{cache_hits, weighed_hits};
 use clap::error::ErrorKind as ArgumentError;
 use qcsim_parts::{
     Arguments, BadTrace, Form, Hits, Shares, Trace, arc_hits, best_hits, clock_hits, fifo_hits,
-    lru_hits, read_arguments, read_trace, s3_fifo_hits, tiny_lfu_hits, write_chart, write_table,
+    lru_hits, read_arguments, read_trace, s3_fifo_hits, tiny_lfu_hits, write_chart, write_counts,
+    write_table,
 };
 use quick_cache_options::{Options, OptionsBuilder};
 use std::alloc::{AllocError, Global};
@@ -119,6 +120,7 @@ fn show(rt: &HostRuntime, arguments: &Arguments<'_>, trace: &Trace) -> io::Resul
     let mut writer = BufWriter::new(rt.alloc(), io::writer(rt))?;
     match arguments.form {
         Form::Table => write_table(&mut writer, keys, &all)?,
+        Form::Counts => write_counts(&mut writer, &all)?,
         Form::Chart => write_chart(&mut writer, arguments.title, keys, &all)?,
     }
     writer.flush()?;

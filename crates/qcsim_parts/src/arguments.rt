@@ -9,8 +9,10 @@ use std::alloc::{AllocError, Global};
 /// How the shares of hits are shown.
 #[derive(Clone, Copy, PartialEq, Eq)]
 pub enum Form {
-    /// A line of numbers for each capacity.
+    /// A line of percents for each capacity.
     Table,
+    /// A line of counts for each capacity.
+    Counts,
     /// A line chart, as SVG.
     Chart,
 }
@@ -54,7 +56,7 @@ struct Named {
 }
 
 /// All of them, in the order in which the help shows them.
-static NAMED: [Named; 9] = [
+static NAMED: [Named; 10] = [
     Named {
         name: "format",
         value: Some("FORMAT"),
@@ -96,6 +98,12 @@ static NAMED: [Named; 9] = [
         value: Some("1..3"),
         standard: Some("2"),
         help: "How many uses of a key this cache counts at most",
+    },
+    Named {
+        name: "counts",
+        value: None,
+        standard: None,
+        help: "Write how many keys are hits in place of percents",
     },
     Named {
         name: "svg",
@@ -144,109 +152,113 @@ fn command<'a>(alloc: Global) -> Result<Command<'a>, AllocError> {
     command.arg(capacity(alloc))
 }
 
-/// Why a value was not understood.
-enum Misread {
-    /// What it should be.
-    Value(&'static str),
-    /// There was no memory.
-    Memory,
+/// What was given, as it was written, or its standard.
+#[derive(Clone, Copy)]
+struct Given<'a> {
+    format: &'a str,
+    file: Option<&'a str>,
+    hot: &'a str,
+    ghosts: &'a str,
+    mark_cut: &'a str,
+    title: &'a str,
+    asks_weights: bool,
+    skips_bad: bool,
+    form: Form,
 }
 
-impl From<AllocError> for Misread {
-    fn from(_error: AllocError) -> Misread {
-        Misread::Memory
+/// What a command line gives.
+fn read_given<'a>(matches: &ArgMatches<'a>) -> Given<'a> {
+    let form = if matches.get_flag("svg") {
+        Form::Chart
+    } else if matches.get_flag("counts") {
+        Form::Counts
+    } else {
+        Form::Table
+    };
+    Given {
+        format: matches.get_str("format").unwrap_or(""),
+        file: matches.get_str("file"),
+        hot: matches.get_str("hot").unwrap_or(""),
+        ghosts: matches.get_str("ghosts").unwrap_or(""),
+        mark_cut: matches.get_str("mark-cut").unwrap_or(""),
+        title: matches.get_str("title").unwrap_or(""),
+        asks_weights: matches.get_flag("weights"),
+        skips_bad: matches.get_flag("skip-bad"),
+        form,
     }
 }
 
-/// A number of an argument, in a range.
-fn number(matches: &ArgMatches<'_>, name: &str, least: u32, most: u32) -> Option<u32> {
-    match matches.get_str(name)?.parse() {
+/// A number in a range.
+fn number(text: &str, least: u32, most: u32) -> Option<u32> {
+    match text.parse() {
         Ok(number) if least <= number && number <= most => Some(number),
         _ => None,
     }
 }
 
-fn shares_of(matches: &ArgMatches<'_>) -> Option<Shares> {
-    Some(Shares {
-        hot: number(matches, "hot", 0, 1_000_000)?,
-        ghosts: number(matches, "ghosts", 0, 1_000_000)?,
-        mark_cut: number(matches, "mark-cut", 1, 3)? as u8,
-    })
-}
+impl Given<'_> {
+    fn shares(&self) -> Option<Shares> {
+        Some(Shares {
+            hot: number(self.hot, 0, 1_000_000)?,
+            ghosts: number(self.ghosts, 0, 1_000_000)?,
+            mark_cut: u8::try_from(number(self.mark_cut, 1, 3)?).unwrap_or(2),
+        })
+    }
 
-/// Whether the keys have weights, where that has a meaning.
-fn is_weighted(format: Format, asks_weights: bool) -> Option<bool> {
-    match format {
-        Format::Keys | Format::Text => Some(asks_weights),
-        Format::Csv {
-            weight: Some(_),
-            ..
-        } => Some(true),
-        _ if asks_weights => None,
-        _ => Some(false),
+    /// How the trace is read, where it is known and weights have a meaning.
+    fn reading(&self) -> Option<Reading> {
+        let format = Format::named(self.format)?;
+        let weighted = match format {
+            Format::Keys | Format::Text => self.asks_weights,
+            Format::Csv {
+                weight: Some(_),
+                ..
+            } => true,
+            _ if self.asks_weights => return None,
+            _ => false,
+        };
+        Some(Reading {
+            format,
+            weighted,
+            skips_bad: self.skips_bad,
+        })
     }
 }
 
-fn reading_of(matches: &ArgMatches<'_>) -> Option<Reading> {
-    let format = Format::named(matches.get_str("format")?)?;
-    Some(Reading {
-        format,
-        weighted: is_weighted(format, matches.get_flag("weights"))?,
-        skips_bad: matches.get_flag("skip-bad"),
-    })
-}
-
-/// The capacities, where each is a number above 0.
-fn capacities_of(alloc: Global, words: &[&str]) -> Result<Option<Vec<u64>>, AllocError> {
+/// The capacities, the least first; none where one of them is no number above 0.
+fn capacities_of(alloc: Global, words: &[&str]) -> Result<Vec<u64>, AllocError> {
     let mut capacities = Vec::new(alloc);
     for word in words {
         match word.parse() {
             Ok(capacity) if capacity > 0u64 => capacities.push(capacity)?,
-            _ => return Ok(None),
+            _ => return Ok(Vec::new(alloc)),
         }
     }
     capacities.sort()?;
-    Ok(Some(capacities))
+    Ok(capacities)
 }
 
-fn arguments_of<'a>(alloc: Global, matches: &ArgMatches<'a>) -> Result<Arguments<'a>, Misread> {
-    let Some(reading) = reading_of(matches) else {
-        return Err(Misread::Value(
+/// What was asked for, or else what should have been given.
+fn arguments_of(given: Given<'_>, capacities: Vec<u64>) -> Result<Arguments<'_>, &'static str> {
+    let Some(reading) = given.reading() else {
+        return Err(
             "FORMAT is keys, text, arc, csv:N or csv:N:WEIGHT, and arc and csv:N have no weights",
-        ));
+        );
     };
-    let Some(shares) = shares_of(matches) else {
-        return Err(Misread::Value("a share is a number up to 1000000, and the mark cut 1, 2 or 3"));
+    let Some(shares) = given.shares() else {
+        return Err("a share is a number up to 1000000, and the mark cut 1, 2 or 3");
     };
-    let words = matches.get_strs("capacity").unwrap_or(&[]);
-    let Some(capacities) = capacities_of(alloc, words)? else {
-        return Err(Misread::Value("CAPACITY is a number of 64 bits above 0"));
-    };
-    let form = if matches.get_flag("svg") {
-        Form::Chart
-    } else {
-        Form::Table
-    };
+    if capacities.is_empty() {
+        return Err("CAPACITY is a number of 64 bits above 0");
+    }
     Ok(Arguments {
-        file: matches.get_str("file"),
+        file: given.file,
         reading,
         shares,
-        form,
-        title: matches.get_str("title").unwrap_or(""),
+        form: given.form,
+        title: given.title,
         capacities,
     })
-}
-
-/// What is written of a value that was not understood.
-fn error_of(mut command: Command<'_>, misread: Misread) -> Error {
-    let error = match misread {
-        Misread::Value(wanted) => command.error(ErrorKind::InvalidValue, wanted),
-        Misread::Memory => Err(AllocError),
-    };
-    match error {
-        Ok(error) => error,
-        Err(error) => Error::from(error),
-    }
 }
 
 /// Reads the arguments, without the name of the program.
@@ -257,8 +269,9 @@ fn error_of(mut command: Command<'_>, misread: Misread) -> Error {
 pub fn read_arguments<'a>(alloc: Global, words: &'a [String]) -> Result<Arguments<'a>, Error> {
     let mut command = command(alloc)?;
     let matches = command.try_get_matches_from_mut(words)?;
-    match arguments_of(alloc, &matches) {
+    let capacities = capacities_of(alloc, matches.get_strs("capacity").unwrap_or(&[]))?;
+    match arguments_of(read_given(&matches), capacities) {
         Ok(arguments) => Ok(arguments),
-        Err(why) => Err(error_of(command, why)),
+        Err(wanted) => Err(command.error(ErrorKind::InvalidValue, wanted)?),
     }
 }

@@ -3,13 +3,21 @@
 /// The caches that are compared.
 #[derive(Clone, Copy)]
 pub enum Policy {
+    /// This project's cache.
     Cache,
+    /// What was used longest ago goes.
     Lru,
+    /// What came first goes.
     Fifo,
+    /// What came first goes, but what was used since is passed over once.
     Clock,
+    /// A small queue, a main one and ghosts.
     S3Fifo,
+    /// A window, and a main part that is hard to enter.
     TinyLfu,
+    /// Two lists that shift room by what they dropped.
     Arc,
+    /// All that comes is known.
     Best,
 }
 

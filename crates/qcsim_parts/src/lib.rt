@@ -17,5 +17,5 @@ pub use line::{Flaw, Format};
 pub use policies::{
     arc_hits, best_hits, clock_hits, fifo_hits, lru_hits, s3_fifo_hits, tiny_lfu_hits,
 };
-pub use table::write_table;
+pub use table::{write_counts, write_table};
 pub use trace::{BadLine, BadTrace, Reading, Trace, read_trace};

@@ -1,13 +1,13 @@
 //! What this project's cache is compared with: seven policies, each in a file of its own.
 
 mod arc;
-mod asked;
 mod best;
 mod clock;
 mod fifo;
 mod lru;
 mod queue;
 mod s3_fifo;
+mod simulated;
 mod sketch;
 mod tiny_lfu;
 

@@ -31,7 +31,7 @@ fn arguments_are_understood_or_end_with_a_status(rt: HostRuntime) -> Result<(), 
         key: 2,
         weight: Some(4),
     };
-    let rows: [(&[&str], Result<(Format, bool, Form, u64), i32>); 20] = [
+    let rows: [(&[&str], Result<(Format, bool, Form, u64), i32>); 21] = [
         (&["20", "10"], Ok((Format::Keys, false, Form::Table, 10))),
         (
             &["--svg", "4294967296"],
@@ -56,6 +56,10 @@ fn arguments_are_understood_or_end_with_a_status(rt: HostRuntime) -> Result<(), 
         (
             &["--hot", "0", "--ghosts", "1000000", "--mark-cut", "3", "7"],
             Ok((Format::Keys, false, Form::Table, 7)),
+        ),
+        (
+            &["--counts", "7"],
+            Ok((Format::Keys, false, Form::Counts, 7)),
         ),
         (&["--help"], Err(0)),
         (&[], Err(2)),

@@ -3,7 +3,7 @@
 use qcsim_parts::line::{Asked, Flaw, Format, read_line};
 use qcsim_parts::trace::{BadTrace, Reading, Trace, read_trace};
 use std::alloc::Global;
-use std::io::BufReader;
+use std::io::{self, BufReader, ErrorKind, Read};
 use std::test::Fail;
 use test_tools::expect;
 
@@ -172,5 +172,33 @@ fn how_many_keys_a_capacity_holds_goes_by_their_mean_weight(rt: HostRuntime) -> 
         trace.add(asked, true)?;
     }
     expect!(rt; trace.keys_within(40) == 2 && trace.keys_within(1000) == 3);
+    Ok(())
+}
+
+/// A reader that fails behind its bytes.
+#[derive(Drop)]
+struct Broken {
+    bytes: &'static [u8],
+}
+
+impl Read for Broken {
+    fn read(&mut self, buf: &mut [u8]) -> io::Result<usize> {
+        if self.bytes.is_empty() {
+            return Err(ErrorKind::Other.into());
+        }
+        self.bytes.read(buf)
+    }
+}
+
+#[test]
+fn a_reader_that_fails_is_no_end_of_a_trace(rt: HostRuntime) -> Result<(), Fail> {
+    let reader = BufReader::new(rt.alloc(), Broken { bytes: b"1\n2\n" })?;
+    let reading = Reading {
+        format: Format::Keys,
+        weighted: false,
+        skips_bad: true,
+    };
+    let read = read_trace(rt.alloc(), &rt, reader, reading);
+    expect!(rt; matches!(&read, Err(BadTrace::Read(_))));
     Ok(())
 }

@@ -1,6 +1,6 @@
 //! What is written.
 
-use qcsim_parts::{Hits, write_chart, write_table};
+use qcsim_parts::{Hits, write_chart, write_counts, write_table};
 use std::test::Fail;
 use test_tools::expect;
 
@@ -24,6 +24,11 @@ fn hits_are_listed(rt: HostRuntime) -> Result<(), Fail> {
     let wanted =
         b"  capacity this cache        LRU       FIFO      CLOCK    S3-FIFO  W-TinyLFU        ARC       best\n         3      50.00      37.50      37.50      37.50      37.50      37.50      37.50      62.50\n";
     expect!(rt; table.as_slice() == wanted.as_slice());
+    let mut counts = Vec::new(rt.alloc());
+    write_counts(&mut counts, &[HITS])?;
+    let wanted =
+        b"         3          4          3          3          3          3          3          3          5\n";
+    expect!(rt; counts.ends_with(wanted));
     Ok(())
 }
 

@@ -3,8 +3,8 @@
 //! names of the keys that it dropped, and one of these that comes back shifts room to its list. The
 //! paper counts pages; with weights each list is measured by its weight.
 
-use crate::policies::asked::{Policy, hits_of};
 use crate::policies::queue::{Entry, Queue};
+use crate::policies::simulated::{Simulated, hits_of};
 use crate::trace::Trace;
 use std::alloc::{AllocError, Global};
 
@@ -80,7 +80,7 @@ impl Arc {
     }
 }
 
-impl Policy for Arc {
+impl Simulated for Arc {
     fn ask(&mut self, key: u64, weight: u32) -> Result<bool, AllocError> {
         if self.again.promote(key) {
             return Ok(true);

@@ -2,8 +2,8 @@
 //! each with a bit that a use sets. The hand drops the first key whose bit is not set, and clears the
 //! bits that it passes. The ring is a queue here: a key that the hand passes goes to the front.
 
-use crate::policies::asked::{Policy, hits_of};
 use crate::policies::queue::{Entry, Queue};
+use crate::policies::simulated::{Simulated, hits_of};
 use crate::trace::Trace;
 use std::alloc::{AllocError, Global};
 
@@ -26,7 +26,7 @@ impl Clock {
     }
 }
 
-impl Policy for Clock {
+impl Simulated for Clock {
     fn ask(&mut self, key: u64, weight: u32) -> Result<bool, AllocError> {
         if self.ring.count_use(key, 1) {
             return Ok(true);

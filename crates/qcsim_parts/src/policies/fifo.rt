@@ -4,8 +4,8 @@ ghost use Rattle.std.specs.Prelude.{◌≡◌, [], IfOk};
 ghost use Rattle.std.specs.NonZero.{non_zero_usize_get};
 ghost use Rattle.qcsim_parts.specs.Policies.{by_age, hits_by};
 
-use crate::policies::asked::{Policy, hits_of};
 use crate::policies::queue::{Entry, Queue};
+use crate::policies::simulated::{Simulated, hits_of};
 use crate::trace::Trace;
 use lru::LruCache;
 use std::alloc::{AllocError, Global};
@@ -42,7 +42,7 @@ struct ByAge {
     capacity: u64,
 }
 
-impl Policy for ByAge {
+impl Simulated for ByAge {
     fn ask(&mut self, key: u64, weight: u32) -> Result<bool, AllocError> {
         if self.queue.contains(key) {
             return Ok(true);

@@ -5,8 +5,8 @@ ghost use Rattle.std.specs.Prelude.{◌≡◌, [], IfOk};
 ghost use Rattle.std.specs.NonZero.{non_zero_usize_get};
 ghost use Rattle.qcsim_parts.specs.Policies.{by_use, hits_by};
 
-use crate::policies::asked::{Policy, hits_of};
 use crate::policies::queue::{Entry, Queue};
+use crate::policies::simulated::{Simulated, hits_of};
 use crate::trace::Trace;
 use lru::LruCache;
 use std::alloc::{AllocError, Global};
@@ -42,7 +42,7 @@ struct ByUse {
     capacity: u64,
 }
 
-impl Policy for ByUse {
+impl Simulated for ByUse {
     fn ask(&mut self, key: u64, weight: u32) -> Result<bool, AllocError> {
         if self.queue.promote(key) {
             return Ok(true);

@@ -3,8 +3,8 @@
 //! the main queue, and of the others the ghost queue keeps the names: one of these that comes back
 //! goes straight to the main queue.
 
-use crate::policies::asked::{Policy, hits_of};
 use crate::policies::queue::{Entry, Queue};
+use crate::policies::simulated::{Simulated, hits_of};
 use crate::trace::Trace;
 use std::alloc::{AllocError, Global};
 
@@ -94,7 +94,7 @@ impl S3Fifo {
     }
 }
 
-impl Policy for S3Fifo {
+impl Simulated for S3Fifo {
     fn ask(&mut self, key: u64, weight: u32) -> Result<bool, AllocError> {
         if self.small.count_use(key, MOST_USES) || self.main.count_use(key, MOST_USES) {
             return Ok(true);

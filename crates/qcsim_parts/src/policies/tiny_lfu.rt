@@ -5,8 +5,8 @@
 //! that is used there is protected, in up to four fifths of it. Not taken over: that the window
 //! grows and shrinks by the hits, and that now and then a key is let in by chance.
 
-use crate::policies::asked::{Policy, hits_of};
 use crate::policies::queue::{Entry, Queue};
+use crate::policies::simulated::{Simulated, hits_of};
 use crate::policies::sketch::Sketch;
 use crate::trace::Trace;
 use std::alloc::{AllocError, Global};
@@ -90,7 +90,7 @@ impl TinyLfu {
     }
 }
 
-impl Policy for TinyLfu {
+impl Simulated for TinyLfu {
     fn ask(&mut self, key: u64, weight: u32) -> Result<bool, AllocError> {
         self.sketch.count(key);
         if self.window.promote(key) || self.protected.promote(key) {

@@ -1,10 +1,10 @@
-//! A policy that a trace is run through.
+//! What a trace is run through.
 
 use crate::trace::Trace;
 use std::alloc::AllocError;
 
 /// A cache that goes by a policy.
-pub trait Policy {
+pub trait Simulated {
     /// Asks for a key of this weight, and tells whether it is there. One that is not is put in, as
     /// the policy has it.
     ///
@@ -19,10 +19,10 @@ pub trait Policy {
 /// # Errors
 ///
 /// Where there was no memory.
-pub fn hits_of<P: Policy>(policy: &mut P, trace: &Trace) -> Result<u64, AllocError> {
+pub fn hits_of<C: Simulated>(cache: &mut C, trace: &Trace) -> Result<u64, AllocError> {
     let mut hits = 0u64;
     for (index, key) in trace.keys().iter().enumerate() {
-        if policy.ask(*key, trace.weight(index))? {
+        if cache.ask(*key, trace.weight(index))? {
             hits = hits.saturating_add(1);
         }
     }
