@@ -1,3 +1,4 @@
+mod AnsweredLemmas
 mod ContainerLemmas
 mod LentLemmas
 mod OneThreadLemmas

@@ -1,5 +1,6 @@
 //! What those rely on who have the cache for one thread, or one of its parts.
 
+pub mod answered;
 pub mod containers;
 pub mod keys;
 pub mod one_thread;

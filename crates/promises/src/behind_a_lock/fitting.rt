@@ -1,7 +1,7 @@
 //! What a caller relies on that sees values under the lock of the shared cache: they fit.
 ghost use Rattle.std.specs.Prelude.{◌≡◌, ◌<◌, IfOk, IfSome, None, Some};
 
-use quick_cache_guard::{EntryResult, GuardResult};
+use quick_cache_guard::{EntryResult, Fetched, GuardResult};
 use quick_cache_model::{DefaultHashBuilder, EntryAction, Lifecycle, Refusal, UnitWeighter};
 use quick_cache_sync::{Cache, LockContention, TryError};
 use std::convert::Infallible;
@@ -115,6 +115,28 @@ pub fn divide_by_loaded<R: Wait>(rt: &R, shares: &Shares, key: &u64, sum: u64) -
         Ok(Ok(value)) => sum / value,
         Ok(Err(never)) => match never {},
         Err(_) => sum,
+    }
+}
+
+/// Where it is told that this call's loader gave the value, it did.
+pub fn load_seven<R: Wait>(rt: &R, shares: &Shares, key: &u64) -> Option<u64>
+    ensures { IfSome result (λ value. value ≡ 7) }
+{
+    let told: Result<Result<Fetched<u64>, Infallible>, Refusal> = shares.get_or_insert_told(
+        rt,
+        key,
+        || Ok(7),
+    );
+    match told {
+        Ok(Ok(fetched)) => {
+            if fetched.loaded {
+                Some(fetched.value)
+            } else {
+                None
+            }
+        }
+        Ok(Err(never)) => match never {},
+        Err(_) => None,
     }
 }
 
