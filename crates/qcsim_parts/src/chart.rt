@@ -86,7 +86,7 @@ pub fn write_chart<W: Write>(
     let scale = Scale::of(keys, all);
     writeln!(
         writer,
-        "<svg xmlns=\"http://www.w3.org/2000/svg\" width=\"860\" height=\"460\" viewBox=\"0 0 8600 4600\" font-family=\"sans-serif\" font-size=\"130\" fill=\"#333\">"
+        "<svg xmlns=\"http://www.w3.org/2000/svg\" width=\"860\" height=\"460\" viewBox=\"0 0 8600 4600\" font-family=\"sans-serif\" font-size=\"130\" fill=\"#333\">\n<rect width=\"8600\" height=\"4600\" fill=\"#fff\"/>"
     )?;
     write_style(writer)?;
     write_title(writer, title)?;

@@ -16,7 +16,7 @@ polyline{fill:none;stroke-width:18}
 .p5{stroke:#d68910;stroke-dasharray:120 40 30 40}
 .p6{stroke:#0e9aa7;stroke-dasharray:60 30}
 .p7{stroke:#111;stroke-dasharray:25 60}
-circle{stroke-width:50;stroke-dasharray:none;fill:none}
+circle{stroke-width:50!important;stroke-dasharray:none!important;fill:none}
 .figure{font-size:105px;text-anchor:middle}
 </style>
 ";
