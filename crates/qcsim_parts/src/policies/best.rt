@@ -1,10 +1,11 @@
 //! The most hits that a cache can have which knows all that comes. L. A. Belady, "A study of
 //! replacement algorithms for a virtual-storage computer", 1966: the key whose next use is farthest
-//! goes, and here it may be the new one. The count is the same as by M. C. Carlisle and E. L. Lloyd, "On
-//! the k-coloring of intervals", 1995, which needs no look ahead: a key is there again if a place was
-//! free from its last use on, and of the places that were it takes the one that was free last. By
-//! weights no such count is known, and there is a bound: D. S. Berger, N. Beckmann and M. Harchol-Balter,
-//! "Practical bounds on optimal caching with variable object sizes", 2018, of which it is PFOO-L.
+//! goes, and here it may be the new one. The count is the same as by M. C. Carlisle and E. L. Lloyd,
+//! "On the k-coloring of intervals", 1995, which needs no look ahead: a key is there again if a place
+//! was free from its last use on, and of the places that were it takes the one that was free last. By
+//! weights no such count is known, and there is a bound: D. S. Berger, N. Beckmann and M.
+//! Harchol-Balter, "Practical bounds on optimal caching with variable object sizes", 2018, of which it
+//! is PFOO-L.
 
 use crate::trace::Trace;
 use std::alloc::{AllocError, Global};

@@ -84,7 +84,8 @@ impl S3Fifo {
     /// Drops keys until one of this weight fits.
     fn make_room(&mut self, weight: u32) -> Result<(), AllocError> {
         let limit = self.capacity.saturating_sub(u64::from(weight));
-        for _ in 0..self.small.len().saturating_add(self.main.len()) {
+        let keys = self.small.len().saturating_add(self.main.len());
+        for _ in 0..keys.saturating_mul(2) {
             if self.small.weight().saturating_add(self.main.weight()) <= limit {
                 break;
             }

@@ -1,8 +1,8 @@
 //! W-TinyLFU: G. Einziger, R. Friedman and B. Manes, "TinyLFU: a highly efficient cache admission
-//! policy", 2017, as the caches Caffeine and moka have it. A new key comes to a window of a hundredth. The key
-//! that the window drops is put into the main part where there is room, or where it was asked for
-//! more often of late than the key that the main part would drop. The main part is segmented: a key
-//! that is used there is protected, in up to four fifths of it. Not taken over: that the window
+//! policy", 2017, as the caches Caffeine and moka have it. A new key comes to a window of a hundredth.
+//! The key that the window drops is put into the main part where there is room, or where it was asked
+//! for more often of late than the key that the main part would drop. The main part is segmented: a
+//! key that is used there is protected, in up to four fifths of it. Not taken over: that the window
 //! grows and shrinks by the hits, and that now and then a key is let in by chance.
 
 use crate::policies::queue::{Entry, Queue};
