@@ -20,3 +20,7 @@ returns-in-Err g c =
         };
       };
     }
+
+-- and one that was taken is written
+pub returns-in-Ok : goal.returns-in-Ok
+returns-in-Ok g c = record { answers = rw c.in-Ok.is at c.insert.ensures.answers }
