@@ -4,7 +4,7 @@ use Rattle.lru.specs.LruCache.{LruCache}
 use Rattle.qcsim_parts.specs.Policies.{by_use}
 use Rattle.qcsim_parts.proofs.CountLemmas.{hit, miss}
 use Rattle.qcsim_parts.proofs.ListLemmas.{holds-keys_of, by_use-put_entries}
-use Rattle.qcsim_parts.proofs.policies.lru.hits_by_use.Goals as goal
+use Rattle.qcsim_parts.proofs.policies.least_recent.hits_by_use.Goals as goal
 
 pub loop-key-preserved-in-Ok-Some : goal.loop-key-preserved-in-Ok-Some
 loop-key-preserved-in-Ok-Some c =

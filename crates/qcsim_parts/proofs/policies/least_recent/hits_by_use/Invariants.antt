@@ -2,7 +2,7 @@ use Rattle.std.proofs.Common.{length}
 use Rattle.std.specs.NonZero.{non_zero_usize_get}
 use Rattle.qcsim_parts.specs.Policies.{by_use}
 use Rattle.qcsim_parts.proofs.CountLemmas.{IsCounted}
-use Rattle.qcsim_parts.proofs.policies.lru.hits_by_use.Given as goal
+use Rattle.qcsim_parts.proofs.policies.least_recent.hits_by_use.Given as goal
 
 abbrev pub invariant-loop-key : goal.invariant-loop-key
 invariant-loop-key l =
