@@ -1,6 +1,8 @@
 -- Answers, from what was loaded and from what was stored.
-use Rattle.std.proofs.Common.{ℕ, Bool, IsTrue, Result, Ok, Err, IfOk, ◌∙◌, refl, arith}
+use Rattle.std.proofs.Common.{◌≡◌, ℕ, Bool, IsTrue, Result, Ok, Err, IfOk, ◌∙◌, refl, sym, subst, arith}
 use Rattle.std.specs.Cmp.{IsEquivalence}
+use Rattle.quick_cache_locked.specs.Fitting.{ClonesFit}
+use Rattle.read_through.specs.declared.loaded.Loaded.{Loaded}
 use Rattle.read_through.specs.Moments.{Serves, IsFresh}
 use Rattle.read_through.specs.Answers.{Answers, IsOf, GivesClones}
 
@@ -35,6 +37,14 @@ module _ {K V : Type 0} (gives : K → ℕ → V → Type 0) (equal : K → K �
     same = source.same;
     gave = clones source.key moment value clone cloned source.gave;
   }
+
+  -- so a clone of what is stored fits where that does
+  pub ClonesFit-loaded : (is_clone : V → V → Type 0) → GivesClones gives is_clone
+      → ClonesFit (λ (key : K) (loaded : Loaded V). IsOf gives equal key loaded.moment loaded.value)
+      (λ old new. is_clone old.value new.value × (new.moment ≡ old.moment))
+  ClonesFit-loaded is_clone clones = λ key old new cloned fits.
+      subst (λ moment. IsOf gives equal key moment new.value) (sym cloned.1)
+      (IsOf-clone is_clone clones key old.moment old.value new.value cloned.0 fits)
 
   -- what was loaded now for the key is an answer
   pub Answers-own : (key : K) (life now : ℕ) (value : V) → gives key now value
