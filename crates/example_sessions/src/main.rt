@@ -1,43 +1,66 @@
-//! Tries.
+//! Sessions that end: four threads share them, each use renews one, and what is over is purged.
 #![tactic(auto)]
 
-use quick_cache_expiring::{Expiring, Lasting, SharedExpiring};
+use quick_cache_expiring::{Refusal, SharedExpiring};
 use std::io;
-use std::convert::Infallible;
+use std::sync::Wait;
+use std::thread::map_indices;
+use std::time::Clock;
+
+/// The sessions: each of a user and its number, with its secret.
+type Sessions = SharedExpiring<(u64, u64), u64>;
+
+/// How many seconds a session lives after its last use.
+const LIFE: u64 = 60;
+
+/// Renews a session and gives its secret, or nothing where it is over.
+fn use_session<R: Wait + Clock>(
+    rt: &R,
+    sessions: &Sessions,
+    id: (u64, u64),
+    second: u64,
+) -> Result<Option<u64>, Refusal> {
+    if !sessions.touch(rt, &id, second, LIFE) {
+        return Ok(None);
+    }
+    sessions.get(rt, &id, second)
+}
+
+/// Opens ten sessions of a user and uses every second one each half minute. It gives how many of
+/// them live after two minutes.
+fn work<R: Wait + Clock>(rt: &R, sessions: &Sessions, user: u64) -> Result<u64, Refusal> {
+    let mut living: u64 = 0;
+    for number in 0..10u64 {
+        let id = (user, number);
+        let opened = sessions.insert(rt, id, 7, 0, LIFE);
+        opened.map_err(|(_, _, refusal)| refusal)?;
+        for second in [30, 60, 90] {
+            if number % 2 == 0 {
+                use_session(rt, sessions, id, second)?;
+            }
+        }
+        if use_session(rt, sessions, id, 120)?.is_some() {
+            living = living.saturating_add(1);
+        }
+    }
+    Ok(living)
+}
 
 fn main(rt: HostRuntime) -> io::Result<()> {
-    let made: Result<Expiring<u64, u64>, _> = Expiring::new(rt.alloc(), 5);
-    let Ok(mut cache) = made else {
-        return println!(rt; "no memory");
-    };
-    for key in 0..4u64 {
-        drop(cache.insert(key, key + 100, key, 10));
+    let sessions: Sessions = SharedExpiring::new(rt.alloc(), 1000)?;
+    let living = map_indices(
+        &rt,
+        rt.alloc(),
+        4,
+        &|user| { work(&rt, &sessions, user as u64) },
+    )?;
+    for count in living {
+        println!(rt; "{} of 10 sessions live", count?)?;
     }
-    for now in [5u64, 9, 10, 12, 15] {
-        let a = cache.get(&0, now).copied();
-        let b = cache.peek(&2, now).copied();
-        let c = cache.touch(&1, now, 3);
-        let d = cache.expires_at(&1);
-        println!(rt; "{now}: {a:?} {b:?} {c} {d:?} {}", cache.len())?;
-    }
-    println!(rt; "{}", cache.purge(20))?;
-    println!(rt; "{:?}", cache.stats())?;
-    let made: Result<SharedExpiring<u64, u64>, _> = SharedExpiring::new(rt.alloc(), 5);
-    let Ok(cache) = made else {
-        return println!(rt; "no memory");
-    };
-    for key in 0..4u64 {
-        drop(cache.insert(&rt, key, key + 100, key, 10));
-    }
-    for now in [5u64, 9, 10, 12, 15] {
-        let a = cache.get(&rt, &0, now);
-        let b = cache.peek(&rt, &2, now);
-        let c = cache.touch(&rt, &1, now, 3);
-        let d = cache.expires_at(&rt, &1);
-        let e: Result<Result<u64, Infallible>, _> = cache.get_or_insert_with(&rt, &7, now, 4, || Ok(now));
-        println!(rt; "{now}: {a:?} {b:?} {c} {d:?} {e:?} {}", cache.len(&rt))?;
-    }
-    println!(rt; "{:?}", cache.stats(&rt))?;
-    println!(rt; "{}", cache.purge(&rt, 20))?;
-    println!(rt; "{} {:?}", cache.len(&rt), cache.stats(&rt))
+    println!(rt; "{} are stored", sessions.len(&rt))?;
+    println!(rt;
+        "{} are over after another minute",
+        sessions.purge(&rt, 180)
+    )?;
+    println!(rt; "{:?}", sessions.stats(&rt))
 }

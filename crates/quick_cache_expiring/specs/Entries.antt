@@ -55,10 +55,10 @@ module _ {K V : Type 0} (stands_for : K → Bool) (now : ℕ) (old : CacheState 
     miss : HasNoItem stands_for old → LooksUpAt None 0 (after_miss old)
 
 module _ {K V We B L : Type 0} (stands_for : K → Bool) (now : ℕ) (old : Entries K V We B L) where
-  -- the entry under the query is over and goes, which is counted
+  -- the entry under the query is over and goes
   pub record Drops (new : Entries K V We B L) : Type 0 where
     pub goes : UpToOrder (DropsOver stands_for now old.cache.state) new.cache.state
-    pub expired : new.expired ≡ counted_up 1 old.expired
+    pub expired : new.expired ≡ old.expired
     pub same : KeepsWork old.cache new.cache
 
   -- a look-up gives this

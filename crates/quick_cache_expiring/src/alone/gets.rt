@@ -55,6 +55,7 @@ impl<K: Eq + Hash, V, We, B: BuildHasher, L, A: Allocator> Expiring<K, V, We, B,
             (λ new. Gets (Q.equivalent query.now) now self.old (option_copied result) new)) }
     {
         if self.drops_over(query, now) {
+            self.expired = self.expired.saturating_add(1);
             return None;
         }
         let lasting = self.cache.get(query)?;
@@ -80,7 +81,6 @@ impl<K: Eq + Hash, V, We, B: BuildHasher, L, A: Allocator> Expiring<K, V, We, B,
             None => return false,
         }
         let _ = self.cache.remove(query);
-        self.expired = self.expired.saturating_add(1);
         true
     }
 }

@@ -67,6 +67,7 @@ impl<
             self.new }
     {
         if self.drops_over(query, now) {
+            self.expired = self.expired.saturating_add(1);
             return false;
         }
         match self.cache.get_mut(query) {

@@ -37,8 +37,14 @@ pub struct SharedExpiring<
     pub(crate) expired: AtomicU64,
 }
 
-impl<K: Eq + Hash + Drop, V: Drop, We, B: BuildHasher, L: Lifecycle<K, Lasting<V>>, A: Allocator>
-    Model for SharedExpiring<K, V, We, B, L, A> {
+impl<
+    K: Eq + Hash + Drop,
+    V: Drop,
+    We,
+    B: BuildHasher,
+    L: Lifecycle<K, Lasting<V>>,
+    A: Allocator,
+> Model for SharedExpiring<K, V, We, B, L, A> {
     ghost use Rattle.quick_cache_sync.specs.Shards.{Division};
 
     ghost Value = { Division B };
@@ -77,8 +83,14 @@ impl<K: Eq + Hash + Drop, V: Drop, A: Allocator> SharedExpiring<
     }
 }
 
-impl<K: Eq + Hash + Drop, V: Drop, We, B: BuildHasher, L: Lifecycle<K, Lasting<V>>, A: Allocator>
-    SharedExpiring<K, V, We, B, L, A> {
+impl<
+    K: Eq + Hash + Drop,
+    V: Drop,
+    We,
+    B: BuildHasher,
+    L: Lifecycle<K, Lasting<V>>,
+    A: Allocator,
+> SharedExpiring<K, V, We, B, L, A> {
     /// An empty cache that is made for so many entries and may hold so much weight. It takes no
     /// lock, and allocates the list of its shards alone.
     ///

@@ -16,8 +16,14 @@ use std::hash::{BuildHasher, Hash};
 use std::sync::Wait;
 use std::sync::atomic::Ordering;
 
-impl<K: Eq + Hash + Drop, V: Clone, We, B: BuildHasher, L: Lifecycle<K, Lasting<V>>, A: Allocator>
-    SharedExpiring<K, V, We, B, L, A> {
+impl<
+    K: Eq + Hash + Drop,
+    V: Clone,
+    We,
+    B: BuildHasher,
+    L: Lifecycle<K, Lasting<V>>,
+    A: Allocator,
+> SharedExpiring<K, V, We, B, L, A> {
     /// Looks the query's key up, and gives a clone of its value where it serves at this moment. The
     /// look takes the read lock of the key's shard, as that of the shared cache does, and a hit or a
     /// miss is counted. Only where the entry is over the write lock is taken, to take it out: that
@@ -107,8 +113,14 @@ impl<K: Eq + Hash + Drop, V: Clone, We, B: BuildHasher, L: Lifecycle<K, Lasting<
     }
 }
 
-impl<K: Eq + Hash + Drop, V: Drop, We, B: BuildHasher, L: Lifecycle<K, Lasting<V>>, A: Allocator>
-    SharedExpiring<K, V, We, B, L, A> {
+impl<
+    K: Eq + Hash + Drop,
+    V: Drop,
+    We,
+    B: BuildHasher,
+    L: Lifecycle<K, Lasting<V>>,
+    A: Allocator,
+> SharedExpiring<K, V, We, B, L, A> {
     /// Takes the entry under the query's key out where it is over at this moment, and gives it. No
     /// hook is called. It takes the write lock of the key's shard, and no memory.
     pub fn remove_over<Q: Equivalent<K>, R: Wait>(

@@ -95,7 +95,9 @@ impl<
         ensures error { IfOk result (λ loaded. IfErr loaded (λ error. F.post loader (Err error))) }
         ensures refused { IfErr result IsLoadRefusal }
     {
-        let mut looks = |_key: &K, lasting: &mut Lasting<V>| -> EntryAction<Result<Lasting<V>, Refusal>>
+        let mut looks = |_key: &K, lasting: &mut Lasting<V>| -> EntryAction<
+            Result<Lasting<V>, Refusal>,
+        >
             ensures same { lasting.new ≡ lasting.old }
             ensures serves { IfRetain result (λ _. lives lasting.old.until now ≡ true) }
             ensures told { IfRetain result (λ told. IfOk told

@@ -69,15 +69,16 @@ impl<
     }
 }
 
-impl<K: Eq + Hash + Drop, V: Drop, We, B: BuildHasher, L: Lifecycle<K, Lasting<V>>, A: Allocator>
-    SharedExpiring<K, V, We, B, L, A> {
+impl<
+    K: Eq + Hash + Drop,
+    V: Drop,
+    We,
+    B: BuildHasher,
+    L: Lifecycle<K, Lasting<V>>,
+    A: Allocator,
+> SharedExpiring<K, V, We, B, L, A> {
     /// A walk that takes out what is over at this moment, one entry a step. It takes no lock itself.
-    pub fn purging<'a, R: Wait>(
-        &'a self,
-        rt: &'a R,
-        now: u64,
-    ) -> Purge<'a, K, V, We, B, L, R, A>
-    {
+    pub fn purging<'a, R: Wait>(&'a self, rt: &'a R, now: u64) -> Purge<'a, K, V, We, B, L, R, A> {
         Purge {
             entries: self,
             rt,

@@ -58,8 +58,14 @@ impl<
     }
 }
 
-impl<K: Eq + Hash + Drop, V: Drop, We, B: BuildHasher, L: Lifecycle<K, Lasting<V>>, A: Allocator>
-    SharedExpiring<K, V, We, B, L, A> {
+impl<
+    K: Eq + Hash + Drop,
+    V: Drop,
+    We,
+    B: BuildHasher,
+    L: Lifecycle<K, Lasting<V>>,
+    A: Allocator,
+> SharedExpiring<K, V, We, B, L, A> {
     /// Takes the entry under the query's key out, be it over or not, or a ghost of its hash. No hook
     /// is called. It takes the write lock of the key's shard, and no memory.
     pub fn remove<Q: Equivalent<K>, R: Wait>(&self, rt: &R, query: &Q) -> Option<(K, Lasting<V>)>
@@ -106,7 +112,10 @@ impl<
                 → lasting.new ≡ lasting_of lasting.old.value until }
             ensures told { IfToldTrue result (lives lasting.old.until now ≡ true) }
         { renew(lasting, now, until) };
-        match self.cache.entry(rt, query, Some(Duration::ZERO), &mut renews) {
+        match self
+            .cache
+            .entry(rt, query, Some(Duration::ZERO), &mut renews)
+        {
             EntryResult::Retained(lived) => {
                 if !lived {
                     self.expire(rt, query, now);
