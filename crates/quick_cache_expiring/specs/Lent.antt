@@ -10,5 +10,5 @@ module _ (K V We B L A H : RattleType) (equal : K.Denot → K.Denot → Bool)
     (hash_input : K.Denot → List (List ℕ)) (make : builder.Ghosts B.Denot H.Denot)
     (hasher : hasher.Ghosts H.Denot) (alloc : Ghosts A.Denot) where
   abbrev pub row_of : RattleType
-  row_of = the_row K V We B L A H (record { eq = equal }) (record { hash_input = hash_input }) make
-      hasher alloc
+  row_of = the_row K V We B L A H (record {}) (record { eq = equal })
+      (record { hash_input = hash_input }) make hasher alloc

@@ -1,9 +1,10 @@
 //! Looks at entries that may be over.
-ghost use Rattle.std.specs.Prelude.{◌≡◌, option_copied};
+ghost use Rattle.std.specs.Prelude.{◌≡◌, None, option_copied};
 ghost use Rattle.std.specs.Borrow.{sem};
 ghost use Rattle.std.specs.Bool.{OnTrue, OnFalse};
 ghost use Rattle.quick_cache_model.specs.Lookups.{Sees};
-ghost use Rattle.quick_cache_expiring.specs.Entries.{Drops, Gets, HasNoneOver, Shows};
+ghost use Rattle.quick_cache_shard.specs.Shard.{IsSoundShard};
+ghost use Rattle.quick_cache_expiring.specs.Entries.{Drops, Gets, HasNoneOver, HasOver, Shows};
 
 use crate::alone::expiring::Expiring;
 use quick_cache_model::Equivalent;
@@ -54,12 +55,29 @@ impl<K: Eq + Hash, V, We, B: BuildHasher, L, A: Allocator> Expiring<K, V, We, B,
         ensures* gets { sem 𝓛 (ends_so ⟦<Self as Rowed>⟧.lender_row self.entry
             (λ new. Gets (Q.equivalent query.now) now self.old (option_copied result) new)) }
     {
-        if self.drops_over(query, now) {
-            self.expired = self.expired.saturating_add(1);
+        if self.expires(query, now) {
             return None;
         }
         let lasting = self.cache.get(query)?;
         Some(&lasting.value)
+    }
+
+    /// Takes the entry under the query's key out where it is over, counts that, and tells whether it
+    /// was.
+    pub(crate) fn expires<Q: Equivalent<K>>(&mut self, query: &Q, now: u64) -> bool
+    where
+        K: Drop,
+        V: Drop,
+        ensures gets { OnTrue result (Gets (Q.equivalent query.now) now self.old None self.new) }
+        ensures same { OnFalse result (self.new ≡ self.old) }
+        ensures none { OnFalse result
+            (HasNoneOver (Q.equivalent query.now) now self.old.cache.state) }
+    {
+        if self.drops_over(query, now) {
+            self.expired = self.expired.saturating_add(1);
+            return true;
+        }
+        false
     }
 
     /// Takes the entry under the query's key out where it is over, and tells whether it was.
@@ -72,15 +90,26 @@ impl<K: Eq + Hash, V, We, B: BuildHasher, L, A: Allocator> Expiring<K, V, We, B,
         ensures none { OnFalse result
             (HasNoneOver (Q.equivalent query.now) now self.old.cache.state) }
     {
-        match self.cache.peek(query) {
-            Some(lasting) => {
-                if lasting.lives(now) {
-                    return false;
-                }
-            }
-            None => return false,
+        if !self.is_over(query, now) {
+            return false;
         }
         let _ = self.cache.remove(query);
+        true
+    }
+
+    /// Whether the entry under the query's key is over.
+    fn is_over<Q: Equivalent<K>>(&self, query: &Q, now: u64) -> bool
+        ensures over { OnTrue result (HasOver (Q.equivalent query.now) now self.now.cache.state) }
+        ensures none { OnFalse result
+            (HasNoneOver (Q.equivalent query.now) now self.now.cache.state) }
+        ensures sound { IsSoundShard K.eq self.now.cache }
+    {
+        let Some(lasting) = self.cache.peek(query) else {
+            return false;
+        };
+        if lasting.lives(now) {
+            return false;
+        }
         true
     }
 }

@@ -6,6 +6,7 @@ ghost use Rattle.quick_cache_shard.specs.Shard.{KeepsWork, UpToOrder};
 ghost use Rattle.quick_cache_expiring.specs.Lives.{lives};
 
 use crate::alone::expiring::Expiring;
+use crate::lasting::Lasting;
 use std::alloc::Allocator;
 use std::hash::{BuildHasher, Hash};
 
@@ -30,7 +31,11 @@ impl<K: Eq + Hash + Drop, V: Drop, We, B: BuildHasher, L, A: Allocator> Expiring
         ensures expired { self.new.expired ≡ self.old.expired }
     {
         let before = self.cache.len();
-        self.cache.retain(|_key, lasting| lasting.lives(now));
+        self.cache.retain(
+            |_key: &K, lasting: &Lasting<V>| -> bool
+                ensures lives { result ≡ lives lasting.now.until now }
+            { lasting.lives(now) },
+        );
         before.saturating_sub(self.cache.len())
     }
 }

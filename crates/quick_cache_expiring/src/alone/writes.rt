@@ -66,17 +66,16 @@ impl<
             self.old.cache) (Q.equivalent query.now) now (end_of now life) self.old result
             self.new }
     {
-        if self.drops_over(query, now) {
-            self.expired = self.expired.saturating_add(1);
+        if self.expires(query, now) {
             return false;
         }
-        match self.cache.get_mut(query) {
-            Some(mut lasting) => {
-                lasting.until = end_of(now, life);
-                true
-            }
-            None => false,
-        }
+        let until = end_of(now, life);
+        let Some(mut lasting) = self.cache.get_mut(query) else {
+            return false;
+        };
+        lasting.until = until;
+        drop(lasting);
+        true
     }
 }
 

@@ -48,15 +48,16 @@ impl<
             (Serves L.fits (Q.equivalent query.now) now)) }
         ensures succeeds { ((value : V) → V.is_infallible value) → IsOk result }
     {
-        match self.cache.get(rt, query)? {
-            Some(lasting) => {
+        match self.cache.get(rt, query) {
+            Ok(Some(lasting)) => {
                 if lasting.lives(now) {
                     return Ok(Some(lasting.value));
                 }
                 self.expire(rt, query, now);
                 Ok(None)
             }
-            None => Ok(None),
+            Ok(None) => Ok(None),
+            Err(refusal) => Err(refusal),
         }
     }
 
@@ -80,14 +81,15 @@ impl<
             (Serves L.fits (Q.equivalent query.now) now)) }
         ensures succeeds { ((value : V) → V.is_infallible value) → IsOk result }
     {
-        match self.cache.peek(rt, query)? {
-            Some(lasting) => {
+        match self.cache.peek(rt, query) {
+            Ok(Some(lasting)) => {
                 if lasting.lives(now) {
                     return Ok(Some(lasting.value));
                 }
                 Ok(None)
             }
-            None => Ok(None),
+            Ok(None) => Ok(None),
+            Err(refusal) => Err(refusal),
         }
     }
 
@@ -106,9 +108,10 @@ impl<
             (λ (shard : Shard K (Lasting V) (ByValue We) B L).
             TellsEnd (Q.equivalent query.now) shard.state result) }
     {
-        match self.cache.peek(rt, query)? {
-            Some(lasting) => Ok(Some(lasting.until)),
-            None => Ok(None),
+        match self.cache.peek(rt, query) {
+            Ok(Some(lasting)) => Ok(Some(lasting.until)),
+            Ok(None) => Ok(None),
+            Err(refusal) => Err(refusal),
         }
     }
 }
