@@ -2,4 +2,5 @@ pub mod Lives
 pub mod Lastings
 pub mod Entries
 pub mod Lent
+pub mod Loads
 pub mod Shared

@@ -2,5 +2,6 @@
 
 pub mod expiring;
 pub mod gets;
+pub mod loads;
 pub mod purging;
 pub mod writes;
