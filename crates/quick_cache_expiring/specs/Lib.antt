@@ -3,4 +3,3 @@ pub mod Lastings
 pub mod Entries
 pub mod Lent
 pub mod Loads
-pub mod Shared

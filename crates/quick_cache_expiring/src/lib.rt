@@ -5,11 +5,8 @@
 mod alone;
 mod by_value;
 mod lasting;
-mod shared;
 
 pub use alone::expiring::Expiring;
 pub use by_value::ByValue;
 pub use lasting::{Lasting, Stats, end_of};
 pub use quick_cache_model::Refusal;
-pub use shared::expiring::SharedExpiring;
-pub use shared::purging::Purge;

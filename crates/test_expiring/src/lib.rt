@@ -1,7 +1,5 @@
-//! Tests of caches whose entries end: rows of moments, and threads.
+//! Tests of a cache whose entries end, by rows of moments.
 #![tactic(auto)]
 
 #[cfg(test)]
 mod rows;
-#[cfg(test)]
-mod storm;
