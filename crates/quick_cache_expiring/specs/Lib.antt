@@ -1,0 +1,5 @@
+pub mod Lives
+pub mod Lastings
+pub mod Entries
+pub mod Lent
+pub mod Loads

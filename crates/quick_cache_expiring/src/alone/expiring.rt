@@ -1,0 +1,136 @@
+//! A cache for one thread whose entries end.
+ghost use Rattle.std.specs.Prelude.{◌≡◌, ◌^◌, ◌-◌, min, IfOk, IfErr, IsOk};
+ghost use Rattle.quick_cache_model.specs.declared.refusal.Refusal.TheVariants.{Memory};
+ghost use Rattle.quick_cache_model.specs.CacheState.{empty_state, item_count};
+ghost use Rattle.quick_cache_model.specs.Sizes.{hot_target_of, ghost_limit_of, default_hot_share, default_ghost_share};
+ghost use Rattle.quick_cache_model.specs.Touches.{counted_up};
+
+use crate::by_value::ByValue;
+use crate::lasting::{Lasting, Stats};
+use quick_cache_model::{DefaultHashBuilder, Refusal, UnitWeighter};
+use quick_cache_unsync::{Cache, DefaultLifecycle};
+use std::alloc::{Allocator, Global};
+use std::hash::{BuildHasher, Hash};
+use std::marker::Model;
+
+/// A cache for one thread whose entries end: each has its end, and serves at the moments below it.
+///
+/// A moment is any number that its users agree on, as the seconds since some day. The weigher sees
+/// key and value alone; the lifecycle sees the value with its end.
+#[derive(Drop)]
+pub struct Expiring<
+    K: Eq + Hash,
+    V,
+    We = UnitWeighter,
+    B: BuildHasher = DefaultHashBuilder,
+    L = DefaultLifecycle<K, Lasting<V>>,
+    A: Allocator = Global,
+> {
+    pub(crate) cache: Cache<K, Lasting<V>, ByValue<We>, B, L, A>,
+    // How many looks found what was over.
+    pub(crate) expired: u64,
+}
+
+impl<K: Eq + Hash, V, We, B: BuildHasher, L, A: Allocator> Model for Expiring<K, V, We, B, L, A> {
+    ghost use Rattle.quick_cache_expiring.specs.Entries.{Entries};
+
+    ghost Value = { Entries K V We B L };
+
+    ghost view = { λ entries. record { cache = entries.cache; expired = entries.expired } };
+}
+
+impl<K: Eq + Hash, V, A: Allocator> Expiring<
+    K,
+    V,
+    UnitWeighter,
+    DefaultHashBuilder,
+    DefaultLifecycle<K, Lasting<V>>,
+    A,
+> {
+    /// An empty cache for so many entries, each of weight 1, with all defaults. It allocates
+    /// nothing.
+    ///
+    /// # Errors
+    ///
+    /// `Memory` where the allocator could not be cloned.
+    pub fn new(alloc: A, items: usize) -> Result<Self, Refusal>
+    where
+        A: Clone,
+        ensures makes { IfOk result (λ made. made.cache.state ≡ empty_state items
+            (hot_target_of items default_hot_share) (ghost_limit_of items default_ghost_share)) }
+        ensures none { IfOk result (λ made. made.expired ≡ 0) }
+        ensures succeeds { A.is_infallible alloc → IsOk result }
+        ensures refused { IfErr result (λ refusal. refusal ≡ Memory) }
+    {
+        Expiring::with(
+            alloc,
+            items,
+            items as u64,
+            UnitWeighter,
+            DefaultHashBuilder::new(),
+            DefaultLifecycle::new(),
+        )
+    }
+}
+
+impl<K: Eq + Hash, V, We, B: BuildHasher, L, A: Allocator> Expiring<K, V, We, B, L, A> {
+    /// An empty cache that is made for so many entries and may hold so much weight. It allocates
+    /// nothing.
+    ///
+    /// # Errors
+    ///
+    /// `Memory` where the allocator could not be cloned.
+    pub fn with(
+        alloc: A,
+        items: usize,
+        weight: u64,
+        weigher: We,
+        builder: B,
+        lifecycle: L,
+    ) -> Result<Self, Refusal>
+    where
+        A: Clone,
+        We: Drop,
+        B: Drop,
+        L: Drop,
+        ensures makes { IfOk result (λ made. made.cache.state ≡ empty_state weight
+            (hot_target_of weight default_hot_share) (ghost_limit_of items default_ghost_share)) }
+        ensures weigher { IfOk result (λ made. made.cache.weigher.weigher ≡ weigher) }
+        ensures builder { IfOk result (λ made. made.cache.builder ≡ builder) }
+        ensures lifecycle { IfOk result (λ made. made.cache.lifecycle ≡ lifecycle) }
+        ensures none { IfOk result (λ made. made.expired ≡ 0) }
+        ensures succeeds { A.is_infallible alloc → IsOk result }
+        ensures refused { IfErr result (λ refusal. refusal ≡ Memory) }
+    {
+        let weigher = ByValue { weigher };
+        let cache = Cache::with(alloc, items, weight, weigher, builder, lifecycle)?;
+        Ok(Expiring { cache, expired: 0 })
+    }
+
+    /// The cache of the values with their ends, for reading: its weight, its entries, its memory.
+    pub fn cache(&self) -> &Cache<K, Lasting<V>, ByValue<We>, B, L, A>
+        ensures { result.now ≡ self.now.cache }
+    {
+        &self.cache
+    }
+
+    /// How many entries there are, those that are over too.
+    pub fn len(&self) -> usize
+        ensures { result ≡ item_count self.now.cache.state }
+    {
+        self.cache.len()
+    }
+
+    /// What the looks found.
+    pub fn stats(&self) -> Stats
+        ensures hits { result.hits ≡ self.now.cache.state.hits }
+        ensures misses { result.misses ≡ counted_up self.now.expired self.now.cache.state.misses }
+        ensures expired { result.expired ≡ self.now.expired }
+    {
+        Stats {
+            hits: self.cache.hits(),
+            misses: self.cache.misses().saturating_add(self.expired),
+            expired: self.expired,
+        }
+    }
+}

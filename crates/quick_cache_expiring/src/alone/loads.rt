@@ -1,0 +1,60 @@
+//! Values that a loader gives where none serves.
+ghost use Rattle.std.specs.Prelude.{◌≡◌, true};
+ghost use Rattle.quick_cache_model.specs.Hashing.{hash_of};
+ghost use Rattle.quick_cache_expiring.specs.Lives.{end_of};
+ghost use Rattle.quick_cache_expiring.specs.Loads.{GivesWithEnd, LoadsAt};
+
+use crate::alone::expiring::Expiring;
+use crate::by_value::ByValue;
+use crate::lasting::{Lasting, end_of};
+use quick_cache_model::{Lifecycle, Refusal, ToKey, Weighter};
+use quick_cache_shard::Going;
+use quick_cache_unsync::Cache;
+use std::alloc::Allocator;
+use std::hash::{BuildHasher, Hash};
+
+impl<
+    K: Eq + Hash + Drop,
+    V: Drop,
+    We: Weighter<K, V>,
+    B: BuildHasher,
+    L: Lifecycle<K, Lasting<V>>,
+    A: Allocator,
+> Expiring<K, V, We, B, L, A> {
+    /// Looks the query's key up, as `get` does. Where nothing serves, calls the loader and stores
+    /// its value from this moment on, for so long. What is over is taken out first. The answer tells
+    /// whether an entry of the key is there when the call returns.
+    ///
+    /// # Errors
+    ///
+    /// The inner one is the loader's, and leaves nothing. The outer one is a refusal, which comes
+    /// before the loader is called: `TicketsSpent`, `SlotsFull` or `Memory`.
+    pub fn load<Q: ToKey<K>, E, F: FnOnce() -> Result<V, E>>(
+        &mut self,
+        query: &Q,
+        now: u64,
+        life: u64,
+        loader: F,
+    ) -> Result<Result<bool, E>, Refusal>
+        requires stands { (key : K) → Q.to_key_gives query.now key
+            → Q.equivalent query.now key ≡ true }
+        requires loader { F.pre loader }
+        ensures loads { LoadsAt ⟦<Cache<K, Lasting<V>, ByValue<We>, B, L, A> as Going>⟧.goes
+            L.RequestState.is_default (Q.equivalent query.now) (Q.to_key_gives query.now)
+            (λ builder. hash_of B.BuildHasher B.Hasher.Hasher builder (Q.hash_input query.now))
+            now (end_of now life) (F.post loader) self.old result self.new }
+    {
+        let until = end_of(now, life);
+        self.drops_over(query, now);
+        let lasts = || -> Result<Lasting<V>, E>
+            requires { F.pre loader }
+            ensures { GivesWithEnd (F.post loader) until result }
+        {
+            match loader() {
+                Ok(value) => Ok(Lasting { value, until }),
+                Err(error) => Err(error),
+            }
+        };
+        self.cache.load(query, lasts)
+    }
+}

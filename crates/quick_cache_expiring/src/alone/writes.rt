@@ -1,0 +1,103 @@
+//! Entries that are written with an end, renewed, and removed.
+ghost use Rattle.std.specs.Prelude.{◌≡◌, ◌+◌, ◌≤◌, IfErr};
+ghost use Rattle.quick_cache_model.specs.declared.refusal.Refusal.TheVariants.{Memory};
+ghost use Rattle.quick_cache_model.specs.Hashing.{hash_of};
+ghost use Rattle.quick_cache_model.specs.Removal.{Removes};
+ghost use Rattle.quick_cache_shard.specs.Alone.{IsDoneAlone};
+ghost use Rattle.quick_cache_shard.specs.Shard.{KeepsTerms, KeepsWork, UpToOrder, WorksAsWrite};
+ghost use Rattle.quick_cache_shard.specs.Steps.{InsertsBy, rules_in};
+ghost use Rattle.quick_cache_unsync.specs.Touches.{no_touches};
+ghost use Rattle.quick_cache_expiring.specs.Lives.{end_of};
+ghost use Rattle.quick_cache_expiring.specs.Entries.{Touches};
+ghost use Rattle.quick_cache_expiring.specs.Lastings.{lasting_of};
+
+use crate::alone::expiring::Expiring;
+use crate::by_value::ByValue;
+use crate::lasting::{Lasting, end_of};
+use quick_cache_model::{Equivalent, Lifecycle, Refusal, Weighter};
+use quick_cache_shard::Going;
+use quick_cache_unsync::Cache;
+use std::alloc::Allocator;
+use std::hash::{BuildHasher, Hash};
+
+impl<
+    K: Eq + Hash + Drop,
+    V: Drop,
+    We: Weighter<K, V>,
+    B: BuildHasher,
+    L: Lifecycle<K, Lasting<V>>,
+    A: Allocator,
+> Expiring<K, V, We, B, L, A> {
+    /// Inserts a pair that serves from this moment on, for so long, and hands what leaves to the
+    /// lifecycle. One whose end would pass the greatest number is never over.
+    ///
+    /// # Errors
+    ///
+    /// The pair with its end and why: `SlotsFull` or `Memory`, only where nothing stood under its
+    /// key. Nothing changed then, and no hook was called.
+    pub fn insert(
+        &mut self,
+        key: K,
+        value: V,
+        now: u64,
+        life: u64,
+    ) -> Result<(), (K, Lasting<V>, Refusal)>
+        // It is the insert of the value with its end.
+        ensures inserts { IsDoneAlone L.RequestState.is_default
+            (InsertsBy ⟦<Cache<K, Lasting<V>, ByValue<We>, B, L, A> as Going>⟧.goes no_touches
+            self.old.cache K.eq key (lasting_of value (end_of now life)) result self.new.cache) }
+        // It takes room for one entry at most, and asks for memory only where there is no room.
+        ensures room { self.old.cache.room ≤ self.new.cache.room + 1 }
+        ensures asks { IfErr result (λ back. back.2 ≡ Memory → self.old.cache.room ≡ 0) }
+        ensures work { WorksAsWrite self.old.cache self.new.cache }
+        ensures same { KeepsTerms self.old.cache self.new.cache }
+        ensures expired { self.new.expired ≡ self.old.expired }
+    {
+        let until = end_of(now, life);
+        self.cache.insert(key, Lasting { value, until })
+    }
+
+    /// Gives the entry under the query's key a new end, where it serves at this moment: it is then
+    /// as if it had been stored now, for so long. It is a look, as `get` is: the entry is marked
+    /// and read, and one that is over is taken out. It tells whether an entry was renewed.
+    pub fn touch<Q: Equivalent<K>>(&mut self, query: &Q, now: u64, life: u64) -> bool
+        ensures touches { Touches
+            (rules_in ⟦<Cache<K, Lasting<V>, ByValue<We>, B, L, A> as Going>⟧.goes no_touches
+            self.old.cache) (Q.equivalent query.now) now (end_of now life) self.old result
+            self.new }
+    {
+        if self.expires(query, now) {
+            return false;
+        }
+        let until = end_of(now, life);
+        let Some(mut lasting) = self.cache.get_mut(query) else {
+            return false;
+        };
+        lasting.until = until;
+        drop(lasting);
+        true
+    }
+}
+
+impl<K: Eq + Hash + Drop, V: Drop, We, B: BuildHasher, L, A: Allocator> Expiring<
+    K,
+    V,
+    We,
+    B,
+    L,
+    A,
+> {
+    /// Takes the entry under the query's key out, be it over or not, or a ghost of its hash. No hook
+    /// is called, and no memory taken.
+    pub fn remove<Q: Equivalent<K>>(&mut self, query: &Q) -> Option<(K, Lasting<V>)>
+        ensures removes { let hash = hash_of B.BuildHasher B.Hasher.Hasher self.old.cache.builder
+            (Q.hash_input query.now) in
+            UpToOrder (Removes (Q.equivalent query.now) self.old.cache.state hash result)
+            self.new.cache.state }
+        ensures room { self.old.cache.room ≤ self.new.cache.room }
+        ensures same { KeepsWork self.old.cache self.new.cache }
+        ensures expired { self.new.expired ≡ self.old.expired }
+    {
+        self.cache.remove(query)
+    }
+}

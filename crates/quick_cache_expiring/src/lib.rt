@@ -1,0 +1,12 @@
+//! Entries that end: caches whose values serve until a moment of their own, over the public
+//! contracts of the caches alone.
+#![tactic(auto)]
+
+mod alone;
+mod by_value;
+mod lasting;
+
+pub use alone::expiring::Expiring;
+pub use by_value::ByValue;
+pub use lasting::{Lasting, Stats, end_of};
+pub use quick_cache_model::Refusal;

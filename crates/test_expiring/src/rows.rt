@@ -1,0 +1,72 @@
+//! What serves at which moment, and what is renewed, purged and loaded.
+use quick_cache_expiring::{Expiring, Stats};
+use std::convert::Infallible;
+use test_tools::{expect_eq, expect_ok};
+
+/// The moments of a store, its life, and gets: the moment, and whether it serves.
+const LIVES: [(u64, u64, &[(u64, bool)]); 6] = [
+    (5, 10, &[(5, true), (14, true), (15, false), (14, false)]),
+    // A clock that goes back.
+    (5, 10, &[(14, true), (0, true)]),
+    (5, 0, &[(5, false), (4, false)]),
+    (5, u64::MAX, &[(5, true), (u64::MAX, true)]),
+    (u64::MAX, 1, &[(u64::MAX, true)]),
+    (u64::MAX, 0, &[(u64::MAX, true)]),
+];
+
+#[test]
+fn an_entry_serves_below_its_end(rt: HostRuntime) {
+    for (stored, life, gets) in LIVES {
+        let mut entries: Expiring<u64, u64> = expect_ok!(rt; Expiring::new(rt.alloc(), 8));
+        expect_eq!(rt; entries.insert(1, 100, stored, life).is_ok(), true);
+        for (now, serves) in gets {
+            let value = if *serves { Some(100) } else { None };
+            assert_eq!(rt;
+                entries.get(&1, *now).copied(),
+                value,
+                "life {life}, at {now}"
+            );
+        }
+    }
+}
+
+#[test]
+fn what_lives_is_renewed_and_what_is_over_is_purged(rt: HostRuntime) {
+    let mut entries: Expiring<u64, u64> = expect_ok!(rt; Expiring::new(rt.alloc(), 8));
+    for key in 0..4 {
+        expect_eq!(rt; entries.insert(key, key, key, 10).is_ok(), true);
+    }
+    // A key, whether it is renewed at 10, and its end then.
+    for (key, renewed, end) in [(1, true, Some(15)), (0, false, None), (9, false, None)] {
+        let found = (entries.touch(&key, 10, 5), entries.expires_at(&key));
+        expect_eq!(rt; found, (renewed, end));
+    }
+    // The third is over at 12, and the fourth at 13.
+    for (now, gone, left) in [(11, 0, 3), (12, 1, 2), (13, 1, 1), (14, 0, 1), (15, 1, 0)] {
+        assert_eq!(rt;
+            (entries.purge(now), entries.len()),
+            (gone, left),
+            "at {now}"
+        );
+    }
+    let stats = Stats {
+        hits: 1,
+        misses: 2,
+        expired: 1,
+    };
+    expect_eq!(rt; entries.stats(), stats);
+}
+
+#[test]
+fn what_is_over_is_loaded_anew(rt: HostRuntime) {
+    let mut entries: Expiring<u64, u64> = expect_ok!(rt; Expiring::new(rt.alloc(), 8));
+    // A moment, and the value then, which is the moment of its load.
+    for (now, value) in [(5, 5), (14, 5), (15, 15), (24, 15), (25, 25)] {
+        let loader = || -> Result<u64, Infallible> { Ok(now) };
+        expect_eq!(rt; entries.load(&1, now, 10, loader), Ok(Ok(true)));
+        assert_eq!(rt; entries.peek(&1, now).copied(), Some(value), "at {now}");
+    }
+    let failed: Result<u64, u64> = Err(7);
+    expect_eq!(rt; entries.load(&2, 5, 10, || failed), Ok(Err(7)));
+    expect_eq!(rt; (entries.len(), entries.peek(&2, 5).copied()), (1, None));
+}
