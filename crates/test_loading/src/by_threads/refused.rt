@@ -1,12 +1,12 @@
-//! Loads and entry calls that are refused, and entry calls that change weights.
-use quick_cache_guard::{EntryResult, FillError, GuardResult};
+//! Entry calls that are refused, and that change weights.
+use quick_cache_guard::{EntryResult, GuardResult};
 use quick_cache_listeners::ByLength;
 use quick_cache_model::{DefaultHashBuilder, Refusal, UnitWeighter};
 use quick_cache_shard::EntryAction;
 use quick_cache_sync::{Cache, DefaultLifecycle};
 use std::alloc::Global;
 use std::sync::Wait;
-use std::time::{Clock, Duration};
+use std::time::Clock;
 use test_tools::{Rationed, expect, expect_eq, expect_ok};
 
 /// A cache of texts, by their length.
@@ -55,42 +55,6 @@ fn a_hit_asks_for_no_memory(rt: HostRuntime) {
     let loaded: Result<Result<u64, ()>, Refusal> = cache.get_or_insert_with(&rt, &1, || Err(()));
     let found = cache.get_value_or_guard(&rt, &1, None);
     expect!(rt; loaded == Ok(Ok(10)) && matches!(found, GuardResult::Value(10)));
-}
-
-/// A text whose clones take blocks of the ration.
-type RationedText<'a> = String<&'a Rationed<Global>>;
-
-/// A cache of such texts.
-type RationedTexts<'a> = Cache<
-    u64,
-    RationedText<'a>,
-    UnitWeighter,
-    DefaultHashBuilder,
-    DefaultLifecycle<u64, RationedText<'a>>,
-    &'a Rationed<Global>,
->;
-
-#[test]
-fn a_fill_for_which_there_is_no_memory_gives_guard_and_value_back(rt: HostRuntime) {
-    let ration = Rationed::new(rt.alloc(), 1000);
-    let cache: RationedTexts<'_> = expect_ok!(rt; Cache::new(&ration, 100));
-    let GuardResult::Guard(guard) = cache.get_value_or_guard(&rt, &1, None) else {
-        panic!(rt; "the key is absent");
-    };
-    let text = expect_ok!(rt; String::from_str(&ration, "a"));
-    ration.allow(0);
-    let Err(FillError::Memory(guard, text)) = guard.insert(text) else {
-        panic!(rt; "each growth is refused");
-    };
-    expect_eq!(rt; (text.as_str(), cache.contains_key(&rt, &1)), ("a", false));
-    let loading = cache.get_value_or_guard(&rt, &1, Some(Duration::from_millis(0)));
-    expect!(rt; matches!(loading, GuardResult::Timeout));
-    ration.allow(1000);
-    expect!(rt; guard.insert(text).is_ok());
-    let Ok(Some(text)) = cache.get(&rt, &1) else {
-        panic!(rt; "the value was kept");
-    };
-    expect_eq!(rt; text.as_str(), "a");
 }
 
 /// Appends to the text under a key, or clears it where there is nothing to append, and keeps it.
