@@ -15,7 +15,8 @@ use std::hint::spin_loop;
 use std::marker::Model;
 use walk::{Walk, first_position_of, position_on_walk};
 
-// From so many groups on their tags do not stay near, and a look-up reads ahead.
+// The mask from which on there are so many groups that their tags do not stay near: a look-up
+// reads ahead.
 const MANY_GROUPS: usize = 65535;
 
 /// Tokens by hash, each at one place at most.

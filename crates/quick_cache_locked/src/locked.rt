@@ -136,7 +136,7 @@ impl<
     A: Allocator,
 > LockedShard<K, V, We, B, L, A> {
     /// Tells what always holds of it.
-    fn is_kept(&self)
+    fn facts(&self)
         ensures { IsKept L.Lifecycle K.eq self.now }
     {
         self.shard.len();

@@ -242,10 +242,10 @@ impl<K: Eq + Hash, V, We, B: BuildHasher, L, P: SharedPlaceholder<K>, A: Allocat
 
     /// Does nothing: what it promises always holds of a shard.
     #[inline(always)]
-    pub fn validate(&self)
+    pub fn facts(&self)
         ensures { IsSoundShard K.eq self.now }
     {
-        self.contents.lists.apart();
+        self.contents.lists.facts();
     }
 
     /// The value under the query, which is handed in with its hash. A find counts a hit, marks the
@@ -259,7 +259,7 @@ impl<K: Eq + Hash, V, We, B: BuildHasher, L, P: SharedPlaceholder<K>, A: Allocat
             × (new ≡ record self.old { state = new.state }))) }
     {
         let token = self.contents.look_up(hash, query)?;
-        self.contents.lists.apart();
+        self.contents.lists.facts();
         Some(self.contents.lists.item(token).value())
     }
 
@@ -272,7 +272,7 @@ impl<K: Eq + Hash, V, We, B: BuildHasher, L, P: SharedPlaceholder<K>, A: Allocat
             × (new ≡ record self.old { state = new.state }))) }
     {
         let token = self.contents.look_up(hash, query)?;
-        self.contents.lists.apart();
+        self.contents.lists.facts();
         Some(self.contents.lists.item(token).pair())
     }
 
@@ -284,7 +284,7 @@ impl<K: Eq + Hash, V, We, B: BuildHasher, L, P: SharedPlaceholder<K>, A: Allocat
             (option_copied result) }
         ensures sound { IsSoundShard K.eq self.now }
     {
-        self.validate();
+        self.facts();
         let item = self.contents.peek(hash, query)?;
         Some(item.value())
     }
@@ -296,7 +296,7 @@ impl<K: Eq + Hash, V, We, B: BuildHasher, L, P: SharedPlaceholder<K>, A: Allocat
         ensures absent { OnFalse result (HasNoItem (Q.equivalent query.now) self.now.state) }
         ensures sound { IsSoundShard K.eq self.now }
     {
-        self.validate();
+        self.facts();
         self.contents.peek(hash, query).is_some()
     }
 
@@ -309,7 +309,7 @@ impl<K: Eq + Hash, V, We, B: BuildHasher, L, P: SharedPlaceholder<K>, A: Allocat
         ensures absent { OnFalse result (HasNoItem (Q.equivalent query.now) self.now.state) }
         ensures sound { IsSoundShard K.eq self.now }
     {
-        self.validate();
+        self.facts();
         self.contents.peek_from(token, hash, query).is_some()
     }
 }

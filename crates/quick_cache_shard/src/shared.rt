@@ -31,7 +31,7 @@ impl<K: Eq + Hash, V, We, B: BuildHasher, L, P: SharedPlaceholder<K>, A: Allocat
             (option_copied result) }
         ensures sound { IsSoundShard K.eq self.now }
     {
-        self.validate();
+        self.facts();
         let item = self.contents.get_shared(hash, query)?;
         Some(item.value())
     }
@@ -53,7 +53,7 @@ impl<K: Eq + Hash, V, We, B: BuildHasher, L, P: SharedPlaceholder<K>, A: Allocat
         ensures succeeds { ((value : V) → V.is_infallible value) → IsOk result }
         ensures sound { IsSoundShard K.eq self.now }
     {
-        self.validate();
+        self.facts();
         let Some(item) = self.contents.peek(hash, query) else {
             return Ok(None);
         };

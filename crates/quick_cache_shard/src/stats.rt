@@ -36,7 +36,7 @@ impl<K: Eq + Hash, V, We, B: BuildHasher, L, P: SharedPlaceholder<K>, A: Allocat
             (option_map (λ stats. stats.access_count) result) }
         ensures sound { IsSoundShard K.eq self.now }
     {
-        self.validate();
+        self.facts();
         let access_count = self.contents.reads(hash, query)?;
         Some(ItemStats { access_count })
     }

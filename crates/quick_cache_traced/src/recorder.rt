@@ -162,7 +162,7 @@ impl<
     }
 
     /// Tells what always holds of it.
-    fn is_kept(&self)
+    fn facts(&self)
         ensures { IsKept ⟦<Cache<K, V, We, B, L, A> as Going>⟧.goes L.RequestState.is_default K.eq
             K.is_clone V.is_clone self.now }
     {
@@ -183,7 +183,7 @@ impl<
         ensures options { self.new.options ≡ self.old.options }
         ensures same { self.new.cache ≡ record self.old.cache { state = self.new.cache.state } }
     {
-        self.is_kept();
+        self.facts();
         let kept: Result<_, _> = key.clone();
         let Ok(kept) = kept else {
             return Err(Refusal::Memory);
@@ -226,7 +226,7 @@ impl<
         ensures options { self.new.options ≡ self.old.options }
         ensures same { KeepsTerms self.old.cache self.new.cache }
     {
-        self.is_kept();
+        self.facts();
         let kept: Result<_, _> = key.clone();
         let copy: Result<_, _> = value.clone();
         let (Ok(kept), Ok(copy)) = (kept, copy) else {
@@ -261,7 +261,7 @@ impl<
         ensures options { self.new.options ≡ self.old.options }
         ensures same { KeepsWork self.old.cache self.new.cache }
     {
-        self.is_kept();
+        self.facts();
         let kept: Result<_, _> = key.clone();
         let Ok(kept) = kept else {
             return Err(Refusal::Memory);

@@ -51,7 +51,7 @@ impl<
         ensures same { KeepsWork self.old self.new }
         ensures kept { IsKept L.Lifecycle K.eq self.old }
     {
-        self.is_kept();
+        self.facts();
         let hash = self.shard.hash(query);
         self.shard
             .entry_or_placeholder(&self.maker, hash, query, callback)

@@ -40,7 +40,7 @@ impl<
         ensures same { self.new ≡ record self.old { state = self.new.state; room = self.new.room } }
         ensures kept { IsKept L.Lifecycle K.eq self.old }
     {
-        self.is_kept();
+        self.facts();
         let hash = self.shard.hash(query);
         match self.peek(query) {
             Ok(Some(copy)) => {
@@ -85,7 +85,7 @@ impl<
         ensures places { KeepsPlaces K.eq self.old.places self.new.places }
         ensures kept { IsKept L.Lifecycle K.eq self.old }
     {
-        self.is_kept();
+        self.facts();
         // No fact crosses two locks, so the keys are compared again.
         match self.shard.loading_key(placeholder) {
             Some(own) => {
@@ -106,7 +106,7 @@ impl<
         ensures places { LosesOnly self.old.places self.new.places }
         ensures kept { IsKept L.Lifecycle K.eq self.old }
     {
-        self.is_kept();
+        self.facts();
         self.shard.remove_placeholder(placeholder);
     }
 }

@@ -32,7 +32,7 @@ impl<
         ensures succeeds { ((value : V) → V.is_infallible value) → IsOk result }
         ensures kept { IsKept L.Lifecycle K.eq self.now }
     {
-        self.is_kept();
+        self.facts();
         let hash = self.shard.hash(query);
         self.shard.get_clone(hash, query)
     }
@@ -45,7 +45,7 @@ impl<
         ensures succeeds { ((value : V) → V.is_infallible value) → IsOk result }
         ensures kept { IsKept L.Lifecycle K.eq self.now }
     {
-        self.is_kept();
+        self.facts();
         let hash = self.shard.hash(query);
         self.shard.find_clone(hash, query)
     }
@@ -58,7 +58,7 @@ impl<
         ensures succeeds { ((value : V) → V.is_infallible value) → IsOk result }
         ensures kept { IsKept L.Lifecycle K.eq self.now }
     {
-        self.is_kept();
+        self.facts();
         let hash = self.shard.hash(query);
         match self.shard.peek(hash, query) {
             None => Ok(None),
@@ -84,7 +84,7 @@ impl<
         ensures absent { OnFalse result (HasNoItem (Q.equivalent query.now) self.now.state) }
         ensures kept { IsKept L.Lifecycle K.eq self.now }
     {
-        self.is_kept();
+        self.facts();
         let hash = self.shard.hash(query);
         self.shard.contains(hash, query)
     }
@@ -96,7 +96,7 @@ impl<
             stats.access_count) }
         ensures kept { IsKept L.Lifecycle K.eq self.now }
     {
-        self.is_kept();
+        self.facts();
         let hash = self.shard.hash(query);
         self.shard.item_stats(hash, query)
     }
@@ -106,7 +106,7 @@ impl<
         ensures shows { Shows count self.now.state result }
         ensures kept { IsKept L.Lifecycle K.eq self.now }
     {
-        self.is_kept();
+        self.facts();
         match count {
             Count::Items => self.shard.len() as u64,
             Count::Weight => self.shard.weight(),

@@ -33,7 +33,7 @@ impl<
         ensures same { KeepsWork self.old self.new }
         ensures kept { IsKept L.Lifecycle K.eq self.old }
     {
-        self.is_kept();
+        self.facts();
         let hash = self.shard.hash(query);
         self.shard.remove(hash, query)
     }
@@ -53,7 +53,7 @@ impl<
         ensures same { KeepsWork self.old self.new }
         ensures kept { IsKept L.Lifecycle K.eq self.old }
     {
-        self.is_kept();
+        self.facts();
         let hash = self.shard.hash(query);
         self.shard.remove_if(hash, query, wanted)
     }
@@ -66,7 +66,7 @@ impl<
         ensures same { KeepsWork self.old self.new }
         ensures kept { IsKept L.Lifecycle K.eq self.old }
     {
-        self.is_kept();
+        self.facts();
         self.shard.retain(keep);
     }
 
@@ -77,7 +77,7 @@ impl<
         ensures same { KeepsWork self.old self.new }
         ensures kept { IsKept L.Lifecycle K.eq self.old }
     {
-        self.is_kept();
+        self.facts();
         self.shard.clear();
     }
 }

@@ -28,7 +28,7 @@ impl<
         ensures same { self.new ≡ record self.old { room = self.new.room } }
         ensures kept { IsKept L.Lifecycle K.eq self.old }
     {
-        self.is_kept();
+        self.facts();
         self.shard.reserve(additional)
     }
 }

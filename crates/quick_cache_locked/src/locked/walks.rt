@@ -30,7 +30,7 @@ impl<
             (λ found. IfSome found (λ shown. L.fits shown.1 shown.2)) }
         ensures kept { IsKept L.Lifecycle K.eq self.now }
     {
-        self.is_kept();
+        self.facts();
         let mut walk = self.shard.iter_from(after);
         match walk.next() {
             None => Ok(None),
@@ -63,7 +63,7 @@ impl<
         ensures same { KeepsWork self.old self.new }
         ensures kept { IsKept L.Lifecycle K.eq self.old }
     {
-        self.is_kept();
+        self.facts();
         self.shard.remove_next(after)
     }
 }

@@ -35,7 +35,7 @@ impl<
         ensures same { KeepsTerms self.old self.new }
         ensures kept { IsKept L.Lifecycle K.eq self.old }
     {
-        self.is_kept();
+        self.facts();
         let hash = self.shard.hash(&key);
         match self
             .shard
@@ -65,7 +65,7 @@ impl<
         ensures same { KeepsTerms self.old self.new }
         ensures kept { IsKept L.Lifecycle K.eq self.old }
     {
-        self.is_kept();
+        self.facts();
         let hash = self.shard.hash(&key);
         let strategy = InsertStrategy::Replace { soft };
         match self.shard.insert(state, hash, key, value, strategy) {
@@ -83,7 +83,7 @@ impl<
         ensures same { KeepsTerms self.old self.new }
         ensures kept { IsKept L.Lifecycle K.eq self.old }
     {
-        self.is_kept();
+        self.facts();
         self.shard.set_capacity(capacity, state);
     }
 }

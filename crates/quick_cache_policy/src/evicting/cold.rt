@@ -55,12 +55,12 @@ impl<K: Eq + Hash + Drop, V: Drop, P: SharedPlaceholder<K>, A: Allocator> Conten
           lists = record self.old.lists { cold = self.new.lists.cold };
         } }
     {
-        self.lists.apart();
+        self.lists.facts();
         let Some(token) = self.lists.first(Queue::Cold) else {
             unreachable!();
         };
         self.take_touches(token);
-        self.lists.apart();
+        self.lists.facts();
         let item = self.lists.item(token);
         if item.mark() > 0 {
             return Search::Marked;

@@ -41,7 +41,7 @@ impl<K: Eq + Hash + Drop, V: Drop, P: SharedPlaceholder<K>, A: Allocator> Conten
         requires { HasItemToken self.old.lists (number token) }
         ensures { HasTakenTouches P.Touch.may_count (number token) self.old self.new }
     {
-        self.lists.apart();
+        self.lists.facts();
         let count = self.lists.take_touch(token);
         if count == 0 {
             return;
@@ -85,10 +85,10 @@ impl<K: Eq + Hash + Drop, V: Drop, P: SharedPlaceholder<K>, A: Allocator> Conten
             unreachable!();
         };
         if takes_touches {
-            self.lists.apart();
+            self.lists.facts();
             self.take_touches(token);
         }
-        self.lists.apart();
+        self.lists.facts();
         self.visit(token, terms)
     }
 

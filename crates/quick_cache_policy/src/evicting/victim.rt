@@ -56,7 +56,7 @@ impl<K: Eq + Hash + Drop, V: Drop, P: SharedPlaceholder<K>, A: Allocator> Conten
         let Some(token) = self.lists.first(Queue::Hot) else {
             unreachable!();
         };
-        self.lists.apart();
+        self.lists.facts();
         let slot = self.lists.take(token, false);
         let hash = slot.hash;
         match slot.entry {
@@ -89,10 +89,10 @@ impl<K: Eq + Hash + Drop, V: Drop, P: SharedPlaceholder<K>, A: Allocator> Conten
         let Some(token) = self.lists.first(Queue::Cold) else {
             unreachable!();
         };
-        self.lists.apart();
+        self.lists.facts();
         match decide(self.lists.bury(token), terms, state) {
             Fate::Stays(item) => {
-                self.lists.apart();
+                self.lists.facts();
                 let _ = self.lists.replace(token, false, Entry::Item(item));
             }
             Fate::Leaves(key, value) => {
@@ -143,7 +143,7 @@ impl<K: Eq + Hash + Drop, V: Drop, P: SharedPlaceholder<K>, A: Allocator> Conten
         let Some(oldest) = self.lists.oldest_ghost() else {
             unreachable!();
         };
-        self.lists.apart();
+        self.lists.facts();
         self.lists.forget_first(oldest);
         self.lists.bring_oldest_ghost_near();
     }
@@ -159,7 +159,7 @@ impl<K: Eq + Hash + Drop, V: Drop, P: SharedPlaceholder<K>, A: Allocator> Conten
         let Some(token) = self.lists.first(Queue::Cold) else {
             unreachable!();
         };
-        self.lists.apart();
+        self.lists.facts();
         let item = self.lists.item(token);
         let mark = item.mark().saturating_sub(1);
         let weight = item.weight();

@@ -28,7 +28,7 @@ impl<K: Eq + Hash, V, P: SharedPlaceholder<K>, A: Allocator> Contents<K, V, P, A
         ensures there { (key : K) × Contains (places_of self.new.lists) (number token, key) }
         ensures stays { KeepsEntries P.ticket_of K.eq (M.hashed terms.now) self.old self.new }
     {
-        self.lists.apart();
+        self.lists.facts();
         let item = self.lists.item(token);
         let weight = terms.weigh(item.key(), item.value());
         self.lists.reweigh(token, weight);

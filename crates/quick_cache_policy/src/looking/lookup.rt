@@ -84,7 +84,7 @@ impl<K: Eq + Hash, V, P: SharedPlaceholder<K>, A: Allocator> Contents<K, V, P, A
           hits = self.new.hits;
         } }
     {
-        self.lists.apart();
+        self.lists.facts();
         let item = self.lists.item(token);
         let mark = item.mark();
         // A full mark is not written again: most look-ups meet one, and write one number of a slot.
@@ -112,7 +112,7 @@ impl<K: Eq + Hash, V, P: SharedPlaceholder<K>, A: Allocator> Contents<K, V, P, A
         ensures room { self.old.lists.room ≤ self.new.lists.room }
         ensures same { self.new ≡ record self.old { lists = self.new.lists } }
     {
-        self.lists.apart();
+        self.lists.facts();
         match self.find_by_key(hash, query) {
             Found::Item(token) => {
                 let slot = self.lists.take_found(hash, token);

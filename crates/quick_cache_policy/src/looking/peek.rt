@@ -25,7 +25,7 @@ impl<K: Eq + Hash, V, P: SharedPlaceholder<K>, A: Allocator> Contents<K, V, P, A
             (HasNoItem (Q.equivalent query.now) (state_of P.ticket_of self.now))
             (λ item. IsThere (Q.equivalent query.now) (state_of P.ticket_of self.now) item) }
     {
-        self.lists.apart();
+        self.lists.facts();
         let Some(token) = self.find_item(hash, query) else {
             return None;
         };
@@ -78,7 +78,7 @@ impl<K: Eq + Hash, V, P: SharedPlaceholder<K>, A: Allocator> Contents<K, V, P, A
             (λ item. IsItemOf self.now.lists (number token) item
             × (Q.equivalent query.now item.key ≡ true)) }
     {
-        self.lists.apart();
+        self.lists.facts();
         let Some(item) = self.lists.item_at(token) else {
             return None;
         };

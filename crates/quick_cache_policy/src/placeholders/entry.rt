@@ -41,7 +41,7 @@ impl<K: Eq + Hash + Drop, V: Drop, P: SharedPlaceholder<K>, A: Allocator> Conten
         ensures room { self.new.lists.room ≡ self.old.lists.room }
         ensures same { self.new ≡ record self.old { lists = self.new.lists } }
     {
-        self.lists.apart();
+        self.lists.facts();
         self.lists.show(token, callback)
     }
 
@@ -51,7 +51,7 @@ impl<K: Eq + Hash + Drop, V: Drop, P: SharedPlaceholder<K>, A: Allocator> Conten
         requires { HasItemToken self.old.lists (number token) }
         ensures { TakesWeighed (M.weight_of terms.now) self.old (number token) result self.new }
     {
-        self.lists.apart();
+        self.lists.facts();
         let item = self.lists.item(token);
         let queue = item.queue();
         let weight = terms.weigh(item.key(), item.value());
@@ -113,7 +113,7 @@ impl<K: Eq + Hash + Drop, V: Drop, P: SharedPlaceholder<K>, A: Allocator> Conten
           next_ticket = self.new.next_ticket;
         } }
     {
-        self.lists.apart();
+        self.lists.facts();
         if self.next_ticket == u64::MAX {
             self.weigh_item(token, hash, query, terms);
             return Err(Refusal::TicketsSpent);
@@ -151,7 +151,7 @@ impl<K: Eq + Hash + Drop, V: Drop, P: SharedPlaceholder<K>, A: Allocator> Conten
             (state_of P.ticket_of self.new) }
         ensures stays { LosesEntries P.ticket_of K.eq (M.hashed terms.now) self.old self.new }
     {
-        self.lists.apart();
+        self.lists.facts();
         let (pair, _) = self.take_weighed(token, terms);
         pair
     }

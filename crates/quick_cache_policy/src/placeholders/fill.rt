@@ -67,7 +67,7 @@ impl<K: Eq + Hash + Drop, V: Drop, P: SharedPlaceholder<K>, A: Allocator> Conten
             self.old self.new }
     {
         self.facts();
-        self.lists.apart();
+        self.lists.facts();
         let awaited = self.lists.awaited(token);
         let otherwise = awaited.queue();
         match self.admit(terms, state, awaited.key(), value) {
@@ -141,7 +141,7 @@ impl<K: Eq + Hash + Drop, V: Drop, P: SharedPlaceholder<K>, A: Allocator> Conten
             (λ key. AwaitsKey (P.own_ticket placeholder.now) (state_of P.ticket_of self.now)
             key.now) }
     {
-        self.lists.apart();
+        self.lists.facts();
         let named = placeholder.idx();
         let Some(token) = self
             .lists
@@ -164,7 +164,7 @@ impl<K: Eq + Hash + Drop, V: Drop, P: SharedPlaceholder<K>, A: Allocator> Conten
         ensures room { self.old.lists.room ≤ self.new.lists.room }
         ensures same { self.new ≡ record self.old { lists = self.new.lists } }
     {
-        self.lists.apart();
+        self.lists.facts();
         let named = placeholder.idx();
         let Some(token) = self
             .lists

@@ -129,7 +129,7 @@ impl<K: Eq + Hash + Drop, V: Drop, P: SharedPlaceholder<K>, A: Allocator> Conten
         if self.next_ticket == u64::MAX {
             return Err(Refusal::TicketsSpent);
         }
-        self.lists.apart();
+        self.lists.facts();
         let (awaited, placeholder) = self.await_key(maker, token, hash, query, Queue::Hot)?;
         let _ = self.lists.replace(token, false, Entry::Loading(awaited));
         self.count_made();
@@ -145,7 +145,7 @@ impl<K: Eq + Hash + Drop, V: Drop, P: SharedPlaceholder<K>, A: Allocator> Conten
             (state_of P.ticket_of self.new) }
         ensures same { self.new ≡ record self.old { hits = self.new.hits } }
     {
-        self.lists.apart();
+        self.lists.facts();
         let placeholder = P::met(self.lists.awaited(token).placeholder(), hash, token);
         self.hits = self.hits.saturating_add(1);
         placeholder

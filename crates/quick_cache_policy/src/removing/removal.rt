@@ -35,7 +35,7 @@ impl<K: Eq + Hash, V, P: SharedPlaceholder<K>, A: Allocator> Contents<K, V, P, A
         ensures room { self.old.lists.room ≤ self.new.lists.room }
         ensures same { self.new ≡ record self.old { lists = self.new.lists } }
     {
-        self.lists.apart();
+        self.lists.facts();
         let Some(token) = self.find_item(hash, query) else {
             return None;
         };
@@ -62,7 +62,7 @@ impl<K: Eq + Hash, V, P: SharedPlaceholder<K>, A: Allocator> Contents<K, V, P, A
         self.lists.numbered();
         let mut at = None;
         while let Some(token) = self.lists.first_above(at) {
-            self.lists.apart();
+            self.lists.facts();
             let (key, value) = self.lists.item(token).pair();
             if !keep(key, value) {
                 let _ = self.take_item(token);

@@ -37,7 +37,7 @@ impl<K: Eq + Hash, V, P: SharedPlaceholder<K>, A: Allocator> Contents<K, V, P, A
         ensures room { self.old.lists.room ≤ self.new.lists.room }
         ensures same { self.new ≡ record self.old { lists = self.new.lists } }
     {
-        self.lists.apart();
+        self.lists.facts();
         if self.lists.item_at(token).is_some() {
             return Some(self.take_item(token));
         }
@@ -59,7 +59,7 @@ impl<K: Eq + Hash, V, P: SharedPlaceholder<K>, A: Allocator> Contents<K, V, P, A
         ensures room { self.old.lists.room ≤ self.new.lists.room }
         ensures same { self.new ≡ record self.old { lists = self.new.lists } }
     {
-        self.lists.apart();
+        self.lists.facts();
         let Some(token) = self.lists.first_above(after) else {
             return None;
         };
@@ -80,7 +80,7 @@ impl<K: Eq + Hash, V, P: SharedPlaceholder<K>, A: Allocator> Contents<K, V, P, A
         ensures room { self.old.lists.room ≤ self.new.lists.room }
         ensures same { self.new ≡ record self.old { lists = self.new.lists } }
     {
-        self.lists.apart();
+        self.lists.facts();
         let token = self.token_above(after)?;
         Some((token, self.take_item(token)))
     }
@@ -104,7 +104,7 @@ impl<K: Eq + Hash, V, P: SharedPlaceholder<K>, A: Allocator> Contents<K, V, P, A
         ensures takes { TakesToken self.old (number token) result self.new }
         ensures sound { KeepsSound P.ticket_of K.eq self.old self.new }
     {
-        self.lists.apart();
+        self.lists.facts();
         let slot = self.lists.take(token, false);
         match slot.entry {
             Entry::Item(item) => item.into_pair(),

@@ -99,7 +99,7 @@ impl<K: Eq + Hash + Drop, V: Drop, P: SharedPlaceholder<K>, A: Allocator> Conten
         let Plan::OverItem(token) = plan else {
             return;
         };
-        self.lists.apart();
+        self.lists.facts();
         let slot = self.lists.take(token, false);
         match slot.entry {
             Entry::Item(item) => {

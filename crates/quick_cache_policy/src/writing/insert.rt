@@ -100,7 +100,7 @@ impl<K: Eq + Hash + Drop, V: Drop, P: SharedPlaceholder<K>, A: Allocator> Conten
                 None
             }
             Plan::OverLoading(token) => {
-                self.lists.apart();
+                self.lists.facts();
                 let queue = self.lists.awaited(token).queue();
                 self.enter_at(token, queue, 1, terms, state, hash, key, weighed);
                 None

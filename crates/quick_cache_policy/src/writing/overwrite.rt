@@ -45,7 +45,7 @@ impl<K: Eq + Hash + Drop, V: Drop, P: SharedPlaceholder<K>, A: Allocator> Conten
         ensures stays { WritesWithin P.ticket_of K.eq (M.hashed terms.now) (WritesPlace K.eq key) 0
             self.old self.new }
     {
-        self.lists.apart();
+        self.lists.facts();
         let touches = self.lists.take_touch(token);
         let item = self.lists.item(token);
         let queue = item.queue();
@@ -87,7 +87,7 @@ impl<K: Eq + Hash + Drop, V: Drop, P: SharedPlaceholder<K>, A: Allocator> Conten
         ensures stays { WritesWithin P.ticket_of K.eq (M.hashed terms.now) (WritesPlace K.eq key) 0
             self.old self.new }
     {
-        self.lists.apart();
+        self.lists.facts();
         let Weighed { value, weight } = weighed;
         let entered = Marked::new(key, value, weight, mark, queue, P::Touch::default());
         let _ = self.lists.replace(token, false, Entry::Item(entered));

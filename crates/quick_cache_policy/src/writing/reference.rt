@@ -90,7 +90,7 @@ impl<K: Eq + Hash, V, P: SharedPlaceholder<K>, A: Allocator> Contents<K, V, P, A
         ensures there { 0 < count_under (Q.equivalent _query.now) (state_of P.ticket_of self.new) }
         ensures stays { KeepsEntries P.ticket_of K.eq (M.hashed terms.now) self.old self.new }
     {
-        self.lists.apart();
+        self.lists.facts();
         let item = self.lists.item(token);
         let weight = terms.weigh(item.key(), item.value());
         self.lists.reweigh(token, weight);

@@ -39,7 +39,7 @@ impl<K: Eq + Hash, V, We, B: BuildHasher, L, P: SharedPlaceholder<K>, A: Allocat
             (λ value. with_value_at K.eq (number token) value self.old)) }
         ensures value { IsValueOf self.old (number token) result.now }
     {
-        self.contents.lists.apart();
+        self.contents.lists.facts();
         self.contents.value_mut(token)
     }
 }

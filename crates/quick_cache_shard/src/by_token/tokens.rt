@@ -31,7 +31,7 @@ impl<K: Eq + Hash, V, We, B: BuildHasher, L, P: SharedPlaceholder<K>, A: Allocat
             × (value.now ≡ item.value)) }
         ensures sound { IsSoundShard K.eq self.now }
     {
-        self.validate();
+        self.facts();
         let item = self.contents.peek_token(token)?;
         Some(item.value())
     }
@@ -47,9 +47,9 @@ impl<K: Eq + Hash, V, We, B: BuildHasher, L, P: SharedPlaceholder<K>, A: Allocat
             (λ pair. LeavesPlace self.old (number token) pair.0 self.new) }
         ensures stays { IdlesWithin K.eq 0 self.old self.new }
     {
-        self.contents.lists.apart();
+        self.contents.lists.facts();
         let taken = self.contents.remove_token(token);
-        self.validate();
+        self.facts();
         taken
     }
 
@@ -66,9 +66,9 @@ impl<K: Eq + Hash, V, We, B: BuildHasher, L, P: SharedPlaceholder<K>, A: Allocat
             (λ taken. TakesItem self.old.state (taken.1, taken.2) self.new.state) }
         ensures stays { IdlesWithin K.eq 0 self.old self.new }
     {
-        self.contents.lists.apart();
+        self.contents.lists.facts();
         let taken = self.contents.remove_next(after);
-        self.validate();
+        self.facts();
         taken
     }
 }

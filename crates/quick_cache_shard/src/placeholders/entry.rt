@@ -62,7 +62,7 @@ impl<
         let answer = self
             .contents
             .entry_or_placeholder(maker, hash, query, &self.terms, callback);
-        self.validate();
+        self.facts();
         answer
     }
 }

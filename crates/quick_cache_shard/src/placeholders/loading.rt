@@ -50,7 +50,7 @@ impl<
         ensures stays { IdlesWithin K.eq 1 self.old self.new }
     {
         let answer = self.contents.get_or_placeholder(maker, hash, query);
-        self.validate();
+        self.facts();
         answer
     }
 
@@ -62,7 +62,7 @@ impl<
             (λ key. AwaitsKey (P.own_ticket placeholder.now) self.now.state key.now) }
         ensures sound { IsSoundShard K.eq self.now }
     {
-        self.validate();
+        self.facts();
         self.contents.awaited_key(placeholder)
     }
 
@@ -75,6 +75,6 @@ impl<
         ensures stays { IdlesWithin K.eq 0 self.old self.new }
     {
         self.contents.remove_placeholder(placeholder);
-        self.validate();
+        self.facts();
     }
 }

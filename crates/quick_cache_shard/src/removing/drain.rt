@@ -136,9 +136,9 @@ impl<K: Eq + Hash, V, We, B: BuildHasher, L, P: SharedPlaceholder<K>, A: Allocat
             (λ taken. LeavesPlace self.old (number taken.0) taken.1.0 self.new) }
         ensures stays { IdlesWithin K.eq 0 self.old self.new }
     {
-        self.contents.lists.apart();
+        self.contents.lists.facts();
         let taken = self.contents.take_next(after);
-        self.validate();
+        self.facts();
         taken
     }
 

@@ -46,7 +46,7 @@ impl<K: Eq + Hash, V, We, B: BuildHasher, L, P: SharedPlaceholder<K>, A: Allocat
         ensures stays { IdlesWithin K.eq 0 self.old self.new }
     {
         let taken = self.contents.remove_if(hash, query, wanted);
-        self.validate();
+        self.facts();
         taken
     }
 }
@@ -70,7 +70,7 @@ impl<
         ensures stays { IdlesWithin K.eq 0 self.old self.new }
     {
         let taken = self.contents.remove(hash, query);
-        self.validate();
+        self.facts();
         taken
     }
 
@@ -88,7 +88,7 @@ impl<
         ensures stays { IdlesWithin K.eq 0 self.old self.new }
     {
         self.contents.retain(keep);
-        self.validate();
+        self.facts();
     }
 
     /// Drops all items, placeholders and ghosts. The counts, the sizes and the memory stay. No hook
@@ -98,6 +98,6 @@ impl<
         ensures sound { IsSoundShard K.eq self.new }
     {
         self.contents.clear();
-        self.validate();
+        self.facts();
     }
 }

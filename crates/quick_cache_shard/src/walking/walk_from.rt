@@ -89,7 +89,7 @@ impl<K: Eq + Hash, V, We, B: BuildHasher, L, P: SharedPlaceholder<K>, A: Allocat
         ensures numbered { (place : ℕ × K) → Contains self.now.places place → 0 < place.0 }
         ensures sound { IsSoundShard K.eq self.now }
     {
-        self.validate();
+        self.facts();
         self.contents.lists.numbered();
         IterFrom {
             lists: &self.contents.lists,

@@ -55,7 +55,7 @@ impl<
         let answer = self
             .contents
             .insert(&self.terms, state, hash, key, value, strategy);
-        self.validate();
+        self.facts();
         answer
     }
 
@@ -85,7 +85,7 @@ impl<
         let answer = self
             .contents
             .replace_placeholder(&self.terms, state, placeholder, referenced, value);
-        self.validate();
+        self.facts();
         answer
     }
 
@@ -106,6 +106,6 @@ impl<
         let limit = rescaled_limit(present, capacity, self.contents.ghost_limit);
         self.contents
             .set_capacity(&self.terms, state, capacity, target, limit);
-        self.validate();
+        self.facts();
     }
 }

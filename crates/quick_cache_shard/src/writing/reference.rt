@@ -39,7 +39,7 @@ impl<K: Eq + Hash, V, We, B: BuildHasher, L, P: SharedPlaceholder<K>, A: Allocat
         ensures sound { IsSoundShard K.eq self.new }
     {
         let found = self.contents.look_up(hash, query);
-        self.validate();
+        self.facts();
         found
     }
 
@@ -54,7 +54,7 @@ impl<K: Eq + Hash, V, We, B: BuildHasher, L, P: SharedPlaceholder<K>, A: Allocat
         ensures absent { IfNone result (HasNoItem (Q.equivalent query.now) self.now.state) }
         ensures sound { IsSoundShard K.eq self.now }
     {
-        self.validate();
+        self.facts();
         self.contents.token_of(hash, query)
     }
 
@@ -66,7 +66,7 @@ impl<K: Eq + Hash, V, We, B: BuildHasher, L, P: SharedPlaceholder<K>, A: Allocat
         requires there { 0 < count_under (Q.equivalent query.now) self.now.state }
         ensures { IsValueUnder (Q.equivalent query.now) self.now.state result.now }
     {
-        self.contents.lists.apart();
+        self.contents.lists.facts();
         let token = self.contents.token_under(thought, hash, query);
         self.contents.lists.item(token).value()
     }
@@ -86,7 +86,7 @@ impl<K: Eq + Hash, V, We, B: BuildHasher, L, P: SharedPlaceholder<K>, A: Allocat
             (written_under (Q.equivalent query.now) self.old)) }
         ensures value { IsValueUnder (Q.equivalent query.now) self.old.state result.now }
     {
-        self.contents.lists.apart();
+        self.contents.lists.facts();
         let token = self.contents.token_under(thought, hash, query);
         self.contents.value_mut(token)
     }

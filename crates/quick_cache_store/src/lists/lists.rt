@@ -102,7 +102,7 @@ impl<K, V, P, T, A: Allocator> Lists<K, V, P, T, A> {
         if additional.min(MOST_ENTRIES - entries) <= self.rings.capacity() - entries {
             return Ok(());
         }
-        self.slots.validate();
+        self.slots.facts();
         self.slots.reserve(additional)?;
         grow_index(&self.slots, &mut self.index, additional)?;
         // For up to twice as many entries, so that rings are moved seldom.
@@ -144,7 +144,7 @@ impl<K, V, P, T, A: Allocator> Lists<K, V, P, T, A> {
         ensures refusals { IfErr result
             (λ refused. (refused ≡ Refusal.SlotsFull) ⊎ (refused ≡ Refusal.Memory)) }
     {
-        self.slots.validate();
+        self.slots.facts();
         if self.index.len() >= MOST_ENTRIES {
             return Err(Refusal::SlotsFull);
         }
@@ -160,7 +160,7 @@ impl<K, V, P, T, A: Allocator> Lists<K, V, P, T, A> {
         T: Drop,
         ensures { self.new ≡ record no_lists { room = self.old.room + entry_count self.old } }
     {
-        self.slots.validate();
+        self.slots.facts();
         self.slots.clear();
         self.index.clear();
         self.rings.clear();
@@ -168,10 +168,10 @@ impl<K, V, P, T, A: Allocator> Lists<K, V, P, T, A> {
     }
 
     /// Each token has one entry at most, and there are no more entries than there can be.
-    pub fn apart(&self)
+    pub fn facts(&self)
         ensures apart { AreApart self.now }
         ensures within { entry_count self.now ≤ 4294967294 }
     {
-        self.slots.validate();
+        self.slots.facts();
     }
 }

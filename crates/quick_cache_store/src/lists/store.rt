@@ -30,7 +30,7 @@ pub(crate) fn place<K, V, P, T, A: Allocator>(
     ensures count { token_count index.new ≡ token_count index.old + 1 }
     ensures room { slot_room slots.new index.new + 1 ≡ slot_room slots.old index.old }
 {
-    slots.validate();
+    slots.facts();
     let hash = slot.hash;
     let token = slots.insert_reserved(slot);
     index.insert_reserved(hash, token);
@@ -116,7 +116,7 @@ pub(crate) fn rekey<K, V, P, T, A: Allocator>(
     ensures refused { OnErr result (index.new
         ≡ record index.old { allocated = index.new.allocated }) }
 {
-    slots.validate();
+    slots.facts();
     index.clear_for(slots.len().saturating_add(additional))?;
     key_all(index, slots.iter_from(None));
     Ok(())

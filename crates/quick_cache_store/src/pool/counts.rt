@@ -59,7 +59,7 @@ impl<T: Blank, A: Allocator> Pool<T, A> {
 
     /// Does nothing: what it promises always holds of a pool.
     #[inline(always)]
-    pub fn validate(&self)
+    pub fn facts(&self)
         ensures { IsParted self.now }
     {
         let _ = &self.items;

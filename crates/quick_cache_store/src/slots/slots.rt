@@ -122,7 +122,7 @@ impl<K, V, P, T, A: Allocator> Slots<K, V, P, T, A> {
             → IsOk result × (self.new ≡ self.old) }
         ensures memory { IfErr result (λ refused. refused ≡ Refusal.Memory) }
     {
-        self.pool.validate();
+        self.pool.facts();
         let wanted = additional - self.pool.free_up_to(additional);
         let wanted = wanted.min(MAX_SLOTS - self.asides.len());
         self.pool.reserve(additional)?;
@@ -135,7 +135,7 @@ impl<K, V, P, T, A: Allocator> Slots<K, V, P, T, A> {
     pub fn has_room(&self) -> bool
         ensures { IsTrue result ↔ 0 < spare self.now }
     {
-        self.pool.validate();
+        self.pool.facts();
         let token = self.pool.next_free().get() as usize;
         let len = self.asides.len();
         if token <= len {
@@ -152,7 +152,7 @@ impl<K, V, P, T, A: Allocator> Slots<K, V, P, T, A> {
     pub fn spare(&self) -> usize
         ensures { result ≡ spare self.now }
     {
-        self.pool.validate();
+        self.pool.facts();
         let free = self.asides.len() - self.pool.len();
         free + self.pool.room().min(self.asides.room())
     }
@@ -176,10 +176,10 @@ impl<K, V, P, T, A: Allocator> Slots<K, V, P, T, A> {
 
     /// Does nothing: what it promises always holds of slots.
     #[inline(always)]
-    pub fn validate(&self)
+    pub fn facts(&self)
         ensures { IsParted self.now }
     {
-        self.pool.validate();
+        self.pool.facts();
     }
 
     /// Drops every entry, and keeps the room.

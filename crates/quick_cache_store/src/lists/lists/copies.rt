@@ -21,7 +21,7 @@ impl<K: Clone + Drop, V: Clone + Drop, P: Drop, T: Touches, A: Allocator> Lists<
             (C.shares by.now) self.now) }
         ensures refused { IfErr result (λ refused. refused ≡ Refusal.Memory) }
     {
-        self.slots.validate();
+        self.slots.facts();
         let Ok(for_slots) = alloc.clone() else {
             return Err(Refusal::Memory);
         };

@@ -22,6 +22,6 @@ impl<K, V, P, T, A: Allocator> Lists<K, V, P, T, A> {
     pub fn numbered(&self)
         ensures { ¬ HasItemToken self.now 0 }
     {
-        self.slots.validate();
+        self.slots.facts();
     }
 }

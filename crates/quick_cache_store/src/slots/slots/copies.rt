@@ -135,7 +135,7 @@ impl<K: Clone + Drop, V: Clone + Drop, P: Drop, T: Touches, A: Allocator> Slots<
         ensures parted { IfOk result IsParted }
         ensures refused { OnErr result (result ≡ Err Refusal.Memory) }
     {
-        self.pool.validate();
+        self.pool.facts();
         let Ok(for_free) = alloc.clone() else {
             return Err(Refusal::Memory);
         };

@@ -14,4 +14,4 @@ pub returns-clause-fits : goal.returns-clause-fits
 returns-clause-fits g c clones =
     Peeks-fits (g.Q.Equivalent.equivalent c.args.query.now) g.V.Clone.is_clone _
     g.L.Lifecycle.fits c.get_clone.result (returns-clause-gets g c)
-    c.is_kept.ensures.fit clones
+    c.facts.ensures.fit clones

@@ -27,4 +27,4 @@ pub returns-in-Ok-clause-fits : goal.returns-in-Ok-clause-fits
 returns-in-Ok-clause-fits g c clones =
     Peeks-fits (g.Q.Equivalent.equivalent c.args.query.now) g.V.Clone.is_clone _
     g.L.Lifecycle.fits (Ok (Some c.in-Ok.copy)) (returns-in-Ok-clause-peeks g c)
-    c.is_kept.ensures.fit clones
+    c.facts.ensures.fit clones

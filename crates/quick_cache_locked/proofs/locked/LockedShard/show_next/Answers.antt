@@ -35,4 +35,4 @@ returns-in-Ok-clone-clause-fits g c keys clones =
     ShowsNext-fits g.L.Lifecycle (number_or_zero c.args.after) _ g.K.Clone.is_clone
     g.V.Clone.is_clone g.K.PartialEq.eq g.met.L.Lifecycle.same_fits
     (Ok (Some (c.in-Some.token, c.in-Ok.own, c.in-Ok-clone.copy)))
-    (returns-in-Ok-clone-clause-shows g c) c.is_kept.ensures.fit keys clones
+    (returns-in-Ok-clone-clause-shows g c) c.facts.ensures.fit keys clones

@@ -23,9 +23,9 @@ returns g c =
     let contents = c.args.self.now in
     let found = c.in-Some.ensures in
     let seen = c.awaited-awaited.ensures in
-    left-awaits ticket_of contents c.apart.ensures.apart (number c.in-Some.token) found.waiting
+    left-awaits ticket_of contents c.facts.ensures.apart (number c.in-Some.token) found.waiting
     found.stands found.named (g.P.SharedPlaceholder.own_ticket c.args.placeholder.now)
     found.passes _
     (c.key.ensures ∙ ap (λ (w : HeldLoading _ _). w.key)
-    (awaited-is_loading contents.lists c.apart.ensures.apart (number c.in-Some.token) seen.0 _
+    (awaited-is_loading contents.lists c.facts.ensures.apart (number c.in-Some.token) seen.0 _
     seen.1 found.waiting found.stands found.named))

@@ -29,7 +29,7 @@ evict_to_capacity-requires g c =
     let enters = subst (λ h. EntersAt (g.K.PartialEq.eq key) h lists c.args.token c.args.queue
     c.args.mark) c.requires.hash_is c.requires.enters in
     let entered = EntersAt-enters g.P.SharedPlaceholder.ticket_of c.args.self.now
-    c.apart.ensures.apart g.K.PartialEq.eq g.met.K.Eq.laws rules key c.args.weighed.value
+    c.facts.ensures.apart g.K.PartialEq.eq g.met.K.Eq.laws rules key c.args.weighed.value
     c.args.token c.args.queue c.args.mark under enters c.new-entered.result c.replace.result
     c.replace.new.self c.replace.ensures c.requires.sound
     (c.new-entered.ensures ∙ (λ i. record c.new-entered.result {
@@ -53,7 +53,7 @@ returns-clause-writes g c =
     let enters = subst (λ h. EntersAt (g.K.PartialEq.eq key) h lists c.args.token c.args.queue
     c.args.mark) c.requires.hash_is c.requires.enters in
     let entered = EntersAt-enters g.P.SharedPlaceholder.ticket_of c.args.self.now
-    c.apart.ensures.apart g.K.PartialEq.eq g.met.K.Eq.laws rules key c.args.weighed.value
+    c.facts.ensures.apart g.K.PartialEq.eq g.met.K.Eq.laws rules key c.args.weighed.value
     c.args.token c.args.queue c.args.mark under enters c.new-entered.result c.replace.result
     c.replace.new.self c.replace.ensures c.requires.sound
     (c.new-entered.ensures ∙ (λ i. record c.new-entered.result {
@@ -88,7 +88,7 @@ returns-clause-stays g c =
     let enters = subst (λ h. EntersAt (g.K.PartialEq.eq key) h lists c.args.token c.args.queue
     c.args.mark) c.requires.hash_is c.requires.enters in
     let entered = EntersAt-enters g.P.SharedPlaceholder.ticket_of c.args.self.now
-    c.apart.ensures.apart g.K.PartialEq.eq g.met.K.Eq.laws rules key c.args.weighed.value
+    c.facts.ensures.apart g.K.PartialEq.eq g.met.K.Eq.laws rules key c.args.weighed.value
     c.args.token c.args.queue c.args.mark under enters c.new-entered.result c.replace.result
     c.replace.new.self c.replace.ensures c.requires.sound
     (c.new-entered.ensures ∙ (λ i. record c.new-entered.result {

@@ -27,7 +27,7 @@ forget_oldest-requires g c =
       one = ghosts-one_more c.args.self.now.ghost_limit lists.ghosts c.bury.new.self.ghosts
           (record { token = number c.in-Some.token; hash = c.bury.ensures.hash })
           (ap (λ (l : Lists _ _ _). l.ghosts)
-          (Replaces-ghost lists c.apart.ensures.apart first.0 first.1 (number c.in-Some.token) _
+          (Replaces-ghost lists c.facts.ensures.apart first.0 first.1 (number c.in-Some.token) _
           c.bury.new.self c.bury.ensures first.2 first.3))
           c.requires.sound.valid.ghosts_within;
     }
@@ -38,7 +38,7 @@ returns-in-Stays-clause-evicts g c =
     let first = c.in-Some.ensures in
     let contents = c.args.self.now in
     let lists = contents.lists in
-    let apart = c.apart.ensures.apart in
+    let apart = c.facts.ensures.apart in
     let t = number c.in-Some.token in
     let hash = c.bury.ensures.hash in
     let item = c.bury.result in
@@ -48,7 +48,7 @@ returns-in-Stays-clause-evicts g c =
     c.bury.ensures.taken in
     let is = Replaces-ghost lists apart first.0 first.1 t _ c.bury.new.self c.bury.ensures first.2
     first.3 in
-    let order = Replaces-stays lists c.bury.new.self c.apart-in-Stays.ensures.apart first.1 t
+    let order = Replaces-stays lists c.bury.new.self c.facts-in-Stays.ensures.apart first.1 t
     hash item kept kept.value c.replace.result new is c.in-Stays.ensures.2 c.replace.ensures in
     record {
       calls = BeforeEvict item.key item.value kept.value ∷ [];
@@ -80,7 +80,7 @@ returns-in-Leaves-clause-evicts g c =
     let first = c.in-Some.ensures in
     let contents = c.args.self.now in
     let lists = contents.lists in
-    let apart = c.apart.ensures.apart in
+    let apart = c.facts.ensures.apart in
     let t = number c.in-Some.token in
     let hash = c.bury.ensures.hash in
     let item = c.bury.result in
@@ -129,7 +129,7 @@ returns-in-Leaves-clause-falls g c =
     let contents = c.args.self.now in
     let same = without-ghosts g.P.SharedPlaceholder.ticket_of contents c.bury.new.self first.1 _
     c.forget_oldest.new.self
-    (Replaces-ghost contents.lists c.apart.ensures.apart first.0 first.1 (number c.in-Some.token) _
+    (Replaces-ghost contents.lists c.facts.ensures.apart first.0 first.1 (number c.in-Some.token) _
     c.bury.new.self c.bury.ensures first.2 first.3)
     c.forget_oldest.ensures.same in
     omega (arith, ap (λ (s : Contents _ _ _ _ _ _). ring_count Cold s) same, ap length first.2)
@@ -141,7 +141,7 @@ returns-in-Leaves-clause-hot g c =
     ap (λ (s : Contents _ _ _ _ _ _). ring_count Hot s)
     (without-ghosts g.P.SharedPlaceholder.ticket_of contents c.bury.new.self first.1 _
     c.forget_oldest.new.self
-    (Replaces-ghost contents.lists c.apart.ensures.apart first.0 first.1 (number c.in-Some.token) _
+    (Replaces-ghost contents.lists c.facts.ensures.apart first.0 first.1 (number c.in-Some.token) _
     c.bury.new.self c.bury.ensures first.2 first.3)
     c.forget_oldest.ensures.same)
 
@@ -150,7 +150,7 @@ pub returns-in-Stays-clause-stays : goal.returns-in-Stays-clause-stays
 returns-in-Stays-clause-stays g c =
     let first = c.in-Some.ensures in
     let contents = c.args.self.now in
-    let apart = c.apart.ensures.apart in
+    let apart = c.facts.ensures.apart in
     let t = number c.in-Some.token in
     let hash = c.bury.ensures.hash in
     let item = c.bury.result in
@@ -162,7 +162,7 @@ returns-in-Stays-clause-stays g c =
     c.bury.ensures.taken in
     let is = Replaces-ghost lists apart first.0 first.1 t _ c.bury.new.self c.bury.ensures first.2
     first.3 in
-    let order = Replaces-stays lists c.bury.new.self c.apart-in-Stays.ensures.apart first.1 t
+    let order = Replaces-stays lists c.bury.new.self c.facts-in-Stays.ensures.apart first.1 t
     hash item kept kept.value c.replace.result new is c.in-Stays.ensures.2 c.replace.ensures in
     record {
       sound = IsSound-evicted g.P.SharedPlaceholder.ticket_of contents
@@ -187,7 +187,7 @@ returns-in-Leaves-clause-stays g c =
     let new = c.forget_oldest.new.self in
     let rules = rules_by g.M.Policy g.P.Touch.Touches.may_count c.args.terms.now in
     let same = without-ghosts g.P.SharedPlaceholder.ticket_of contents c.bury.new.self first.1 _
-    new (Replaces-ghost lists c.apart.ensures.apart first.0 first.1 (number c.in-Some.token) _
+    new (Replaces-ghost lists c.facts.ensures.apart first.0 first.1 (number c.in-Some.token) _
     c.bury.new.self c.bury.ensures first.2 first.3)
     c.forget_oldest.ensures.same in
     let evicts = returns-in-Leaves-clause-evicts g c in
@@ -209,7 +209,7 @@ returns-in-Leaves-clause-stays g c =
           (subst (λ (r : Contents _ _ _ _ _ _). Contains (places_of r.lists) place)
           (without-ghosts g.P.SharedPlaceholder.ticket_of contents c.bury.new.self first.1 _
           c.forget_oldest.new.self
-          (Replaces-ghost lists c.apart.ensures.apart first.0 first.1 (number c.in-Some.token) _
+          (Replaces-ghost lists c.facts.ensures.apart first.0 first.1 (number c.in-Some.token) _
           c.bury.new.self c.bury.ensures first.2 first.3)
           c.forget_oldest.ensures.same) there);
       room = omega arith;

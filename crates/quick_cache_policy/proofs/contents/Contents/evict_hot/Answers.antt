@@ -34,7 +34,7 @@ pub unreachable-requires-in-Loading : goal.unreachable-requires-in-Loading
 unreachable-requires-in-Loading g c =
     let first = c.in-Some.ensures in
     let lists = c.args.self.now.lists in
-    first-loading lists c.apart.ensures.apart first.0 first.1 Hot _ first.2
+    first-loading lists c.facts.ensures.apart first.0 first.1 Hot _ first.2
     (subst (λ e. IsEntry lists (number c.in-Some.token) c.take-slot.result.hash e) c.in-Loading.is
     c.take-slot.ensures.taken) (sym first.3)
 
@@ -43,7 +43,7 @@ pub unreachable-requires-in-Ghost : goal.unreachable-requires-in-Ghost
 unreachable-requires-in-Ghost g c =
     let first = c.in-Some.ensures in
     let lists = c.args.self.now.lists in
-    first-ghost lists c.apart.ensures.apart first.0 first.1 Hot _ first.2
+    first-ghost lists c.facts.ensures.apart first.0 first.1 Hot _ first.2
     (subst (λ e. IsEntry lists (number c.in-Some.token) c.take-slot.result.hash e) c.in-Ghost.is
     c.take-slot.ensures.taken) (sym first.3)
 
@@ -53,7 +53,7 @@ returns-in-Stays-clause-evicts g c =
     let first = c.in-Some.ensures in
     let contents = c.args.self.now in
     let lists = contents.lists in
-    let apart = c.apart.ensures.apart in
+    let apart = c.facts.ensures.apart in
     let t = number c.in-Some.token in
     let item = c.in-Item.item in
     let rules = rules_by g.M.Policy g.P.Touch.Touches.may_count c.args.terms.now in
@@ -86,7 +86,7 @@ returns-in-Leaves-clause-evicts g c =
     let first = c.in-Some.ensures in
     let contents = c.args.self.now in
     let lists = contents.lists in
-    let apart = c.apart.ensures.apart in
+    let apart = c.facts.ensures.apart in
     let t = number c.in-Some.token in
     let item = c.in-Item.item in
     let rules = rules_by g.M.Policy g.P.Touch.Touches.may_count c.args.terms.now in
@@ -150,7 +150,7 @@ pub returns-in-Stays-clause-stays : goal.returns-in-Stays-clause-stays
 returns-in-Stays-clause-stays g c =
     let first = c.in-Some.ensures in
     let contents = c.args.self.now in
-    let apart = c.apart.ensures.apart in
+    let apart = c.facts.ensures.apart in
     let t = number c.in-Some.token in
     let item = c.in-Item.item in
     let hash = g.M.Policy.hashed c.args.terms.now in
@@ -205,7 +205,7 @@ returns-in-Leaves-clause-stays g c =
           evicts.calls c.take-slot.new.self evicts.holds.0 c.requires.sound
           (subst (λ (l : Lists _ _ _). AreHashed hash l)
           (sym (c.take-slot.ensures.rest
-          ∙ without-first lists c.apart.ensures.apart first.0 first.1 Hot (number c.in-Some.token)
+          ∙ without-first lists c.facts.ensures.apart first.0 first.1 Hot (number c.in-Some.token)
           first.2
           first.3))
           (AreHashed-rest hash Hot first.0 first.1 (number c.in-Some.token) (lists.room + 1) lists
@@ -214,7 +214,7 @@ returns-in-Leaves-clause-stays g c =
       places = LosesOnly-gone Hot first.0 first.1 lists c.take-slot.new.self t (lists.room + 1)
           first.2
           (c.take-slot.ensures.rest
-          ∙ without-first lists c.apart.ensures.apart first.0 first.1 Hot t first.2 first.3);
+          ∙ without-first lists c.facts.ensures.apart first.0 first.1 Hot t first.2 first.3);
       room = omega (arith, ap (λ (l : Lists _ _ _). l.room) c.take-slot.ensures.rest);
       same = search rules;
     }

@@ -50,7 +50,7 @@ evict_to_capacity-requires g c =
     let hashed = g.M.Policy.hashed c.args.terms.now in
     let contents = c.args.self.now in
     let t = number c.args.token in
-    let apart = c.apart.ensures.apart in
+    let apart = c.facts-2.ensures.apart in
     let found = c.requires.found in
     let awaited = c.awaited-awaited.result in
     let waiting : HeldLoading _ _ = record {
@@ -78,7 +78,7 @@ returns-then-weight-gt0-clause-fills g c =
     let hashed = g.M.Policy.hashed c.args.terms.now in
     let contents = c.args.self.now in
     let t = number c.args.token in
-    let apart = c.apart.ensures.apart in
+    let apart = c.facts-2.ensures.apart in
     let found = c.requires.found in
     let awaited = c.awaited-awaited.result in
     let waiting : HeldLoading _ _ = record {
@@ -182,7 +182,7 @@ returns-else-weight-gt0-clause-fills g c =
     let hashed = g.M.Policy.hashed c.args.terms.now in
     let contents = c.args.self.now in
     let t = number c.args.token in
-    let apart = c.apart.ensures.apart in
+    let apart = c.facts-2.ensures.apart in
     let found = c.requires.found in
     let awaited = c.awaited-awaited.result in
     let waiting : HeldLoading _ _ = record {
@@ -284,14 +284,14 @@ take-slot-requires g c =
 pub unreachable-requires : goal.unreachable-requires
 unreachable-requires g c =
     let found = c.requires.found in
-    loading-not_item c.args.self.now.lists c.apart.ensures.apart (number c.args.token)
+    loading-not_item c.args.self.now.lists c.facts-2.ensures.apart (number c.args.token)
     c.take-slot.result.hash c.take-slot.result.entry c.take-slot.ensures.taken found.waiting
     found.stands found.named _ c.in-Item.is
 
 pub unreachable-requires-in-Ghost : goal.unreachable-requires-in-Ghost
 unreachable-requires-in-Ghost g c =
     let found = c.requires.found in
-    loading-not_ghost c.args.self.now.lists c.apart.ensures.apart (number c.args.token)
+    loading-not_ghost c.args.self.now.lists c.facts-2.ensures.apart (number c.args.token)
     c.take-slot.result.hash c.take-slot.result.entry c.take-slot.ensures.taken found.waiting
     found.stands found.named c.in-Ghost.is
 
@@ -303,7 +303,7 @@ returns-in-Loading-clause-fills g c =
     let hashed = g.M.Policy.hashed c.args.terms.now in
     let contents = c.args.self.now in
     let t = number c.args.token in
-    let apart = c.apart.ensures.apart in
+    let apart = c.facts-2.ensures.apart in
     let found = c.requires.found in
     let awaited = c.awaited-awaited.result in
     let waiting : HeldLoading _ _ = record {
@@ -366,7 +366,7 @@ returns-then-weight-gt0-clause-stays g c =
     let hashed = g.M.Policy.hashed c.args.terms.now in
     let contents = c.args.self.now in
     let t = number c.args.token in
-    let apart = c.apart.ensures.apart in
+    let apart = c.facts-2.ensures.apart in
     let found = c.requires.found in
     let awaited = c.awaited-awaited.result in
     let waiting : HeldLoading _ _ = record {
@@ -379,7 +379,7 @@ returns-then-weight-gt0-clause-stays g c =
     let stands : StandsIn contents.lists.loading waiting = c.awaited-awaited.ensures.1 in
     record {
       sound = c.evict_to_capacity.ensures.stays.sound;
-      places = filled-keeps g.P.SharedPlaceholder.ticket_of c.args.self.now c.apart.ensures.apart
+      places = filled-keeps g.P.SharedPlaceholder.ticket_of c.args.self.now c.facts-2.ensures.apart
           (number c.args.token) found.waiting found.stands found.named g.K.PartialEq.eq
           g.met.K.Eq.laws
           (g.M.Policy.hashed c.args.terms.now) c.requires.sound
@@ -403,7 +403,7 @@ returns-else-weight-gt0-clause-stays g c =
     let hashed = g.M.Policy.hashed c.args.terms.now in
     let contents = c.args.self.now in
     let t = number c.args.token in
-    let apart = c.apart.ensures.apart in
+    let apart = c.facts-2.ensures.apart in
     let found = c.requires.found in
     let awaited = c.awaited-awaited.result in
     let waiting : HeldLoading _ _ = record {
@@ -421,7 +421,7 @@ returns-else-weight-gt0-clause-stays g c =
           c.fill.ensures equal g.met.K.Eq.laws hashed
           (few contents.mark_cut c.requires.sound.sized.some_mark c.args.marked
           c.mark_if-mark.result c.mark_if-mark.ensures) c.requires.sound;
-      places = filled-keeps g.P.SharedPlaceholder.ticket_of c.args.self.now c.apart.ensures.apart
+      places = filled-keeps g.P.SharedPlaceholder.ticket_of c.args.self.now c.facts-2.ensures.apart
           (number c.args.token) found.waiting found.stands found.named g.K.PartialEq.eq
           g.met.K.Eq.laws
           (g.M.Policy.hashed c.args.terms.now) c.requires.sound
@@ -443,7 +443,7 @@ returns-in-Loading-clause-stays g c =
     let hashed = g.M.Policy.hashed c.args.terms.now in
     let contents = c.args.self.now in
     let t = number c.args.token in
-    let apart = c.apart.ensures.apart in
+    let apart = c.facts-2.ensures.apart in
     let found = c.requires.found in
     record {
       sound = subst (λ (l : Lists _ _ _). IsSound ticket_of equal hashed

@@ -12,7 +12,7 @@ returns-clause-ghosts g c =
     let lists = c.args.self.now.lists in
     let rest = c.in-Some.ensures.1 in
     ap (λ (l : Lists _ _ _). hashes_of l.ghosts)
-    (c.forget_first.ensures ∙ without-first_ghost lists c.apart.ensures.apart c.in-Some.ensures.0 rest
+    (c.forget_first.ensures ∙ without-first_ghost lists c.facts.ensures.apart c.in-Some.ensures.0 rest
     (number c.in-Some.oldest) c.in-Some.ensures.2 c.in-Some.ensures.3)
     ∙ hashes_of-drop 1 lists.ghosts rest c.in-Some.ensures.0 c.in-Some.ensures.2 refl
 
@@ -20,7 +20,7 @@ pub returns-clause-same : goal.returns-clause-same
 returns-clause-same g c =
     let contents = c.args.self.now in
     let lists = contents.lists in
-    let is = c.forget_first.ensures ∙ without-first_ghost lists c.apart.ensures.apart
+    let is = c.forget_first.ensures ∙ without-first_ghost lists c.facts.ensures.apart
     c.in-Some.ensures.0 c.in-Some.ensures.1 (number c.in-Some.oldest) c.in-Some.ensures.2
     c.in-Some.ensures.3 in
     ap (λ (l : Lists _ _ _). record contents { lists = l })

@@ -16,7 +16,7 @@ returns g c = λ finds.
     let stands_for = g.Q.Equivalent.equivalent c.args.query.now in
     let t = number c.args.token in
     let is = c.in-Some.ensures in
-    let same = found-same c.args.self.now.lists c.apart.ensures.apart t
+    let same = found-same c.args.self.now.lists c.facts.ensures.apart t
     (record { token = t; hash = finds.0; item = finds.1.item })
     (record { token = t; hash = is.0; item = c.in-Some.item }) finds.1.stands is.1 refl refl in
     let fails : stands_for c.in-Some.item.key ≡ false =

@@ -72,7 +72,7 @@ returns-clause-makes g c =
     let none = HasNoKey-state ticket_of stands_for c.args.hash contents c.requires.under there.0 in
     let awaited = c.in_ok-awaited.awaited in
     let t = number c.args.token in
-    let apart = c.apart.ensures.apart in
+    let apart = c.facts.ensures.apart in
     let gone = without_ghost ticket_of contents apart stands_for c.args.hash t there.1 in
     let ghosts = there.1.before ++ there.1.after in
     let mid : Lists _ _ _ = record contents.lists {
@@ -149,7 +149,7 @@ returns-clause-sound g c = λ hashed under sound.
     let none = HasNoKey-state ticket_of stands_for c.args.hash contents c.requires.under there.0 in
     let awaited = c.in_ok-awaited.awaited in
     let t = number c.args.token in
-    let apart = c.apart.ensures.apart in
+    let apart = c.facts.ensures.apart in
     let gone = without_ghost ticket_of contents apart stands_for c.args.hash t there.1 in
     let ghosts = there.1.before ++ there.1.after in
     let mid : Lists _ _ _ = record contents.lists {
@@ -215,5 +215,5 @@ pub returns-clause-places : goal.returns-clause-places
 returns-clause-places g c =
     ap (λ (s : Contents _ _ _ _ _ _). places_of s.lists) c.count_made.ensures
     ∙ haunted-places {T = g.row.P-Touch.Denot} c.args.self.now.lists c.replace.new.self
-    c.apart.ensures.apart (record { token = number c.args.token; hash = c.args.hash })
+    c.facts.ensures.apart (record { token = number c.args.token; hash = c.args.hash })
     c.requires.found.1 c.replace.ensures.hash c.in_ok-awaited.awaited c.replace.ensures.last

@@ -21,7 +21,7 @@ returns-clause-meets g c =
     let contents = c.args.self.now in
     let stands_for = g.Q.Equivalent.equivalent c.args.query.now in
     let found = c.requires.found in
-    let is = awaited-is_loading contents.lists c.apart.ensures.apart (number c.args.token)
+    let is = awaited-is_loading contents.lists c.facts.ensures.apart (number c.args.token)
     c.awaited.ensures.0 c.awaited.result c.awaited.ensures.1 found.waiting found.stands found.named
     in
     let ticket : ticket_of found.waiting.placeholder

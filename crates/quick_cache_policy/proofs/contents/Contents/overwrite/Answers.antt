@@ -51,12 +51,12 @@ evict_to_capacity-requires g c =
     let is = subst (λ l. IsItemOf l token item) c.take_touch-touches.ensures.same
     c.item-item.ensures in
     let same = over_item-same g.P.SharedPlaceholder.ticket_of c.args.self.now
-    c.apart.ensures.apart g.K.PartialEq.eq rules key token found c.new-item.result was
+    c.facts.ensures.apart g.K.PartialEq.eq rules key token found c.new-item.result was
     c.rewrite.new.self rewrites item is in
     let few : touched ≤ c.args.self.now.mark_cut = omega (arith, c.min-touched.ensures, c.from-2.ensures) in
     record {
       sound = over_item-sound g.P.SharedPlaceholder.ticket_of c.args.self.now
-          c.apart.ensures.apart g.K.PartialEq.eq rules key token found c.new-item.result was
+          c.facts.ensures.apart g.K.PartialEq.eq rules key token found c.new-item.result was
           c.rewrite.new.self rewrites g.met.K.Eq.laws
           (ap (λ (i : Item _ _). i.key) c.new-item.ensures)
           (ap (λ (i : Item _ _). i.queue) c.new-item.ensures ∙ c.queue-queue.ensures
@@ -84,7 +84,7 @@ returns-clause-writes g c =
     let is = subst (λ l. IsItemOf l token item) c.take_touch-touches.ensures.same
     c.item-item.ensures in
     let same = over_item-same g.P.SharedPlaceholder.ticket_of c.args.self.now
-    c.apart.ensures.apart g.K.PartialEq.eq rules key token found c.new-item.result was
+    c.facts.ensures.apart g.K.PartialEq.eq rules key token found c.new-item.result was
     c.rewrite.new.self rewrites item is in
     let cut = c.args.self.now.mark_cut in
     let touched : c.min-touched.result ≡ raised_by cut n item.mark =
@@ -114,7 +114,7 @@ returns-clause-writes g c =
       calls = evicted was.queue was.key was.value ∷ evicts.calls;
       holds = (
         λ steady. over_item-writes g.P.SharedPlaceholder.ticket_of c.args.self.now
-            c.apart.ensures.apart g.K.PartialEq.eq rules key token found c.new-item.result was
+            c.facts.ensures.apart g.K.PartialEq.eq rules key token found c.new-item.result was
             c.rewrite.new.self rewrites c.requires.sound value strategy n
             c.take_touch-touches.ensures.counted
             (c.new-item.ensures ∙ (λ j. record c.new-item.result {
@@ -127,7 +127,7 @@ returns-clause-writes g c =
             })) _ evicts.calls (evicts.holds.0 steady),
         AreAdmittedCalls.writes (evicted was.queue was.key was.value ∷ []) evicts.calls
             (IsReplacement.one was.queue was.key was.value) evicts.holds.1,
-        over_item-tells g.P.SharedPlaceholder.ticket_of c.args.self.now c.apart.ensures.apart
+        over_item-tells g.P.SharedPlaceholder.ticket_of c.args.self.now c.facts.ensures.apart
             g.K.PartialEq.eq rules key token found c.new-item.result was c.rewrite.new.self rewrites
             value (ap pair_of c.new-item.ensures)
             (state_of g.P.SharedPlaceholder.ticket_of c.evict_to_capacity.new.self)
@@ -173,7 +173,7 @@ returns-clause-stays g c =
             rewrites,
       );
       work = PaysFor-within _ _ _ _ _ _ _ _
-          (over_item-count g.P.SharedPlaceholder.ticket_of c.args.self.now c.apart.ensures.apart
+          (over_item-count g.P.SharedPlaceholder.ticket_of c.args.self.now c.facts.ensures.apart
           g.K.PartialEq.eq rules key token finds c.new-item.result was c.rewrite.new.self rewrites)
           c.evict_to_capacity.ensures.stays.work;
       same = c.evict_to_capacity.ensures.stays.same;

@@ -20,7 +20,7 @@ returns g c =
     let item = c.item.result in
     let has = c.item.ensures.1 in
     let passes = ap (λ (h : HeldItem g.row.K.Denot g.row.V.Denot). stands_for h.item.key)
-    (found-same c.args.self.now.lists c.apart.ensures.apart t
+    (found-same c.args.self.now.lists c.facts.ensures.apart t
     (record { token = t; hash = c.args.hash; item = c.in-Some.ensures.item })
     (record { token = t; hash = c.item.ensures.0; item = item }) c.in-Some.ensures.stands has refl
     refl) ∙ c.in-Some.ensures.passes in

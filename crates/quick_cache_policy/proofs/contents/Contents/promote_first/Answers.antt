@@ -29,11 +29,11 @@ returns-clause-promotes g c =
     let lists = contents.lists in
     let t = number c.in-Some.token in
     let seen = ap (λ (h : HeldItem _ _). h.item)
-    (first-item lists c.apart.ensures.apart first.0 first.1 Cold _ first.2 c.item-item.ensures.1
+    (first-item lists c.facts.ensures.apart first.0 first.1 Cold _ first.2 c.item-item.ensures.1
     (sym first.3)) in
     FirstIsPromoted-from g.P.SharedPlaceholder.ticket_of contents first.0 first.1 c.requeue.new.self
     first.2
-    (Requeues-promotes lists c.requeue.new.self c.apart.ensures.apart first.0 first.1 t
+    (Requeues-promotes lists c.requeue.new.self c.facts.ensures.apart first.0 first.1 t
     c.saturating_sub-mark.result c.weight-weight.result first.2 first.3
     (first_cold-weighs g.P.SharedPlaceholder.ticket_of contents first.0 first.1 g.K.PartialEq.eq
     (g.M.Policy.hashed c.args.terms.now) first.2 c.requires.sound)
@@ -49,13 +49,13 @@ returns-clause-stays g c =
     let lists = contents.lists in
     let t = number c.in-Some.token in
     let seen = ap (λ (h : HeldItem _ _). h.item)
-    (first-item lists c.apart.ensures.apart first.0 first.1 Cold _ first.2 c.item-item.ensures.1
+    (first-item lists c.facts.ensures.apart first.0 first.1 Cold _ first.2 c.item-item.ensures.1
     (sym first.3)) in
     record {
       sound = IsSound-promoted g.P.SharedPlaceholder.ticket_of contents first.0 first.1
           g.K.PartialEq.eq
           (g.M.Policy.hashed c.args.terms.now) c.requeue.new.self first.2
-          (Requeues-promotes lists c.requeue.new.self c.apart.ensures.apart first.0 first.1 t
+          (Requeues-promotes lists c.requeue.new.self c.facts.ensures.apart first.0 first.1 t
           c.saturating_sub-mark.result c.weight-weight.result first.2 first.3
           (first_cold-weighs g.P.SharedPlaceholder.ticket_of contents first.0 first.1
           g.K.PartialEq.eq
@@ -69,7 +69,7 @@ returns-clause-stays g c =
             item = record first.0.item { mark = first.0.item.mark - 1; queue = Hot };
           })
           first.1 lists c.requeue.new.self first.2 refl
-          (Requeues-promotes lists c.requeue.new.self c.apart.ensures.apart first.0 first.1 t
+          (Requeues-promotes lists c.requeue.new.self c.facts.ensures.apart first.0 first.1 t
           c.saturating_sub-mark.result c.weight-weight.result first.2 first.3
           (first_cold-weighs g.P.SharedPlaceholder.ticket_of contents first.0 first.1
           g.K.PartialEq.eq

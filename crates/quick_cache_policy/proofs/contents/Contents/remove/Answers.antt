@@ -21,13 +21,13 @@ take_found-slot-requires g c = (_, c.in-Item.ensures.stands)
 -- what has the token of an item is an item
 pub unreachable-requires : goal.unreachable-requires
 unreachable-requires g c =
-    not-loading c.args.self.now.lists c.apart.ensures.apart (number c.in-Item.token)
+    not-loading c.args.self.now.lists c.facts.ensures.apart (number c.in-Item.token)
     c.take_found-slot.result.hash c.take_found-slot.result.entry c.take_found-slot.ensures.taken _
     c.in-Item.ensures.stands refl c.in-Loading-entry.field-0 c.in-Loading-entry.is
 
 pub unreachable-requires-in-Ghost-entry : goal.unreachable-requires-in-Ghost-entry
 unreachable-requires-in-Ghost-entry g c =
-    not-ghost c.args.self.now.lists c.apart.ensures.apart (number c.in-Item.token)
+    not-ghost c.args.self.now.lists c.facts.ensures.apart (number c.in-Item.token)
     c.take_found-slot.result.hash c.take_found-slot.result.entry c.take_found-slot.ensures.taken _
     c.in-Item.ensures.stands refl c.in-Ghost-entry.is
 
@@ -46,7 +46,7 @@ returns-in-Item-entry-clause-removes g c =
     let t = number c.in-Item.token in
     let found = c.in-Item.ensures in
     let held : HeldItem _ _ = record { token = t; hash = c.args.hash; item = found.item } in
-    let same = entry-is_item contents.lists c.apart.ensures.apart t c.take_found-slot.result.hash
+    let same = entry-is_item contents.lists c.facts.ensures.apart t c.take_found-slot.result.hash
     c.take_found-slot.result.entry c.take_found-slot.ensures.taken held found.stands refl
     c.in-Item-entry.item c.in-Item-entry.is in
     let answer = c.into_pair.ensures
@@ -57,7 +57,7 @@ returns-in-Item-entry-clause-removes g c =
     (Some c.into_pair.result) (state_with ticket_of contents l)) (sym c.take_found-slot.ensures.rest)
     (subst (λ pair. Removes stands_for (state_of ticket_of contents) c.args.hash (Some pair)
     (state_with ticket_of contents (without_entry false t contents.lists))) (sym answer)
-    (removes-item ticket_of contents c.apart.ensures.apart stands_for c.args.hash t held
+    (removes-item ticket_of contents c.facts.ensures.apart stands_for c.args.hash t held
     found.stands refl found.passes)))
 
 pub returns-in-Item-entry-clause-sound : goal.returns-in-Item-entry-clause-sound
@@ -69,7 +69,7 @@ returns-in-Item-entry-clause-sound g c = λ hashed sound.
     let found = c.in-Item.ensures in
     subst (λ (l : Lists _ _ _). IsSound ticket_of g.K.PartialEq.eq hashed
     (record contents { lists = l })) (sym c.take_found-slot.ensures.rest)
-    (item-sound ticket_of contents c.apart.ensures.apart stands_for c.args.hash t _ found.stands
+    (item-sound ticket_of contents c.facts.ensures.apart stands_for c.args.hash t _ found.stands
     refl g.K.PartialEq.eq found.passes hashed sound)
 
 pub returns-in-Loading-clause-removes : goal.returns-in-Loading-clause-removes
@@ -81,7 +81,7 @@ returns-in-Loading-clause-removes g c =
     UpToOrder-exact _ _
     (subst (λ (l : Lists _ _ _). Removes stands_for (state_of ticket_of contents) c.args.hash
     None (state_with ticket_of contents l)) (sym c.take.ensures.rest)
-    (removes-loading ticket_of contents c.apart.ensures.apart stands_for c.args.hash
+    (removes-loading ticket_of contents c.facts.ensures.apart stands_for c.args.hash
     (number c.in-Loading.token) found.waiting found.stands found.named found.passes))
 
 pub returns-in-Loading-clause-sound : goal.returns-in-Loading-clause-sound
@@ -92,7 +92,7 @@ returns-in-Loading-clause-sound g c = λ hashed sound.
     let found = c.in-Loading.ensures in
     subst (λ (l : Lists _ _ _). IsSound ticket_of g.K.PartialEq.eq hashed
     (record contents { lists = l })) (sym c.take.ensures.rest)
-    (loading-sound ticket_of contents c.apart.ensures.apart stands_for c.args.hash
+    (loading-sound ticket_of contents c.facts.ensures.apart stands_for c.args.hash
     (number c.in-Loading.token) found.waiting found.stands found.named g.K.PartialEq.eq
     found.passes hashed sound)
 
@@ -105,7 +105,7 @@ returns-in-Ghost-clause-removes g c =
     UpToOrder-exact _ _
     (subst (λ (l : Lists _ _ _). Removes stands_for (state_of ticket_of contents) c.args.hash
     None (state_with ticket_of contents l)) (sym c.take-in-Ghost.ensures.rest)
-    (removes-ghost ticket_of contents c.apart.ensures.apart stands_for c.args.hash
+    (removes-ghost ticket_of contents c.facts.ensures.apart stands_for c.args.hash
     (number c.in-Ghost.token) found.1 c.requires.under found.0))
 
 pub returns-in-Ghost-clause-sound : goal.returns-in-Ghost-clause-sound
@@ -116,7 +116,7 @@ returns-in-Ghost-clause-sound g c = λ hashed sound.
     let found = c.in-Ghost.ensures in
     subst (λ (l : Lists _ _ _). IsSound ticket_of g.K.PartialEq.eq hashed
     (record contents { lists = l })) (sym c.take-in-Ghost.ensures.rest)
-    (ghost-sound ticket_of contents c.apart.ensures.apart stands_for c.args.hash
+    (ghost-sound ticket_of contents c.facts.ensures.apart stands_for c.args.hash
     (number c.in-Ghost.token) found.1 g.K.PartialEq.eq c.requires.under found.0 hashed sound)
 
 pub returns-in-Nothing-clause-removes : goal.returns-in-Nothing-clause-removes

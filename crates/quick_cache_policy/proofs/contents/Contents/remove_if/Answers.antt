@@ -33,7 +33,7 @@ wanted-requires g c =
     record { token = t; hash = c.item.ensures.0; item = c.item.result } in
     let has = c.item.ensures.1 in
     let passes = ap (λ (h : HeldItem g.row.K.Denot g.row.V.Denot). stands_for h.item.key)
-    (found-same contents.lists c.apart.ensures.apart t
+    (found-same contents.lists c.facts.ensures.apart t
     (record { token = t; hash = c.args.hash; item = c.in-Some.ensures.item }) held
     c.in-Some.ensures.stands has refl refl) ∙ c.in-Some.ensures.passes in
     c.requires.callable has.place (items_of has.stands.before) c.item.result
@@ -52,7 +52,7 @@ returns-then-not-wanted-clause-removes g c =
     record { token = t; hash = c.item.ensures.0; item = item } in
     let has = c.item.ensures.1 in
     let passes = ap (λ (h : HeldItem g.row.K.Denot g.row.V.Denot). stands_for h.item.key)
-    (found-same contents.lists c.apart.ensures.apart t
+    (found-same contents.lists c.facts.ensures.apart t
     (record { token = t; hash = c.args.hash; item = c.in-Some.ensures.item }) held
     c.in-Some.ensures.stands has refl refl) ∙ c.in-Some.ensures.passes in
     UpToOrder-exact _ _ (RemovesAsked.stays has.place (items_of has.stands.before) item
@@ -72,16 +72,16 @@ returns-clause-removes g c =
     let went : HeldItem g.row.K.Denot g.row.V.Denot =
     record { token = t; hash = takes.stood.0; item = takes.item } in
     let passes = ap (λ (h : HeldItem g.row.K.Denot g.row.V.Denot). stands_for h.item.key)
-    (found-same contents.lists c.apart.ensures.apart t
+    (found-same contents.lists c.facts.ensures.apart t
     (record { token = t; hash = c.args.hash; item = c.in-Some.ensures.item }) went
     c.in-Some.ensures.stands takes.stood.1 refl refl) ∙ c.in-Some.ensures.passes in
     let shown = ap (λ (h : HeldItem g.row.K.Denot g.row.V.Denot). h.item.value)
-    (found-same contents.lists c.apart.ensures.apart t went
+    (found-same contents.lists c.facts.ensures.apart t went
     (record { token = t; hash = c.item.ensures.0; item = c.item.result })
     takes.stood.1 c.item.ensures.1 refl refl) in
     UpToOrder-exact _ _ (RemovesAsked-takes g.P.SharedPlaceholder.ticket_of stands_for
     (FnOnceReturnsAt g.F.FnOnce c.args.wanted) contents c.take_item.new.self
-    c.apart.ensures.apart t c.take_item.result takes passes
+    c.facts.ensures.apart t c.take_item.result takes passes
     (subst (λ value. FnOnceReturnsAt g.F.FnOnce c.args.wanted value true) (c.value.ensures ∙ shown)
     (gave_at g.F.FnOnce c.wanted.ensures c.if-not-wanted.false)))
 

@@ -10,7 +10,7 @@ use Rattle.quick_cache_policy.proofs.contents.Contents.remove_item.Goals as goal
 pub returns-clause-removes : goal.returns-clause-removes
 returns-clause-removes g c =
     removes-written g.P.SharedPlaceholder.ticket_of c.args.self.now c.take_weighed-pair.new.self
-    c.apart.ensures.apart (number c.args.token) (g.Q.Equivalent.equivalent c.args._query.now)
+    c.facts.ensures.apart (number c.args.token) (g.Q.Equivalent.equivalent c.args._query.now)
     c.args.hash c.requires.found
     (rules_by g.M.Policy g.P.Touch.Touches.may_count c.args.terms.now) c.take_weighed-pair.result
     c.take_weighed-pair.ensures
@@ -21,7 +21,7 @@ returns-clause-stays g c =
     record {
       sound = removes-sound g.P.SharedPlaceholder.ticket_of c.args.self.now
           c.take_weighed-pair.new.self
-          c.apart.ensures.apart (number c.args.token) (g.Q.Equivalent.equivalent c.args._query.now)
+          c.facts.ensures.apart (number c.args.token) (g.Q.Equivalent.equivalent c.args._query.now)
           c.args.hash c.requires.found
           (rules_by g.M.Policy g.P.Touch.Touches.may_count c.args.terms.now)
           c.take_weighed-pair.result

@@ -22,5 +22,5 @@ returns-clause-first g c =
 pub returns-clause-takes : goal.returns-clause-takes
 returns-clause-takes g c =
     TakesToken-state g.P.SharedPlaceholder.ticket_of c.args.self.now c.take_item-key.new.self
-    c.apart.ensures.apart (number c.in-Some.token) c.take_item-key.result
+    c.facts.ensures.apart (number c.in-Some.token) c.take_item-key.result
     c.take_item-key.ensures.takes

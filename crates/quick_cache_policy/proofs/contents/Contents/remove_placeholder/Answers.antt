@@ -35,7 +35,7 @@ returns-clause-gives_up g c =
     UpToOrder-exact _ _
     (subst (λ (l : Lists _ _ _). GivesUpPlaceholder ticket (state_of ticket_of contents)
     (state_with ticket_of contents l)) (sym c.take.ensures.rest)
-    (left-gives_up ticket_of contents c.apart.ensures.apart (number c.in-Some.token) found.waiting
+    (left-gives_up ticket_of contents c.facts.ensures.apart (number c.in-Some.token) found.waiting
     found.stands found.named ticket found.passes))
 
 pub returns-clause-sound : goal.returns-clause-sound
@@ -45,7 +45,7 @@ returns-clause-sound g c = λ hashed sound.
     let found = c.in-Some.ensures in
     subst (λ (l : Lists _ _ _). IsSound ticket_of g.K.PartialEq.eq hashed
     (record contents { lists = l })) (sym c.take.ensures.rest)
-    (left-sound ticket_of contents c.apart.ensures.apart (number c.in-Some.token) found.waiting
+    (left-sound ticket_of contents c.facts.ensures.apart (number c.in-Some.token) found.waiting
     found.stands found.named g.K.PartialEq.eq hashed sound)
 
 pub returns-in_default-clause-places : goal.returns-in_default-clause-places

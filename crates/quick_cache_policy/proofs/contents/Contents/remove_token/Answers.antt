@@ -11,4 +11,4 @@ take_item-requires g c =
 pub returns-then-is_some-clause-takes : goal.returns-then-is_some-clause-takes
 returns-then-is_some-clause-takes g c =
     TakesToken-state g.P.SharedPlaceholder.ticket_of c.args.self.now c.take_item.new.self
-    c.apart.ensures.apart (number c.args.token) c.take_item.result c.take_item.ensures.takes
+    c.facts.ensures.apart (number c.args.token) c.take_item.result c.take_item.ensures.takes

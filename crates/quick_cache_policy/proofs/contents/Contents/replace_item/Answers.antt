@@ -51,7 +51,7 @@ returns-clause-replaces g c =
       slot = λ none. absurd none;
     } in (
       takes.item,
-      replaces-written g.P.SharedPlaceholder.ticket_of old mid c.apart.ensures.apart
+      replaces-written g.P.SharedPlaceholder.ticket_of old mid c.facts.ensures.apart
           (number c.args.token) (g.Q.Equivalent.equivalent c.args.query.now) c.args.hash
           c.requires.found (rules_by g.M.Policy g.P.Touch.Touches.may_count c.args.terms.now) gone
           takes {X = g.row.P-Touch.Denot} c.put.new.self (number c.put.result)
@@ -75,7 +75,7 @@ returns-clause-sound g c =
       ticket = λ _. omega (arith, c.if-self.false);
       slot = λ none. absurd none;
     } in
-    replaces-sound g.P.SharedPlaceholder.ticket_of old mid c.apart.ensures.apart
+    replaces-sound g.P.SharedPlaceholder.ticket_of old mid c.facts.ensures.apart
     (number c.args.token) (g.Q.Equivalent.equivalent c.args.query.now) c.args.hash
     c.requires.found (rules_by g.M.Policy g.P.Touch.Touches.may_count c.args.terms.now) gone
     takes {X = g.row.P-Touch.Denot} c.put.new.self (number c.put.result)

@@ -49,7 +49,7 @@ loop-token-preserved-then-not-keep g c =
       says = says g.F.Fn c.keep.ensures c.if-not-keep.true;
     } in (
       IsSifting-go (Answers g.F.Fn c.args.keep) c.args.self.now c.loop-token.self
-          c.apart.ensures.apart (number_or_zero c.loop-token.at) c.in-Some.token
+          c.facts.ensures.apart (number_or_zero c.loop-token.at) c.in-Some.token
           c.item.result c.loop-token.invariant.0 c.item.ensures found.0
           (λ other. c.first_above.ensures.least c.in-Some.token other c.in-Some.is) refused
           c.take_item.new.self c.take_item.ensures.takes.rest,
@@ -73,7 +73,7 @@ loop-token-preserved g c =
       says = says g.F.Fn c.keep.ensures c.if-not-keep.false;
     } in (
       IsSifting-stay (Answers g.F.Fn c.args.keep) c.args.self.now c.loop-token.self
-          c.apart.ensures.apart (number_or_zero c.loop-token.at) c.in-Some.token
+          c.facts.ensures.apart (number_or_zero c.loop-token.at) c.in-Some.token
           c.item.result c.loop-token.invariant.0 c.item.ensures found.0
           (λ other. c.first_above.ensures.least c.in-Some.token other c.in-Some.is) said,
       c.loop-token.invariant.1,

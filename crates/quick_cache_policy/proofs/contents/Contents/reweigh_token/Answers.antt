@@ -14,13 +14,13 @@ pub returns-clause-reweighs : goal.returns-clause-reweighs
 returns-clause-reweighs g c = λ stands_for hash found.
     let rules = rules_by g.M.Policy g.P.Touch.Touches.may_count c.args.terms.now in
     let t = number c.args.token in
-    let same = found-value g.P.SharedPlaceholder.ticket_of c.args.self.now c.apart.ensures.apart t
+    let same = found-value g.P.SharedPlaceholder.ticket_of c.args.self.now c.facts.ensures.apart t
     stands_for hash found c.item-item.result c.item-item.ensures in
     let weight : c.weigh-weight.result ≡ rules.weight found.item.key found.item.value =
     c.weigh-weight.ensures
     ∙ (λ i. rules.weight (c.key.ensures i) (c.value.ensures i))
     ∙ ap (λ (item : Item g.row.K.Denot g.row.V.Denot). rules.weight item.key item.value) same in
-    reweighed-under g.P.SharedPlaceholder.ticket_of c.args.self.now c.apart.ensures.apart t
+    reweighed-under g.P.SharedPlaceholder.ticket_of c.args.self.now c.facts.ensures.apart t
     stands_for hash found g.K.PartialEq.eq g.met.K.Eq.laws rules c.requires.sound
     c.reweigh.new.self c.weigh-weight.result weight c.reweigh.ensures
 
@@ -33,7 +33,7 @@ returns-clause-stays g c =
     ≡ rules.weight c.item-item.result.key c.item-item.result.value =
     c.weigh-weight.ensures ∙ (λ i. rules.weight (c.key.ensures i) (c.value.ensures i)) in
     record {
-      sound = reweighed-sound g.P.SharedPlaceholder.ticket_of c.args.self.now c.apart.ensures.apart
+      sound = reweighed-sound g.P.SharedPlaceholder.ticket_of c.args.self.now c.facts.ensures.apart
           t
           (λ key. true) is.0 (record { item = c.item-item.result; stands = is.1; passes = refl })
           g.K.PartialEq.eq g.met.K.Eq.laws rules c.requires.sound

@@ -19,7 +19,7 @@ returns-clause-shows g c =
     let contents = c.args.self.now in
     let stands_for = g.Q.Equivalent.equivalent c.args._query.now in
     let t = number c.args.token in
-    let apart = c.apart.ensures.apart in
+    let apart = c.facts.ensures.apart in
     let found = c.requires.found in
     let shows = c.show.ensures in
     let same = found-value ticket_of contents apart t stands_for c.args.hash found shows.item
@@ -46,7 +46,7 @@ returns-clause-found g c =
     let found = c.requires.found in
     let shows = c.show.ensures in
     subst (λ (l : Lists _ _ _). FindsItem stands_for c.args.hash l t)
-    (sym (shows.rest ∙ changed g.P.SharedPlaceholder.ticket_of contents c.apart.ensures.apart t
+    (sym (shows.rest ∙ changed g.P.SharedPlaceholder.ticket_of contents c.facts.ensures.apart t
     stands_for c.args.hash found shows.left))
     (written-found stands_for c.args.hash contents.lists t found shows.left)
 
@@ -57,7 +57,7 @@ returns-clause-sound g c = λ hashed sound.
     let shows = c.show.ensures in
     subst (λ (l : Lists _ _ _). IsSound ticket_of g.K.PartialEq.eq hashed
     (record contents { lists = l })) (sym shows.rest)
-    (written-sound ticket_of contents c.apart.ensures.apart (number c.args.token)
+    (written-sound ticket_of contents c.facts.ensures.apart (number c.args.token)
     (g.Q.Equivalent.equivalent c.args._query.now) c.args.hash c.requires.found shows.left
     g.K.PartialEq.eq hashed sound)
 

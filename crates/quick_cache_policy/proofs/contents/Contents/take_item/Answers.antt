@@ -11,13 +11,13 @@ use Rattle.quick_cache_policy.proofs.contents.Contents.take_item.Goals as goal
 -- what has the token of an item is an item
 pub unreachable-requires : goal.unreachable-requires
 unreachable-requires g c =
-    not-loading c.args.self.now.lists c.apart.ensures.apart (number c.args.token)
+    not-loading c.args.self.now.lists c.facts.ensures.apart (number c.args.token)
     c.take-slot.result.hash c.take-slot.result.entry c.take-slot.ensures.taken _
     c.requires.1 c.requires.2 c.in-Loading.field-0 c.in-Loading.is
 
 pub unreachable-requires-in-Ghost : goal.unreachable-requires-in-Ghost
 unreachable-requires-in-Ghost g c =
-    not-ghost c.args.self.now.lists c.apart.ensures.apart (number c.args.token)
+    not-ghost c.args.self.now.lists c.facts.ensures.apart (number c.args.token)
     c.take-slot.result.hash c.take-slot.result.entry c.take-slot.ensures.taken _
     c.requires.1 c.requires.2 c.in-Ghost.is
 
@@ -42,5 +42,5 @@ returns-clause-sound g c = λ hashed sound.
     let contents = c.args.self.now in
     subst (λ (l : Lists _ _ _). IsSound ticket_of g.K.PartialEq.eq hashed
     (record contents { lists = l })) (sym c.take-slot.ensures.rest)
-    (item-sound ticket_of contents c.apart.ensures.apart (λ key. true) 0 (number c.args.token) _
+    (item-sound ticket_of contents c.facts.ensures.apart (λ key. true) 0 (number c.args.token) _
     c.requires.1 c.requires.2 g.K.PartialEq.eq refl hashed sound)

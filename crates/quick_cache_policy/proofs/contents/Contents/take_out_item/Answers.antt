@@ -59,7 +59,7 @@ unreachable-requires g c =
     let finds = subst (IsPlanned (g.K.PartialEq.eq c.args.key.now) c.args.hash
     c.args.self.now.lists c.requires.planned.0) c.in-OverItem.is c.requires.planned.1 in
     FindsItem-loading g.P.SharedPlaceholder.ticket_of (g.K.PartialEq.eq c.args.key.now) c.args.hash
-    c.args.self.now c.apart.ensures.apart (number c.in-OverItem.token) finds c.take-slot.result.hash
+    c.args.self.now c.facts.ensures.apart (number c.in-OverItem.token) finds c.take-slot.result.hash
     c.take-slot.result.entry c.in-Loading.field-0 c.take-slot.ensures.taken c.in-Loading.is
 
 pub unreachable-requires-in-Ghost : goal.unreachable-requires-in-Ghost
@@ -67,7 +67,7 @@ unreachable-requires-in-Ghost g c =
     let finds = subst (IsPlanned (g.K.PartialEq.eq c.args.key.now) c.args.hash
     c.args.self.now.lists c.requires.planned.0) c.in-OverItem.is c.requires.planned.1 in
     FindsItem-ghost g.P.SharedPlaceholder.ticket_of (g.K.PartialEq.eq c.args.key.now) c.args.hash
-    c.args.self.now c.apart.ensures.apart (number c.in-OverItem.token) finds c.take-slot.result.hash
+    c.args.self.now c.facts.ensures.apart (number c.in-OverItem.token) finds c.take-slot.result.hash
     c.take-slot.result.entry c.take-slot.ensures.taken c.in-Ghost.is
 
 -- the item that was found is the one that is told
@@ -80,11 +80,11 @@ returns-clause-takes g c =
     let finds = subst (IsPlanned (equal c.args.key.now) c.args.hash old.lists c.requires.planned.0)
     c.in-OverItem.is c.requires.planned.1 in
     let item = finds.item in
-    let is = FindsItem-item ticket (equal c.args.key.now) c.args.hash old c.apart.ensures.apart t
+    let is = FindsItem-item ticket (equal c.args.key.now) c.args.hash old c.facts.ensures.apart t
     finds c.take-slot.result.hash c.take-slot.result.entry c.in-Item.item
     c.take-slot.ensures.taken c.in-Item.is in
     let leaves = FindsItem-leaves ticket (equal c.args.key.now) c.args.hash old
-    c.apart.ensures.apart t finds in
+    c.facts.ensures.apart t finds in
     let takes = LeavesItem-takes ticket equal c.args.key.now c.args.hash old c.requires.sound t item
     leaves in
     let now = c.in-Item.item-is ∙ is in
@@ -123,7 +123,7 @@ returns-clause-stays g c =
           (record old { lists = lists })) (sym c.take-slot.ensures.rest)
           (LeavesItem-sound ticket equal c.args.key.now c.args.hash old c.requires.sound t
           finds.item
-          (FindsItem-leaves ticket (equal c.args.key.now) c.args.hash old c.apart.ensures.apart t
+          (FindsItem-leaves ticket (equal c.args.key.now) c.args.hash old c.facts.ensures.apart t
           finds));
       places = λ place there. without-places (number c.in-OverItem.token) c.args.self.now.lists
           place

@@ -26,7 +26,7 @@ returns-then-count-eq0 g c =
         refl,
       );
       same = ap (λ l. record c.args.self.now { lists = l }) (c.take_touch-count.ensures.same
-          ∙ sym (with_change-own_counts lists c.apart.ensures.apart (number c.args.token)
+          ∙ sym (with_change-own_counts lists c.facts.ensures.apart (number c.args.token)
           there.0.item is));
     }
 

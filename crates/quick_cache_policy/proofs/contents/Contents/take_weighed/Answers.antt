@@ -9,13 +9,13 @@ use Rattle.quick_cache_policy.proofs.contents.Contents.take_weighed.Goals as goa
 -- what has the token of an item is an item
 pub unreachable-requires : goal.unreachable-requires
 unreachable-requires g c =
-    not-loading c.args.self.now.lists c.apart.ensures.apart (number c.args.token)
+    not-loading c.args.self.now.lists c.facts.ensures.apart (number c.args.token)
     c.take-slot.result.hash c.take-slot.result.entry c.take-slot.ensures.taken _
     c.requires.1 c.requires.2 c.in-Loading.field-0 c.in-Loading.is
 
 pub unreachable-requires-in-Ghost : goal.unreachable-requires-in-Ghost
 unreachable-requires-in-Ghost g c =
-    not-ghost c.args.self.now.lists c.apart.ensures.apart (number c.args.token)
+    not-ghost c.args.self.now.lists c.facts.ensures.apart (number c.args.token)
     c.take-slot.result.hash c.take-slot.result.entry c.take-slot.ensures.taken _
     c.requires.1 c.requires.2 c.in-Ghost.is
 
@@ -31,7 +31,7 @@ returns g c =
     subst (λ entry. IsEntry contents.lists t c.take-slot.result.hash entry) c.in-Item.is
     c.take-slot.ensures.taken in
     let same : c.item-item.result ≡ c.in-Item.resident = ap (λ (h : HeldItem _ _). h.item)
-    (found-same contents.lists c.apart.ensures.apart t
+    (found-same contents.lists c.facts.ensures.apart t
     (record { token = t; hash = c.take-slot.result.hash; item = c.in-Item.resident })
     (record { token = t; hash = seen.0; item = c.item-item.result }) has seen.1 refl refl) in
     let weight : c.weigh-weight.result ≡ weight_of c.in-Item.resident.key c.in-Item.resident.value =

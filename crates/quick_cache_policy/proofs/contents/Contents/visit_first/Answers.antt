@@ -36,4 +36,4 @@ returns g c =
     ] in
     VisitsFirst-visited (g.M.Policy.steady c.args.terms.now) (g.M.Policy.pinned c.args.terms.now)
     c.args.takes_touches may_count f.0 f.1 c.args.self.now c.if-takes_touches.self
-    c.visit.new.self c.visit.result _ f.3 f.2 first c.apart-2.ensures.apart c.visit.ensures
+    c.visit.new.self c.visit.result _ f.3 f.2 first c.facts-2.ensures.apart c.visit.ensures

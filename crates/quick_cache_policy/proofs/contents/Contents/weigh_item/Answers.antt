@@ -13,13 +13,13 @@ returns-clause-reweighs g c =
     let found = c.requires.found in
     let stands_for = g.Q.Equivalent.equivalent c.args._query.now in
     let t = number c.args.token in
-    let same = found-value g.P.SharedPlaceholder.ticket_of c.args.self.now c.apart.ensures.apart t
+    let same = found-value g.P.SharedPlaceholder.ticket_of c.args.self.now c.facts.ensures.apart t
     stands_for c.args.hash found c.item-item.result c.item-item.ensures in
     let weight : c.weigh-weight.result ≡ rules.weight found.item.key found.item.value =
     c.weigh-weight.ensures
     ∙ (λ i. rules.weight (c.key.ensures i) (c.value.ensures i))
     ∙ ap (λ (item : Item g.row.K.Denot g.row.V.Denot). rules.weight item.key item.value) same in
-    reweighed-under g.P.SharedPlaceholder.ticket_of c.args.self.now c.apart.ensures.apart t
+    reweighed-under g.P.SharedPlaceholder.ticket_of c.args.self.now c.facts.ensures.apart t
     stands_for c.args.hash found g.K.PartialEq.eq g.met.K.Eq.laws rules c.requires.sound
     c.reweigh.new.self c.weigh-weight.result weight c.reweigh.ensures
 
@@ -29,13 +29,13 @@ returns-clause-there g c =
     let found = c.requires.found in
     let stands_for = g.Q.Equivalent.equivalent c.args._query.now in
     let t = number c.args.token in
-    let same = found-value g.P.SharedPlaceholder.ticket_of c.args.self.now c.apart.ensures.apart t
+    let same = found-value g.P.SharedPlaceholder.ticket_of c.args.self.now c.facts.ensures.apart t
     stands_for c.args.hash found c.item-item.result c.item-item.ensures in
     let weight : c.weigh-weight.result ≡ rules.weight found.item.key found.item.value =
     c.weigh-weight.ensures
     ∙ (λ i. rules.weight (c.key.ensures i) (c.value.ensures i))
     ∙ ap (λ (item : Item g.row.K.Denot g.row.V.Denot). rules.weight item.key item.value) same in
-    reweighed-there g.P.SharedPlaceholder.ticket_of c.args.self.now c.apart.ensures.apart t
+    reweighed-there g.P.SharedPlaceholder.ticket_of c.args.self.now c.facts.ensures.apart t
     stands_for c.args.hash found g.K.PartialEq.eq g.met.K.Eq.laws rules c.requires.sound
     c.reweigh.new.self c.weigh-weight.result weight c.reweigh.ensures
 
@@ -45,14 +45,14 @@ returns-clause-stays g c =
     let found = c.requires.found in
     let stands_for = g.Q.Equivalent.equivalent c.args._query.now in
     let t = number c.args.token in
-    let same = found-value g.P.SharedPlaceholder.ticket_of c.args.self.now c.apart.ensures.apart t
+    let same = found-value g.P.SharedPlaceholder.ticket_of c.args.self.now c.facts.ensures.apart t
     stands_for c.args.hash found c.item-item.result c.item-item.ensures in
     let weight : c.weigh-weight.result ≡ rules.weight found.item.key found.item.value =
     c.weigh-weight.ensures
     ∙ (λ i. rules.weight (c.key.ensures i) (c.value.ensures i))
     ∙ ap (λ (item : Item g.row.K.Denot g.row.V.Denot). rules.weight item.key item.value) same in
     record {
-      sound = reweighed-sound g.P.SharedPlaceholder.ticket_of c.args.self.now c.apart.ensures.apart
+      sound = reweighed-sound g.P.SharedPlaceholder.ticket_of c.args.self.now c.facts.ensures.apart
           t
           stands_for c.args.hash found g.K.PartialEq.eq g.met.K.Eq.laws rules c.requires.sound
           c.reweigh.new.self c.weigh-weight.result weight c.reweigh.ensures;

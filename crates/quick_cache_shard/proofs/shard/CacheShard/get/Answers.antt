@@ -17,7 +17,7 @@ invariant_of-self-2 g c = c.in_ok-token.ensures.sound _ c.self.invariant
 pub returns : goal.returns
 returns g c =
     let looks = c.in_ok-token.ensures.looks_up in
-    let shown = IsItemOf-one c.look_up.new.self.lists c.apart.ensures.apart _
+    let shown = IsItemOf-one c.look_up.new.self.lists c.facts.ensures.apart _
     (looked_up c.self.inside.contents.mark_cut looks.item) c.item.result looks.now c.item.ensures in
     let value = c.value.ensures ∙ ap (λ (item : Item g.row.K.Denot g.row.V.Denot). item.value) shown
     in

@@ -45,7 +45,7 @@ returns-in_err-token g c =
 pub returns : goal.returns
 returns g c =
     let looks = c.in_ok-token.ensures.looks_up in
-    let shown = IsItemOf-one c.look_up.new.self.lists c.apart.ensures.apart _
+    let shown = IsItemOf-one c.look_up.new.self.lists c.facts.ensures.apart _
     (looked_up c.self.inside.contents.mark_cut looks.item) c.item.result looks.now c.item.ensures in
     let pair : (c.pair.result.0.now, c.pair.result.1.now) ≡ pair_of looks.item =
     (λ i. (c.pair.ensures.key i, c.pair.ensures.value i))

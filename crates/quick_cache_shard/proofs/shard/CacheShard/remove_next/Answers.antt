@@ -13,7 +13,7 @@ invariant_of-self g c = c.remove_next-taken.ensures.sound _ c.self.invariant
 pub returns-clause-next : goal.returns-clause-next
 returns-clause-next g c =
     rw (← c.self.view_is)
-    (removed-next c.self.inside.contents c.remove_next-taken.new.self c.apart.ensures.apart
+    (removed-next c.self.inside.contents c.remove_next-taken.new.self c.facts.ensures.apart
     (number_or_zero c.args.after) _
     (λ same. ap (λ (r : Contents _ _ _ _ _ _). record {
       state = state_of g.P.SharedPlaceholder.ticket_of r;

@@ -28,5 +28,5 @@ returns-clause-leaves g c =
       }) none.1,
     ))
     (λ pair takes. (rw (takes.gives, takes.rest)
-    (place-leaves old.lists c.apart.ensures.apart t takes.item takes.stood)))
+    (place-leaves old.lists c.facts.ensures.apart t takes.item takes.stood)))
     c.remove_token-taken.ensures.removes)

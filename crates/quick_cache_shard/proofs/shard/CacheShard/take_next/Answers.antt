@@ -14,5 +14,5 @@ returns-clause-leaves g c =
     (IfSome-map (λ taken. TakesToken old (number taken.0) taken.1 c.take_next-taken.new.self) _
     c.take_next-taken.result
     (λ taken takes. (rw (takes.gives, takes.rest)
-    (place-leaves old.lists c.apart.ensures.apart (number taken.0) takes.item takes.stood)))
+    (place-leaves old.lists c.facts.ensures.apart (number taken.0) takes.item takes.stood)))
     c.take_next-taken.ensures.token)

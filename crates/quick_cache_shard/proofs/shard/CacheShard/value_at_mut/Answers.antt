@@ -27,7 +27,7 @@ invariant_of-self-lent g c w =
     let stands_for = g.K.PartialEq.eq taken.0 in
     let found = found-at contents.lists token taken.0 taken.1 stands_for
     (g.met.K.Eq.laws.refl taken.0) in
-    written-sound g.P.SharedPlaceholder.ticket_of contents c.apart.ensures.apart token stands_for
+    written-sound g.P.SharedPlaceholder.ticket_of contents c.facts.ensures.apart token stands_for
     found.0 found.1 w g.K.PartialEq.eq _ c.self.invariant
 
 pub returns : goal.returns
@@ -41,11 +41,11 @@ returns g c =
     let stands_for = equal taken.0 in
     let found = found-at contents.lists token taken.0 taken.1 stands_for
     (g.met.K.Eq.laws.refl taken.0) in
-    let single = found-single ticket_of contents c.apart.ensures.apart token stands_for found.0
+    let single = found-single ticket_of contents c.facts.ensures.apart token stands_for found.0
     found.1 equal
     (λ first second one two. sym (g.met.K.Eq.laws.congr taken.0 first second one) ∙ two) _
     c.self.invariant in
-    let at = key_at-there contents.lists token taken.0 taken.1 c.apart.ensures.apart in
+    let at = key_at-there contents.lists token taken.0 taken.1 c.facts.ensures.apart in
     let is = c.value_mut.ensures.value in
     let held : HeldItem g.row.K.Denot g.row.V.Denot =
     record { token = token; hash = is.1.0; item = is.0 } in (
@@ -53,7 +53,7 @@ returns g c =
         refl,
         λ w. rw (← c.self.view_is)
             (λ i. record {
-              state = (written-state ticket_of contents c.apart.ensures.apart token stands_for
+              state = (written-state ticket_of contents c.facts.ensures.apart token stands_for
                   found.0 found.1 w single
                   ∙ ap (λ o. with_value_of equal o w (state_of ticket_of contents)) (sym at)) i;
               places = places_of-change token (with_value w) (λ i. refl) contents.lists i;

@@ -20,7 +20,7 @@ token_under-token-requires-clause-under g c =
 -- whatever value is written
 pub invariant_of-self-lent : goal.invariant_of-self-lent
 invariant_of-self-lent g c w =
-    written-sound g.P.SharedPlaceholder.ticket_of c.self.inside.contents c.apart.ensures.apart
+    written-sound g.P.SharedPlaceholder.ticket_of c.self.inside.contents c.facts.ensures.apart
     (number c.token_under-token.result) (g.Q.Equivalent.equivalent c.args.query.now) c.args.hash
     c.token_under-token.ensures w g.K.PartialEq.eq _ c.self.invariant
 
@@ -29,14 +29,14 @@ returns g c =
     let ticket_of = g.P.SharedPlaceholder.ticket_of in
     let stands_for = g.Q.Equivalent.equivalent c.args.query.now in
     let token = number c.token_under-token.result in
-    let single = found-single ticket_of c.self.inside.contents c.apart.ensures.apart token
+    let single = found-single ticket_of c.self.inside.contents c.facts.ensures.apart token
     stands_for c.args.hash c.token_under-token.ensures g.K.PartialEq.eq
     (g.met.Q.Equivalent.same_key c.args.query.now) _ c.self.invariant in (
       (
         refl,
         λ w. rw (← c.self.view_is)
             (λ i. record {
-              state = written-state ticket_of c.self.inside.contents c.apart.ensures.apart token
+              state = written-state ticket_of c.self.inside.contents c.facts.ensures.apart token
                   stands_for c.args.hash c.token_under-token.ensures w single i;
               places = places_of-change token (with_value w) (λ i. refl)
                   c.self.inside.contents.lists i;
@@ -53,7 +53,7 @@ returns g c =
       record {
         writes_back = tt;
         value = rw (← c.self.view_is) (found-shown ticket_of c.self.inside.contents
-            c.apart.ensures.apart token stands_for c.args.hash c.token_under-token.ensures
+            c.facts.ensures.apart token stands_for c.args.hash c.token_under-token.ensures
             g.K.PartialEq.eq (g.met.Q.Equivalent.same_key c.args.query.now) _ c.self.invariant
             c.value_mut.ensures.value.0 c.value_mut.ensures.value.1 c.value_mut.result.now
             c.value_mut.ensures.value.2);

@@ -18,6 +18,6 @@ pub returns : goal.returns
 returns g c =
     let stands_for = g.Q.Equivalent.equivalent c.args.query.now in
     rw (← c.self.view_is) (found-shown g.P.SharedPlaceholder.ticket_of c.self.inside.contents
-    c.apart.ensures.apart (number c.token_under-token.result) stands_for c.args.hash
+    c.facts.ensures.apart (number c.token_under-token.result) stands_for c.args.hash
     c.token_under-token.ensures g.K.PartialEq.eq (g.met.Q.Equivalent.same_key c.args.query.now) _
     c.self.invariant c.item.result c.item.ensures c.value.result.now c.value.ensures)

@@ -12,7 +12,7 @@ insert_reserved-token-requires g c = omega (arith, c.requires.room)
 pub insert_reserved-requires-clause-is_new : goal.insert_reserved-requires-clause-is_new
 insert_reserved-requires-clause-is_new g c =
     let placed = IsPlaced-from c.args.slots.now c.insert_reserved-token.new.self c.args.slot
-    c.validate.ensures c.insert_reserved-token.ensures.placed in
+    c.facts.ensures c.insert_reserved-token.ensures.placed in
     let none = ap (λ (t : ℕ). is_some (item_at c.args.slots.now t))
     c.insert_reserved-token.ensures.token ∙ ap is_some placed.vacant in
     λ has. true≢false (sym has ∙ c.requires.keyed.tokens (number c.insert_reserved-token.result)
@@ -21,7 +21,7 @@ insert_reserved-requires-clause-is_new g c =
 pub returns-clause-placed : goal.returns-clause-placed
 returns-clause-placed g c =
     rw c.insert_reserved-token.ensures.token (IsPlaced-from c.args.slots.now
-    c.insert_reserved-token.new.self c.args.slot c.validate.ensures
+    c.insert_reserved-token.new.self c.args.slot c.facts.ensures
     c.insert_reserved-token.ensures.placed)
 
 pub returns-clause-keyed : goal.returns-clause-keyed

@@ -11,7 +11,7 @@ key_all-requires-clause-room g c =
       length-past 0 c.args.slots.now.slots,
       c.len.ensures.items,
       c.len.ensures.free,
-      c.validate.ensures.few,
+      c.facts.ensures.few,
       c.saturating_add.ensures,
       c.in_ok-clear_for.ensures.room,
     ))
@@ -28,7 +28,7 @@ key_all-requires-clause-apart g c =
 pub returns-clause-keyed : goal.returns-clause-keyed
 returns-clause-keyed g c =
     let slab = c.args.slots.now in
-    let few : length slab.slots ≤ 4294967295 = omega (arith, c.validate.ensures.few) in
+    let few : length slab.slots ≤ 4294967295 = omega (arith, c.facts.ensures.few) in
     let counted : count_by is_some slab.slots + length slab.free ≡ length slab.slots =
     omega (arith, c.len.ensures.items, c.len.ensures.free) in
     IsKeyed-all slab c.clear_for.new.self c.key_all.new.index

@@ -10,7 +10,7 @@ copy_asides-requires g c =
     let i = c.self.inside in
     let asides = besides_of i.asides in
     let pool = c.in_ok-pool.pool in
-    let few = c.validate.ensures.few in
+    let few = c.facts.ensures.few in
     let beside = c.self.invariant.beside in
     record {
       in_step = c.self.invariant.in_step;

@@ -1,6 +1,6 @@
 use Rattle.std.proofs.Common.{vec_len, vec_capacity, arith}
 use Rattle.quick_cache_store.proofs.pool.StackLemmas.{IsParted-stack}
-use Rattle.quick_cache_store.proofs.pool.Pool.validate.Goals as goal
+use Rattle.quick_cache_store.proofs.pool.Pool.facts.Goals as goal
 
 pub returns : goal.returns
 returns g c =

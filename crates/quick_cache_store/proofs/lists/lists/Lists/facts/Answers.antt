@@ -1,6 +1,6 @@
 use Rattle.std.proofs.Common.{arith}
 use Rattle.quick_cache_store.proofs.lists.ApartLemmas.{apart_by}
-use Rattle.quick_cache_store.proofs.lists.lists.Lists.apart.Goals as goal
+use Rattle.quick_cache_store.proofs.lists.lists.Lists.facts.Goals as goal
 
 pub returns-clause-apart : goal.returns-clause-apart
 returns-clause-apart g c =
@@ -14,5 +14,5 @@ returns-clause-within g c =
       arith,
       c.self.invariant.all_counted,
       c.self.invariant.keyed.counted,
-      c.validate.ensures.few,
+      c.facts.ensures.few,
     ))
