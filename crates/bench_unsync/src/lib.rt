@@ -4,6 +4,7 @@
 ghost use Rattle.std.specs.Prelude.{All, IfOk};
 ghost use Rattle.quick_cache_runs.specs.Asked.{IfAsks};
 
+use quick_cache_expiring::Expiring;
 use quick_cache_model::Refusal;
 use quick_cache_runs::{Call, run};
 use quick_cache_unsync::{Cache, NotLoaded};
@@ -70,18 +71,65 @@ fn hits_by_runs(alloc: Global, items: usize, keys: &[u64]) -> Result<u64, Refusa
     Ok(cache.hits())
 }
 
+// Inserts the first keys, half as many as there are items. Then it removes the first of each two keys
+// and inserts the second, and counts what it removed.
+fn removals(alloc: Global, items: usize, keys: &[u64]) -> Result<u64, Refusal> {
+    let mut cache = Cache::new(alloc, items)?;
+    let (first, pairs) = keys.split_at(keys.len().min(items / 2));
+    for key in first {
+        cache.put(*key, *key)?;
+    }
+    let mut removed: u64 = 0;
+    for pair in pairs.chunks(2) {
+        if let [leaves, enters] = pair {
+            if cache.remove(leaves).is_some() {
+                removed = removed.wrapping_add(1);
+            }
+            cache.insert(*enters, *enters).map_err(|(_, _, refusal)| refusal)?;
+        }
+    }
+    Ok(removed)
+}
+
+// Inserts the keys, and tells how many bytes the slots take then.
+fn bytes_of_entries(alloc: Global, items: usize, keys: &[u64]) -> Result<u64, Refusal> {
+    let mut cache = Cache::new(alloc, items)?;
+    for key in keys {
+        cache.put(*key, *key)?;
+    }
+    Ok(cache.memory_used().entries as u64)
+}
+
+// Looks each key up at a moment, and inserts it with a life where nothing was found.
+fn hits_with_lives(alloc: Global, items: usize, keys: &[u64]) -> Result<u64, Refusal> {
+    let mut cache = Expiring::new(alloc, items)?;
+    for key in keys {
+        if cache.get(key, 0).is_none() {
+            cache.insert(*key, *key, 0, 1).map_err(|(_, _, refusal)| refusal)?;
+        }
+    }
+    Ok(cache.stats().hits)
+}
+
 /// Goes over the keys with a new cache of so many items, each of weight 1, and answers the hits.
 ///
 /// Mode 0 is a `get` of each key, and an `insert` where that gave nothing. Mode 1 is one
 /// `get_or_insert_with` of each key. Mode 2 is the same by `run`, over lists of 64 calls: a list is
 /// made before its first reply is known, so it cannot hold the insert of just those keys that its
-/// look-ups miss, and each call is one that loads. No other mode is built.
+/// look-ups miss, and each call is one that loads. Mode 3 inserts half as many keys as there are
+/// items, then removes the first of each two keys and inserts the second, and answers how many it
+/// removed. Mode 4 inserts each key, and answers the bytes of the entries. Mode 5 is mode 0 over
+/// entries that end. No other mode is built.
 #[unsafe(no_mangle)]
 pub extern "C" fn qcbench_trace(alloc: Global, mode: u32, items: u64, keys: &[u64]) -> u64 {
-    match mode {
-        0 => hits_by_get_and_insert(alloc, items as usize, keys).unwrap_or(REFUSED),
-        1 => hits_by_loads(alloc, items as usize, keys).unwrap_or(REFUSED),
-        2 => hits_by_runs(alloc, items as usize, keys).unwrap_or(REFUSED),
-        _ => NOT_BUILT,
-    }
+    let answer = match mode {
+        0 => hits_by_get_and_insert(alloc, items as usize, keys),
+        1 => hits_by_loads(alloc, items as usize, keys),
+        2 => hits_by_runs(alloc, items as usize, keys),
+        3 => removals(alloc, items as usize, keys),
+        4 => bytes_of_entries(alloc, items as usize, keys),
+        5 => hits_with_lives(alloc, items as usize, keys),
+        _ => return NOT_BUILT,
+    };
+    answer.unwrap_or(REFUSED)
 }

@@ -1,6 +1,9 @@
-//! Tests of the traced cache, and of listeners, pins and weights that are ready made, in both caches.
+//! Tests of the traced cache, and of listeners, counts, pins and weights that are ready made, in both
+//! caches.
 #![tactic(auto)]
 
+#[cfg(test)]
+mod counting;
 #[cfg(test)]
 mod fitting;
 #[cfg(test)]

@@ -16,7 +16,7 @@ visit-requires g c =
     let first : FirstTakes c.args.takes_touches may_count f.0 f.1 c.args.self.now
     c.if-takes_touches.self = elim c.if-takes_touches.branch [
       | then-takes_touches w ↦ FirstTakes-taken may_count f.0 f.1 c.args.self.now f.2 _ _ _ _
-          w.if-takes_touches.true f.3 w.apart.ensures.apart w.take_touches.ensures w.self-is
+          w.if-takes_touches.true f.3 w.facts.ensures.apart w.take_touches.ensures w.self-is
       | else-takes_touches w ↦ FirstTakes-none may_count f.0 f.1 c.args.self.now f.2 _ _
           w.if-takes_touches.false w.self-is
     ] in
@@ -30,7 +30,7 @@ returns g c =
     let first : FirstTakes c.args.takes_touches may_count f.0 f.1 c.args.self.now
     c.if-takes_touches.self = elim c.if-takes_touches.branch [
       | then-takes_touches w ↦ FirstTakes-taken may_count f.0 f.1 c.args.self.now f.2 _ _ _ _
-          w.if-takes_touches.true f.3 w.apart.ensures.apart w.take_touches.ensures w.self-is
+          w.if-takes_touches.true f.3 w.facts.ensures.apart w.take_touches.ensures w.self-is
       | else-takes_touches w ↦ FirstTakes-none may_count f.0 f.1 c.args.self.now f.2 _ _
           w.if-takes_touches.false w.self-is
     ] in

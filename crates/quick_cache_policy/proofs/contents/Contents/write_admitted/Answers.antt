@@ -42,7 +42,7 @@ enter_at-requires-in-OverLoading-clause-enters g c =
     let found = planned.1 in
     at_loading found
     (c.queue-queue.ensures ∙ ap (λ (w : HeldLoading _ _). w.queue)
-    (awaited-is_loading c.args.self.now.lists c.facts-2.ensures.apart
+    (awaited-is_loading c.args.self.now.lists c.facts-in-OverLoading.ensures.apart
     (number c.in-OverLoading.token) c.awaited.ensures.0 c.awaited.result c.awaited.ensures.1
     found.waiting found.stands found.named)) refl
 

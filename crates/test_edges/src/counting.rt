@@ -1,0 +1,100 @@
+//! What leaves a shared cache is counted by its cause, by all threads together.
+use quick_cache::{DefaultHashBuilder, Refusal, sync};
+use quick_cache_listeners::{ByLength, Cause, CountedByThreads, SharedTallies, Tallies};
+use std::alloc::Global;
+use std::sync::{Arc, Wait};
+use std::test::Fail;
+use std::thread::join;
+
+/// Counts what leaves a cache of texts, by their length.
+type Counting = CountedByThreads<ByLength, sync::DefaultLifecycle<u64, &'static str>>;
+
+/// A cache of texts that counts what leaves.
+type Texts = sync::Cache<u64, &'static str, ByLength, DefaultHashBuilder, Counting>;
+
+/// A cache for so many items and bytes, which counts into these tallies.
+fn texts(
+    alloc: Global,
+    items: usize,
+    bytes: u64,
+    tallies: Arc<SharedTallies>,
+) -> Result<Texts, Refusal> {
+    let lifecycle = CountedByThreads {
+        tallies,
+        weigher: ByLength,
+        inner: sync::DefaultLifecycle::new(),
+    };
+    let builder = DefaultHashBuilder::new();
+    sync::Cache::with(alloc, items, bytes, ByLength, builder, lifecycle)
+}
+
+/// Writes each of these texts.
+fn write_all<R: Wait>(
+    rt: &R,
+    texts: &Texts,
+    list: &[(u64, &'static str)],
+) -> Result<(), Refusal> {
+    for (key, text) in list {
+        texts.put(rt, *key, *text)?;
+    }
+    Ok(())
+}
+
+/// Writes four bytes under each of a thousand keys from the first on.
+fn write_a_thousand<R: Wait>(rt: &R, texts: &Texts, first: u64) -> Result<(), Refusal> {
+    for turn in 0..1000u64 {
+        texts.put(rt, first.wrapping_add(turn), "four")?;
+    }
+    Ok(())
+}
+
+/// How many pairs left for a cause, and their weight.
+fn of(tallies: &Tallies, cause: Cause) -> (u64, u64) {
+    let tally = tallies.of(cause);
+    (tally.pairs, tally.weight)
+}
+
+#[test]
+fn what_leaves_a_shared_cache_is_counted_by_its_cause(rt: HostRuntime) -> Result<(), Fail> {
+    let alloc = rt.alloc();
+    let tallies = Arc::new(alloc, SharedTallies::new())?;
+    let cache = texts(alloc, 10, 10, tallies.clone()?)?;
+    let list = [
+        (1, "four"),
+        (2, "five!"),
+        (1, "six"),
+        (3, "nine"),
+        (4, "much too long"),
+    ];
+    write_all(&rt, &cache, &list)?;
+    let seen = tallies.seen();
+    assert_eq!(rt; of(&seen, Cause::Replaced), (1, 4));
+    assert_eq!(rt; of(&seen, Cause::TurnedAway), (0, 0));
+    assert_eq!(rt; of(&seen, Cause::EvictedHot), (1, 5));
+    // Nothing stood under the key of what is too heavy, so it is told as a cold victim.
+    assert_eq!(rt; of(&seen, Cause::EvictedCold), (1, 13));
+    assert_eq!(rt; cache.len(&rt), 2);
+    Ok(())
+}
+
+#[test]
+fn each_pair_that_threads_push_out_is_counted_once(rt: HostRuntime) -> Result<(), Fail> {
+    let alloc = rt.alloc();
+    let tallies = Arc::new(alloc, SharedTallies::new())?;
+    let cache = texts(alloc, 100, 400, tallies.clone()?)?;
+    let (first, second) = join(
+        &rt,
+        || write_a_thousand(&rt, &cache, 0),
+        || write_a_thousand(&rt, &cache, 1000),
+    );
+    first?;
+    second?;
+    let seen = tallies.seen();
+    let (hot, hot_weight) = of(&seen, Cause::EvictedHot);
+    let (cold, cold_weight) = of(&seen, Cause::EvictedCold);
+    let left = hot.wrapping_add(cold);
+    assert_eq!(rt; left.wrapping_add(cache.len(&rt) as u64), 2000);
+    assert_eq!(rt; hot_weight.wrapping_add(cold_weight), left.wrapping_mul(4));
+    assert_eq!(rt; of(&seen, Cause::Replaced), (0, 0));
+    Ok(())
+}
