@@ -85,7 +85,9 @@ fn removals(alloc: Global, items: usize, keys: &[u64]) -> Result<u64, Refusal> {
             if cache.remove(leaves).is_some() {
                 removed = removed.wrapping_add(1);
             }
-            cache.insert(*enters, *enters).map_err(|(_, _, refusal)| refusal)?;
+            cache
+                .insert(*enters, *enters)
+                .map_err(|(_, _, refusal)| refusal)?;
         }
     }
     Ok(removed)
@@ -105,7 +107,9 @@ fn hits_with_lives(alloc: Global, items: usize, keys: &[u64]) -> Result<u64, Ref
     let mut cache = Expiring::new(alloc, items)?;
     for key in keys {
         if cache.get(key, 0).is_none() {
-            cache.insert(*key, *key, 0, 1).map_err(|(_, _, refusal)| refusal)?;
+            cache
+                .insert(*key, *key, 0, 1)
+                .map_err(|(_, _, refusal)| refusal)?;
         }
     }
     Ok(cache.stats().hits)

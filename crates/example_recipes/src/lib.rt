@@ -6,6 +6,7 @@ pub mod borrowed;
 pub mod counted;
 pub mod listener;
 pub mod memo;
+pub mod names;
 pub mod promises;
 pub mod runs;
 pub mod sessions;

@@ -3,6 +3,7 @@
 pub mod answered;
 pub mod containers;
 pub mod keys;
+pub mod listened;
 pub mod one_thread;
 pub mod options;
 pub mod room;

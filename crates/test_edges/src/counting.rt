@@ -3,8 +3,8 @@ use quick_cache::{DefaultHashBuilder, Refusal, sync};
 use quick_cache_listeners::{ByLength, Cause, CountedByThreads, SharedTallies, Tallies};
 use std::alloc::Global;
 use std::sync::{Arc, Wait};
-use std::test::Fail;
 use std::thread::join;
+use test_tools::{expect_eq, expect_ok};
 
 /// Counts what leaves a cache of texts, by their length.
 type Counting = CountedByThreads<ByLength, sync::DefaultLifecycle<u64, &'static str>>;
@@ -29,11 +29,7 @@ fn texts(
 }
 
 /// Writes each of these texts.
-fn write_all<R: Wait>(
-    rt: &R,
-    texts: &Texts,
-    list: &[(u64, &'static str)],
-) -> Result<(), Refusal> {
+fn write_all<R: Wait>(rt: &R, texts: &Texts, list: &[(u64, &'static str)]) -> Result<(), Refusal> {
     for (key, text) in list {
         texts.put(rt, *key, *text)?;
     }
@@ -55,10 +51,11 @@ fn of(tallies: &Tallies, cause: Cause) -> (u64, u64) {
 }
 
 #[test]
-fn what_leaves_a_shared_cache_is_counted_by_its_cause(rt: HostRuntime) -> Result<(), Fail> {
+fn what_leaves_a_shared_cache_is_counted_by_its_cause(rt: HostRuntime) {
     let alloc = rt.alloc();
-    let tallies = Arc::new(alloc, SharedTallies::new())?;
-    let cache = texts(alloc, 10, 10, tallies.clone()?)?;
+    let tallies = expect_ok!(rt; Arc::new(alloc, SharedTallies::new()));
+    let shared = expect_ok!(rt; tallies.clone());
+    let cache = expect_ok!(rt; texts(alloc, 10, 10, shared));
     let list = [
         (1, "four"),
         (2, "five!"),
@@ -66,35 +63,34 @@ fn what_leaves_a_shared_cache_is_counted_by_its_cause(rt: HostRuntime) -> Result
         (3, "nine"),
         (4, "much too long"),
     ];
-    write_all(&rt, &cache, &list)?;
+    expect_ok!(rt; write_all(&rt, &cache, &list));
     let seen = tallies.seen();
-    assert_eq!(rt; of(&seen, Cause::Replaced), (1, 4));
-    assert_eq!(rt; of(&seen, Cause::TurnedAway), (0, 0));
-    assert_eq!(rt; of(&seen, Cause::EvictedHot), (1, 5));
+    expect_eq!(rt; of(&seen, Cause::Replaced), (1, 4));
+    expect_eq!(rt; of(&seen, Cause::TurnedAway), (0, 0));
+    expect_eq!(rt; of(&seen, Cause::EvictedHot), (1, 5));
     // Nothing stood under the key of what is too heavy, so it is told as a cold victim.
-    assert_eq!(rt; of(&seen, Cause::EvictedCold), (1, 13));
-    assert_eq!(rt; cache.len(&rt), 2);
-    Ok(())
+    expect_eq!(rt; of(&seen, Cause::EvictedCold), (1, 13));
+    expect_eq!(rt; cache.len(&rt), 2);
 }
 
 #[test]
-fn each_pair_that_threads_push_out_is_counted_once(rt: HostRuntime) -> Result<(), Fail> {
+fn each_pair_that_threads_push_out_is_counted_once(rt: HostRuntime) {
     let alloc = rt.alloc();
-    let tallies = Arc::new(alloc, SharedTallies::new())?;
-    let cache = texts(alloc, 100, 400, tallies.clone()?)?;
+    let tallies = expect_ok!(rt; Arc::new(alloc, SharedTallies::new()));
+    let shared = expect_ok!(rt; tallies.clone());
+    let cache = expect_ok!(rt; texts(alloc, 100, 400, shared));
     let (first, second) = join(
         &rt,
         || write_a_thousand(&rt, &cache, 0),
         || write_a_thousand(&rt, &cache, 1000),
     );
-    first?;
-    second?;
+    expect_ok!(rt; first);
+    expect_ok!(rt; second);
     let seen = tallies.seen();
     let (hot, hot_weight) = of(&seen, Cause::EvictedHot);
     let (cold, cold_weight) = of(&seen, Cause::EvictedCold);
     let left = hot.wrapping_add(cold);
-    assert_eq!(rt; left.wrapping_add(cache.len(&rt) as u64), 2000);
-    assert_eq!(rt; hot_weight.wrapping_add(cold_weight), left.wrapping_mul(4));
-    assert_eq!(rt; of(&seen, Cause::Replaced), (0, 0));
-    Ok(())
+    expect_eq!(rt; left.wrapping_add(cache.len(&rt) as u64), 2000);
+    expect_eq!(rt; hot_weight.wrapping_add(cold_weight), left.wrapping_mul(4));
+    expect_eq!(rt; of(&seen, Cause::Replaced), (0, 0));
 }

@@ -1,5 +1,6 @@
 //! What a user of the shared cache relies on, whatever other threads do.
-ghost use Rattle.std.specs.Prelude.{◌≡◌, ◌<◌, [], ◌∷◌, IfOk, IfErr, IfSome, OnErr, Some, None, true, false};
+ghost use Rattle.std.specs.Prelude.{◌≡◌, ◌⊎◌, ◌<◌, [], ◌∷◌, IfOk, IfErr, IfSome, OnErr, Some, None, true, false};
+ghost use Rattle.quick_cache_model.specs.declared.refusal.Refusal.TheVariants.{Memory, SlotsFull};
 ghost use Rattle.quick_cache_model.specs.Hashing.{hash_of};
 ghost use Rattle.quick_cache_locked.specs.Locked.{FromSome};
 ghost use Rattle.quick_cache_sync.specs.Answers.{ReplacesSoBy};
@@ -84,6 +85,21 @@ pub fn insert_or_take_back<
     ensures state { OnErr result (state.new ≡ state.old) }
 {
     cache.insert_with_lifecycle(rt, key, value, state)
+}
+
+/// A put is refused for want of memory or of a slot, and of no ticket.
+pub fn put_or_tell_why<
+    K: Eq + Hash + Drop,
+    V: Drop,
+    We: Weighter<K, V>,
+    B: BuildHasher,
+    L: Lifecycle<K, V>,
+    R: Wait,
+>(rt: &R, cache: &Cache<K, V, We, B, L>, key: K, value: V) -> Result<(), Refusal>
+    requires fits { L.fits key value }
+    ensures why { IfErr result (λ refusal. refusal ≡ Memory ⊎ refusal ≡ SlotsFull) }
+{
+    cache.put(rt, key, value)
 }
 
 /// A replace that is not soft answers as one that marks the item, of some shard.

@@ -1,0 +1,36 @@
+//! Names that are numbered as they come: each is looked up without a copy of its text.
+use quick_cache_unsync::{Cache, LoadError, TextIn};
+use std::alloc::Global;
+use std::convert::Infallible;
+
+/// The number of a name: that which it has, or the next one. Only for a new name a text is made.
+pub fn number_of(
+    alloc: Global,
+    known: &mut Cache<String, u64>,
+    name: &str,
+) -> Result<u64, LoadError<Infallible>> {
+    let next = known.len() as u64;
+    known.get_or_load(&TextIn::new(alloc, name), || Ok(next))
+}
+
+#[cfg(test)]
+mod tests {
+    use super::*;
+    use std::test::Fail;
+
+    #[test]
+    fn names_are_numbered_as_they_come(rt: HostRuntime) -> Result<(), Fail> {
+        let mut known = Cache::new(rt.alloc(), 100)?;
+        for (name, number) in [
+            ("anna", 0),
+            ("bert", 1),
+            ("anna", 0),
+            ("carl", 2),
+            ("bert", 1),
+        ] {
+            assert_eq!(rt; number_of(rt.alloc(), &mut known, name)?, number);
+        }
+        assert_eq!(rt; (known.hits(), known.misses(), known.len()), (2, 3, 3));
+        Ok(())
+    }
+}
