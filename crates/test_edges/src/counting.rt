@@ -1,5 +1,5 @@
 //! What leaves a shared cache is counted by its cause, by all threads together.
-use quick_cache::{DefaultHashBuilder, Refusal, sync};
+use quick_cache::{DefaultHashBuilder, Refusal, UnitWeighter, sync};
 use quick_cache_listeners::{ByLength, Cause, CountedByThreads, SharedTallies, Tallies};
 use std::alloc::Global;
 use std::sync::{Arc, Wait};
@@ -36,10 +36,28 @@ fn write_all<R: Wait>(rt: &R, texts: &Texts, list: &[(u64, &'static str)]) -> Re
     Ok(())
 }
 
-/// Writes four bytes under each of a thousand keys from the first on.
-fn write_a_thousand<R: Wait>(rt: &R, texts: &Texts, first: u64) -> Result<(), Refusal> {
+/// Counts what leaves a cache of numbers, each of weight 1.
+type CountingNumbers = CountedByThreads<UnitWeighter, sync::DefaultLifecycle<u64, u64>>;
+
+/// A cache of numbers that counts what leaves.
+type Numbers = sync::Cache<u64, u64, UnitWeighter, DefaultHashBuilder, CountingNumbers>;
+
+/// A cache for a hundred numbers, which counts into these tallies.
+fn numbers(alloc: Global, tallies: Arc<SharedTallies>) -> Result<Numbers, Refusal> {
+    let lifecycle = CountedByThreads {
+        tallies,
+        weigher: UnitWeighter,
+        inner: sync::DefaultLifecycle::new(),
+    };
+    let builder = DefaultHashBuilder::new();
+    sync::Cache::with(alloc, 100, 100, UnitWeighter, builder, lifecycle)
+}
+
+/// Writes each of a thousand numbers from the first on.
+fn write_a_thousand<R: Wait>(rt: &R, numbers: &Numbers, first: u64) -> Result<(), Refusal> {
     for turn in 0..1000u64 {
-        texts.put(rt, first.wrapping_add(turn), "four")?;
+        let number = first.wrapping_add(turn);
+        numbers.put(rt, number, number)?;
     }
     Ok(())
 }
@@ -78,7 +96,7 @@ fn each_pair_that_threads_push_out_is_counted_once(rt: HostRuntime) {
     let alloc = rt.alloc();
     let tallies = expect_ok!(rt; Arc::new(alloc, SharedTallies::new()));
     let shared = expect_ok!(rt; tallies.clone());
-    let cache = expect_ok!(rt; texts(alloc, 100, 400, shared));
+    let cache = expect_ok!(rt; numbers(alloc, shared));
     let (first, second) = join(
         &rt,
         || write_a_thousand(&rt, &cache, 0),
@@ -91,6 +109,6 @@ fn each_pair_that_threads_push_out_is_counted_once(rt: HostRuntime) {
     let (cold, cold_weight) = of(&seen, Cause::EvictedCold);
     let left = hot.wrapping_add(cold);
     expect_eq!(rt; left.wrapping_add(cache.len(&rt) as u64), 2000);
-    expect_eq!(rt; hot_weight.wrapping_add(cold_weight), left.wrapping_mul(4));
+    expect_eq!(rt; hot_weight.wrapping_add(cold_weight), left);
     expect_eq!(rt; of(&seen, Cause::Replaced), (0, 0));
 }
