@@ -2,6 +2,10 @@
 use std::collections::HashMap;
 use std::hash::{BuildHasherDefault, Hasher};
 
+#[path = "../common.rs"]
+mod common;
+use common::processor_time;
+
 unsafe extern "C" {
     fn table_bench(
         hashes: *const u64,
@@ -13,21 +17,6 @@ unsafe extern "C" {
         rounds: u64,
     ) -> u64;
     fn table_bytes(room: usize) -> usize;
-    fn clock_gettime(clock: i32, time: *mut Time) -> i32;
-}
-
-#[repr(C)]
-struct Time {
-    seconds: i64,
-    nanoseconds: i64,
-}
-
-/// The seconds that this thread has had a processor, by Linux's clock for that: what else the
-/// machine does counts only by what it leaves in the caches.
-fn processor_time() -> f64 {
-    let mut time = Time { seconds: 0, nanoseconds: 0 };
-    assert!(unsafe { clock_gettime(3, &mut time) } == 0);
-    time.seconds as f64 + time.nanoseconds as f64 * 1e-9
 }
 
 /// A hash is its own hash.

@@ -2,43 +2,10 @@
 //! the same arguments and the same lines. Both have 16 shards, and hash by a few multiplications.
 use quick_cache::sync::{Cache, DefaultLifecycle};
 use quick_cache::{OptionsBuilder, UnitWeighter};
-use std::hash::{BuildHasher, Hasher};
 use std::time::Instant;
 
-/// Hashes a number by two folded multiplications.
-#[derive(Clone)]
-struct Folding;
-
-struct Fold(u64);
-
-fn folded(a: u64, b: u64) -> u64 {
-    let product = u128::from(a) * u128::from(b);
-    (product as u64) ^ ((product >> 64) as u64)
-}
-
-impl BuildHasher for Folding {
-    type Hasher = Fold;
-
-    fn build_hasher(&self) -> Fold {
-        Fold(0x452821e638d01377)
-    }
-}
-
-impl Hasher for Fold {
-    fn write(&mut self, bytes: &[u8]) {
-        for byte in bytes {
-            self.write_u64(u64::from(*byte));
-        }
-    }
-
-    fn write_u64(&mut self, number: u64) {
-        self.0 = folded(self.0 ^ number, 0x9e3779b97f4a7c15);
-    }
-
-    fn finish(&self) -> u64 {
-        folded(self.0, 0xa0761d6478bd642f)
-    }
-}
+mod common;
+use common::Folding;
 
 type Shared = Cache<u64, u64, UnitWeighter, Folding, DefaultLifecycle<u64, u64>>;
 

@@ -2,36 +2,20 @@
 # Times the cache that threads share beside that of the Rust crate. Usage: bench/threads/run.sh CRATE [RUNS]
 # CRATE is the folder of quick_cache 0.7.0, with its Cargo.toml. RUNS is how often the two take turns, 9 if left out.
 set -e
-crate=$(cd "$1" && pwd)
 runs=${2:-9}
 operations=${OPERATIONS:-2000000}
 rounds=${ROUNDS:-3}
 here=$(cd "$(dirname "$0")" && pwd)
 program=$here/../../crates/bench_sync
 (cd "$program" && rt run)
-mkdir -p "$here/out/src"
-cp "$here/driver.rs" "$here/out/src/main.rs"
-cat > "$here/out/Cargo.toml" <<END
-[package]
-name = "threads_driver"
-version = "0.1.0"
-edition = "2024"
-[dependencies]
-quick_cache = { path = "$crate" }
-[profile.release]
-opt-level = 3
-lto = "fat"
-codegen-units = 1
-[workspace]
-END
+"$here/../driver.sh" "$here" "$1"
 cd "$here/out"
-RUSTFLAGS="-C target-cpu=x86-64-v2" cargo build -q --release
 rm -f times
 for _ in $(seq "$runs"); do
     for items in ${ITEMS:-16384 262144}; do
         for threads in 1 2 4; do
             "$program/out/bench_sync" threads "$threads" "$operations" "$items" "$rounds" | sed "s/^/$items $threads proved /" >> times
-            target/release/threads_driver "$threads" "$operations" "$items" "$rounds" | sed "s/^/$items $threads rust /" >> times
+            target/release/driver "$threads" "$operations" "$items" "$rounds" | sed "s/^/$items $threads rust /" >> times
         done
     done
 done

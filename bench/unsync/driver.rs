@@ -2,28 +2,14 @@
 //! what both answer. See README.md.
 use quick_cache::UnitWeighter;
 use quick_cache::unsync::Cache;
-use std::hash::{BuildHasher, Hasher};
 use std::hint::black_box;
+
+mod common;
+use common::{Folding, processor_time};
 
 unsafe extern "C" {
     /// The proved cache's side: `crates/bench_unsync` says what each mode does and answers.
     fn qcbench_trace(mode: u32, items: u64, keys: *const u64, length: usize) -> u64;
-
-    fn clock_gettime(clock: i32, time: *mut Time) -> i32;
-}
-
-#[repr(C)]
-struct Time {
-    seconds: i64,
-    nanoseconds: i64,
-}
-
-/// The nanoseconds that this thread has had a processor, by Linux's clock for that.
-fn processor_time() -> f64 {
-    let mut time = Time { seconds: 0, nanoseconds: 0 };
-    // SAFETY: the clock writes the time, and keeps no pointer to it.
-    assert_eq!(unsafe { clock_gettime(3, &mut time) }, 0);
-    time.seconds as f64 * 1e9 + time.nanoseconds as f64
 }
 
 const SIZES: [usize; 3] = [1_000, 10_000, 100_000];
@@ -37,41 +23,6 @@ enum Mode {
     RemoveAndInsert = 3,
     Bytes = 4,
     Lives = 5,
-}
-
-/// Hashes a number by two folded multiplications.
-#[derive(Clone, Default)]
-struct Folding;
-
-struct Fold(u64);
-
-fn folded(a: u64, b: u64) -> u64 {
-    let product = u128::from(a) * u128::from(b);
-    (product as u64) ^ ((product >> 64) as u64)
-}
-
-impl BuildHasher for Folding {
-    type Hasher = Fold;
-
-    fn build_hasher(&self) -> Fold {
-        Fold(0x452821e638d01377)
-    }
-}
-
-impl Hasher for Fold {
-    fn write(&mut self, bytes: &[u8]) {
-        for byte in bytes {
-            self.write_u64(u64::from(*byte));
-        }
-    }
-
-    fn write_u64(&mut self, number: u64) {
-        self.0 = folded(self.0 ^ number, 0x9e3779b97f4a7c15);
-    }
-
-    fn finish(&self) -> u64 {
-        folded(self.0, 0xa0761d6478bd642f)
-    }
 }
 
 /// Pseudo-random numbers, by xorshift and a multiplication.
@@ -161,14 +112,14 @@ fn proved_trace(mode: Mode, items: u64, keys: &[u64]) -> u64 {
     unsafe { qcbench_trace(mode as u32, items, keys.as_ptr(), keys.len()) }
 }
 
-/// Nanoseconds an operation behind the first `warm` keys, and what was found among these.
+/// Nanoseconds of an operation behind the first `warm` keys, and what was found among these.
 fn timed(trace: impl Fn(&[u64]) -> u64, keys: &[u64], warm: usize, operations: usize) -> (f64, u64) {
     let begun = processor_time();
     let before = black_box(trace(&keys[..warm]));
     let warmed = processor_time();
     let all = black_box(trace(keys));
     let ended = processor_time();
-    (((ended - warmed) - (warmed - begun)) / operations as f64, all - before)
+    (((ended - warmed) - (warmed - begun)) * 1e9 / operations as f64, all - before)
 }
 
 fn median(mut values: Vec<f64>) -> f64 {
