@@ -1,14 +1,14 @@
 //! What the listeners, pins and weights that are ready made promise.
-ghost use Rattle.std.specs.Prelude.{◌≡◌, ◌<◌, ◌∷◌, [], Some, None, true, ◌==◌, ◌%◌};
+ghost use Rattle.std.specs.Prelude.{◌≡◌, ◌<◌, ◌∷◌, [], Some, None, length, ◌==◌, ◌%◌};
 
 use quick_cache_listeners::{ByLength, Collect, Collected, OnLeave, Pin, PinBy};
 use quick_cache_model::{Lifecycle, Weighter};
 
 /// A text weighs as many as it has bytes.
-pub fn weigh_a_text() -> u64
-    ensures { result ≡ 4 }
+pub fn weigh_a_text(number: &u64, text: &'static str) -> u64
+    ensures { result ≡ length text.now }
 {
-    ByLength.weight(&1u64, &"four")
+    ByLength.weight(number, &text)
 }
 
 /// Pins the pairs of odd keys.
@@ -23,11 +23,11 @@ impl<V> Pin<u64, V> for Odd {
     }
 }
 
-/// The first of two pins, also where the second pins nothing.
-pub fn pin_by_the_first(value: &u64) -> bool
-    ensures { result ≡ true }
+/// Where a test pins over a lifecycle that pins nothing, the test decides.
+pub fn pin_by_the_first(key: &u64, value: &u64) -> bool
+    ensures { result ≡ (key.now % 2 == 1) }
 {
-    PinBy(Odd, OnLeave(Collect)).is_pinned(&3, value)
+    PinBy(Odd, OnLeave(Collect)).is_pinned(key, value)
 }
 
 /// What leaves the hot ring is kept, where there is room.
