@@ -3,14 +3,15 @@ use quick_cache_unsync::{Cache, LoadError, TextIn};
 use std::alloc::Global;
 use std::convert::Infallible;
 
-/// The number of a name: that which it has, or the next one. Only for a new name a text is made.
+/// The number of a name: the one that it has, or a new one. Only for a new name a text is made, and
+/// a name that left the cache is new once more.
 pub fn number_of(
     alloc: Global,
     known: &mut Cache<String, u64>,
     name: &str,
 ) -> Result<u64, LoadError<Infallible>> {
-    let next = known.len() as u64;
-    known.get_or_load(&TextIn::new(alloc, name), || Ok(next))
+    let new = known.misses();
+    known.get_or_load(&TextIn::new(alloc, name), || Ok(new))
 }
 
 #[cfg(test)]
@@ -31,6 +32,8 @@ mod tests {
             assert_eq!(rt; number_of(rt.alloc(), &mut known, name)?, number);
         }
         assert_eq!(rt; (known.hits(), known.misses(), known.len()), (2, 3, 3));
+        known.clear();
+        assert_eq!(rt; number_of(rt.alloc(), &mut known, "anna")?, 3);
         Ok(())
     }
 }

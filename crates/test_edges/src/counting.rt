@@ -12,20 +12,15 @@ type Counting = CountedByThreads<ByLength, sync::DefaultLifecycle<u64, &'static 
 /// A cache of texts that counts what leaves.
 type Texts = sync::Cache<u64, &'static str, ByLength, DefaultHashBuilder, Counting>;
 
-/// A cache for so many items and bytes, which counts into these tallies.
-fn texts(
-    alloc: Global,
-    items: usize,
-    bytes: u64,
-    tallies: Arc<SharedTallies>,
-) -> Result<Texts, Refusal> {
+/// A cache for ten bytes of text, which counts into these tallies.
+fn texts(alloc: Global, tallies: Arc<SharedTallies>) -> Result<Texts, Refusal> {
     let lifecycle = CountedByThreads {
         tallies,
         weigher: ByLength,
         inner: sync::DefaultLifecycle::new(),
     };
     let builder = DefaultHashBuilder::new();
-    sync::Cache::with(alloc, items, bytes, ByLength, builder, lifecycle)
+    sync::Cache::with(alloc, 10, 10, ByLength, builder, lifecycle)
 }
 
 /// Writes each of these texts.
@@ -73,7 +68,7 @@ fn what_leaves_a_shared_cache_is_counted_by_its_cause(rt: HostRuntime) {
     let alloc = rt.alloc();
     let tallies = expect_ok!(rt; Arc::new(alloc, SharedTallies::new()));
     let shared = expect_ok!(rt; tallies.clone());
-    let cache = expect_ok!(rt; texts(alloc, 10, 10, shared));
+    let cache = expect_ok!(rt; texts(alloc, shared));
     let list = [
         (1, "four"),
         (2, "five!"),
