@@ -6,8 +6,7 @@ pub mod lives;
 mod making;
 mod runs;
 mod scans;
-#[cfg(test)]
-mod thousand;
 
 pub use quick_cache_model::{Call, Reply};
 pub use runs::run;
+pub use scans::scan;

@@ -1,4 +1,6 @@
 //! Lists of calls: one of each kind, and calls that come back.
+mod thousand;
+
 use crate::Predicate;
 use quick_cache_base::Refusal;
 use quick_cache_runs::{Call, Reply, run};

@@ -1,6 +1,6 @@
 use Rattle.std.proofs.Common.{All}
 use Rattle.quick_cache_runs.specs.Asked.{IfAsks}
-use Rattle.quick_cache_runs.proofs.thousand.thousand_inserts.Given as goal
+use Rattle.test_unsync.proofs.runs.thousand.thousand_inserts.Given as goal
 
 -- no call asks a predicate
 abbrev pub invariant-loop-key : goal.invariant-loop-key
