@@ -3,8 +3,13 @@
 
 #[cfg(test)]
 mod calls;
-pub mod divisors;
-pub mod memoised;
-pub mod resolver;
-pub mod saved;
-pub mod sessions;
+#[cfg(test)]
+mod divisors;
+#[cfg(test)]
+mod memoised;
+#[cfg(test)]
+mod resolver;
+#[cfg(test)]
+mod saved;
+#[cfg(test)]
+mod sessions;

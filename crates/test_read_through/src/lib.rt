@@ -4,10 +4,13 @@
 
 #[cfg(test)]
 mod hundreds;
-pub mod prices;
+#[cfg(test)]
+mod prices;
 #[cfg(test)]
 mod refused;
 #[cfg(test)]
 mod rows;
+#[cfg(test)]
 mod stamps;
-pub mod tokens;
+#[cfg(test)]
+mod tokens;

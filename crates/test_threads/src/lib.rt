@@ -7,7 +7,8 @@
 //! in `reading`.
 #![tactic(auto)]
 
-pub mod beside;
+#[cfg(test)]
+mod beside;
 #[cfg(test)]
 mod calls;
 #[cfg(test)]

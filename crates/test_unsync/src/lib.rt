@@ -2,7 +2,8 @@
 //! and of copies: what a call shows of a value is a clone of it.
 #![tactic(auto)]
 
-pub mod copying;
+#[cfg(test)]
+mod copying;
 #[cfg(test)]
 mod large;
 #[cfg(test)]
