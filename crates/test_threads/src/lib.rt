@@ -1,5 +1,6 @@
 //! Tests of the cache that threads share, by threads and by its calls that do not wait for a lock,
-//! and a caller that knows of each value what its lifecycle says.
+//! of a caller that knows of each value what its lifecycle says, of lifecycles that are ready made,
+//! and of the traced cache.
 //!
 //! What they catch: a `try_` form that always answers contention, and a call that locks and does
 //! nothing, fail in `idle` and in `mixed`. One that acts where another call has the lock, and one
@@ -12,6 +13,8 @@ mod beside;
 #[cfg(test)]
 mod calls;
 #[cfg(test)]
+mod listened;
+#[cfg(test)]
 mod names;
 #[cfg(test)]
 mod not_waiting;
@@ -19,5 +22,7 @@ mod not_waiting;
 mod refused;
 #[cfg(test)]
 mod shards;
+#[cfg(test)]
+mod traced;
 #[cfg(test)]
 mod walks;

@@ -1,4 +1,4 @@
-use Rattle.test_edges.proofs.seats.two_seats_gather_what_one_cannot.Given as goal
+use Rattle.test_threads.proofs.traced.seats.two_seats_gather_what_one_cannot.Given as goal
 
 -- the ledger is the one of the blank
 abbrev pub ghosts-three_calls : goal.ghosts-three_calls

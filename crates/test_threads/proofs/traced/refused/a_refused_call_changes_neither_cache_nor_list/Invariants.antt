@@ -1,4 +1,4 @@
-use Rattle.test_edges.proofs.refused.a_refused_call_changes_neither_cache_nor_list.Given as goal
+use Rattle.test_threads.proofs.traced.refused.a_refused_call_changes_neither_cache_nor_list.Given as goal
 
 -- the ledger is the one of the blank
 abbrev pub ghosts-with_blocks : goal.ghosts-with_blocks

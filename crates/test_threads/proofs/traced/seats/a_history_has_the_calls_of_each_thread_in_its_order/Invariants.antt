@@ -1,4 +1,4 @@
-use Rattle.test_edges.proofs.seats.a_history_has_the_calls_of_each_thread_in_its_order.Given as goal
+use Rattle.test_threads.proofs.traced.seats.a_history_has_the_calls_of_each_thread_in_its_order.Given as goal
 
 -- the ledger is the one of the blank
 abbrev pub ghosts-two_thousand : goal.ghosts-two_thousand

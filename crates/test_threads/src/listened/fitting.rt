@@ -3,7 +3,7 @@ ghost use Rattle.std.specs.Prelude.{◌≡◌, ◌*◌, IfOk, IfSome};
 ghost use Rattle.std.proofs.Common.{ap, ◌∙◌};
 ghost use Rattle.std.proofs.lemmas.Bool.{eqb-true};
 
-use crate::listeners::Odd;
+use crate::listened::told::Odd;
 use quick_cache::{DefaultHashBuilder, Lifecycle, Refusal, UnitWeighter, sync, unsync};
 use quick_cache_listeners::PinBy;
 use std::sync::Wait;

@@ -1,7 +1,7 @@
 //! Seats that make calls, come together and show the list of all calls.
 ghost use Rattle.std.specs.Prelude.{◌≡◌};
 
-use crate::history::{History, Numbers, history_of, is_replayed, traced_numbers};
+use crate::traced::history::{History, Numbers, history_of, is_replayed, traced_numbers};
 use quick_cache::Refusal;
 use quick_cache::sync::{PARTS, Seat, TraceCall};
 use quick_cache::unsync::Reply;

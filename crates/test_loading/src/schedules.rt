@@ -2,6 +2,7 @@
 
 pub mod generator;
 pub mod later;
+pub mod lists;
 pub mod plain;
 pub mod random;
 pub mod rows;

@@ -1,0 +1,5 @@
+//! Listeners, counts, pins and weights that are ready made, in both caches.
+
+mod counting;
+mod fitting;
+mod told;
