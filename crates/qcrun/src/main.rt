@@ -1,15 +1,7 @@
 //! Reads commands for a cache, one a line, and prints their replies. `--help` prints the commands.
 #![tactic(auto)]
 
-mod help;
-mod options;
-mod print;
-#[cfg(test)]
-mod scripts;
-mod serve;
-mod session;
-
-use help::HELP;
+use qcrun_parts::{HELP, serve};
 use std::process::ExitCode;
 use std::{env, io};
 
@@ -30,5 +22,5 @@ fn main(rt: HostRuntime) -> ExitCode {
         };
     }
     let (mut writer, mut reasons) = (io::writer(&rt), rt.stderr());
-    ExitCode::from(serve::serve(rt.alloc(), rt.reader(), &mut writer, &mut reasons))
+    ExitCode::from(serve(rt.alloc(), rt.reader(), &mut writer, &mut reasons))
 }

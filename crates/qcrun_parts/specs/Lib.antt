@@ -7,3 +7,6 @@ pub mod Remainder
 pub mod Still
 pub mod Answers
 pub mod Served
+pub mod Printed
+pub mod Runs
+pub mod Sessions

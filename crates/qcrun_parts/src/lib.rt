@@ -1,5 +1,6 @@
-//! The parts of `qcrun`: the lines that it reads, the commands that they are and why some are none,
-//! its cache of numbers, the calls that commands ask for, and what is printed for them.
+//! What `qcrun` does: the lines that it reads, the commands that they are and why some are none, its
+//! cache of numbers, the calls that commands ask for, what is printed for them, and how lines are
+//! served to their end.
 #![tactic(auto)]
 
 pub mod calls;
@@ -9,6 +10,7 @@ pub mod fault;
 pub mod lines;
 pub mod numbers;
 pub mod reply;
+pub mod serving;
 
 pub use calls::make_call;
 pub use command::{Command, command_of};
@@ -20,3 +22,5 @@ pub use numbers::hash::RemainderBuilder;
 pub use numbers::kinds::{ByKind, LastDigits};
 pub use numbers::still::still;
 pub use reply::Answer;
+pub use serving::help::HELP;
+pub use serving::serve;

@@ -1,3 +1,0 @@
-mod PrintLemmas
-mod RunLemmas
-mod SessionLemmas

@@ -1,3 +1,0 @@
-pub mod Printed
-pub mod Runs
-pub mod Sessions
