@@ -1,13 +1,23 @@
 //! Small uses of the cache, which the README and the guide show word for word. Each runs as a test.
 #![tactic(auto)]
 
-pub mod blocks;
-pub mod borrowed;
-pub mod counted;
-pub mod listener;
-pub mod memo;
-pub mod names;
-pub mod promises;
-pub mod runs;
-pub mod sessions;
-pub mod weigher;
+#[cfg(test)]
+mod blocks;
+#[cfg(test)]
+mod borrowed;
+#[cfg(test)]
+mod counted;
+#[cfg(test)]
+mod listener;
+#[cfg(test)]
+mod memo;
+#[cfg(test)]
+mod names;
+#[cfg(test)]
+mod promises;
+#[cfg(test)]
+mod runs;
+#[cfg(test)]
+mod sessions;
+#[cfg(test)]
+mod weigher;
