@@ -4,6 +4,7 @@ ghost use Rattle.std.specs.Borrow.{sem};
 ghost use Rattle.quick_cache_model.specs.declared.refusal.Refusal.TheVariants.{Memory};
 ghost use Rattle.quick_cache_model.specs.CacheState.{empty_state, item_count, total_weight};
 ghost use Rattle.std.specs.Bool.{OnTrue, OnFalse};
+ghost use Rattle.std.specs.Option.{option_map};
 ghost use Rattle.quick_cache_model.specs.Finding.{HasNoItem};
 ghost use Rattle.quick_cache_model.specs.Hashing.{hash_of};
 ghost use Rattle.quick_cache_model.specs.Lookups.{Sees, LooksUp};
@@ -15,7 +16,8 @@ ghost use Rattle.quick_cache_model.specs.Refusals.{slots_taken, slot_count};
 
 use crate::lifecycle::DefaultLifecycle;
 use quick_cache_model::{
-    DefaultHashBuilder, Equivalent, Lifecycle, Refusal, UnitWeighter, Weighter,
+    DefaultHashBuilder, Equivalent, ItemStats, Lifecycle, MemoryUsed, Refusal, UnitWeighter,
+    Weighter,
 };
 use quick_cache_options::options::{
     DEFAULT_GHOST_ALLOCATION, DEFAULT_HOT_ALLOCATION, DEFAULT_MARK_CUT,
@@ -277,6 +279,17 @@ impl<K: Eq + Hash, V, We, B: BuildHasher, L, A: Allocator> Cache<K, V, We, B, L,
         self.shard.contains(hash, query)
     }
 
+    /// How often the item under the query's key was read, at most the greatest `u64`. It is no use
+    /// of the item, and nothing changes.
+    pub fn item_stats<Q: Equivalent<K>>(&self, query: &Q) -> Option<ItemStats>
+        ensures sees { Sees (Q.equivalent query.now) self.now.state (λ item. item.reads)
+            (option_map (λ stats. stats.access_count) result) }
+        ensures sound { IsSoundShard K.eq self.now }
+    {
+        let hash = self.shard.hash(query);
+        self.shard.item_stats(hash, query)
+    }
+
     /// How many items there are.
     pub fn len(&self) -> usize
         ensures { result ≡ item_count self.now.state }
@@ -317,6 +330,12 @@ impl<K: Eq + Hash, V, We, B: BuildHasher, L, A: Allocator> Cache<K, V, We, B, L,
         ensures { result ≡ self.now.state.misses }
     {
         self.shard.misses()
+    }
+
+    /// How many bytes the entries and the index that finds them take. What the keys and the values
+    /// own comes apart.
+    pub fn memory_used(&self) -> MemoryUsed {
+        self.shard.memory_used()
     }
 }
 

@@ -2,13 +2,11 @@
 #![tactic(auto)]
 
 mod cache;
-mod capacity;
 mod lent;
 mod lifecycle;
 mod loading;
-mod options;
 mod removal;
-mod stats;
+mod sizes;
 mod walking;
 mod writing;
 

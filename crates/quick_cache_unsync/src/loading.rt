@@ -3,7 +3,6 @@
 pub mod fetching;
 pub mod filling;
 pub mod guard;
-pub mod guarding;
 pub mod lending;
 pub mod loader;
 pub mod not_loaded;

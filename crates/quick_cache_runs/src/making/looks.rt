@@ -1,4 +1,4 @@
-//! Calls that look at one item, each with its reply.
+//! Calls that look at one item or tell numbers, each with its reply.
 ghost use Rattle.std.specs.Prelude.{◌≡◌};
 ghost use Rattle.quick_cache_model.specs.Answered.{AlwaysClones, IsAnswered};
 ghost use Rattle.quick_cache_runs.specs.Made.{StepsBy};
@@ -79,6 +79,21 @@ impl<
         match cache.item_stats(&key) {
             Some(stats) => Reply::Stats(Some(stats.access_count)),
             None => Reply::Stats(None),
+        }
+    }
+
+    /// Tells the numbers of the cache.
+    #[inline(never)]
+    pub(crate) fn counts(cache: &Cache<K, V, We, B, L, A>) -> Reply<K, V, M>
+        ensures step { StepsBy F ⟦<Cache<K, V, We, B, L, A> as Going>⟧.goes K.eq K.is_clone
+            V.is_clone cache.now (Call.Counts) result cache.now }
+    {
+        Reply::Counts {
+            len: cache.len(),
+            weight: cache.weight(),
+            capacity: cache.capacity(),
+            hits: cache.hits(),
+            misses: cache.misses(),
         }
     }
 }

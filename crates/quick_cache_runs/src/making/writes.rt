@@ -1,6 +1,7 @@
-//! Calls that write, each with its reply. Where pinning is steady, each is a step of its definition.
+//! Calls that write, take items out or make room, each with its reply. Where pinning is steady, each
+//! is a step of its definition.
 ghost use Rattle.std.specs.Prelude.{◌≡◌};
-ghost use Rattle.quick_cache_shard.specs.Shard.{KeepsTerms};
+ghost use Rattle.quick_cache_shard.specs.Shard.{KeepsTerms, KeepsWork};
 ghost use Rattle.quick_cache_runs.specs.Made.{MakesCall, StepsBy};
 
 use crate::calls::CallMaker;
@@ -77,5 +78,54 @@ impl<
             ≡ record cache.old { state = cache.new.state; places = cache.new.places } }
     {
         Reply::Flag(write_to_peeked(cache, &key, value))
+    }
+
+    /// Takes the item under a key out.
+    #[inline(never)]
+    pub(crate) fn remove(cache: &mut Cache<K, V, We, B, L, A>, key: K) -> Reply<K, V, M>
+        ensures step { StepsBy F ⟦<Cache<K, V, We, B, L, A> as Going>⟧.goes K.eq K.is_clone
+            V.is_clone cache.old (Call.Remove key) result cache.new }
+        ensures same { KeepsWork cache.old cache.new }
+    {
+        Reply::Pair(cache.remove(&key))
+    }
+
+    /// Drops all items.
+    #[inline(never)]
+    pub(crate) fn clear(cache: &mut Cache<K, V, We, B, L, A>) -> Reply<K, V, M>
+        ensures step { StepsBy F ⟦<Cache<K, V, We, B, L, A> as Going>⟧.goes K.eq K.is_clone
+            V.is_clone cache.old (Call.Clear) result cache.new }
+        ensures same { KeepsWork cache.old cache.new }
+    {
+        cache.clear();
+        Reply::Done
+    }
+
+    /// Sets the weight that the cache may hold.
+    #[inline(never)]
+    pub(crate) fn set_capacity(
+        cache: &mut Cache<K, V, We, B, L, A>,
+        capacity: u64,
+        state: &mut L::RequestState,
+    ) -> Reply<K, V, M>
+        ensures step { MakesCall F ⟦<Cache<K, V, We, B, L, A> as Going>⟧.goes K.eq K.is_clone
+            V.is_clone cache.old state.old (Call.SetCapacity capacity) result cache.new state.new }
+        ensures same { KeepsTerms cache.old cache.new }
+    {
+        cache.set_capacity_with_lifecycle(capacity, state);
+        Reply::Done
+    }
+
+    /// Makes room for so many more entries.
+    #[inline(never)]
+    pub(crate) fn reserve(cache: &mut Cache<K, V, We, B, L, A>, additional: usize) -> Reply<K, V, M>
+        ensures step { StepsBy F ⟦<Cache<K, V, We, B, L, A> as Going>⟧.goes K.eq K.is_clone
+            V.is_clone cache.old (Call.Reserve additional) result cache.new }
+        ensures same { cache.new ≡ record cache.old { room = cache.new.room } }
+    {
+        match cache.reserve(additional) {
+            Ok(()) => Reply::Done,
+            Err(refusal) => Reply::Refused(refusal),
+        }
     }
 }

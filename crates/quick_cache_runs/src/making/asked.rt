@@ -1,7 +1,7 @@
-//! Calls that take items out, each with its reply.
+//! Calls that ask a predicate which items go, each with its reply.
 ghost use Rattle.quick_cache_shard.specs.Predicates.{Answers};
 ghost use Rattle.quick_cache_shard.specs.Shard.{KeepsWork};
-ghost use Rattle.quick_cache_runs.specs.Made.{StepsAsked, StepsBy};
+ghost use Rattle.quick_cache_runs.specs.Made.{StepsAsked};
 
 use crate::calls::CallMaker;
 use quick_cache_model::{Call, Lifecycle, Reply, Weighter};
@@ -9,38 +9,6 @@ use quick_cache_shard::Going;
 use quick_cache_unsync::Cache;
 use std::alloc::Allocator;
 use std::hash::{BuildHasher, Hash};
-
-impl<
-    F,
-    M: Allocator,
-    K: Eq + Hash + Clone + Drop,
-    V: Clone + Drop,
-    We: Weighter<K, V>,
-    B: BuildHasher,
-    L: Lifecycle<K, V>,
-    A: Allocator,
-> CallMaker<F, M, K, V, We, B, L, A> {
-    /// Takes the item under a key out.
-    #[inline(never)]
-    pub(crate) fn remove(cache: &mut Cache<K, V, We, B, L, A>, key: K) -> Reply<K, V, M>
-        ensures step { StepsBy F ⟦<Cache<K, V, We, B, L, A> as Going>⟧.goes K.eq K.is_clone
-            V.is_clone cache.old (Call.Remove key) result cache.new }
-        ensures same { KeepsWork cache.old cache.new }
-    {
-        Reply::Pair(cache.remove(&key))
-    }
-
-    /// Drops all items.
-    #[inline(never)]
-    pub(crate) fn clear(cache: &mut Cache<K, V, We, B, L, A>) -> Reply<K, V, M>
-        ensures step { StepsBy F ⟦<Cache<K, V, We, B, L, A> as Going>⟧.goes K.eq K.is_clone
-            V.is_clone cache.old (Call.Clear) result cache.new }
-        ensures same { KeepsWork cache.old cache.new }
-    {
-        cache.clear();
-        Reply::Done
-    }
-}
 
 impl<
     F: Fn(&K, &V) -> bool + Drop,
