@@ -27,6 +27,7 @@ use std::sync::{RwLock, Wait};
 /// it is handed on, or the placeholder given up, as by a guard that is dropped.
 pub struct JoinFuture<
     'a,
+    'q,
     Q: ToKey<K>,
     K: Eq + Hash + Drop,
     V: Clone,
@@ -37,13 +38,14 @@ pub struct JoinFuture<
 > {
     rt: &'a R,
     shard: &'a RwLock<S>,
-    query: &'a Q,
+    query: &'q Q,
     waiting: Option<Waiting<K, V, L, A>>,
     is_finished: bool,
 }
 
 impl<
     'a,
+    'q,
     Q: ToKey<K>,
     K: Eq + Hash + Drop,
     V: Clone,
@@ -51,7 +53,7 @@ impl<
     S: LoadingShard<K, V, L, A>,
     R: Wait,
     A: Allocator,
-> Model for JoinFuture<'a, Q, K, V, L, S, R, A> {
+> Model for JoinFuture<'a, 'q, Q, K, V, L, S, R, A> {
     ghost use Rattle.std.specs.Prelude.{◌≡◌, true, IfSome};
     ghost use Rattle.std.specs.Arc.{arc_value};
     ghost use Rattle.quick_cache_guard.specs.Futures.{Joining, read_off};
@@ -77,7 +79,7 @@ impl<
     S: LoadingShard<K, V, L, A>,
     R: Wait,
     A: Allocator,
-> Drop for JoinFuture<'_, Q, K, V, L, S, R, A> {
+> Drop for JoinFuture<'_, '_, Q, K, V, L, S, R, A> {
     fn drop(self) {
         let JoinFuture {
             rt,
@@ -101,6 +103,7 @@ impl<
 
 impl<
     'a,
+    'q,
     Q: ToKey<K>,
     K: Eq + Hash + Drop,
     V: Clone,
@@ -108,9 +111,9 @@ impl<
     S: LoadingShard<K, V, L, A>,
     R: Wait,
     A: Allocator,
-> JoinFuture<'a, Q, K, V, L, S, R, A> {
+> JoinFuture<'a, 'q, Q, K, V, L, S, R, A> {
     /// A future that has not begun. It takes no lock.
-    pub fn new(rt: &'a R, shard: &'a RwLock<S>, query: &'a Q) -> Self
+    pub fn new(rt: &'a R, shard: &'a RwLock<S>, query: &'q Q) -> Self
         requires stands { (key : K) → Q.to_key_gives query.now key
             → Q.equivalent query.now key ≡ true }
         ensures query { result.query ≡ query.now }
@@ -129,7 +132,7 @@ impl<
     pub fn waiting(
         rt: &'a R,
         shard: &'a RwLock<S>,
-        query: &'a Q,
+        query: &'q Q,
         waiting: Waiting<K, V, L, A>,
     ) -> Self
         requires stands { (key : K) → Q.to_key_gives query.now key
@@ -264,6 +267,7 @@ impl<
 
 impl<
     'a,
+    'q,
     Q: ToKey<K>,
     K: Eq + Hash + Drop,
     V: Clone,
@@ -271,7 +275,7 @@ impl<
     S: LoadingShard<K, V, L, A>,
     R: Wait,
     A: Allocator,
-> Future for JoinFuture<'a, Q, K, V, L, S, R, A> {
+> Future for JoinFuture<'a, 'q, Q, K, V, L, S, R, A> {
     type Output = Result<Result<V, PlaceholderGuard<'a, K, V, L, S, R, A>>, Refusal>;
 
     // Once it waits, the source of its placeholder.

@@ -1,3 +1,3 @@
-mod EnterLemmas
+pub mod EnterLemmas
 mod TaskLemmas
 mod WithdrawalLemmas

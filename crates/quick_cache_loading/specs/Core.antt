@@ -68,6 +68,12 @@ is_given_up (Loading holder waiters) = false
 is_given_up (Filled v) = false
 is_given_up GivenUp = true
 
+-- the life is filled
+abbrev pub is_filled : {V : Type 0} → Life V → Bool
+is_filled (Loading holder waiters) = false
+is_filled (Filled v) = true
+is_filled GivenUp = false
+
 -- the life is filled, or it loads and has this one as a waiter or as the one to whom the guard was
 -- handed
 abbrev pub concerns : {V : Type 0} → ℕ → Life V → Bool

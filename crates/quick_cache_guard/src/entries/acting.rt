@@ -13,6 +13,7 @@ use quick_cache_model::{EntryAction, EntryOrPlaceholder, Lifecycle, ToKey};
 use std::alloc::Allocator;
 use std::hash::Hash;
 use std::sync::{RwLock, Wait};
+use std::thread::yield_now;
 use std::time::{Clock, Duration};
 
 /// Shows the item under the query's key to the callback, under the shard's write lock. The callback
@@ -65,6 +66,8 @@ pub fn entry<
         if let Some(answer) = come_and_wait(rt, shard, query, &mut turns, callback) {
             return answer;
         }
+        // A value that came is still on its way into the shard.
+        yield_now();
     }
     unreachable!()
 }

@@ -27,6 +27,7 @@ use std::sync::{RwLock, Wait};
 #[derive(Drop)]
 pub struct EntryFuture<
     'a,
+    'q,
     Q: ToKey<K>,
     K: Eq + Hash + Drop,
     V: Clone,
@@ -39,8 +40,8 @@ pub struct EntryFuture<
 > {
     rt: &'a R,
     shard: &'a RwLock<S>,
-    query: &'a Q,
-    joining: Option<JoinFuture<'a, Q, K, V, L, S, R, A>>,
+    query: &'q Q,
+    joining: Option<JoinFuture<'a, 'q, Q, K, V, L, S, R, A>>,
     callback: F,
     is_finished: bool,
     of: PhantomData<T>,
@@ -48,6 +49,7 @@ pub struct EntryFuture<
 
 impl<
     'a,
+    'q,
     Q: ToKey<K>,
     K: Eq + Hash + Drop,
     V: Clone,
@@ -57,7 +59,7 @@ impl<
     T: Drop,
     F: Drop,
     A: Allocator,
-> Model for EntryFuture<'a, Q, K, V, L, S, R, T, F, A> {
+> Model for EntryFuture<'a, 'q, Q, K, V, L, S, R, T, F, A> {
     ghost use Rattle.std.specs.Prelude.{◌≡◌, true, false, IfSome};
     ghost use Rattle.quick_cache_guard.specs.Entering.{EntryState};
 
@@ -78,6 +80,7 @@ impl<
 
 impl<
     'a,
+    'q,
     Q: ToKey<K>,
     K: Eq + Hash + Drop,
     V: Clone,
@@ -87,9 +90,9 @@ impl<
     T: Drop,
     F: FnMut(&K, &mut V) -> EntryAction<T>,
     A: Allocator,
-> EntryFuture<'a, Q, K, V, L, S, R, T, F, A> {
+> EntryFuture<'a, 'q, Q, K, V, L, S, R, T, F, A> {
     /// A future that has not begun. It takes no lock.
-    pub fn new(rt: &'a R, shard: &'a RwLock<S>, query: &'a Q, callback: F) -> Self
+    pub fn new(rt: &'a R, shard: &'a RwLock<S>, query: &'q Q, callback: F) -> Self
         requires stands { (key : K) → Q.to_key_gives query.now key
             → Q.equivalent query.now key ≡ true }
         ensures query { result.query ≡ query.now }
@@ -181,7 +184,7 @@ impl<
     /// ended with a value, and one has to look in the shard.
     fn wait(
         &mut self,
-        joining: JoinFuture<'a, Q, K, V, L, S, R, A>,
+        joining: JoinFuture<'a, 'q, Q, K, V, L, S, R, A>,
         cx: &mut Context<'_>,
     ) -> Poll<Option<EntryResult<T, K, V, PlaceholderGuard<'a, K, V, L, S, R, A>>>>
         requires query { joining.query ≡ self.old.query }
@@ -324,6 +327,7 @@ fn in_time<T: Drop, K: Drop, V: Drop, G: Drop>(
 
 impl<
     'a,
+    'q,
     Q: ToKey<K>,
     K: Eq + Hash + Drop,
     V: Clone,
@@ -333,7 +337,7 @@ impl<
     T: Drop,
     F: FnMut(&K, &mut V) -> EntryAction<T>,
     A: Allocator,
-> Future for EntryFuture<'a, Q, K, V, L, S, R, T, F, A> {
+> Future for EntryFuture<'a, 'q, Q, K, V, L, S, R, T, F, A> {
     type Output = EntryResult<T, K, V, PlaceholderGuard<'a, K, V, L, S, R, A>>;
 
     // Until it has answered, its callback may be called, and what that leaves fits.

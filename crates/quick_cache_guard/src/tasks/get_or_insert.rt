@@ -36,7 +36,7 @@ pub struct GetOrInsert<
     E: Drop,
     A: Allocator = Global,
 > {
-    waiting: ValueOrGuard<'a, Q, K, V, L, S, R, A>,
+    waiting: ValueOrGuard<'a, 'a, Q, K, V, L, S, R, A>,
     guard: Option<PlaceholderGuard<'a, K, V, L, S, R, A>>,
     loader: F,
     is_finished: bool,

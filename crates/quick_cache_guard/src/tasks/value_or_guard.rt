@@ -24,6 +24,7 @@ use std::sync::{RwLock, Wait};
 #[derive(Drop)]
 pub struct ValueOrGuard<
     'a,
+    'q,
     Q: ToKey<K>,
     K: Eq + Hash + Drop,
     V: Clone,
@@ -34,14 +35,15 @@ pub struct ValueOrGuard<
 > {
     rt: &'a R,
     shard: &'a RwLock<S>,
-    query: &'a Q,
-    joining: JoinFuture<'a, Q, K, V, L, S, R, A>,
+    query: &'q Q,
+    joining: JoinFuture<'a, 'q, Q, K, V, L, S, R, A>,
     is_new: bool,
     is_finished: bool,
 }
 
 impl<
     'a,
+    'q,
     Q: ToKey<K>,
     K: Eq + Hash + Drop,
     V: Clone,
@@ -49,7 +51,7 @@ impl<
     S: LoadingShard<K, V, L, A>,
     R: Wait,
     A: Allocator,
-> Model for ValueOrGuard<'a, Q, K, V, L, S, R, A> {
+> Model for ValueOrGuard<'a, 'q, Q, K, V, L, S, R, A> {
     ghost use Rattle.std.specs.Prelude.{◌≡◌, false};
     ghost use Rattle.quick_cache_guard.specs.Futures.{Joining};
 
@@ -63,6 +65,7 @@ impl<
 
 impl<
     'a,
+    'q,
     Q: ToKey<K>,
     K: Eq + Hash + Drop,
     V: Clone,
@@ -70,9 +73,9 @@ impl<
     S: LoadingShard<K, V, L, A>,
     R: Wait,
     A: Allocator,
-> ValueOrGuard<'a, Q, K, V, L, S, R, A> {
+> ValueOrGuard<'a, 'q, Q, K, V, L, S, R, A> {
     /// A future that has not begun. It takes no lock.
-    pub fn new(rt: &'a R, shard: &'a RwLock<S>, query: &'a Q) -> Self
+    pub fn new(rt: &'a R, shard: &'a RwLock<S>, query: &'q Q) -> Self
         requires stands { (key : K) → Q.to_key_gives query.now key
             → Q.equivalent query.now key ≡ true }
         ensures query { result.query ≡ query.now }
@@ -152,6 +155,7 @@ impl<
 
 impl<
     'a,
+    'q,
     Q: ToKey<K>,
     K: Eq + Hash + Drop,
     V: Clone,
@@ -159,7 +163,7 @@ impl<
     S: LoadingShard<K, V, L, A>,
     R: Wait,
     A: Allocator,
-> Future for ValueOrGuard<'a, Q, K, V, L, S, R, A> {
+> Future for ValueOrGuard<'a, 'q, Q, K, V, L, S, R, A> {
     type Output = Result<Result<V, PlaceholderGuard<'a, K, V, L, S, R, A>>, Refusal>;
 
     // Once it waits, the source of its placeholder.

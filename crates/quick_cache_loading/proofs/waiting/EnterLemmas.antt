@@ -1,15 +1,20 @@
 -- One who comes to a life that has begun, or to one that goes on.
-use Rattle.std.proofs.Common.{◌≡◌, ◌==◌, ◌⊎◌, inl, inr, ℕ, Bool, true, false, Result, Err}
+use Rattle.std.proofs.Common.{◌≡◌, ◌==◌, ◌⊎◌, ◌&&◌, ◌||◌, not, inl, inr, ℕ, Bool, true, false, true≢false, Result, Ok, Err, None, Some, MatchBool, ap, sym}
+use Rattle.std.specs.Prelude.{IfErr}
 use Rattle.quick_cache_model.specs.declared.refusal.Refusal.TheVariants.{Memory}
-use Rattle.quick_cache_loading.specs.Core.{Life, Loading, Filled, GivenUp, CoreState}
-use Rattle.quick_cache_loading.specs.LoadingStep.{Creates, LoadingStep}
-use Rattle.quick_cache_loading.specs.LoadingLaws.{given_by}
+use Rattle.quick_cache_loading.specs.Core.{Life, Loading, Filled, GivenUp, CoreState, core_state, is_filled, is_handed_to}
+use Rattle.quick_cache_loading.specs.LoadingStep.{Adds, Creates, Joins, LoadingStep, NotNowOf, Receives, TimesOut, Withdraws}
+use Rattle.quick_cache_loading.specs.LoadingLaws.{given_by, shown_by}
 use Rattle.quick_cache_loading.specs.declared.protocol.events.Event.TheVariants.{Create, Join}
 use Rattle.quick_cache_loading.specs.declared.protocol.events.Answer.{Answer}
 use Rattle.quick_cache_loading.specs.declared.protocol.events.Answer.TheVariants.{Created, NotNow, Refused}
+use Rattle.quick_cache_loading.specs.declared.protocol.events.Answer.TheVariants as answer
 use Rattle.quick_cache_loading.specs.declared.waiting.waited.Waited.{Waited}
 use Rattle.quick_cache_loading.specs.declared.waiting.waited.Waited.TheVariants as waited
-use Rattle.quick_cache_loading.specs.Entering.{Enters, TellsNewcomer}
+use Rattle.quick_cache_loading.specs.Entering.{Enters, LooksOnce, TellsNewcomer, TellsOnce}
+use Rattle.quick_cache_loading.specs.Waiters.{IfValue, IsGuard, by_number}
+use Rattle.quick_cache_loading.specs.Waiting.{has, without_waiter}
+use Rattle.quick_cache_loading.specs.declared.waiting.place.Place.{Place}
 
 module _ {V : Type 0} (old : CoreState V) (a : Answer V) (new : CoreState V) where
   -- where a life began, the answer was so
@@ -37,3 +42,94 @@ module _ {V : Type 0} (shows : V → V → Type 0) (stands : Bool) (n : ℕ) (is
   came a told mid new over create same (inr refused) tells =
       let is : told ≡ Err (waited.Refused Memory) = rw refused.0 at tells in
       rw (is, refused.1, same) (Enters.lacks_room over create)
+
+-- ---- one who comes to a life that is not filled is shown no value
+
+-- one is told of no value
+abbrev pub ShowsNone : {V : Type 0} → Result ℕ (Waited V) → Type 0
+ShowsNone told = IfErr told (λ one. IfValue one (λ v. ⊥))
+
+guard-unshown : {V : Type 0} (told : Waited V) → IsGuard (Some told) → IfValue told (λ v. ⊥)
+guard-unshown (waited.Guard share) is = tt
+guard-unshown (waited.Value v) is = absurd is
+guard-unshown waited.Timeout is = tt
+guard-unshown waited.Again is = tt
+guard-unshown (waited.Refused why) is = tt
+
+module _ {V : Type 0} (shows : V → V → Type 0) (stands : Bool) (n : ℕ) where
+  newcomer-unshown : (a : Answer V) (told : Result ℕ (Waited V)) → shown_by a ≡ None
+      → TellsNewcomer stands n a told → ShowsNone told
+  newcomer-unshown answer.Joined told none tells = rw tells tt
+  newcomer-unshown (answer.Value v) told none tells = absurd (cc)
+  newcomer-unshown (answer.Refused why) told none tells = rw tells tt
+  newcomer-unshown answer.Created told none tells = rw tells tt
+  newcomer-unshown answer.Guard told none tells = rw tells tt
+  newcomer-unshown answer.Waiting told none tells = rw tells tt
+  newcomer-unshown answer.TimedOut told none tells = rw tells tt
+  newcomer-unshown (answer.HandedTo m) told none tells = rw tells tt
+  newcomer-unshown answer.GivenUp told none tells = rw tells tt
+  newcomer-unshown answer.Done told none tells = rw tells tt
+  newcomer-unshown answer.NotNow told none tells = rw tells tt
+
+  once-unshown : (a : Answer V) (told : Waited V) → shown_by a ≡ None
+      → TellsOnce stands a told → IfValue told (λ v. ⊥)
+  once-unshown answer.Joined told none tells = rw tells tt
+  once-unshown (answer.Value v) told none tells = absurd (cc)
+  once-unshown (answer.Refused why) told none tells = rw tells tt
+  once-unshown answer.Created told none tells = guard-unshown told tells
+  once-unshown answer.Guard told none tells = guard-unshown told tells
+  once-unshown answer.Waiting told none tells = rw tells tt
+  once-unshown answer.TimedOut told none tells = rw tells tt
+  once-unshown (answer.HandedTo m) told none tells = rw tells tt
+  once-unshown answer.GivenUp told none tells = rw tells tt
+  once-unshown answer.Done told none tells = rw tells tt
+  once-unshown answer.NotNow told none tells = rw tells tt
+
+  joined-unshown : (life : Life V) (old : CoreState V) (a : Answer V) (new : CoreState V)
+      → is_filled life ≡ false → Joins shows life n old a new → shown_by a ≡ None
+  joined-unshown (Loading holder waiters) old a new unfilled step =
+      go (old.in_shard && not (is_handed_to holder n || has n waiters)) step
+    where
+      go : (b : Bool) → MatchBool b (Adds holder waiters n old a new) (NotNowOf old a new)
+          → shown_by a ≡ None
+      go true (inl joined) = ap shown_by joined.0
+      go true (inr refused) = ap shown_by refused.0
+      go false later = ap shown_by later.0
+  joined-unshown (Filled v) old a new unfilled step = absurd (true≢false unfilled)
+  joined-unshown GivenUp old a new unfilled step = ap shown_by step.0
+
+  looked-unshown : (life : Life V) (old : CoreState V) (a : Answer V) (new : CoreState V)
+      → is_filled life ≡ false → TimesOut shows life n old a new → shown_by a ≡ None
+  looked-unshown (Loading holder waiters) old a new unfilled step =
+      handed (is_handed_to holder n) step
+    where
+      waited : (b : Bool) → MatchBool b ((a ≡ answer.TimedOut)
+          × (new ≡ core_state (Loading holder (without_waiter n waiters)) old.in_shard))
+          (NotNowOf old a new) → shown_by a ≡ None
+      waited true out = ap shown_by out.0
+      waited false later = ap shown_by later.0
+
+      handed : (b : Bool) → MatchBool b (Receives waiters old a new)
+          (Withdraws answer.TimedOut holder waiters n old a new) → shown_by a ≡ None
+      handed true comes = ap shown_by comes.0
+      handed false leaves = waited (has n waiters) leaves
+  looked-unshown (Filled v) old a new unfilled step = absurd (true≢false unfilled)
+  looked-unshown GivenUp old a new unfilled step = ap shown_by step.0
+
+  pub Enters-unshown : (is_over : Bool) (old : CoreState V) (told : Result ℕ (Waited V))
+      (new : CoreState V) → is_filled old.life ≡ false → Enters shows stands n is_over old told new
+      → ShowsNone told
+  Enters-unshown _ old _ _ unfilled (Enters.begins share new step) = tt
+  Enters-unshown _ old _ _ unfilled (Enters.joins a told new over create join tells) =
+      newcomer-unshown a told (joined-unshown old.life old a new unfilled join) tells
+  Enters-unshown _ old _ _ unfilled (Enters.looks_once told new over create looks) =
+      once-unshown looks.answer told
+      (looked-unshown old.life old looks.answer new unfilled looks.step) looks.tells
+  Enters-unshown _ old _ _ unfilled (Enters.lacks_room over create) = tt
+  Enters-unshown _ old _ _ unfilled (Enters.all_spent spent create) = tt
+
+-- a place is not told of
+pub by_number-unshown : {V : Type 0} (told : Result Place (Waited V)) → ShowsNone (by_number told)
+    → IfErr told (λ one. IfValue one (λ v. ⊥))
+by_number-unshown (Ok place) none = tt
+by_number-unshown (Err one) none = none

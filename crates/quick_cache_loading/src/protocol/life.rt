@@ -1,6 +1,6 @@
 //! The core of a placeholder: how far its life has come, and what each event does to it.
 ghost use Rattle.std.specs.Prelude.{◌≡◌, ◌⊎◌, ◌==◌, ℕ, [], ◌∷◌, ◌++◌, true, not, length};
-ghost use Rattle.quick_cache_loading.specs.Core.{new_core, is_handed_to, is_loading, is_sound, waiters_of, held_count};
+ghost use Rattle.quick_cache_loading.specs.Core.{new_core, is_filled, is_handed_to, is_loading, is_sound, waiters_of, held_count};
 ghost use Rattle.quick_cache_loading.specs.LoadingStep.{Creates, Joins, Fills, Abandons, Takes, TimesOut, Cancels, Leaves, PassesOn};
 
 use crate::protocol::events::Answer;
@@ -79,6 +79,13 @@ impl<V, A: Allocator> Core<V, A> {
         ensures sound { is_sound self.now.life ≡ true }
     {
         matches!(self.stage, Stage::Loading(Holder::Held))
+    }
+
+    /// Whether it is filled.
+    pub fn is_filled(&self) -> bool
+        ensures { result ≡ is_filled self.now.life }
+    {
+        matches!(self.stage, Stage::Filled(_))
     }
 
     /// Whether anyone waits, so that an abandoned guard would be handed on.

@@ -173,6 +173,31 @@ impl<K: Eq + Hash + Drop, V: Clone, L: Lifecycle<K, V>, A: Allocator> Placeholde
         state.enter(query, is_task, is_over)
     }
 
+    /// As `enter`, for one who looks in the shard again where the value has come: it is not cloned.
+    pub fn enter_unfilled<S: LoadingShard<K, V, L, A>, Q: Equivalent<K>, R: Wait>(
+        &self,
+        rt: &R,
+        _locked: &mut S,
+        query: &Q,
+        is_task: bool,
+        is_over: bool,
+    ) -> Result<Place, Waited<V>>
+        ensures place { IfOk result (λ place. place.ticket ≡ self.now.ticket) }
+        ensures shard { _locked.new ≡ _locked.old }
+        ensures over { is_over ≡ true → IsErr result }
+        ensures refused { IfErr result RefusesAsLoad }
+        ensures timely { is_over ≡ false → IfErr result (λ told. is_timeout told ≡ false) }
+        ensures share { IfErr result (λ told. IfGuard told (λ share. share ≡ self.now.ticket)) }
+        // It is shown no value, and so asks for no clone of one.
+        ensures unshown { IfErr result (λ told. IfValue told (λ value. ⊥)) }
+    {
+        let mut state = self.state.lock(rt);
+        if state.ticket() != self.ticket || state.is_filled() {
+            return Err(Waited::Again);
+        }
+        state.enter(query, is_task, is_over)
+    }
+
     /// A task looks whether the guard or the value has come to its waiter, and leaves its waker
     /// where it goes on waiting. It takes the state's lock, and waits for nothing else.
     ///

@@ -1,6 +1,6 @@
 //! The state of a placeholder, as its lock keeps it.
 ghost use Rattle.std.specs.Prelude.{◌≡◌, ◌≢◌, ◌==◌, ◌+◌, true, false, MatchOption, MatchResult, not, length, Some, None, [], IfSome, is_some};
-ghost use Rattle.quick_cache_loading.specs.Core.{new_core, is_sound, waiters_of, waits};
+ghost use Rattle.quick_cache_loading.specs.Core.{new_core, is_filled, is_sound, waiters_of, waits};
 ghost use Rattle.quick_cache_loading.specs.LoadingStep.{LoadingStep};
 ghost use Rattle.quick_cache_loading.specs.LoadingLaws.{ShowsNothing};
 ghost use Rattle.quick_cache_loading.specs.Tasks.{slots_after, slots_of_others};
@@ -193,6 +193,13 @@ impl<K: Eq + Drop, V: Drop, L: Lifecycle<K, V>, A: Allocator> State<K, V, L, A> 
             None => Ok(answer),
             Some(_ended) => unreachable!(),
         }
+    }
+
+    /// Whether the value has come.
+    pub fn is_filled(&self) -> bool
+        ensures { result ≡ is_filled self.now.core.life }
+    {
+        self.core.is_filled()
     }
 
     /// Whether anyone waits.

@@ -23,13 +23,13 @@ impl<
     A: Allocator + Clone,
 > Cache<K, V, We, B, L, A> {
     /// A future that gives the value under the query's key, or the right to load it, as
-    /// `get_value_or_guard` does with no limit. What it gives is said on `ValueOrGuard`. The call
-    /// takes no lock; a poll does.
-    pub fn get_value_or_guard_async<'a, Q: ToKey<K>, R: Wait>(
+    /// `get_value_or_guard` does with no limit. What it gives is said on `ValueOrGuard`; a guard does
+    /// not borrow the query. The call takes no lock; a poll does.
+    pub fn get_value_or_guard_async<'a, 'q, Q: ToKey<K>, R: Wait>(
         &'a self,
         rt: &'a R,
-        query: &'a Q,
-    ) -> ValueOrGuard<'a, Q, K, V, L, LockedShard<K, V, We, B, L, A>, R, A>
+        query: &'q Q,
+    ) -> ValueOrGuard<'a, 'q, Q, K, V, L, LockedShard<K, V, We, B, L, A>, R, A>
         requires stands { StandsForGiven (Q.to_key_gives query.now) (Q.equivalent query.now) }
         ensures query { result.query ≡ query.now }
     {
@@ -61,12 +61,19 @@ impl<
     /// limit. It owns the callback, which is called under the write lock of the key's shard, once at
     /// most. What it gives, and what a poll asks of the callback, is said on `EntryFuture`. The call
     /// takes no lock; a poll does.
-    pub fn entry_async<'a, Q: ToKey<K>, R: Wait, T: Drop, F: FnMut(&K, &mut V) -> EntryAction<T>>(
+    pub fn entry_async<
+        'a,
+        'q,
+        Q: ToKey<K>,
+        R: Wait,
+        T: Drop,
+        F: FnMut(&K, &mut V) -> EntryAction<T>,
+    >(
         &'a self,
         rt: &'a R,
-        query: &'a Q,
+        query: &'q Q,
         callback: F,
-    ) -> EntryFuture<'a, Q, K, V, L, LockedShard<K, V, We, B, L, A>, R, T, F, A>
+    ) -> EntryFuture<'a, 'q, Q, K, V, L, LockedShard<K, V, We, B, L, A>, R, T, F, A>
         requires stands { StandsForGiven (Q.to_key_gives query.now) (Q.equivalent query.now) }
         ensures query { result.query ≡ query.now }
         ensures callback { result.callback ≡ callback }

@@ -19,6 +19,14 @@ fn a_load_fails_and_another_is_removed(rt: HostRuntime) {
     let goes = |_: &u64, _: &mut u64| EntryAction::<()>::Remove;
     let removed = expect_ok!(rt; block_on(rt, cache.entry_async(rt, &4, goes)));
     expect!(rt; matches!(removed, EntryResult::Removed(4, 4)));
-    let absent = expect_ok!(rt; block_on(rt, cache.get_value_or_guard_async(rt, &4)));
-    expect!(rt; matches!(absent, Ok(Err(_))));
+    // The guard outlives its query.
+    let absent = {
+        let query = 4u64;
+        expect_ok!(rt; block_on(rt, cache.get_value_or_guard_async(rt, &query)))
+    };
+    let Ok(Err(guard)) = absent else {
+        panic!(rt; "the key is absent");
+    };
+    expect!(rt; guard.insert(5).is_ok());
+    expect_eq!(rt; cache.get(rt, &4), Ok(Some(5)));
 }

@@ -1,6 +1,6 @@
 //! A placeholder that is filled and still stands in its shard, as between the two steps of a guard
 //! that puts its value in.
-ghost use Rattle.std.specs.Prelude.{◌≡◌, IfSome};
+ghost use Rattle.std.specs.Prelude.{◌≡◌, IfSome, ⊤};
 
 use futures::task::Poll;
 use futures::test::MockTask;
@@ -14,20 +14,36 @@ use quick_cache_options::OptionsBuilder;
 use quick_cache_options::sizes::shard_sizes;
 use quick_cache_shard::EntryAction;
 use quick_cache_sync::DefaultLifecycle;
-use std::alloc::Allocator;
+use std::alloc::{AllocError, Allocator};
 use std::sync::{RwLock, Wait};
 use test_tools::{expect, expect_ok};
 
+/// A number of which each clone is refused.
+#[derive(Drop)]
+struct Unique(u64);
+
+impl Clone for Unique {
+    ghost is_clone = { λ _ _. ⊤ };
+
+    ghost is_infallible = { λ _. ⊥ };
+
+    fn clone(&self) -> Result<Self, AllocError> {
+        Err(AllocError)
+    }
+}
+
+type Life = DefaultLifecycle<u64, Unique>;
+
 /// Loads the key 1 as 5, and gives that to those who wait. Nothing is put into the shard yet.
-fn load_and_tell<S: LoadingShard<u64, u64, DefaultLifecycle<u64, u64>, A>, R: Wait, A: Allocator>(
+fn load_and_tell<S: LoadingShard<u64, Unique, Life, A>, R: Wait, A: Allocator>(
     rt: &R,
     locked: &mut S,
-    placeholder: &Placeholder<u64, u64, DefaultLifecycle<u64, u64>, A>,
+    placeholder: &Placeholder<u64, Unique, Life, A>,
 ) -> Option<Filled>
     ensures { IfSome result (λ filled. filled.ticket ≡ placeholder.now.ticket) }
 {
     match placeholder.enter(rt, locked, &1, false, true) {
-        Err(Waited::Guard(share)) => match placeholder.fill(rt, &1, share, 5) {
+        Err(Waited::Guard(share)) => match placeholder.fill(rt, &1, share, Unique(5)) {
             Ok(filled) => Some(filled),
             Err((share, _)) => {
                 placeholder.give_up(rt, locked, share);
@@ -43,7 +59,7 @@ fn load_and_tell<S: LoadingShard<u64, u64, DefaultLifecycle<u64, u64>, A>, R: Wa
 }
 
 #[test]
-fn an_entry_call_asks_for_another_poll(rt: HostRuntime) {
+fn an_entry_call_asks_for_another_poll_and_for_no_clone(rt: HostRuntime) {
     let mut options = OptionsBuilder::new();
     options.estimated_items_capacity(100).weight_capacity(100);
     let Ok(options) = options.build() else {
@@ -74,12 +90,12 @@ fn an_entry_call_asks_for_another_poll(rt: HostRuntime) {
         rt,
         &shard,
         &1,
-        |_: &u64, v: &mut u64| EntryAction::Retain(*v),
+        |_: &u64, v: &mut Unique| EntryAction::Retain(v.0),
     );
     let task = expect_ok!(rt; MockTask::new(rt));
     expect!(rt; task.poll(&mut acts).is_pending() && task.is_woken());
     let mut state = [None, None];
-    let put = filled.settle(&mut *shard.write(rt), &shared, &1, 5, &mut state);
+    let put = filled.settle(&mut *shard.write(rt), &shared, &1, Unique(5), &mut state);
     expect!(rt; put.is_ok());
     expect!(rt; matches!(task.poll(&mut acts), Poll::Ready(EntryResult::Retained(5))));
 }

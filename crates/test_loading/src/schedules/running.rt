@@ -24,7 +24,7 @@ type Shard = LockedShard<u64, u64, UnitWeighter, DefaultHashBuilder, Dropping>;
 
 pub type Guard<'a, R> = PlaceholderGuard<'a, u64, u64, Dropping, Shard, R>;
 
-type Asking<'a, R> = ValueOrGuard<'a, u64, u64, u64, Dropping, Shard, R>;
+type Asking<'a, R> = ValueOrGuard<'a, 'a, u64, u64, u64, Dropping, Shard, R>;
 
 /// A future with its task.
 #[derive(Drop)]

@@ -76,6 +76,7 @@ pub(crate) type SlipGuard<'c, 'a, R> = PlaceholderGuard<
 /// A task's wait for a value or a guard.
 type SlipTask<'c, 'a, R> = ValueOrGuard<
     'c,
+    'c,
     Slip<'a>,
     Slip<'a>,
     Slip<'a>,
