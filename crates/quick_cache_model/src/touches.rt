@@ -10,8 +10,14 @@ pub trait Touches: Default + Drop {
     /// There may be no touch at all.
     ghost none_counted: { may_count 0 };
 
+    /// Whether anything is ever counted: where it is not, a walk over the counts is spared.
+    fn counts() -> bool;
+
     /// Counts one more.
     fn add(&self);
+
+    /// Counts so many more.
+    fn add_all(&self, count: u64);
 
     /// The count so far, which stays.
     fn seen(&self) -> u64

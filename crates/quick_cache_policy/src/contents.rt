@@ -15,9 +15,10 @@ use std::hash::Hash;
 /// The lists of a cache, its sizes and its counts. The steps of a call are its methods.
 #[derive(Drop)]
 pub struct Contents<K: Eq + Hash, V, P: SharedPlaceholder<K>, A: Allocator = Global> {
-    /// What readers counted of hits and misses, each through a shared reference. They come first,
-    /// beside the word of a lock round the contents: a reader writes to both, so that cores hand one
-    /// line to each other and not two.
+    /// What readers counted of hits and misses, each through a shared reference. A hit stands at its
+    /// item until the touch is taken in, or leaves with the item. They come first, beside the word of
+    /// a lock round the contents: a reader writes to it, so that cores hand one line to each other
+    /// and not two.
     pub shared_hits: P::Touch,
     pub shared_misses: P::Touch,
     pub lists: Lists<K, V, P::Kept, P::Touch, A>,

@@ -42,6 +42,7 @@ impl<K: Eq + Hash, V, We, B: BuildHasher, L, P: SharedPlaceholder<K>, A: Allocat
     /// # Errors
     ///
     /// `Memory` where the clone failed. Nothing was counted then.
+    #[inline(always)]
     pub fn find_clone<Q: Equivalent<K>>(&self, hash: u64, query: &Q) -> Result<Option<V>, Refusal>
     where
         V: Clone,
@@ -71,6 +72,7 @@ impl<K: Eq + Hash, V, We, B: BuildHasher, L, P: SharedPlaceholder<K>, A: Allocat
     /// # Errors
     ///
     /// `Memory` where the clone failed. Nothing was counted then.
+    #[inline(always)]
     pub fn get_clone<Q: Equivalent<K>>(&self, hash: u64, query: &Q) -> Result<Option<V>, Refusal>
     where
         V: Clone,

@@ -21,7 +21,13 @@ impl<const COUNT: u64> Touches for Touched<COUNT> {
 
     ghost none_counted = { tt };
 
+    fn counts() -> bool {
+        true
+    }
+
     fn add(&self) {}
+
+    fn add_all(&self, _count: u64) {}
 
     fn seen(&self) -> u64 {
         self.count

@@ -63,6 +63,13 @@ fn reads_are_counted_and_looks_are_not(rt: HostRuntime) {
     expect!(rt; cache.item_stats(&rt, &4).is_none());
     expect_eq!(rt; cache.get(&rt, &4), Ok(None));
     expect_eq!(rt; (cache.hits(&rt), cache.misses(&rt)), (3, 1));
+    // A hit stays counted where its item goes, is written over or is cleared.
+    expect_eq!(rt; cache.remove(&rt, &1), Some((1, 10)));
+    expect_eq!(rt; cache.get(&rt, &2), Ok(Some(20)));
+    expect_eq!(rt; cache.put(&rt, 2, 21), Ok(()));
+    expect_eq!(rt; cache.get(&rt, &3), Ok(Some(30)));
+    cache.clear(&rt);
+    expect_eq!(rt; (cache.hits(&rt), cache.misses(&rt)), (5, 1));
 }
 
 #[test]

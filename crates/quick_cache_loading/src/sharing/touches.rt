@@ -27,8 +27,19 @@ impl Touches for SharedTouches {
 
     ghost none_counted = { tt };
 
+    fn counts() -> bool {
+        true
+    }
+
     fn add(&self) {
         self.count.fetch_add(1, Ordering::SeqCst);
+    }
+
+    fn add_all(&self, count: u64) {
+        // Most counts are 0, and need no locked instruction.
+        if count > 0 {
+            self.count.fetch_add(count, Ordering::SeqCst);
+        }
     }
 
     fn seen(&self) -> u64 {

@@ -26,6 +26,7 @@ impl<
     /// Looks the query's key up beside other readers, and clones what it finds. The clone is made
     /// first, so that a refused one counts nothing. Where clones fit as their values do, the
     /// clone fits a key that the query stands for.
+    #[inline(always)]
     pub fn get<Q: Equivalent<K>>(&self, query: &Q) -> Result<Option<V>, Refusal>
         ensures gets { Peeks (Q.equivalent query.now) V.is_clone self.now.state result }
         ensures fits { ShowsFitting L.fits (Q.equivalent query.now) V.is_clone result }

@@ -14,7 +14,7 @@ ghost use Rattle.quick_cache_policy.specs.Stays.{MakesRoom};
 
 use crate::contents::Contents;
 use crate::policy::Policy;
-use quick_cache_model::{Queue, SharedPlaceholder, Token};
+use quick_cache_model::{Queue, SharedPlaceholder, Token, Touches};
 use std::alloc::Allocator;
 use std::hash::Hash;
 
@@ -46,6 +46,7 @@ impl<K: Eq + Hash + Drop, V: Drop, P: SharedPlaceholder<K>, A: Allocator> Conten
         if count == 0 {
             return;
         }
+        self.shared_hits.add_all(count);
         let item = self.lists.item(token);
         let mark = u64::from(item.mark())
             .saturating_add(count)

@@ -117,7 +117,10 @@ impl<K: Eq + Hash, V, P: SharedPlaceholder<K>, A: Allocator> Contents<K, V, P, A
             Found::Item(token) => {
                 let slot = self.lists.take_found(hash, token);
                 match slot.entry {
-                    Entry::Item(item) => Some(item.into_pair()),
+                    Entry::Item(item) => {
+                        self.keep_hits(&item);
+                        Some(item.into_pair())
+                    }
                     Entry::Loading(_) => unreachable!(),
                     Entry::Ghost => unreachable!(),
                 }

@@ -15,6 +15,7 @@ use std::hash::Hash;
 
 impl<K: Eq + Hash, V, P: SharedPlaceholder<K>, A: Allocator> Contents<K, V, P, A> {
     /// The item under the query. Nothing changes.
+    #[inline(always)]
     pub fn peek<Q: Equivalent<K>>(
         &self,
         hash: u64,

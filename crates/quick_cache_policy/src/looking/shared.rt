@@ -6,7 +6,7 @@ ghost use Rattle.quick_cache_policy.specs.Finding.{AreUnder, IsThere};
 
 use crate::contents::Contents;
 use quick_cache_model::{Equivalent, SharedPlaceholder, Touches};
-use quick_cache_store::lists::ItemRef;
+use quick_cache_store::lists::{ItemRef, Marked};
 use std::alloc::Allocator;
 use std::hash::Hash;
 
@@ -31,10 +31,10 @@ impl<K: Eq + Hash, V, P: SharedPlaceholder<K>, A: Allocator> Contents<K, V, P, A
         Some(item)
     }
 
-    /// Counts a look-up that found this item, beside other readers.
+    /// Counts a look-up that found this item, beside other readers: by its touch alone, which is a
+    /// hit too.
     pub fn count_shared_hit(&self, item: &ItemRef<'_, K, V, P::Touch>) {
         item.touch().add();
-        self.shared_hits.add();
     }
 
     /// Counts a look-up that found nothing, beside other readers.
@@ -42,11 +42,33 @@ impl<K: Eq + Hash, V, P: SharedPlaceholder<K>, A: Allocator> Contents<K, V, P, A
         self.shared_misses.add();
     }
 
-    /// How many look-ups readers counted that found an item.
+    /// Counts the touches of an item that leaves as hits that readers made.
+    pub(crate) fn keep_hits(&self, item: &Marked<K, V, P::Touch>) {
+        self.shared_hits.add_all(item.touch().seen());
+    }
+
+    /// How many touches stand at the items. Where readers count, it looks at each slot.
+    pub(crate) fn touches_seen(&self) -> u64
+        ensures { P.Touch.may_count result }
+    {
+        let touches = P::Touch::default();
+        if P::Touch::counts() {
+            for item in self.lists.iter_items() {
+                touches.add_all(item.touch().seen());
+            }
+        }
+        touches.seen()
+    }
+
+    /// How many look-ups readers counted that found an item: the touches that were taken in or left
+    /// with their items, and those of the items that stand.
     pub fn hits_seen(&self) -> u64
         ensures { P.Touch.may_count result }
     {
-        self.shared_hits.seen()
+        let hits = P::Touch::default();
+        hits.add_all(self.shared_hits.seen());
+        hits.add_all(self.touches_seen());
+        hits.seen()
     }
 
     /// How many look-ups readers counted that found none.

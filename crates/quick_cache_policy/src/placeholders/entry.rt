@@ -57,7 +57,10 @@ impl<K: Eq + Hash + Drop, V: Drop, P: SharedPlaceholder<K>, A: Allocator> Conten
         let weight = terms.weigh(item.key(), item.value());
         let slot = self.lists.take(token, weight == 0);
         match slot.entry {
-            Entry::Item(resident) => (resident.into_pair(), queue),
+            Entry::Item(resident) => {
+                self.keep_hits(&resident);
+                (resident.into_pair(), queue)
+            }
             Entry::Loading(_) => unreachable!(),
             Entry::Ghost => unreachable!(),
         }

@@ -11,7 +11,7 @@ ghost use Rattle.quick_cache_policy.specs.Predicates.{Answers, MayBeAskedUnder, 
 ghost use Rattle.quick_cache_policy.specs.Stays.{KeepsSound};
 
 use crate::contents::Contents;
-use quick_cache_model::{Equivalent, SharedPlaceholder};
+use quick_cache_model::{Equivalent, SharedPlaceholder, Touches};
 use std::alloc::Allocator;
 use std::hash::Hash;
 
@@ -81,6 +81,7 @@ impl<K: Eq + Hash, V, P: SharedPlaceholder<K>, A: Allocator> Contents<K, V, P, A
         ensures room { self.new.lists.room ≡ self.old.lists.room + entry_count self.old.lists }
         ensures same { self.new ≡ record self.old { lists = self.new.lists } }
     {
+        self.shared_hits.add_all(self.touches_seen());
         self.lists.clear();
     }
 }

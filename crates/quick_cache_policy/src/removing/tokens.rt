@@ -107,7 +107,10 @@ impl<K: Eq + Hash, V, P: SharedPlaceholder<K>, A: Allocator> Contents<K, V, P, A
         self.lists.facts();
         let slot = self.lists.take(token, false);
         match slot.entry {
-            Entry::Item(item) => item.into_pair(),
+            Entry::Item(item) => {
+                self.keep_hits(&item);
+                item.into_pair()
+            }
             Entry::Loading(_) => unreachable!(),
             Entry::Ghost => unreachable!(),
         }

@@ -103,6 +103,7 @@ impl<K: Eq + Hash + Drop, V: Drop, P: SharedPlaceholder<K>, A: Allocator> Conten
         let slot = self.lists.take(token, false);
         match slot.entry {
             Entry::Item(item) => {
+                self.keep_hits(&item);
                 let queue = item.queue();
                 let (old_key, old_value) = item.into_pair();
                 report(queue, terms, state, old_key, old_value);

@@ -14,7 +14,7 @@ use crate::contents::Contents;
 use crate::policy::Policy;
 use crate::strategy::InsertStrategy;
 use crate::writing::admission::{Weighed, report};
-use quick_cache_model::{Queue, SharedPlaceholder, Token};
+use quick_cache_model::{Queue, SharedPlaceholder, Token, Touches};
 use quick_cache_store::lists::{Entry, Found, Marked};
 use std::alloc::Allocator;
 use std::hash::Hash;
@@ -47,6 +47,7 @@ impl<K: Eq + Hash + Drop, V: Drop, P: SharedPlaceholder<K>, A: Allocator> Conten
     {
         self.lists.facts();
         let touches = self.lists.take_touch(token);
+        self.shared_hits.add_all(touches);
         let item = self.lists.item(token);
         let queue = item.queue();
         let touched = u64::from(item.mark())

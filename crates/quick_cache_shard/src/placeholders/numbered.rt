@@ -16,7 +16,13 @@ impl Touches for NoTouches {
 
     ghost none_counted = { refl };
 
+    fn counts() -> bool {
+        false
+    }
+
     fn add(&self) {}
+
+    fn add_all(&self, _count: u64) {}
 
     fn seen(&self) -> u64 {
         0

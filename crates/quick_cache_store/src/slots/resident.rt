@@ -121,6 +121,11 @@ impl<K, V, T> Marked<K, V, T> {
         self.resident.reads
     }
 
+    /// What readers counted at it since the cache last took it in.
+    pub fn touch(&self) -> &T {
+        &self.resident.body.touch
+    }
+
     /// The pair, taken apart.
     pub fn into_pair(self) -> (K, V)
     where

@@ -66,7 +66,7 @@ impl<K: Eq + Hash + Drop, V: Drop, We, B: BuildHasher, L: Lifecycle<K, V>, A: Al
     }
 
     /// How many look-ups found an item, up to the greatest `u64`. It takes the read lock of each
-    /// shard in turn.
+    /// shard in turn, and looks at each slot: a look-up leaves its hit at the item.
     pub fn hits<R: Wait>(&self, rt: &R) -> u64
         ensures answers { AddsUp L.Lifecycle K.eq (λ (shard : Shard K V We B L) shown.
             Shows Hits shard.state shown) self.now.shards result }
