@@ -19,6 +19,7 @@ pub use quick_cache_model::Token;
 pub use quick_cache_policy::{
     EntryAction, EntryOrPlaceholder, InsertStrategy, MakesPlaceholders, SharedPlaceholder, Touches,
 };
+pub use quick_cache_store::lists::Meaning;
 pub use removing::drain::Drain;
 pub use shard::CacheShard;
 pub use walking::walk::{GhostIter, Iter, RingIter};

@@ -1,2 +1,3 @@
 mod SumLemmas
 mod TryLemmas
+mod WalkLemmas

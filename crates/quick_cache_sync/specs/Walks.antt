@@ -1,22 +1,41 @@
 -- Walks over the shared cache: each step is one of some shard.
-use Rattle.std.specs.Prelude.{ℕ, ◌+◌, ◌*◌, ◌-◌, Bool, Option, IfSome, Result, IfOk}
+use Rattle.std.specs.Prelude.{◌≡◌, ◌⊎◌, ℕ, ◌+◌, ◌*◌, ◌-◌, ◌<◌, Bool, Option, Some, IfSome, Result, IfOk}
 use Rattle.std.specs.Iterator.{Count, at_most}
 use Rattle.std.specs.declared.num.NonZeroU32.{NonZeroU32 as Token}
 use Rattle.quick_cache_model.specs.declared.terms.lifecycle.Lifecycle as lifecycle
 use Rattle.quick_cache_model.specs.declared.refusal.Refusal.{Refusal}
 use Rattle.quick_cache_shard.specs.Copies.{ClonesAreEqual}
 use Rattle.quick_cache_shard.specs.Shard.{Shard}
+use Rattle.quick_cache_shard.specs.WalksFrom.{number_or_zero}
 use Rattle.quick_cache_locked.specs.Fitting.{ClonesFit}
 use Rattle.quick_cache_locked.specs.Locked.{FromSome}
 use Rattle.quick_cache_locked.specs.Walks.{ClonesNext, TakesNext}
 
+-- where a walk stands: in which shard, and behind which token there
+abbrev pub Standing : Type 0
+Standing = ℕ × Option Token
+
+-- from there it comes to this shard, behind this number: it goes on in its own, or begins a later one
+abbrev pub ComesTo : Standing → (shard after : ℕ) → Type 0
+ComesTo old shard after = ((shard ≡ old.0) × (after ≡ number_or_zero old.1))
+    ⊎ ((old.0 < shard) × (after ≡ 0))
+
 module _ {K V L S : Type 0} (life : lifecycle.Ghosts L K V S) (equal : K → K → Bool) where
-  -- a pair that is shown is a clone of the next item of some shard behind some token
+  -- A pair that is shown is a clone of the next item of some shard, behind where the walk came to it;
+  -- and there the walk stands afterwards.
   abbrev pub ShowsPair : (We B : Type 0) → (key_clone : K → K → Type 0)
-      → (is_clone : V → V → Type 0) → Option (Result (K × V) Refusal) → Type 0
-  ShowsPair We B key_clone is_clone answer = IfSome answer (λ step. IfOk step (λ pair.
-      (token : Token) × (after : ℕ) × FromSome life equal (λ (shard : Shard K V We B L).
+      → (is_clone : V → V → Type 0) → Standing → Option (Result (K × V) Refusal) → Standing → Type 0
+  ShowsPair We B key_clone is_clone old answer new = IfSome answer (λ step. IfOk step (λ pair.
+      (token : Token) × (after : ℕ) × ComesTo old new.0 after × (new.1 ≡ Some token)
+      × FromSome life equal (λ (shard : Shard K V We B L).
       ClonesNext shard after key_clone is_clone (token, pair.0, pair.1))))
+
+  -- A pair that is taken is the next item of some shard likewise, which that step took out.
+  abbrev pub TakesPair : (We B : Type 0) → Standing → Option (K × V) → Standing → Type 0
+  TakesPair We B old answer new = IfSome answer (λ pair.
+      (token : Token) × (after : ℕ) × ComesTo old new.0 after × (new.1 ≡ Some token)
+      × FromSome life equal (λ (shard : Shard K V We B L). (left : Shard K V We B L)
+      × TakesNext shard after (Some (token, pair.0, pair.1)) left))
 
   -- and fits its key
   abbrev pub ShownFits : (key_clone : K → K → Type 0) (is_clone : V → V → Type 0)

@@ -35,6 +35,17 @@ fn retain(rt: HostRuntime) -> Result<(), Fail> {
 }
 
 #[test]
+fn invalidate_if(rt: HostRuntime) -> Result<(), Fail> {
+    let cache: Cache<u64, u64> = Cache::new(rt.alloc(), 100)?;
+    for key in 1..4u64 {
+        assert_eq!(rt; cache.insert(&rt, key, key * 10), Ok(()));
+    }
+    assert_eq!(rt; cache.invalidate_if(&rt, |key| *key > 1), 2);
+    assert_eq!(rt; cache.len(&rt), 1);
+    Ok(())
+}
+
+#[test]
 fn clear(rt: HostRuntime) -> Result<(), Fail> {
     let cache = Cache::new(rt.alloc(), 100)?;
     assert!(rt; cache.insert(&rt, "square", 4).is_ok());

@@ -1,7 +1,7 @@
 //! Keys that are being loaded in a shard behind its lock.
 ghost use Rattle.std.specs.Prelude.{◌≡◌, IfOk};
 ghost use Rattle.quick_cache_model.specs.Placeholders.{GivesUpPlaceholder};
-ghost use Rattle.quick_cache_shard.specs.Shard.{KeepsPlaces, LosesOnly, UpToOrder};
+ghost use Rattle.quick_cache_shard.specs.Shard.{KeepsPlaces, UpToOrder};
 ghost use Rattle.quick_cache_loading.specs.Begins.{IfFound};
 ghost use Rattle.quick_cache_locked.specs.Fitting.{ClonesFit, FitsQuery};
 ghost use Rattle.quick_cache_locked.specs.Loads.{BeginsLoad, EndsLoadBy, EndsSomeLoad, StandsForGiven};
@@ -97,17 +97,6 @@ impl<
         }
         self.shard
             .replace_placeholder(state, placeholder, waited, value)
-    }
-
-    /// Takes the placeholder out, if it is there.
-    pub fn give_up_load(&mut self, placeholder: &SharedPlaceholder<K, V, L, A>)
-        ensures gives_up { UpToOrder
-            (GivesUpPlaceholder placeholder.now.ticket self.old.state) self.new.state }
-        ensures places { LosesOnly self.old.places self.new.places }
-        ensures kept { IsKept L.Lifecycle K.eq self.old }
-    {
-        self.facts();
-        self.shard.remove_placeholder(placeholder);
     }
 }
 

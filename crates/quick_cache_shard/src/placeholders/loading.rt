@@ -10,6 +10,7 @@ use crate::shard::CacheShard;
 use crate::words::Keyed;
 use quick_cache_model::{Refusal, ToKey, Token};
 use quick_cache_policy::{MakesPlaceholders, SharedPlaceholder};
+use quick_cache_store::lists::Meaning;
 use std::alloc::Allocator;
 use std::hash::{BuildHasher, Hash};
 
@@ -64,6 +65,12 @@ impl<
     {
         self.facts();
         self.contents.awaited_key(placeholder)
+    }
+
+    /// Shows what is kept of each placeholder to a visitor, up to the first that it means. It looks
+    /// at each slot.
+    pub fn visit_placeholders<M: Meaning<K, P::Kept>>(&self, visitor: &M) {
+        let _ = self.contents.lists.find_placeholder(Token::MIN, visitor);
     }
 
     /// Takes the placeholder of that ticket out, if it is there, and calls no hook. It is looked

@@ -45,9 +45,10 @@ impl<
 
     type Item = Result<(K, V), Refusal>;
 
-    // Whatever other threads do, a pair that is shown fits.
+    // Whatever other threads do, a pair that is shown is that of the next place, and fits.
     ghost next_gives = { λ old answer new.
-        ShowsPair L.Lifecycle K.eq We B K.is_clone V.is_clone answer
+        ShowsPair L.Lifecycle K.eq We B K.is_clone V.is_clone (old.shard, old.after) answer
+        (new.shard, new.after)
         × ShownFits L.Lifecycle K.eq K.is_clone V.is_clone answer };
 
     fn next(&mut self) -> Option<Result<(K, V), Refusal>> {
@@ -127,13 +128,14 @@ impl<
 > Iterator for Drain<'a, K, V, We, B, L, R, A> {
     ghost use Rattle.std.specs.Prelude.{vec_len};
     ghost use Rattle.quick_cache_shard.specs.WalksFrom.{number_or_zero};
-    ghost use Rattle.quick_cache_sync.specs.Walks.{TakenFits, tokens_ahead};
+    ghost use Rattle.quick_cache_sync.specs.Walks.{TakesPair, TakenFits, tokens_ahead};
 
     type Item = (K, V);
 
-    // Whatever other threads do, a pair that is taken fits.
+    // Whatever other threads do, a pair that is taken is that of the next place, and fits.
     ghost next_gives = { λ old answer new.
-        TakenFits L.Lifecycle answer };
+        TakesPair L.Lifecycle K.eq We B (old.shard, old.after) answer (new.shard, new.after)
+        × TakenFits L.Lifecycle answer };
 
     ghost remaining = { λ drain. tokens_ahead drain.cache.now.shards drain.shard
         (number_or_zero drain.after) };

@@ -122,6 +122,22 @@ impl<K: Eq + Hash + Drop, V: Drop, We, B: BuildHasher, L: Lifecycle<K, V>, A: Al
         }
     }
 
+    /// Drops the items of the keys that pass the test, and takes from the loads that are under way for
+    /// such keys the right to be kept, one shard after the other; their guards answer `Gone`. So no
+    /// value whose load had begun before the call is stored after it. It tells how many items and
+    /// loads there were. Ghosts stay, and no hook is called. It takes the write lock of each shard in
+    /// turn, under which the test runs, looks at each slot, and again at each of the shard for each
+    /// key that is being loaded there. It takes no memory.
+    pub fn invalidate_if<F: Fn(&K) -> bool, R: Wait>(&self, rt: &R, test: F) -> usize
+        requires callable { F.IsAlwaysCallable test }
+    {
+        let mut gone = 0usize;
+        for shard in &self.shards {
+            gone = gone.saturating_add(shard.write(rt).invalidate_if(&test));
+        }
+        gone
+    }
+
     /// Drops all items, and forgets those that left, one shard after the other. The counts, the
     /// sizes and the memory stay. No hook is called. It takes the write lock of each shard in turn.
     pub fn clear<R: Wait>(&self, rt: &R) {

@@ -47,6 +47,28 @@ fn loaded<R: Wait>(
 }
 
 #[test]
+fn what_is_invalidated_is_not_stored_afterwards(rt: HostRuntime) {
+    let cache: Numbers = expect_ok!(rt; Cache::new(rt.alloc(), 100));
+    for key in 1..7 {
+        expect_eq!(rt; cache.put(&rt, key, key), Ok(()));
+    }
+    let (GuardResult::Guard(even), GuardResult::Guard(odd)) = (
+        cache.get_value_or_guard(&rt, &8, None),
+        cache.get_value_or_guard(&rt, &9, None),
+    ) else {
+        panic!(rt; "the keys are absent");
+    };
+    // Three items and a load.
+    expect_eq!(rt; cache.invalidate_if(&rt, |key| *key % 2 == 0), 4);
+    expect!(rt; matches!(even.insert(80), Err(FillError::Gone(80))));
+    expect!(rt; odd.insert(90).is_ok());
+    let left = (1..10u64)
+        .filter(|key| cache.contains_key(&rt, key))
+        .count();
+    expect_eq!(rt; (left, cache.get(&rt, &9)), (4, Ok(Some(90))));
+}
+
+#[test]
 fn the_loader_is_called_until_it_gives_a_value(rt: HostRuntime) {
     let cache: Numbers = expect_ok!(rt; Cache::new(rt.alloc(), 100));
     let mut calls = 0;

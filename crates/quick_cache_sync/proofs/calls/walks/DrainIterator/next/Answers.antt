@@ -1,9 +1,10 @@
-use Rattle.std.proofs.Common.{◌≡◌, ℕ, ◌+◌, ◌<◌, ◌≤◌, refl, ap, arith}
+use Rattle.std.proofs.Common.{◌≡◌, ℕ, ◌+◌, ◌<◌, ◌≤◌, refl, ap, subst, inl, arith}
 use Rattle.std.specs.Int.NonZero.{non_zero_u32_get as number}
 use Rattle.std.specs.Iterator.{size}
 use Rattle.quick_cache_shard.specs.WalksFrom.{number_or_zero}
 use Rattle.quick_cache_sync.specs.Shards.{Division}
-use Rattle.quick_cache_sync.specs.Walks.{tokens_ahead}
+use Rattle.quick_cache_sync.specs.Walks.{ComesTo, tokens_ahead}
+use Rattle.quick_cache_sync.proofs.WalkLemmas.{ComesTo-next}
 use Rattle.quick_cache_sync.proofs.calls.walks.DrainIterator.next.Goals as goal
 
 -- a later token of the shard is nearer to the end
@@ -21,10 +22,22 @@ farther : (shards first began shard after index : ℕ) → shard ≡ index → i
 farther shards first began shard after index at below ahead = omega (arith, at, below, ahead)
 
 pub loop-index-init : goal.loop-index-init
-loop-index-init g c = (refl, refl, omega arith)
+loop-index-init g c = (refl, refl, omega arith, inl (refl, refl))
 
 pub returns-in-Some-clause-steps : goal.returns-in-Some-clause-steps
-returns-in-Some-clause-steps g c = c.in-Some.ensures.fits
+returns-in-Some-clause-steps g c =
+    let after = number_or_zero c.loop-index.self.after in
+    let invariant = c.loop-index.invariant in (
+      (
+        c.in-Some.token,
+        after,
+        subst (λ shard. ComesTo (c.args.self.now.shard, c.args.self.now.after) shard after)
+            invariant.1 invariant.3,
+        refl,
+        record { shard = _; kept = c.in-Some.ensures.kept; holds = (_, c.in-Some.ensures.takes) },
+      ),
+      c.in-Some.ensures.fits,
+    )
 
 -- the token is above the last one
 pub returns-in-Some-clause-goes : goal.returns-in-Some-clause-goes
@@ -61,7 +74,9 @@ loop-index-preserved g c =
       farther c.args.self.now.cache.now.shards c.args.self.now.shard
           (number_or_zero c.args.self.now.after) c.loop-index.self.shard
           (number_or_zero c.loop-index.self.after) c.loop-index.index invariant.1 below invariant.2,
+      ComesTo-next (c.args.self.now.shard, c.args.self.now.after) c.loop-index.self.shard
+          (number_or_zero c.loop-index.self.after) c.loop-index.index invariant.1 invariant.3,
     )
 
 pub returns-clause-steps : goal.returns-clause-steps
-returns-clause-steps g c = tt
+returns-clause-steps g c = (tt, tt)

@@ -1,7 +1,7 @@
 use Rattle.std.specs.Prelude.{◌≡◌, ◌≤◌}
 use Rattle.std.specs.Iterator.{size}
 use Rattle.quick_cache_shard.specs.WalksFrom.{number_or_zero}
-use Rattle.quick_cache_sync.specs.Walks.{tokens_ahead}
+use Rattle.quick_cache_sync.specs.Walks.{ComesTo, tokens_ahead}
 use Rattle.quick_cache_sync.proofs.calls.walks.DrainIterator.next.Given as goal
 
 -- the walk is at the next shard, and no more tokens are ahead than at first
@@ -11,3 +11,4 @@ invariant-loop-index g l =
     × (size (tokens_ahead l.fn.self.cache.now.shards l.self.shard (number_or_zero l.self.after))
     ≤ size (tokens_ahead l.fn.self.cache.now.shards l.fn.self.shard
     (number_or_zero l.fn.self.after)))
+    × ComesTo (l.fn.self.shard, l.fn.self.after) l.self.shard (number_or_zero l.self.after)
