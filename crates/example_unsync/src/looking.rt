@@ -97,6 +97,22 @@ fn iter(rt: HostRuntime) -> Result<(), Fail> {
 }
 
 #[test]
+fn hottest(rt: HostRuntime) -> Result<(), Fail> {
+    let mut cache: Cache<u64, u64> = Cache::new(rt.alloc(), 5)?;
+    for key in [1, 2, 3] {
+        cache.insert(key, key)?;
+    }
+    cache.get(&2);
+    // The first has a mark, and of the others the one that is visited next comes first.
+    let mut keys = 0u64;
+    for (key, _) in &cache.hottest(rt.alloc(), 2)? {
+        keys = keys.saturating_mul(10).saturating_add(**key);
+    }
+    assert_eq!(rt; keys, 21);
+    Ok(())
+}
+
+#[test]
 fn memory_used(rt: HostRuntime) -> Result<(), Fail> {
     let mut cache: Cache<u64, u64> = Cache::new(rt.alloc(), 5)?;
     cache.insert(1, 10)?;

@@ -119,3 +119,11 @@ fn set_capacity_with_lifecycle(rt: HostRuntime) -> Result<(), Fail> {
     assert_eq!(rt; (cache.len(), left), (2, 3));
     Ok(())
 }
+
+#[test]
+fn fill(rt: HostRuntime) -> Result<(), Fail> {
+    let mut cache: Cache<u64, u64> = Cache::new(rt.alloc(), 5)?;
+    assert!(rt; cache.fill((1..4).map(|key| (key, key))).is_ok());
+    assert_eq!(rt; (cache.len(), cache.peek(&3).copied()), (3, Some(3)));
+    Ok(())
+}

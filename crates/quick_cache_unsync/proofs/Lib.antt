@@ -1,3 +1,4 @@
 pub mod ReferenceLemmas
 mod DrainLemmas
 pub mod LoadLemmas
+mod ManyLemmas

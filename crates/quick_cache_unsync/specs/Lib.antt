@@ -9,6 +9,8 @@ pub mod References
 pub mod Loads
 pub mod Fetches
 pub mod LoadTexts
+pub mod Many
+pub mod Hottest
 pub mod Steps
 pub use Rattle.quick_cache_shard.specs.Shard
 pub use Rattle.quick_cache_shard.specs.Copies

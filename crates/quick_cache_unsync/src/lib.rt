@@ -2,9 +2,11 @@
 #![tactic(auto)]
 
 mod cache;
+mod hottest;
 mod lent;
 mod lifecycle;
 mod loading;
+mod many;
 mod removal;
 mod sizes;
 mod walking;

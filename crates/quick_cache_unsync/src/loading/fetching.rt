@@ -118,7 +118,7 @@ impl<
                 match value.clone() {
                     Ok(copy) => {
                         let mut state = L::RequestState::default();
-                        self.fill(&mut state, placeholder, copy);
+                        self.fill_placeholder(&mut state, placeholder, copy);
                     }
                     Err(_) => self.give_up(placeholder),
                 }

@@ -21,7 +21,12 @@ impl<
     A: Allocator,
 > Cache<K, V, We, B, L, A> {
     /// Fills the placeholder, which is there. It asks for no memory.
-    pub(crate) fn fill(&mut self, state: &mut L::RequestState, placeholder: &Placeholder, value: V)
+    pub(crate) fn fill_placeholder(
+        &mut self,
+        state: &mut L::RequestState,
+        placeholder: &Placeholder,
+        value: V,
+    )
         requires awaited { IsAwaited placeholder.now.ticket self.old.state }
         ensures fills { FillsThereBy ⟦<Self as Going>⟧.goes no_touches self.old
             placeholder.now.ticket value self.new state.old state.new }

@@ -82,7 +82,7 @@ impl<
         match loader() {
             Ok(value) => {
                 let mut state = L::RequestState::default();
-                self.fill(&mut state, placeholder, value);
+                self.fill_placeholder(&mut state, placeholder, value);
                 Ok(self.is_resident(placeholder.idx, hash, query))
             }
             Err(error) => {
