@@ -22,16 +22,10 @@ mod tests {
     #[test]
     fn names_are_numbered_as_they_come(rt: HostRuntime) -> Result<(), Fail> {
         let mut known = Cache::new(rt.alloc(), 100)?;
-        for (name, number) in [
-            ("anna", 0),
-            ("bert", 1),
-            ("anna", 0),
-            ("carl", 2),
-            ("bert", 1),
-        ] {
+        for (name, number) in [("anna", 0), ("bert", 1), ("anna", 0), ("carl", 2)] {
             assert_eq!(rt; number_of(rt.alloc(), &mut known, name)?, number);
         }
-        assert_eq!(rt; (known.hits(), known.misses(), known.len()), (2, 3, 3));
+        assert_eq!(rt; (known.hits(), known.misses(), known.len()), (1, 3, 3));
         known.clear();
         assert_eq!(rt; number_of(rt.alloc(), &mut known, "anna")?, 3);
         Ok(())
