@@ -1,14 +1,20 @@
--- What a load answers of a key that is absent.
-use Rattle.std.proofs.Common.{◌≡◌, ℕ, Bool, true, false, true≢false, List, Result, Ok, Err, IfOk, Some, subst, sym, ◌∙◌}
+-- What loads answer of a key that is absent, and leave of it.
+use Rattle.std.proofs.Common.{◌≡◌, ◌≢◌, ◌≤◌, ◌+◌, ℕ, Bool, false, true≢false, List, [], ◌∷◌, ◌++◌, length, length-append, Result, Ok, Err, IfOk, Some, refl, ap, subst, sym, ◌∙◌, arith}
 use Rattle.std.specs.List.{AllByRecursion}
-use Rattle.quick_cache_model.specs.CacheState.{CacheState, Item, Place, InHot, InCold, InStill, UpToOrder}
-use Rattle.quick_cache_model.specs.Finding.{IsItemAt, HasNoItem}
+use Rattle.quick_cache_model.specs.CacheState.{CacheState, Item, Place, InHot, InCold, InStill}
+use Rattle.std.proofs.lemmas.List.Sorted.{length_permutation, IsPermutation-sym}
+use Rattle.quick_cache_model.specs.CacheState.{LoadingEntry}
+use Rattle.quick_cache_model.specs.Finding.{IsItemAt, HasNoItem, HasNoKey}
+use Rattle.quick_cache_model.specs.Loads.{TakesPlaceholder, LoadsNothing}
+use Rattle.quick_cache_model.specs.Placeholders.{HasNoTicket, MakesPlaceholder, MeetsPlaceholder, GivesUpPlaceholder}
+use Rattle.quick_cache_model.specs.References.{TellsItem}
+use Rattle.quick_cache_model.specs.declared.refusal.Refusal.{Refusal}
+use Rattle.quick_cache_unsync.specs.Loads.{AnswersLoad}
 use Rattle.quick_cache_model.specs.Hooks.{Rules, Hooks}
 use Rattle.quick_cache_model.specs.Lookups.{LooksUp}
-use Rattle.quick_cache_model.proofs.EachElement.{all-middle}
+use Rattle.quick_cache_model.proofs.EachElement.{all-middle, all-permutation}
 use Rattle.quick_cache_unsync.specs.Fetches.{EndsFetch, Fetches}
 use Rattle.quick_cache_unsync.specs.declared.loading.not_loaded.LoadError.{LoadError}
-use Rattle.quick_cache_unsync.specs.declared.loading.not_loaded.LoadError.TheVariants.{Failed, Refused}
 
 module _ {K V : Type 0} (stands_for : K → Bool) (old : CacheState K V)
     (none : HasNoItem stands_for old) where
@@ -55,3 +61,100 @@ module _ {K V : Type 0} (stands_for : K → Bool) (old : CacheState K V)
     Fetches-absent _ new (Fetches.loads answer ticket mid _ takes ends) =
         ended ticket mid new answer ends
     Fetches-absent _ new (Fetches.refused refusal _ none) = tt
+
+-- a key that is told to be absent is absent
+told-absent : {K V E : Type 0} (stands_for : K → Bool) (new : CacheState K V) (there : Bool)
+    → TellsItem stands_for new there → (ended : Result Bool E) → ended ≡ Ok there
+    → ended ≡ Ok false → HasNoItem stands_for new
+told-absent stands_for new _ (TellsItem.is_there place before item after at) ended told is =
+    absurd cc
+told-absent stands_for new _ (TellsItem.is_absent none) ended told is = none
+
+module _ {K V S E : Type 0} (steady : Type 0) (hooks : Hooks K V S) (rules : Rules K V)
+    (is_default : S → Type 0) (stands_for : K → Bool) (gives : K → Type 0) (hash : ℕ)
+    (given : Result V E → Type 0) (old : CacheState K V) where
+  -- where a load tells that nothing stays, nothing stands under the key
+  pub AnswersLoad-absent : (answer : Result (Result Bool E) Refusal) (new : CacheState K V)
+      → AnswersLoad steady hooks rules is_default stands_for gives hash given old answer new
+      → IfOk answer (λ ended. ended ≡ Ok false → HasNoItem stands_for new)
+  AnswersLoad-absent _ _ (AnswersLoad.found value new up) = λ is. absurd cc
+  AnswersLoad-absent _ _ (AnswersLoad.loads there new loaded) =
+      λ is. told-absent stands_for new there loaded.fills.resident (Ok there) refl is
+  AnswersLoad-absent _ _ (AnswersLoad.fails error new failed) = λ is. absurd cc
+  AnswersLoad-absent _ _ (AnswersLoad.refused refusal new none) = tt
+
+module _ {K V : Type 0} (stands_for : K → Bool) (old : CacheState K V)
+    (none : HasNoKey stands_for old) where
+  -- no placeholder is there to be met
+  none-met : (ticket : ℕ) (new : CacheState K V) → MeetsPlaceholder stands_for old ticket new → ⊥
+  none-met _ _ (MeetsPlaceholder.is_there before entry after at) =
+      true≢false (sym at.passes
+      ∙ all-middle (λ (e : LoadingEntry K). stands_for e.key ≡ false) before entry after
+      (subst (λ (l : List (LoadingEntry K)). AllByRecursion (λ e. stands_for e.key ≡ false) l)
+      at.split none.loading))
+
+  -- one that is made stands last, with the next ticket
+  made-last : (hash : ℕ) (key : K) (new : CacheState K V)
+      → MakesPlaceholder stands_for old hash key new
+      → (entry : LoadingEntry K) × (entry.ticket ≡ old.next_ticket)
+      × (new.loading ≡ old.loading ++ entry ∷ [])
+  made-last hash key _ (MakesPlaceholder.on_nothing passes nothing) = (_, refl, refl)
+  made-last hash key _ (MakesPlaceholder.on_ghost before after passes at) = (_, refl, refl)
+
+  -- so one is made where a load begins
+  taken-last : (hash ticket : ℕ) (new : CacheState K V)
+      → TakesPlaceholder stands_for hash old ticket new
+      → (entry : LoadingEntry K) × (entry.ticket ≡ ticket)
+      × (new.loading ≡ old.loading ++ entry ∷ [])
+  taken-last hash _ _ (TakesPlaceholder.makes key new provided makes) = made-last hash key new makes
+  taken-last hash _ _ (TakesPlaceholder.meets ticket new meets) = absurd (none-met ticket new meets)
+
+  -- where a placeholder is given up that is there, there is one less
+  one-less : (ticket : ℕ) (mid new : CacheState K V) → (HasNoTicket ticket mid → ⊥)
+      → GivesUpPlaceholder ticket mid new → length new.loading + 1 ≡ length mid.loading
+  one-less ticket mid _ there (GivesUpPlaceholder.was_there before entry after at) =
+      omega (
+        arith,
+        ap length at.split,
+        length-append before (entry ∷ after),
+        length-append before after,
+      )
+  one-less ticket mid _ there (GivesUpPlaceholder.was_gone gone) = absurd (there gone)
+
+  -- a load that gives nothing leaves no more placeholders than there were
+  LoadsNothing-none : (rules : Rules K V) (hash : ℕ) (new : CacheState K V)
+      → LoadsNothing rules stands_for hash old new → length new.loading ≤ length old.loading
+  LoadsNothing-none rules hash new nothing =
+      let first = nothing.takes.ordered.loading in
+      let last = taken-last hash nothing.ticket nothing.takes.ordered nothing.takes.holds in
+      let differs : LoadingEntry K → Type 0 = λ e. e.ticket ≢ nothing.ticket in
+      let there : HasNoTicket nothing.ticket nothing.mid → ⊥ = λ gone.
+      all-middle differs old.loading last.0 []
+      (subst (λ (l : List (LoadingEntry K)). AllByRecursion differs l) last.2
+      (all-permutation differs nothing.mid.loading first
+      (IsPermutation-sym first nothing.mid.loading nothing.takes.same.loading) gone)) last.1 in
+      omega (
+        arith,
+        one-less nothing.ticket nothing.mid nothing.gives_up.ordered there nothing.gives_up.holds,
+        ap length last.2,
+        length-append old.loading (last.0 ∷ []),
+        length_permutation first nothing.mid.loading nothing.takes.same.loading,
+        length_permutation nothing.gives_up.ordered.loading new.loading
+            nothing.gives_up.same.loading,
+      )
+
+  module _ {S E : Type 0} (steady : Type 0) (hooks : Hooks K V S) (rules : Rules K V)
+      (is_default : S → Type 0) (gives : K → Type 0) (hash : ℕ) (given : Result V E → Type 0)
+      (fails : (value : V) → given (Ok value) → ⊥) where
+    -- nor does one whose loader fails
+    pub AnswersLoad-none : (answer : Result (Result Bool E) Refusal) (new : CacheState K V)
+        → AnswersLoad steady hooks rules is_default stands_for gives hash given old answer new
+        → length new.loading ≤ length old.loading
+    AnswersLoad-none _ _ (AnswersLoad.found value new up) =
+        absurd (no-hit stands_for old none.items value up.ordered up.holds)
+    AnswersLoad-none _ _ (AnswersLoad.loads there new loaded) =
+        absurd (fails loaded.fills.value loaded.fills.loaded)
+    AnswersLoad-none _ _ (AnswersLoad.fails error new failed) =
+        LoadsNothing-none rules hash new failed.step
+    AnswersLoad-none _ _ (AnswersLoad.refused refusal new refused) =
+        omega (arith, ap (λ (s : CacheState K V). length s.loading) refused.unchanged)

@@ -1,9 +1,13 @@
-//! What a user relies on of calls that spare a step: a put, and a load that answers its value.
-ghost use Rattle.std.specs.Prelude.{◌≡◌, IfOk, OnErr, Ok, true};
-ghost use Rattle.quick_cache_model.specs.Finding.{HasNoItem};
+//! What a user relies on of calls that spare a step: a put, loads, and a guard's insert.
+ghost use Rattle.std.specs.Prelude.{◌≡◌, ◌≤◌, length, IfOk, OnErr, Ok, true, false};
+ghost use Rattle.quick_cache_model.specs.Finding.{HasNoItem, HasNoKey};
+ghost use Rattle.quick_cache_unsync.specs.Alone.{IsDoneAlone};
+ghost use Rattle.quick_cache_unsync.specs.Steps.{FillsIfThereBy};
+ghost use Rattle.quick_cache_unsync.specs.Touches.{no_touches};
 
 use quick_cache_model::ToKey;
-use quick_cache_unsync::{Cache, Lifecycle, LoadError, Refusal, Weighter};
+use quick_cache_shard::Going;
+use quick_cache_unsync::{Cache, Guard, Lifecycle, LoadError, NotLoaded, Refusal, Weighter};
 use std::hash::{BuildHasher, Hash};
 
 /// A refused put leaves the state as it was.
@@ -37,4 +41,104 @@ pub fn load_absent<
     ensures { IfOk result (λ value. F.post loader (Ok value)) }
 {
     cache.get_or_load(query, loader)
+}
+
+/// A key that a load tells to be absent is absent then.
+pub fn load_or_miss<
+    K: Eq + Hash + Drop,
+    V: Drop,
+    We: Weighter<K, V>,
+    B: BuildHasher,
+    L: Lifecycle<K, V>,
+    Q: ToKey<K>,
+    E,
+    F: FnOnce() -> Result<V, E>,
+>(cache: &mut Cache<K, V, We, B, L>, query: &Q, loader: F) -> Result<Result<bool, E>, Refusal>
+    requires stands { (key : K) → Q.to_key_gives query.now key
+        → Q.equivalent query.now key ≡ true }
+    requires loader { F.pre loader }
+    ensures { IfOk result (λ ended. ended ≡ Ok false
+        → HasNoItem (Q.equivalent query.now) cache.new.state) }
+{
+    cache.load(query, loader)
+}
+
+/// So is one to whose value no reference is given since it was not kept.
+pub fn is_not_lent<
+    K: Eq + Hash + Drop,
+    V: Drop,
+    We: Weighter<K, V>,
+    B: BuildHasher,
+    L: Lifecycle<K, V>,
+    Q: ToKey<K>,
+    E: Drop,
+    F: FnOnce() -> Result<V, E>,
+>(cache: &mut Cache<K, V, We, B, L>, query: &Q, loader: F) -> bool
+    requires stands { (key : K) → Q.to_key_gives query.now key
+        → Q.equivalent query.now key ≡ true }
+    requires loader { F.pre loader }
+    ensures { result ≡ true → HasNoItem (Q.equivalent query.now) cache.new.state }
+{
+    match cache.get_or_insert_with(query, loader) {
+        Ok(_) => false,
+        Err(NotLoaded::NotKept) => true,
+        Err(NotLoaded::Failed(_)) => false,
+        Err(NotLoaded::Refused(_)) => false,
+    }
+}
+
+/// And one to whose value no reference to write is given.
+pub fn is_not_lent_to_write<
+    K: Eq + Hash + Drop,
+    V: Drop,
+    We: Weighter<K, V>,
+    B: BuildHasher,
+    L: Lifecycle<K, V>,
+    Q: ToKey<K>,
+    E: Drop,
+    F: FnOnce() -> Result<V, E>,
+>(cache: &mut Cache<K, V, We, B, L>, query: &Q, loader: F) -> bool
+    requires stands { (key : K) → Q.to_key_gives query.now key
+        → Q.equivalent query.now key ≡ true }
+    requires loader { F.pre loader }
+    ensures { result ≡ true → HasNoItem (Q.equivalent query.now) cache.new.state }
+{
+    match cache.get_mut_or_insert_with(query, loader) {
+        Ok(_) => false,
+        Err(NotLoaded::NotKept) => true,
+        Err(NotLoaded::Failed(_)) => false,
+        Err(NotLoaded::Refused(_)) => false,
+    }
+}
+
+/// A loader that fails leaves no placeholder, where none stood.
+pub fn fail_to_load<
+    K: Eq + Hash + Drop,
+    V: Drop,
+    We: Weighter<K, V>,
+    B: BuildHasher,
+    L: Lifecycle<K, V>,
+    Q: ToKey<K>,
+>(cache: &mut Cache<K, V, We, B, L>, query: &Q) -> Result<Result<bool, ()>, Refusal>
+    requires stands { (key : K) → Q.to_key_gives query.now key
+        → Q.equivalent query.now key ≡ true }
+    requires absent { HasNoKey (Q.equivalent query.now) cache.old.state }
+    ensures { length cache.new.state.loading ≤ length cache.old.state.loading }
+{
+    cache.load(query, || Err(()))
+}
+
+/// A guard's insert is a fill of its placeholder, with a request state of its own.
+pub fn fill_alone<
+    K: Eq + Hash + Drop,
+    V: Drop,
+    We: Weighter<K, V>,
+    B: BuildHasher,
+    L: Lifecycle<K, V>,
+>(guard: Guard<'_, K, V, We, B, L>, value: V)
+    ensures { IsDoneAlone L.RequestState.is_default
+        (FillsIfThereBy ⟦<Cache<K, V, We, B, L> as Going>⟧.goes no_touches
+        guard.entry.cache.now guard.entry.ticket value guard.exit.0.now) }
+{
+    guard.insert(value);
 }

@@ -7,9 +7,11 @@ ghost use Rattle.quick_cache_unsync.specs.Copies.{ClonesAreEqual};
 ghost use Rattle.quick_cache_model.specs.Sizes.{hot_target_of, ghost_limit_of, default_hot_share, default_ghost_share};
 ghost use Rattle.quick_cache_laws.specs.Laws.{EvictionEnds, EvictionIsDetermined};
 ghost use Rattle.quick_cache_unsync.specs.Touches.{no_touches};
+ghost use Rattle.quick_cache_unsync.specs.Alone.{IsDoneAlone};
+ghost use Rattle.quick_cache_shard.specs.Steps.{ReplacesBy};
 
 use quick_cache_base::laws::{eviction_law, removal_law};
-use quick_cache_shard::NoTouches;
+use quick_cache_shard::{Going, NoTouches};
 use quick_cache_unsync::{Cache, Lifecycle, Options, Refusal, Weighter};
 use std::alloc::Global;
 use std::hash::{BuildHasher, Hash};
@@ -186,6 +188,21 @@ pub fn replace_absent<K: Eq + Hash + Drop, V: Drop, We: Weighter<K, V>, B: Build
     // A peek tells that the state is valid.
     let _ = cache.peek(&key);
     cache.replace(key, value, soft)
+}
+
+/// A replace that is not soft is one that marks the item.
+pub fn replace_and_mark<
+    K: Eq + Hash + Drop,
+    V: Drop,
+    We: Weighter<K, V>,
+    B: BuildHasher,
+    L: Lifecycle<K, V>,
+>(cache: &mut Cache<K, V, We, B, L>, key: K, value: V) -> Result<(), (K, V)>
+    ensures marks { IsDoneAlone L.RequestState.is_default
+        (ReplacesBy ⟦<Cache<K, V, We, B, L> as Going>⟧.goes no_touches cache.old K.eq false key
+        value result cache.new) }
+{
+    cache.replace(key, value, false)
 }
 
 /// A copy has as many items.

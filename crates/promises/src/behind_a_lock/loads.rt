@@ -1,10 +1,13 @@
 //! What those rely on who load a key in the shared cache, or act on its entry.
-ghost use Rattle.std.specs.Prelude.{◌≡◌, IfErr, IfOk, OnErr, true, vec_len};
+ghost use Rattle.std.specs.Prelude.{◌≡◌, IfErr, IfOk, OnErr, true, false, vec_len};
+ghost use Rattle.quick_cache_loading.specs.Core.{waits};
 ghost use Rattle.quick_cache_loading.specs.Fitting.{ClonesFit};
+ghost use Rattle.quick_cache_guard.specs.Fills.{FilledBy};
 
 use quick_cache_base::protocol::{Answer, Core, Event, run};
 use quick_cache_guard::entries::{EntryShard, entry};
 use quick_cache_guard::{EntryResult, FillError, LoadingShard, PlaceholderGuard};
+use quick_cache_loading::waiting::{Ended, Place, State};
 use quick_cache_model::{EntryAction, Lifecycle, Refusal, ToKey};
 use std::alloc::Global;
 use std::hash::Hash;
@@ -29,6 +32,30 @@ pub fn fill_or_take_back<
         Err(FillError::Memory(guard, value)) => {
             guard.abandon();
             Err(value)
+        }
+    }
+}
+
+/// A fill is told by the request state that it is handed, and one that fails tells nothing.
+pub fn fill_and_tell<
+    K: Eq + Hash + Drop,
+    V: Clone,
+    L: Lifecycle<K, V>,
+    S: LoadingShard<K, V, L, Global>,
+    R: Wait,
+>(guard: PlaceholderGuard<'_, K, V, L, S, R>, value: V, state: &mut L::RequestState) -> bool
+    requires fits { L.fits guard value }
+    requires clones { ClonesFit L.fits V.is_clone }
+    ensures told { result ≡ true → FilledBy S.fills guard.entry value state.old
+        state.new }
+    ensures unchanged { result ≡ false → state.new ≡ state.old }
+{
+    match guard.insert_with_lifecycle(value, state) {
+        Ok(()) => true,
+        Err(FillError::Gone(_value)) => false,
+        Err(FillError::Memory(guard, _value)) => {
+            guard.abandon();
+            false
         }
     }
 }
@@ -65,4 +92,15 @@ pub fn run_events<V: Clone>(
     ensures same { OnErr result (core.new ≡ core.old) }
 {
     run(core, events)
+}
+
+/// Who withdraws waits no more.
+pub fn wait_no_more<K: Eq + Drop, V: Clone + Drop, L: Lifecycle<K, V>>(
+    state: &mut State<K, V, L>,
+    place: Place,
+) -> (Answer<V>, Option<Ended>)
+    requires place { place.ticket ≡ state.old.ticket }
+    ensures { waits place.number state.new.core ≡ false }
+{
+    state.cancel(place)
 }
