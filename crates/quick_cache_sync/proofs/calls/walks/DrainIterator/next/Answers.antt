@@ -34,7 +34,11 @@ returns-in-Some-clause-steps g c =
         subst (λ shard. ComesTo (c.args.self.now.shard, c.args.self.now.after) shard after)
             invariant.1 invariant.3,
         refl,
-        record { shard = _; kept = c.in-Some.ensures.kept; holds = (_, c.in-Some.ensures.takes) },
+        record {
+          shard = c.deref_mut.result.now;
+          kept = c.in-Some.ensures.kept;
+          holds = (c.take_next-step.new.self, c.in-Some.ensures.takes);
+        },
       ),
       c.in-Some.ensures.fits,
     )
