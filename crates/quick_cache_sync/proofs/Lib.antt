@@ -1,3 +1,4 @@
+mod ManyLemmas
 mod SumLemmas
 mod TryLemmas
 mod WalkLemmas

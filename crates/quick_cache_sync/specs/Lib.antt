@@ -1,5 +1,7 @@
 pub mod FirstPairs
 pub mod Answers
+pub mod Fills
+pub mod Many
 pub mod Shards
 pub mod Sums
 pub mod Tries

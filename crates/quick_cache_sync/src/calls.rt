@@ -1,6 +1,8 @@
 //! The calls, by what they do under the lock of a shard.
 
+pub mod filling;
 pub mod loads;
+pub mod many;
 pub mod reads;
 pub mod sizes;
 pub mod tasks;

@@ -57,3 +57,12 @@ fn get_value_or_guard(rt: HostRuntime) -> Result<(), Fail> {
     assert!(rt; matches!(found, GuardResult::Value(4)));
     Ok(())
 }
+
+#[test]
+fn get_many(rt: HostRuntime) -> Result<(), Fail> {
+    let cache: Cache<u64, u64> = Cache::new(rt.alloc(), 100)?;
+    assert_eq!(rt; cache.insert(&rt, 1, 10), Ok(()));
+    let found = cache.get_many(&rt, rt.alloc(), &[1u64, 2])?;
+    assert_eq!(rt; found.as_slice(), [Some(10), None].as_slice());
+    Ok(())
+}

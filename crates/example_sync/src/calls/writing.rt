@@ -51,3 +51,11 @@ fn replace_with_lifecycle(rt: HostRuntime) -> Result<(), Fail> {
     assert_eq!(rt; gone, [Some((1, 10)), None]);
     Ok(())
 }
+
+#[test]
+fn fill(rt: HostRuntime) -> Result<(), Fail> {
+    let cache: Cache<u64, u64> = Cache::new(rt.alloc(), 100)?;
+    assert!(rt; cache.fill(&rt, (1..4).map(|key| (key, key))).is_ok());
+    assert_eq!(rt; cache.peek(&rt, &3), Ok(Some(3)));
+    Ok(())
+}
