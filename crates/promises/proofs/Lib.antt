@@ -4,6 +4,7 @@ mod LentLemmas
 mod OneThreadLemmas
 mod RetainLemmas
 mod RunLemmas
+mod ServedLemmas
 mod SharedLemmas
 mod ToldLemmas
 mod TurnLemmas

@@ -8,3 +8,4 @@ pub mod one_thread;
 pub mod options;
 pub mod room;
 pub mod runs;
+pub mod served;

@@ -34,6 +34,11 @@ pub empty-length : {X : Type 0} (xs : List X) → true ≡ (length xs == 0) → 
 empty-length [] is = refl
 empty-length (x ∷ xs) is = absurd (omega (arith, eqb-true (length (x ∷ xs)) 0 (sym is)))
 
+-- a list of some is not empty
+pub some-length : {X : Type 0} (xs : List X) → false ≡ (length xs == 0) → xs ≡ [] → ⊥
+some-length [] is none = cc
+some-length (x ∷ xs) is none = cc
+
 -- where the line ends in which a text begins
 record EndsLine (text : List ℕ) : Type 0 where
   pub front : List ℕ
@@ -93,10 +98,11 @@ first_line text line long =
 module _ {We B L A : Type 0} (rules : Shard ℕ ℕ We B L → Rules ℕ ℕ) where
   -- a line's command asked for a cache, and none stands
   pub ServesLine-lacks : {old new : Option (Shard ℕ ℕ We B L)} {line : List ℕ} {outcome : Outcome A}
-      (command : Command) → IsLineOf line command → ServesCommand rules old command outcome new
+      (command : Command) → (line ≡ [] → ⊥) → IsLineOf line command
+      → ServesCommand rules old command outcome new
       → outcome ≡ NoCache → ServesLine A rules old line false new []
-  ServesLine-lacks {old} {new} command is serves lacks =
-      ServesLine.lacks_cache command new is
+  ServesLine-lacks {old} {new} command some is serves lacks =
+      ServesLine.lacks_cache command new some is
       (subst (λ outcome. ServesCommand rules old command outcome new) lacks serves)
 
 module _ {S : Type 0} (serves_line : S → List ℕ → Bool → S → List ℕ → Type 0) where

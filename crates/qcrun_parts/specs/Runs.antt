@@ -24,8 +24,8 @@ status_of EndOfInput = 0
 status_of BadLine = 2
 
 -- The cache that stood, a line, whether it could be served, the cache that stands, and what is
--- printed. An empty line asks for nothing. A line is bad that is no command, or that asks for a
--- cache where none stands.
+-- printed. An empty line asks for nothing. Another line is bad that is no command, or that asks for
+-- a cache where none stands.
 pub data ServesLine {We B L : Type 0} (A : Type 0) (rules : Shard ℕ ℕ We B L → Rules ℕ ℕ)
     (old : Option (Shard ℕ ℕ We B L)) (line : List ℕ)
     : Bool → Option (Shard ℕ ℕ We B L) → List ℕ → Type 0 where
@@ -33,10 +33,10 @@ pub data ServesLine {We B L : Type 0} (A : Type 0) (rules : Shard ℕ ℕ We B L
   serves : (command : Command) (outcome : Outcome A) (new : Option (Shard ℕ ℕ We B L))
       → IsLineOf line command → ServesCommand rules old command outcome new
       → (outcome ≡ NoCache → ⊥) → ServesLine A rules old line true new (outcome_text outcome new)
-  lacks_cache : (command : Command) (new : Option (Shard ℕ ℕ We B L)) → IsLineOf line command
-      → ServesCommand {A = A} rules old command NoCache new
+  lacks_cache : (command : Command) (new : Option (Shard ℕ ℕ We B L)) → (line ≡ [] → ⊥)
+      → IsLineOf line command → ServesCommand {A = A} rules old command NoCache new
       → ServesLine A rules old line false new []
-  is_no_command : ((command : Command) → IsLineOf line command → ⊥)
+  is_no_command : (line ≡ [] → ⊥) → ((command : Command) → IsLineOf line command → ⊥)
       → ServesLine A rules old line false old []
 
 -- A line was served so, and a writer has what was printed for it.

@@ -1,7 +1,7 @@
 use Rattle.std.proofs.Common.{refl}
 use Rattle.qcrun_parts.specs.Runs.{ServesLine}
 use Rattle.qcrun_parts.proofs.PrintLemmas.{Appends-nothing}
-use Rattle.qcrun_parts.proofs.RunLemmas.{IsOkExactly-err, empty-length, ServesLine-lacks}
+use Rattle.qcrun_parts.proofs.RunLemmas.{IsOkExactly-err, empty-length, some-length, ServesLine-lacks}
 use Rattle.qcrun_parts.proofs.serving.SessionLineServer.serve_line.Goals as goal
 
 -- an empty line asks for nothing
@@ -16,7 +16,8 @@ returns-then-is_empty g c = record {
 pub returns-in_default : goal.returns-in_default
 returns-in_default g c = record {
   printed = _;
-  serves = ServesLine.is_no_command (IsOkExactly-err c.in_default.field-0 _ c.in_default.ensures);
+  serves = ServesLine.is_no_command (some-length c.args.line.now c.if-is_empty.ensures)
+      (IsOkExactly-err c.in_default.field-0 _ c.in_default.ensures);
   appended = Appends-nothing (g.W.Write.contents c.args.writer.now);
 }
 
@@ -24,8 +25,8 @@ returns-in_default g c = record {
 pub returns-in-NoCache : goal.returns-in-NoCache
 returns-in-NoCache g c = record {
   printed = _;
-  serves = ServesLine-lacks _ c.in-Ok.command ((c.in-Ok.ensures c.in-Ok.command).1 refl)
-      c.serve.ensures c.in-NoCache.is;
+  serves = ServesLine-lacks _ c.in-Ok.command (some-length c.args.line.now c.if-is_empty.ensures)
+      ((c.in-Ok.ensures c.in-Ok.command).1 refl) c.serve.ensures c.in-NoCache.is;
   appended = Appends-nothing (g.W.Write.contents c.args.writer.now);
 }
 
