@@ -1,3 +1,4 @@
+mod FillLemmas
 mod ManyLemmas
 mod SumLemmas
 mod TryLemmas
