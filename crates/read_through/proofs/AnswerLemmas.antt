@@ -3,8 +3,11 @@ use Rattle.std.proofs.Common.{◌≡◌, ℕ, Bool, IsTrue, Result, Ok, Err, IfO
 use Rattle.std.specs.Cmp.{IsEquivalence}
 use Rattle.quick_cache_locked.specs.Fitting.{ClonesFit}
 use Rattle.read_through.specs.declared.loaded.Loaded.{Loaded}
-use Rattle.read_through.specs.Moments.{Serves, IsFresh}
-use Rattle.read_through.specs.Answers.{Answers, IsOf, GivesClones}
+use Rattle.read_through.specs.declared.given.Given.{Given}
+use Rattle.read_through.specs.declared.given.Given.TheVariants.{Fresh, Stale}
+use Rattle.read_through.specs.Moments.{Serves, IsFresh, IsWithin}
+use Rattle.read_through.specs.Answers.{Answers, AnswersLate, IsOf, GivesClones}
+use Rattle.read_through.specs.Givens.{IfFresh, IfStale}
 
 -- what is loaded now is fresh
 pub IsFresh-own : (life now : ℕ) → IsFresh life now now
@@ -17,6 +20,34 @@ IsFresh-stored life moment now serves = record {
   own = λ zero. omega (arith, serves.0, zero);
 }
 
+-- what serves is within any grace
+pub IsWithin-serves : (life grace moment now : ℕ) → Serves life moment now
+    → IsWithin life grace moment now
+IsWithin-serves life grace moment now serves = omega (arith, serves.1)
+
+module _ {V E : Type 0} where
+  -- where what is answered fresh is what was loaded, what is true of that is true of it
+  pub IfFresh-loaded : (P : V → Type 0) (loaded : Result V E) → IfOk loaded P
+      → (given : Result (Given V E) E) → IfFresh given (λ value. loaded ≡ Ok value)
+      → IfFresh given P
+  IfFresh-loaded P loaded holds (Ok (Fresh value)) own = subst (λ it. IfOk it P) own holds
+  IfFresh-loaded P loaded holds (Ok (Stale value error)) own = tt
+  IfFresh-loaded P loaded holds (Err error) own = tt
+
+  -- where an older value is this one, what is true of that is true of it
+  pub IfStale-own : (P : V → Type 0) (old : V) → P old → (given : Result (Given V E) E)
+      → IfStale given (λ value. value ≡ old) → IfStale given P
+  IfStale-own P old holds (Ok (Fresh value)) own = tt
+  IfStale-own P old holds (Ok (Stale value error)) own = subst P (sym own) holds
+  IfStale-own P old holds (Err error) own = tt
+
+  -- what a load gives is what a call of it may give
+  pub IfOk-called : (may : Result V E → Type 0) (P : V → Type 0)
+      → ((value : V) → may (Ok value) → P value) → (loaded : Result V E) → may loaded
+      → IfOk loaded P
+  IfOk-called may P loads (Ok value) called = loads value called
+  IfOk-called may P loads (Err error) called = tt
+
 module _ {K V : Type 0} (gives : K → ℕ → V → Type 0) (equal : K → K → Bool)
     (laws : IsEquivalence equal) where
   -- what the source gives for a key is its value for each key that is equal
@@ -26,6 +57,15 @@ module _ {K V : Type 0} (gives : K → ℕ → V → Type 0) (equal : K → K �
     key = key;
     same = laws.symm asked key ∙ same;
     gave = gave;
+  }
+
+  -- and its value for one is its value for an equal one
+  pub IsOf-same : (asked key : K) (moment : ℕ) (value : V) → IsTrue (equal asked key)
+      → IsOf gives equal key moment value → IsOf gives equal asked moment value
+  IsOf-same asked key moment value same source = record {
+    key = source.key;
+    same = laws.congr asked key source.key same ∙ source.same;
+    gave = source.gave;
   }
 
   -- a clone of what the source gives is what it gives
@@ -46,42 +86,49 @@ module _ {K V : Type 0} (gives : K → ℕ → V → Type 0) (equal : K → K �
       subst (λ moment. IsOf gives equal key moment new.value) (sym cloned.1)
       (IsOf-clone is_clone clones key old.moment old.value new.value cloned.0 fits)
 
-  -- what was loaded now for the key is an answer
-  pub Answers-own : (key : K) (life now : ℕ) (value : V) → gives key now value
-      → Answers gives equal key life now value
-  Answers-own key life now value gave = record {
-    moment = now;
-    source = record { key = key; same = laws.refl key; gave = gave };
-    fresh = IsFresh-own life now;
-  }
+  module _ (asked : K) (life_of : V → ℕ → ℕ) where
+    -- what was loaded now for the key is an answer
+    pub Answers-own : (now : ℕ) (value : V) → gives asked now value
+        → Answers gives equal asked life_of now value
+    Answers-own now value gave = record {
+      moment = now;
+      source = record { key = asked; same = laws.refl asked; gave = gave };
+      fresh = IsFresh-own (life_of value now) now;
+    }
 
-  -- so where a load gives a value, it is an answer, by what a call of the load may give
-  pub Answers-called : {E : Type 0} (key : K) (life now : ℕ) (may : Result V E → Type 0)
-      → ((value : V) → may (Ok value) → gives key now value) → (loaded : Result V E) → may loaded
-      → IfOk loaded (Answers gives equal key life now)
-  Answers-called key life now may loads (Ok value) called =
-      Answers-own key life now value (loads value called)
-  Answers-called key life now may loads (Err error) called = tt
+    -- so where a load gives a value, it is an answer, by what a call of the load may give
+    pub Answers-called : {E : Type 0} (now : ℕ) (may : Result V E → Type 0)
+        → ((value : V) → may (Ok value) → gives asked now value) → (loaded : Result V E)
+        → may loaded → IfOk loaded (Answers gives equal asked life_of now)
+    Answers-called now may loads (Ok value) called = Answers-own now value (loads value called)
+    Answers-called now may loads (Err error) called = tt
 
-  -- so is what is stored under an equal key, and serves
-  pub Answers-found : (asked key : K) (life moment now : ℕ) (value : V) → IsTrue (equal asked key)
-      → IsOf gives equal key moment value → Serves life moment now
-      → Answers gives equal asked life now value
-  Answers-found asked key life moment now value same source serves = record {
-    moment = moment;
-    source = record {
-      key = source.key;
-      same = laws.congr asked key source.key same ∙ source.same;
-      gave = source.gave;
-    };
-    fresh = IsFresh-stored life moment now serves;
-  }
+    -- so is what is stored under an equal key, and serves
+    pub Answers-found : (key : K) (moment now : ℕ) (value : V) → IsTrue (equal asked key)
+        → IsOf gives equal key moment value → Serves (life_of value moment) moment now
+        → Answers gives equal asked life_of now value
+    Answers-found key moment now value same source serves = record {
+      moment = moment;
+      source = IsOf-same asked key moment value same source;
+      fresh = IsFresh-stored (life_of value moment) moment now serves;
+    }
 
-  -- and a clone of it
-  pub Answers-stored : (is_clone : V → V → Type 0) → GivesClones gives is_clone
-      → (asked key : K) (life moment now : ℕ) (value clone : V) → IsTrue (equal asked key)
-      → IsOf gives equal key moment value → Serves life moment now → is_clone value clone
-      → Answers gives equal asked life now clone
-  Answers-stored is_clone clones asked key life moment now value clone same source serves cloned =
-      Answers-found asked key life moment now clone same (IsOf-clone is_clone clones key moment value
-      clone cloned source) serves
+    -- it is within any grace, too
+    pub AnswersLate-found : (key : K) (grace moment now : ℕ) (value : V)
+        → IsTrue (equal asked key) → IsOf gives equal key moment value
+        → Serves (life_of value moment) moment now
+        → AnswersLate gives equal asked life_of grace now value
+    AnswersLate-found key grace moment now value same source serves = record {
+      moment = moment;
+      source = IsOf-same asked key moment value same source;
+      within = IsWithin-serves (life_of value moment) grace moment now serves;
+    }
+
+    -- and a clone of what is stored is an answer, where that clone serves
+    pub Answers-stored : (is_clone : V → V → Type 0) → GivesClones gives is_clone
+        → (key : K) (moment now : ℕ) (value clone : V) → IsTrue (equal asked key)
+        → IsOf gives equal key moment value → Serves (life_of clone moment) moment now
+        → is_clone value clone → Answers gives equal asked life_of now clone
+    Answers-stored is_clone clones key moment now value clone same source serves cloned =
+        Answers-found key moment now clone same (IsOf-clone is_clone clones key moment value
+        clone cloned source) serves

@@ -1,6 +1,6 @@
 -- What a loader's values are, and what is answered.
 use Rattle.std.specs.Prelude.{ℕ, Bool, IsTrue}
-use Rattle.read_through.specs.Moments.{IsFresh}
+use Rattle.read_through.specs.Moments.{IsFresh, IsWithin}
 
 module _ {K V : Type 0} (gives : K → ℕ → V → Type 0) where
   -- the source gives this value for an equal key at the moment
@@ -9,12 +9,20 @@ module _ {K V : Type 0} (gives : K → ℕ → V → Type 0) where
     pub same : IsTrue (equal asked key)
     pub gave : gives key moment value
 
-  -- Who asks for the key at this time is answered this value: the source's, of some moment, and it
-  -- is fresh.
-  pub record Answers (equal : K → K → Bool) (asked : K) (life now : ℕ) (value : V) : Type 0 where
-    pub moment : ℕ
-    pub source : IsOf equal asked moment value
-    pub fresh : IsFresh life moment now
+  module _ (equal : K → K → Bool) (asked : K) (life_of : V → ℕ → ℕ) where
+    -- Who asks for the key at this time is answered this value: the source's, of some moment, and
+    -- it is fresh by its life.
+    pub record Answers (now : ℕ) (value : V) : Type 0 where
+      pub moment : ℕ
+      pub source : IsOf equal asked moment value
+      pub fresh : IsFresh (life_of value moment) moment now
+
+    -- Where a load failed, it is answered this value: the source's, of some moment, and its life
+    -- and the grace are not over.
+    pub record AnswersLate (grace now : ℕ) (value : V) : Type 0 where
+      pub moment : ℕ
+      pub source : IsOf equal asked moment value
+      pub within : IsWithin (life_of value moment) grace moment now
 
   -- a clone of what the source gives is what the source gives
   abbrev pub GivesClones : (V → V → Type 0) → Type 0

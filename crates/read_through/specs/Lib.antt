@@ -3,3 +3,4 @@ pub mod Moments
 pub mod Looks
 pub mod Answers
 pub mod Loads
+pub mod Givens

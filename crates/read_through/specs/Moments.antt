@@ -10,3 +10,7 @@ module _ (life moment now : ℕ) where
   pub record IsFresh : Type 0 where
     pub lives : 0 < life → now < moment + life
     pub own : life ≡ 0 → moment ≡ now
+
+-- its life and a grace after it are not over
+abbrev pub IsWithin : (life grace moment now : ℕ) → Type 0
+IsWithin life grace moment now = now < moment + life + grace

@@ -2,12 +2,19 @@
 //! values are remembered for so long as they live.
 #![tactic(auto)]
 
+mod answering;
+mod by_value;
 mod fresh;
 mod gets;
+mod given;
+mod lives;
 mod loaded;
 mod reading;
 mod source;
 
+pub use by_value::ByValue;
+pub use given::{Given, Stats};
+pub use lives::{ByAnswer, Lasting, Lives};
 pub use loaded::Loaded;
 pub use quick_cache_model::Refusal;
 pub use reading::ReadThrough;

@@ -1,17 +1,20 @@
 //! A value that was loaded, with its moment.
 ghost use Rattle.std.specs.Prelude.{◌≡◌, ◌↔◌, IsTrue, IfOk};
-ghost use Rattle.read_through.specs.Moments.{Serves};
-ghost use Rattle.read_through.specs.Looks.{IfRetain};
+ghost use Rattle.read_through.specs.Looks.{IfRetain, ServesIfTold};
+ghost use Rattle.read_through.specs.Moments.{IsWithin, Serves};
 
+use crate::lives::Lives;
 use quick_cache_model::Refusal;
 use quick_cache_shard::EntryAction;
 use std::alloc::AllocError;
 
-/// A value, and the moment for which its loader was asked.
+/// A value, the moment for which its loader was asked, and the one at which the loader was asked
+/// last, for this value or for one in its place.
 #[derive(Debug, Drop)]
 pub struct Loaded<V> {
     pub value: V,
     pub moment: u64,
+    pub asked: u64,
 }
 
 impl<V: Clone> Clone for Loaded<V> {
@@ -23,11 +26,24 @@ impl<V: Clone> Clone for Loaded<V> {
         Ok(Loaded {
             value: self.value.clone()?,
             moment: self.moment,
+            asked: self.asked,
         })
     }
 }
 
 impl<V> Loaded<V> {
+    /// A value that was loaded at a moment.
+    pub fn at(value: V, moment: u64) -> Self
+        ensures value { result.value ≡ value }
+        ensures moment { result.moment ≡ moment }
+    {
+        Loaded {
+            value,
+            moment,
+            asked: moment,
+        }
+    }
+
     /// Whether it may be answered at a moment, where it lives so long. What lives for 0 serves
     /// nobody.
     pub fn serves(&self, life: u64, now: u64) -> bool
@@ -35,23 +51,52 @@ impl<V> Loaded<V> {
     {
         life > 0 && u128::from(now) < u128::from(self.moment) + u128::from(life)
     }
+
+    /// Whether its life and a grace after it are not over at a moment.
+    pub fn is_within(&self, life: u64, grace: u64, now: u64) -> bool
+        ensures { IsTrue result ↔ IsWithin life grace self.now.moment now }
+    {
+        u128::from(now) < u128::from(self.moment) + u128::from(life) + u128::from(grace)
+    }
+
+    /// Whether its loader was last asked longer ago than that.
+    pub(crate) fn is_due(&self, refresh_after: u64, now: u64) -> bool {
+        now.saturating_sub(self.asked) > refresh_after
+    }
+
+    /// Where that is so, its loader is to be asked now.
+    pub(crate) fn claim(&mut self, refresh_after: u64, now: u64) -> bool
+        ensures value { self.new.value ≡ self.old.value }
+        ensures moment { self.new.moment ≡ self.old.moment }
+    {
+        if !self.is_due(refresh_after, now) {
+            return false;
+        }
+        self.asked = now;
+        true
+    }
 }
 
 /// What becomes of an entry at a moment: where it serves it stays, and a clone is told, or why there
 /// is none; else it gives its place to a guard.
-pub(crate) fn look<V: Clone>(
+pub(crate) fn look<K, V: Clone, Li: Lives<K, V>>(
     loaded: &Loaded<V>,
-    life: u64,
+    lives: &Li,
+    key: &K,
     now: u64,
 ) -> EntryAction<Result<V, Refusal>>
-    ensures serves { IfRetain result (λ _. Serves life loaded.now.moment now) }
+    ensures serves { ServesIfTold (Li.life_of lives.now key.now) loaded.now.moment now result }
     ensures told { IfRetain result (λ told. IfOk told (V.is_clone loaded.now.value)) }
 {
-    if !loaded.serves(life, now) {
-        return EntryAction::ReplaceWithGuard;
-    }
     match loaded.value.clone() {
-        Ok(value) => EntryAction::Retain(Ok(value)),
+        Ok(value) => {
+            let life = lives.life(key, &value, loaded.moment);
+            if loaded.serves(life, now) {
+                EntryAction::Retain(Ok(value))
+            } else {
+                EntryAction::ReplaceWithGuard
+            }
+        }
         Err(_) => EntryAction::Retain(Err(Refusal::Memory)),
     }
 }

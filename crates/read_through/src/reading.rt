@@ -3,10 +3,12 @@ ghost use Rattle.std.specs.Prelude.{◌≡◌, IfOk, IfErr, IfSome};
 ghost use Rattle.quick_cache_model.specs.declared.refusal.Refusal.TheVariants.{Memory};
 ghost use Rattle.read_through.specs.Answers.{IsOf};
 
+use crate::by_value::ByValue;
 use crate::fresh::Fresh;
+use crate::given::Stats;
 use crate::loaded::Loaded;
 use crate::source::{AnySource, Source};
-use quick_cache_model::{DefaultHashBuilder, Refusal, UnitWeighter};
+use quick_cache_model::{DefaultHashBuilder, Refusal, UnitWeighter, Weighter};
 use quick_cache_sync::Cache;
 use std::alloc::{Allocator, Global};
 use std::hash::Hash;
@@ -15,7 +17,7 @@ use std::sync::Wait;
 use std::sync::atomic::{AtomicU64, Ordering};
 
 /// A loader, `F: Fn(&K, u64) -> V`, and the cache of what it gave, which threads share by reference.
-/// `S` says for contracts what the loader gives.
+/// `S` says for contracts what the loader gives, and `Li` how long that lives.
 ///
 /// A moment is any number that its users agree on, as the seconds since some day.
 #[derive(Drop)]
@@ -25,51 +27,142 @@ pub struct ReadThrough<
     F,
     S: Source<K, V> = AnySource,
     A: Allocator = Global,
+    Li = u64,
+    We = UnitWeighter,
 > {
-    pub(crate) cache: Cache<K, Loaded<V>, UnitWeighter, DefaultHashBuilder, Fresh<S>, A>,
-    pub(crate) life: u64,
+    pub(crate) cache: Cache<K, Loaded<V>, ByValue<We>, DefaultHashBuilder, Fresh<S>, A>,
+    pub(crate) lives: Li,
+    pub(crate) grace: u64,
     pub(crate) loader: F,
     // How many gets found what is too old, each of which the cache counted as a hit.
     pub(crate) too_old: AtomicU64,
+    // How many looked once more at what serves, which the cache counted as a hit besides.
+    pub(crate) looked_again: AtomicU64,
 }
 
-impl<K: Eq + Hash + Drop, V: Drop, F, S: Source<K, V>, A: Allocator> Model
-    for ReadThrough<K, V, F, S, A> {
+impl<K: Eq + Hash + Drop, V: Drop, F, S: Source<K, V>, A: Allocator, Li, We> Model
+    for ReadThrough<K, V, F, S, A, Li, We> {
     ghost use Rattle.read_through.specs.Reading.{Reading};
 
-    ghost Value = { Reading F };
+    ghost Value = { Reading Li F };
 
-    ghost view = { λ reading. record { life = reading.life; loader = reading.loader } };
+    ghost view = { λ reading. record {
+      lives = reading.lives;
+      grace = reading.grace;
+      loader = reading.loader;
+    } };
 }
 
-impl<K: Eq + Hash + Drop, V: Drop, F, S: Source<K, V>, A: Allocator> ReadThrough<K, V, F, S, A> {
-    /// A loader with an empty cache for so many values, each of which lives for so long.
+impl<K: Eq + Hash + Drop, V: Drop, F, S: Source<K, V>, A: Allocator, Li> ReadThrough<
+    K,
+    V,
+    F,
+    S,
+    A,
+    Li,
+    UnitWeighter,
+> {
+    /// A loader with an empty cache for so many values, which live for as long as this says: a
+    /// number, one life for all, or an impl of `Lives`.
     ///
     /// # Errors
     ///
     /// `Memory` where the list of the cache's shards was refused, or a clone of the allocator.
-    pub fn new(alloc: A, capacity: usize, life: u64, loader: F) -> Result<Self, Refusal>
+    pub fn new(alloc: A, capacity: usize, lives: Li, loader: F) -> Result<Self, Refusal>
     where
         A: Clone,
         F: Drop,
-        ensures life { IfOk result (λ made. made.life ≡ life) }
+        Li: Drop,
+        ensures lives { IfOk result (λ made. made.lives ≡ lives) }
+        ensures grace { IfOk result (λ made. made.grace ≡ 0) }
+        ensures loader { IfOk result (λ made. made.loader ≡ loader) }
+        ensures refused { IfErr result (λ refusal. refusal ≡ Memory) }
+    {
+        ReadThrough::with(
+            alloc,
+            capacity,
+            capacity as u64,
+            UnitWeighter,
+            lives,
+            loader,
+        )
+    }
+}
+
+impl<K: Eq + Hash + Drop, V: Drop, F, S: Source<K, V>, A: Allocator, Li, We> ReadThrough<
+    K,
+    V,
+    F,
+    S,
+    A,
+    Li,
+    We,
+> {
+    /// A loader with an empty cache that is made for so many values and may hold so much weight.
+    /// The weigher sees key and value alone.
+    ///
+    /// # Errors
+    ///
+    /// `Memory` where the list of the cache's shards was refused, or a clone of the allocator or
+    /// the weigher.
+    pub fn with(
+        alloc: A,
+        items: usize,
+        weight: u64,
+        weigher: We,
+        lives: Li,
+        loader: F,
+    ) -> Result<Self, Refusal>
+    where
+        A: Clone,
+        F: Drop,
+        Li: Drop,
+        We: Clone + Drop,
+        ensures lives { IfOk result (λ made. made.lives ≡ lives) }
+        ensures grace { IfOk result (λ made. made.grace ≡ 0) }
         ensures loader { IfOk result (λ made. made.loader ≡ loader) }
         ensures refused { IfErr result (λ refusal. refusal ≡ Memory) }
     {
         let cache = Cache::with(
             alloc,
-            capacity,
-            capacity as u64,
-            UnitWeighter,
+            items,
+            weight,
+            ByValue { weigher },
             DefaultHashBuilder::new(),
             Fresh::new(),
         )?;
         Ok(ReadThrough {
             cache,
-            life,
+            lives,
+            grace: 0,
             loader,
             too_old: AtomicU64::new(0),
+            looked_again: AtomicU64::new(0),
         })
+    }
+
+    /// The same, where an old value may be answered for so long after its life as loads of its key
+    /// fail.
+    pub fn with_grace(mut self, grace: u64) -> Self
+        ensures lives { result.lives ≡ self.lives }
+        ensures grace { result.grace ≡ grace }
+        ensures loader { result.loader ≡ self.loader }
+    {
+        self.grace = grace;
+        self
+    }
+
+    /// Stores a value of the key as if it had been loaded at this moment.
+    ///
+    /// # Errors
+    ///
+    /// Why it was refused, only where nothing stood under its key. Nothing changed then.
+    pub fn put<R: Wait>(&self, rt: &R, key: K, value: V, now: u64) -> Result<(), Refusal>
+    where
+        We: Weighter<K, V>,
+        requires gives { S.gives key now value }
+    {
+        self.cache.put(rt, key, Loaded::at(value, now))
     }
 
     /// Takes what is stored under the key out, fresh or not, so that the next get of it loads.
@@ -83,20 +176,46 @@ impl<K: Eq + Hash + Drop, V: Drop, F, S: Source<K, V>, A: Allocator> ReadThrough
         }
     }
 
+    /// Drops all that is stored.
+    pub fn clear<R: Wait>(&self, rt: &R) {
+        self.cache.clear(rt);
+    }
+
+    /// Sets the weight that the cache may hold, and drops what is too much.
+    pub fn set_capacity<R: Wait>(&self, rt: &R, capacity: u64)
+    where
+        We: Weighter<K, V>,
+    {
+        self.cache.set_capacity(rt, capacity);
+    }
+
     /// How many values are stored, fresh or not.
     pub fn len<R: Wait>(&self, rt: &R) -> usize {
         self.cache.len(rt)
     }
 
+    /// What the gets found. One that found a value that was being loaded counts as a hit.
+    pub fn stats<R: Wait>(&self, rt: &R) -> Stats {
+        let too_old = self.too_old.load(Ordering::SeqCst);
+        let again = self.looked_again.load(Ordering::SeqCst);
+        Stats {
+            hits: self
+                .cache
+                .hits(rt)
+                .saturating_sub(too_old)
+                .saturating_sub(again),
+            misses: self.cache.misses(rt).saturating_add(too_old),
+            too_old,
+        }
+    }
+
     /// How many gets found a value that serves, or one that was being loaded.
     pub fn hits<R: Wait>(&self, rt: &R) -> u64 {
-        let too_old = self.too_old.load(Ordering::SeqCst);
-        self.cache.hits(rt).saturating_sub(too_old)
+        self.stats(rt).hits
     }
 
     /// How many gets found nothing, or what is too old.
     pub fn misses<R: Wait>(&self, rt: &R) -> u64 {
-        let too_old = self.too_old.load(Ordering::SeqCst);
-        self.cache.misses(rt).saturating_add(too_old)
+        self.stats(rt).misses
     }
 }

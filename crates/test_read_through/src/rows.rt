@@ -1,6 +1,6 @@
 //! What a loader with its cache answers, and how often it is called.
 use crate::hundreds::{first_wrong, hundreds};
-use read_through::{Loaded, ReadThrough};
+use read_through::{Loaded, ReadThrough, Stats};
 use std::sync::Barrier;
 use std::sync::atomic::{AtomicU64, Ordering};
 use std::thread::join;
@@ -76,14 +76,24 @@ fn what_is_removed_is_loaded_anew(rt: HostRuntime) {
         expect_ok!(rt; loaded.get(&rt, &1, now));
     }
     // The first found nothing, the second was a hit, and the third found what is too old.
-    let counts = (loaded.len(&rt), loaded.hits(&rt), loaded.misses(&rt));
-    expect_eq!(rt; counts, (1, 1, 2));
-    let Some(Loaded { value, moment }) = loaded.remove(&rt, &1) else {
+    let stats = Stats {
+        hits: 1,
+        misses: 2,
+        too_old: 1,
+    };
+    expect_eq!(rt; (loaded.len(&rt), loaded.stats(&rt)), (1, stats));
+    let Some(Loaded { value, moment, .. }) = loaded.remove(&rt, &1) else {
         panic!(rt; "it is stored");
     };
     expect_eq!(rt; (value, moment, loaded.len(&rt)), (115, 15, 0));
     expect!(rt; loaded.remove(&rt, &1).is_none());
     expect_eq!(rt; loaded.get(&rt, &1, 16), Ok(116));
+    // What is put in was loaded at that moment, so to say.
+    expect_eq!(rt; (loaded.put(&rt, 1, 7, 20), loaded.get(&rt, &1, 29)), (Ok(()), Ok(7)));
+    loaded.clear(&rt);
+    expect_eq!(rt; (loaded.len(&rt), loaded.get(&rt, &1, 29)), (0, Ok(129)));
+    loaded.set_capacity(&rt, 0);
+    expect_eq!(rt; loaded.len(&rt), 0);
 }
 
 #[test]

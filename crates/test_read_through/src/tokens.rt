@@ -32,7 +32,7 @@ pub fn token_of<R: Wait + Clock, F: Fn(&u64, u64) -> Result<Token, String>>(
     requires signs { LoadsOkFrom F.Fn tokens.now.loader ⟦<Signer as Source<u64, Token>>⟧.gives }
     ensures user { IfOk result (λ given. IfOk given (λ token. token.user ≡ user)) }
     ensures young { IfOk result (λ given. IfOk given
-        (λ token. now ≤ token.signed + tokens.now.life)) }
+        (λ token. now ≤ token.signed + tokens.now.lives)) }
 {
     tokens.try_get(rt, &user, now)
 }

@@ -1,38 +1,37 @@
-use Rattle.read_through.specs.Answers.{Answers}
-use Rattle.read_through.proofs.AnswerLemmas.{Answers-found, Answers-called, ClonesFit-loaded}
+use Rattle.std.proofs.Common.{refl, subst}
+use Rattle.read_through.specs.Answers.{Answers, AnswersLate}
+use Rattle.read_through.specs.Moments.{Serves}
+use Rattle.read_through.proofs.AnswerLemmas.{Answers-called, AnswersLate-found, ClonesFit-loaded, IfFresh-loaded, IfStale-own}
 use Rattle.read_through.proofs.reading.ReadThrough.answer.Goals as goal
 
--- what was found under an equal key and serves
-pub returns-then-serves-clause-fresh : goal.returns-then-serves-clause-fresh
-returns-then-serves-clause-fresh g c =
-    let fits = rw c.in-Value.is at (c.get_value_or_guard.ensures.fits
-    (ClonesFit-loaded g.S.Source.gives g.K.PartialEq.eq g.met.K.Eq.laws g.V.Clone.is_clone
-    c.requires.clones)) in
-    Answers-found
-    g.S.Source.gives
-    g.K.PartialEq.eq
-    g.met.K.Eq.laws
-    c.args.key.now
-    fits.key
-    c.args.self.now.life
-    c.in-Value.found.moment
-    c.args.now
-    c.in-Value.found.value
-    fits.stands
-    fits.fits_key
-    (rw (← c.self.view_is) (c.serves.ensures.0 c.if-serves.true))
+-- what was found under an equal key and serves is answered where the load failed
+pub returns-then-claims-clause-stale : goal.returns-then-claims-clause-stale
+returns-then-claims-clause-stale g c =
+    let fits = c.in-Value.ensures.fits (ClonesFit-loaded g.S.Source.gives g.K.PartialEq.eq
+    g.met.K.Eq.laws g.V.Clone.is_clone c.requires.clones) in
+    let found = c.in-Value.found in
+    IfStale-own
+    (AnswersLate g.S.Source.gives g.K.PartialEq.eq c.args.key.now
+    (g.Li.Lives.life_of c.args.self.now.lives c.args.key.now) c.args.self.now.grace c.args.now)
+    found.value
+    (AnswersLate-found g.S.Source.gives g.K.PartialEq.eq g.met.K.Eq.laws c.args.key.now
+    (g.Li.Lives.life_of c.args.self.now.lives c.args.key.now) fits.key c.args.self.now.grace
+    found.moment c.args.now found.value fits.stands fits.fits_key
+    (rw (← c.self.view_is) (subst (λ life. Serves life found.moment c.args.now) c.life-life.ensures
+    (c.if-not-serves.ensures.0 refl))))
+    c.renewed.result
+    c.renewed.ensures.stale
 
 -- who has the guard loads
 pub returns-in-Guard-clause-fresh : goal.returns-in-Guard-clause-fresh
 returns-in-Guard-clause-fresh g c =
-    Answers-called
-    g.S.Source.gives
-    g.K.PartialEq.eq
-    g.met.K.Eq.laws
-    c.args.key.now
-    c.args.self.now.life
-    c.args.now
-    (g.G.FnOnce.post c.args.load tt)
-    c.requires.loads
-    c.load-loaded.result
-    c.load-loaded.ensures
+    IfFresh-loaded
+    (Answers g.S.Source.gives g.K.PartialEq.eq c.args.key.now
+    (g.Li.Lives.life_of c.args.self.now.lives c.args.key.now) c.args.now)
+    c.load-in-Guard.result
+    (Answers-called g.S.Source.gives g.K.PartialEq.eq g.met.K.Eq.laws c.args.key.now
+    (g.Li.Lives.life_of c.args.self.now.lives c.args.key.now) c.args.now
+    (g.G.FnOnce.post c.args.load tt) c.requires.loads c.load-in-Guard.result
+    c.load-in-Guard.ensures)
+    c.fill_with.result
+    c.fill_with.ensures.fresh

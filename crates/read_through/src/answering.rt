@@ -1,0 +1,282 @@
+//! How an answer is found: under the lock to read where it serves, else by a guard.
+ghost use Rattle.std.specs.Prelude.{◌≡◌, IsTrue, Ok, Err, IfOk, IfSome};
+ghost use Rattle.read_through.specs.Answers.{Answers, AnswersLate, GivesClones, IsOf};
+ghost use Rattle.read_through.specs.Givens.{IfFailed, IfFresh, IfStale};
+ghost use Rattle.read_through.specs.Looks.{IfRetain, ServesIfTold};
+
+use crate::fresh::Fresh;
+use crate::given::Given;
+use crate::lives::Lives;
+use crate::loaded::{Loaded, look};
+use crate::reading::ReadThrough;
+use crate::source::Source;
+use quick_cache_guard::{EntryResult, GuardResult, LoadingShard, PlaceholderGuard};
+use quick_cache_model::{Refusal, Weighter};
+use quick_cache_shard::EntryAction;
+use std::alloc::Allocator;
+use std::hash::Hash;
+use std::sync::Wait;
+use std::sync::atomic::Ordering;
+use std::time::{Clock, Duration};
+
+impl<
+    K: Eq + Hash + Clone + Drop,
+    V: Clone + Drop,
+    F,
+    S: Source<K, V>,
+    A: Allocator + Clone,
+    Li: Lives<K, V>,
+    We: Weighter<K, V>,
+> ReadThrough<K, V, F, S, A, Li, We> {
+    /// Answers what is stored and serves, or what the load gives, which is called once at most. A
+    /// value that serves is found under the read lock of the key's shard. Where none is there, the
+    /// guard comes of the same look.
+    pub(crate) fn answer<R: Wait + Clock, E: Drop, G: FnOnce() -> Result<V, E>>(
+        &self,
+        rt: &R,
+        key: &K,
+        now: u64,
+        refresh_after: u64,
+        load: G,
+    ) -> Result<Result<Given<V, E>, E>, Refusal>
+        requires keys { (copy : K) → K.is_clone key.now copy → IsTrue (K.eq key.now copy) }
+        requires callable { G.pre load }
+        requires loads { (value : V) → G.post load (Ok value) → S.gives key.now now value }
+        requires clones { GivesClones S.gives V.is_clone }
+        ensures fresh { IfOk result (λ given. IfFresh given
+            (Answers S.gives K.eq key.now (Li.life_of self.now.lives key.now) now)) }
+        ensures stale { IfOk result (λ given. IfStale given (AnswersLate S.gives K.eq key.now
+            (Li.life_of self.now.lives key.now) self.now.grace now)) }
+        ensures error { IfOk result (λ given. IfFailed given (λ error. G.post load (Err error))) }
+    {
+        match self.cache.get_value_or_guard(rt, key, None) {
+            GuardResult::Value(found) => {
+                let life = self.lives.life(key, &found.value, found.moment);
+                if !found.serves(life, now) {
+                    self.too_old.fetch_add(1, Ordering::SeqCst);
+                    return self.answer_anew(rt, key, now, load);
+                }
+                if found.is_due(refresh_after, now) && self.claims(rt, key, now, refresh_after) {
+                    return Ok(self.renewed(rt, key, now, found, load()));
+                }
+                Ok(Ok(Given::Fresh(found.value)))
+            }
+            GuardResult::Guard(guard) => {
+                let mut guard = Some(guard);
+                Ok(fill_with(&mut guard, key, now, load()))
+            }
+            GuardResult::Timeout => unreachable!(),
+            GuardResult::Refused(refusal) => Err(refusal),
+        }
+    }
+
+    /// The same where what was found is too old: by an entry call, since another may have loaded the
+    /// key anew by now.
+    fn answer_anew<R: Wait + Clock, E: Drop, G: FnOnce() -> Result<V, E>>(
+        &self,
+        rt: &R,
+        key: &K,
+        now: u64,
+        load: G,
+    ) -> Result<Result<Given<V, E>, E>, Refusal>
+        requires keys { (copy : K) → K.is_clone key.now copy → IsTrue (K.eq key.now copy) }
+        requires callable { G.pre load }
+        requires loads { (value : V) → G.post load (Ok value) → S.gives key.now now value }
+        requires clones { GivesClones S.gives V.is_clone }
+        ensures fresh { IfOk result (λ given. IfFresh given
+            (Answers S.gives K.eq key.now (Li.life_of self.now.lives key.now) now)) }
+        ensures stale { IfOk result (λ given. IfStale given (AnswersLate S.gives K.eq key.now
+            (Li.life_of self.now.lives key.now) self.now.grace now)) }
+        ensures error { IfOk result (λ given. IfFailed given (λ error. G.post load (Err error))) }
+    {
+        let lives = &self.lives;
+        let mut looks = |_key: &K, loaded: &mut Loaded<V>| -> EntryAction<Result<V, Refusal>>
+            ensures same { loaded.new ≡ loaded.old }
+            ensures serves { ServesIfTold (Li.life_of lives.entry.now key.entry.now)
+                loaded.old.moment now result }
+            ensures told { IfRetain result (λ told. IfOk told (V.is_clone loaded.old.value)) }
+        { look(loaded, lives, key, now) };
+        match self.cache.entry(rt, key, None, &mut looks) {
+            EntryResult::Retained(Ok(value)) => Ok(Ok(Given::Fresh(value))),
+            EntryResult::Retained(Err(refusal)) => Err(refusal),
+            EntryResult::Replaced(guard, old) => {
+                let mut guard = Some(guard);
+                Ok(self.fill_or_keep(&mut guard, key, now, old, load()))
+            }
+            EntryResult::Vacant(guard) => {
+                let mut guard = Some(guard);
+                Ok(fill_with(&mut guard, key, now, load()))
+            }
+            // There was no memory for a guard.
+            EntryResult::Removed(_, _) => Ok(as_given(load())),
+            EntryResult::Timeout => unreachable!(),
+            EntryResult::Refused(refusal) => Err(refusal),
+        }
+    }
+
+    /// Whether this call is to ask the loader anew for a value that serves: where nobody has within
+    /// that time, this is the moment at which it was asked last from now on.
+    fn claims<R: Wait + Clock>(&self, rt: &R, key: &K, now: u64, refresh_after: u64) -> bool
+        requires keys { (copy : K) → K.is_clone key.now copy → IsTrue (K.eq key.now copy) }
+    {
+        let mut claims = |_key: &K, loaded: &mut Loaded<V>| -> EntryAction<bool>
+            ensures value { loaded.new.value ≡ loaded.old.value }
+            ensures moment { loaded.new.moment ≡ loaded.old.moment }
+        { EntryAction::Retain(loaded.claim(refresh_after, now)) };
+        match self.cache.entry(rt, key, Some(Duration::ZERO), &mut claims) {
+            EntryResult::Retained(claimed) => {
+                self.looked_again.fetch_add(1, Ordering::SeqCst);
+                claimed
+            }
+            _ => false,
+        }
+    }
+
+    /// Answers what was loaded in the place of what serves, which it replaces unless that was
+    /// removed meanwhile. Where the load failed, what serves is answered.
+    fn renewed<R: Wait, E: Drop>(
+        &self,
+        rt: &R,
+        key: &K,
+        now: u64,
+        found: Loaded<V>,
+        loaded: Result<V, E>,
+    ) -> Result<Given<V, E>, E>
+        requires keys { (copy : K) → K.is_clone key.now copy → IsTrue (K.eq key.now copy) }
+        requires gave { IfOk loaded (S.gives key.now now) }
+        requires clones { GivesClones S.gives V.is_clone }
+        ensures fresh { IfFresh result (λ value. loaded ≡ Ok value) }
+        ensures stale { IfStale result (λ value. value ≡ found.value) }
+        ensures failed { IfFailed result (λ error. loaded ≡ Err error) }
+    {
+        match loaded {
+            Ok(value) => {
+                self.renew(rt, key, now, &value);
+                Ok(Given::Fresh(value))
+            }
+            Err(error) => Ok(Given::Stale {
+                value: found.value,
+                error,
+            }),
+        }
+    }
+
+    /// Stores a clone of what was loaded in the place of what stands under the key, if anything does.
+    fn renew<R: Wait>(&self, rt: &R, key: &K, now: u64, value: &V)
+        requires keys { (copy : K) → K.is_clone key.now copy → IsTrue (K.eq key.now copy) }
+        requires gave { S.gives key.now now value.now }
+        requires clones { GivesClones S.gives V.is_clone }
+    {
+        let Ok(own) = key.clone() else {
+            return;
+        };
+        let Ok(copy) = value.clone() else {
+            return;
+        };
+        let _ = self.cache.replace(rt, own, Loaded::at(copy, now), true);
+    }
+
+    /// Fills by the guard, and where the load failed with the old value while its life and the grace
+    /// are not over, which is answered beside the error then.
+    fn fill_or_keep<T: LoadingShard<K, Loaded<V>, Fresh<S>, A>, R: Wait, E: Drop>(
+        &self,
+        guard: &mut Option<PlaceholderGuard<'_, K, Loaded<V>, Fresh<S>, T, R, A>>,
+        key: &K,
+        now: u64,
+        old: Loaded<V>,
+        loaded: Result<V, E>,
+    ) -> Result<Given<V, E>, E>
+        requires same { IfSome guard.old (λ guard. IsTrue (K.eq key.now guard)) }
+        requires gave { IfOk loaded (S.gives key.now now) }
+        requires source { IsOf S.gives K.eq key.now old.moment old.value }
+        requires clones { GivesClones S.gives V.is_clone }
+        ensures fresh { IfFresh result (λ value. loaded ≡ Ok value) }
+        ensures stale { IfStale result (AnswersLate S.gives K.eq key.now
+            (Li.life_of self.now.lives key.now) self.now.grace now) }
+        ensures failed { IfFailed result (λ error. loaded ≡ Err error) }
+    {
+        match loaded {
+            Ok(value) => fill_with(guard, key, now, Ok(value)),
+            Err(error) => {
+                let life = self.lives.life(key, &old.value, old.moment);
+                if !old.is_within(life, self.grace, now) {
+                    return Err(error);
+                }
+                fill_by(guard, key, &old);
+                Ok(Given::Stale {
+                    value: old.value,
+                    error,
+                })
+            }
+        }
+    }
+}
+
+/// What was loaded, as an answer.
+fn as_given<V, E>(loaded: Result<V, E>) -> Result<Given<V, E>, E>
+    ensures fresh { IfFresh result (λ value. loaded ≡ Ok value) }
+    ensures stale { IfStale result (λ _. ⊥) }
+    ensures failed { IfFailed result (λ error. loaded ≡ Err error) }
+{
+    match loaded {
+        Ok(value) => Ok(Given::Fresh(value)),
+        Err(error) => Err(error),
+    }
+}
+
+/// Puts a clone of what was loaded in by the guard, and answers it.
+fn fill_with<
+    K: Eq + Hash + Drop,
+    V: Clone + Drop,
+    S: Source<K, V>,
+    T: LoadingShard<K, Loaded<V>, Fresh<S>, A>,
+    R: Wait,
+    A: Allocator,
+    E: Drop,
+>(
+    guard: &mut Option<PlaceholderGuard<'_, K, Loaded<V>, Fresh<S>, T, R, A>>,
+    key: &K,
+    now: u64,
+    loaded: Result<V, E>,
+) -> Result<Given<V, E>, E>
+    requires same { IfSome guard.old (λ guard. IsTrue (K.eq key.now guard)) }
+    requires gave { IfOk loaded (S.gives key.now now) }
+    requires clones { GivesClones S.gives V.is_clone }
+    ensures fresh { IfFresh result (λ value. loaded ≡ Ok value) }
+    ensures stale { IfStale result (λ _. ⊥) }
+    ensures failed { IfFailed result (λ error. loaded ≡ Err error) }
+{
+    match loaded {
+        Ok(value) => {
+            let loaded = Loaded::at(value, now);
+            fill_by(guard, key, &loaded);
+            Ok(Given::Fresh(loaded.value))
+        }
+        Err(error) => Err(error),
+    }
+}
+
+/// Puts a clone of what was loaded in by the guard, which is let go where there is none. It is taken
+/// from where it stands, since a call that takes it by value gets no proof.
+fn fill_by<
+    K: Eq + Hash + Drop,
+    V: Clone + Drop,
+    S: Source<K, V>,
+    T: LoadingShard<K, Loaded<V>, Fresh<S>, A>,
+    R: Wait,
+    A: Allocator,
+>(
+    guard: &mut Option<PlaceholderGuard<'_, K, Loaded<V>, Fresh<S>, T, R, A>>,
+    key: &K,
+    loaded: &Loaded<V>,
+)
+    requires same { IfSome guard.old (λ guard. IsTrue (K.eq key.now guard)) }
+    requires source { IsOf S.gives K.eq key.now loaded.now.moment loaded.now.value }
+    requires clones { GivesClones S.gives V.is_clone }
+{
+    if let Some(guard) = guard.take() {
+        if let Ok(copy) = loaded.clone() {
+            drop(guard.insert(copy));
+        }
+    }
+}

@@ -1,0 +1,55 @@
+//! How long an answer lives.
+ghost use Rattle.std.specs.Prelude.{◌≡◌, ℕ};
+
+use std::alloc::AllocError;
+
+/// How long what was loaded lives: a number for a key, a value and the moment of its load.
+pub trait Lives<K, V> {
+    /// A function of these, and of what tells it.
+    ghost life_of: { Self → K → V → ℕ → ℕ };
+
+    /// The life of a value of the key that was loaded at the moment.
+    fn life(&self, key: &K, value: &V, moment: u64) -> u64
+        ensures { result ≡ life_of self.now key.now value.now moment };
+}
+
+/// One life for all.
+impl<K, V> Lives<K, V> for u64 {
+    ghost life_of = { λ life _ _ _. life };
+
+    fn life(&self, _key: &K, _value: &V, _moment: u64) -> u64 {
+        *self
+    }
+}
+
+/// A value with a life of its own.
+#[derive(Debug, PartialEq, Drop)]
+pub struct Lasting<V> {
+    pub value: V,
+    pub life: u64,
+}
+
+impl<V: Clone> Clone for Lasting<V> {
+    ghost is_clone = { λ old new. V.is_clone old.value new.value × (new.life ≡ old.life) };
+
+    ghost is_infallible = { λ lasting. V.is_infallible lasting.value };
+
+    fn clone(&self) -> Result<Self, AllocError> {
+        Ok(Lasting {
+            value: self.value.clone()?,
+            life: self.life,
+        })
+    }
+}
+
+/// The life that each value has of its own.
+#[derive(Debug, Drop)]
+pub struct ByAnswer;
+
+impl<K, V> Lives<K, Lasting<V>> for ByAnswer {
+    ghost life_of = { λ _ _ lasting _. lasting.life };
+
+    fn life(&self, _key: &K, lasting: &Lasting<V>, _moment: u64) -> u64 {
+        lasting.life
+    }
+}

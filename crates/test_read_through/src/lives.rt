@@ -1,0 +1,108 @@
+//! Answers with lives of their own, old answers that are asked for anew, and those that are answered
+//! while a loader fails.
+use crate::hundreds::hundreds;
+use read_through::{ByAnswer, Given, Lasting, ReadThrough};
+use std::alloc::Global;
+use std::sync::atomic::{AtomicU64, Ordering};
+use test_tools::{expect_eq, expect_ok};
+
+/// The life of each answer, and gets: a moment, and the one at which the answer was loaded.
+const LIVES: [(u64, &[(u64, u64)]); 5] = [
+    // Its last moment, one behind, and a clock that goes back.
+    (10, &[(5, 5), (14, 5), (0, 5), (15, 15), (14, 15)]),
+    (1, &[(5, 5), (5, 5), (6, 6)]),
+    (0, &[(5, 5), (4, 4), (4, 4)]),
+    (u64::MAX, &[(5, 5), (u64::MAX, 5)]),
+    (1, &[(u64::MAX, u64::MAX), (u64::MAX, u64::MAX)]),
+];
+
+#[test]
+fn an_answer_lives_as_long_as_it_says(rt: HostRuntime) {
+    for (life, gets) in LIVES {
+        let loaded: ReadThrough<u64, Lasting<u64>, _, read_through::AnySource, Global, ByAnswer> =
+            expect_ok!(rt; ReadThrough::new(
+                rt.alloc(),
+                8,
+                ByAnswer,
+                |_key: &u64, now: u64| Lasting { value: now, life },
+            ));
+        for (now, value) in gets {
+            let answer = loaded.get(&rt, &1, *now);
+            assert_eq!(rt;
+                answer,
+                Ok(Lasting {
+                    value: *value,
+                    life
+                }),
+                "life {life}, at {now}"
+            );
+        }
+    }
+}
+
+#[test]
+fn an_old_answer_is_asked_for_anew(rt: HostRuntime) {
+    let calls = AtomicU64::new(0);
+    let loaded: ReadThrough<u64, u64, _> = expect_ok!(rt; ReadThrough::new(
+        rt.alloc(),
+        8,
+        10,
+        |key: &u64, now: u64| {
+            calls.fetch_add(1, Ordering::SeqCst);
+            hundreds(*key, now)
+        },
+    ));
+    // A moment, how old an answer may be, the answer, and the loads so far.
+    let rows = [
+        (5, 0, 105, 1),
+        (5, 0, 105, 1),
+        (9, 4, 105, 1),
+        (9, 3, 109, 2),
+        (18, u64::MAX, 109, 2),
+        (19, u64::MAX, 119, 3),
+        (3, 0, 119, 3),
+        (20, 0, 120, 4),
+    ];
+    for (now, refresh_after, answer, count) in rows {
+        let got = loaded.get_or_refresh(&rt, &1, now, refresh_after);
+        assert_eq!(rt;
+            (got, calls.load(Ordering::SeqCst)),
+            (Ok(answer), count),
+            "at {now}"
+        );
+    }
+    expect_eq!(rt; (loaded.hits(&rt), loaded.misses(&rt)), (6, 2));
+}
+
+#[test]
+fn while_a_loader_fails_an_old_answer_is_given(rt: HostRuntime) {
+    let loaded: ReadThrough<u64, u64, _> = expect_ok!(rt; ReadThrough::new(
+        rt.alloc(),
+        8,
+        10,
+        |key: &u64, now: u64| -> Result<u64, u64> {
+            if now >= 10 && now < 30 {
+                Err(now)
+            } else {
+                Ok(hundreds(*key, now))
+            }
+        },
+    ))
+    .with_grace(10);
+    let stale = |error: u64| Ok(Given::Stale { value: 105, error });
+    // A moment, how old an answer may be, and the answer.
+    let rows = [
+        (5, u64::MAX, Ok(Given::Fresh(105))),
+        (12, 3, stale(12)),
+        // The loader was asked a moment before.
+        (13, 3, Ok(Given::Fresh(105))),
+        (15, u64::MAX, stale(15)),
+        (24, u64::MAX, stale(24)),
+        (25, u64::MAX, Err(25)),
+        (30, u64::MAX, Ok(Given::Fresh(130))),
+    ];
+    for (now, refresh_after, answer) in rows {
+        let got = loaded.try_get_or_refresh(&rt, &1, now, refresh_after);
+        assert_eq!(rt; got, Ok(answer), "at {now}");
+    }
+}
