@@ -335,20 +335,32 @@ fn a_bad_line_is_told_by_its_number(rt: HostRuntime) -> Result<(), Fail> {
     Ok(())
 }
 
-#[test]
-fn a_hundred_keys_of_one_hash_are_found_and_go_once(rt: HostRuntime) -> Result<(), Fail> {
-    let mut script = Vec::new(rt.alloc());
-    let mut wanted = Vec::new(rt.alloc());
-    write!(script, "cache 100 100\n")?;
-    write!(wanted, "ok\n")?;
+/// Writes a cache and a hundred keys of one hash, each with a value of its own, and their replies.
+fn write_inserts(script: &mut Vec<u8>, wanted: &mut Vec<u8>) -> io::Result<()> {
+    writeln!(script, "cache 100 100")?;
+    writeln!(wanted, "ok")?;
     for key in 1..=100 {
         writeln!(script, "insert {key}000 {key}01")?;
         writeln!(wanted, "ok")?;
     }
+    Ok(())
+}
+
+/// Writes a look-up and two removals of each of them, and their replies.
+fn write_removals(script: &mut Vec<u8>, wanted: &mut Vec<u8>) -> io::Result<()> {
     for key in 1..=100 {
         writeln!(script, "get {key}000\nremove {key}000\nremove {key}000")?;
         writeln!(wanted, "some {key}01\nsome {key}000 {key}01\nnone")?;
     }
+    Ok(())
+}
+
+#[test]
+fn a_hundred_keys_of_one_hash_are_found_and_go_once(rt: HostRuntime) -> Result<(), Fail> {
+    let mut script = Vec::new(rt.alloc());
+    let mut wanted = Vec::new(rt.alloc());
+    write_inserts(&mut script, &mut wanted)?;
+    write_removals(&mut script, &mut wanted)?;
     let mut written = Vec::new(rt.alloc());
     let ended = serve(
         rt.alloc(),
