@@ -1,6 +1,7 @@
 mod AnsweredLemmas
 mod ContainerLemmas
 mod LentLemmas
+mod ManyLemmas
 mod OneThreadLemmas
 mod RetainLemmas
 mod RunLemmas
