@@ -8,6 +8,7 @@ use Rattle.quick_cache_shard.specs.Shard.{Shard}
 use Rattle.quick_cache_shard.specs.Steps.{Goes}
 use Rattle.quick_cache_unsync.specs.Hottest.{pairs_shown}
 use Rattle.quick_cache_unsync.specs.Many.{EndsInTurn}
+use Rattle.quick_cache_sync.specs.Fills.{EndsSo}
 
 module _ {K V I : Type 0} (gives : I → Option (K × V) → I → Type 0) (pairs : I)
     (came : List (K × V)) where
@@ -27,6 +28,21 @@ module _ {K V I : Type 0} (gives : I → Option (K × V) → I → Type 0) (pair
         × YieldsThen gives pairs came (Some (back.0, back.1)) back.3)
     EndsInTurn-back (Ok done) ends = tt
     EndsInTurn-back (Err back) ends = (came, ends.0)
+
+  module _ (answers : K → V → Result (Unit {0}) (K × V × Refusal) → Type 0) where
+    -- the same of a shared cache
+    pub EndsSo-all : (answer : Result (Unit {0}) (K × V × Refusal × I))
+        → EndsSo gives answers pairs came answer
+        → OnOk answer ((came : List (K × V)) × Drains gives pairs came)
+    EndsSo-all (Ok done) ends = (came, ends)
+    EndsSo-all (Err back) ends = tt
+
+    pub EndsSo-back : (answer : Result (Unit {0}) (K × V × Refusal × I))
+        → EndsSo gives answers pairs came answer
+        → IfErr answer (λ back. (came : List (K × V))
+        × YieldsThen gives pairs came (Some (back.0, back.1)) back.3)
+    EndsSo-back (Ok done) ends = tt
+    EndsSo-back (Err back) ends = (came, ends.0)
 
 -- of the first so many no more are shown
 pub shown-within : {K V : Type 0} (count : ℕ) (list : List (Bor K × Bor V)) (all : List (K × V))

@@ -3,6 +3,7 @@
 pub mod fitting;
 pub mod loads;
 pub mod locked;
+pub mod many;
 pub mod nobody;
 pub mod shards;
 pub mod shared;
