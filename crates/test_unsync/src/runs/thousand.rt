@@ -26,7 +26,9 @@ fn a_scan_of_a_thousand_keys_takes_no_hot_one(rt: HostRuntime) {
         expect_ok!(rt; cache.insert(key, key));
         cache.get(&key);
     }
-    let calls = expect_ok!(rt; thousand_inserts(rt.alloc()));
+    let Ok(calls) = thousand_inserts(rt.alloc()) else {
+        panic!(rt; "there is memory");
+    };
     let Ok(replies) = scan(rt.alloc(), &mut cache, calls, &mut ()) else {
         panic!(rt; "there is memory");
     };
