@@ -1,0 +1,27 @@
+-- What a maker makes, and why it makes none.
+use Rattle.std.specs.Prelude.{◌≡◌, ℕ, List, Some}
+use Rattle.quick_cache_model.specs.CacheState.{CacheState, empty_state}
+use Rattle.quick_cache_model.specs.RefusalTexts.{refusal_text}
+use Rattle.quick_cache_model.specs.Sizes.{hot_target_of, ghost_limit_of}
+use Rattle.quick_cache_model.specs.declared.refusal.Refusal.TheVariants.{Memory}
+use Rattle.quick_cache_options.specs.Options.{Choices, Settings, first_error}
+use Rattle.quick_cache_maker.specs.declared.error.MakeError.{MakeError}
+use Rattle.quick_cache_maker.specs.declared.error.MakeError.TheVariants.{Options, Refused}
+
+-- the empty state of a cache of these settings
+abbrev pub made_state : {K V : Type 0} → Settings → CacheState K V
+made_state settings = record
+    (empty_state settings.weight_capacity
+    (hot_target_of settings.weight_capacity settings.hot_allocation)
+    (ghost_limit_of settings.estimated_items_capacity settings.ghost_allocation))
+    { mark_cut = settings.mark_cut }
+
+-- the choices have that fault first, or there was no memory
+abbrev pub IsMakeError : Choices → MakeError → Type 0
+IsMakeError choices (Options error) = first_error choices ≡ Some error
+IsMakeError choices (Refused refusal) = refusal ≡ Memory
+
+-- how it reads
+abbrev pub make_error_text : MakeError → List ℕ
+make_error_text (Options error) = error
+make_error_text (Refused refusal) = refusal_text refusal

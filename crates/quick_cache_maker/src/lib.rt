@@ -1,0 +1,10 @@
+//! Makes either cache by what is named; the rest has its default.
+#![tactic(auto)]
+
+mod error;
+mod maker;
+mod shared;
+mod unsync;
+
+pub use error::MakeError;
+pub use maker::{Maker, Named, Unnamed};
