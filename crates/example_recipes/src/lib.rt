@@ -10,6 +10,8 @@ mod counted;
 #[cfg(test)]
 mod listener;
 #[cfg(test)]
+mod made;
+#[cfg(test)]
 mod memo;
 #[cfg(test)]
 mod names;

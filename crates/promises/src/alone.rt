@@ -4,6 +4,7 @@ pub mod answered;
 pub mod containers;
 pub mod keys;
 pub mod listened;
+pub mod made;
 pub mod many;
 pub mod one_thread;
 pub mod options;
