@@ -1,8 +1,10 @@
 -- What a contract sees of `Rings`: three lists of tokens, and what each weighs.
-use Rattle.std.specs.Prelude.{◌≡◌, ℕ, ◌+◌, ◌-◌, ◌<◌, ◌≤◌, List, [], ◌∷◌, ◌++◌, length, drop, Bool}
+use Rattle.std.specs.Prelude.{◌≡◌, ℕ, ◌+◌, ◌-◌, ◌<◌, ◌≤◌, List, [], ◌∷◌, ◌++◌, length, drop, Bool, true, false}
 use Rattle.quick_cache_model.specs.declared.queue.Queue.{Queue}
 use Rattle.quick_cache_model.specs.declared.queue.Queue.TheVariants.{Hot, Cold}
 use Rattle.quick_cache_store.specs.Queues.{times, turned, Leaves}
+use Rattle.quick_cache_store.specs.declared.rings.ring.Order.{Order}
+use Rattle.quick_cache_store.specs.declared.rings.ring.Order.TheVariants.{Kept, Restarted}
 use Rattle.quick_cache_store.specs.declared.slots.entry.Stand.{Stand}
 use Rattle.quick_cache_store.specs.declared.slots.entry.Stand.TheVariants.{AmongHot, AmongCold, AmongStill, AmongLoading, AmongGhosts}
 
@@ -77,6 +79,11 @@ CanLeaveRing rings token weight AmongCold = CanLeave rings.cold token weight
 CanLeaveRing rings token weight AmongGhosts = CanLeave rings.ghosts token weight
 CanLeaveRing rings token weight AmongStill = Unit {0}
 CanLeaveRing rings token weight AmongLoading = Unit {0}
+
+-- whether the ring begins behind the token that left
+abbrev pub restarts : Order → Bool
+restarts Kept = false
+restarts Restarted = true
 
 -- the token left: the rest keeps its order, or begins behind it
 pub record IsLeft (ring left : Ring) (token : ℕ) (restarts : Bool) (weight : ℕ) : Type 0 where

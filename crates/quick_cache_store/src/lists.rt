@@ -9,6 +9,7 @@ mod lists;
 mod store;
 mod walk;
 
+pub use crate::rings::Order;
 pub use crate::slots::{Awaited, AwaitedRef, Copying, Entry, ItemRef, Marked, Slot};
 pub use found::Found;
 pub use lists::{Lists, Meaning};

@@ -6,4 +6,5 @@
 mod ring;
 mod rings;
 
+pub use ring::Order;
 pub use rings::Rings;

@@ -10,7 +10,7 @@ ghost use Rattle.quick_cache_policy.specs.Stays.{LosesEntries, KeepsEntries};
 use crate::contents::Contents;
 use crate::policy::Policy;
 use quick_cache_model::{Queue, SharedPlaceholder, Touches};
-use quick_cache_store::lists::{Entry, Marked};
+use quick_cache_store::lists::{Entry, Marked, Order};
 use std::alloc::Allocator;
 use std::hash::Hash;
 
@@ -57,7 +57,7 @@ impl<K: Eq + Hash + Drop, V: Drop, P: SharedPlaceholder<K>, A: Allocator> Conten
             unreachable!();
         };
         self.lists.facts();
-        let slot = self.lists.take(token, false);
+        let slot = self.lists.take(token, Order::Kept);
         let hash = slot.hash;
         match slot.entry {
             Entry::Item(item) => match decide(item, terms, state) {
@@ -93,7 +93,7 @@ impl<K: Eq + Hash + Drop, V: Drop, P: SharedPlaceholder<K>, A: Allocator> Conten
         match decide(self.lists.bury(token), terms, state) {
             Fate::Stays(item) => {
                 self.lists.facts();
-                let _ = self.lists.replace(token, false, Entry::Item(item));
+                let _ = self.lists.replace(token, Order::Kept, Entry::Item(item));
             }
             Fate::Leaves(key, value) => {
                 self.forget_oldest();
@@ -163,6 +163,7 @@ impl<K: Eq + Hash + Drop, V: Drop, P: SharedPlaceholder<K>, A: Allocator> Conten
         let item = self.lists.item(token);
         let mark = item.mark().saturating_sub(1);
         let weight = item.weight();
-        self.lists.requeue(token, false, Queue::Hot, mark, weight);
+        self.lists
+            .requeue(token, Order::Kept, Queue::Hot, mark, weight);
     }
 }

@@ -12,7 +12,7 @@ ghost use Rattle.quick_cache_policy.specs.Stays.{KeepsSound};
 
 use crate::contents::Contents;
 use quick_cache_model::{Equivalent, SharedPlaceholder, Token};
-use quick_cache_store::lists::{Entry, Found};
+use quick_cache_store::lists::{Entry, Found, Order};
 use std::alloc::Allocator;
 use std::hash::Hash;
 
@@ -126,11 +126,11 @@ impl<K: Eq + Hash, V, P: SharedPlaceholder<K>, A: Allocator> Contents<K, V, P, A
                 }
             }
             Found::Loading(token) => {
-                let _ = self.lists.take(token, false);
+                let _ = self.lists.take(token, Order::Kept);
                 None
             }
             Found::Ghost(token) => {
-                let _ = self.lists.take(token, false);
+                let _ = self.lists.take(token, Order::Kept);
                 None
             }
             Found::Nothing => None,

@@ -1,7 +1,8 @@
 //! A call that shows an item to a callback of the caller's, and does what that chooses.
-ghost use Rattle.std.specs.Prelude.{◌≡◌, ◌+◌, ◌≤◌, true, IfOk};
+ghost use Rattle.std.specs.Prelude.{◌≡◌, ◌==◌, ◌+◌, ◌≤◌, true, IfOk};
 ghost use Rattle.std.specs.Int.NonZero.{non_zero_u32_get as number};
 ghost use Rattle.quick_cache_store.specs.Lists.{FindsItem, HasItemToken};
+ghost use Rattle.quick_cache_store.specs.Rings.{restarts};
 ghost use Rattle.quick_cache_model.specs.Entries.{Retain as chosen_retain, Kept as came_kept};
 ghost use Rattle.quick_cache_policy.specs.Contents.{IsSound, state_of};
 ghost use Rattle.quick_cache_policy.specs.Entering.{ActsOnWritten, AnswersEntry, AnswersItem, IsHashed, IsNewUnder, RemovesWritten, ReplacesItem, ShowsAt, TakesWeighed};
@@ -16,9 +17,20 @@ use quick_cache_model::{
     EntryAction, EntryOrPlaceholder, Equivalent, MakesPlaceholders, Queue, Refusal,
     SharedPlaceholder, ToKey, Token,
 };
-use quick_cache_store::lists::{Awaited, Entry, Found};
+use quick_cache_store::lists::{Awaited, Entry, Found, Order};
 use std::alloc::Allocator;
 use std::hash::Hash;
+
+/// The order of a ring that an item leaves which weighs so much now.
+fn order_behind(weight: u64) -> Order
+    ensures { restarts result ≡ (weight == 0) }
+{
+    if weight == 0 {
+        Order::Restarted
+    } else {
+        Order::Kept
+    }
+}
 
 impl<K: Eq + Hash + Drop, V: Drop, P: SharedPlaceholder<K>, A: Allocator> Contents<K, V, P, A> {
     /// Shows the item of a token, whose value may be written where it stands. It keeps the weight
@@ -55,7 +67,7 @@ impl<K: Eq + Hash + Drop, V: Drop, P: SharedPlaceholder<K>, A: Allocator> Conten
         let item = self.lists.item(token);
         let queue = item.queue();
         let weight = terms.weigh(item.key(), item.value());
-        let slot = self.lists.take(token, weight == 0);
+        let slot = self.lists.take(token, order_behind(weight));
         match slot.entry {
             Entry::Item(resident) => {
                 self.keep_hits(&resident);

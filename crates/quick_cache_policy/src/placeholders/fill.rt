@@ -15,7 +15,7 @@ use crate::contents::Contents;
 use crate::policy::Policy;
 use crate::writing::admission::{Admission, Weighed};
 use quick_cache_model::{Queue, SharedPlaceholder, Token};
-use quick_cache_store::lists::{Entry, Meaning};
+use quick_cache_store::lists::{Entry, Meaning, Order};
 use std::alloc::Allocator;
 use std::hash::Hash;
 
@@ -87,7 +87,7 @@ impl<K: Eq + Hash + Drop, V: Drop, P: SharedPlaceholder<K>, A: Allocator> Conten
                 }
             }
             Admission::TooHeavy(value) => {
-                let slot = self.lists.take(token, false);
+                let slot = self.lists.take(token, Order::Kept);
                 let gone = match slot.entry {
                     Entry::Loading(gone) => gone,
                     Entry::Item(_) => unreachable!(),
@@ -172,6 +172,6 @@ impl<K: Eq + Hash + Drop, V: Drop, P: SharedPlaceholder<K>, A: Allocator> Conten
         else {
             return;
         };
-        let _ = self.lists.take(token, false);
+        let _ = self.lists.take(token, Order::Kept);
     }
 }

@@ -12,7 +12,7 @@ ghost use Rattle.quick_cache_policy.specs.Places.{places_of};
 
 use crate::contents::Contents;
 use quick_cache_model::{MakesPlaceholders, Queue, Refusal, SharedPlaceholder, ToKey, Token};
-use quick_cache_store::lists::{Awaited, Entry, Found};
+use quick_cache_store::lists::{Awaited, Entry, Found, Order};
 use std::alloc::Allocator;
 use std::hash::Hash;
 
@@ -131,7 +131,9 @@ impl<K: Eq + Hash + Drop, V: Drop, P: SharedPlaceholder<K>, A: Allocator> Conten
         }
         self.lists.facts();
         let (awaited, placeholder) = self.await_key(maker, token, hash, query, Queue::Hot)?;
-        let _ = self.lists.replace(token, false, Entry::Loading(awaited));
+        let _ = self
+            .lists
+            .replace(token, Order::Kept, Entry::Loading(awaited));
         self.count_made();
         Ok(placeholder)
     }

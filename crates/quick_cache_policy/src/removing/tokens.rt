@@ -10,7 +10,7 @@ ghost use Rattle.quick_cache_policy.specs.Tokens.{TakesItem, TakesToken};
 
 use crate::contents::Contents;
 use quick_cache_model::{SharedPlaceholder, Token};
-use quick_cache_store::lists::{Entry, ItemRef};
+use quick_cache_store::lists::{Entry, ItemRef, Order};
 use std::alloc::Allocator;
 use std::hash::Hash;
 
@@ -105,7 +105,7 @@ impl<K: Eq + Hash, V, P: SharedPlaceholder<K>, A: Allocator> Contents<K, V, P, A
         ensures sound { KeepsSound P.ticket_of K.eq self.old self.new }
     {
         self.lists.facts();
-        let slot = self.lists.take(token, false);
+        let slot = self.lists.take(token, Order::Kept);
         match slot.entry {
             Entry::Item(item) => {
                 self.keep_hits(&item);

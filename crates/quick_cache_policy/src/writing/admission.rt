@@ -13,7 +13,7 @@ use crate::policy::Policy;
 use crate::strategy::InsertStrategy;
 use crate::writing::plan::Plan;
 use quick_cache_model::{Queue, SharedPlaceholder};
-use quick_cache_store::lists::Entry;
+use quick_cache_store::lists::{Entry, Order};
 use std::alloc::Allocator;
 use std::hash::Hash;
 
@@ -100,7 +100,7 @@ impl<K: Eq + Hash + Drop, V: Drop, P: SharedPlaceholder<K>, A: Allocator> Conten
             return;
         };
         self.lists.facts();
-        let slot = self.lists.take(token, false);
+        let slot = self.lists.take(token, Order::Kept);
         match slot.entry {
             Entry::Item(item) => {
                 self.keep_hits(&item);

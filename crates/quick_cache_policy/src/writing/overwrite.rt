@@ -15,7 +15,7 @@ use crate::policy::Policy;
 use crate::strategy::InsertStrategy;
 use crate::writing::admission::{Weighed, report};
 use quick_cache_model::{Queue, SharedPlaceholder, Token, Touches};
-use quick_cache_store::lists::{Entry, Found, Marked};
+use quick_cache_store::lists::{Entry, Found, Marked, Order};
 use std::alloc::Allocator;
 use std::hash::Hash;
 
@@ -91,7 +91,7 @@ impl<K: Eq + Hash + Drop, V: Drop, P: SharedPlaceholder<K>, A: Allocator> Conten
         self.lists.facts();
         let Weighed { value, weight } = weighed;
         let entered = Marked::new(key, value, weight, mark, queue, P::Touch::default());
-        let _ = self.lists.replace(token, false, Entry::Item(entered));
+        let _ = self.lists.replace(token, Order::Kept, Entry::Item(entered));
         self.evict_to_capacity(0, terms, state);
     }
 }

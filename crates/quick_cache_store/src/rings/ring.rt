@@ -3,6 +3,7 @@ ghost use Rattle.std.specs.Prelude.{◌≡◌};
 ghost use Rattle.std.specs.Int.NonZero.{non_zero_u32_get as number};
 ghost use Rattle.quick_cache_store.specs.Queues.{IsQueue};
 ghost use Rattle.quick_cache_store.specs.OneRing.{HasPlace, IsJoined, CanGo, IsGone, CanLose, HasLost, IsTurned};
+ghost use Rattle.quick_cache_store.specs.Rings.{restarts};
 
 use crate::queue::{Numbers, TokenQueue};
 use quick_cache_model::Token;
@@ -13,6 +14,15 @@ use std::alloc::{Allocator, Global};
 pub(crate) struct Ring<A: Allocator = Global> {
     pub(crate) queue: TokenQueue<A>,
     pub(crate) weight: u128,
+}
+
+/// The order of a ring that a token has left.
+#[derive(Clone, Copy)]
+pub enum Order {
+    /// The rest keeps its order.
+    Kept,
+    /// The ring begins behind the token, and what stood before it comes last.
+    Restarted,
 }
 
 /// Puts a token last in a ring.
@@ -30,24 +40,23 @@ pub(crate) fn join<A: Allocator>(
     ring.weight += u128::from(weight);
 }
 
-/// Takes a token out of a ring, which begins behind it if it restarts.
+/// Takes a token out of a ring, whose rest is in that order then.
 #[inline(always)]
 pub(crate) fn leave<A: Allocator>(
     ring: &mut Ring<A>,
     numbers: &mut Numbers<A>,
     token: Token,
-    restarts: bool,
+    order: Order,
     weight: u64,
 )
     requires { CanGo ring.old (number token) weight }
-    ensures { IsGone ring.old ring.new (number token) restarts weight }
+    ensures { IsGone ring.old ring.new (number token) (restarts order) weight }
 {
     ring.weight -= u128::from(weight);
-    if restarts {
-        ring.queue.restart(numbers, token);
-        return;
+    match order {
+        Order::Kept => ring.queue.leave(numbers, token),
+        Order::Restarted => ring.queue.restart(numbers, token),
     }
-    ring.queue.leave(numbers, token);
 }
 
 /// Takes the first token out of a ring, if there is one, and so much weight.

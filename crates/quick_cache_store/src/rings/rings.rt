@@ -3,10 +3,10 @@ ghost use Rattle.std.specs.Prelude.{◌≡◌, ◌≤◌, ◌*◌, [], max, IsOk
 ghost use Rattle.std.specs.Int.NonZero.{non_zero_u32_get as number};
 ghost use Rattle.quick_cache_store.specs.Queues.{tokens_of, IsQueue};
 ghost use Rattle.quick_cache_store.specs.Slots.{stand_by};
-ghost use Rattle.quick_cache_store.specs.Rings.{no_rings, emptied, ring_of, CanEnter, entered, CanLeaveRing, LeavesRingOf, CanBury, buried, first_forgotten, rings_turned, CanReweigh, reweighed, AreWithin};
+ghost use Rattle.quick_cache_store.specs.Rings.{no_rings, emptied, ring_of, CanEnter, entered, CanLeaveRing, LeavesRingOf, restarts, CanBury, buried, first_forgotten, rings_turned, CanReweigh, reweighed, AreWithin};
 
 use crate::queue::{Numbers, TokenQueue};
-use crate::rings::ring::{Ring, join, leave, leave_first, turn};
+use crate::rings::ring::{Order, Ring, join, leave, leave_first, turn};
 use crate::slots::Stand;
 use quick_cache_model::{Queue, Refusal, Token};
 use std::alloc::{Allocator, Global};
@@ -202,23 +202,16 @@ impl<A: Allocator> Rings<A> {
         }
     }
 
-    /// Takes a token out of the ring of that list, if it is one. The ring keeps the order of the
-    /// rest, or begins behind the token where it restarts.
+    /// Takes a token out of the ring of that list, if it is one. The rest is in that order then.
     #[inline(always)]
-    pub fn leave(&mut self, token: Token, stand: Stand, restarts: bool, weight: u64)
+    pub fn leave(&mut self, token: Token, stand: Stand, order: Order, weight: u64)
         requires { CanLeaveRing self.old (number token) weight stand }
-        ensures { LeavesRingOf self.old self.new (number token) restarts weight stand }
+        ensures { LeavesRingOf self.old self.new (number token) (restarts order) weight stand }
     {
         match stand {
-            Stand::AmongHot => leave(&mut self.hot, &mut self.numbers, token, restarts, weight),
-            Stand::AmongCold => leave(&mut self.cold, &mut self.numbers, token, restarts, weight),
-            Stand::AmongGhosts => leave(
-                &mut self.ghosts,
-                &mut self.numbers,
-                token,
-                restarts,
-                weight,
-            ),
+            Stand::AmongHot => leave(&mut self.hot, &mut self.numbers, token, order, weight),
+            Stand::AmongCold => leave(&mut self.cold, &mut self.numbers, token, order, weight),
+            Stand::AmongGhosts => leave(&mut self.ghosts, &mut self.numbers, token, order, weight),
             Stand::AmongStill => (),
             Stand::AmongLoading => (),
         }

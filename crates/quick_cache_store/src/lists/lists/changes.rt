@@ -1,10 +1,12 @@
 //! What changes the lists: an entry comes, goes, moves or is written.
 ghost use Rattle.std.specs.Prelude.{◌≡◌, ◌+◌, ◌<◌, false, Some};
 ghost use Rattle.std.specs.Int.NonZero.{non_zero_u32_get as number};
+ghost use Rattle.quick_cache_store.specs.Rings.{restarts};
 ghost use Rattle.quick_cache_store.specs.Lists.{PutsLast, HasEntry, IsEntry, without_entry, IsFirstOf, HasItemToken, HasItemUnder, ring_turned, with_change, with_counts, with_mark, read_once, used, HasItemOfQueue, Rewrites, Reweighs};
 
 use crate::lists::lists::Lists;
 use crate::lists::store::{displace, displace_known, place};
+use crate::rings::Order;
 use crate::slots::{Entry, Marked, Slot, Stand};
 use quick_cache_model::{Queue, Token, Touches};
 use std::alloc::Allocator;
@@ -27,18 +29,17 @@ impl<K, V, P, T, A: Allocator> Lists<K, V, P, T, A> {
         token
     }
 
-    /// Takes an entry out. Its ring keeps the order of the rest, or begins behind it where it
-    /// restarts.
+    /// Takes an entry out. The rest of its ring is in that order then.
     #[inline(always)]
-    pub fn take(&mut self, token: Token, restarts: bool) -> Slot<K, V, P, T>
+    pub fn take(&mut self, token: Token, order: Order) -> Slot<K, V, P, T>
         requires { HasEntry self.old (number token) }
         ensures taken { IsEntry self.old (number token) result.hash result.entry }
-        ensures rest { self.new ≡ without_entry restarts (number token) self.old }
+        ensures rest { self.new ≡ without_entry (restarts order) (number token) self.old }
     {
         let slot = displace(&mut self.slots, &mut self.index, token);
         let stand = slot.entry.stand();
         let weight = slot.entry.weight();
-        self.rings.leave(token, stand, restarts, weight);
+        self.rings.leave(token, stand, order, weight);
         self.loading -= stand.loading();
         slot
     }
@@ -54,7 +55,7 @@ impl<K, V, P, T, A: Allocator> Lists<K, V, P, T, A> {
         let slot = displace_known(&mut self.slots, &mut self.index, hash, token);
         let stand = slot.entry.stand();
         let weight = slot.entry.weight();
-        self.rings.leave(token, stand, false, weight);
+        self.rings.leave(token, stand, Order::Kept, weight);
         self.loading -= stand.loading();
         slot
     }
@@ -131,7 +132,7 @@ impl<K, V, P, T, A: Allocator> Lists<K, V, P, T, A> {
         let was = item.weight();
         let weight = resident.weight();
         if (was == 0) != (weight == 0) {
-            return match self.replace(token, true, Entry::Item(resident)) {
+            return match self.replace(token, Order::Restarted, Entry::Item(resident)) {
                 Entry::Item(old) => old,
                 Entry::Loading(_) => unreachable!(),
                 Entry::Ghost => unreachable!(),
@@ -153,7 +154,7 @@ impl<K, V, P, T, A: Allocator> Lists<K, V, P, T, A> {
         let queue = item.queue();
         let mark = item.mark();
         if (was == 0) != (weight == 0) {
-            self.requeue(token, true, queue, mark, weight);
+            self.requeue(token, Order::Restarted, queue, mark, weight);
             return;
         }
         self.slots.set_weight(token, weight);

@@ -1,9 +1,11 @@
 //! Entries that go from list to list and keep their tokens, so that the index does not change.
 ghost use Rattle.std.specs.Prelude.{◌≡◌, false, Some};
 ghost use Rattle.std.specs.Int.NonZero.{non_zero_u32_get as number};
+ghost use Rattle.quick_cache_store.specs.Rings.{restarts};
 ghost use Rattle.quick_cache_store.specs.Lists.{HasEntry, HasItemToken, IsFirstOf, Replaces, Requeues, requeued};
 
 use crate::lists::lists::Lists;
+use crate::rings::Order;
 use crate::slots::{Entry, Marked, Stand};
 use quick_cache_model::{Queue, Token};
 use std::alloc::Allocator;
@@ -15,18 +17,18 @@ impl<K, V, P, T, A: Allocator> Lists<K, V, P, T, A> {
     pub fn replace(
         &mut self,
         token: Token,
-        restarts: bool,
+        order: Order,
         entry: Entry<K, V, P, T>,
     ) -> Entry<K, V, P, T>
         requires { HasEntry self.old (number token) }
-        ensures { Replaces self.old (number token) restarts entry result self.new }
+        ensures { Replaces self.old (number token) (restarts order) entry result self.new }
     {
         let to = entry.stand();
         let weight = entry.weight();
         let was = self.slots.replace(token, entry);
         let from = was.stand();
         let weighed = was.weight();
-        self.rings.leave(token, from, restarts, weighed);
+        self.rings.leave(token, from, order, weighed);
         self.rings.enter(token, to, weight);
         self.loading = self.loading - from.loading() + to.loading();
         was
@@ -48,18 +50,18 @@ impl<K, V, P, T, A: Allocator> Lists<K, V, P, T, A> {
     }
 
     /// Gives the item of a token another queue, mark and weight, and puts it last in its ring, or
-    /// beside the rings where it then weighs nothing. The ring that it leaves keeps the order of
-    /// the rest, or begins behind it where it restarts.
-    pub fn requeue(&mut self, token: Token, restarts: bool, queue: Queue, mark: u8, weight: u64)
+    /// beside the rings where it then weighs nothing. The rest of the ring that it leaves is in
+    /// that order then.
+    pub fn requeue(&mut self, token: Token, order: Order, queue: Queue, mark: u8, weight: u64)
         requires { HasItemToken self.old (number token) }
-        ensures { Requeues self.old (number token) restarts (requeued queue mark weight) self.new }
+        ensures { Requeues self.old (number token) (restarts order) (requeued queue mark weight) self.new }
     {
         let slot = self.slots.slot(token);
         let from = slot.stand();
         let weighed = slot.weight();
         self.slots.requeue(token, queue, mark, weight);
         let to = Stand::of_item(weight, queue);
-        self.rings.leave(token, from, restarts, weighed);
+        self.rings.leave(token, from, order, weighed);
         self.rings.enter(token, to, weight);
     }
 }

@@ -1,4 +1,4 @@
-use Rattle.std.proofs.Common.{◌≡◌, ◌==◌, ℕ, refl, ap, subst, ◌∙◌}
+use Rattle.std.proofs.Common.{◌≡◌, ◌==◌, ℕ, Bool, refl, ap, subst, ◌∙◌}
 use Rattle.std.specs.Int.NonZero.{non_zero_u32_get as number}
 use Rattle.quick_cache_model.specs.CacheState.{Item}
 use Rattle.quick_cache_model.specs.Removal.{pair_of}
@@ -45,6 +45,7 @@ returns g c =
       queue = c.queue-queue.ensures ∙ ap (λ (i : Item _ _). i.queue) same;
       rest = λ i. record contents {
         lists = (c.take-slot.ensures.rest
-            ∙ ap (λ (w : ℕ). without_entry (w == 0) t contents.lists) weight) i;
+            ∙ ap (λ (b : Bool). without_entry b t contents.lists)
+            (c.order_behind.ensures ∙ ap (λ (w : ℕ). w == 0) weight)) i;
       };
     }

@@ -1,7 +1,7 @@
 use Rattle.std.proofs.Common.{◌≡◌, ◌∙◌, refl, sym, ap, subst, Some, ℕ, arith}
 use Rattle.std.specs.Int.NonZero.{non_zero_u32_get as number}
 use Rattle.quick_cache_store.specs.Pool.{item_at}
-use Rattle.quick_cache_store.specs.Rings.{CanLeaveRing}
+use Rattle.quick_cache_store.specs.Rings.{CanLeaveRing, restarts}
 use Rattle.quick_cache_store.specs.declared.slots.entry.Slot.{Slot}
 use Rattle.quick_cache_store.specs.ListSlots.{with_entry, Stand, stand_of, stand_in, weight_in, weight_at}
 use Rattle.quick_cache_store.proofs.lists.ItemLemmas.{one_slot}
@@ -43,7 +43,7 @@ enter-requires g c =
     let was : c.replace-was.result ≡ x.entry = ap (λ (s : Slot _ _ _ _). s.entry)
     (one_slot (item_at i.slots t) (record { hash = old.0; entry = c.replace-was.result }) x
     old.1 at) in
-    can_enter-moved i.slots i.index t c.args.restarts i.rings c.leave.new.self i.loading
+    can_enter-moved i.slots i.index t (restarts c.args.order) i.rings c.leave.new.self i.loading
     c.self.invariant x (with_entry c.args.entry x) at refl
     (omega (arith, c.weight-weight.ensures)) c.stand-from.result c.weight-weighed.result
     (c.stand-from.ensures ∙ ap stand_in was) (c.weight-weighed.ensures ∙ ap weight_in was)
@@ -61,7 +61,7 @@ overflow_sub-self g c =
     old.1 at) in
     omega (
       arith,
-      loading-kept i.slots i.index t c.args.restarts i.rings c.leave.new.self i.loading
+      loading-kept i.slots i.index t (restarts c.args.order) i.rings c.leave.new.self i.loading
           c.self.invariant x (with_entry c.args.entry x) at refl
           (omega (arith, c.weight-weight.ensures)) c.stand-from.result c.weight-weighed.result
           (c.stand-from.ensures ∙ ap stand_in was) (c.weight-weighed.ensures ∙ ap weight_in was)
@@ -79,7 +79,7 @@ invariant_of-self g c =
     let was : c.replace-was.result ≡ x.entry = ap (λ (s : Slot _ _ _ _). s.entry)
     (one_slot (item_at i.slots t) (record { hash = old.0; entry = c.replace-was.result }) x
     old.1 at) in
-    rw c.replace-was.ensures.writes.is (IsSound-moved i.slots i.index t c.args.restarts i.rings
+    rw c.replace-was.ensures.writes.is (IsSound-moved i.slots i.index t (restarts c.args.order) i.rings
     c.leave.new.self i.loading c.self.invariant x (with_entry c.args.entry x) at refl
     (omega (arith, c.weight-weight.ensures)) c.stand-from.result c.weight-weighed.result
     (c.stand-from.ensures ∙ ap stand_in was) (c.weight-weighed.ensures ∙ ap weight_in was)
@@ -98,7 +98,7 @@ returns g c =
     (one_slot (item_at i.slots t) (record { hash = old.0; entry = c.replace-was.result }) x
     old.1 at) in
     rw (← c.self.view_is, was, c.replace-was.ensures.writes.is) (Replaces-moved i.slots i.index t
-    c.args.restarts i.rings c.leave.new.self i.loading c.self.invariant x
+    (restarts c.args.order) i.rings c.leave.new.self i.loading c.self.invariant x
     (with_entry c.args.entry x) at refl (omega (arith, c.weight-weight.ensures))
     c.stand-from.result c.weight-weighed.result (c.stand-from.ensures ∙ ap stand_in was)
     (c.weight-weighed.ensures ∙ ap weight_in was) c.leave.ensures c.enter.new.self

@@ -1,7 +1,7 @@
 use Rattle.std.proofs.Common.{◌≡◌, ◌∙◌, ◌<◌, refl, sym, ap, subst, Some, ℕ, arith}
 use Rattle.std.specs.Int.NonZero.{non_zero_u32_get as number}
 use Rattle.quick_cache_store.specs.Pool.{item_at, with_item}
-use Rattle.quick_cache_store.specs.Rings.{CanLeaveRing}
+use Rattle.quick_cache_store.specs.Rings.{CanLeaveRing, restarts}
 use Rattle.quick_cache_store.specs.declared.slots.entry.Slot.{Slot}
 use Rattle.quick_cache_store.specs.ListSlots.{Stand, stand_of, stand_in, slot_changed, weight_in, weight_at, loading_in}
 use Rattle.quick_cache_store.specs.Lists.{PutsLast, requeued, without_entry}
@@ -55,7 +55,7 @@ enter-requires g c =
     let from_is = c.stand-from.ensures ∙ ap (λ (s : Slot _ _ _ _). stand_in s.entry) same in
     let weighed_is = c.weight-weighed.ensures
     ∙ ap (λ (s : Slot _ _ _ _). weight_in s.entry) same in
-    can_enter-moved i.slots i.index t c.args.restarts i.rings c.leave.new.self i.loading
+    can_enter-moved i.slots i.index t (restarts c.args.order) i.rings c.leave.new.self i.loading
     c.self.invariant x y at refl light c.stand-from.result c.weight-weighed.result from_is
     weighed_is c.leave.ensures c.args.weight (omega arith) c.of_item-to.result
 
@@ -81,7 +81,7 @@ invariant_of-self g c =
     (slot_is (item_at i.slots t) x has.0 has.1 has.2 at) in
     let still = ap loading_in to_is ∙ loading_in-slot y has.0
     (requeued c.args.queue c.args.mark c.args.weight has.1) now in
-    rw c.requeue.ensures.is (IsSound-requeued i.slots i.index t c.args.restarts i.rings c.leave.new.self i.loading
+    rw c.requeue.ensures.is (IsSound-requeued i.slots i.index t (restarts c.args.order) i.rings c.leave.new.self i.loading
     c.self.invariant x y at refl light c.stand-from.result c.weight-weighed.result from_is
     weighed_is c.leave.ensures
     c.enter.new.self c.of_item-to.result c.args.weight to_is weight_is
@@ -105,22 +105,22 @@ returns g c =
     ∙ ap (λ (s : Slot _ _ _ _). weight_in s.entry) same in
     let to_is = c.of_item-to.ensures ∙ sym (ap (λ (s : Slot _ _ _ _). stand_in s.entry) now) in
     let weight_is = sym (ap (λ (s : Slot _ _ _ _). weight_in s.entry) now) in
-    let last = last-moved i.slots i.index t c.args.restarts i.rings c.leave.new.self i.loading
+    let last = last-moved i.slots i.index t (restarts c.args.order) i.rings c.leave.new.self i.loading
     c.self.invariant x y at refl light c.stand-from.result c.weight-weighed.result from_is
     weighed_is c.leave.ensures
     c.enter.new.self c.of_item-to.result c.args.weight to_is weight_is
     c.enter.ensures in
-    let room = room-moved i.slots i.index t c.args.restarts i.rings c.leave.new.self i.loading
+    let room = room-moved i.slots i.index t (restarts c.args.order) i.rings c.leave.new.self i.loading
     c.self.invariant x y at refl light c.stand-from.result c.weight-weighed.result from_is
     weighed_is c.leave.ensures
     c.enter.new.self c.of_item-to.result c.args.weight to_is weight_is
     c.enter.ensures in
-    let next = next-moved i.slots i.index t c.args.restarts i.rings c.leave.new.self i.loading
+    let next = next-moved i.slots i.index t (restarts c.args.order) i.rings c.leave.new.self i.loading
     c.self.invariant x y at refl light c.stand-from.result c.weight-weighed.result from_is
     weighed_is c.leave.ensures
     c.enter.new.self c.of_item-to.result c.args.weight to_is weight_is
     c.enter.ensures in
-    let left = without_entry c.args.restarts t (lists_of i.slots i.index i.rings) in
+    let left = without_entry (restarts c.args.order) t (lists_of i.slots i.index i.rings) in
     let new = lists_of (with_item i.slots t y) i.index c.enter.new.self in
     let puts = subst (λ (s : Slot _ _ _ _). PutsLast left t s.hash s.entry new) now last in
     rw (← c.self.view_is) (record {

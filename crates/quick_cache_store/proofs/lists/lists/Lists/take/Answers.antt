@@ -1,7 +1,7 @@
 use Rattle.std.proofs.Common.{arith, ◌≡◌, ◌∙◌, sym, ap, subst, Some, ℕ}
 use Rattle.std.specs.Int.NonZero.{non_zero_u32_get as number}
 use Rattle.quick_cache_store.specs.Pool.{item_at}
-use Rattle.quick_cache_store.specs.Rings.{CanLeaveRing}
+use Rattle.quick_cache_store.specs.Rings.{CanLeaveRing, restarts}
 use Rattle.quick_cache_store.specs.ListSlots.{Stand, stand_of, weight_at}
 use Rattle.quick_cache_store.proofs.lists.LeaveLemmas.{can_leave, loading-enough, lists-left, IsSound-left}
 use Rattle.quick_cache_store.proofs.lists.TakeLemmas.{occupied_by_entry, IsEntry-from}
@@ -32,7 +32,7 @@ overflow_sub-self g c =
     omega (
       arith,
       loading-enough i.slots c.displace-slot.new.slots i.index c.displace-slot.new.index
-          (number c.args.token) c.args.restarts i.rings c.leave.new.self i.loading
+          (number c.args.token) (restarts c.args.order) i.rings c.leave.new.self i.loading
           c.self.invariant u.removed u.room u.keyed u.count c.displace-slot.result u.item
           c.stand-stand.result c.weight-weight.result c.stand-stand.ensures
           c.weight-weight.ensures c.leave.ensures,
@@ -44,7 +44,7 @@ invariant_of-self g c =
     let i = c.self.inside in
     let u = c.displace-slot.ensures in
     IsSound-left i.slots c.displace-slot.new.slots i.index c.displace-slot.new.index
-    (number c.args.token) c.args.restarts i.rings c.leave.new.self i.loading c.self.invariant
+    (number c.args.token) (restarts c.args.order) i.rings c.leave.new.self i.loading c.self.invariant
     u.removed u.room u.keyed u.count c.displace-slot.result u.item c.stand-stand.result
     c.weight-weight.result c.stand-stand.ensures c.weight-weight.ensures c.leave.ensures
     c.loading.result c.loading.ensures
@@ -60,7 +60,7 @@ returns-clause-rest g c =
     let i = c.self.inside in
     let u = c.displace-slot.ensures in
     rw (← c.self.view_is) (lists-left i.slots c.displace-slot.new.slots i.index
-    c.displace-slot.new.index (number c.args.token) c.args.restarts i.rings c.leave.new.self
+    c.displace-slot.new.index (number c.args.token) (restarts c.args.order) i.rings c.leave.new.self
     i.loading c.self.invariant u.removed u.room u.keyed u.count c.displace-slot.result u.item
     c.stand-stand.result c.weight-weight.result c.stand-stand.ensures c.weight-weight.ensures
     c.leave.ensures)
