@@ -56,7 +56,7 @@ module _ {K V P W A T X : Type 0} (ticket_of : P → ℕ) (old made : Contents K
   held : HeldItem K V
   held = record { token = token; hash = rules.hash key; item = item }
 
-  put-state : SameButOrder (model_entered item (state_of ticket_of made))
+  pub put-state : SameButOrder (model_entered item (state_of ticket_of made))
       (state_with ticket_of made new)
   unfolding held
   put-state = subst (λ (s : CacheState K V). SameButOrder s (state_with ticket_of made new))
@@ -102,10 +102,10 @@ module _ {K V P W A T X : Type 0} (ticket_of : P → ℕ) (old made : Contents K
       (Leads-beside (pair_of item) tells))
 
   -- the lists are sound
-  pub new-sound : item.key ≡ key → item.mark ≡ 0 → IsSound ticket_of equal rules.hash made
+  pub new-sound : item.key ≡ key → item.mark ≤ made.mark_cut → IsSound ticket_of equal rules.hash made
       → IsSound ticket_of equal rules.hash (record made { lists = new })
   unfolding held
-  new-sound same unmarked sound = record {
+  new-sound same marked sound = record {
     valid = SameButOrder-valid equal _ (state_with ticket_of made new) put-state
         (entered-valid equal laws item (state_of ticket_of made)
         (subst (λ k. keys_by (equal k) (state_of ticket_of made) ≡ 0) (sym same)
@@ -114,7 +114,7 @@ module _ {K V P W A T X : Type 0} (ticket_of : P → ℕ) (old made : Contents K
           keys (equal key),
           keys_by-none (equal key) (state_of ticket_of old) nothing.keys,
         )))
-        (omega (arith, unmarked)) sound.valid);
+        marked sound.valid);
     sized = sound.sized;
     hashed = AreHashed-reordered rules.hash _ new puts.put
         (AreHashed-room rules.hash new.next new.room (entered held made.lists)

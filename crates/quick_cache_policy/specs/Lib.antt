@@ -8,6 +8,7 @@ pub mod HotRounds
 pub mod Writing
 pub mod Finding
 pub mod References
+pub mod Restoring
 pub mod Lent
 pub mod Copies
 pub mod Filling

@@ -5,3 +5,4 @@ pub mod insert;
 pub mod overwrite;
 pub mod plan;
 pub mod reference;
+pub mod restore;

@@ -123,7 +123,7 @@ returns-clause-stays g c =
           (subst (λ (h : ℕ). PutsLast {T = g.row.P-Touch.Denot} made.lists (number c.put.result) h
           (item_variant c.new-item.result) c.put.new.self) c.requires.hash_is c.put.ensures.last)
           (ap (λ (i : Item _ _). i.key) c.new-item.ensures)
-          (ap (λ (i : Item _ _). i.mark) c.new-item.ensures)
+          (omega (arith, ap (λ (i : Item _ _). i.mark) c.new-item.ensures))
           c.evict_to_capacity.ensures.stays.sound;
       places = λ place there. elim (put-places {T = g.row.P-Touch.Denot}
           c.evict_to_capacity.new.self.lists c.put.new.self
