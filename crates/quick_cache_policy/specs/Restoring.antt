@@ -2,7 +2,7 @@
 use Rattle.std.specs.Prelude.{◌≡◌, ℕ, ◌+◌, ◌≤◌, min, Bool, Option, Some, None, Result, Ok, Err}
 use Rattle.quick_cache_model.specs.declared.queue.Queue.{Queue}
 use Rattle.quick_cache_model.specs.declared.refusal.Refusal.{Refusal}
-use Rattle.quick_cache_model.specs.CacheState.{CacheState, Item, UpToOrder, entered, total_weight}
+use Rattle.quick_cache_model.specs.CacheState.{CacheState, UpToOrder, entered, total_weight}
 use Rattle.quick_cache_model.specs.Finding.{HasNothing}
 use Rattle.quick_cache_model.specs.Hooks.{Rules}
 use Rattle.quick_cache_model.specs.Refusals.{MayRefuse, needs_of_insert}

@@ -1,6 +1,7 @@
 //! A pair that a cache had before comes back to where it stood.
-ghost use Rattle.std.specs.Prelude.{◌≡◌, ◌+◌, ◌≤◌, ◌↔◌, true};
+ghost use Rattle.std.specs.Prelude.{◌≡◌, ◌+◌, ◌≤◌, ◌↔◌, IfErr, Some, true};
 ghost use Rattle.quick_cache_model.specs.CacheState.{total_weight};
+ghost use Rattle.quick_cache_model.specs.declared.refusal.Refusal.TheVariants.{Memory};
 ghost use Rattle.quick_cache_policy.specs.Contents.{IsSound, state_of};
 ghost use Rattle.quick_cache_policy.specs.Places.{KeepsPlaces, places_of};
 ghost use Rattle.quick_cache_policy.specs.Policies.{rules_by};
@@ -43,6 +44,8 @@ impl<K: Eq + Hash + Drop, V: Drop, P: SharedPlaceholder<K>, A: Allocator> Conten
         ensures answers { AnswersRestore (rules_by M.Policy P.Touch.may_count terms.now) K.eq
             key value queue mark (state_of P.ticket_of self.old) result
             (state_of P.ticket_of self.new) }
+        // It asks for memory only where there is no room.
+        ensures asks { IfErr result (λ back. back.2 ≡ Some Memory → self.old.lists.room ≡ 0) }
         ensures sound { IsSound P.ticket_of K.eq (M.hashed terms.now) self.new }
         // No item moves, and it takes room for one entry at most.
         ensures places { KeepsPlaces K.eq (places_of self.old.lists) (places_of self.new.lists) }

@@ -63,6 +63,7 @@ returns-in_default g c =
             (subst (λ (h : ℕ). HasNothing equal_to h (state_of ticket_of old))
             (sym c.requires.hash_is) can.unknown))),
       );
+      asks = λ e. absurd (cc);
       sound = c.requires.sound;
       places = LosesOnly-keeps ticket_of old g.K.PartialEq.eq g.met.K.Eq.laws c.requires.sound.valid
           _ (λ place there. there);
