@@ -1,11 +1,13 @@
 -- The steps of a shard's calls that weigh, pin or call hooks, as what it goes by says. The request
 -- state comes last, before and after.
 use Rattle.std.specs.Prelude.{ℕ, Bool, Option, Result}
+use Rattle.quick_cache_model.specs.declared.queue.Queue.{Queue}
 use Rattle.quick_cache_model.specs.declared.refusal.Refusal.{Refusal}
 use Rattle.quick_cache_model.specs.Hooks.{Rules, Hooks, Calls}
 use Rattle.quick_cache_model.specs.Writes.{Strategy}
 use Rattle.quick_cache_policy.specs.Filling.{AnswersFill}
 use Rattle.quick_cache_policy.specs.References.{ReweighsUnder}
+use Rattle.quick_cache_policy.specs.Restoring.{AnswersRestore}
 use Rattle.quick_cache_policy.specs.Writing.{AnswersWrite}
 use Rattle.quick_cache_policy.specs.Policies.{rules_by}
 use Rattle.quick_cache_shard.specs.Inserts.{Inserts}
@@ -35,6 +37,13 @@ module _ {K V We B L S : Type 0} (goes : Goes K V We B L S)
   AnswersWriteBy equal strategy key value answer new first last =
       AnswersWrite (steady_in goes old) (hooks_in goes old) (rules_in goes may_count old) equal
       strategy old.state first key value answer new.state last
+
+  -- the pair came back to where it stood, or it is given back
+  abbrev pub RestoresBy : (equal : K → K → Bool) → (key : K) → (value : V) → Queue → (mark : ℕ)
+      → Result (Unit {0}) (K × V × Option Refusal) → (new : Shard K V We B L) → Type 0
+  RestoresBy equal key value queue mark answer new =
+      AnswersRestore (rules_in goes may_count old) equal key value queue mark old.state answer
+      new.state
 
   -- an insert, which is admitted or refused
   abbrev pub InsertsBy : (equal : K → K → Bool) → (key : K) → (value : V)

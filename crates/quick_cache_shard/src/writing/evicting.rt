@@ -1,15 +1,15 @@
 //! Calls that may evict: a write, the fill of a placeholder, and another capacity.
-ghost use Rattle.std.specs.Prelude.{◌≡◌, ◌≤◌, IfErr, IsSome, Some, None, true, false};
+ghost use Rattle.std.specs.Prelude.{◌≡◌, ◌+◌, ◌≤◌, IfErr, IsSome, Some, None, true, false};
 ghost use Rattle.quick_cache_model.specs.declared.refusal.Refusal.TheVariants.{Memory};
 ghost use Rattle.quick_cache_policy.specs.Writing.{strategy_of, is_insert};
-ghost use Rattle.quick_cache_shard.specs.Shard.{KeepsPlaces, LosesOnly};
+ghost use Rattle.quick_cache_shard.specs.Shard.{KeepsPlaces, KeepsTerms, KeepsWork, LosesOnly};
 ghost use Rattle.quick_cache_shard.specs.SetsCapacity.{Rescales};
 ghost use Rattle.quick_cache_shard.specs.Stays.{WritesWithin};
-ghost use Rattle.quick_cache_shard.specs.Steps.{AnswersWriteBy, FillsBy, SetsCapacityBy};
+ghost use Rattle.quick_cache_shard.specs.Steps.{AnswersWriteBy, FillsBy, RestoresBy, SetsCapacityBy};
 
 use crate::shard::CacheShard;
 use crate::words::{Going, Keyed};
-use quick_cache_model::{Lifecycle, Refusal, Weighter};
+use quick_cache_model::{Lifecycle, Queue, Refusal, Weighter};
 use quick_cache_options::sizes::{rescaled_limit, rescaled_target};
 use quick_cache_policy::{InsertStrategy, SharedPlaceholder};
 use std::alloc::Allocator;
@@ -57,6 +57,34 @@ impl<
             .insert(&self.terms, state, hash, key, value, strategy);
         self.facts();
         answer
+    }
+
+    /// Puts a pair last in that ring, or among the weightless, with that mark or the greatest there
+    /// is, as it stood before; its hash is handed in. Nothing leaves for it, and no hook is called.
+    ///
+    /// # Errors
+    ///
+    /// The pair, and nothing has changed. There is no refusal where something is known of its key,
+    /// or where it does not fit the capacity beside what stands.
+    pub fn restore(
+        &mut self,
+        hash: u64,
+        key: K,
+        value: V,
+        queue: Queue,
+        mark: u8,
+    ) -> Result<(), (K, V, Option<Refusal>)>
+        requires hash_is { hash ≡ ⟦<Self as Keyed>⟧.hash self.old.builder (K.hash_input key) }
+        ensures answers { RestoresBy ⟦<Self as Going>⟧.goes P.Touch.may_count self.old K.eq
+            key value queue mark result self.new }
+        ensures asks { IfErr result (λ back. back.2 ≡ Some Memory → self.old.room ≡ 0) }
+        ensures places { KeepsPlaces K.eq self.old.places self.new.places }
+        ensures room { self.old.room ≤ self.new.room + 1 }
+        ensures same { KeepsTerms self.old self.new }
+        ensures work { KeepsWork self.old self.new }
+    {
+        self.contents
+            .restore(&self.terms, hash, key, value, queue, mark)
     }
 
     /// Fills the placeholder of that ticket with a value, which is marked where others waited for
