@@ -20,6 +20,8 @@ mod promises;
 #[cfg(test)]
 mod runs;
 #[cfg(test)]
+mod saved;
+#[cfg(test)]
 mod sessions;
 #[cfg(test)]
 mod weigher;

@@ -1,5 +1,5 @@
 //! What stands in a cache is looked up, or looked at.
-use quick_cache_unsync::Cache;
+use quick_cache_unsync::{Cache, Queue};
 use std::test::Fail;
 
 #[test]
@@ -109,6 +109,24 @@ fn hottest(rt: HostRuntime) -> Result<(), Fail> {
         keys = keys.saturating_mul(10).saturating_add(**key);
     }
     assert_eq!(rt; keys, 21);
+    Ok(())
+}
+
+#[test]
+fn saved_and_restored(rt: HostRuntime) -> Result<(), Fail> {
+    let mut cache: Cache<u64, u64> = Cache::new(rt.alloc(), 5)?;
+    cache.insert(1, 10)?;
+    cache.get(&1);
+    let mut again: Cache<u64, u64> = Cache::new(rt.alloc(), 5)?;
+    for (key, value, mark) in cache.saved(Queue::Hot) {
+        again.restore(*key, *value, Queue::Hot, mark)?;
+    }
+    // The pair has its mark again.
+    for (key, value, mark) in again.saved(Queue::Hot) {
+        assert_eq!(rt; (*key, *value, mark), (1, 10, 1));
+    }
+    // What stands is not put back once more.
+    assert_eq!(rt; again.restore(1, 11, Queue::Cold, 0), Err((1, 11, None)));
     Ok(())
 }
 

@@ -10,4 +10,5 @@ pub mod one_thread;
 pub mod options;
 pub mod room;
 pub mod runs;
+pub mod saved;
 pub mod served;

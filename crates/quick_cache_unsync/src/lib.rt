@@ -8,6 +8,7 @@ mod lifecycle;
 mod loading;
 mod many;
 mod removal;
+mod saving;
 mod sizes;
 mod walking;
 mod writing;
@@ -20,8 +21,8 @@ pub use lifecycle::DefaultLifecycle;
 pub use loading::guard::Guard;
 pub use loading::not_loaded::{LoadError, NotLoaded};
 pub use quick_cache_model::{
-    Bytes, BytesIn, DefaultHashBuilder, Equivalent, ItemStats, Lifecycle, MemoryUsed, Refusal,
-    Text, TextIn, ToKey, UnitWeighter, Weighter, hash_of,
+    Bytes, BytesIn, DefaultHashBuilder, Equivalent, ItemStats, Lifecycle, MemoryUsed, Queue,
+    Refusal, Text, TextIn, ToKey, UnitWeighter, Weighter, hash_of,
 };
 pub use quick_cache_options::options::{Options, OptionsBuilder};
 pub use quick_cache_shard::{CacheShard, Placeholder, Plainly};

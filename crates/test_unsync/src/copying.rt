@@ -5,4 +5,5 @@ pub mod clones;
 pub mod exactly;
 pub mod halves;
 pub mod numbered;
+pub mod restored;
 pub mod texts;
