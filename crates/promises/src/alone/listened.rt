@@ -1,7 +1,12 @@
 //! What the listeners, pins and weights that are ready made promise.
-ghost use Rattle.std.specs.Prelude.{◌≡◌, ◌<◌, ◌∷◌, [], Some, None, length, ◌==◌, ◌%◌};
+ghost use Rattle.std.specs.Prelude.{◌≡◌, ◌<◌, ◌∷◌, [], Some, None, length, ◌==◌, ◌%◌, ◌+◌, ◌^◌};
+ghost use Rattle.quick_cache_listeners.specs.declared.causes.cause.Cause.TheVariants.{Replaced};
+ghost use Rattle.quick_cache_listeners.specs.declared.causes.cause.Stage.TheVariants.{Armed};
 
-use quick_cache_listeners::{ByLength, Collect, Collected, OnLeave, Pin, PinBy};
+use quick_cache_listeners::{
+    ByLength, Cause, Collect, Collected, Counted, Counts, ListenerWhy, OnLeave, OnLeaveWhy, Pin,
+    PinBy, Request,
+};
 use quick_cache_model::{Lifecycle, Weighter};
 
 /// A text weighs as many as it has bytes.
@@ -46,4 +51,40 @@ pub fn lose_one(left: &mut Collected<u64, u64>, key: u64, value: u64)
     ensures { left.new.lost ≡ 1 }
 {
     OnLeave(Collect).on_evict_cold(left, key, value);
+}
+
+/// Keeps why the last pair left.
+#[derive(Drop)]
+pub struct LastCause;
+
+impl ListenerWhy<u64, u64> for LastCause {
+    type State = Option<Cause>;
+
+    ghost tells = { λ _ _ _ _ cause new. new ≡ Some cause };
+
+    fn tell(&self, last: &mut Option<Cause>, _key: u64, _val: u64, cause: Cause) {
+        *last = Some(cause);
+    }
+}
+
+/// What leaves first in a call, and is no victim, was replaced.
+pub fn hear_of_the_first(heard: &mut Request<Option<Cause>>, key: u64, value: u64)
+    ensures { heard.new.state ≡ Some Replaced }
+{
+    heard.begin();
+    OnLeaveWhy(LastCause).on_evict_hot(heard, key, value);
+}
+
+/// A victim of the cold ring is counted with its weight.
+pub fn count_a_victim(
+    counts: &mut Request<Counts<Collected<u64, &'static str>>>,
+    key: u64,
+    text: &'static str,
+)
+    requires victim { counts.old.stage ≡ Armed }
+    requires holds { counts.old.state.tallies.evicted_cold.weight + length text.now < 2 ^ 64 }
+    ensures { counts.new.state.tallies.evicted_cold.weight
+        ≡ counts.old.state.tallies.evicted_cold.weight + length text.now }
+{
+    Counted(ByLength, OnLeave(Collect)).on_evict_cold(counts, key, text);
 }
