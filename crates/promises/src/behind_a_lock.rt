@@ -1,6 +1,7 @@
 //! What those rely on who share the cache, or a shard of it.
 
 pub mod fitting;
+pub mod lives;
 pub mod loads;
 pub mod locked;
 pub mod many;

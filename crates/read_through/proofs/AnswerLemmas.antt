@@ -124,11 +124,12 @@ module _ {K V : Type 0} (gives : K → ℕ → V → Type 0) (equal : K → K �
       within = IsWithin-serves (life_of value moment) grace moment now serves;
     }
 
-    -- and a clone of what is stored is an answer, where that clone serves
+    -- and a clone of what is stored and serves is an answer, since it lives as long
     pub Answers-stored : (is_clone : V → V → Type 0) → GivesClones gives is_clone
         → (key : K) (moment now : ℕ) (value clone : V) → IsTrue (equal asked key)
-        → IsOf gives equal key moment value → Serves (life_of clone moment) moment now
+        → IsOf gives equal key moment value → Serves (life_of value moment) moment now
+        → life_of clone moment ≡ life_of value moment
         → is_clone value clone → Answers gives equal asked life_of now clone
-    Answers-stored is_clone clones key moment now value clone same source serves cloned =
+    Answers-stored is_clone clones key moment now value clone same source serves lives cloned =
         Answers-found key moment now clone same (IsOf-clone is_clone clones key moment value
-        clone cloned source) serves
+        clone cloned source) (subst (λ life. Serves life moment now) (sym lives) serves)

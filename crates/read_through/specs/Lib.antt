@@ -4,3 +4,4 @@ pub mod Looks
 pub mod Answers
 pub mod Loads
 pub mod Givens
+pub mod Counted

@@ -1,9 +1,25 @@
 -- A loader with its cache, as contracts see it.
-use Rattle.std.specs.Prelude.{ℕ}
+use Rattle.std.specs.Prelude.{ℕ, Bool, Option, Some, None}
+use Rattle.quick_cache_guard.specs.Futures.{Joining}
 
--- the loader, how long its values live, and for how long after that they may be answered where a
--- load fails
+-- the loader, how long its values live, for how long after that they may be answered where a load
+-- fails, and how many shards its cache has
 pub record Reading (L F : Type 0) : Type 0 where
   pub lives : L
   pub grace : ℕ
   pub loader : F
+  pub shards : ℕ
+
+-- A future that asks it for a key at a moment: once it waits, the source by which the placeholder of
+-- the key wakes it, and whether it has answered.
+pub record Asking (K L F : Type 0) : Type 0 where
+  pub reading : Reading L F
+  pub key : K
+  pub moment : ℕ
+  pub source : Option ℕ
+  pub is_finished : Bool
+
+-- the source for which one waits, where one does
+abbrev pub source_of : {Q : Type 0} → Option (Joining Q) → Option ℕ
+source_of (Some waiting) = waiting.source
+source_of None = None

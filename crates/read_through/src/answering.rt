@@ -1,14 +1,18 @@
 //! How an answer is found: under the lock to read where it serves, else by a guard.
-ghost use Rattle.std.specs.Prelude.{◌≡◌, IsTrue, Ok, Err, IfOk, IfSome};
+ghost use Rattle.std.specs.Prelude.{◌≡◌, ◌↔◌, IsTrue, Ok, Err, None, IfOk, IfErr, IfSome, false};
+ghost use Rattle.quick_cache_model.specs.declared.refusal.Refusal.TheVariants.{Memory};
+ghost use Rattle.quick_cache_guard.specs.Answers.{IsLoadRefusal};
+ghost use Rattle.quick_cache_guard.specs.Entries.{IfGivenBack, IfGuarded, IfRetained, IsRefusedAsLoad, is_late};
 ghost use Rattle.read_through.specs.Answers.{Answers, AnswersLate, GivesClones, IsOf};
 ghost use Rattle.read_through.specs.Givens.{IfFailed, IfFresh, IfStale};
-ghost use Rattle.read_through.specs.Looks.{IfRetain, ServesIfTold};
+ghost use Rattle.read_through.specs.Looks.{IfRetain, Stays};
+ghost use Rattle.read_through.specs.Moments.{Serves};
 
 use crate::fresh::Fresh;
 use crate::given::Given;
 use crate::lives::Lives;
 use crate::loaded::{Loaded, look};
-use crate::reading::ReadThrough;
+use crate::reading::{ReadThrough, ShardOf};
 use crate::source::Source;
 use quick_cache_guard::{EntryResult, GuardResult, LoadingShard, PlaceholderGuard};
 use quick_cache_model::{Refusal, Weighter};
@@ -48,12 +52,13 @@ impl<
         ensures stale { IfOk result (λ given. IfStale given (AnswersLate S.gives K.eq key.now
             (Li.life_of self.now.lives key.now) self.now.grace now)) }
         ensures error { IfOk result (λ given. IfFailed given (λ error. G.post load (Err error))) }
+        ensures refused { IfErr result IsLoadRefusal }
     {
         match self.cache.get_value_or_guard(rt, key, None) {
             GuardResult::Value(found) => {
                 let life = self.lives.life(key, &found.value, found.moment);
                 if !found.serves(life, now) {
-                    self.too_old.fetch_add(1, Ordering::SeqCst);
+                    self.not_hits.fetch_add(1, Ordering::SeqCst);
                     return self.answer_anew(rt, key, now, load);
                 }
                 if found.is_due(refresh_after, now) && self.claims(rt, key, now, refresh_after) {
@@ -66,12 +71,13 @@ impl<
                 Ok(fill_with(&mut guard, key, now, load()))
             }
             GuardResult::Timeout => unreachable!(),
+            // What could not be cloned may be too old to be.
+            GuardResult::Refused(Refusal::Memory) => self.answer_anew(rt, key, now, load),
             GuardResult::Refused(refusal) => Err(refusal),
         }
     }
 
-    /// The same where what was found is too old: by an entry call, since another may have loaded the
-    /// key anew by now.
+    /// The same where what was found is too old, or could not be cloned.
     fn answer_anew<R: Wait + Clock, E: Drop, G: FnOnce() -> Result<V, E>>(
         &self,
         rt: &R,
@@ -88,17 +94,10 @@ impl<
         ensures stale { IfOk result (λ given. IfStale given (AnswersLate S.gives K.eq key.now
             (Li.life_of self.now.lives key.now) self.now.grace now)) }
         ensures error { IfOk result (λ given. IfFailed given (λ error. G.post load (Err error))) }
+        ensures refused { IfErr result IsLoadRefusal }
     {
-        let lives = &self.lives;
-        let mut looks = |_key: &K, loaded: &mut Loaded<V>| -> EntryAction<Result<V, Refusal>>
-            ensures same { loaded.new ≡ loaded.old }
-            ensures serves { ServesIfTold (Li.life_of lives.entry.now key.entry.now)
-                loaded.old.moment now result }
-            ensures told { IfRetain result (λ told. IfOk told (V.is_clone loaded.old.value)) }
-        { look(loaded, lives, key, now) };
-        match self.cache.entry(rt, key, None, &mut looks) {
-            EntryResult::Retained(Ok(value)) => Ok(Ok(Given::Fresh(value))),
-            EntryResult::Retained(Err(refusal)) => Err(refusal),
+        match self.look_anew(rt, key, now, None) {
+            EntryResult::Retained(value) => Ok(Ok(Given::Fresh(value))),
             EntryResult::Replaced(guard, old) => {
                 let mut guard = Some(guard);
                 Ok(self.fill_or_keep(&mut guard, key, now, old, load()))
@@ -114,6 +113,63 @@ impl<
         }
     }
 
+    /// Looks at what is stored under the key once more, by an entry call, since another may have
+    /// loaded it anew by now, and since that sees the value itself: a clone of what serves, or the
+    /// right to load what does not.
+    pub(crate) fn look_anew<'a, R: Wait + Clock>(
+        &'a self,
+        rt: &'a R,
+        key: &K,
+        now: u64,
+        limit: Option<Duration>,
+    ) -> EntryResult<
+        V,
+        K,
+        Loaded<V>,
+        PlaceholderGuard<'a, K, Loaded<V>, Fresh<S>, ShardOf<K, V, S, A, We>, R, A>,
+    >
+        requires keys { (copy : K) → K.is_clone key.now copy → IsTrue (K.eq key.now copy) }
+        requires clones { GivesClones S.gives V.is_clone }
+        ensures fresh { IfRetained result
+            (Answers S.gives K.eq key.now (Li.life_of self.now.lives key.now) now) }
+        // What gave its place was the source's, and was over.
+        ensures source { IfGivenBack result (λ old.
+            IsOf S.gives K.eq key.now old.moment old.value) }
+        ensures over { IfGivenBack result (λ old.
+            Serves (Li.life_of self.now.lives key.now old.value old.moment) old.moment now → ⊥) }
+        ensures key { IfGuarded result (λ own. IsTrue (K.eq key.now own)) }
+        ensures refused { IsRefusedAsLoad result }
+        ensures timely { limit ≡ None → is_late result ≡ false }
+    {
+        let lives = &self.lives;
+        let mut looks = |_key: &K, loaded: &mut Loaded<V>| -> EntryAction<Result<V, Refusal>>
+            ensures same { loaded.new ≡ loaded.old }
+            ensures serves { Stays result ↔ Serves
+                (Li.life_of lives.entry.now key.entry.now loaded.old.value loaded.old.moment)
+                loaded.old.moment now }
+            ensures told { IfRetain result (λ told. IfOk told (V.is_clone loaded.old.value)) }
+            ensures refused { IfRetain result (λ told. IfErr told (λ refusal. refusal ≡ Memory)) }
+        { look(loaded, lives, key, now) };
+        match self.cache.entry(rt, key, limit, &mut looks) {
+            EntryResult::Retained(Ok(value)) => EntryResult::Retained(value),
+            EntryResult::Retained(Err(refusal)) => {
+                self.not_hits.fetch_add(1, Ordering::SeqCst);
+                EntryResult::Refused(refusal)
+            }
+            EntryResult::Replaced(guard, old) => {
+                self.too_old.fetch_add(1, Ordering::SeqCst);
+                EntryResult::Replaced(guard, old)
+            }
+            EntryResult::Removed(own, old) => {
+                self.too_old.fetch_add(1, Ordering::SeqCst);
+                EntryResult::Removed(own, old)
+            }
+            EntryResult::Vacant(guard) => EntryResult::Vacant(guard),
+            EntryResult::Timeout => EntryResult::Timeout,
+            EntryResult::Refused(refusal) => EntryResult::Refused(refusal),
+        }
+    }
+
     /// Whether this call is to ask the loader anew for a value that serves: where nobody has within
     /// that time, this is the moment at which it was asked last from now on.
     fn claims<R: Wait + Clock>(&self, rt: &R, key: &K, now: u64, refresh_after: u64) -> bool
@@ -125,7 +181,7 @@ impl<
         { EntryAction::Retain(loaded.claim(refresh_after, now)) };
         match self.cache.entry(rt, key, Some(Duration::ZERO), &mut claims) {
             EntryResult::Retained(claimed) => {
-                self.looked_again.fetch_add(1, Ordering::SeqCst);
+                self.not_hits.fetch_add(1, Ordering::SeqCst);
                 claimed
             }
             _ => false,
@@ -224,7 +280,7 @@ fn as_given<V, E>(loaded: Result<V, E>) -> Result<Given<V, E>, E>
     }
 }
 
-/// Puts a clone of what was loaded in by the guard, and answers it.
+/// What was loaded, of which a clone is put in by the guard.
 fn fill_with<
     K: Eq + Hash + Drop,
     V: Clone + Drop,
@@ -247,13 +303,33 @@ fn fill_with<
     ensures failed { IfFailed result (λ error. loaded ≡ Err error) }
 {
     match loaded {
-        Ok(value) => {
-            let loaded = Loaded::at(value, now);
-            fill_by(guard, key, &loaded);
-            Ok(Given::Fresh(loaded.value))
-        }
+        Ok(value) => Ok(Given::Fresh(store(guard, key, now, value))),
         Err(error) => Err(error),
     }
+}
+
+/// Puts a clone of what was loaded now in by the guard, and gives it back.
+pub(crate) fn store<
+    K: Eq + Hash + Drop,
+    V: Clone + Drop,
+    S: Source<K, V>,
+    T: LoadingShard<K, Loaded<V>, Fresh<S>, A>,
+    R: Wait,
+    A: Allocator,
+>(
+    guard: &mut Option<PlaceholderGuard<'_, K, Loaded<V>, Fresh<S>, T, R, A>>,
+    key: &K,
+    now: u64,
+    value: V,
+) -> V
+    requires same { IfSome guard.old (λ guard. IsTrue (K.eq key.now guard)) }
+    requires gave { S.gives key.now now value }
+    requires clones { GivesClones S.gives V.is_clone }
+    ensures { result ≡ value }
+{
+    let loaded = Loaded::at(value, now);
+    fill_by(guard, key, &loaded);
+    loaded.value
 }
 
 /// Puts a clone of what was loaded in by the guard, which is let go where there is none. It is taken

@@ -1,9 +1,11 @@
 //! Answers: what is stored and still lives, or what the loader gives.
-ghost use Rattle.std.specs.Prelude.{◌≡◌, IsTrue, Ok, Err, IfOk, IfErr};
+ghost use Rattle.std.specs.Prelude.{◌≡◌, IsTrue, Ok, Err, IfOk, IfErr, false};
+ghost use Rattle.quick_cache_guard.specs.Answers.{IsLoadRefusal};
 ghost use Rattle.read_through.specs.Answers.{Answers, AnswersLate, GivesClones};
 ghost use Rattle.read_through.specs.Givens.{IfFailed, IfFresh, IfStale};
 ghost use Rattle.read_through.specs.Loads.{Loads, LoadsFrom, LoadsOkFrom};
 
+use crate::future::GetFuture;
 use crate::given::Given;
 use crate::lives::Lives;
 use crate::reading::ReadThrough;
@@ -31,7 +33,8 @@ impl<
     ///
     /// # Errors
     ///
-    /// Why there is no entry to look at, or no clone of its value. The loader was not called then.
+    /// Why there is no entry to look at, or no clone of a value that serves. The loader was not called
+    /// then.
     pub fn get<R: Wait + Clock>(&self, rt: &R, key: &K, now: u64) -> Result<V, Refusal>
     where
         F: Fn(&K, u64) -> V,
@@ -43,11 +46,32 @@ impl<
         // Whatever other threads do, the value is the source's for the key, and fresh.
         ensures fresh { IfOk result
             (Answers S.gives K.eq key.now (Li.life_of self.now.lives key.now) now) }
+        ensures refused { IfErr result IsLoadRefusal }
     {
         self.get_or_refresh(rt, key, now, u64::MAX)
     }
 
-    /// The same, and where the value serves and its loader was last asked longer ago than
+    /// A future that gives the value of the key, as `get` does. What it gives, and what a poll asks of
+    /// the loader, is said on `GetFuture`. The call takes no lock; a poll does.
+    pub fn get_async<'a, R: Wait + Clock>(
+        &'a self,
+        rt: &'a R,
+        key: &'a K,
+        now: u64,
+    ) -> GetFuture<'a, K, V, F, S, A, Li, We, R>
+    where
+        F: Fn(&K, u64) -> V,
+        requires keys { (copy : K) → K.is_clone key.now copy → IsTrue (K.eq key.now copy) }
+        requires clones { GivesClones S.gives V.is_clone }
+        ensures reading { result.reading ≡ self.now }
+        ensures key { result.key ≡ key.now }
+        ensures moment { result.moment ≡ now }
+        ensures begins { result.is_finished ≡ false }
+    {
+        GetFuture::new(rt, self, key, now)
+    }
+
+    /// As `get`, and where the value serves and its loader was last asked longer ago than
     /// `refresh_after`, this call asks it anew, stores what it gives and answers that; all others
     /// are answered the old value meanwhile.
     ///
@@ -69,6 +93,7 @@ impl<
         requires clones { GivesClones S.gives V.is_clone }
         ensures fresh { IfOk result
             (Answers S.gives K.eq key.now (Li.life_of self.now.lives key.now) now) }
+        ensures refused { IfErr result IsLoadRefusal }
     {
         let loader = &self.loader;
         let load = || -> Result<V, Infallible>
@@ -81,6 +106,17 @@ impl<
             Ok(Err(never)) => match never {},
             Err(refusal) => Err(refusal),
         }
+    }
+
+    /// What the loader gives for the key at the moment.
+    pub(crate) fn load(&self, key: &K, now: u64) -> V
+    where
+        F: Fn(&K, u64) -> V,
+        requires callable { F.IsAlwaysCallable self.now.loader }
+        requires loads { LoadsFrom F.Fn self.now.loader S.gives }
+        ensures { S.gives key.now now result }
+    {
+        (self.loader)(key, now)
     }
 
     /// As `get`, where the loader may fail. Its error is stored nowhere, and given to the caller that
@@ -106,6 +142,7 @@ impl<
         // The error is the loader's, for this key at this moment.
         ensures error { IfOk result (λ loaded. IfErr loaded
             (λ error. Loads F.Fn self.now.loader key.now now (Err error))) }
+        ensures refused { IfErr result IsLoadRefusal }
     {
         match self.try_get_or_refresh(rt, key, now, u64::MAX) {
             Ok(Ok(Given::Fresh(value))) => Ok(Ok(value)),
@@ -142,6 +179,7 @@ impl<
             (Li.life_of self.now.lives key.now) self.now.grace now)) }
         ensures error { IfOk result (λ given. IfFailed given
             (λ error. Loads F.Fn self.now.loader key.now now (Err error))) }
+        ensures refused { IfErr result IsLoadRefusal }
     {
         let loader = &self.loader;
         let load = || -> Result<V, E>

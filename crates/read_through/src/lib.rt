@@ -5,6 +5,7 @@
 mod answering;
 mod by_value;
 mod fresh;
+mod future;
 mod gets;
 mod given;
 mod lives;
@@ -13,6 +14,7 @@ mod reading;
 mod source;
 
 pub use by_value::ByValue;
+pub use future::GetFuture;
 pub use given::{Given, Stats};
 pub use lives::{ByAnswer, Lasting, Lives};
 pub use loaded::Loaded;

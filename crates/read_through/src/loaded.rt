@@ -1,6 +1,7 @@
 //! A value that was loaded, with its moment.
-ghost use Rattle.std.specs.Prelude.{◌≡◌, ◌↔◌, IsTrue, IfOk};
-ghost use Rattle.read_through.specs.Looks.{IfRetain, ServesIfTold};
+ghost use Rattle.std.specs.Prelude.{◌≡◌, ◌↔◌, IsTrue, IfOk, IfErr};
+ghost use Rattle.quick_cache_model.specs.declared.refusal.Refusal.TheVariants.{Memory};
+ghost use Rattle.read_through.specs.Looks.{IfRetain, Stays};
 ghost use Rattle.read_through.specs.Moments.{IsWithin, Serves};
 
 use crate::lives::Lives;
@@ -77,26 +78,25 @@ impl<V> Loaded<V> {
     }
 }
 
-/// What becomes of an entry at a moment: where it serves it stays, and a clone is told, or why there
-/// is none; else it gives its place to a guard.
+/// What becomes of an entry at a moment: where it serves it stays, and a clone is told, or that there
+/// is no memory for one; else it gives its place to a guard.
 pub(crate) fn look<K, V: Clone, Li: Lives<K, V>>(
     loaded: &Loaded<V>,
     lives: &Li,
     key: &K,
     now: u64,
 ) -> EntryAction<Result<V, Refusal>>
-    ensures serves { ServesIfTold (Li.life_of lives.now key.now) loaded.now.moment now result }
+    ensures serves { Stays result ↔ Serves
+        (Li.life_of lives.now key.now loaded.now.value loaded.now.moment) loaded.now.moment now }
     ensures told { IfRetain result (λ told. IfOk told (V.is_clone loaded.now.value)) }
+    ensures refused { IfRetain result (λ told. IfErr told (λ refusal. refusal ≡ Memory)) }
 {
+    let life = lives.life(key, &loaded.value, loaded.moment);
+    if !loaded.serves(life, now) {
+        return EntryAction::ReplaceWithGuard;
+    }
     match loaded.value.clone() {
-        Ok(value) => {
-            let life = lives.life(key, &value, loaded.moment);
-            if loaded.serves(life, now) {
-                EntryAction::Retain(Ok(value))
-            } else {
-                EntryAction::ReplaceWithGuard
-            }
-        }
+        Ok(value) => EntryAction::Retain(Ok(value)),
         Err(_) => EntryAction::Retain(Err(Refusal::Memory)),
     }
 }

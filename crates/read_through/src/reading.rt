@@ -1,20 +1,35 @@
 //! The loader with its cache.
-ghost use Rattle.std.specs.Prelude.{◌≡◌, IfOk, IfErr, IfSome};
-ghost use Rattle.quick_cache_model.specs.declared.refusal.Refusal.TheVariants.{Memory};
+ghost use Rattle.std.specs.Prelude.{◌≡◌, ◌⊎◌, ℕ, ◌+◌, ◌-◌, ◌^◌, ◌≤◌, min, IfOk, IfErr, IfSome};
+ghost use Rattle.quick_cache_model.specs.declared.refusal.Refusal.TheVariants.{Memory, SlotsFull};
+ghost use Rattle.quick_cache_model.specs.Sizes.{IsShardCount};
+ghost use Rattle.quick_cache_options.specs.Options.{default_shards};
+ghost use Rattle.quick_cache_locked.specs.declared.count.Count.TheVariants.{Items, Hits, Misses};
 ghost use Rattle.read_through.specs.Answers.{IsOf};
+ghost use Rattle.read_through.specs.Counted.{Counted};
 
 use crate::by_value::ByValue;
 use crate::fresh::Fresh;
 use crate::given::Stats;
 use crate::loaded::Loaded;
 use crate::source::{AnySource, Source};
-use quick_cache_model::{DefaultHashBuilder, Refusal, UnitWeighter, Weighter};
+use quick_cache_locked::LockedShard;
+use quick_cache_model::{DefaultHashBuilder, Lifecycle, Refusal, UnitWeighter, Weighter};
 use quick_cache_sync::Cache;
 use std::alloc::{Allocator, Global};
 use std::hash::Hash;
 use std::marker::Model;
 use std::sync::Wait;
 use std::sync::atomic::{AtomicU64, Ordering};
+
+/// A shard of that cache, as its lock keeps it.
+pub(crate) type ShardOf<K, V, S, A, We> = LockedShard<
+    K,
+    Loaded<V>,
+    ByValue<We>,
+    DefaultHashBuilder,
+    Fresh<S>,
+    A,
+>;
 
 /// A loader, `F: Fn(&K, u64) -> V`, and the cache of what it gave, which threads share by reference.
 /// `S` says for contracts what the loader gives, and `Li` how long that lives.
@@ -34,10 +49,11 @@ pub struct ReadThrough<
     pub(crate) lives: Li,
     pub(crate) grace: u64,
     pub(crate) loader: F,
-    // How many gets found what is too old, each of which the cache counted as a hit.
+    // How many gets found what is too old, which the cache counts as no miss.
     pub(crate) too_old: AtomicU64,
-    // How many looked once more at what serves, which the cache counted as a hit besides.
-    pub(crate) looked_again: AtomicU64,
+    // How many hits of the cache are none here: of what was too old, or had no clone, or was looked at
+    // once more.
+    pub(crate) not_hits: AtomicU64,
 }
 
 impl<K: Eq + Hash + Drop, V: Drop, F, S: Source<K, V>, A: Allocator, Li, We> Model
@@ -50,6 +66,7 @@ impl<K: Eq + Hash + Drop, V: Drop, F, S: Source<K, V>, A: Allocator, Li, We> Mod
       lives = reading.lives;
       grace = reading.grace;
       loader = reading.loader;
+      shards = reading.cache.shards;
     } };
 }
 
@@ -73,6 +90,7 @@ impl<K: Eq + Hash + Drop, V: Drop, F, S: Source<K, V>, A: Allocator, Li> ReadThr
         A: Clone,
         F: Drop,
         Li: Drop,
+        ensures shards { IfOk result (λ made. IsShardCount default_shards capacity made.shards) }
         ensures lives { IfOk result (λ made. made.lives ≡ lives) }
         ensures grace { IfOk result (λ made. made.grace ≡ 0) }
         ensures loader { IfOk result (λ made. made.loader ≡ loader) }
@@ -118,6 +136,7 @@ impl<K: Eq + Hash + Drop, V: Drop, F, S: Source<K, V>, A: Allocator, Li, We> Rea
         F: Drop,
         Li: Drop,
         We: Clone + Drop,
+        ensures shards { IfOk result (λ made. IsShardCount default_shards items made.shards) }
         ensures lives { IfOk result (λ made. made.lives ≡ lives) }
         ensures grace { IfOk result (λ made. made.grace ≡ 0) }
         ensures loader { IfOk result (λ made. made.loader ≡ loader) }
@@ -137,7 +156,7 @@ impl<K: Eq + Hash + Drop, V: Drop, F, S: Source<K, V>, A: Allocator, Li, We> Rea
             grace: 0,
             loader,
             too_old: AtomicU64::new(0),
-            looked_again: AtomicU64::new(0),
+            not_hits: AtomicU64::new(0),
         })
     }
 
@@ -147,6 +166,7 @@ impl<K: Eq + Hash + Drop, V: Drop, F, S: Source<K, V>, A: Allocator, Li, We> Rea
         ensures lives { result.lives ≡ self.lives }
         ensures grace { result.grace ≡ grace }
         ensures loader { result.loader ≡ self.loader }
+        ensures shards { result.shards ≡ self.shards }
     {
         self.grace = grace;
         self
@@ -161,6 +181,7 @@ impl<K: Eq + Hash + Drop, V: Drop, F, S: Source<K, V>, A: Allocator, Li, We> Rea
     where
         We: Weighter<K, V>,
         requires gives { S.gives key now value }
+        ensures refused { IfErr result (λ refusal. refusal ≡ Memory ⊎ refusal ≡ SlotsFull) }
     {
         self.cache.put(rt, key, Loaded::at(value, now))
     }
@@ -190,21 +211,29 @@ impl<K: Eq + Hash + Drop, V: Drop, F, S: Source<K, V>, A: Allocator, Li, We> Rea
     }
 
     /// How many values are stored, fresh or not.
-    pub fn len<R: Wait>(&self, rt: &R) -> usize {
+    pub fn len<R: Wait>(&self, rt: &R) -> usize
+        ensures answers { Counted We ⟦<Fresh<S> as Lifecycle<K, Loaded<V>>>⟧ K.eq Items
+            self.now.shards result }
+    {
         self.cache.len(rt)
     }
 
     /// What the gets found. One that found a value that was being loaded counts as a hit.
-    pub fn stats<R: Wait>(&self, rt: &R) -> Stats {
+    pub fn stats<R: Wait>(&self, rt: &R) -> Stats
+        // Its misses are those of the cache behind it and what was too old; it tells no more hits.
+        ensures misses { (counted : ℕ) × Counted We ⟦<Fresh<S> as Lifecycle<K, Loaded<V>>>⟧ K.eq
+            Misses self.now.shards counted
+            × (result.misses ≡ min (counted + result.too_old) (2 ^ 64 - 1)) }
+        ensures hits { (counted : ℕ) × Counted We ⟦<Fresh<S> as Lifecycle<K, Loaded<V>>>⟧ K.eq
+            Hits self.now.shards counted × (result.hits ≤ counted) }
+    {
         let too_old = self.too_old.load(Ordering::SeqCst);
-        let again = self.looked_again.load(Ordering::SeqCst);
+        let not_hits = self.not_hits.load(Ordering::SeqCst);
+        let hits = self.cache.hits(rt);
+        let misses = self.cache.misses(rt);
         Stats {
-            hits: self
-                .cache
-                .hits(rt)
-                .saturating_sub(too_old)
-                .saturating_sub(again),
-            misses: self.cache.misses(rt).saturating_add(too_old),
+            hits: hits.saturating_sub(not_hits),
+            misses: misses.saturating_add(too_old),
             too_old,
         }
     }

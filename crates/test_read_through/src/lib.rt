@@ -17,4 +17,6 @@ mod rows;
 #[cfg(test)]
 mod stamps;
 #[cfg(test)]
+mod tasks;
+#[cfg(test)]
 mod tokens;

@@ -2,7 +2,7 @@
 ghost use Rattle.std.specs.Prelude.{◌≡◌};
 
 use crate::hundreds::hundreds;
-use read_through::{AnySource, ReadThrough, Refusal};
+use read_through::{AnySource, ReadThrough, Refusal, Stats};
 use std::alloc::{AllocError, Global};
 use std::sync::atomic::{AtomicU64, Ordering};
 use test_tools::{Rationed, expect_eq, expect_ok};
@@ -72,6 +72,8 @@ fn what_cannot_be_stored_is_answered(rt: HostRuntime) {
         (2, 7, Ok(107), 1),
         (0, 8, Err(Refusal::Memory), 1),
         (1, 9, Ok(107), 1),
+        // What is too old needs no clone to give its place.
+        (0, 17, Ok(117), 0),
     ];
     for (clones, now, answer, len) in rows {
         left.store(clones, Ordering::SeqCst);
@@ -81,4 +83,11 @@ fn what_cannot_be_stored_is_answered(rt: HostRuntime) {
         };
         assert_eq!(rt; (got, loaded.len(&rt)), (answer, len), "at {now}");
     }
+    // A get that was refused counts as nothing.
+    let stats = Stats {
+        hits: 1,
+        misses: 4,
+        too_old: 1,
+    };
+    expect_eq!(rt; loaded.stats(&rt), stats);
 }

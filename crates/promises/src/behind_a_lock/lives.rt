@@ -1,0 +1,139 @@
+//! What those rely on who ask a loader with its cache, where each answer has a life of its own.
+ghost use Rattle.std.specs.Prelude.{◌≡◌, ◌⊎◌, ◌+◌, ◌<◌, ◌≤◌, IfErr, IfOk, IfSome};
+ghost use Rattle.quick_cache_model.specs.declared.refusal.Refusal.TheVariants.{Memory, SlotsFull};
+ghost use Rattle.read_through.specs.Loads.{LoadsFrom, LoadsOkFrom};
+
+use futures::Future;
+use futures::task::{Context, Poll};
+use read_through::{ByAnswer, Given, Lasting, Loaded, ReadThrough, Refusal, Source};
+use std::alloc::Global;
+use std::sync::Wait;
+use std::time::Clock;
+
+/// An address, which tells its name and the moment at which it was asked for.
+#[derive(Clone, Drop)]
+pub struct Address {
+    pub name: u64,
+    pub asked: u64,
+}
+
+/// What a server says: an address of the name, asked for at the moment.
+pub struct Server;
+
+impl Source<u64, Lasting<Address>> for Server {
+    ghost gives = { λ name moment answer.
+        (answer.value.name ≡ name) × (answer.value.asked ≡ moment) };
+}
+
+/// Answers of such a server, each for as long as it says.
+pub type Addresses<F> = ReadThrough<u64, Lasting<Address>, F, Server, Global, ByAnswer>;
+
+/// An answer is of the name, and its life is not over; what has none is of this very moment.
+pub fn get_living<R: Wait + Clock, F: Fn(&u64, u64) -> Lasting<Address>>(
+    rt: &R,
+    addresses: &Addresses<F>,
+    name: u64,
+    now: u64,
+) -> Result<Lasting<Address>, Refusal>
+    requires callable { F.IsAlwaysCallable addresses.now.loader }
+    requires says { LoadsFrom F.Fn addresses.now.loader
+        ⟦<Server as Source<u64, Lasting<Address>>>⟧.gives }
+    ensures name { IfOk result (λ answer. answer.value.name ≡ name) }
+    ensures lives { IfOk result (λ answer. 0 < answer.life
+        → now < answer.value.asked + answer.life) }
+    ensures own { IfOk result (λ answer. answer.life ≡ 0 → answer.value.asked ≡ now) }
+{
+    addresses.get(rt, &name, now)
+}
+
+/// So is one that may be asked for anew.
+pub fn refresh_living<R: Wait + Clock, F: Fn(&u64, u64) -> Lasting<Address>>(
+    rt: &R,
+    addresses: &Addresses<F>,
+    name: u64,
+    now: u64,
+    refresh_after: u64,
+) -> Result<Lasting<Address>, Refusal>
+    requires callable { F.IsAlwaysCallable addresses.now.loader }
+    requires says { LoadsFrom F.Fn addresses.now.loader
+        ⟦<Server as Source<u64, Lasting<Address>>>⟧.gives }
+    ensures name { IfOk result (λ answer. answer.value.name ≡ name) }
+    ensures lives { IfOk result (λ answer. 0 < answer.life
+        → now < answer.value.asked + answer.life) }
+    ensures own { IfOk result (λ answer. answer.life ≡ 0 → answer.value.asked ≡ now) }
+{
+    addresses.get_or_refresh(rt, &name, now, refresh_after)
+}
+
+/// So is one that a task is given, by the first poll or by a later one.
+pub fn poll_living<R: Wait + Clock, F: Fn(&u64, u64) -> Lasting<Address>>(
+    rt: &R,
+    addresses: &Addresses<F>,
+    name: u64,
+    now: u64,
+    cx: &mut Context<'_>,
+) -> Option<Lasting<Address>>
+    requires callable { F.IsAlwaysCallable addresses.now.loader }
+    requires says { LoadsFrom F.Fn addresses.now.loader
+        ⟦<Server as Source<u64, Lasting<Address>>>⟧.gives }
+    ensures name { IfSome result (λ answer. answer.value.name ≡ name) }
+    ensures lives { IfSome result (λ answer. 0 < answer.life
+        → now < answer.value.asked + answer.life) }
+    ensures own { IfSome result (λ answer. answer.life ≡ 0 → answer.value.asked ≡ now) }
+{
+    let mut asks = addresses.get_async(rt, &name, now);
+    match asks.poll(cx) {
+        Poll::Ready(Ok(answer)) => Some(answer),
+        Poll::Ready(Err(_)) => None,
+        Poll::Pending => None,
+    }
+}
+
+/// Where the server may be away, an old answer is of the name too, and within its life and the grace.
+pub fn refresh_or_keep<R: Wait + Clock, F: Fn(&u64, u64) -> Result<Lasting<Address>, u8>>(
+    rt: &R,
+    addresses: &Addresses<F>,
+    name: u64,
+    now: u64,
+    refresh_after: u64,
+) -> Option<Lasting<Address>>
+    requires callable { F.IsAlwaysCallable addresses.now.loader }
+    requires says { LoadsOkFrom F.Fn addresses.now.loader
+        ⟦<Server as Source<u64, Lasting<Address>>>⟧.gives }
+    ensures name { IfSome result (λ answer. answer.value.name ≡ name) }
+    ensures late { IfSome result (λ answer.
+        now ≤ answer.value.asked + answer.life + addresses.now.grace) }
+{
+    match addresses.try_get_or_refresh(rt, &name, now, refresh_after) {
+        Ok(Ok(Given::Fresh(answer))) => Some(answer),
+        Ok(Ok(Given::Stale { value, .. })) => Some(value),
+        Ok(Err(_)) => None,
+        Err(_) => None,
+    }
+}
+
+/// A put is refused for want of memory or of a slot.
+pub fn put_or_tell_why<R: Wait, F>(
+    rt: &R,
+    addresses: &Addresses<F>,
+    name: u64,
+    now: u64,
+    life: u64,
+) -> Result<(), Refusal>
+    ensures why { IfErr result (λ refusal. refusal ≡ Memory ⊎ refusal ≡ SlotsFull) }
+{
+    let value = Address { name, asked: now };
+    addresses.put(rt, name, Lasting { value, life }, now)
+}
+
+/// What is taken out is of the name, and was asked for at the moment that stands beside it.
+pub fn take_address<R: Wait, F>(
+    rt: &R,
+    addresses: &Addresses<F>,
+    name: u64,
+) -> Option<Loaded<Lasting<Address>>>
+    ensures name { IfSome result (λ loaded. loaded.value.value.name ≡ name) }
+    ensures moment { IfSome result (λ loaded. loaded.value.value.asked ≡ loaded.moment) }
+{
+    addresses.remove(rt, &name)
+}

@@ -1,0 +1,295 @@
+//! The value of a key for a task, which waits without a thread.
+ghost use Rattle.std.specs.Prelude.{◌≡◌, ◌⊎◌, IsTrue, true, false, Err, IfErr, IfOk, IfSome, IsSome};
+ghost use Rattle.std.specs.Option.{IsSomeAnd};
+ghost use Rattle.futures.specs.Poll.{IfReady, OnPending};
+ghost use Rattle.futures.specs.Task.{Covers, Keeps};
+ghost use Rattle.quick_cache_guard.specs.Answers.{IsLoadRefusal};
+ghost use Rattle.read_through.specs.Answers.{Answers, GivesClones, IsOf};
+ghost use Rattle.read_through.specs.Loads.{LoadsFrom};
+
+use crate::answering::store;
+use crate::fresh::Fresh;
+use crate::lives::Lives;
+use crate::loaded::Loaded;
+use crate::reading::{ReadThrough, ShardOf};
+use crate::source::Source;
+use futures::Future;
+use futures::task::{Context, Poll};
+use quick_cache_guard::tasks::ValueOrGuard;
+use quick_cache_guard::{EntryResult, PlaceholderGuard};
+use quick_cache_model::{Refusal, Weighter};
+use std::alloc::Allocator;
+use std::hash::Hash;
+use std::marker::Model;
+use std::sync::Wait;
+use std::sync::atomic::Ordering;
+use std::time::{Clock, Duration};
+
+/// Gives the value of the key, as `get` does for a thread.
+///
+/// A poll takes the lock of the key's shard and that of a placeholder's state, and waits for nothing
+/// else but the loader, which it calls itself, under no lock, once it has the guard. One that is
+/// pending has left its waker with the one who loads the key, or has asked to be polled again.
+/// Polled after its answer it is refused as `Finished`. Dropped, it waits no more, as `ValueOrGuard`.
+#[derive(Drop)]
+pub struct GetFuture<
+    'a,
+    K: Eq + Hash + Clone + Drop,
+    V: Clone + Drop,
+    F,
+    S: Source<K, V>,
+    A: Allocator + Clone,
+    Li,
+    We: Weighter<K, V>,
+    R: Wait,
+> {
+    rt: &'a R,
+    reading: &'a ReadThrough<K, V, F, S, A, Li, We>,
+    key: &'a K,
+    now: u64,
+    waiting: Option<ValueOrGuard<'a, 'a, K, K, Loaded<V>, Fresh<S>, ShardOf<K, V, S, A, We>, R, A>>,
+    is_finished: bool,
+}
+
+impl<
+    'a,
+    K: Eq + Hash + Clone + Drop,
+    V: Clone + Drop,
+    F,
+    S: Source<K, V>,
+    A: Allocator + Clone,
+    Li,
+    We: Weighter<K, V>,
+    R: Wait,
+> Model for GetFuture<'a, K, V, F, S, A, Li, We, R> {
+    ghost use Rattle.std.specs.Prelude.{◌≡◌, IsTrue, IfSome, false};
+    ghost use Rattle.read_through.specs.Answers.{GivesClones};
+    ghost use Rattle.read_through.specs.Reading.{Asking, source_of};
+
+    ghost Value = { Asking K Li F };
+
+    ghost view = { λ f. record {
+      reading = f.reading.now;
+      key = f.key.now;
+      moment = f.now;
+      source = source_of f.waiting;
+      is_finished = f.is_finished;
+    } };
+
+    ghost invariant = { λ f. ((copy : K) → K.is_clone f.key.now copy
+        → IsTrue (K.eq f.key.now copy))
+        × GivesClones S.gives V.is_clone
+        × IfSome f.waiting (λ waiting. (waiting.query ≡ f.key.now)
+        × (waiting.is_finished ≡ false)) };
+}
+
+impl<
+    'a,
+    K: Eq + Hash + Clone + Drop,
+    V: Clone + Drop,
+    F: Fn(&K, u64) -> V,
+    S: Source<K, V>,
+    A: Allocator + Clone,
+    Li: Lives<K, V>,
+    We: Weighter<K, V>,
+    R: Wait + Clock,
+> GetFuture<'a, K, V, F, S, A, Li, We, R> {
+    /// A future that has not begun. It takes no lock.
+    pub(crate) fn new(
+        rt: &'a R,
+        reading: &'a ReadThrough<K, V, F, S, A, Li, We>,
+        key: &'a K,
+        now: u64,
+    ) -> Self
+        requires keys { (copy : K) → K.is_clone key.now copy → IsTrue (K.eq key.now copy) }
+        requires clones { GivesClones S.gives V.is_clone }
+        ensures reading { result.reading ≡ reading.now }
+        ensures key { result.key ≡ key.now }
+        ensures moment { result.moment ≡ now }
+        ensures begins { result.is_finished ≡ false }
+    {
+        GetFuture {
+            rt,
+            reading,
+            key,
+            now,
+            waiting: None,
+            is_finished: false,
+        }
+    }
+
+    /// A poll, which keeps what is asked.
+    pub fn go_on(&mut self, cx: &mut Context<'_>) -> Poll<Result<V, Refusal>>
+        requires callable { F.IsAlwaysCallable self.old.reading.loader }
+        requires loads { LoadsFrom F.Fn self.old.reading.loader S.gives }
+        ensures fresh { IfReady result (λ answer. IfOk answer (Answers S.gives K.eq self.old.key
+            (Li.life_of self.old.reading.lives self.old.key) self.old.moment)) }
+        // It answers once; then it is refused as `Finished`.
+        ensures finished { IfReady result (λ _. self.new.is_finished ≡ true) }
+        ensures refused { self.old.is_finished ≡ true
+            → result ≡ Poll.Ready (Err Refusal.Finished) }
+        ensures goes_on { OnPending result (self.new.is_finished ≡ self.old.is_finished) }
+        // A pending poll has its place, or has asked for another.
+        ensures place { OnPending result
+            ((cx.new.is_woken ≡ true) ⊎ IsSome self.new.source) }
+        ensures same { self.new ≡ record self.old {
+          source = self.new.source;
+          is_finished = self.new.is_finished;
+        } }
+        ensures registered { OnPending result
+            (Covers cx.new (λ s. IsSomeAnd self.new.source (λ source. s ≡ source))) }
+        ensures kept { Keeps cx.old cx.new }
+    {
+        if self.is_finished {
+            return Poll::Ready(Err(Refusal::Finished));
+        }
+        let reading = self.reading;
+        let mut waiting = match self.waiting.take() {
+            Some(waiting) => waiting,
+            None => reading.cache.get_value_or_guard_async(self.rt, self.key),
+        };
+        match waiting.go_on(cx) {
+            Poll::Pending => {
+                self.waiting = Some(waiting);
+                Poll::Pending
+            }
+            Poll::Ready(Ok(Ok(found))) => self.take(found, cx),
+            Poll::Ready(Ok(Err(guard))) => {
+                let mut guard = Some(guard);
+                self.load(&mut guard)
+            }
+            // What could not be cloned may be too old to be.
+            Poll::Ready(Err(Refusal::Memory)) => self.look(cx),
+            Poll::Ready(Err(refusal)) => self.give(Err(refusal)),
+        }
+    }
+
+    /// Answers what was found where it serves, and looks once more where it is too old.
+    fn take(&mut self, found: Loaded<V>, cx: &mut Context<'_>) -> Poll<Result<V, Refusal>>
+        requires source { IsOf S.gives K.eq self.old.key found.moment found.value }
+        requires callable { F.IsAlwaysCallable self.old.reading.loader }
+        requires loads { LoadsFrom F.Fn self.old.reading.loader S.gives }
+        ensures fresh { IfReady result (λ answer. IfOk answer (Answers S.gives K.eq self.old.key
+            (Li.life_of self.old.reading.lives self.old.key) self.old.moment)) }
+        ensures finished { IfReady result (λ _. self.new.is_finished ≡ true) }
+        ensures unfinished { IfReady result (λ answer. IfErr answer IsLoadRefusal) }
+        ensures goes_on { OnPending result (self.new.is_finished ≡ self.old.is_finished) }
+        ensures woken { OnPending result (cx.new.is_woken ≡ true) }
+        ensures same { self.new ≡ record self.old {
+          source = self.new.source;
+          is_finished = self.new.is_finished;
+        } }
+        ensures registered { OnPending result
+            (Covers cx.new (λ s. IsSomeAnd self.new.source (λ source. s ≡ source))) }
+        ensures kept { Keeps cx.old cx.new }
+    {
+        let reading = self.reading;
+        let life = reading.lives.life(self.key, &found.value, found.moment);
+        if found.serves(life, self.now) {
+            return self.give(Ok(found.value));
+        }
+        reading.not_hits.fetch_add(1, Ordering::SeqCst);
+        self.look(cx)
+    }
+
+    /// Looks once more at what is stored, and loads where it does not serve. Where another loads the
+    /// key by now, the next poll begins anew.
+    fn look(&mut self, cx: &mut Context<'_>) -> Poll<Result<V, Refusal>>
+        requires callable { F.IsAlwaysCallable self.old.reading.loader }
+        requires loads { LoadsFrom F.Fn self.old.reading.loader S.gives }
+        ensures fresh { IfReady result (λ answer. IfOk answer (Answers S.gives K.eq self.old.key
+            (Li.life_of self.old.reading.lives self.old.key) self.old.moment)) }
+        ensures finished { IfReady result (λ _. self.new.is_finished ≡ true) }
+        ensures unfinished { IfReady result (λ answer. IfErr answer IsLoadRefusal) }
+        ensures goes_on { OnPending result (self.new.is_finished ≡ self.old.is_finished) }
+        ensures woken { OnPending result (cx.new.is_woken ≡ true) }
+        ensures same { self.new ≡ record self.old {
+          source = self.new.source;
+          is_finished = self.new.is_finished;
+        } }
+        ensures registered { OnPending result
+            (Covers cx.new (λ s. IsSomeAnd self.new.source (λ source. s ≡ source))) }
+        ensures kept { Keeps cx.old cx.new }
+    {
+        let reading = self.reading;
+        let nobody_waits = Some(Duration::ZERO);
+        match reading.look_anew(self.rt, self.key, self.now, nobody_waits) {
+            EntryResult::Retained(value) => self.give(Ok(value)),
+            EntryResult::Replaced(guard, _old) => {
+                let mut guard = Some(guard);
+                self.load(&mut guard)
+            }
+            EntryResult::Vacant(guard) => {
+                let mut guard = Some(guard);
+                self.load(&mut guard)
+            }
+            // There was no memory for a guard.
+            EntryResult::Removed(_, _) => {
+                let mut none = None;
+                self.load(&mut none)
+            }
+            EntryResult::Timeout => cx.yield_now(),
+            EntryResult::Refused(refusal) => self.give(Err(refusal)),
+        }
+    }
+
+    /// Calls the loader, stores what it gives by the guard, and answers that.
+    fn load(
+        &mut self,
+        guard: &mut Option<
+            PlaceholderGuard<'a, K, Loaded<V>, Fresh<S>, ShardOf<K, V, S, A, We>, R, A>,
+        >,
+    ) -> Poll<Result<V, Refusal>>
+        requires same { IfSome guard.old (λ guard. IsTrue (K.eq self.old.key guard)) }
+        requires callable { F.IsAlwaysCallable self.old.reading.loader }
+        requires loads { LoadsFrom F.Fn self.old.reading.loader S.gives }
+        ensures fresh { IfReady result (λ answer. IfOk answer (Answers S.gives K.eq self.old.key
+            (Li.life_of self.old.reading.lives self.old.key) self.old.moment)) }
+        ensures ready { OnPending result ⊥ }
+        ensures unfinished { IfReady result (λ answer. IfErr answer IsLoadRefusal) }
+        ensures finishes { self.new ≡ record self.old { is_finished = true } }
+    {
+        let reading = self.reading;
+        let value = reading.load(self.key, self.now);
+        let value = store(guard, self.key, self.now, value);
+        self.give(Ok(value))
+    }
+
+    /// Gives its answer, the only one.
+    fn give(&mut self, answer: Result<V, Refusal>) -> Poll<Result<V, Refusal>>
+        ensures given { result ≡ Poll.Ready answer }
+        ensures finishes { self.new ≡ record self.old { is_finished = true } }
+    {
+        self.is_finished = true;
+        Poll::Ready(answer)
+    }
+}
+
+impl<
+    'a,
+    K: Eq + Hash + Clone + Drop,
+    V: Clone + Drop,
+    F: Fn(&K, u64) -> V,
+    S: Source<K, V>,
+    A: Allocator + Clone,
+    Li: Lives<K, V>,
+    We: Weighter<K, V>,
+    R: Wait + Clock,
+> Future for GetFuture<'a, K, V, F, S, A, Li, We, R> {
+    type Output = Result<V, Refusal>;
+
+    // The loader may be called, and what it gives is the source's.
+    ghost can_poll = { λ f. F.IsAlwaysCallable f.reading.loader
+        × LoadsFrom F.Fn f.reading.loader S.gives };
+
+    // Once it waits, the source of its placeholder.
+    ghost needs = { λ f s. IsSomeAnd f.source (λ source. s ≡ source) };
+
+    // The value is the source's for the key, and fresh.
+    ghost gives = { λ f answer. IfOk answer (Answers S.gives K.eq f.key
+        (Li.life_of f.reading.lives f.key) f.moment) };
+
+    fn poll(&mut self, cx: &mut Context<'_>) -> Poll<Self::Output> {
+        self.go_on(cx)
+    }
+}
