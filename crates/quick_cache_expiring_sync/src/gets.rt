@@ -1,0 +1,124 @@
+//! Looks at entries that may be over. Whatever other threads do, what is given at a moment was
+//! stored with an end that is not reached then, and fits with that end.
+ghost use Rattle.std.specs.Prelude.{◌≡◌};
+ghost use Rattle.quick_cache_shard.specs.Shard.{Shard};
+ghost use Rattle.quick_cache_locked.specs.Locked.{FromSome};
+ghost use Rattle.quick_cache_expiring.specs.Lives.{lives};
+ghost use Rattle.quick_cache_expiring.specs.declared.lasting.Lasting.{Lasting};
+ghost use Rattle.quick_cache_expiring.specs.declared.by_value.ByValue.{ByValue};
+ghost use Rattle.quick_cache_expiring_sync.specs.Looks.{ShowsAt, ShowsEnd, ShowsFittingAt};
+
+use crate::shared::SharedExpiring;
+use quick_cache_expiring::{ByValue, Lasting};
+use quick_cache_model::{Equivalent, Lifecycle, Refusal};
+use std::alloc::Allocator;
+use std::hash::{BuildHasher, Hash};
+use std::sync::Wait;
+use std::sync::atomic::Ordering;
+
+impl<
+    K: Eq + Hash + Drop,
+    V: Clone + Drop,
+    We,
+    B: BuildHasher,
+    L: Lifecycle<K, Lasting<V>>,
+    A: Allocator,
+> SharedExpiring<K, V, We, B, L, A> {
+    /// Looks the query's key up and gives a clone of its value, made under the lock, where it serves
+    /// at this moment. A hit or a miss is counted. An entry that is over counts as a miss and as
+    /// expired, and is taken out, unless another has stored what serves meanwhile. No hook is called.
+    ///
+    /// It takes the read lock of the key's shard, and the write lock only to take out what is over.
+    ///
+    /// # Errors
+    ///
+    /// `Memory` where the clone failed. Nothing changed then, and nothing was counted.
+    pub fn get<Q: Equivalent<K>, R: Wait>(
+        &self,
+        rt: &R,
+        query: &Q,
+        now: u64,
+    ) -> Result<Option<V>, Refusal>
+        ensures answers { FromSome L.Lifecycle K.eq
+            (λ (shard : Shard K (Lasting V) (ByValue We) B L).
+            ShowsAt (Q.equivalent query.now) V.is_clone now shard.state result) }
+        ensures fits { ShowsFittingAt L.fits (Q.equivalent query.now) V.is_clone now result }
+    {
+        let found = self.cache.get(rt, query)?;
+        let Some(lasting) = found else {
+            return Ok(None);
+        };
+        if lasting.lives(now) {
+            return Ok(Some(lasting.value));
+        }
+        self.expires(rt, query, now);
+        Ok(None)
+    }
+
+    /// Looks at the query's key and gives a clone of its value, made under the lock, where it serves
+    /// at this moment. It is no use of the entry, and nothing changes. It takes the read lock of the
+    /// key's shard.
+    ///
+    /// # Errors
+    ///
+    /// `Memory` where the clone failed.
+    pub fn peek<Q: Equivalent<K>, R: Wait>(
+        &self,
+        rt: &R,
+        query: &Q,
+        now: u64,
+    ) -> Result<Option<V>, Refusal>
+        ensures answers { FromSome L.Lifecycle K.eq
+            (λ (shard : Shard K (Lasting V) (ByValue We) B L).
+            ShowsAt (Q.equivalent query.now) V.is_clone now shard.state result) }
+        ensures fits { ShowsFittingAt L.fits (Q.equivalent query.now) V.is_clone now result }
+    {
+        let found = self.cache.peek(rt, query)?;
+        let Some(lasting) = found else {
+            return Ok(None);
+        };
+        if lasting.lives(now) {
+            return Ok(Some(lasting.value));
+        }
+        Ok(None)
+    }
+
+    /// The end of the entry under the query's key, be it over or not. It is no use of the entry, and
+    /// nothing changes. It takes the read lock of the key's shard, and makes a clone of the value.
+    ///
+    /// # Errors
+    ///
+    /// `Memory` where the clone failed.
+    pub fn expires_at<Q: Equivalent<K>, R: Wait>(
+        &self,
+        rt: &R,
+        query: &Q,
+    ) -> Result<Option<u64>, Refusal>
+        ensures answers { FromSome L.Lifecycle K.eq
+            (λ (shard : Shard K (Lasting V) (ByValue We) B L).
+            ShowsEnd (Q.equivalent query.now) V.is_clone shard.state result) }
+    {
+        let found = self.cache.peek(rt, query)?;
+        let Some(lasting) = found else {
+            return Ok(None);
+        };
+        Ok(Some(lasting.until))
+    }
+}
+
+impl<
+    K: Eq + Hash + Drop,
+    V: Drop,
+    We,
+    B: BuildHasher,
+    L: Lifecycle<K, Lasting<V>>,
+    A: Allocator,
+> SharedExpiring<K, V, We, B, L, A> {
+    /// Counts that a look found what is over, and takes that out by one step that asks once more,
+    /// since another may have stored what serves.
+    pub(crate) fn expires<Q: Equivalent<K>, R: Wait>(&self, rt: &R, query: &Q, now: u64) {
+        self.expired.fetch_add(1, Ordering::SeqCst);
+        let is_over = |lasting: &Lasting<V>| -> bool { !lasting.lives(now) };
+        drop(self.cache.remove_if(rt, query, is_over));
+    }
+}

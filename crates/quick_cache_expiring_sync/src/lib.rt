@@ -1,0 +1,12 @@
+//! Entries that end, in a cache that threads share, over the public contracts of that cache alone.
+#![tactic(auto)]
+
+mod gets;
+mod loads;
+mod purging;
+mod shared;
+mod writes;
+
+pub use quick_cache_expiring::{ByValue, Lasting, Stats, end_of};
+pub use quick_cache_model::Refusal;
+pub use shared::SharedExpiring;
