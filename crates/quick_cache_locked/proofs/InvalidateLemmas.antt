@@ -1,12 +1,12 @@
 -- Keys that leave a shard, with what is being loaded for them.
 use mathlib.Core.Logic.{◌⊎◌, inl, inr}
-use Rattle.std.proofs.Common.{◌≡◌, ℕ, Bool, true, false, not, List, [], ◌∷◌, ◌++◌, refl, sym, ap, subst, ◌∙◌}
+use Rattle.std.proofs.Common.{◌≡◌, ℕ, Bool, true, false, not, List, [], ◌∷◌, refl, sym, ap, subst, ◌∙◌}
 use Rattle.std.specs.List.{Contains}
 use Rattle.std.proofs.lemmas.List.Elements.{Contains-append_left, Contains-append_right, Contains-append_cases}
 use Rattle.std.specs.List.Sorted.{IsPermutation}
 use Rattle.std.proofs.lemmas.List.Sorted.{Contains-permutation, IsPermutation-refl, IsPermutation-sym, IsPermutation-trans}
 use Rattle.quick_cache_model.specs.CacheState.{CacheState, Item, LoadingEntry, SameButOrder, UpToOrder, IsValid}
-use Rattle.quick_cache_model.specs.Placeholders.{GivesUpPlaceholder, IsLoadingTicket}
+use Rattle.quick_cache_model.specs.Placeholders.{GivesUpPlaceholder}
 use Rattle.quick_cache_shard.specs.Filling.{AwaitsKey}
 use Rattle.quick_cache_shard.specs.Predicates.{RetainsAsked, StayAsAnswered}
 use Rattle.quick_cache_shard.proofs.PlaceLemmas.{Contains-cons_cases}

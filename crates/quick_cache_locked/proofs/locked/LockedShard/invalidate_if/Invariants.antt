@@ -1,4 +1,4 @@
-use Rattle.std.proofs.Common.{ℕ, ◌-◌}
+use Rattle.std.proofs.Common.{◌-◌}
 use Rattle.std.specs.Fn.{FnReturnsAt}
 use Rattle.quick_cache_model.specs.CacheState.{UpToOrder}
 use Rattle.quick_cache_shard.specs.Shard.{LosesOnly}

@@ -1,4 +1,4 @@
-use Rattle.std.proofs.Common.{List, sym, ◌∙◌, subst, ap}
+use Rattle.std.proofs.Common.{List, ◌∙◌, subst, ap}
 use Rattle.std.specs.Prelude.{OnOk}
 use Rattle.std.specs.List.{AppendsClones}
 use Rattle.quick_cache_locked.specs.declared.heated.Heated.{Heated}
