@@ -1,11 +1,10 @@
 -- Entry calls keep every value fitting its key, and give back values that fit.
-use Rattle.std.proofs.Common.{◌≡◌, ℕ, Bool, true, List, ◌⊎◌, inl, inr, Result, Ok, Err, sym, subst}
+use Rattle.std.proofs.Common.{◌≡◌, ℕ, Bool, true, inl, inr, Result, Ok, Err, sym, subst}
 use denote.Ref.{Bor, MutBor}
 use denote.Param.Members.{Mut}
 use Rattle.quick_cache_model.specs.declared.refusal.Refusal.{Refusal}
-use Rattle.quick_cache_model.specs.CacheState.{CacheState, Item, Place, UpToOrder}
+use Rattle.quick_cache_model.specs.CacheState.{CacheState, Item}
 use Rattle.quick_cache_model.specs.Entries.{EntryChoice, EntryOutcome, ActsOnEntry}
-use Rattle.quick_cache_model.specs.Finding.{IsItemAt}
 use Rattle.quick_cache_model.specs.Hooks.{Rules}
 use Rattle.quick_cache_model.specs.Lookups.{looked_up}
 use Rattle.quick_cache_model.specs.Removal.{weighed, reweighed}
@@ -15,8 +14,8 @@ use Rattle.quick_cache_model.specs.declared.calls.entry.EntryOrPlaceholder.{Entr
 use Rattle.quick_cache_model.specs.declared.calls.entry.EntryOrPlaceholder.TheVariants.{Kept as kept, Removed as removed, Replaced as replaced, ExistingPlaceholder as existing, NewPlaceholder as new_one}
 use Rattle.quick_cache_model.specs.Callbacks.{ActsAsChosen, choice_of}
 use Rattle.quick_cache_policy.specs.Entering.{AnswersEntry}
-use Rattle.quick_cache_guard.specs.Acts.{Chooses, DoesAsChosen, IfAbsent, IfGone, IfKept, KeepsReplaced, LeavesFit, MayTell}
-use Rattle.quick_cache_locked.specs.Fitting.{AllFit, FitsIn, FitsQuery}
+use Rattle.quick_cache_guard.specs.Acts.{Chooses, DoesAsChosen, IfAbsent, IfGone, IfKept, LeavesFit, MayTell}
+use Rattle.quick_cache_locked.specs.Fitting.{AllFit, FitsQuery}
 use Rattle.quick_cache_locked.proofs.FitLemmas.{rewritten-fits, SameButOrder-fits}
 use Rattle.quick_cache_locked.proofs.FitLoads.{MakesPlaceholder-fits, MeetsPlaceholder-fits}
 use Rattle.quick_cache_locked.proofs.FitRemovals.{taken_out-fits}

@@ -1,5 +1,5 @@
 -- Writes keep every value fitting its key, whatever is pinned.
-use Rattle.std.proofs.Common.{◌≡◌, Bool, List, ◌++◌, ◌∷◌, Option, Some, None, Result, Ok, Err}
+use Rattle.std.proofs.Common.{Bool, List, Option, Some, None, Result, Ok, Err}
 use Rattle.std.proofs.Common.{sym, subst}
 use Rattle.std.specs.List.{AllByRecursion}
 use Rattle.quick_cache_model.specs.declared.terms.lifecycle.Lifecycle as lifecycle

@@ -7,5 +7,7 @@ mod FitLoads
 mod TicketLemmas
 mod EntryFits
 mod LoadLemmas
+mod InvalidateLemmas
+mod HeatLemmas
 mod WalkLemmas
 mod PlaceLemmas

@@ -1,5 +1,5 @@
 -- Why an entry call is refused, and what is left of a load that ends.
-use Rattle.std.proofs.Common.{◌≡◌, ℕ, Bool, inl, inr, Result, Ok, Err}
+use Rattle.std.proofs.Common.{ℕ, Bool, inl, inr, Result, Ok, Err}
 use Rattle.std.specs.Bool.{⊤}
 use Rattle.std.specs.Prelude.{IfErr, OnOk}
 use denote.Ref.{Bor, MutBor}

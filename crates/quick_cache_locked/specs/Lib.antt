@@ -2,6 +2,8 @@ pub use Rattle.quick_cache_loading.specs.Touches
 pub mod Asked
 pub mod Counts
 pub mod Fitting
+pub mod Hottest
+pub mod Invalidates
 pub mod Loads
 pub mod Locked
 pub mod Peeks

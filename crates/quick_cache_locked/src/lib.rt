@@ -3,10 +3,12 @@
 #![tactic(auto)]
 
 mod count;
+mod heated;
 mod locked;
 pub mod places;
 pub mod walk_laws;
 
 pub use count::Count;
+pub use heated::Heated;
 pub use locked::LockedShard;
 pub use quick_cache_loading::sharing::{SharedPlaceholder, SharedTouches};

@@ -6,6 +6,7 @@ ghost use Rattle.quick_cache_locked.specs.Counts.{empty_of};
 ghost use Rattle.quick_cache_locked.specs.Locked.{IsKept};
 
 mod acting;
+mod hottest;
 mod invalidating;
 mod loading;
 mod reads;

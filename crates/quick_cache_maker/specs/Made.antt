@@ -1,5 +1,5 @@
 -- What a maker makes, and why it makes none.
-use Rattle.std.specs.Prelude.{◌≡◌, ℕ, List, Some}
+use Rattle.std.specs.Prelude.{◌≡◌, ℕ, List, Some, None}
 use Rattle.quick_cache_model.specs.CacheState.{CacheState, empty_state}
 use Rattle.quick_cache_model.specs.RefusalTexts.{refusal_text}
 use Rattle.quick_cache_model.specs.Sizes.{hot_target_of, ghost_limit_of}
@@ -16,10 +16,10 @@ made_state settings = record
     (ghost_limit_of settings.estimated_items_capacity settings.ghost_allocation))
     { mark_cut = settings.mark_cut }
 
--- the choices have that fault first, or there was no memory
+-- the choices have that fault first, or they have none and there was no memory
 abbrev pub IsMakeError : Choices → MakeError → Type 0
 IsMakeError choices (Options error) = first_error choices ≡ Some error
-IsMakeError choices (Refused refusal) = refusal ≡ Memory
+IsMakeError choices (Refused refusal) = (first_error choices ≡ None) × (refusal ≡ Memory)
 
 -- how it reads
 abbrev pub make_error_text : MakeError → List ℕ

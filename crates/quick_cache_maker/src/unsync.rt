@@ -1,6 +1,6 @@
 //! A cache for one thread is made.
-ghost use Rattle.std.specs.Prelude.{◌≡◌, IfOk, IfErr};
-ghost use Rattle.quick_cache_options.specs.Options.{settings_of};
+ghost use Rattle.std.specs.Prelude.{◌≡◌, None, IfOk, IfErr, IsOk};
+ghost use Rattle.quick_cache_options.specs.Options.{first_error, settings_of};
 ghost use Rattle.quick_cache_shard.specs.Shard.{made_with};
 ghost use Rattle.quick_cache_maker.specs.Made.{IsMakeError, made_state};
 
@@ -22,6 +22,7 @@ impl<We: Drop, B: BuildHasher + Drop, L: Drop> Maker<We, B, Named<L>> {
     ) -> Result<Cache<K, V, We, B, L, A>, MakeError>
         ensures makes { IfOk result (λ cache. cache ≡ made_with
             (made_state (settings_of self.options)) self.weigher self.builder self.lifecycle.life) }
+        ensures succeeds { A.is_infallible alloc → first_error self.options ≡ None → IsOk result }
         ensures error { IfErr result (IsMakeError self.options) }
     {
         match self.options.build() {
@@ -52,6 +53,7 @@ impl<We: Drop, B: BuildHasher + Drop> Maker<We, B, Unnamed> {
     ) -> Result<Cache<K, V, We, B, DefaultLifecycle<K, V>, A>, MakeError>
         ensures makes { IfOk result (λ cache. cache ≡ made_with
             (made_state (settings_of self.options)) self.weigher self.builder cache.lifecycle) }
+        ensures succeeds { A.is_infallible alloc → first_error self.options ≡ None → IsOk result }
         ensures error { IfErr result (IsMakeError self.options) }
     {
         self.lifecycle(DefaultLifecycle::new()).make_unsync(alloc)

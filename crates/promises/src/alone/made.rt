@@ -1,14 +1,15 @@
 //! What a user relies on who makes a cache by a maker.
-ghost use Rattle.std.specs.Prelude.{◌≡◌, IfOk};
+ghost use Rattle.std.specs.Prelude.{◌≡◌, IfOk, IsOk};
 
 use quick_cache_listeners::ByLength;
 use quick_cache_maker::{MakeError, Maker};
 use quick_cache_unsync::Cache;
 use std::alloc::Global;
 
-/// A cache of texts that was given this many bytes has that capacity, and begins empty.
+/// A cache of texts that is given so many bytes is made, has that capacity, and begins empty.
 pub fn make_for_bytes(alloc: Global, bytes: u64) -> Result<Cache<u64, String, ByLength>, MakeError>
     ensures capacity { IfOk result (λ cache. cache.state.capacity ≡ bytes) }
+    ensures made { IsOk result }
     ensures none { IfOk result (λ cache. cache.state.hits ≡ 0) }
 {
     Maker::new()

@@ -1,5 +1,6 @@
 //! What those rely on who have a shard behind a lock of their own.
-ghost use Rattle.std.specs.Prelude.{◌≡◌, ◌<◌, IfOk, OnOk, true};
+ghost use Rattle.std.specs.Prelude.{◌≡◌, ◌<◌, Bool, IfOk, OnOk, true};
+ghost use Rattle.std.specs.Fn.{FnReturnsAt};
 ghost use Rattle.quick_cache_locked.specs.Asked.{MayBeAskedOfFitting};
 ghost use Rattle.quick_cache_model.specs.CacheState.{item_count};
 ghost use Rattle.quick_cache_model.specs.Refusals.{slots_taken, slot_count};
@@ -71,4 +72,20 @@ pub fn keep_all<
     ensures { item_count shard.new.state ≡ item_count shard.old.state }
 {
     shard.retain(keep);
+}
+
+/// An invalidation by a test that each key passes leaves no item.
+pub fn drop_all<
+    K: Eq + Hash + Drop,
+    V: Drop,
+    We,
+    B: BuildHasher,
+    L: Lifecycle<K, V>,
+    F: Fn(&K) -> bool,
+>(shard: &mut LockedShard<K, V, We, B, L>, test: F)
+    requires callable { F.IsAlwaysCallable test }
+    requires passes { (key : K) (answer : Bool) → FnReturnsAt F.Fn test key answer → answer ≡ true }
+    ensures { item_count shard.new.state ≡ 0 }
+{
+    let _ = shard.invalidate_if(test);
 }

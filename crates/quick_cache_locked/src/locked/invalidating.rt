@@ -1,7 +1,9 @@
 //! Keys that leave a shard behind its lock, with what is being loaded for them.
-ghost use Rattle.std.specs.Prelude.{◌<◌, IfSome, false};
+ghost use Rattle.std.specs.Prelude.{◌≡◌, ◌<◌, Bool, not, IfSome, false};
+ghost use Rattle.std.specs.Fn.{FnReturnsAt};
 ghost use Rattle.quick_cache_model.specs.Placeholders.{GivesUpPlaceholder};
 ghost use Rattle.quick_cache_shard.specs.Shard.{LosesOnly, UpToOrder};
+ghost use Rattle.quick_cache_locked.specs.Invalidates.{InvalidatesAsked};
 ghost use Rattle.quick_cache_locked.specs.Locked.{IsKept};
 
 use crate::locked::LockedShard;
@@ -83,13 +85,20 @@ impl<
     /// many there were. It looks at each slot, and at each again for each key that is being loaded.
     pub fn invalidate_if<F: Fn(&K) -> bool>(&mut self, test: F) -> usize
         requires callable { F.IsAlwaysCallable test }
-        // No item moves.
+        // The items of the keys that pass are gone. The others stand, and none moves.
+        ensures asks { UpToOrder (InvalidatesAsked (FnReturnsAt F.Fn test) self.old.state)
+            self.new.state }
         ensures places { LosesOnly self.old.places self.new.places }
         ensures kept { IsKept L.Lifecycle K.eq self.old }
     {
         self.facts();
         let before = self.shard.len();
-        self.retain(|key: &K, _: &V| !test(key));
+        self.retain(
+            |key: &K, _: &V|
+                requires { F.IsAlwaysCallable test }
+                ensures { (answer : Bool) × FnReturnsAt F.Fn test key.now answer × (result ≡ not answer) }
+            { !test(key) },
+        );
         let mut gone = before.saturating_sub(self.shard.len());
         let mut above = 0u64;
         while let Some(shared) = self.next_load(above) {
