@@ -22,4 +22,6 @@ mod runs;
 #[cfg(test)]
 mod sessions;
 #[cfg(test)]
+mod signed_in;
+#[cfg(test)]
 mod weigher;
