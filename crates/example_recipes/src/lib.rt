@@ -24,4 +24,6 @@ mod saved;
 #[cfg(test)]
 mod sessions;
 #[cfg(test)]
+mod signed_in;
+#[cfg(test)]
 mod weigher;

@@ -1,9 +1,7 @@
 //! Looks at entries that may be over. Whatever other threads do, what is given at a moment was
 //! stored with an end that is not reached then, and fits with that end.
-ghost use Rattle.std.specs.Prelude.{◌≡◌};
 ghost use Rattle.quick_cache_shard.specs.Shard.{Shard};
 ghost use Rattle.quick_cache_locked.specs.Locked.{FromSome};
-ghost use Rattle.quick_cache_expiring.specs.Lives.{lives};
 ghost use Rattle.quick_cache_expiring.specs.declared.lasting.Lasting.{Lasting};
 ghost use Rattle.quick_cache_expiring.specs.declared.by_value.ByValue.{ByValue};
 ghost use Rattle.quick_cache_expiring_sync.specs.Looks.{ShowsAt, ShowsEnd, ShowsFittingAt};

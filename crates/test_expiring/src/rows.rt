@@ -4,7 +4,7 @@ use std::convert::Infallible;
 use test_tools::{expect_eq, expect_ok};
 
 /// The moments of a store, its life, and gets: the moment, and whether it serves.
-const LIVES: [(u64, u64, &[(u64, bool)]); 6] = [
+pub const LIVES: [(u64, u64, &[(u64, bool)]); 6] = [
     (5, 10, &[(5, true), (14, true), (15, false), (14, false)]),
     // A clock that goes back.
     (5, 10, &[(14, true), (0, true)]),

@@ -1,0 +1,92 @@
+//! The rows of the cache that threads share.
+use crate::rows::LIVES;
+use quick_cache_expiring_sync::{SharedExpiring, Stats};
+use std::convert::Infallible;
+use std::sync::Wait;
+use test_tools::{expect_eq, expect_ok};
+
+/// The first of these moments at which the entry serves where it should not, or does not where it
+/// should.
+fn first_wrong<R: Wait>(
+    rt: &R,
+    entries: &SharedExpiring<u64, u64>,
+    gets: &[(u64, bool)],
+) -> Option<u64> {
+    for (now, serves) in gets {
+        let value = if *serves { Some(100) } else { None };
+        let seen = entries.peek(rt, &1, *now);
+        if seen != Ok(value) || entries.get(rt, &1, *now) != Ok(value) {
+            return Some(*now);
+        }
+    }
+    None
+}
+
+#[test]
+fn a_shared_entry_serves_below_its_end(rt: HostRuntime) {
+    for (stored, life, gets) in LIVES {
+        let entries: SharedExpiring<u64, u64> = expect_ok!(rt; SharedExpiring::new(rt.alloc(), 8));
+        expect_eq!(rt; entries.insert(&rt, 1, 100, stored, life).is_ok(), true);
+        assert_eq!(rt; first_wrong(&rt, &entries, gets), None, "life {life}");
+    }
+}
+
+#[test]
+fn what_lives_is_renewed_by_threads_and_what_is_over_is_purged(rt: HostRuntime) {
+    let entries: SharedExpiring<u64, u64> = expect_ok!(rt; SharedExpiring::new(rt.alloc(), 8));
+    for key in 0..4 {
+        expect_eq!(rt; entries.insert(&rt, key, key, key, 10).is_ok(), true);
+    }
+    // A key, whether it is renewed at 10, and its end then.
+    for (key, renewed, end) in [(1, true, Some(15)), (0, false, None), (9, false, None)] {
+        let found = (
+            entries.touch(&rt, &key, 10, 5),
+            entries.expires_at(&rt, &key),
+        );
+        expect_eq!(rt; found, (Ok(renewed), Ok(end)));
+    }
+    // The third is over at 12, and the fourth at 13.
+    for (now, gone, left) in [(11, 0, 3), (12, 1, 2), (13, 1, 1), (14, 0, 1), (15, 1, 0)] {
+        assert_eq!(rt;
+            (entries.purge(&rt, now), entries.len(&rt)),
+            (gone, left),
+            "at {now}"
+        );
+    }
+    let stats = Stats {
+        hits: 1,
+        misses: 1,
+        expired: 1,
+    };
+    expect_eq!(rt; entries.stats(&rt), stats);
+}
+
+#[test]
+fn what_is_over_gives_its_place_to_a_load(rt: HostRuntime) {
+    let entries: SharedExpiring<u64, u64> = expect_ok!(rt; SharedExpiring::new(rt.alloc(), 8));
+    // A moment, and the value then, which is the moment of its load.
+    for (now, value) in [(5, 5), (14, 5), (15, 15), (24, 15), (25, 25)] {
+        let loader = || -> Result<u64, Infallible> { Ok(now) };
+        let found = entries.get_or_insert_with(&rt, &1, now, 10, loader);
+        assert_eq!(rt; found, Ok(Ok(value)), "at {now}");
+    }
+    let stats = Stats {
+        hits: 2,
+        misses: 3,
+        expired: 2,
+    };
+    expect_eq!(rt; entries.stats(&rt), stats);
+    let failed: Result<u64, u64> = Err(7);
+    expect_eq!(rt; entries.get_or_insert_with(&rt, &1, 35, 10, || failed), Ok(Err(7)));
+    expect_eq!(rt; (entries.len(&rt), entries.expires_at(&rt, &1)), (0, Ok(None)));
+    expect_eq!(rt; entries.cache().weight(&rt), 0);
+    // What lives for no time is answered by its load alone.
+    let loader = || -> Result<u64, Infallible> { Ok(8) };
+    expect_eq!(rt; entries.get_or_insert_with(&rt, &2, 5, 0, loader), Ok(Ok(8)));
+    expect_eq!(rt; entries.get(&rt, &2, 5), Ok(None));
+    expect_eq!(rt; entries.insert(&rt, 3, 9, 5, 10).is_ok(), true);
+    let removed = entries
+        .remove(&rt, &3)
+        .map(|pair| (pair.0, pair.1.value, pair.1.until));
+    expect_eq!(rt; removed, Some((3, 9, 15)));
+}

@@ -1,0 +1,106 @@
+//! Four threads that ask for a thousand keys, by a clock that rises with each call.
+use quick_cache_expiring_sync::SharedExpiring;
+use std::alloc::{AllocError, Global};
+use std::sync::Wait;
+use std::sync::atomic::{AtomicU64, Ordering};
+use std::test::Fail;
+use std::thread::map_indices;
+use std::time::Clock;
+
+const KEYS: u64 = 1000;
+
+const CALLS: u64 = 25_000;
+
+const LIFE: u64 = 5000;
+
+/// A key and the moment of its load.
+type Loaded = (u64, u64);
+
+/// For each key where its part of the draws ends: that of the k-th, from 0, goes with 1 / (k + 1).
+fn zipf(alloc: Global) -> Result<Vec<u64>, AllocError> {
+    let mut ends = Vec::with_capacity(alloc, KEYS as usize)?;
+    let mut end = 0u64;
+    for key in 0..KEYS {
+        end = end.saturating_add(1_000_000 / (key + 1));
+        ends.push(end)?;
+    }
+    Ok(ends)
+}
+
+/// The key that a state draws.
+fn key_of(ends: &[u64], state: u64) -> u64 {
+    let Some(all) = ends.last() else {
+        return 0;
+    };
+    let place = (state >> 32).wrapping_mul(*all) >> 32;
+    ends.partition_point(|end| *end <= place) as u64
+}
+
+/// The state that comes after.
+fn drawn(state: u64) -> u64 {
+    state
+        .wrapping_mul(6_364_136_223_846_793_005)
+        .wrapping_add(1_442_695_040_888_963_407)
+}
+
+/// A load that comes within the life of the one before of its key. Loads of one key come one after
+/// another, so each sees the moment of the one before.
+fn is_early(last: &[AtomicU64], key: u64, now: u64) -> bool {
+    let Some(last) = last.get(key as usize) else {
+        return true;
+    };
+    let before = last.swap(now, Ordering::SeqCst);
+    before > 0 && now < before.saturating_add(LIFE)
+}
+
+/// Asks so often, and counts what is no value of the key, or over, and loads that come early.
+fn asks<R: Wait + Clock>(
+    rt: &R,
+    entries: &SharedExpiring<u64, Loaded>,
+    ends: &[u64],
+    last: &[AtomicU64],
+    clock: &AtomicU64,
+    seed: u64,
+) -> u64 {
+    let mut state = seed;
+    let wrong = AtomicU64::new(0);
+    for _ in 0..CALLS {
+        state = drawn(state);
+        let key = key_of(ends, state);
+        let now = clock.fetch_add(1, Ordering::SeqCst);
+        let loader = || -> Result<Loaded, ()> {
+            if is_early(last, key, now) {
+                wrong.fetch_add(1, Ordering::SeqCst);
+            }
+            Ok((key, now))
+        };
+        let is_right = match entries.get_or_insert_with(rt, &key, now, LIFE, loader) {
+            Ok(Ok((of, moment))) => of == key && now < moment.saturating_add(LIFE),
+            _ => false,
+        };
+        if !is_right {
+            wrong.fetch_add(1, Ordering::SeqCst);
+        }
+    }
+    wrong.load(Ordering::SeqCst)
+}
+
+#[test]
+fn nothing_over_is_served_and_one_loads_a_key_and_life(rt: HostRuntime) -> Result<(), Fail> {
+    let ends = zipf(rt.alloc())?;
+    let mut last = Vec::with_capacity(rt.alloc(), KEYS as usize)?;
+    for _ in 0..KEYS {
+        last.push(AtomicU64::new(0))?;
+    }
+    let entries = SharedExpiring::new(rt.alloc(), 8000)?;
+    let (ends, last, clock) = (ends.as_slice(), last.as_slice(), &AtomicU64::new(1));
+    let wrong = map_indices(
+        &rt,
+        rt.alloc(),
+        4,
+        &|index| asks(&rt, &entries, ends, last, clock, index as u64),
+    )?;
+    assert_eq!(rt; wrong.as_slice(), [0, 0, 0, 0].as_slice());
+    assert_eq!(rt; entries.len(&rt), 1000);
+    Ok(())
+}
