@@ -8,11 +8,10 @@ use Rattle.quick_cache_model.specs.declared.terms.lifecycle.Lifecycle as lifecyc
 use Rattle.quick_cache_model.specs.CacheState.{CacheState, Item}
 use Rattle.quick_cache_model.proofs.EachElement.{all-append, all-left, all-filter, all-permutation}
 use Rattle.quick_cache_shard.specs.Copies.{ClonesAreEqual}
-use Rattle.quick_cache_shard.specs.Shard.{Shard, shown}
+use Rattle.quick_cache_shard.specs.Shard.{shown}
 use Rattle.quick_cache_locked.specs.declared.heated.Heated.{Heated}
 use Rattle.quick_cache_locked.specs.Fitting.{AllFit, ClonesFit, FitsIn}
 use Rattle.quick_cache_locked.specs.Hottest.{IsHeatedClone, by_heat, by_mark, heated, with_mark}
-use Rattle.quick_cache_locked.specs.Locked.{FromSome}
 use Rattle.quick_cache_sync.specs.Hottest.{FitsHeated, ShowInTurn, ShowsHottest}
 
 -- of what holds in a list the first so many are

@@ -1,4 +1,4 @@
-use Rattle.std.proofs.Common.{rules, ◌≡◌, ◌+◌, ◌++◌, ℕ, List, [], sym, subst, arith}
+use Rattle.std.proofs.Common.{rules, ◌+◌, List, sym, subst}
 use Rattle.std.proofs.lemmas.List.Sorted.{IsNonDecreasingBy-from_sort, answers_always}
 use Rattle.quick_cache_locked.specs.declared.heated.Heated.{Heated}
 use Rattle.quick_cache_locked.specs.Hottest.{coolness}
