@@ -1,4 +1,5 @@
 mod FillLemmas
+mod HottestLemmas
 mod ManyLemmas
 mod SumLemmas
 mod TryLemmas

@@ -1,6 +1,7 @@
 //! The calls, by what they do under the lock of a shard.
 
 pub mod filling;
+pub mod hottest;
 pub mod loads;
 pub mod many;
 pub mod reads;

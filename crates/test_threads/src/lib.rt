@@ -13,6 +13,8 @@ mod beside;
 #[cfg(test)]
 mod calls;
 #[cfg(test)]
+mod hottest;
+#[cfg(test)]
 mod listened;
 #[cfg(test)]
 mod names;

@@ -66,3 +66,16 @@ fn get_many(rt: HostRuntime) -> Result<(), Fail> {
     assert_eq!(rt; found.as_slice(), [Some(10), None].as_slice());
     Ok(())
 }
+
+#[test]
+fn hottest(rt: HostRuntime) -> Result<(), Fail> {
+    let cache = Cache::new(rt.alloc(), 100)?;
+    for name in ["circle", "square", "square"] {
+        assert_eq!(rt; cache.put(&rt, name, 4), Ok(()));
+    }
+    // Each is shown with its ring and its mark.
+    let shown = cache.hottest(&rt, rt.alloc(), 1)?;
+    assert_eq!(rt; shown.len(), 1);
+    assert_eq!(rt; (shown[0].key, shown[0].mark), ("square", 1));
+    Ok(())
+}

@@ -1,11 +1,13 @@
 //! What a user relies on who fills a shared cache, or asks it for many keys at once.
-ghost use Rattle.std.specs.Prelude.{◌≡◌, ◌<◌, ℕ, List, None, Some, length, slice_index_or, OnOk, IfOk, IfErr, IfSome};
+ghost use Rattle.std.specs.Prelude.{◌≡◌, ◌<◌, ◌≤◌, ℕ, List, None, Some, length, slice_index_or, OnOk, IfOk, IfErr, IfSome};
 ghost use Rattle.std.specs.Iterator.{Drains, IsFinite, YieldsThen};
+ghost use Rattle.std.specs.List.Sorted.{IsNonDecreasingBy};
 ghost use Rattle.quick_cache_locked.specs.Fitting.{ClonesFit, FitsQuery};
+ghost use Rattle.quick_cache_locked.specs.Hottest.{coolness};
 ghost use Rattle.quick_cache_sync.specs.Fills.{GivesFitting};
 
 use quick_cache_model::{Equivalent, Lifecycle, Refusal, Weighter};
-use quick_cache_sync::Cache;
+use quick_cache_sync::{Cache, Heated};
 use std::alloc::Allocator;
 use std::hash::{BuildHasher, Hash};
 use std::sync::Wait;
@@ -54,4 +56,25 @@ pub fn get_what_fits<
         → IfSome (slice_index_or values.items index None) (FitsQuery L.fits (Q.equivalent query))) }
 {
     cache.get_many(rt, alloc, queries)
+}
+
+/// No more of the hottest items are shown than are asked for, and none is hotter than one before it.
+pub fn show_the_hottest<
+    K: Eq + Hash + Clone + Drop,
+    V: Clone,
+    We,
+    B: BuildHasher,
+    L: Lifecycle<K, V>,
+    O: Allocator + Clone,
+    R: Wait,
+>(
+    cache: &Cache<K, V, We, B, L>,
+    rt: &R,
+    alloc: O,
+    count: usize,
+) -> Result<Vec<Heated<K, V>, O>, Refusal>
+    ensures within { IfOk result (λ list. length list.items ≤ count) }
+    ensures order { IfOk result (λ list. IsNonDecreasingBy coolness list.items) }
+{
+    cache.hottest(rt, alloc, count)
 }
