@@ -44,6 +44,7 @@ fn a_task_loads_what_is_too_old(rt: HostRuntime) {
         let got = expect_ok!(rt; runtime.block_on(&rt, asks(&rt, &loaded, &1, now)));
         expect_eq!(rt; (got, calls.load(Ordering::SeqCst)), (Ok(answer), count));
     }
+    expect_eq!(rt; (loaded.hits(&rt), loaded.misses(&rt)), (2, 2));
 }
 
 #[test]
