@@ -5,9 +5,10 @@ ghost use Rattle.quick_cache_listeners.specs.declared.causes.cause.Stage.TheVari
 
 use quick_cache_listeners::{
     ByLength, Cause, Collect, Collected, Counted, Counts, ListenerWhy, OnLeave, OnLeaveWhy, Pin,
-    PinBy, Request,
+    PinBy, PinHeld, Request,
 };
 use quick_cache_model::{Lifecycle, Weighter};
+use std::rc::Rc;
 
 /// A text weighs as many as it has bytes.
 pub fn weigh_a_text(number: &u64, text: &'static str) -> u64
@@ -87,4 +88,13 @@ pub fn count_a_victim(
         ≡ counts.old.state.tallies.evicted_cold.weight + length text.now }
 {
     Counted(ByLength, OnLeave(Collect)).on_evict_cold(counts, key, text);
+}
+
+/// A handle that leaves is kept as it is, though others may have pinned it before.
+pub fn keep_what_was_held(left: &mut Collected<u64, Rc<u64>>, key: u64, value: Rc<u64>)
+    requires empty { left.old.pairs ≡ Some [] }
+    requires room { 0 < left.old.room }
+    ensures { left.new.pairs ≡ Some ((key, value) ∷ []) }
+{
+    PinHeld(OnLeave(Collect)).on_evict_cold(left, key, value);
 }
