@@ -4,11 +4,12 @@ ghost use Rattle.quick_cache_listeners.specs.declared.causes.cause.Cause.TheVari
 ghost use Rattle.quick_cache_listeners.specs.declared.causes.cause.Stage.TheVariants.{Armed};
 
 use quick_cache_listeners::{
-    ByLength, Cause, Collect, Collected, Counted, Counts, ListenerWhy, OnLeave, OnLeaveWhy, Pin,
-    PinBy, PinHeld, Request,
+    ByLength, Cause, Collect, Collected, Counted, CountedByThreads, Counts, ListenerWhy, OnLeave,
+    OnLeaveWhy, Pin, PinBy, PinHeld, Request, SharedTallies,
 };
 use quick_cache_model::{Lifecycle, Weighter};
 use std::rc::Rc;
+use std::sync::Arc;
 
 /// A text weighs as many as it has bytes.
 pub fn weigh_a_text(number: &u64, text: &'static str) -> u64
@@ -97,4 +98,23 @@ pub fn keep_what_was_held(left: &mut Collected<u64, Rc<u64>>, key: u64, value: R
     ensures { left.new.pairs ≡ Some ((key, value) ∷ []) }
 {
     PinHeld(OnLeave(Collect)).on_evict_cold(left, key, value);
+}
+
+/// What leaves is kept by the listener below those who count it for threads.
+pub fn keep_what_threads_count(
+    tallies: Arc<SharedTallies>,
+    left: &mut Request<Collected<u64, &'static str>>,
+    key: u64,
+    text: &'static str,
+)
+    requires empty { left.old.state.pairs ≡ Some [] }
+    requires room { 0 < left.old.state.room }
+    ensures { left.new.state.pairs ≡ Some ((key, text.entry) ∷ []) }
+{
+    let lifecycle = CountedByThreads {
+        tallies,
+        weigher: ByLength,
+        inner: OnLeave(Collect),
+    };
+    lifecycle.on_evict_hot(left, key, text);
 }

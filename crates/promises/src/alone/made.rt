@@ -1,8 +1,10 @@
 //! What a user relies on who makes a cache by a maker.
 ghost use Rattle.std.specs.Prelude.{◌≡◌, IfOk, IsOk};
+ghost use Rattle.std.specs.Int.{IsPowerOfTwo};
 
 use quick_cache_listeners::ByLength;
 use quick_cache_maker::{MakeError, Maker};
+use quick_cache_sync::Cache as SharedCache;
 use quick_cache_unsync::Cache;
 use std::alloc::Global;
 
@@ -17,4 +19,15 @@ pub fn make_for_bytes(alloc: Global, bytes: u64) -> Result<Cache<u64, String, By
         .weight(bytes)
         .weigher(ByLength)
         .make_unsync(alloc)
+}
+
+/// A cache that threads share has a power of two of shards, whatever is asked for.
+pub fn make_for_threads(alloc: Global, shards: usize) -> Result<SharedCache<u64, u64>, MakeError>
+    ensures { IfOk result (λ cache. IsPowerOfTwo cache.shards) }
+{
+    Maker::new()
+        .items(1000)
+        .weight(1000)
+        .shards(shards)
+        .make_shared(alloc)
 }

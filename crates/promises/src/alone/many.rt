@@ -1,6 +1,7 @@
 //! What a user relies on who writes, or asks for, many pairs at once.
-ghost use Rattle.std.specs.Prelude.{◌≤◌, List, Some, OnOk, IfOk, IfErr};
+ghost use Rattle.std.specs.Prelude.{◌≡◌, ◌≤◌, List, Some, OnOk, IfOk, IfErr};
 ghost use Rattle.std.specs.Iterator.{Drains, IsFinite, YieldsThen};
+ghost use Rattle.quick_cache_model.specs.CacheState.{item_count};
 
 use quick_cache_model::{Lifecycle, Refusal, Weighter};
 use quick_cache_unsync::Cache;
@@ -36,4 +37,11 @@ pub fn count_the_hottest<K: Eq + Hash, V, We, B: BuildHasher, L, O: Allocator>(
 {
     let list = cache.hottest(alloc, count)?;
     Ok(list.len())
+}
+
+/// A walk has an entry for each item.
+pub fn count_by_walk(cache: &Cache<u64, u64>) -> usize
+    ensures { result ≡ item_count cache.now.state }
+{
+    cache.into_iter().count()
 }
