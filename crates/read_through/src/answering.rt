@@ -32,9 +32,35 @@ impl<
     Li: Lives<K, V>,
     We: Weighter<K, V>,
 > ReadThrough<K, V, F, S, A, Li, We> {
-    /// Answers what is stored and serves, or what the load gives, which is called once at most. A
-    /// value that serves is found under the read lock of the key's shard. Where none is there, the
-    /// guard comes of the same look.
+    /// The value that is stored under the key, where it serves and its loader was asked no longer ago
+    /// than `refresh_after`. It takes the read lock of the key's shard alone.
+    #[inline(always)]
+    pub(crate) fn served<R: Wait>(
+        &self,
+        rt: &R,
+        key: &K,
+        now: u64,
+        refresh_after: u64,
+    ) -> Option<V>
+        requires clones { GivesClones S.gives V.is_clone }
+        ensures fresh { IfSome result
+            (Answers S.gives K.eq key.now (Li.life_of self.now.lives key.now) now) }
+    {
+        let Ok(Some(found)) = self.cache.find(rt, key) else {
+            return None;
+        };
+        let life = self.lives.life(key, &found.value, found.moment);
+        if !found.serves(life, now) || found.is_due(refresh_after, now) {
+            // The look that follows counts it.
+            self.not_hits.fetch_add(1, Ordering::SeqCst);
+            return None;
+        }
+        Some(found.value)
+    }
+
+    /// Answers what is stored and serves, or what the load gives, which is called once at most. It is
+    /// for what `served` does not answer; where nothing is there, the guard comes of its look.
+    #[inline(never)]
     pub(crate) fn answer<R: Wait + Clock, E: Drop, G: FnOnce() -> Result<V, E>>(
         &self,
         rt: &R,

@@ -95,6 +95,9 @@ impl<
             (Answers S.gives K.eq key.now (Li.life_of self.now.lives key.now) now) }
         ensures refused { IfErr result IsLoadRefusal }
     {
+        if let Some(value) = self.served(rt, key, now, refresh_after) {
+            return Ok(value);
+        }
         let loader = &self.loader;
         let load = || -> Result<V, Infallible>
             requires { F.IsAlwaysCallable loader.now }
@@ -181,6 +184,9 @@ impl<
             (λ error. Loads F.Fn self.now.loader key.now now (Err error))) }
         ensures refused { IfErr result IsLoadRefusal }
     {
+        if let Some(value) = self.served(rt, key, now, refresh_after) {
+            return Ok(Ok(Given::Fresh(value)));
+        }
         let loader = &self.loader;
         let load = || -> Result<V, E>
             requires { F.IsAlwaysCallable loader.now }

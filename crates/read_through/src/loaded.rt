@@ -50,7 +50,7 @@ impl<V> Loaded<V> {
     pub fn serves(&self, life: u64, now: u64) -> bool
         ensures { IsTrue result ↔ Serves life self.now.moment now }
     {
-        life > 0 && u128::from(now) < u128::from(self.moment) + u128::from(life)
+        now.saturating_sub(self.moment) < life
     }
 
     /// Whether its life and a grace after it are not over at a moment.

@@ -40,6 +40,7 @@ impl<
 
     /// As `get`, but where nothing is found no miss is counted: it is for a call that goes on to
     /// begin a load.
+    #[inline(always)]
     pub fn find<Q: Equivalent<K>>(&self, query: &Q) -> Result<Option<V>, Refusal>
         ensures finds { Peeks (Q.equivalent query.now) V.is_clone self.now.state result }
         ensures fits { ShowsFitting L.fits (Q.equivalent query.now) V.is_clone result }

@@ -40,6 +40,22 @@ impl<K: Eq + Hash + Drop, V: Clone, We, B: BuildHasher, L: Lifecycle<K, V>, A: A
         self.reading(rt, query).get(query)
     }
 
+    /// As `get`, but where nothing is found no miss is counted: it is for who then goes on to a call
+    /// that counts it, as `entry` or one that loads.
+    ///
+    /// # Errors
+    ///
+    /// As `get`.
+    #[inline(always)]
+    pub fn find<Q: Equivalent<K>, R: Wait>(&self, rt: &R, query: &Q) -> Result<Option<V>, Refusal>
+        ensures answers { FromSome L.Lifecycle K.eq (λ (shard : Shard K V We B L).
+            Peeks (Q.equivalent query.now) V.is_clone shard.state result) }
+        ensures fits { ShowsFitting L.fits (Q.equivalent query.now) V.is_clone result }
+        ensures succeeds { ((value : V) → V.is_infallible value) → IsOk result }
+    {
+        self.reading(rt, query).find(query)
+    }
+
     /// Looks at the query's key and gives a clone of its value, made under the lock. It is no use
     /// of the item, and nothing changes. It takes the read lock of the key's shard.
     ///
