@@ -1,2 +1,3 @@
 mod LookLemmas
+mod PurgeLemmas
 mod TellLemmas

@@ -1,3 +1,4 @@
 pub mod Looks
+pub mod Purges
 pub mod Renewals
 pub mod Loads

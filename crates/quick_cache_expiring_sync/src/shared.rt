@@ -17,7 +17,7 @@ use std::alloc::{Allocator, Global};
 use std::hash::{BuildHasher, Hash};
 use std::marker::Model;
 use std::sync::Wait;
-use std::sync::atomic::{AtomicU64, Ordering};
+use std::sync::atomic::{AtomicU32, AtomicU64, AtomicUsize, Ordering};
 
 /// A cache that threads share by reference, whose entries end: each has its end, and serves at the
 /// moments below it.
@@ -36,6 +36,10 @@ pub struct SharedExpiring<
     pub(crate) cache: Cache<K, Lasting<V>, ByValue<We>, B, L, A>,
     // How many looks found what was over, each of which the cache counted as a hit.
     pub(crate) expired: AtomicU64,
+    // The shard in which the next purge of some goes on, and the token there behind which it does, 0
+    // for none. Whatever they are, such a purge is one of some entries.
+    pub(crate) next_shard: AtomicUsize,
+    pub(crate) next_token: AtomicU32,
 }
 
 impl<
@@ -121,6 +125,8 @@ impl<
         Ok(SharedExpiring {
             cache,
             expired: AtomicU64::new(0),
+            next_shard: AtomicUsize::new(0),
+            next_token: AtomicU32::new(0),
         })
     }
 

@@ -1,5 +1,5 @@
 //! The rows of the cache that threads share.
-use crate::rows::LIVES;
+use crate::rows::{LIVES, PURGED_IN_PARTS};
 use quick_cache_expiring_sync::{SharedExpiring, Stats};
 use std::convert::Infallible;
 use std::sync::Wait;
@@ -59,6 +59,33 @@ fn what_lives_is_renewed_by_threads_and_what_is_over_is_purged(rt: HostRuntime) 
         expired: 1,
     };
     expect_eq!(rt; entries.stats(&rt), stats);
+}
+
+#[test]
+fn a_shared_purge_of_some_goes_on_where_it_stopped(rt: HostRuntime) {
+    // One shard, since each is made for 32 entries at least.
+    for (at_most, purged) in PURGED_IN_PARTS {
+        let entries: SharedExpiring<u64, u64> = expect_ok!(rt; SharedExpiring::new(rt.alloc(), 8));
+        for key in 0..6 {
+            expect_eq!(rt; entries.insert(&rt, key, key, 0, key).is_ok(), true);
+        }
+        for gone in purged {
+            expect_eq!(rt; entries.purge_some(&rt, 3, at_most), gone);
+        }
+    }
+}
+
+#[test]
+fn purges_of_some_go_round_the_shards(rt: HostRuntime) {
+    let entries: SharedExpiring<u64, u64> = expect_ok!(rt; SharedExpiring::new(rt.alloc(), 1000));
+    for key in 0..100 {
+        expect_eq!(rt; entries.insert(&rt, key, key, 0, key).is_ok(), true);
+    }
+    let mut gone = 0usize;
+    for _ in 0..entries.cache().num_shards() {
+        gone = gone.saturating_add(entries.purge_some(&rt, 49, 1000));
+    }
+    expect_eq!(rt; (gone, entries.len(&rt)), (50, 50));
 }
 
 #[test]
