@@ -1,5 +1,6 @@
 //! What those rely on who share the cache, or a shard of it.
 
+pub mod ending;
 pub mod fitting;
 pub mod lives;
 pub mod loads;

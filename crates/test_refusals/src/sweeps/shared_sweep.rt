@@ -10,7 +10,7 @@ use crate::sweeps::slip::{ByDigits, ByHundreds, Slip};
 use crate::sweeps::stage::{AMPLE, Outcome, Slips, Stage};
 use futures::test::MockTask;
 use quick_cache_sync::Cache;
-use std::alloc::Global;
+use std::alloc::{AllocError, Global};
 use std::sync::Wait;
 use std::test::Fail;
 use std::time::Clock;
@@ -192,7 +192,40 @@ fn staged<'c, 'a, R: Wait + Clock>(
     }
 }
 
-/// Makes a plan of a row, and draws in what can be told of the cache then.
+/// Makes a plan, and draws in what can be told of the cache then.
+fn make_plan<R: Wait + Clock>(
+    stage: &mut Stage<'_, '_, R>,
+    steps: &[Step],
+    plan: Plan,
+) -> Result<Ended, Fail> {
+    let (rt, cache) = (stage.rt, stage.cache);
+    stage.ration.allow(plan.blocks);
+    let mut ended = make_all(stage, steps, plan)?;
+    stage.ration.allow(AMPLE);
+    if let Some(last) = plan.last {
+        stage.make(last)?;
+    }
+    (ended.hits, ended.misses) = (cache.hits(rt), cache.misses(rt));
+    counts(stage, &mut ended.drawn)?;
+    loading(stage, &mut ended.drawn)?;
+    stage.guards.clear();
+    loading(stage, &mut ended.drawn)?;
+    stage.tasks.clear();
+    loading(stage, &mut ended.drawn)?;
+    leaving(stage, &mut ended.drawn)?;
+    Ok(ended)
+}
+
+/// The keys that are read in the end.
+fn read_keys<'a>(alloc: Global, ration: &'a Rationed<Global>) -> Result<Vec<Slip<'a>>, AllocError> {
+    let mut keys = Vec::new(alloc);
+    for number in 0..10 {
+        keys.push(Slip::new(ration, number))?;
+    }
+    Ok(keys)
+}
+
+/// Makes a plan of a row on a new cache.
 fn go<R: Wait + Clock>(
     rt: &R,
     alloc: Global,
@@ -203,26 +236,9 @@ fn go<R: Wait + Clock>(
     let ration = Rationed::new(alloc, AMPLE);
     let (_, items, weight, steps) = *row;
     let cache: Slips<'_> = Cache::with(&ration, items, weight, ByDigits, Thousand, ByHundreds)?;
-    let mut keys = Vec::new(alloc);
-    for number in 0..10 {
-        keys.push(Slip::new(&ration, number))?;
-    }
+    let keys = read_keys(alloc, &ration)?;
     let mut stage = staged(rt, alloc, polls, &ration, &cache, &keys);
-    ration.allow(plan.blocks);
-    let mut ended = make_all(&mut stage, steps, plan)?;
-    ration.allow(AMPLE);
-    if let Some(last) = plan.last {
-        stage.make(last)?;
-    }
-    (ended.hits, ended.misses) = (cache.hits(rt), cache.misses(rt));
-    counts(&mut stage, &mut ended.drawn)?;
-    loading(&mut stage, &mut ended.drawn)?;
-    stage.guards.clear();
-    loading(&mut stage, &mut ended.drawn)?;
-    stage.tasks.clear();
-    loading(&mut stage, &mut ended.drawn)?;
-    leaving(&mut stage, &mut ended.drawn)?;
-    Ok(ended)
+    make_plan(&mut stage, steps, plan)
 }
 
 /// Whether both tell the same. A refused call may have met a placeholder, which counts a hit.

@@ -204,26 +204,32 @@ struct Ended {
     is_unchanged: bool,
 }
 
-/// Makes the calls of a row with memory for so many blocks up to the first refusal. There is ample
-/// memory from then on, and the refused call is made again.
-fn go(alloc: Global, row: &Row<'_>, blocks: u64) -> Result<Ended, Fail> {
-    let ration = Rationed::new(alloc, blocks);
-    let (_, items, weight, steps) = *row;
-    let mut cache: Slips<'_> = Cache::with(&ration, items, weight, ByDigits, Thousand, ByHundreds)?;
-    let mut ended = Ended {
+/// Nothing was made yet.
+fn new_end() -> Ended {
+    Ended {
         drawn: Drawn::default(),
         refused: None,
         is_unchanged: true,
-    };
+    }
+}
+
+/// Makes calls up to the first refusal. There is ample memory from then on, and the refused call is
+/// made again.
+fn make_all<'a>(
+    ration: &'a Rationed<Global>,
+    cache: &mut Slips<'a>,
+    steps: &[Step],
+) -> Result<Ended, Fail> {
+    let mut ended = new_end();
     for (at, step) in steps.iter().enumerate() {
-        let before = picture(&cache);
+        let before = picture(cache);
         let mut told = Drawn::default();
-        let mut outcome = make(&ration, &mut cache, step, &mut told)?;
+        let mut outcome = make(ration, cache, step, &mut told)?;
         if let Outcome::Refused = outcome {
             ended.refused = Some(at);
-            ended.is_unchanged = picture(&cache) == before && told == Drawn::default();
+            ended.is_unchanged = picture(cache) == before && told == Drawn::default();
             ration.allow(AMPLE);
-            outcome = make(&ration, &mut cache, step, &mut told)?;
+            outcome = make(ration, cache, step, &mut told)?;
         }
         let Outcome::Made(answer) = outcome else {
             return Err(Fail::new(
@@ -232,8 +238,16 @@ fn go(alloc: Global, row: &Row<'_>, blocks: u64) -> Result<Ended, Fail> {
         };
         ended.drawn.add(&[answer.sum, told.sum]);
     }
-    copy(&ration, &cache, steps.len(), &mut ended)?;
+    copy(ration, cache, steps.len(), &mut ended)?;
     Ok(ended)
+}
+
+/// Makes the calls of a row on a new cache, with memory for so many blocks up to the first refusal.
+fn go(alloc: Global, row: &Row<'_>, blocks: u64) -> Result<Ended, Fail> {
+    let ration = Rationed::new(alloc, blocks);
+    let (_, items, weight, steps) = *row;
+    let mut cache: Slips<'_> = Cache::with(&ration, items, weight, ByDigits, Thousand, ByHundreds)?;
+    make_all(&ration, &mut cache, steps)
 }
 
 /// Draws in what is seen of a cache and of a copy of it, which is made again where it was refused.
@@ -306,24 +320,29 @@ fn make_at_last<'a>(
     Err(Fail::new("a call is refused with ample memory"))
 }
 
-/// Makes all calls of a row so, and tells how often one was refused.
+/// Makes all calls so, and tells how often one was refused.
+fn make_all_at_last<'a>(
+    ration: &'a Rationed<Global>,
+    cache: &mut Slips<'a>,
+    steps: &[Step],
+) -> Result<(Ended, u64), Fail> {
+    let mut ended = new_end();
+    let mut refusals = 0u64;
+    for step in steps {
+        let refused = make_at_last(ration, cache, step, &mut ended)?;
+        refusals = refusals.saturating_add(refused);
+    }
+    ration.allow(AMPLE);
+    copy(ration, cache, steps.len(), &mut ended)?;
+    Ok((ended, refusals))
+}
+
+/// Makes all calls of a row so on a new cache.
 fn go_on(alloc: Global, row: &Row<'_>) -> Result<(Ended, u64), Fail> {
     let ration = Rationed::new(alloc, AMPLE);
     let (_, items, weight, steps) = *row;
     let mut cache: Slips<'_> = Cache::with(&ration, items, weight, ByDigits, Thousand, ByHundreds)?;
-    let mut ended = Ended {
-        drawn: Drawn::default(),
-        refused: None,
-        is_unchanged: true,
-    };
-    let mut refusals = 0u64;
-    for step in steps {
-        let refused = make_at_last(&ration, &mut cache, step, &mut ended)?;
-        refusals = refusals.saturating_add(refused);
-    }
-    ration.allow(AMPLE);
-    copy(&ration, &cache, steps.len(), &mut ended)?;
-    Ok((ended, refusals))
+    make_all_at_last(&ration, &mut cache, steps)
 }
 
 #[test]

@@ -1,0 +1,67 @@
+//! What those rely on who share a cache whose entries end: what is over is not shown, and not renewed.
+ghost use Rattle.std.specs.Prelude.{◌≡◌, ◌≤◌, IfOk, None, false};
+
+use quick_cache_expiring::Lasting;
+use quick_cache_expiring_sync::SharedExpiring;
+use quick_cache_model::{DefaultHashBuilder, Lifecycle, Refusal, UnitWeighter};
+use std::sync::Wait;
+use std::time::Clock;
+
+/// Says that each entry ends by the moment 20.
+#[derive(Drop)]
+pub struct EndsByTwenty;
+
+impl Lifecycle<u64, Lasting<u64>> for EndsByTwenty {
+    type RequestState = ();
+
+    ghost fits = { λ _ lasting. lasting.until ≤ 20 };
+
+    ghost before_evict_gives = { λ _ _ _ value _ left. value.until ≤ 20 → left.until ≤ 20 };
+
+    ghost on_evict_gives = { λ _ _ _ _ _. Unit {0} };
+
+    ghost on_evict_cold_gives = { λ _ _ _ _ _. Unit {0} };
+
+    ghost on_evict_hot_gives = { λ _ _ _ _ _. Unit {0} };
+
+    ghost keeps_fits = { λ _ _ _ _ _ _ gives fits. gives fits };
+
+    ghost same_fits = { λ _ _ _ _ fits. fits };
+
+    fn is_pinned(&self, _key: &u64, _value: &Lasting<u64>) -> bool {
+        false
+    }
+
+    fn before_evict(&self, _state: &mut (), _key: &u64, _value: &mut Lasting<u64>) {}
+
+    fn on_evict(&self, _state: &mut (), _key: u64, _value: Lasting<u64>) {}
+
+    fn on_evict_cold(&self, _state: &mut (), _key: u64, _value: Lasting<u64>) {}
+
+    fn on_evict_hot(&self, _state: &mut (), _key: u64, _value: Lasting<u64>) {}
+}
+
+/// A shared cache of such entries.
+pub type Ending = SharedExpiring<u64, u64, UnitWeighter, DefaultHashBuilder, EndsByTwenty>;
+
+/// At that moment none is shown.
+pub fn get_at_the_end<R: Wait>(
+    rt: &R,
+    ending: &Ending,
+    key: &u64,
+) -> Result<Option<u64>, Refusal>
+    ensures { IfOk result (λ found. found ≡ None) }
+{
+    ending.get(rt, key, 20)
+}
+
+/// And none is renewed.
+pub fn touch_at_the_end<R: Wait + Clock>(
+    rt: &R,
+    ending: &Ending,
+    key: &u64,
+) -> Result<bool, Refusal>
+    ensures { IfOk result (λ renewed. renewed ≡ false) }
+{
+    ending.touch(rt, key, 20, 0)
+}
