@@ -26,8 +26,9 @@ awk -F '|' '
     FNR == 1 { print "| What | Asked | Had |\n|---|---|---|" }
     {
         if (!($2 in figures)) { print "no figure: " $2; missing = 1; next }
-        if (figures[$2] > $1) over++
-        printf "| %s | %s | %s%s |\n", $2, $1, figures[$2], figures[$2] > $1 ? ", more" : ""
+        is_over = figures[$2] + 0 > $1 + 0
+        over += is_over
+        printf "| %s | %s | %s%s |\n", $2, $1, figures[$2], (is_over ? ", more" : "")
     }
     END { printf "\n%d of %d are more than asked.\n", over, FNR; exit missing }' "$had" - <<'END'
 1.05|hits by `get`, 1000
@@ -58,7 +59,7 @@ awk -F '|' '
 1.2|shared get, 262144, threads: 4
 1.4|shared insert, 16384, threads: 1
 1.4|shared insert, 16384, threads: 4
-1.4|`ReadThrough::get` beside `get`
+1.25|`ReadThrough::get` beside `get`
 400|instructions, fresh keys by `get` and `insert`
 390|instructions, removal and insert
 60|instructions, hits by `get`
