@@ -124,7 +124,9 @@ impl<
         requires loads { LoadsFrom F.Fn self.old.reading.loader S.gives }
         ensures fresh { IfReady result (λ answer. IfOk answer (Answers S.gives K.eq self.old.key
             (Li.life_of self.old.reading.lives self.old.key) self.old.moment)) }
-        // It answers once; then it is refused as `Finished`.
+        // It is refused as a load is, and answers once; then it is refused as `Finished`.
+        ensures unfinished { self.old.is_finished ≡ false
+            → IfReady result (λ answer. IfErr answer IsLoadRefusal) }
         ensures finished { IfReady result (λ _. self.new.is_finished ≡ true) }
         ensures refused { self.old.is_finished ≡ true
             → result ≡ Poll.Ready (Err Refusal.Finished) }

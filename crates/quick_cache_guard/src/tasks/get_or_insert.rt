@@ -102,6 +102,7 @@ impl<
         requires clones { ClonesFit L.fits V.is_clone }
         ensures query { result.query ≡ query.now }
         ensures loader { result.loader ≡ loader }
+        ensures begins { result.is_finished ≡ false }
     {
         GetOrInsert {
             waiting: ValueOrGuard::new(rt, shard, query),

@@ -32,6 +32,7 @@ impl<
     ) -> ValueOrGuard<'a, 'q, Q, K, V, L, LockedShard<K, V, We, B, L, A>, R, A>
         requires stands { StandsForGiven (Q.to_key_gives query.now) (Q.equivalent query.now) }
         ensures query { result.query ≡ query.now }
+        ensures begins { result.is_finished ≡ false }
     {
         ValueOrGuard::new(rt, self.shard_of(query), query)
     }
@@ -53,6 +54,7 @@ impl<
         requires clones { ClonesFit L.fits V.is_clone }
         ensures query { result.query ≡ query.now }
         ensures loader { result.loader ≡ loader }
+        ensures begins { result.is_finished ≡ false }
     {
         GetOrInsert::new(rt, self.shard_of(query), query, loader)
     }
