@@ -15,6 +15,17 @@ fn get(rt: HostRuntime) -> Result<(), Fail> {
 }
 
 #[test]
+fn find(rt: HostRuntime) -> Result<(), Fail> {
+    let cache = Cache::new(rt.alloc(), 100)?;
+    assert!(rt; cache.insert(&rt, "square", 4).is_ok());
+    let found = (cache.find(&rt, &"square"), cache.find(&rt, &"circle"));
+    assert_eq!(rt; found, (Ok(Some(4)), Ok(None)));
+    // What is there counts as a hit, and what is not there counts as no miss.
+    assert_eq!(rt; (cache.hits(&rt), cache.misses(&rt)), (1, 0));
+    Ok(())
+}
+
+#[test]
 fn peek(rt: HostRuntime) -> Result<(), Fail> {
     let cache = Cache::new(rt.alloc(), 100)?;
     assert!(rt; cache.insert(&rt, "square", 4).is_ok());
