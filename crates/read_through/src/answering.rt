@@ -35,13 +35,7 @@ impl<
     /// The value that is stored under the key, where it serves and its loader was asked no longer ago
     /// than `refresh_after`. It takes the read lock of the key's shard alone.
     #[inline(always)]
-    pub(crate) fn served<R: Wait>(
-        &self,
-        rt: &R,
-        key: &K,
-        now: u64,
-        refresh_after: u64,
-    ) -> Option<V>
+    pub(crate) fn served<R: Wait>(&self, rt: &R, key: &K, now: u64, refresh_after: u64) -> Option<V>
         requires clones { GivesClones S.gives V.is_clone }
         ensures fresh { IfSome result
             (Answers S.gives K.eq key.now (Li.life_of self.now.lives key.now) now) }

@@ -45,11 +45,7 @@ impl Lifecycle<u64, Lasting<u64>> for EndsByTwenty {
 pub type Ending = SharedExpiring<u64, u64, UnitWeighter, DefaultHashBuilder, EndsByTwenty>;
 
 /// At that moment none is shown.
-pub fn get_at_the_end<R: Wait>(
-    rt: &R,
-    ending: &Ending,
-    key: &u64,
-) -> Result<Option<u64>, Refusal>
+pub fn get_at_the_end<R: Wait>(rt: &R, ending: &Ending, key: &u64) -> Result<Option<u64>, Refusal>
     ensures { IfOk result (λ found. found ≡ None) }
 {
     ending.get(rt, key, 20)
