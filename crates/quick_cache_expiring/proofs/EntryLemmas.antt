@@ -1,7 +1,7 @@
 -- Looks at entries that may be over, from looks at values with their ends.
 use Rattle.std.proofs.Common.{◌≡◌, ◌≤◌, ℕ, Bool, true, false, List, ◌∷◌, ◌++◌, Option, Some, None, refl, sym, ap, subst, ◌∙◌, arith}
-use Rattle.quick_cache_model.specs.CacheState.{CacheState, Item, LoadingEntry, IsValid, Place, UpToOrder, keys_by}
-use Rattle.quick_cache_model.specs.Finding.{IsItemAt, IsLoadingAt, HasNoItem}
+use Rattle.quick_cache_model.specs.CacheState.{CacheState, Item, LoadingEntry, IsValid, UpToOrder, keys_by}
+use Rattle.quick_cache_model.specs.Finding.{IsLoadingAt, HasNoItem}
 use Rattle.quick_cache_model.specs.Lookups.{Sees, LooksUp}
 use Rattle.quick_cache_model.specs.Removal.{Removes}
 use Rattle.quick_cache_model.specs.Hooks.{Rules}
@@ -18,7 +18,7 @@ use Rattle.quick_cache_expiring.specs.declared.lasting.Lasting.{Lasting}
 use Rattle.quick_cache_expiring.specs.declared.by_value.ByValue.{ByValue}
 use Rattle.quick_cache_expiring.specs.Lastings.{lasting_of}
 use Rattle.quick_cache_expiring.specs.Lives.{lives}
-use Rattle.quick_cache_expiring.specs.Entries.{Entries, HasNoneOver, HasOver, Shows, DropsOver, LooksUpAt, Drops, Gets, Renews}
+use Rattle.quick_cache_expiring.specs.Entries.{Entries, KeepsRest, HasNoneOver, HasOver, Shows, DropsOver, LooksUpAt, Drops, Gets, Renews}
 
 -- a query stands for one key at most of a state in which no two keys are equal
 pub keys_by-one : {K V : Type 0} (test : K → Bool) (equal : K → K → Bool)
@@ -182,28 +182,31 @@ KeepsWork-state {K} {V} {We} {B} {L} old new same =
 pub Gets-looks : {K V We B L : Type 0} (test : K → Bool) (now : ℕ) (old new : Entries K V We B L)
     → HasNoneOver test now old.cache.state → (found : Option (Lasting V))
     → UpToOrder (LooksUp test old.cache.state (λ item. item.value) found) new.cache.state
-    → new.cache ≡ record old.cache { state = new.cache.state } → new.expired ≡ old.expired
+    → new.cache ≡ record old.cache { state = new.cache.state } → KeepsRest old new
     → (shown : Option V) → value_in found ≡ shown → Gets test now old shown new
-Gets-looks {K} {V} {We} {B} {L} test now old new none found looks same expired shown is =
+Gets-looks {K} {V} {We} {B} {L} test now old new none found looks same rest shown is =
     subst (λ (v : Option V). Gets test now old v new) is (record {
       over = false;
       looks_up = LooksUpAt-up test now old.cache.state none found new.cache.state looks;
-      expired = expired;
+      expired = ap (λ (e : Entries K V We B L). e.expired) rest;
+      from = ap (λ (e : Entries K V We B L). e.from) rest;
       same = KeepsWork-state old.cache new.cache same;
     })
 
 -- a look-up of what is over
 pub Gets-over : {K V We B L : Type 0} (test : K → Bool) (now : ℕ) (old mid new : Entries K V We B L)
     → Drops test now old mid → new.cache ≡ mid.cache → new.expired ≡ counted_up 1 mid.expired
-    → Gets test now old None new
-Gets-over {K} {V} {We} {B} {L} test now old mid new drops cache expired = record {
+    → new.from ≡ mid.from → Gets test now old None new
+Gets-over {K} {V} {We} {B} {L} test now old mid new drops cache expired from = record {
   over = true;
   looks_up = subst (λ (s : Shard K (Lasting V) (ByValue We) B L).
       UpToOrder (LooksUpAt test now old.cache.state None true) s.state) (sym cache)
       (UpToOrder-map (DropsOver test now old.cache.state)
       (LooksUpAt test now old.cache.state None true) mid.cache.state
       (λ state gone. LooksUpAt.over state gone) drops.goes);
-  expired = expired ∙ ap (λ (n : ℕ). counted_up 1 n) drops.expired;
+  expired = expired
+      ∙ ap (λ (e : Entries K V We B L). counted_up 1 e.expired) drops.rest;
+  from = from ∙ ap (λ (e : Entries K V We B L). e.from) drops.rest;
   same = subst (λ (s : Shard K (Lasting V) (ByValue We) B L). KeepsWork old.cache s) (sym cache)
       drops.same;
 }
@@ -237,10 +240,10 @@ pub Renews-written : {K V We B L S Q : Type 0} (equivalent : Q → K → Bool)
     → ReweighsUnder (equivalent asked) (rules_in goes no_touches lent)
     (with_value_under (equivalent asked) (lasting_of was.value until) lent.state) final.state
     → final ≡ record lent { state = final.state; places = final.places }
-    → new.expired ≡ old.expired → Renews (rules_in goes no_touches old.cache) (equivalent query) now
+    → KeepsRest old new → Renews (rules_in goes no_touches old.cache) (equivalent query) now
     until old new
 Renews-written {K} {V} {We} {B} {L} {S} {Q} equivalent goes now until old new query asked is none lent same
-    single seen looks was under final ends reweighs keeps expired =
+    single seen looks was under final ends reweighs keeps rest =
     let lived = found-lives (equivalent query) now old.cache.state none (Some seen) looks.ordered
     looks.holds seen refl in
     let whole : final ≡ record old.cache { state = final.state; places = final.places } =
@@ -258,7 +261,7 @@ Renews-written {K} {V} {We} {B} {L} {S} {Q} equivalent goes now until old new qu
           (subst (λ (x : Q × Rules K (Lasting V)). ReweighsUnder (equivalent x.0) x.1
           (with_value_under (equivalent x.0) (lasting_of was.value until) lent.state) final.state)
           (λ i. (is i, rules_in goes no_touches (same i))) reweighs);
-      expired = expired;
+      rest = rest;
       same = subst (λ (s : Shard K (Lasting V) (ByValue We) B L). KeepsWork old.cache s) (sym ends)
           (whole ∙ (λ i. record old.cache {
             state = final.state;

@@ -1,8 +1,8 @@
 -- Loads whose loader gives a value with its end.
-use Rattle.std.proofs.Common.{◌≡◌, ℕ, Bool, true, false, Result, Ok, Err, inl, inr, refl, sym, ap, ◌∙◌}
+use Rattle.std.proofs.Common.{◌≡◌, ℕ, Bool, true, false, Result, Ok, Err, inl, inr, sym, ap, ◌∙◌}
 use Rattle.std.specs.Bool.{OnTrue, OnFalse}
 use Rattle.quick_cache_shard.specs.Shard.{Shard, KeepsTerms, KeepsWork}
-use Rattle.quick_cache_expiring.specs.Entries.{Entries, Drops, HasNoneOver}
+use Rattle.quick_cache_expiring.specs.Entries.{Entries, KeepsRest, Drops, HasNoneOver}
 use Rattle.quick_cache_expiring.specs.Loads.{DropsIfOver}
 use Rattle.quick_cache_model.specs.declared.refusal.Refusal.{Refusal}
 use Rattle.quick_cache_model.specs.CacheState.{CacheState}
@@ -44,18 +44,18 @@ pub DropsIfOver-told : {K V We B L : Type 0} (test : K → Bool) (now : ℕ) (ol
 DropsIfOver-told test now old new true drops same none = inl drops
 DropsIfOver-told test now old new false drops same none = inr (none, same)
 
--- so the cache is made with the same, and as many looks found what was over
+-- so the cache is made with the same, and nothing else has changed
 pub DropsIfOver-same : {K V We B L : Type 0} (test : K → Bool) (now : ℕ)
     (old new : Entries K V We B L) → DropsIfOver test now old new
-    → KeepsWork old.cache new.cache × (new.expired ≡ old.expired)
-DropsIfOver-same test now old new (inl drops) = (drops.same, drops.expired)
+    → KeepsWork old.cache new.cache × KeepsRest old new
+DropsIfOver-same test now old new (inl drops) = (drops.same, drops.rest)
 DropsIfOver-same {K} {V} {We} {B} {L} test now old new (inr same) = (
   ap (λ (e : Entries K V We B L). e.cache) same.1 ∙ (λ i. record old.cache {
     state = (sym same.1 i).cache.state;
     places = (sym same.1 i).cache.places;
     room = (sym same.1 i).cache.room;
   }),
-  ap (λ (e : Entries K V We B L). e.expired) same.1,
+  same.1 ∙ ap (λ (e : Entries K V We B L). record old { cache = e.cache }) (sym same.1),
 )
 
 -- the same of two steps

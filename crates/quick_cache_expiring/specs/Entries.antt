@@ -13,10 +13,16 @@ use Rattle.quick_cache_expiring.specs.declared.by_value.ByValue.{ByValue}
 use Rattle.quick_cache_expiring.specs.Lastings.{lasting_of}
 use Rattle.quick_cache_expiring.specs.Lives.{lives}
 
--- the cache of the values with their ends, and how many looks found what was over
+-- the cache of the values with their ends, how many looks found what was over, and the token behind
+-- which the next purge of some goes on
 pub record Entries (K V We B L : Type 0) : Type 0 where
   pub cache : Shard K (Lasting V) (ByValue We) B L
   pub expired : ℕ
+  pub from : ℕ
+
+-- nothing but the cache has changed
+abbrev pub KeepsRest : {K V We B L : Type 0} → (old new : Entries K V We B L) → Type 0
+KeepsRest old new = new ≡ record old { cache = new.cache }
 
 module _ {K V : Type 0} (stands_for : K → Bool) (now : ℕ) (old : CacheState K (Lasting V)) where
   -- each entry of the query's key, of which there is one at most, serves
@@ -68,7 +74,7 @@ module _ {K V We B L : Type 0} (stands_for : K → Bool) (now : ℕ) (old : Entr
   -- the entry under the query is over and goes
   pub record Drops (new : Entries K V We B L) : Type 0 where
     pub goes : UpToOrder (DropsOver stands_for now old.cache.state) new.cache.state
-    pub expired : new.expired ≡ old.expired
+    pub rest : KeepsRest old new
     pub same : KeepsWork old.cache new.cache
 
   -- a look-up gives this
@@ -76,6 +82,7 @@ module _ {K V We B L : Type 0} (stands_for : K → Bool) (now : ℕ) (old : Entr
     pub over : Bool
     pub looks_up : UpToOrder (LooksUpAt stands_for now old.cache.state found over) new.cache.state
     pub expired : new.expired ≡ (if over then counted_up 1 old.expired else old.expired)
+    pub from : new.from ≡ old.from
     pub same : KeepsWork old.cache new.cache
 
 module _ {K V We B L : Type 0} (rules : Rules K (Lasting V)) (stands_for : K → Bool)
@@ -91,7 +98,7 @@ module _ {K V We B L : Type 0} (rules : Rules K (Lasting V)) (stands_for : K →
     pub under : IsValueUnder stands_for mid was
     pub writes : UpToOrder
         (WritesItem rules stands_for mid (lasting_of was.value until) true) new.cache.state
-    pub expired : new.expired ≡ old.expired
+    pub rest : KeepsRest old new
     pub same : KeepsWork old.cache new.cache
 
   -- it was renewed; or it is over and goes, or there is none, and nothing is renewed

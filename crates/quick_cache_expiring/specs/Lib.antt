@@ -1,5 +1,6 @@
 pub mod Lives
 pub mod Lastings
 pub mod Entries
+pub mod Purges
 pub mod Lent
 pub mod Loads

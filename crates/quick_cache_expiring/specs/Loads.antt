@@ -7,7 +7,7 @@ use Rattle.quick_cache_unsync.specs.Steps.{LoadsBy}
 use Rattle.quick_cache_unsync.specs.Touches.{no_touches}
 use Rattle.quick_cache_expiring.specs.declared.lasting.Lasting.{Lasting}
 use Rattle.quick_cache_expiring.specs.declared.by_value.ByValue.{ByValue}
-use Rattle.quick_cache_expiring.specs.Entries.{Entries, Drops, HasNoneOver}
+use Rattle.quick_cache_expiring.specs.Entries.{Entries, KeepsRest, Drops, HasNoneOver}
 
 -- a loader's value with this end, or its error
 abbrev pub GivesWithEnd : {V E : Type 0} → (given : Result V E → Type 0) → (until : ℕ)
@@ -33,4 +33,4 @@ module _ {K V We B L S E : Type 0} (goes : Goes K (Lasting V) (ByValue We) B L S
       pub loads : LoadsBy goes no_touches mid.cache is_default stands_for gives
           (hash_by mid.cache.builder) (GivesWithEnd given until) answer new.cache
       pub same : KeepsTerms old.cache new.cache
-      pub expired : new.expired ≡ old.expired
+      pub rest : KeepsRest old new

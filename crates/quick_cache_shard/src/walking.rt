@@ -1,4 +1,5 @@
 //! Walks over the items.
 
+pub mod retaining;
 pub mod walk;
 pub mod walk_from;

@@ -1,3 +1,4 @@
+pub mod AskedLemmas
 mod FillLemmas
 mod HottestLemmas
 mod ManyLemmas

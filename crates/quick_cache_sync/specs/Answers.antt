@@ -1,13 +1,15 @@
 -- The answers of calls whose state before nobody knows.
-use Rattle.std.specs.Prelude.{ℕ, Bool, Option, Result}
+use Rattle.std.specs.Prelude.{◌≡◌, ℕ, ◌-◌, Bool, Option, Result}
+use Rattle.std.specs.declared.num.NonZeroU32.{NonZeroU32 as Token}
 use Rattle.quick_cache_model.specs.declared.refusal.Refusal.{Refusal}
-use Rattle.quick_cache_model.specs.CacheState.{CacheState, UpToOrder}
+use Rattle.quick_cache_model.specs.CacheState.{CacheState, UpToOrder, item_count}
 use Rattle.quick_cache_model.specs.Hooks.{Rules, Hooks}
 use Rattle.quick_cache_model.specs.Removal.{Removes}
-use Rattle.quick_cache_shard.specs.Predicates.{RemovesAsked}
+use Rattle.quick_cache_shard.specs.Predicates.{RemovesAsked, RetainsAsked}
 use Rattle.quick_cache_shard.specs.Alone.{IsDoneAlone}
 use Rattle.quick_cache_shard.specs.Inserts.{Inserts}
 use Rattle.quick_cache_shard.specs.Replaces.{Replaces}
+use Rattle.quick_cache_shard.specs.RetainsSome.{RetainsSome}
 use Rattle.quick_cache_shard.specs.Shard.{Shard}
 use Rattle.quick_cache_shard.specs.Steps.{Goes, steady_in, hooks_in, rules_in}
 use Rattle.quick_cache_locked.specs.Touches.{any_touches}
@@ -22,6 +24,19 @@ module _ {K V : Type 0} (stands_for : K → Bool) (old : CacheState K V) where
   pub record RemovesAskedSo (answers : V → Bool → Type 0) (answer : Option (K × V)) : Type 0 where
     pub new : CacheState K V
     pub step : UpToOrder (RemovesAsked stands_for old answers answer) new
+
+-- of the items those are gone that were answered no, so many, and some state comes of it
+pub record RetainsAskedSo {K V : Type 0} (answers : K → V → Bool → Type 0) (old : CacheState K V)
+    (gone : ℕ) : Type 0 where
+  pub new : CacheState K V
+  pub step : UpToOrder (RetainsAsked answers old) new
+  pub counts : gone ≡ item_count old - item_count new
+
+-- some items were passed behind a token, and some shard comes of it
+pub record RetainsSomeSo {K V We B L : Type 0} (answers : K → V → Bool → Type 0) (after : ℕ)
+    (old : Shard K V We B L) (at_most : ℕ) (answer : Option Token × ℕ) : Type 0 where
+  pub new : Shard K V We B L
+  pub step : RetainsSome answers after old at_most answer new
 
 module _ {K V S : Type 0} (steady : Type 0) (hooks : Hooks K V S) (rules : Rules K V)
     (equal : K → K → Bool) (old : CacheState K V) where

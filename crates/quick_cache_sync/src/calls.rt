@@ -5,6 +5,7 @@ pub mod hottest;
 pub mod loads;
 pub mod many;
 pub mod reads;
+pub mod retaining;
 pub mod sizes;
 pub mod tasks;
 pub mod tries;

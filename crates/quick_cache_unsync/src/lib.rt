@@ -8,6 +8,7 @@ mod lifecycle;
 mod loading;
 mod many;
 mod removal;
+mod retaining;
 mod saving;
 mod sizes;
 mod walking;
@@ -22,7 +23,7 @@ pub use loading::guard::Guard;
 pub use loading::not_loaded::{LoadError, NotLoaded};
 pub use quick_cache_model::{
     Bytes, BytesIn, DefaultHashBuilder, Equivalent, ItemStats, Lifecycle, MemoryUsed, Queue,
-    Refusal, Text, TextIn, ToKey, UnitWeighter, Weighter, hash_of,
+    Refusal, Text, TextIn, ToKey, Token, UnitWeighter, Weighter, hash_of,
 };
 pub use quick_cache_options::options::{Options, OptionsBuilder};
 pub use quick_cache_shard::{CacheShard, Placeholder, Plainly};

@@ -57,6 +57,43 @@ fn what_lives_is_renewed_and_what_is_over_is_purged(rt: HostRuntime) {
     expect_eq!(rt; entries.stats(), stats);
 }
 
+/// How many of the entries 0 to 5, stored at 0 for so many moments as their key, go in turn by
+/// `purge_some` at 3, in which only the keys below 4 are over.
+const PURGED_IN_PARTS: [(usize, [usize; 4]); 5] = [
+    (0, [0, 0, 0, 0]),
+    (1, [1, 1, 1, 1]),
+    (2, [2, 2, 0, 0]),
+    (5, [4, 0, 0, 0]),
+    (usize::MAX, [4, 0, 0, 0]),
+];
+
+#[test]
+fn a_purge_of_some_goes_on_where_it_stopped(rt: HostRuntime) {
+    for (at_most, purged) in PURGED_IN_PARTS {
+        let mut entries: Expiring<u64, u64> = expect_ok!(rt; Expiring::new(rt.alloc(), 8));
+        for key in 0..6 {
+            expect_eq!(rt; entries.insert(key, key, 0, key).is_ok(), true);
+        }
+        for gone in purged {
+            expect_eq!(rt; entries.purge_some(3, at_most), gone);
+        }
+    }
+}
+
+#[test]
+fn what_comes_behind_a_purge_of_some_is_purged_by_the_next_round(rt: HostRuntime) {
+    let mut entries: Expiring<u64, u64> = expect_ok!(rt; Expiring::new(rt.alloc(), 8));
+    for key in 0..6 {
+        expect_eq!(rt; entries.insert(key, key, 0, key).is_ok(), true);
+    }
+    expect_eq!(rt; entries.purge_some(3, 3), 3);
+    expect_eq!(rt; entries.remove(&3).is_some(), true);
+    expect_eq!(rt; entries.insert(9, 9, 0, 1).is_ok(), true);
+    for (gone, left) in [(0, 3), (1, 2), (0, 2)] {
+        expect_eq!(rt; (entries.purge_some(3, 8), entries.len()), (gone, left));
+    }
+}
+
 #[test]
 fn what_is_over_is_loaded_anew(rt: HostRuntime) {
     let mut entries: Expiring<u64, u64> = expect_ok!(rt; Expiring::new(rt.alloc(), 8));

@@ -8,7 +8,7 @@ ghost use Rattle.quick_cache_model.specs.Touches.{counted_up};
 use crate::by_value::ByValue;
 use crate::lasting::{Lasting, Stats};
 use quick_cache_model::{DefaultHashBuilder, Refusal, UnitWeighter};
-use quick_cache_unsync::{Cache, DefaultLifecycle};
+use quick_cache_unsync::{Cache, DefaultLifecycle, Token};
 use std::alloc::{Allocator, Global};
 use std::hash::{BuildHasher, Hash};
 use std::marker::Model;
@@ -29,14 +29,21 @@ pub struct Expiring<
     pub(crate) cache: Cache<K, Lasting<V>, ByValue<We>, B, L, A>,
     // How many looks found what was over.
     pub(crate) expired: u64,
+    // The token behind which the next purge of some goes on.
+    pub(crate) from: Option<Token>,
 }
 
 impl<K: Eq + Hash, V, We, B: BuildHasher, L, A: Allocator> Model for Expiring<K, V, We, B, L, A> {
+    ghost use Rattle.quick_cache_shard.specs.WalksFrom.{number_or_zero};
     ghost use Rattle.quick_cache_expiring.specs.Entries.{Entries};
 
     ghost Value = { Entries K V We B L };
 
-    ghost view = { λ entries. record { cache = entries.cache; expired = entries.expired } };
+    ghost view = { λ entries. record {
+      cache = entries.cache;
+      expired = entries.expired;
+      from = number_or_zero entries.from;
+    } };
 }
 
 impl<K: Eq + Hash, V, A: Allocator> Expiring<
@@ -58,7 +65,7 @@ impl<K: Eq + Hash, V, A: Allocator> Expiring<
         A: Clone,
         ensures makes { IfOk result (λ made. made.cache.state ≡ empty_state items
             (hot_target_of items default_hot_share) (ghost_limit_of items default_ghost_share)) }
-        ensures none { IfOk result (λ made. made.expired ≡ 0) }
+        ensures none { IfOk result (λ made. (made.expired ≡ 0) × (made.from ≡ 0)) }
         ensures succeeds { A.is_infallible alloc → IsOk result }
         ensures refused { IfErr result (λ refusal. refusal ≡ Memory) }
     {
@@ -98,13 +105,17 @@ impl<K: Eq + Hash, V, We, B: BuildHasher, L, A: Allocator> Expiring<K, V, We, B,
         ensures weigher { IfOk result (λ made. made.cache.weigher.weigher ≡ weigher) }
         ensures builder { IfOk result (λ made. made.cache.builder ≡ builder) }
         ensures lifecycle { IfOk result (λ made. made.cache.lifecycle ≡ lifecycle) }
-        ensures none { IfOk result (λ made. made.expired ≡ 0) }
+        ensures none { IfOk result (λ made. (made.expired ≡ 0) × (made.from ≡ 0)) }
         ensures succeeds { A.is_infallible alloc → IsOk result }
         ensures refused { IfErr result (λ refusal. refusal ≡ Memory) }
     {
         let weigher = ByValue { weigher };
         let cache = Cache::with(alloc, items, weight, weigher, builder, lifecycle)?;
-        Ok(Expiring { cache, expired: 0 })
+        Ok(Expiring {
+            cache,
+            expired: 0,
+            from: None,
+        })
     }
 
     /// The cache of the values with their ends, for reading: its weight, its entries, its memory.

@@ -3,7 +3,9 @@ ghost use Rattle.std.specs.Prelude.{◌≡◌, ◌-◌, ◌≤◌};
 ghost use Rattle.quick_cache_model.specs.CacheState.{item_count};
 ghost use Rattle.quick_cache_model.specs.Removal.{Retains};
 ghost use Rattle.quick_cache_shard.specs.Shard.{KeepsWork, UpToOrder};
+ghost use Rattle.quick_cache_expiring.specs.Entries.{KeepsRest};
 ghost use Rattle.quick_cache_expiring.specs.Lives.{lives};
+ghost use Rattle.quick_cache_expiring.specs.Purges.{PurgesSome};
 
 use crate::alone::expiring::Expiring;
 use crate::lasting::Lasting;
@@ -28,7 +30,7 @@ impl<K: Eq + Hash + Drop, V: Drop, We, B: BuildHasher, L, A: Allocator> Expiring
             ≡ item_count self.old.cache.state - item_count self.new.cache.state }
         ensures room { self.old.cache.room ≤ self.new.cache.room }
         ensures same { KeepsWork self.old.cache self.new.cache }
-        ensures expired { self.new.expired ≡ self.old.expired }
+        ensures rest { KeepsRest self.old self.new }
     {
         let before = self.cache.len();
         self.cache.retain(
@@ -37,5 +39,23 @@ impl<K: Eq + Hash + Drop, V: Drop, We, B: BuildHasher, L, A: Allocator> Expiring
             { lasting.lives(now) },
         );
         before.saturating_sub(self.cache.len())
+    }
+
+    /// Takes out what is over at this moment of some entries, so many at most, and tells how many it
+    /// took out. It looks at those behind where the last call stopped; where none is left behind, the
+    /// next call begins anew. No hook is called, and no memory taken.
+    pub fn purge_some(&mut self, now: u64, at_most: usize) -> usize
+        // What lives is kept, in its order, and what was passed and is over is gone.
+        ensures purges { PurgesSome now at_most self.old result self.new }
+        ensures room { self.old.cache.room ≤ self.new.cache.room }
+        ensures same { KeepsWork self.old.cache self.new.cache }
+        ensures expired { self.new.expired ≡ self.old.expired }
+    {
+        let serves = |_key: &K, lasting: &Lasting<V>| -> bool
+            ensures lives { result ≡ lives lasting.now.until now }
+        { lasting.lives(now) };
+        let (stopped, gone) = self.cache.retain_some(self.from, at_most, serves);
+        self.from = stopped;
+        gone
     }
 }

@@ -8,7 +8,7 @@ ghost use Rattle.quick_cache_shard.specs.Shard.{KeepsTerms, KeepsWork, UpToOrder
 ghost use Rattle.quick_cache_shard.specs.Steps.{InsertsBy, rules_in};
 ghost use Rattle.quick_cache_unsync.specs.Touches.{no_touches};
 ghost use Rattle.quick_cache_expiring.specs.Lives.{end_of};
-ghost use Rattle.quick_cache_expiring.specs.Entries.{Touches};
+ghost use Rattle.quick_cache_expiring.specs.Entries.{KeepsRest, Touches};
 ghost use Rattle.quick_cache_expiring.specs.Lastings.{lasting_of};
 
 use crate::alone::expiring::Expiring;
@@ -51,7 +51,7 @@ impl<
         ensures asks { IfErr result (λ back. back.2 ≡ Memory → self.old.cache.room ≡ 0) }
         ensures work { WorksAsWrite self.old.cache self.new.cache }
         ensures same { KeepsTerms self.old.cache self.new.cache }
-        ensures expired { self.new.expired ≡ self.old.expired }
+        ensures rest { KeepsRest self.old self.new }
     {
         let until = end_of(now, life);
         self.cache.insert(key, Lasting { value, until })
@@ -96,7 +96,7 @@ impl<K: Eq + Hash + Drop, V: Drop, We, B: BuildHasher, L, A: Allocator> Expiring
             self.new.cache.state }
         ensures room { self.old.cache.room ≤ self.new.cache.room }
         ensures same { KeepsWork self.old.cache self.new.cache }
-        ensures expired { self.new.expired ≡ self.old.expired }
+        ensures rest { KeepsRest self.old self.new }
     {
         self.cache.remove(query)
     }

@@ -1,15 +1,18 @@
 //! Removals from a shard behind its lock.
-ghost use Rattle.std.specs.Prelude.{[], ◌≡◌, IfSome};
+ghost use Rattle.std.specs.Prelude.{[], ◌≡◌, ◌-◌, IfSome};
 ghost use Rattle.std.specs.Fn.{FnOnceReturnsAt};
+ghost use Rattle.quick_cache_model.specs.CacheState.{item_count};
 ghost use Rattle.quick_cache_model.specs.Removal.{Removes, cleared};
 ghost use Rattle.quick_cache_shard.specs.Predicates.{Answers, RemovesAsked, RetainsAsked};
+ghost use Rattle.quick_cache_shard.specs.RetainsSome.{RetainsSome};
 ghost use Rattle.quick_cache_shard.specs.Shard.{LosesOnly, UpToOrder, KeepsWork};
+ghost use Rattle.quick_cache_shard.specs.WalksFrom.{number_or_zero};
 ghost use Rattle.quick_cache_locked.specs.Asked.{MayBeAskedOfFitting, MayBeAskedOfFittingUnder};
 ghost use Rattle.quick_cache_locked.specs.Fitting.{FitsQuery};
 ghost use Rattle.quick_cache_locked.specs.Locked.{IsKept};
 
 use crate::locked::LockedShard;
-use quick_cache_model::{Equivalent, Lifecycle};
+use quick_cache_model::{Equivalent, Lifecycle, Token};
 use quick_cache_shard::Keyed;
 use std::alloc::Allocator;
 use std::hash::{BuildHasher, Hash};
@@ -58,16 +61,39 @@ impl<
         self.shard.remove_if(hash, query, wanted)
     }
 
-    /// Drops the items that the predicate does not keep. The pairs that it sees fit.
-    pub fn retain<F: Fn(&K, &V) -> bool>(&mut self, keep: F)
+    /// Drops the items that the predicate does not keep, and tells how many. The pairs that it sees
+    /// fit.
+    pub fn retain<F: Fn(&K, &V) -> bool>(&mut self, keep: F) -> usize
         requires callable { MayBeAskedOfFitting L.fits F.Fn keep }
         ensures asks { UpToOrder (RetainsAsked (Answers F.Fn keep) self.old.state) self.new.state }
+        ensures counts { result ≡ item_count self.old.state - item_count self.new.state }
         ensures places { LosesOnly self.old.places self.new.places }
         ensures same { KeepsWork self.old self.new }
         ensures kept { IsKept L.Lifecycle K.eq self.old }
     {
         self.facts();
+        let before = self.shard.len();
         self.shard.retain(keep);
+        before.saturating_sub(self.shard.len())
+    }
+
+    /// Shows the predicate so many items at most, those of greater token than this one, and drops
+    /// those that it does not keep. It tells the token from which the next call goes on, none where no
+    /// item is left behind, and how many it dropped. The pairs that it sees fit.
+    pub fn retain_some<F: Fn(&K, &V) -> bool>(
+        &mut self,
+        after: Option<Token>,
+        at_most: usize,
+        keep: F,
+    ) -> (Option<Token>, usize)
+        requires callable { MayBeAskedOfFitting L.fits F.Fn keep }
+        ensures retains { RetainsSome (Answers F.Fn keep) (number_or_zero after) self.old at_most
+            result self.new }
+        ensures same { KeepsWork self.old self.new }
+        ensures kept { IsKept L.Lifecycle K.eq self.old }
+    {
+        self.facts();
+        self.shard.retain_some(after, at_most, keep)
     }
 
     /// Drops all items, and forgets those that left.

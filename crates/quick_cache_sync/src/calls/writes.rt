@@ -5,7 +5,7 @@ ghost use Rattle.std.specs.Fn.{FnOnceReturnsAt};
 ghost use Rattle.quick_cache_model.specs.Hashing.{hash_of};
 ghost use Rattle.quick_cache_shard.specs.Shard.{Shard};
 ghost use Rattle.quick_cache_sync.specs.Answers.{RemovesSo, RemovesAskedSo, ReplacesAloneBy, ReplacesSoBy};
-ghost use Rattle.quick_cache_locked.specs.Asked.{MayBeAskedOfFitting, MayBeAskedOfFittingUnder};
+ghost use Rattle.quick_cache_locked.specs.Asked.{MayBeAskedOfFittingUnder};
 ghost use Rattle.quick_cache_locked.specs.Fitting.{FitsQuery};
 ghost use Rattle.quick_cache_locked.specs.Locked.{FromSome};
 
@@ -108,18 +108,6 @@ impl<K: Eq + Hash + Drop, V: Drop, We, B: BuildHasher, L: Lifecycle<K, V>, A: Al
         ensures fits { IfSome result (λ pair. FitsQuery L.fits (Q.equivalent query.now) pair.1) }
     {
         self.shard_of(query).write(rt).remove_if(query, wanted)
-    }
-
-    /// Shows each item to the predicate and drops those that it does not keep, one shard after the
-    /// other. Ghosts stay, and so do the counts. No hook is called. It takes the write lock of each
-    /// shard in turn, under which the predicate runs, and no memory.
-    pub fn retain<F: Fn(&K, &V) -> bool, R: Wait>(&self, rt: &R, keep: F)
-        // The pairs that the predicate sees fit.
-        requires callable { MayBeAskedOfFitting L.fits F.Fn keep }
-    {
-        for shard in &self.shards {
-            shard.write(rt).retain(&keep);
-        }
     }
 
     /// Drops the items of the keys that pass the test, and takes from the loads that are under way for

@@ -266,7 +266,9 @@ fn walk_is_wrong<R: Wait>(rt: &R, cache: &Weighed, steps: u64) -> bool {
 fn on_all<R: Wait>(rt: &R, cache: &Weighed, call: Call) -> Found {
     match call.coin >> 40 & 63 {
         0 => cache.clear(rt),
-        1 => cache.retain(rt, |_, value| *value % 2 == 1),
+        1 => {
+            cache.retain(rt, |_, value| *value % 2 == 1);
+        }
         2 => cache.set_capacity(rt, (call.coin >> 50 & 63).saturating_add(100)),
         3 => drop(cache.reserve(rt, 4)),
         4 => drop(cache.drain(rt).next()),

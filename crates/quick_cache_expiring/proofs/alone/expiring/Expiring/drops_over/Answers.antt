@@ -13,6 +13,6 @@ returns-clause-drops g c =
       goes = DropsOver-removes test c.args.now state
           (keys_by-one test g.K.PartialEq.eq (g.met.Q.Equivalent.same_key c.args.query.now) state
           sound.valid) _ has _ _ c.remove.ensures.removes;
-      expired = refl;
+      rest = refl;
       same = c.remove.ensures.same;
     })

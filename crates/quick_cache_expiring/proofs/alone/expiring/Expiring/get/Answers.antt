@@ -1,4 +1,5 @@
 use Rattle.std.proofs.Common.{ap, refl, sym, ◌∙◌, option_copied}
+use Rattle.quick_cache_shard.specs.WalksFrom.{number_or_zero}
 use Rattle.quick_cache_expiring.proofs.EntryLemmas.{Gets-looks, value_in}
 use Rattle.quick_cache_expiring.proofs.alone.expiring.Expiring.get.Goals as goal
 
@@ -12,8 +13,8 @@ returns-in_err-lasting g c =
         (λ entries. tt),
         rw (← same)
             (Gets-looks (g.Q.Equivalent.equivalent c.args.query.now) c.args.now
-            (record { cache = c.self.inside.cache; expired = c.self.inside.expired })
-            (record { cache = c.get.follows.lender-at-none; expired = c.self.inside.expired }) none
+            (record { cache = c.self.inside.cache; expired = c.self.inside.expired; from = number_or_zero c.self.inside.from })
+            (record { cache = c.get.follows.lender-at-none; expired = c.self.inside.expired; from = number_or_zero c.self.inside.from }) none
             (option_copied c.get.result) looks.0 looks.1 refl (option_copied c.from_residual.result)
             (ap value_in (ap option_copied c.in_err-lasting.was)
             ∙ sym (ap option_copied c.from_residual.ensures))),
@@ -31,8 +32,8 @@ returns g c =
         (λ entries. tt),
         rw (← same)
             (Gets-looks (g.Q.Equivalent.equivalent c.args.query.now) c.args.now
-            (record { cache = c.self.inside.cache; expired = c.self.inside.expired })
-            (record { cache = c.get.follows.lender-at-none; expired = c.self.inside.expired }) none
+            (record { cache = c.self.inside.cache; expired = c.self.inside.expired; from = number_or_zero c.self.inside.from })
+            (record { cache = c.get.follows.lender-at-none; expired = c.self.inside.expired; from = number_or_zero c.self.inside.from }) none
             (option_copied c.get.result) looks.0 looks.1 refl _
             (ap value_in (ap option_copied c.in_ok-lasting.was))),
       ),

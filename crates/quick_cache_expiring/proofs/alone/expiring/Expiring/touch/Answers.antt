@@ -1,5 +1,6 @@
 use Rattle.std.proofs.Common.{None, rules, refl, ◌∙◌}
 use Rattle.quick_cache_shard.specs.Steps.{goes_by}
+use Rattle.quick_cache_shard.specs.WalksFrom.{number_or_zero}
 use Rattle.quick_cache_expiring.specs.contracts.by_value.ByValueWeighterLasting.TheImpl.{ghosts}
 use Rattle.quick_cache_expiring.proofs.EntryLemmas.{Gets-looks, Renews-written, keys_by-one}
 use Rattle.quick_cache_expiring.proofs.alone.expiring.Expiring.touch.Goals as goal
@@ -13,8 +14,8 @@ returns-in_default g c =
     record {
       touches = rw (← same)
           (Gets-looks (g.Q.Equivalent.equivalent c.args.query.now) c.args.now
-          (record { cache = c.self.inside.cache; expired = c.self.inside.expired })
-          (record { cache = c.get_mut.follows.lender-at-none; expired = c.self.inside.expired })
+          (record { cache = c.self.inside.cache; expired = c.self.inside.expired; from = number_or_zero c.self.inside.from })
+          (record { cache = c.get_mut.follows.lender-at-none; expired = c.self.inside.expired; from = number_or_zero c.self.inside.from })
           none None looks.0 looks.1 refl None refl);
     }
 
@@ -32,8 +33,8 @@ returns g c =
           (goes_by g.K.Hash.hash_input
           (ghosts g.row.K g.row.V g.row.We g.We.Weighter g.We.Weighter-dict) g.B.BuildHasher
           g.B.Hasher.Hasher g.L.Lifecycle) c.args.now c.end_of-until.result
-          (record { cache = c.self.inside.cache; expired = c.self.inside.expired })
-          (record { cache = c.self-2-1.given.0; expired = c.self.inside.expired })
+          (record { cache = c.self.inside.cache; expired = c.self.inside.expired; from = number_or_zero c.self.inside.from })
+          (record { cache = c.self-2-1.given.0; expired = c.self.inside.expired; from = number_or_zero c.self.inside.from })
           c.args.query.now r.query.now e.query none r.cache.now e.same
           (keys_by-one test g.K.PartialEq.eq (g.met.Q.Equivalent.same_key c.args.query.now)
           r.cache.now.state e.sound.valid)

@@ -1,0 +1,52 @@
+//! Items that a walk by tokens shows to a predicate, so many at a time.
+ghost use Rattle.quick_cache_policy.specs.Predicates.{Answers, MayBeAskedOfEach};
+ghost use Rattle.quick_cache_shard.specs.RetainsSome.{RetainsSome};
+ghost use Rattle.quick_cache_shard.specs.Stays.{IdlesWithin};
+ghost use Rattle.quick_cache_shard.specs.WalksFrom.{number_or_zero};
+
+use crate::shard::CacheShard;
+use quick_cache_model::Token;
+use quick_cache_policy::SharedPlaceholder;
+use std::alloc::Allocator;
+use std::hash::{BuildHasher, Hash};
+
+impl<
+    K: Eq + Hash + Drop,
+    V: Drop,
+    We,
+    B: BuildHasher,
+    L,
+    P: SharedPlaceholder<K>,
+    A: Allocator,
+> CacheShard<K, V, We, B, L, P, A> {
+    /// Shows the predicate the items of greater token than this one, by ascending token, so many at
+    /// most, and drops those that it does not keep. It tells the token behind which it stopped, none
+    /// where no item is left behind, and how many it dropped. The rings keep the order of the rest.
+    /// No hook is called, and no memory is asked for.
+    pub fn retain_some<F: Fn(&K, &V) -> bool>(
+        &mut self,
+        after: Option<Token>,
+        at_most: usize,
+        keep: F,
+    ) -> (Option<Token>, usize)
+        requires callable { MayBeAskedOfEach F.Fn keep self.old.state }
+        ensures retains { RetainsSome (Answers F.Fn keep) (number_or_zero after) self.old at_most
+            result self.new }
+        ensures stays { IdlesWithin K.eq 0 self.old self.new }
+    {
+        self.facts();
+        let before = self.len();
+        let mut at = after;
+        for _ in 0..at_most {
+            let Some((token, key, value)) = self.iter_from(at).next() else {
+                return (None, before.saturating_sub(self.len()));
+            };
+            at = Some(token);
+            if keep(key, value) {
+                continue;
+            }
+            let _ = self.remove_token(token);
+        }
+        (at, before.saturating_sub(self.len()))
+    }
+}
