@@ -101,13 +101,6 @@ module _ {V : Type 0} where
   pass_on_sound (Filled v) ws rest m sound loading is = absurd (cc)
   pass_on_sound GivenUp ws rest m sound loading is = absurd (cc)
 
-  -- while it is loading, the stored waiters are those who wait
-  pub waiters_of-loading : (s : Stage V) (ws : List ℕ) → is_loading (life_of s ws) ≡ true
-      → waiters_of (life_of s ws) ≡ ws
-  waiters_of-loading (Loading h) ws loading = refl
-  waiters_of-loading (Filled v) ws loading = absurd (cc)
-  waiters_of-loading GivenUp ws loading = absurd (cc)
-
 -- a list is empty, or has a last one
 pub last-waiter : (ws : List ℕ)
     → (ws ≡ []) ⊎ ((others : List ℕ) × (m : ℕ) × (ws ≡ others ++ m ∷ []))

@@ -60,10 +60,6 @@ module _ {K V : Type 0} (test : K → Bool) where
       ((λ i. head i ∷ rest.0 i), rest.1, rest.2)
 
   module _ (state : CacheState K V) (single : keys_by test state ≤ 1) where
-    -- an item whose key passes stands there
-    abbrev pub IsSpot : Spot K V → Type 0
-    IsSpot s = IsItemAt test state s.place s.before s.item s.after
-
     abbrev spot : Place → List (Item K V) → Item K V → List (Item K V) → Spot K V
     spot place before item after =
         record { place = place; before = before; item = item; after = after }

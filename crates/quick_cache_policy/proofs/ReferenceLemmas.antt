@@ -46,11 +46,6 @@ IfSome-from none some also (Some x) to is = to x is
 module _ {K V : Type 0} (stands_for : K → Bool) where
   -- ---- how many items a query stands for
 
-  -- there are no more of them than keys
-  pub count_under-keys : (state : CacheState K V)
-      → count_under stands_for state ≤ keys_by stands_for state
-  count_under-keys state = omega arith
-
   -- an order of what has none counts nothing
   pub count_under-reordered : (old new : CacheState K V) → SameButOrder old new
       → count_under stands_for new ≡ count_under stands_for old

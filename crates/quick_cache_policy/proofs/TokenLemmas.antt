@@ -145,20 +145,3 @@ pub IsFirstAbove-all : {K V P W A T : Type 0} (ticket_of : P → ℕ) (contents 
 IsFirstAbove-all ticket_of contents numbered None is =
     item_count-none ticket_of contents numbered (is.none refl)
 IsFirstAbove-all ticket_of contents numbered (Some token) is = (is.found token refl).1
-
--- the item of a token has its value in the state
-pub HasValue-token : {K V P W A T : Type 0} (ticket_of : P → ℕ) (contents : Contents K V W A T P)
-    (token : ℕ) (item : Item K V) → IsItemOf contents.lists token item
-    → HasValue (state_of ticket_of contents) item.value
-HasValue-token ticket_of contents token item stood =
-    let has = stood.1 in
-    record {
-      place = has.place;
-      before = items_of has.stands.before;
-      item = item;
-      after = items_of has.stands.after;
-      split = split-state ticket_of contents has.place has.stands.before
-          (record { token = token; hash = stood.0; item = item }) has.stands.after
-          contents.lists has.stands.split;
-      shows = refl;
-    }

@@ -6,35 +6,53 @@ use quick_cache_base::sizes::{
     ghost_limit, hot_target, rescaled_limit, rescaled_target, shard_sizes,
 };
 use quick_cache_base::{ItemStats, MemoryUsed, OptionsBuilder};
+use std::alloc::{AllocError, Global};
 use test_tools::{expect, expect_eq, expect_ok};
 
 const MOST: u64 = 18446744073709551615;
 
-/// Options of these numbers, of which an absent one is not set.
+/// In a row, a number that is not set.
+const UNSET: u64 = 12345;
+
+/// And a share that is not set.
+const NO_SHARE: u32 = 12345;
+
+/// Options of these numbers.
 fn build(
-    shards: Option<usize>,
-    items: Option<usize>,
-    weight: Option<u64>,
-    hot_share: Option<u32>,
-    ghost_share: Option<u32>,
+    shards: u64,
+    items: u64,
+    weight: u64,
+    hot_share: u32,
+    ghost_share: u32,
 ) -> Result<Options, Error> {
     let mut builder = OptionsBuilder::new();
-    if let Some(shards) = shards {
-        builder.shards(shards);
+    if shards != UNSET {
+        builder.shards(shards as usize);
     }
-    if let Some(items) = items {
-        builder.estimated_items_capacity(items);
+    if items != UNSET {
+        builder.estimated_items_capacity(items as usize);
     }
-    if let Some(weight) = weight {
+    if weight != UNSET {
         builder.weight_capacity(weight);
     }
-    if let Some(hot_share) = hot_share {
+    if hot_share != NO_SHARE {
         builder.hot_allocation(hot_share);
     }
-    if let Some(ghost_share) = ghost_share {
+    if ghost_share != NO_SHARE {
         builder.ghost_allocation(ghost_share);
     }
     builder.build()
+}
+
+/// The shards, items, weight, hot share and ghost share.
+fn told(options: &Options) -> (usize, usize, u64, u32, u32) {
+    (
+        options.shards(),
+        options.estimated_items_capacity(),
+        options.weight_capacity(),
+        options.hot_allocation(),
+        options.ghost_allocation(),
+    )
 }
 
 #[test]
@@ -43,104 +61,60 @@ fn a_number_is_the_one_set_last_or_its_default(rt: HostRuntime) {
     builder.estimated_items_capacity(1).weight_capacity(2);
     builder.estimated_items_capacity(7).weight_capacity(9);
     let options = expect_ok!(rt; expect_ok!(rt; builder.clone()).build());
-    expect_eq!(rt; options.shards(), 16);
-    expect_eq!(rt; options.estimated_items_capacity(), 7);
-    expect_eq!(rt; options.weight_capacity(), 9);
-    expect_eq!(rt; options.hot_allocation(), DEFAULT_HOT_ALLOCATION);
-    expect_eq!(rt; options.ghost_allocation(), DEFAULT_GHOST_ALLOCATION);
-    expect_eq!(rt;
-        (DEFAULT_HOT_ALLOCATION, DEFAULT_GHOST_ALLOCATION),
-        (970000, 500000)
-    );
+    expect_eq!(rt; (DEFAULT_HOT_ALLOCATION, DEFAULT_GHOST_ALLOCATION), (970000, 500000));
+    expect_eq!(rt; told(&options), (16, 7, 9, 970000, 500000));
     let options = expect_ok!(rt; builder
         .shards(3)
         .hot_allocation(0)
         .ghost_allocation(1000000)
         .build());
-    expect_eq!(rt; options.shards(), 3);
-    expect_eq!(rt; options.hot_allocation(), 0);
-    expect_eq!(rt; options.ghost_allocation(), 1000000);
+    expect_eq!(rt; told(&options), (3, 7, 9, 0, 1000000));
+}
+
+const HOT: &str = "hot_allocation is out of range";
+
+const COLD: &str = "ghost_allocation is out of range";
+
+const SHARDS: &str = "shards is out of range";
+
+const WEIGHT: &str = "weight_capacity is not set";
+
+const ITEMS: &str = "estimated_items_capacity is not set";
+
+/// The shards, items, weight, hot share and ghost share, and the text.
+type Row = (u64, u64, u64, u32, u32, &'static str);
+
+const ROWS: [Row; 12] = [
+    (9223372036854775809, UNSET, UNSET, 1000001, 1000001, HOT),
+    (1, 1, 1, 4294967295, 0, HOT),
+    (9223372036854775809, UNSET, UNSET, 1000000, 1000001, COLD),
+    (UNSET, 1, 1, NO_SHARE, 4294967295, COLD),
+    (9223372036854775809, UNSET, UNSET, 1000000, 1000000, SHARDS),
+    (9223372036854775809, 100, 100, NO_SHARE, NO_SHARE, SHARDS),
+    (18446744073709551615, 1, 1, NO_SHARE, NO_SHARE, SHARDS),
+    // The sum that rounds up saturates, so twice as many shards would have 31 items each.
+    (9223372036854775808, UNSET, UNSET, 0, 0, WEIGHT),
+    (UNSET, 1, UNSET, NO_SHARE, NO_SHARE, WEIGHT),
+    (9223372036854775808, UNSET, 0, NO_SHARE, NO_SHARE, ITEMS),
+    // The sum that rounds up saturates, so twice as many shards would have 31 items each.
+    (9223372036854775808, 0, 0, 1000000, 1000000, "none"),
+    (UNSET, 100, 100, NO_SHARE, NO_SHARE, "none"),
+];
+
+/// What a builder tells, as a text.
+fn text_of(alloc: Global, built: Result<Options, Error>) -> Result<String, AllocError> {
+    match built {
+        Ok(_) => format!(in alloc; "none"),
+        Err(error) => format!(in alloc; "{error}"),
+    }
 }
 
 #[test]
 fn the_first_error_is_told(rt: HostRuntime) {
-    let hot = "hot_allocation is out of range";
-    let cold = "ghost_allocation is out of range";
-    let shards = "shards is out of range";
-    let weight = "weight_capacity is not set";
-    let items = "estimated_items_capacity is not set";
-    // The shards, items, weight, hot share and ghost share, and the text.
-    let rows = [
-        (
-            Some(9223372036854775809),
-            None,
-            None,
-            Some(1000001),
-            Some(1000001),
-            hot,
-        ),
-        (Some(1), Some(1), Some(1), Some(4294967295), Some(0), hot),
-        (
-            Some(9223372036854775809),
-            None,
-            None,
-            Some(1000000),
-            Some(1000001),
-            cold,
-        ),
-        (None, Some(1), Some(1), None, Some(4294967295), cold),
-        (
-            Some(9223372036854775809),
-            None,
-            None,
-            Some(1000000),
-            Some(1000000),
-            shards,
-        ),
-        (
-            Some(9223372036854775809),
-            Some(100),
-            Some(100),
-            None,
-            None,
-            shards,
-        ),
-        (
-            Some(18446744073709551615),
-            Some(1),
-            Some(1),
-            None,
-            None,
-            shards,
-        ),
-        // The sum that rounds up saturates, so twice as many shards would have 31 items each.
-        (
-            Some(9223372036854775808),
-            None,
-            None,
-            Some(0),
-            Some(0),
-            weight,
-        ),
-        (None, Some(1), None, None, None, weight),
-        (Some(9223372036854775808), None, Some(0), None, None, items),
-        // The sum that rounds up saturates, so twice as many shards would have 31 items each.
-        (
-            Some(9223372036854775808),
-            Some(0),
-            Some(0),
-            Some(1000000),
-            Some(1000000),
-            "none",
-        ),
-        (None, Some(100), Some(100), None, None, "none"),
-    ];
-    for (i, (shards, items, weight, hot_share, ghost_share, want)) in rows.into_iter().enumerate() {
-        let text = match build(shards, items, weight, hot_share, ghost_share) {
-            Ok(_) => expect_ok!(rt; format!(in rt.alloc(); "none")),
-            Err(error) => expect_ok!(rt; format!(in rt.alloc(); "{error}")),
-        };
-        assert_eq!(rt; text.as_str(), want, "at row {i}");
+    for (i, (shards, items, weight, hot_share, ghost_share, want)) in ROWS.into_iter().enumerate() {
+        let built = build(shards, items, weight, hot_share, ghost_share);
+        let text = expect_ok!(rt; text_of(rt.alloc(), built));
+        expect_eq!(rt; (i, text.as_str()), (i, want));
     }
 }
 
@@ -150,20 +124,17 @@ fn the_greatest_mark_is_tested_last(rt: HostRuntime) {
     // The greatest mark, and the text where nothing else is wrong.
     for (cut, want) in [(0, mark), (1, "none"), (3, "none"), (4, mark), (255, mark)] {
         let mut builder = OptionsBuilder::new();
-        let unset = match builder.mark_cut(cut).weight_capacity(1).build() {
-            Ok(_) => expect_ok!(rt; format!(in rt.alloc(); "none")),
-            Err(error) => expect_ok!(rt; format!(in rt.alloc(); "{error}")),
-        };
-        let text = match builder.estimated_items_capacity(1).build() {
-            Ok(options) if options.mark_cut() == cut =>
-                expect_ok!(rt; format!(in rt.alloc(); "none")),
-            Ok(_) => expect_ok!(rt; format!(in rt.alloc(); "another")),
-            Err(error) => expect_ok!(rt; format!(in rt.alloc(); "{error}")),
-        };
-        assert_eq!(rt;
-            (unset.as_str(), text.as_str()),
-            ("estimated_items_capacity is not set", want),
-            "at {cut}"
+        let built = builder.mark_cut(cut).weight_capacity(1).build();
+        let unset = expect_ok!(rt; text_of(rt.alloc(), built));
+        let built = builder.estimated_items_capacity(1).build();
+        let is_set = built
+            .as_ref()
+            .is_ok_and(|options| options.mark_cut() == cut);
+        expect_eq!(rt; (cut, is_set), (cut, want == "none"));
+        let text = expect_ok!(rt; text_of(rt.alloc(), built));
+        expect_eq!(rt;
+            (cut, unset.as_str(), text.as_str()),
+            (cut, "estimated_items_capacity is not set", want)
         );
     }
     expect_eq!(rt; DEFAULT_MARK_CUT, 2);
@@ -173,38 +144,36 @@ fn the_greatest_mark_is_tested_last(rt: HostRuntime) {
 fn a_cache_is_divided_into_shards_of_32_items(rt: HostRuntime) {
     // The shards, items and weight, and then the shards and the items and weight of each.
     let rows = [
-        (Some(0), 1000, 10, (1, 1000, 10)),
-        (Some(1), 1000, 10, (1, 1000, 10)),
-        (Some(2), 1000, 10, (2, 500, 5)),
-        (Some(3), 1000, 10, (4, 250, 3)),
-        (Some(16), 512, 1, (16, 32, 1)),
-        (Some(16), 497, 1, (16, 32, 1)),
-        (Some(16), 496, 8, (8, 62, 1)),
-        (Some(17), 1024, 33, (32, 32, 2)),
-        (None, 0, 0, (1, 0, 0)),
-        (None, 62, 7, (1, 62, 7)),
-        (None, 63, 7, (2, 32, 4)),
-        (None, 100, 100, (2, 50, 50)),
+        (0, 1000, 10, (1, 1000, 10)),
+        (1, 1000, 10, (1, 1000, 10)),
+        (2, 1000, 10, (2, 500, 5)),
+        (3, 1000, 10, (4, 250, 3)),
+        (16, 512, 1, (16, 32, 1)),
+        (16, 497, 1, (16, 32, 1)),
+        (16, 496, 8, (8, 62, 1)),
+        (17, 1024, 33, (32, 32, 2)),
+        (UNSET, 0, 0, (1, 0, 0)),
+        (UNSET, 62, 7, (1, 62, 7)),
+        (UNSET, 63, 7, (2, 32, 4)),
+        (UNSET, 100, 100, (2, 50, 50)),
         (
-            None,
+            UNSET,
             18446744073709551615,
             MOST,
             (16, 1152921504606846975, 1152921504606846975),
         ),
         // The sum that rounds up saturates, so twice as many shards would have 31 items each.
         (
-            Some(9223372036854775808),
+            9223372036854775808,
             18446744073709551615,
             0,
             (288230376151711744, 63, 0),
         ),
     ];
     for (shards, items, weight, want) in rows {
-        let sizes = shard_sizes(
-            &expect_ok!(rt; build(shards, Some(items), Some(weight), None, None)),
-        );
+        let sizes = shard_sizes(&expect_ok!(rt; build(shards, items, weight, NO_SHARE, NO_SHARE)));
         let found = (sizes.shards, sizes.items, sizes.weight);
-        assert_eq!(rt; found, want, "at {shards:?} {items} {weight}");
+        expect_eq!(rt; (items, weight, found), (items, weight, want));
     }
 }
 
@@ -225,7 +194,10 @@ fn a_target_is_a_clamped_share(rt: HostRuntime) {
         (MOST, 500000, 9223372036854775807),
     ];
     for (capacity, share, want) in rows {
-        assert_eq!(rt; hot_target(capacity, share), want, "at {capacity} {share}");
+        expect_eq!(rt;
+            (capacity, share, hot_target(capacity, share)),
+            (capacity, share, want)
+        );
     }
 }
 
@@ -244,7 +216,7 @@ fn a_limit_is_a_share(rt: HostRuntime) {
         (18446744073709551615, 4294967295, 18446744073709551615),
     ];
     for (items, share, want) in rows {
-        assert_eq!(rt; ghost_limit(items, share), want, "at {items} {share}");
+        expect_eq!(rt; (items, share, ghost_limit(items, share)), (items, share, want));
     }
 }
 
@@ -267,11 +239,7 @@ fn a_new_capacity_rescales_both(rt: HostRuntime) {
             rescaled_target(old, new, target),
             rescaled_limit(old, new, limit),
         );
-        assert_eq!(rt;
-            found,
-            (want_target, want_limit),
-            "at {old} {new} {target} {limit}"
-        );
+        expect_eq!(rt; (old, new, found), (old, new, (want_target, want_limit)));
     }
 }
 
@@ -283,11 +251,8 @@ fn memory_adds_up_and_saturates(rt: HostRuntime) {
         (18446744073709551615, 0, 18446744073709551615),
         (18446744073709551615, 1, 18446744073709551615),
     ] {
-        assert_eq!(rt;
-            MemoryUsed { entries, map }.total(),
-            want,
-            "at {entries} {map}"
-        );
+        let total = MemoryUsed { entries, map }.total();
+        expect_eq!(rt; (entries, map, total), (entries, map, want));
     }
     expect!(rt; ItemStats { access_count: 2 } == ItemStats { access_count: 2 });
 }

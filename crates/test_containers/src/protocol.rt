@@ -156,7 +156,7 @@ fn schedules_have_their_answers(rt: HostRuntime) {
         }
         let mut core: Core<u64> = Core::new(rt.alloc());
         let answers = expect_ok!(rt; run(&mut core, events));
-        assert!(rt; are_of(&answers, schedule), "{shown}");
+        expect_eq!(rt; (shown, are_of(&answers, schedule)), (shown, true));
     }
 }
 
@@ -208,10 +208,14 @@ fn a_run_without_room_makes_no_event_happen(rt: HostRuntime) {
 fn ten_thousand_events_have_as_many_answers(rt: HostRuntime) {
     let mut events = Vec::new(rt.alloc());
     for _ in 0..2500 {
-        expect_ok!(rt; events.push(Event::Create));
-        expect_ok!(rt; events.push(Event::Join(1)));
-        expect_ok!(rt; events.push(Event::Cancel(1)));
-        expect_ok!(rt; events.push(Event::Abandon));
+        for event in [
+            Happens::Create,
+            Happens::Join(1),
+            Happens::Cancel(1),
+            Happens::Abandon,
+        ] {
+            expect_ok!(rt; events.push(event.of_core()));
+        }
     }
     let mut core: Core<u64> = Core::new(rt.alloc());
     let answers = expect_ok!(rt; run(&mut core, events));
@@ -223,7 +227,7 @@ fn ten_thousand_events_have_as_many_answers(rt: HostRuntime) {
             2 => Answer::Done,
             _ => Answer::GivenUp,
         };
-        assert_eq!(rt; answers[at], wanted, "answer {at}");
+        expect_eq!(rt; (at, &answers[at]), (at, &wanted));
     }
 }
 

@@ -4,7 +4,7 @@ use std::alloc::Allocator;
 use std::process::Abort;
 use test_tools::{expect_eq, expect_ok};
 
-fn token(rt: &impl Abort, number: u32) -> Token {
+pub(crate) fn token(rt: &impl Abort, number: u32) -> Token {
     Token::new(number).expect(rt, "a token is not 0")
 }
 
@@ -48,12 +48,11 @@ fn finds_and_removes_by_hash_and_token(rt: HostRuntime) {
     expect_ok!(rt; tokens.sort());
     expect_eq!(rt; tokens.as_slice(), [1, 2].as_slice());
 
-    let first = table.remove(5, one);
-    assert!(rt; first, "the pair was there");
-    let second = table.remove(5, one);
-    assert!(rt; !second, "the pair was gone");
-    expect_eq!(rt; table.find(5, |_| true), Some(two));
-    expect_eq!(rt; table.find(7, |_| true), None);
+    // The pair was there, and then it was gone.
+    expect_eq!(rt; [table.remove(5, one), table.remove(5, one)], [true, false]);
+    for (hash, found) in [(5, Some(two)), (7, None)] {
+        expect_eq!(rt; table.find(hash, |_| true), found);
+    }
     expect_eq!(rt; table.len(), 2);
 }
 
@@ -69,8 +68,7 @@ fn keeps_a_thousand_pairs_of_one_hash(rt: HostRuntime) {
         expect_eq!(rt; table.find(7, |other| other == wanted), Some(wanted));
     }
     for number in 1..=1000 {
-        let removed = table.remove(7, token(&rt, number));
-        assert!(rt; removed, "pair {number} was there");
+        expect_eq!(rt; (number, table.remove(7, token(&rt, number))), (number, true));
     }
     expect_eq!(rt; table.len(), 0);
     expect_eq!(rt; table.find(7, |_| true), None);

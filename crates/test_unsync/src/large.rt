@@ -7,24 +7,23 @@ use quick_cache_runs::{Call, Reply, run};
 use quick_cache_unsync::Cache;
 use std::alloc::{AllocError, Allocator, Global};
 use std::process::Abort;
-use std::test::Fail;
 use test_tools::{Rationed, expect, expect_eq, expect_ok};
 
 /// How many entries or calls a test makes.
 const MANY: u64 = 10000;
 
 /// A cache that holds the numbers below this one, each with its double.
-fn doubles(alloc: Global, count: u64) -> Result<Cache<u64, u64>, Fail> {
-    let mut cache = Cache::new(alloc, count as usize)?;
+fn doubles(rt: &impl Abort, alloc: Global, count: u64) -> Cache<u64, u64> {
+    let mut cache = expect_ok!(rt; Cache::new(alloc, count as usize));
     for key in 0..count {
-        cache.insert(key, key.saturating_mul(2))?;
+        expect_ok!(rt; cache.insert(key, key.saturating_mul(2)));
     }
-    Ok(cache)
+    cache
 }
 
 #[test]
-fn ample_memory_is_never_refused(rt: HostRuntime) -> Result<(), Fail> {
-    let mut cache = doubles(rt.alloc(), MANY)?;
+fn ample_memory_is_never_refused(rt: HostRuntime) {
+    let mut cache = doubles(&rt, rt.alloc(), MANY);
     expect_eq!(rt; cache.len(), MANY as usize);
     for key in 0..MANY {
         let double = key.saturating_mul(2);
@@ -34,19 +33,17 @@ fn ample_memory_is_never_refused(rt: HostRuntime) -> Result<(), Fail> {
     }
     expect!(rt; cache.is_empty());
     expect_eq!(rt; (cache.hits(), cache.misses()), (MANY, 0));
-    Ok(())
 }
 
 #[test]
-fn a_clone_has_ten_thousand_entries(rt: HostRuntime) -> Result<(), Fail> {
-    let cache = doubles(rt.alloc(), MANY)?;
+fn a_clone_has_ten_thousand_entries(rt: HostRuntime) {
+    let cache = doubles(&rt, rt.alloc(), MANY);
     let mut copy = expect_ok!(rt; cache.try_clone());
     expect_eq!(rt; copy.len(), MANY as usize);
     for key in 0..MANY {
         expect_eq!(rt; copy.remove(&key), Some((key, key.saturating_mul(2))));
     }
     expect_eq!(rt; (cache.len(), copy.len()), (MANY as usize, 0));
-    Ok(())
 }
 
 /// So many calls, by threes: an insert, a look-up of what it inserted, and its removal. None asks a
@@ -69,31 +66,35 @@ fn threes<M: Allocator>(
     Ok(calls)
 }
 
+/// Whether this is the reply to the call at a place of such a list.
+fn is_reply_at(reply: &Reply<u64, u64>, at: u64) -> bool {
+    let key = at / 3;
+    let value = key.saturating_mul(3);
+    match reply {
+        Reply::Done => at % 3 == 0,
+        Reply::Value(found) => at % 3 == 1 && *found == Some(value),
+        Reply::Pair(taken) => at % 3 == 2 && *taken == Some((key, value)),
+        _ => false,
+    }
+}
+
 /// Makes so many calls by one `run`.
-fn run_by_threes(rt: &impl Abort, alloc: Global, count: u64) -> Result<(), Fail> {
-    let mut cache: Cache<u64, u64> = Cache::new(alloc, 3)?;
-    let calls = threes(alloc, count)?;
+fn run_by_threes(rt: &impl Abort, alloc: Global, count: u64) {
+    let mut cache: Cache<u64, u64> = expect_ok!(rt; Cache::new(alloc, 3));
+    let calls = expect_ok!(rt; threes(alloc, count));
     let Ok(replies) = run(alloc, &mut cache, calls, &mut ()) else {
         panic!(rt; "there is memory");
     };
     expect_eq!(rt; replies.len() as u64, count);
-    for (at, reply) in replies.into_iter().enumerate() {
-        let key = at as u64 / 3;
-        let value = key.saturating_mul(3);
-        let wanted = match at % 3 {
-            0 => Reply::Done,
-            1 => Reply::Value(Some(value)),
-            _ => Reply::Pair(Some((key, value))),
-        };
-        assert!(rt; reply == wanted, "at {at}");
+    for (at, reply) in replies.iter().enumerate() {
+        expect_eq!(rt; (at, is_reply_at(reply, at as u64)), (at, true));
     }
-    Ok(())
 }
 
 #[test]
-fn twenty_and_ten_thousand_calls_are_made(rt: HostRuntime) -> Result<(), Fail> {
-    run_by_threes(&rt, rt.alloc(), 20)?;
-    run_by_threes(&rt, rt.alloc(), MANY)
+fn twenty_and_ten_thousand_calls_are_made(rt: HostRuntime) {
+    run_by_threes(&rt, rt.alloc(), 20);
+    run_by_threes(&rt, rt.alloc(), MANY);
 }
 
 #[test]
@@ -124,9 +125,9 @@ fn doubles_in<M: Allocator>(reply: &Reply<u64, u64, M>) -> Option<(u64, u64)> {
 }
 
 #[test]
-fn a_walk_and_a_drain_give_ten_thousand_pairs(rt: HostRuntime) -> Result<(), Fail> {
+fn a_walk_and_a_drain_give_ten_thousand_pairs(rt: HostRuntime) {
     let alloc = rt.alloc();
-    let mut cache = doubles(alloc, MANY)?;
+    let mut cache = doubles(&rt, rt.alloc(), MANY);
     let calls: Vec<Call<u64, u64, Predicate>> = expect_ok!(rt; vec![in alloc;
         Call::Iter,
         Call::Drain,
@@ -139,5 +140,4 @@ fn a_walk_and_a_drain_give_ten_thousand_pairs(rt: HostRuntime) -> Result<(), Fai
     for (reply, wanted) in replies.iter().zip(wanted) {
         expect_eq!(rt; doubles_in(reply), Some(wanted));
     }
-    Ok(())
 }

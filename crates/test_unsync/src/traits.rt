@@ -77,7 +77,7 @@ fn two_pairs_of_one_name_are_two_keys(rt: HostRuntime) {
     ];
     for (name, year, colour) in rows {
         let found = cache.get(&Halves { name, year }).copied();
-        assert_eq!(rt; found, colour, "{name} of {year}");
+        expect_eq!(rt; (name, year, found), (name, year, colour));
     }
 }
 

@@ -61,7 +61,7 @@ fn a_thousand_new_keys_leave_the_hot_items_alone(rt: HostRuntime) {
         expect_ok!(rt; cache.insert(key, key));
     }
     for key in 0..97u64 {
-        assert!(rt; cache.contains_key(&key), "key {key}");
+        expect_eq!(rt; (key, cache.contains_key(&key)), (key, true));
     }
     let shard = cache.shard();
     expect_eq!(rt;

@@ -15,9 +15,9 @@ use quick_cache_base::{Lifecycle, Refusal, Weighter};
 use quick_cache_runs::{Call, Reply, run};
 use quick_cache_shard::Going;
 use quick_cache_unsync::Cache;
-use std::alloc::{AllocError, Global};
+use std::alloc::Global;
 use std::hash::{BuildHasher, Hash};
-use std::test::Fail;
+use std::process::Abort;
 use test_tools::{expect, expect_eq, expect_ok};
 
 /// A predicate that a call may ask.
@@ -91,15 +91,15 @@ fn load_texts(
 }
 
 /// A text of its own.
-fn text(alloc: Global, of: &str) -> Result<String, AllocError> {
-    String::from_str(alloc, of)
+fn text(rt: &impl Abort, alloc: Global, of: &str) -> String {
+    expect_ok!(rt; String::from_str(alloc, of))
 }
 
 /// A cache that has `blue` under `square`.
-fn a_cache_with_a_square(alloc: Global) -> Result<Cache<String, String>, Fail> {
-    let mut cache: Cache<String, String> = Cache::new(alloc, 5)?;
-    cache.insert(text(alloc, "square")?, text(alloc, "blue")?)?;
-    Ok(cache)
+fn a_cache_with_a_square(rt: &impl Abort, alloc: Global) -> Cache<String, String> {
+    let mut cache: Cache<String, String> = expect_ok!(rt; Cache::new(alloc, 5));
+    expect_ok!(rt; cache.insert(text(rt, alloc, "square"), text(rt, alloc, "blue")));
+    cache
 }
 
 #[test]
@@ -107,52 +107,47 @@ fn a_run_shows_the_texts_that_it_finds(rt: HostRuntime) {
     let alloc = rt.alloc();
     let mut cache: Cache<String, String> = expect_ok!(rt; Cache::new(alloc, 5));
     let calls: Vec<Call<String, String, Predicate>> = expect_ok!(rt; vec![in alloc;
-        Call::Insert(expect_ok!(rt; text(alloc, "square")), expect_ok!(rt; text(alloc, "blue"))),
-        Call::Get(expect_ok!(rt; text(alloc, "square"))),
-        Call::Get(expect_ok!(rt; text(alloc, "circle"))),
-        Call::Remove(expect_ok!(rt; text(alloc, "square"))),
-        Call::Get(expect_ok!(rt; text(alloc, "square"))),
+        Call::Insert(text(&rt, alloc, "square"), text(&rt, alloc, "blue")),
+        Call::Get(text(&rt, alloc, "square")),
+        Call::Get(text(&rt, alloc, "circle")),
+        Call::Remove(text(&rt, alloc, "square")),
+        Call::Get(text(&rt, alloc, "square")),
     ]);
     let Ok(replies) = run_texts(alloc, &mut cache, calls, &mut ()) else {
         panic!(rt; "there is memory");
     };
     let wanted = [
         Reply::Done,
-        Reply::Value(Some(expect_ok!(rt; text(alloc, "blue")))),
+        Reply::Value(Some(text(&rt, alloc, "blue"))),
         Reply::Value(None),
-        Reply::Pair(Some((
-            expect_ok!(rt; text(alloc, "square")),
-            expect_ok!(rt; text(alloc, "blue")),
-        ))),
+        Reply::Pair(Some((text(&rt, alloc, "square"), text(&rt, alloc, "blue")))),
         Reply::Value(None),
     ];
     expect_eq!(rt; replies.as_slice(), wanted.as_slice());
 }
 
 #[test]
-fn a_text_is_looked_up_and_stays(rt: HostRuntime) -> Result<(), Fail> {
+fn a_text_is_looked_up_and_stays(rt: HostRuntime) {
     let alloc = rt.alloc();
-    let mut cache = a_cache_with_a_square(alloc)?;
-    let found = get_text(alloc, &mut cache, expect_ok!(rt; text(alloc, "square")));
-    expect_eq!(rt; found, Some(expect_ok!(rt; text(alloc, "blue"))));
-    expect!(rt; get_text(alloc, &mut cache, expect_ok!(rt; text(alloc, "circle"))).is_none());
+    let mut cache = a_cache_with_a_square(&rt, alloc);
+    let found = get_text(alloc, &mut cache, text(&rt, alloc, "square"));
+    expect_eq!(rt; found, Some(text(&rt, alloc, "blue")));
+    expect!(rt; get_text(alloc, &mut cache, text(&rt, alloc, "circle")).is_none());
     expect_eq!(rt; (cache.len(), cache.hits(), cache.misses()), (1, 1, 1));
-    Ok(())
 }
 
 #[test]
-fn a_copy_has_texts_of_its_own(rt: HostRuntime) -> Result<(), Fail> {
+fn a_copy_has_texts_of_its_own(rt: HostRuntime) {
     let alloc = rt.alloc();
-    let cache = a_cache_with_a_square(alloc)?;
+    let cache = a_cache_with_a_square(&rt, alloc);
     let mut copy = expect_ok!(rt; copy_texts(&cache));
-    let square = expect_ok!(rt; text(alloc, "square"));
+    let square = text(&rt, alloc, "square");
     expect_eq!(rt;
         copy.remove(&square),
-        Some((expect_ok!(rt; text(alloc, "square")), expect_ok!(rt; text(alloc, "blue"))))
+        Some((text(&rt, alloc, "square"), text(&rt, alloc, "blue")))
     );
     expect_eq!(rt; copy.len(), 0);
     expect!(rt; cache.contains_key(&square));
-    Ok(())
 }
 
 #[test]
@@ -161,16 +156,16 @@ fn a_loaded_text_is_shown_to_who_comes_later(rt: HostRuntime) {
     let mut core: Core<String> = Core::new(alloc);
     let events = expect_ok!(rt; vec![in alloc;
         Event::Create,
-        Event::Fill(expect_ok!(rt; text(alloc, "blue"))),
+        Event::Fill(text(&rt, alloc, "blue")),
         Event::Join(1),
     ]);
     let answers = expect_ok!(rt; load_texts(&mut core, events));
     let wanted = [
         Answer::Created,
         Answer::Done,
-        Answer::Value(expect_ok!(rt; text(alloc, "blue"))),
+        Answer::Value(text(&rt, alloc, "blue")),
     ];
     expect_eq!(rt; answers.as_slice(), wanted.as_slice());
     let answer = load_text(&mut core, Event::Join(2));
-    expect_eq!(rt; answer, Answer::Value(expect_ok!(rt; text(alloc, "blue"))));
+    expect_eq!(rt; answer, Answer::Value(text(&rt, alloc, "blue")));
 }

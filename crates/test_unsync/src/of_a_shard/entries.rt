@@ -63,9 +63,9 @@ fn an_entry_call_keeps_removes_and_replaces(rt: HostRuntime) {
         (4, 41, Choice::Keep, Came::Made, (2, 1, 1)),
     ];
     for (key, written, choice, came, counts) in rows {
-        assert_eq!(rt; enter(&mut shard, key, written, choice), came, "key {key}");
+        expect_eq!(rt; (key, enter(&mut shard, key, written, choice)), (key, came));
         let found = (shard.hits(), shard.misses(), shard.len());
-        assert_eq!(rt; found, counts, "key {key}");
+        expect_eq!(rt; (key, found), (key, counts));
     }
     expect_eq!(rt; seen(&shard, 1), (Some(11), true));
 }

@@ -1,7 +1,6 @@
 //! Room that was reserved: so many inserts ask for no memory, and a refused one can be made again.
 use quick_cache_unsync::{Cache, DefaultHashBuilder, DefaultLifecycle, Refusal, UnitWeighter};
 use std::alloc::Global;
-use std::test::Fail;
 use test_tools::{Rationed, expect, expect_eq, expect_ok};
 
 type RationedCache<'a> = Cache<
@@ -59,7 +58,7 @@ fn first_refused(cache: &mut RationedCache<'_>) -> Option<(u64, bool)> {
 }
 
 #[test]
-fn reserved_room_needs_no_memory(rt: HostRuntime) -> Result<(), Fail> {
+fn reserved_room_needs_no_memory(rt: HostRuntime) {
     let ration = Rationed::new(rt.alloc(), 100);
     let mut cache: RationedCache<'_> = expect_ok!(rt; Cache::new(&ration, 1000));
     expect_eq!(rt; cache.reserve(3), Ok(()));
@@ -67,10 +66,9 @@ fn reserved_room_needs_no_memory(rt: HostRuntime) -> Result<(), Fail> {
     for key in 1..=3 {
         expect_eq!(rt; cache.insert(key, key), Ok(()));
     }
-    let Some((refused, same)) = first_refused(&mut cache) else {
-        return Err(Fail::new("no insert was refused"));
-    };
-    assert!(rt; same, "the refusal changed something");
+    // An insert was refused, which changed nothing.
+    let (refused, is_as_before) = first_refused(&mut cache).expect(&rt, "a refusal");
+    expect!(rt; is_as_before);
     let len = cache.len();
     expect_eq!(rt; len as u64, refused.saturating_sub(97));
     expect!(rt; !cache.contains_key(&refused));
@@ -79,5 +77,4 @@ fn reserved_room_needs_no_memory(rt: HostRuntime) -> Result<(), Fail> {
     ration.allow(100);
     expect_eq!(rt; cache.insert(refused, 7), Ok(()));
     expect_eq!(rt; cache.peek(&refused).copied(), Some(7));
-    Ok(())
 }

@@ -3,36 +3,31 @@ use crate::of_a_shard::rows::{Tested, empty, put, replaced};
 use quick_cache_shard::Touches;
 use std::alloc::Global;
 use std::process::Abort;
-use std::test::Fail;
 use test_parts::counting::Told;
 use test_parts::touched::Touched;
 use test_parts::walks::{shows, shows_ghosts};
 use test_tools::{expect, expect_eq, expect_ok};
 
 /// Writes over an item that was touched, and checks the mark that it then has.
-fn check_mark<T: Touches>(
-    rt: &impl Abort,
-    shard: Tested<u64, u64, T>,
-    mark: u8,
-) -> Result<(), Fail> {
-    let mut shard = shard;
+fn check_mark<T: Touches>(rt: &impl Abort, alloc: Global, mark: u8) {
+    let mut shard: Tested<u64, u64, T> = expect_ok!(rt; empty(alloc, 4));
     let mut told = Told::default();
     expect!(rt; put(&mut shard, &mut told, 1, 10));
     expect!(rt; shows(shard.iter_hot(), &[(1, 0)]));
-    expect_eq!(rt; replaced(&mut shard, &mut told, 1, 11, true), Ok(()));
-    assert!(rt; shows(shard.iter_hot(), &[(1, mark)]), "mark {mark}");
-    // They were taken, so they count once.
-    expect_eq!(rt; replaced(&mut shard, &mut told, 1, 12, true), Ok(()));
-    assert!(rt; shows(shard.iter_hot(), &[(1, mark)]), "mark {mark} again");
-    Ok(())
+    // They are taken by the first, so they count once.
+    for value in [11, 12] {
+        expect_eq!(rt; replaced(&mut shard, &mut told, 1, value, true), Ok(()));
+        let is_marked = shows(shard.iter_hot(), &[(1, mark)]);
+        expect_eq!(rt; (mark, value, is_marked), (mark, value, true));
+    }
 }
 
 #[test]
-fn an_overwrite_takes_touches_in_up_to_two(rt: HostRuntime) -> Result<(), Fail> {
-    check_mark::<Touched<0>>(&rt, expect_ok!(rt; empty(rt.alloc(), 4)), 0)?;
-    check_mark::<Touched<1>>(&rt, expect_ok!(rt; empty(rt.alloc(), 4)), 1)?;
-    check_mark::<Touched<2>>(&rt, expect_ok!(rt; empty(rt.alloc(), 4)), 2)?;
-    check_mark::<Touched<18446744073709551615>>(&rt, expect_ok!(rt; empty(rt.alloc(), 4)), 2)
+fn an_overwrite_takes_touches_in_up_to_two(rt: HostRuntime) {
+    check_mark::<Touched<0>>(&rt, rt.alloc(), 0);
+    check_mark::<Touched<1>>(&rt, rt.alloc(), 1);
+    check_mark::<Touched<2>>(&rt, rt.alloc(), 2);
+    check_mark::<Touched<18446744073709551615>>(&rt, rt.alloc(), 2);
 }
 
 #[test]

@@ -2,8 +2,7 @@
 ghost use Rattle.std.specs.Prelude.{length};
 
 use quick_cache_unsync::{Cache, DefaultHashBuilder, DefaultLifecycle, Weighter};
-use std::test::Fail;
-use test_tools::{expect_eq, expect_ok};
+use test_tools::{expect, expect_eq, expect_ok};
 
 /// Weighs a number as itself.
 #[derive(Drop)]
@@ -14,6 +13,17 @@ impl Weighter<u64, u64> for AsItself {
 
     fn weight(&self, _key: &u64, value: &u64) -> u64 {
         *value
+    }
+}
+
+/// Writes a value where the key 1 stands, by a reference, and tells whether it does.
+fn overwrite<V: Drop, We: Weighter<u64, V>>(cache: &mut Cache<u64, V, We>, new: V) -> bool {
+    match cache.get_mut(&1) {
+        Some(mut value) => {
+            *value = new;
+            true
+        }
+        None => false,
     }
 }
 
@@ -32,7 +42,7 @@ fn seventy_thousand_gets_are_as_many_reads(rt: HostRuntime) {
 }
 
 #[test]
-fn great_weights_are_kept_whole(rt: HostRuntime) -> Result<(), Fail> {
+fn great_weights_are_kept_whole(rt: HostRuntime) {
     let mut cache: Cache<u64, u64, AsItself> = expect_ok!(rt; Cache::with(
         rt.alloc(),
         100,
@@ -50,16 +60,12 @@ fn great_weights_are_kept_whole(rt: HostRuntime) -> Result<(), Fail> {
     ] {
         expect_ok!(rt; cache.insert(2, weight));
         expect_eq!(rt; cache.weight(), beside_one);
-        match cache.get_mut(&1) {
-            Some(mut value) => *value = weight,
-            None => return Err(Fail::new("nothing was found")),
-        }
+        expect!(rt; overwrite(&mut cache, weight));
         expect_eq!(rt; cache.weight(), twice);
         expect_ok!(rt; cache.insert(1, 1));
         cache.remove(&2);
         expect_eq!(rt; cache.weight(), 1);
     }
-    Ok(())
 }
 
 #[test]
@@ -89,7 +95,7 @@ impl Weighter<u64, &'static str> for ByLength {
 }
 
 #[test]
-fn a_text_that_grows_and_goes_is_weighed_each_time(rt: HostRuntime) -> Result<(), Fail> {
+fn a_text_that_grows_and_goes_is_weighed_each_time(rt: HostRuntime) {
     let mut cache: Cache<u64, &'static str, ByLength> = expect_ok!(rt; Cache::with(
         rt.alloc(),
         100,
@@ -101,13 +107,9 @@ fn a_text_that_grows_and_goes_is_weighed_each_time(rt: HostRuntime) -> Result<()
     expect_ok!(rt; cache.insert(1, "1"));
     expect_eq!(rt; cache.weight(), 1);
     for (text, weight) in [("11", 2), ("", 0)] {
-        match cache.get_mut(&1) {
-            Some(mut value) => *value = text,
-            None => return Err(Fail::new("nothing was found")),
-        }
-        assert_eq!(rt; cache.weight(), weight, "{text}");
+        expect!(rt; overwrite(&mut cache, text));
+        expect_eq!(rt; (text, cache.weight()), (text, weight));
     }
     expect_eq!(rt; cache.get(&1).copied(), Some(""));
     expect_eq!(rt; (cache.hits(), cache.misses()), (3, 0));
-    Ok(())
 }

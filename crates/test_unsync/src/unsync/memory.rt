@@ -72,13 +72,14 @@ fn a_growth_asks_for_at_most_four_times_its_need(rt: HostRuntime) {
         expect_ok!(rt; cache.insert(key, key));
         let asked = before.saturating_sub(arena.chunk_capacity());
         let needed = cache.len().saturating_add(4).saturating_mul(ENTRY);
-        assert!(rt; asked <= needed.saturating_mul(4), "{asked} bytes at {key}");
+        let is_modest = asked <= needed.saturating_mul(4);
+        expect_eq!(rt; (key, asked, is_modest), (key, asked, true));
     }
     let before = arena.chunk_capacity();
     // The arena counts: it has given at least the pairs' own bytes.
     expect!(rt; first.saturating_sub(before) >= 160000);
     let copy = expect_ok!(rt; cache.try_clone());
     let asked = before.saturating_sub(arena.chunk_capacity());
-    assert!(rt; asked <= ENTRY * 10000 * 4, "{asked} bytes for a clone");
+    expect_eq!(rt; (asked, asked <= ENTRY * 10000 * 4), (asked, true));
     expect_eq!(rt; copy.len(), 10000);
 }

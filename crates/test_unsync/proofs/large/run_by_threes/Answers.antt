@@ -1,6 +1,0 @@
-use Rattle.quick_cache_runs.proofs.CallerLemmas.{none_asked}
-use Rattle.test_unsync.proofs.large.run_by_threes.Goals as goal
-
--- none asks a predicate
-pub run-requires-clause-callable : goal.run-requires-clause-callable
-run-requires-clause-callable g c = none_asked _ _ c.in_ok-calls.ensures
