@@ -1,65 +1,68 @@
-//! A cache is saved as lines of text, as for a file, and stands again as it did.
-use quick_cache_unsync::{Cache, Queue};
+//! A cache is saved in a file, a line for each item, and stands again as it did.
+use quick_cache_unsync::{
+    Cache, DefaultHashBuilder, DefaultLifecycle, OptionsBuilder, Queue, UnitWeighter,
+};
+use std::alloc::Global;
 use std::io::{self, Write};
 
-/// A line that is none of ours, or whose pair the cache did not take.
+/// Why a text makes no cache: a line is none of ours, or there is no memory.
 #[derive(Debug, PartialEq, Drop)]
-pub struct BadLine;
+pub struct NotRestored;
 
-/// Writes a line for each pair of a ring, in its order: the ring's name, key, value and mark.
-fn save_ring<W: Write>(cache: &Cache<u64, u64>, queue: Queue, out: &mut W) -> io::Result<()> {
-    let name = match queue {
-        Queue::Hot => "hot",
-        Queue::Cold => "cold",
-    };
-    for (key, value, mark) in cache.saved(queue) {
+/// Writes a line for each item: its ring's name, key, value and mark.
+pub fn save<W: Write>(cache: &Cache<u64, u64>, out: &mut W) -> io::Result<()> {
+    for (key, value, queue, mark) in cache.saved() {
+        let name = match queue {
+            Queue::Hot => "hot",
+            Queue::Cold => "cold",
+        };
         writeln!(out, "{name} {key} {value} {mark}")?;
     }
     Ok(())
 }
 
-/// Writes both rings.
-pub fn save<W: Write>(cache: &Cache<u64, u64>, out: &mut W) -> io::Result<()> {
-    save_ring(cache, Queue::Hot, out)?;
-    save_ring(cache, Queue::Cold, out)
-}
-
-/// A number of a line.
-fn number(word: Option<&str>) -> Result<u64, BadLine> {
-    match word {
-        Some(word) => word.parse().map_err(|_| BadLine),
-        None => Err(BadLine),
-    }
-}
-
-/// Puts the pair of a line back to where it stood.
-fn restore_line(cache: &mut Cache<u64, u64>, line: &str) -> Result<(), BadLine> {
+/// What a line says.
+fn read(line: &str) -> Option<(u64, u64, Queue, u8)> {
     let mut words = line.split(' ');
     let queue = match words.next() {
         Some("hot") => Queue::Hot,
         Some("cold") => Queue::Cold,
-        _ => return Err(BadLine),
+        _ => return None,
     };
-    let key = number(words.next())?;
-    let value = number(words.next())?;
-    let mark = u8::try_from(number(words.next())?).map_err(|_| BadLine)?;
-    match cache.restore(key, value, queue, mark) {
-        Ok(()) => Ok(()),
-        Err(_) => Err(BadLine),
-    }
+    let key = words.next()?.parse().ok()?;
+    let value = words.next()?.parse().ok()?;
+    let mark = words.next()?.parse().ok()?;
+    Some((key, value, queue, mark))
 }
 
-/// Puts the pairs of a text back, which `save` wrote, into a cache that is empty.
-pub fn restore(cache: &mut Cache<u64, u64>, text: &str) -> Result<(), BadLine> {
+/// Makes the cache for so many items anew of what `save` wrote.
+pub fn restored(alloc: Global, items: usize, text: &str) -> Result<Cache<u64, u64>, NotRestored> {
+    let mut pairs = Vec::new(alloc);
     for line in text.lines() {
-        restore_line(cache, line)?;
+        let pair = read(line).ok_or(NotRestored)?;
+        pairs.push(pair).map_err(|_| NotRestored)?;
     }
-    Ok(())
+    let mut options = OptionsBuilder::new();
+    options.estimated_items_capacity(items);
+    options.weight_capacity(items as u64);
+    let options = options.build().map_err(|_| NotRestored)?;
+    let (builder, lifecycle) = (DefaultHashBuilder::new(), DefaultLifecycle::new());
+    Cache::restored(
+        alloc,
+        options,
+        UnitWeighter,
+        builder,
+        lifecycle,
+        pairs.into_iter(),
+    )
+    .map_err(|_| NotRestored)
 }
 
 #[cfg(test)]
 mod tests {
     use super::*;
+    use std::fs;
+    use std::fs::File;
     use std::test::Fail;
 
     #[test]
@@ -69,18 +72,17 @@ mod tests {
             cache.put(key, key * 10)?;
             cache.get(&2);
         }
-        let mut text = Vec::new(rt.alloc());
-        save(&cache, &mut text)?;
-        let text = str::from_utf8(&text)?;
-        assert_eq!(rt; text, "hot 1 10 0\nhot 2 20 2\ncold 4 40 0\n");
-        let mut again: Cache<u64, u64> = Cache::new(rt.alloc(), 3)?;
-        assert_eq!(rt; restore(&mut again, text), Ok(()));
+        save(&cache, &mut File::create(&rt, "saved_cache.txt")?)?;
+        let text = fs::read_to_string(&rt, "saved_cache.txt")?;
+        fs::remove_file(&rt, "saved_cache.txt")?;
+        assert_eq!(rt; text.as_str(), "hot 1 10 0\nhot 2 20 2\ncold 4 40 0\n");
+        let Ok(again) = restored(rt.alloc(), 3, text.as_str()) else {
+            return Err(Fail::from("a line was refused"));
+        };
         let mut copy = Vec::new(rt.alloc());
         save(&again, &mut copy)?;
         assert_eq!(rt; copy.as_slice(), text.as_bytes());
-        // A second pair of a key is not taken.
-        assert_eq!(rt; restore(&mut again, "hot 2 2 0"), Err(BadLine));
-        assert_eq!(rt; restore(&mut again, "warm 5 5 0"), Err(BadLine));
+        assert!(rt; restored(rt.alloc(), 3, "warm 5 5 0").is_err());
         Ok(())
     }
 }

@@ -118,12 +118,12 @@ fn saved_and_restored(rt: HostRuntime) -> Result<(), Fail> {
     cache.insert(1, 10)?;
     cache.get(&1);
     let mut again: Cache<u64, u64> = Cache::new(rt.alloc(), 5)?;
-    for (key, value, mark) in cache.saved(Queue::Hot) {
-        again.restore(*key, *value, Queue::Hot, mark)?;
+    for (key, value, queue, mark) in cache.saved() {
+        again.restore(*key, *value, queue, mark)?;
     }
     // The pair has its mark again.
-    for (key, value, mark) in again.saved(Queue::Hot) {
-        assert_eq!(rt; (*key, *value, mark), (1, 10, 1));
+    for (key, value, queue, mark) in again.saved() {
+        assert_eq!(rt; (*key, *value, queue, mark), (1, 10, Queue::Hot, 1));
     }
     // What stands is not put back once more.
     assert_eq!(rt; again.restore(1, 11, Queue::Cold, 0), Err((1, 11, None)));

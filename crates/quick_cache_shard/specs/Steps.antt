@@ -7,7 +7,7 @@ use Rattle.quick_cache_model.specs.Hooks.{Rules, Hooks, Calls}
 use Rattle.quick_cache_model.specs.Writes.{Strategy}
 use Rattle.quick_cache_policy.specs.Filling.{AnswersFill}
 use Rattle.quick_cache_policy.specs.References.{ReweighsUnder}
-use Rattle.quick_cache_policy.specs.Restoring.{AnswersRestore}
+pub use Rattle.quick_cache_policy.specs.Restoring.{AnswersRestore}
 use Rattle.quick_cache_policy.specs.Writing.{AnswersWrite}
 use Rattle.quick_cache_policy.specs.Policies.{rules_by}
 use Rattle.quick_cache_shard.specs.Inserts.{Inserts}

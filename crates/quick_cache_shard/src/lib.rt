@@ -22,6 +22,7 @@ pub use quick_cache_policy::{
 pub use quick_cache_store::lists::Meaning;
 pub use removing::drain::Drain;
 pub use shard::CacheShard;
+pub use walking::saved::SavedIter;
 pub use walking::walk::{GhostIter, Iter, RingIter};
 pub use walking::walk_from::IterFrom;
 pub use words::{Going, Keyed, Rowed};

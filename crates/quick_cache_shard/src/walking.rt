@@ -1,5 +1,6 @@
 //! Walks over the items.
 
 pub mod retaining;
+pub mod saved;
 pub mod walk;
 pub mod walk_from;

@@ -2,7 +2,7 @@
 use Rattle.std.proofs.Common.{◌≡◌, ℕ, zero, suc, Bool, List, [], ◌∷◌, ◌++◌, take, Option, Some, Err, refl, ap, sym, subst, ◌∙◌}
 use Rattle.std.specs.Iterator.{YieldsThen}
 use Rattle.quick_cache_model.specs.declared.refusal.Refusal.{Refusal}
-use Rattle.quick_cache_shard.specs.Shard.{Shard, KeepsTerms}
+use Rattle.quick_cache_shard.specs.Shard.{Shard, KeepsTerms, KeepsWork}
 use Rattle.quick_cache_shard.specs.Steps.{Goes}
 use Rattle.quick_cache_shard.proofs.InsertLemmas.{Inserts-pair}
 use Rattle.quick_cache_unsync.specs.Many.{InsertsPair, EndsInTurn}
@@ -33,6 +33,16 @@ KeepsTerms-on {K} {V} {We} {B} {L} old mid new first second =
       places = new.places;
       room = new.room;
       work = new.work;
+    }) first
+
+-- and what two calls keep that do no work
+pub KeepsWork-on : {K V We B L : Type 0} (old mid new : Shard K V We B L) → KeepsWork old mid
+    → KeepsWork mid new → KeepsWork old new
+KeepsWork-on {K} {V} {We} {B} {L} old mid new first second =
+    second ∙ ap (λ (shard : Shard K V We B L). record shard {
+      state = new.state;
+      places = new.places;
+      room = new.room;
     }) first
 
 module _ {K V We B L S I : Type 0} (goes : Goes K V We B L S) (is_default : S → Type 0)

@@ -10,8 +10,10 @@ pub mod Loads
 pub mod Fetches
 pub mod LoadTexts
 pub mod Many
+pub mod Saving
 pub mod Hottest
 pub mod Steps
+pub use Rattle.quick_cache_shard.specs.Saved
 pub use Rattle.quick_cache_shard.specs.Shard
 pub use Rattle.quick_cache_shard.specs.Copies
 pub use Rattle.quick_cache_shard.specs.Writing

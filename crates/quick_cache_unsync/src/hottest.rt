@@ -43,11 +43,21 @@ impl<K: Eq + Hash, V, We, B: BuildHasher, L, A: Allocator> Cache<K, V, We, B, L,
         ensures within { OnOk result (vec_len list.new ≤ count) }
         ensures refused { IfErr result (λ refusal. refusal ≡ Memory) }
     {
-        add_marked(list, count, 3, self.saved(queue))?;
-        add_marked(list, count, 2, self.saved(queue))?;
-        add_marked(list, count, 1, self.saved(queue))?;
-        add_marked(list, count, 0, self.saved(queue))?;
+        add_marked(list, count, 3, self.ring(queue))?;
+        add_marked(list, count, 2, self.ring(queue))?;
+        add_marked(list, count, 1, self.ring(queue))?;
+        add_marked(list, count, 0, self.ring(queue))?;
         Ok(())
+    }
+
+    // The items of a ring with their marks, the next to be visited first.
+    fn ring(&self, queue: Queue) -> RingIter<'_, K, V, Placeholder, A>
+        ensures { result ≡ map shown (ring_of self.now.state queue) }
+    {
+        match queue {
+            Queue::Hot => self.shard.iter_hot(),
+            Queue::Cold => self.shard.iter_cold(),
+        }
     }
 }
 

@@ -26,6 +26,6 @@ pub use quick_cache_model::{
     Refusal, Text, TextIn, ToKey, Token, UnitWeighter, Weighter, hash_of,
 };
 pub use quick_cache_options::options::{Options, OptionsBuilder};
-pub use quick_cache_shard::{CacheShard, Placeholder, Plainly};
+pub use quick_cache_shard::{CacheShard, Placeholder, Plainly, SavedIter};
 pub use walking::drain::Drain;
 pub use walking::iter::Iter;

@@ -1,12 +1,11 @@
 //! The sizes of a cache: as options tell them, and as they are set later.
 ghost use Rattle.std.specs.Prelude.{◌≡◌, ◌≤◌, IfOk, IfErr, IsOk};
 ghost use Rattle.quick_cache_model.specs.declared.refusal.Refusal.TheVariants.{Memory};
-ghost use Rattle.quick_cache_model.specs.CacheState.{empty_state};
-ghost use Rattle.quick_cache_model.specs.Sizes.{hot_target_of, ghost_limit_of};
 ghost use Rattle.quick_cache_shard.specs.Alone.{IsDoneAlone};
 ghost use Rattle.quick_cache_shard.specs.SetsCapacity.{Rescales};
 ghost use Rattle.quick_cache_shard.specs.Shard.{KeepsTerms, WorksAsWrite, made_with};
 ghost use Rattle.quick_cache_shard.specs.Steps.{SetsCapacityBy};
+ghost use Rattle.quick_cache_unsync.specs.Saving.{empty_by};
 ghost use Rattle.quick_cache_unsync.specs.Touches.{no_touches};
 
 use crate::cache::Cache;
@@ -35,11 +34,8 @@ impl<K: Eq + Hash, V, We, B: BuildHasher, L, A: Allocator> Cache<K, V, We, B, L,
         We: Drop,
         B: Drop,
         L: Drop,
-        ensures makes { IfOk result (λ cache. cache ≡ made_with
-            (record (empty_state options.weight_capacity
-            (hot_target_of options.weight_capacity options.hot_allocation)
-            (ghost_limit_of options.estimated_items_capacity options.ghost_allocation))
-            { mark_cut = options.mark_cut }) weigher builder lifecycle) }
+        ensures makes { IfOk result (λ cache. cache ≡ made_with (empty_by options)
+            weigher builder lifecycle) }
         ensures succeeds { A.is_infallible alloc → IsOk result }
         ensures refused { IfErr result (λ refusal. refusal ≡ Memory) }
     {

@@ -1,6 +1,5 @@
 //! A pair that a cache had before comes back to where it stood.
-ghost use Rattle.std.specs.Prelude.{◌≡◌, ◌+◌, ◌≤◌, ◌↔◌, IfErr, Some, true};
-ghost use Rattle.quick_cache_model.specs.CacheState.{total_weight};
+ghost use Rattle.std.specs.Prelude.{◌≡◌, ◌+◌, ◌≤◌, IfErr, Some};
 ghost use Rattle.quick_cache_model.specs.declared.refusal.Refusal.TheVariants.{Memory};
 ghost use Rattle.quick_cache_policy.specs.Contents.{IsSound, state_of};
 ghost use Rattle.quick_cache_policy.specs.Places.{KeepsPlaces, places_of};
@@ -17,19 +16,10 @@ use std::alloc::Allocator;
 use std::hash::Hash;
 
 impl<K: Eq + Hash + Drop, V: Drop, P: SharedPlaceholder<K>, A: Allocator> Contents<K, V, P, A> {
-    /// Whether so much weight fits the capacity beside what stands.
-    fn has_place(&self, weight: u64) -> bool
-        ensures { (result ≡ true)
-            ↔ (total_weight (state_of P.ticket_of self.now) + weight ≤ self.now.capacity) }
-    {
-        self.lists.weight(Queue::Hot) + self.lists.weight(Queue::Cold) + u128::from(weight)
-            <= u128::from(self.capacity)
-    }
-
     /// Puts a pair last in that ring, or among the weightless, with that mark or the greatest there
-    /// is. It comes in where nothing is known of its key, and where it fits the capacity beside what
-    /// stands: nothing leaves for it, and no hook is called. All growth comes first, so that a pair
-    /// that is given back has changed nothing.
+    /// is. It comes in where nothing is known of its key. Nothing leaves for it, whatever it weighs,
+    /// and no hook is called. All growth comes first, so that a pair that is given back has changed
+    /// nothing.
     pub fn restore<M: Policy<K, V>>(
         &mut self,
         terms: &M,
@@ -56,13 +46,10 @@ impl<K: Eq + Hash + Drop, V: Drop, P: SharedPlaceholder<K>, A: Allocator> Conten
         let Plan::InsertNew = plan else {
             return Err((key, value, None));
         };
-        let weight = terms.weigh(&key, &value);
-        if !self.has_place(weight) {
-            return Err((key, value, None));
-        }
         if let Some(refusal) = self.provide(plan) {
             return Err((key, value, Some(refusal)));
         }
+        let weight = terms.weigh(&key, &value);
         let mark = mark.min(self.mark_cut);
         let item = Marked::new(key, value, weight, mark, queue, P::Touch::default());
         let _ = self.lists.put(hash, Entry::Item(item));

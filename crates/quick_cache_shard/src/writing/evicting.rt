@@ -60,12 +60,12 @@ impl<
     }
 
     /// Puts a pair last in that ring, or among the weightless, with that mark or the greatest there
-    /// is, as it stood before; its hash is handed in. Nothing leaves for it, and no hook is called.
+    /// is, as it stood before; its hash is handed in. Nothing leaves for it, whatever it weighs, and
+    /// no hook is called.
     ///
     /// # Errors
     ///
-    /// The pair, and nothing has changed. There is no refusal where something is known of its key,
-    /// or where it does not fit the capacity beside what stands.
+    /// The pair, and nothing has changed. There is no refusal where something is known of its key.
     pub fn restore(
         &mut self,
         hash: u64,

@@ -1,11 +1,14 @@
-//! Pairs come back to where they stood.
-use quick_cache_unsync::{Cache, Queue, Refusal, Weighter};
-use std::alloc::{AllocError, Global};
+//! Items are saved, and come back to where they stood.
+use quick_cache_listeners::{Pin, PinBy};
+use quick_cache_unsync::{
+    Cache, DefaultHashBuilder, DefaultLifecycle, Options, OptionsBuilder, Queue, Weighter,
+};
+use std::alloc::Global;
 use std::test::Fail;
 use test_tools::{expect, expect_eq};
 
-/// A pair that is saved, with its mark.
-type Saved = (u64, u64, u8);
+/// A pair that is saved, with its ring and its mark.
+type Saved = (u64, u64, Queue, u8);
 
 /// The value is the weight.
 #[derive(Drop)]
@@ -19,31 +22,64 @@ impl Weighter<u64, u64> for ByValue {
     }
 }
 
-/// A cache whose weights are its values.
-type Weighed = Cache<u64, u64, ByValue>;
+/// Pins what has a great key.
+#[derive(Drop)]
+struct Great;
 
-/// A cache of this capacity.
-fn weighed(alloc: Global, capacity: u64) -> Result<Weighed, Refusal> {
-    Cache::with_weighter(alloc, 100, capacity, ByValue)
-}
+impl Pin<u64, u64> for Great {
+    ghost pinned = { λ _ key _. key > 999 };
 
-fn ring_of(cache: &Weighed, queue: Queue, alloc: Global) -> Result<Vec<Saved>, AllocError> {
-    let mut list = Vec::new(alloc);
-    for (key, value, mark) in cache.saved(queue) {
-        list.push((*key, *value, mark))?;
+    fn is_pinned(&self, key: &u64, _val: &u64) -> bool {
+        *key > 999
     }
-    Ok(list)
 }
 
-/// Puts the pairs of both rings back into a cache of this capacity.
-fn restored(cache: &Weighed, alloc: Global, capacity: u64) -> Result<Weighed, Fail> {
-    let mut again = weighed(alloc, capacity)?;
-    for queue in [Queue::Hot, Queue::Cold] {
-        for (key, value, mark) in cache.saved(queue) {
-            again.restore(*key, *value, queue, mark)?;
+/// A cache whose weights are its values.
+type Weighed = Cache<
+    u64,
+    u64,
+    ByValue,
+    DefaultHashBuilder,
+    PinBy<Great, DefaultLifecycle<u64, u64>>,
+>;
+
+/// What such a cache of this capacity is made by.
+fn sized(capacity: u64) -> Result<Options, Fail> {
+    let mut options = OptionsBuilder::new();
+    options.estimated_items_capacity(100);
+    options.weight_capacity(capacity);
+    Ok(options.build()?)
+}
+
+/// A cache of this capacity into which these pairs came back.
+fn restored(alloc: Global, capacity: u64, pairs: Vec<Saved>) -> Result<Weighed, Fail> {
+    let lifecycle = PinBy(Great, DefaultLifecycle::new());
+    let builder = DefaultHashBuilder::new();
+    let pairs = pairs.into_iter();
+    Ok(Cache::restored(alloc, sized(capacity)?, ByValue, builder, lifecycle, pairs)?)
+}
+
+/// An empty one.
+fn weighed(alloc: Global, capacity: u64) -> Result<Weighed, Fail> {
+    restored(alloc, capacity, Vec::new(alloc))
+}
+
+/// All items, those that weigh nothing by ascending keys.
+fn saved(cache: &Weighed, alloc: Global) -> Result<Vec<Saved>, Fail> {
+    let mut list = Vec::new(alloc);
+    let mut weightless = Vec::new(alloc);
+    for (key, value, queue, mark) in cache.saved() {
+        if *value > 0 {
+            list.push((*key, *value, queue, mark))?;
+        } else {
+            weightless.push((*key, *value, queue, mark))?;
         }
     }
-    Ok(again)
+    weightless.sort_unstable_by_key(|item| item.0);
+    for item in weightless {
+        list.push(item)?;
+    }
+    Ok(list)
 }
 
 /// A number that looks random.
@@ -52,39 +88,65 @@ fn mixed(number: u64) -> u64 {
 }
 
 #[test]
-fn both_rings_and_all_marks_stand_again(rt: HostRuntime) -> Result<(), Fail> {
+fn rings_marks_and_what_weighs_nothing_stand_again(rt: HostRuntime) -> Result<(), Fail> {
     let alloc = rt.alloc();
     let mut cache = weighed(alloc, 500)?;
-    let mut marked = 0u64;
+    let mut seen = [0u64; 5];
     for round in 0..3000u64 {
         let key = mixed(round);
         if cache.get(&key).is_none() {
-            cache.insert(key, 1 + key % 30)?;
+            cache.insert(key, key % 31)?;
         }
         if round % 100 == 0 {
-            let again = restored(&cache, alloc, 500)?;
-            for queue in [Queue::Hot, Queue::Cold] {
-                let ring = ring_of(&cache, queue, alloc)?;
-                for (_, _, mark) in &ring {
-                    marked = marked.saturating_add(u64::from(*mark));
-                }
-                expect_eq!(rt; ring_of(&again, queue, alloc)?, ring);
+            let list = saved(&cache, alloc)?;
+            for (_, value, queue, mark) in &list {
+                seen[0] = seen[0].saturating_add(u64::from(*queue == Queue::Hot));
+                seen[1] = seen[1].saturating_add(u64::from(*queue == Queue::Cold));
+                seen[2] = seen[2].saturating_add(u64::from(*value == 0));
+                seen[3] = seen[3].saturating_add(u64::from(*value == 0 && *mark > 0));
+                seen[4] = seen[4].saturating_add(u64::from(*value > 0 && *mark > 0));
             }
+            let again = restored(alloc, 500, saved(&cache, alloc)?)?;
+            expect_eq!(rt; saved(&again, alloc)?, list);
             expect_eq!(rt; (again.weight(), again.len()), (cache.weight(), cache.len()));
             expect_eq!(rt; (again.hits(), again.misses()), (0, 0));
         }
     }
-    expect!(rt; marked > 100);
+    for count in seen {
+        expect!(rt; count > 10);
+    }
+    Ok(())
+}
+
+#[test]
+fn a_cache_above_its_capacity_stands_again(rt: HostRuntime) -> Result<(), Fail> {
+    let alloc = rt.alloc();
+    // Two pairs are pinned, and only one has room.
+    let mut cache = weighed(alloc, 1)?;
+    cache.insert(1000, 1)?;
+    cache.insert(1001, 1)?;
+    let list = saved(&cache, alloc)?;
+    expect_eq!(rt; (list.len(), cache.weight()), (2, 2));
+    expect_eq!(rt; saved(&restored(alloc, 1, saved(&cache, alloc)?)?, alloc)?, list);
+    // A value was written that is too heavy for the cache; the next write makes room.
+    let mut cache = restored(
+        alloc,
+        10,
+        vec![in alloc; (1, 40, Queue::Cold, 0), (2, 3, Queue::Hot, 1)]?,
+    )?;
+    expect_eq!(rt; (cache.weight(), cache.capacity(), cache.len()), (43, 10, 2));
+    cache.insert(3, 1)?;
+    expect!(rt; cache.weight() <= 10);
+    expect_eq!(rt; (cache.contains_key(&1), cache.contains_key(&3)), (false, true));
     Ok(())
 }
 
 #[test]
 fn a_ring_may_be_empty_where_the_other_is_not(rt: HostRuntime) -> Result<(), Fail> {
     let alloc = rt.alloc();
-    let mut cache = weighed(alloc, 2)?;
-    expect_eq!(rt; cache.restore(2, 1, Queue::Cold, 0), Ok(()));
-    expect_eq!(rt; ring_of(&cache, Queue::Hot, alloc)?.as_slice(), [].as_slice());
-    expect_eq!(rt; ring_of(&cache, Queue::Cold, alloc)?.as_slice(), [(2, 1, 0)].as_slice());
+    let cold = [(2, 1, Queue::Cold, 0)];
+    let cache = restored(alloc, 2, Vec::from_array(alloc, cold)?)?;
+    expect_eq!(rt; saved(&cache, alloc)?.as_slice(), cold.as_slice());
     Ok(())
 }
 
@@ -93,19 +155,28 @@ fn what_cannot_come_back_is_given_back(rt: HostRuntime) -> Result<(), Fail> {
     let alloc = rt.alloc();
     let mut cache = weighed(alloc, 10)?;
     expect_eq!(rt; cache.restore(1, 4, Queue::Hot, 200), Ok(()));
-    // A key that stands, and one unit of weight too many.
     expect_eq!(rt; cache.restore(1, 3, Queue::Cold, 0), Err((1, 3, None)));
-    expect_eq!(rt; cache.restore(2, 7, Queue::Cold, 0), Err((2, 7, None)));
-    // The whole capacity, and what weighs nothing beside it.
-    expect_eq!(rt; cache.restore(3, 6, Queue::Hot, 1), Ok(()));
-    expect_eq!(rt; cache.restore(4, 0, Queue::Hot, 1), Ok(()));
-    expect_eq!(rt; cache.restore(5, 1, Queue::Hot, 1), Err((5, 1, None)));
-    // The mark is the greatest there is, and what weighs nothing stands in no ring.
-    let hot = ring_of(&cache, Queue::Hot, alloc)?;
-    expect_eq!(rt; hot.as_slice(), [(1, 4, 2), (3, 6, 1)].as_slice());
-    expect_eq!(rt; (cache.weight(), cache.len()), (10, 3));
+    // What is heavier than the cache, and what weighs nothing.
+    expect_eq!(rt; cache.restore(3, 60, Queue::Hot, 1), Ok(()));
+    expect_eq!(rt; cache.restore(4, 0, Queue::Cold, 1), Ok(()));
+    // The mark is the greatest there is.
+    let list = [
+        (1, 4, Queue::Hot, 2),
+        (3, 60, Queue::Hot, 1),
+        (4, 0, Queue::Cold, 1),
+    ];
+    expect_eq!(rt; saved(&cache, alloc)?.as_slice(), list.as_slice());
     // No ghost comes of it.
     expect_eq!(rt; cache.remove(&1), Some((1, 4)));
     expect_eq!(rt; cache.restore(1, 4, Queue::Cold, 0), Ok(()));
+    // Of many pairs of a key the first comes back.
+    let twice = vec![in alloc;
+        (1, 1, Queue::Hot, 0),
+        (1, 2, Queue::Cold, 1),
+        (2, 0, Queue::Hot, 3),
+    ]?;
+    let cache = restored(alloc, 10, twice)?;
+    let list = [(1, 1, Queue::Hot, 0), (2, 0, Queue::Hot, 2)];
+    expect_eq!(rt; saved(&cache, alloc)?.as_slice(), list.as_slice());
     Ok(())
 }

@@ -1,7 +1,7 @@
-use Rattle.std.proofs.Common.{rules, ◌≡◌, ◌∙◌, ℕ, ◌+◌, ◌≤◌, Bool, true, min, inl, inr, refl, sym, ap, subst, arith, Some}
+use Rattle.std.proofs.Common.{◌≡◌, ◌∙◌, ℕ, Bool, true, min, inl, inr, refl, sym, ap, subst, arith, Some}
 use Rattle.std.specs.List.{Contains}
 use Rattle.std.specs.Int.NonZero.{non_zero_u32_get as number}
-use Rattle.quick_cache_model.specs.CacheState.{CacheState, Item, SameButOrder, keys_by, total_weight}
+use Rattle.quick_cache_model.specs.CacheState.{CacheState, Item, SameButOrder, keys_by}
 use Rattle.quick_cache_model.specs.CacheState.{entered as model_entered}
 use Rattle.quick_cache_model.specs.Finding.{HasNothing}
 use Rattle.quick_cache_model.specs.Writes.{Insert, new_item}
@@ -61,7 +61,7 @@ returns-in_default g c =
             (IsPlanned-takes ticket_of equal_to c.args.hash old Insert plan
             c.plan_write-plan.ensures refl
             (subst (λ (h : ℕ). HasNothing equal_to h (state_of ticket_of old))
-            (sym c.requires.hash_is) can.unknown))),
+            (sym c.requires.hash_is) can))),
       );
       asks = λ e. absurd (cc);
       sound = c.requires.sound;
@@ -70,11 +70,6 @@ returns-in_default g c =
       room = omega arith;
       same = refl;
     }
-
-pub returns-then-not-has_place-clause-places : goal.returns-then-not-has_place-clause-places
-returns-then-not-has_place-clause-places g c =
-    LosesOnly-keeps g.P.SharedPlaceholder.ticket_of c.args.self.now g.K.PartialEq.eq
-    g.met.K.Eq.laws c.requires.sound.valid _ (λ place there. there)
 
 -- there was no slot or no memory
 pub returns-in-Some-clause-answers : goal.returns-in-Some-clause-answers
@@ -91,11 +86,7 @@ returns-in-Some-clause-answers g c =
       refl,
       ap (state_of ticket_of) c.provide.ensures.lists,
       (
-        record {
-          unknown = unknown;
-          fits = subst (λ (w : ℕ). total_weight (state_of ticket_of old) + w ≤ old.capacity)
-              c.weigh-weight.ensures (c.has_place.ensures.0 (search rules));
-        },
+        unknown,
         Provides-refused equal_to hash (state_of ticket_of old) plan Insert
             c.provide.new.self.lists.room (λ _. (refl, unknown)) c.in-Some.refusal
             (subst (λ (n : ℕ). Provides plan n c.provide.new.self.lists.room
@@ -137,11 +128,7 @@ returns-clause-answers g c =
     unknown (λ test. omega (arith, ap (λ (r : Contents _ _ _ _ _ _). keys_by test (state_of ticket_of r)) c.provide.ensures.lists)) (number c.put.result) c.new-item.result c.put.new.self
     (subst (λ (h : ℕ). PutsLast {T = g.row.P-Touch.Denot} made.lists (number c.put.result) h
     (item_variant c.new-item.result) c.put.new.self) c.requires.hash_is c.put.ensures.last) in (
-      record {
-        unknown = unknown;
-        fits = subst (λ (w : ℕ). total_weight (state_of ticket_of old) + w ≤ old.capacity)
-            c.weigh-weight.ensures (c.has_place.ensures.0 (search rules));
-      },
+      unknown,
       record {
         ordered = model_entered pair (state_of ticket_of old);
         holds = refl;

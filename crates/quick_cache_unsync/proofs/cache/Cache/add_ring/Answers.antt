@@ -17,7 +17,7 @@ returns-clause-adds g c =
     let third = pairs_shown c.add_marked-3.new.list.items in
     adds-more n old (a ++ b ++ d) (with_mark 0 ring) third _
     (adds-more n old (a ++ b) d second third
-    (adds-more n old a b _ second (rw c.saved.ensures at c.in_ok-add_marked.ensures.adds)
-    (rw c.saved-2.ensures at c.in_ok-add_marked-2.ensures.adds))
-    (rw c.saved-3.ensures at c.in_ok-add_marked-3.ensures.adds))
-    (rw c.saved-4.ensures at c.in_ok-add_marked-4.ensures.adds)
+    (adds-more n old a b _ second (rw c.ring.ensures at c.in_ok-add_marked.ensures.adds)
+    (rw c.ring-2.ensures at c.in_ok-add_marked-2.ensures.adds))
+    (rw c.ring-3.ensures at c.in_ok-add_marked-3.ensures.adds))
+    (rw c.ring-4.ensures at c.in_ok-add_marked-4.ensures.adds)
