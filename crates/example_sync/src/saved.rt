@@ -25,31 +25,30 @@ pub fn copy<R: Wait>(
 #[cfg(test)]
 mod tests {
     use super::*;
+    use quick_cache::Queue;
     use std::test::Fail;
 
     #[test]
     fn a_cache_stands_as_another_does(rt: HostRuntime) -> Result<(), Fail> {
         let first: Cache<u64, u64> = Cache::new(rt.alloc(), 100)?;
         for key in 0..200 {
-            first.insert(&rt, key, key)?;
-            first.get(&rt, &(key / 2))?;
+            first.put(&rt, key, key * 10)?;
+            first.get(&rt, &(key - key % 3))?;
         }
         let second: Cache<u64, u64> = Cache::new(rt.alloc(), 100)?;
         copy(&rt, rt.alloc(), &first, &second)?;
-        let (wanted, found) = (
-            first.saved(&rt, rt.alloc())?,
-            second.saved(&rt, rt.alloc())?,
-        );
-        assert_eq!(rt;
-            (found.len(), second.len(&rt)),
-            (wanted.len(), first.len(&rt))
-        );
-        let mut like = 0usize;
+        let wanted = first.saved(&rt, rt.alloc())?;
+        let found = second.saved(&rt, rt.alloc())?;
+        let (mut hot, mut marked, mut alike) = (0usize, 0usize, 0usize);
         for (one, other) in wanted.iter().zip(&found) {
-            let same = (one.key, one.queue, one.mark) == (other.key, other.queue, other.mark);
-            like = like.saturating_add(usize::from(same));
+            let same = (one.key, one.value) == (other.key, other.value)
+                && (one.queue, one.mark) == (other.queue, other.mark);
+            hot = hot.saturating_add(usize::from(one.queue == Queue::Hot));
+            marked = marked.saturating_add(usize::from(one.mark > 0));
+            alike = alike.saturating_add(usize::from(same));
         }
-        assert_eq!(rt; like, wanted.len());
+        assert_eq!(rt; (alike, found.len()), (first.len(&rt), wanted.len()));
+        assert_eq!(rt; (hot > 0, hot < alike, marked > 0), (true, true, true));
         Ok(())
     }
 }
