@@ -7,6 +7,7 @@ pub mod loads;
 pub mod locked;
 pub mod many;
 pub mod nobody;
+pub mod saved;
 pub mod shards;
 pub mod shared;
 pub mod walks;

@@ -1,19 +1,21 @@
 -- Writes keep every value fitting its key, whatever is pinned.
-use Rattle.std.proofs.Common.{Bool, List, Option, Some, None, Result, Ok, Err}
+use Rattle.std.proofs.Common.{ℕ, min, Bool, List, Option, Some, None, Result, Ok, Err}
 use Rattle.std.proofs.Common.{sym, subst}
 use Rattle.std.specs.List.{AllByRecursion}
 use Rattle.quick_cache_model.specs.declared.terms.lifecycle.Lifecycle as lifecycle
+use Rattle.quick_cache_model.specs.declared.queue.Queue.{Queue}
 use Rattle.quick_cache_model.specs.declared.refusal.Refusal.{Refusal}
 use Rattle.quick_cache_model.specs.CacheState.{CacheState, Item, Place}
 use Rattle.quick_cache_model.specs.Hooks.{Rules, Hooks}
 use Rattle.quick_cache_model.specs.Finding.{IsItemAt}
-use Rattle.quick_cache_model.specs.Writes.{Strategy}
+use Rattle.quick_cache_model.specs.Writes.{Strategy, new_item}
 use Rattle.quick_cache_model.proofs.EachElement.{all-middle}
 use Rattle.quick_cache_shard.specs.Lifecycles.{hooks_by}
+use Rattle.quick_cache_shard.specs.Steps.{AnswersRestore}
 use Rattle.quick_cache_shard.specs.Shard.{Wrote, GivesBack, AnswersWrite}
 use Rattle.quick_cache_locked.specs.Fitting.{FitsIn, AllFit}
 use Rattle.quick_cache_model.proofs.Fitting.{RunsHooks-fits, TellsBeside-fits, TellsBeside-gives}
-use Rattle.quick_cache_locked.proofs.FitLemmas.{AllFit-at}
+use Rattle.quick_cache_locked.proofs.FitLemmas.{AllFit-at, SameButOrder-fits, entered-fits}
 
 module _ {K V : Type 0} (fits : K → V → Type 0) where
   -- the item that was found
@@ -93,3 +95,16 @@ written-gives life keeps l old new rules equal strategy first key value back_key
     last gives is fit =
     GivesBack-gives life.fits (life.steady l) (hooks_by life l) (keeps l) rules equal strategy old
     first key value new last is fit back_key back_value refusal gives
+
+-- a pair that comes back leaves values that fit
+pub AllFit-restored : {K V : Type 0} (fits : K → V → Type 0) (rules : Rules K V)
+    (equal : K → K → Bool) (key : K) (value : V) (queue : Queue) (mark : ℕ)
+    (old new : CacheState K V) (answer : Result (Unit {0}) (K × V × Option Refusal))
+    → AnswersRestore rules equal key value queue mark old answer new
+    → fits key value → AllFit fits old → AllFit fits new
+AllFit-restored fits rules equal key value queue mark old new (Ok done) answers is fit =
+    SameButOrder-fits fits answers.1.ordered new answers.1.same
+    (subst (λ (s : CacheState _ _). AllFit fits s) (sym answers.1.holds)
+    (entered-fits fits (new_item rules key value queue (min mark old.mark_cut)) old is fit))
+AllFit-restored fits rules equal key value queue mark old new (Err back) answers is fit =
+    subst (λ (s : CacheState _ _). AllFit fits s) (sym answers.2) fit

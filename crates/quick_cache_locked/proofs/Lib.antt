@@ -9,5 +9,6 @@ mod EntryFits
 mod LoadLemmas
 mod InvalidateLemmas
 mod HeatLemmas
+mod SavedLemmas
 mod WalkLemmas
 mod PlaceLemmas

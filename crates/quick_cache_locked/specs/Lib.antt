@@ -8,6 +8,7 @@ pub mod Invalidates
 pub mod Loads
 pub mod Locked
 pub mod Peeks
+pub mod Saving
 pub mod Walks
 pub mod WholeWalks
 pub mod WalkLaws

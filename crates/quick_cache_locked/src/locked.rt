@@ -11,6 +11,7 @@ mod invalidating;
 mod loading;
 mod reads;
 mod removal;
+mod saving;
 mod sizes;
 mod walks;
 mod writes;

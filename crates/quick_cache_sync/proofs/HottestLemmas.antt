@@ -1,4 +1,4 @@
--- What is shown of the hottest items fits.
+-- What is shown of the items, of the hottest or of all, fits.
 use Rattle.std.proofs.Common.{◌≡◌, ℕ, Bool, true, List, [], ◌∷◌, ◌++◌, map, take, drop, nat_eq, sym, subst}
 use Rattle.std.specs.List.{AllByRecursion, AllZip, filter}
 use Rattle.std.proofs.lemmas.List.{take-append-drop}
@@ -8,11 +8,14 @@ use Rattle.quick_cache_model.specs.declared.terms.lifecycle.Lifecycle as lifecyc
 use Rattle.quick_cache_model.specs.CacheState.{CacheState, Item}
 use Rattle.quick_cache_model.proofs.EachElement.{all-append, all-left, all-filter, all-permutation}
 use Rattle.quick_cache_shard.specs.Copies.{ClonesAreEqual}
-use Rattle.quick_cache_shard.specs.Shard.{shown}
+use Rattle.quick_cache_shard.specs.Saved.{is_weightless, saved_of}
+use Rattle.quick_cache_shard.specs.Shard.{residents, shown}
 use Rattle.quick_cache_locked.specs.declared.heated.Heated.{Heated}
 use Rattle.quick_cache_locked.specs.Fitting.{AllFit, ClonesFit, FitsIn}
 use Rattle.quick_cache_locked.specs.Hottest.{IsHeatedClone, by_heat, by_mark, heated, with_mark}
-use Rattle.quick_cache_sync.specs.Hottest.{FitsHeated, ShowInTurn, ShowsHottest}
+use Rattle.quick_cache_locked.specs.Saving.{ShowsSaved, heated_saved}
+use Rattle.quick_cache_sync.specs.Hottest.{ShowsHeat, ShowsHottest}
+use Rattle.quick_cache_sync.specs.InTurn.{FitsHeated, ShowInTurn}
 
 -- of what holds in a list the first so many are
 all-take : {X : Type 0} (P : X → Type 0) (n : ℕ) (xs : List X) → AllByRecursion P xs
@@ -73,24 +76,51 @@ module _ {K V L S : Type 0} (life : lifecycle.Ghosts L K V S) where
       clones-fit items part zip.1 fit.1,
     )
 
-    module _ (We B : Type 0) (count : ℕ) where
+    module _ (We B : Type 0) (shows : CacheState K V → List (Heated K V) → Type 0)
+        (fit : (state : CacheState K V) (part : List (Heated K V)) → AllFit life.fits state
+        → shows state part → AllByRecursion (FitsHeated life) part) where
       -- of each shard
-      ShowInTurn-fits : (shards : ℕ) (all : List (Heated K V))
-          → ShowInTurn life equal key_clone is_clone We B count shards all
-          → AllByRecursion (FitsHeated life) all
+      pub ShowInTurn-fits : (shards : ℕ) (all : List (Heated K V))
+          → ShowInTurn life equal We B shows shards all → AllByRecursion (FitsHeated life) all
       ShowInTurn-fits _ _ ShowInTurn.none = tt
       ShowInTurn-fits _ _ (ShowInTurn.one_more shards all part in_turn some) =
           all-append (FitsHeated life) all part (ShowInTurn-fits shards all in_turn)
-          (clones-fit (take count (by_heat some.shard.state)) part some.holds
-          (all-take (FitsHeated life) count (by_heat some.shard.state)
-          (by_heat-fits some.shard.state some.kept.fit)))
+          (fit some.shard.state part some.kept.fit some.holds)
 
-      -- and the hottest of all
-      pub ShowsHottest-fits : (shards : ℕ) (given : List (Heated K V))
-          → ShowsHottest life equal key_clone is_clone We B count shards given
-          → AllByRecursion (FitsHeated life) given
-      ShowsHottest-fits shards given shows =
-          subst (λ list. AllByRecursion (FitsHeated life) list) (sym shows.first)
-          (all-take (FitsHeated life) count shows.sorted
-          (all-permutation (FitsHeated life) shows.shown shows.sorted shows.same
-          (ShowInTurn-fits shards shows.shown shows.in_turn)))
+    -- the hottest of all
+    pub ShowsHottest-fits : (We B : Type 0) (count shards : ℕ) (given : List (Heated K V))
+        → ShowsHottest life equal key_clone is_clone We B count shards given
+        → AllByRecursion (FitsHeated life) given
+    ShowsHottest-fits We B count shards given shows =
+        subst (λ list. AllByRecursion (FitsHeated life) list) (sym shows.first)
+        (all-take (FitsHeated life) count shows.sorted
+        (all-permutation (FitsHeated life) shows.shown shows.sorted shows.same
+        (ShowInTurn-fits We B (ShowsHeat key_clone is_clone count)
+        (λ state part kept clones. clones-fit (take count (by_heat state)) part clones
+        (all-take (FitsHeated life) count (by_heat state) (by_heat-fits state kept)))
+        shards shows.shown shows.in_turn)))
+
+    -- all that is saved
+    saved-fits : (state : CacheState K V) (part : List (Heated K V)) → AllFit life.fits state
+        → ShowsSaved key_clone is_clone state part → AllByRecursion (FitsHeated life) part
+    saved-fits state part kept shows =
+        let fits : Item K V → Type 0 = FitsIn life.fits in
+        let all = shows.all.all in
+        let rings = all-append fits state.hot state.cold kept.hot kept.cold in
+        let weightless = filter is_weightless all in
+        let pair_fits : K × V × Queue × ℕ → Type 0 = λ item. life.fits item.0 item.1 in
+        clones-fit (map heated_saved shows.saved) part shows.clones
+        (all-image pair_fits (FitsHeated life) heated_saved (λ item one. one) shows.saved
+        (subst (λ list. AllByRecursion pair_fits list) (sym shows.all.is)
+        (all-image fits pair_fits saved_of (λ item one. one)
+        (state.hot ++ state.cold ++ weightless)
+        (all-append fits (state.hot ++ state.cold) weightless rings
+        (all-filter fits is_weightless all
+        (all-permutation fits (residents state) all shows.all.order
+        (all-append fits (state.hot ++ state.cold) state.still rings kept.still)))))))
+
+    pub ShowsSaved-fits : (We B : Type 0) (shards : ℕ) (given : List (Heated K V))
+        → ShowInTurn life equal We B (ShowsSaved key_clone is_clone) shards given
+        → AllByRecursion (FitsHeated life) given
+    ShowsSaved-fits We B shards given in_turn =
+        ShowInTurn-fits We B (ShowsSaved key_clone is_clone) saved-fits shards given in_turn

@@ -1,6 +1,7 @@
 -- The answers of calls whose state before nobody knows.
 use Rattle.std.specs.Prelude.{◌≡◌, ℕ, ◌-◌, Bool, Option, Result}
 use Rattle.std.specs.declared.num.NonZeroU32.{NonZeroU32 as Token}
+use Rattle.quick_cache_model.specs.declared.queue.Queue.{Queue}
 use Rattle.quick_cache_model.specs.declared.refusal.Refusal.{Refusal}
 use Rattle.quick_cache_model.specs.CacheState.{CacheState, UpToOrder, item_count}
 use Rattle.quick_cache_model.specs.Hooks.{Rules, Hooks}
@@ -11,7 +12,7 @@ use Rattle.quick_cache_shard.specs.Inserts.{Inserts}
 use Rattle.quick_cache_shard.specs.Replaces.{Replaces}
 use Rattle.quick_cache_shard.specs.RetainsSome.{RetainsSome}
 use Rattle.quick_cache_shard.specs.Shard.{Shard}
-use Rattle.quick_cache_shard.specs.Steps.{Goes, steady_in, hooks_in, rules_in}
+use Rattle.quick_cache_shard.specs.Steps.{AnswersRestore, Goes, steady_in, hooks_in, rules_in}
 use Rattle.quick_cache_locked.specs.Touches.{any_touches}
 
 module _ {K V : Type 0} (stands_for : K → Bool) (old : CacheState K V) where
@@ -68,6 +69,13 @@ module _ {K V S : Type 0} (steady : Type 0) (hooks : Hooks K V S) (rules : Rules
     pub step : IsDoneAlone is_default
         (λ first last. Replaces steady hooks rules equal old soft first key value answer new last)
 
+-- a pair that was to come back answers so, and some state comes of it
+pub record RestoresSo {K V : Type 0} (rules : Rules K V) (equal : K → K → Bool) (old : CacheState K V)
+    (key : K) (value : V) (queue : Queue) (mark : ℕ)
+    (answer : Result (Unit {0}) (K × V × Option Refusal)) : Type 0 where
+  pub new : CacheState K V
+  pub step : AnswersRestore rules equal key value queue mark old answer new
+
 -- the same of a shard, as what it goes by says
 module _ {K V We B L S : Type 0} (goes : Goes K V We B L S) (equal : K → K → Bool)
     (shard : Shard K V We B L) where
@@ -94,3 +102,7 @@ module _ {K V We B L S : Type 0} (goes : Goes K V We B L S) (equal : K → K →
   ReplacesAloneBy is_default soft key value answer =
       ReplacesAloneSo (steady_in goes shard) (hooks_in goes shard) (rules_in goes any_touches shard)
       equal shard.state is_default soft key value answer
+
+  abbrev pub RestoresSoBy : (key : K) → (value : V) → Queue → (mark : ℕ)
+      → Result (Unit {0}) (K × V × Option Refusal) → Type 0
+  RestoresSoBy = RestoresSo (rules_in goes any_touches shard) equal shard.state

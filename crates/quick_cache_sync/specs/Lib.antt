@@ -1,6 +1,7 @@
 pub mod FirstPairs
 pub mod Answers
 pub mod Fills
+pub mod InTurn
 pub mod Hottest
 pub mod Many
 pub mod Shards

@@ -6,6 +6,7 @@ pub mod loads;
 pub mod many;
 pub mod reads;
 pub mod retaining;
+pub mod saving;
 pub mod sizes;
 pub mod tasks;
 pub mod tries;

@@ -4,7 +4,8 @@ ghost use Rattle.std.specs.List.{AllByRecursion};
 ghost use Rattle.quick_cache_model.specs.declared.refusal.Refusal.TheVariants.{Memory};
 ghost use Rattle.quick_cache_shard.specs.Copies.{ClonesAreEqual};
 ghost use Rattle.quick_cache_locked.specs.Fitting.{ClonesFit};
-ghost use Rattle.quick_cache_sync.specs.Hottest.{FitsHeated, ShowsHottest};
+ghost use Rattle.quick_cache_sync.specs.Hottest.{ShowsHottest};
+ghost use Rattle.quick_cache_sync.specs.InTurn.{FitsHeated};
 
 use crate::cache::Cache;
 use quick_cache_locked::Heated;
