@@ -1,0 +1,21 @@
+//! What those rely on who purge a cache for one thread whose entries end.
+ghost use Rattle.std.specs.Prelude.{◌≡◌, true};
+ghost use Rattle.quick_cache_model.specs.Fitting.{AllFit};
+ghost use Rattle.quick_cache_expiring.specs.Lives.{lives};
+
+use quick_cache_expiring::Expiring;
+
+/// A purge of none takes none.
+pub fn purge_none(entries: &mut Expiring<u64, u64>, now: u64) -> usize
+    ensures { result ≡ 0 }
+{
+    entries.purge_some(now, 0)
+}
+
+/// Where all live, a purge of some takes none.
+pub fn purge_what_lives(entries: &mut Expiring<u64, u64>, now: u64, at_most: usize) -> usize
+    requires live { AllFit (λ _ lasting. lives lasting.until now ≡ true) entries.old.cache.state }
+    ensures { result ≡ 0 }
+{
+    entries.purge_some(now, at_most)
+}
