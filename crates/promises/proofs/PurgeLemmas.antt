@@ -1,15 +1,17 @@
--- Purges that take nothing.
-use Rattle.std.proofs.Common.{◌≡◌, ◌⊎◌, inl, inr, ℕ, ◌+◌, ◌≤◌, Bool, true, false, List, [], ◌∷◌, length, Option, refl, arith}
-use Rattle.std.specs.List.{AllByRecursion, sum}
+-- Purges that take nothing, and what a purge leaves.
+use Rattle.std.proofs.Common.{◌≡◌, inl, inr, ℕ, ◌+◌, ◌≤◌, Bool, true, false, List, [], ◌∷◌, ◌++◌, length, Option, refl, sym, subst, arith}
+use Rattle.std.specs.List.{AllByRecursion, Contains, sum}
 use Rattle.std.specs.declared.num.NonZeroU32.{NonZeroU32 as Token}
+use Rattle.std.proofs.lemmas.List.Elements.{Contains-append_left, Contains-append_right, Contains-append_cases}
 use Rattle.std.proofs.lemmas.List.Sums.{sum_by-cons}
 use Rattle.quick_cache_model.specs.declared.terms.lifecycle.Lifecycle as lifecycle
 use Rattle.quick_cache_model.specs.CacheState.{CacheState, Item, UpToOrder, item_count}
 use Rattle.quick_cache_model.specs.Fitting.{FitsIn, AllFit}
 use Rattle.quick_cache_model.proofs.OrderLaws.{UpToOrder-exact, UpToOrder-map}
+use Rattle.quick_cache_policy.proofs.WrittenPlaces.{Contains-first, Contains-later, Contains-cons_cases}
 use Rattle.quick_cache_shard.specs.Predicates.{StayAsAnswered, RetainsAsked}
 use Rattle.quick_cache_shard.specs.RetainsSome.{StaysIfPassed, RetainsSome}
-use Rattle.quick_cache_shard.specs.Shard.{Shard}
+use Rattle.quick_cache_shard.specs.Shard.{Shard, residents}
 use Rattle.quick_cache_locked.specs.Locked.{FromSome}
 use Rattle.quick_cache_sync.specs.Sums.{AddsUp}
 use Rattle.quick_cache_expiring.specs.declared.lasting.Lasting.{Lasting}
@@ -45,6 +47,38 @@ module _ {K V : Type 0} (fits : K → V → Type 0) (answers : K → V → Bool 
         still = stay-fitting old.still state.still fit.still asked.still;
         same = asked.same;
       }) retains)
+
+module _ {K V : Type 0} (answers : K → V → Bool → Type 0) (item : Item K V)
+    (kept : answers item.key item.value false → ⊥) where
+  still-there : (old new : List (Item K V)) → StayAsAnswered answers old new → Contains old item
+      → Contains new item
+  still-there _ _ StayAsAnswered.ends there = there
+  still-there _ _ (StayAsAnswered.stays first olds news says stay) there =
+      elim (Contains-cons_cases first olds item there) [
+        | inl is ↦ subst (λ x. Contains (x ∷ news) item) (sym is) (Contains-first item news)
+        | inr later ↦ Contains-later first news item (still-there olds news stay later)
+      ]
+  still-there _ _ (StayAsAnswered.goes first olds news says stay) there =
+      elim (Contains-cons_cases first olds item there) [
+        | inl is ↦ absurd (kept (subst (λ (x : Item K V). answers x.key x.value false) is says))
+        | inr later ↦ still-there olds news stay later
+      ]
+
+  -- an item that is not answered no is there still
+  pub resident-still : (old new : CacheState K V) → RetainsAsked answers old new
+      → Contains (residents old) item → Contains (residents new) item
+  resident-still old new asked there =
+      elim (Contains-append_cases (old.hot ++ old.cold) old.still item there) [
+        | inl of_rings ↦ Contains-append_left (new.hot ++ new.cold) new.still item
+            (elim (Contains-append_cases old.hot old.cold item of_rings) [
+              | inl of_hot ↦ Contains-append_left new.hot new.cold item
+                  (still-there old.hot new.hot asked.hot of_hot)
+              | inr of_cold ↦ Contains-append_right new.hot new.cold item
+                  (still-there old.cold new.cold asked.cold of_cold)
+            ])
+        | inr of_still ↦ Contains-append_right (new.hot ++ new.cold) new.still item
+            (still-there old.still new.still asked.still of_still)
+      ]
 
 module _ {K V L S : Type 0} (We B : Type 0) (life : lifecycle.Ghosts L K (Lasting V) S)
     (equal : K → K → Bool) (now : ℕ)

@@ -1,4 +1,4 @@
-use Rattle.std.proofs.Common.{◌≡◌, Bool, true, false, sym, ◌∙◌}
+use Rattle.std.proofs.Common.{◌≡◌, true, false, ◌∙◌}
 use Rattle.promises.proofs.PurgeLemmas.{none-of-some}
 use Rattle.promises.proofs.alone.ending.purge_what_lives.Goals as goal
 
