@@ -3,6 +3,7 @@ mod ContainerLemmas
 mod LentLemmas
 mod ManyLemmas
 mod OneThreadLemmas
+mod PurgeLemmas
 mod RetainLemmas
 mod RunLemmas
 mod ServedLemmas

@@ -2,6 +2,7 @@
 
 pub mod answered;
 pub mod containers;
+pub mod ending;
 pub mod keys;
 pub mod listened;
 pub mod made;

@@ -2,32 +2,19 @@
 use crate::rows::{LIVES, PURGED_IN_PARTS};
 use quick_cache_expiring_sync::{SharedExpiring, Stats};
 use std::convert::Infallible;
-use std::sync::Wait;
 use test_tools::{expect_eq, expect_ok};
-
-/// The first of these moments at which the entry serves where it should not, or does not where it
-/// should.
-fn first_wrong<R: Wait>(
-    rt: &R,
-    entries: &SharedExpiring<u64, u64>,
-    gets: &[(u64, bool)],
-) -> Option<u64> {
-    for (now, serves) in gets {
-        let value = if *serves { Some(100) } else { None };
-        let seen = entries.peek(rt, &1, *now);
-        if seen != Ok(value) || entries.get(rt, &1, *now) != Ok(value) {
-            return Some(*now);
-        }
-    }
-    None
-}
 
 #[test]
 fn a_shared_entry_serves_below_its_end(rt: HostRuntime) {
     for (stored, life, gets) in LIVES {
         let entries: SharedExpiring<u64, u64> = expect_ok!(rt; SharedExpiring::new(rt.alloc(), 8));
         expect_eq!(rt; entries.insert(&rt, 1, 100, stored, life).is_ok(), true);
-        assert_eq!(rt; first_wrong(&rt, &entries, gets), None, "life {life}");
+        for (now, serves) in gets {
+            let value = serves.then_some(100);
+            let seen = entries.peek(&rt, &1, *now);
+            expect_eq!(rt; (life, *now, seen), (life, *now, Ok(value)));
+            expect_eq!(rt; entries.get(&rt, &1, *now), Ok(value));
+        }
     }
 }
 
@@ -47,11 +34,7 @@ fn what_lives_is_renewed_by_threads_and_what_is_over_is_purged(rt: HostRuntime) 
     }
     // The third is over at 12, and the fourth at 13.
     for (now, gone, left) in [(11, 0, 3), (12, 1, 2), (13, 1, 1), (14, 0, 1), (15, 1, 0)] {
-        assert_eq!(rt;
-            (entries.purge(&rt, now), entries.len(&rt)),
-            (gone, left),
-            "at {now}"
-        );
+        expect_eq!(rt; (now, entries.purge(&rt, now), entries.len(&rt)), (now, gone, left));
     }
     let stats = Stats {
         hits: 1,
@@ -95,7 +78,7 @@ fn what_is_over_gives_its_place_to_a_load(rt: HostRuntime) {
     for (now, value) in [(5, 5), (14, 5), (15, 15), (24, 15), (25, 25)] {
         let loader = || -> Result<u64, Infallible> { Ok(now) };
         let found = entries.get_or_insert_with(&rt, &1, now, 10, loader);
-        assert_eq!(rt; found, Ok(Ok(value)), "at {now}");
+        expect_eq!(rt; (now, found), (now, Ok(Ok(value))));
     }
     let stats = Stats {
         hits: 2,

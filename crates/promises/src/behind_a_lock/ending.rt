@@ -1,5 +1,6 @@
-//! What those rely on who share a cache whose entries end: what is over is not shown, and not renewed.
-ghost use Rattle.std.specs.Prelude.{◌≡◌, ◌≤◌, IfOk, None, false};
+//! What those rely on who share a cache whose entries end: what is over is neither shown nor renewed,
+//! and what lives is not purged.
+ghost use Rattle.std.specs.Prelude.{◌≡◌, IfOk, None, false};
 
 use quick_cache_expiring::Lasting;
 use quick_cache_expiring_sync::SharedExpiring;
@@ -7,16 +8,16 @@ use quick_cache_model::{DefaultHashBuilder, Lifecycle, Refusal, UnitWeighter};
 use std::sync::Wait;
 use std::time::Clock;
 
-/// Says that each entry ends by the moment 20.
+/// Says that each entry ends at the moment 20.
 #[derive(Drop)]
-pub struct EndsByTwenty;
+pub struct EndsAtTwenty;
 
-impl Lifecycle<u64, Lasting<u64>> for EndsByTwenty {
+impl Lifecycle<u64, Lasting<u64>> for EndsAtTwenty {
     type RequestState = ();
 
-    ghost fits = { λ _ lasting. lasting.until ≤ 20 };
+    ghost fits = { λ _ lasting. lasting.until ≡ 20 };
 
-    ghost before_evict_gives = { λ _ _ _ value _ left. value.until ≤ 20 → left.until ≤ 20 };
+    ghost before_evict_gives = { λ _ _ _ value _ left. value.until ≡ 20 → left.until ≡ 20 };
 
     ghost on_evict_gives = { λ _ _ _ _ _. Unit {0} };
 
@@ -42,7 +43,7 @@ impl Lifecycle<u64, Lasting<u64>> for EndsByTwenty {
 }
 
 /// A shared cache of such entries.
-pub type Ending = SharedExpiring<u64, u64, UnitWeighter, DefaultHashBuilder, EndsByTwenty>;
+pub type Ending = SharedExpiring<u64, u64, UnitWeighter, DefaultHashBuilder, EndsAtTwenty>;
 
 /// At that moment none is shown.
 pub fn get_at_the_end<R: Wait>(rt: &R, ending: &Ending, key: &u64) -> Result<Option<u64>, Refusal>
@@ -60,4 +61,11 @@ pub fn touch_at_the_end<R: Wait + Clock>(
     ensures { IfOk result (λ renewed. renewed ≡ false) }
 {
     ending.touch(rt, key, 20, 0)
+}
+
+/// Just before it, a purge takes none.
+pub fn purge_before_the_end<R: Wait>(rt: &R, ending: &Ending) -> usize
+    ensures { result ≡ 0 }
+{
+    ending.purge(rt, 19)
 }

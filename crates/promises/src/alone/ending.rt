@@ -1,0 +1,33 @@
+//! What those rely on who purge a cache for one thread whose entries end.
+ghost use Rattle.std.specs.Prelude.{◌≡◌, ℕ, true};
+ghost use Rattle.std.specs.List.{Contains};
+ghost use Rattle.quick_cache_model.specs.CacheState.{Item};
+ghost use Rattle.quick_cache_model.specs.Fitting.{AllFit};
+ghost use Rattle.quick_cache_shard.specs.Shard.{residents};
+ghost use Rattle.quick_cache_expiring.specs.declared.lasting.Lasting.{Lasting};
+ghost use Rattle.quick_cache_expiring.specs.Lives.{lives};
+
+use quick_cache_expiring::Expiring;
+
+/// A purge of none takes none.
+pub fn purge_none(entries: &mut Expiring<u64, u64>, now: u64) -> usize
+    ensures { result ≡ 0 }
+{
+    entries.purge_some(now, 0)
+}
+
+/// Where all live, a purge of some takes none.
+pub fn purge_what_lives(entries: &mut Expiring<u64, u64>, now: u64, at_most: usize) -> usize
+    requires live { AllFit (λ _ lasting. lives lasting.until now ≡ true) entries.old.cache.state }
+    ensures { result ≡ 0 }
+{
+    entries.purge_some(now, at_most)
+}
+
+/// What lives is there still.
+pub fn purge_and_keep(entries: &mut Expiring<u64, u64>, now: u64, at_most: usize)
+    ensures { (item : Item ℕ (Lasting ℕ)) → Contains (residents entries.old.cache.state) item
+        → lives item.value.until now ≡ true → Contains (residents entries.new.cache.state) item }
+{
+    entries.purge_some(now, at_most);
+}
