@@ -87,16 +87,11 @@ pub fn pass_or_new<R: Wait + Clock>(
     ensures serves { IfOk result (λ pass. lives pass.until now ≡ true) }
 {
     let until = end_of(now, life);
-    let made: Result<Pass, ()> = passes.get_or_insert_with(
-        rt,
-        &holder,
-        now,
-        life,
-        || Ok(Pass { holder, until }),
-    )?;
-    match made {
-        Ok(pass) => Ok(pass),
-        Err(()) => unreachable!(),
+    let loader = || -> Result<Pass, ()> { Ok(Pass { holder, until }) };
+    match passes.get_or_insert_with(rt, &holder, now, life, loader) {
+        Ok(Ok(pass)) => Ok(pass),
+        Ok(Err(())) => unreachable!(),
+        Err(refusal) => Err(refusal),
     }
 }
 

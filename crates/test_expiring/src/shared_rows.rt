@@ -74,26 +74,35 @@ fn purges_of_some_go_round_the_shards(rt: HostRuntime) {
 #[test]
 fn what_is_over_gives_its_place_to_a_load(rt: HostRuntime) {
     let entries: SharedExpiring<u64, u64> = expect_ok!(rt; SharedExpiring::new(rt.alloc(), 8));
-    // A moment, and the value then, which is the moment of its load.
-    for (now, value) in [(5, 5), (14, 5), (15, 15), (24, 15), (25, 25)] {
+    // A key, a moment, a life, and the value then, which is the moment of its load. What lives for
+    // no time is answered by its load alone.
+    for (key, now, life, value) in [
+        (1, 5, 10, 5),
+        (1, 14, 10, 5),
+        (1, 15, 10, 15),
+        (1, 24, 10, 15),
+        (1, 25, 10, 25),
+        (2, 5, 0, 5),
+    ] {
         let loader = || -> Result<u64, Infallible> { Ok(now) };
-        let found = entries.get_or_insert_with(&rt, &1, now, 10, loader);
-        expect_eq!(rt; (now, found), (now, Ok(Ok(value))));
+        let found = entries.get_or_insert_with(&rt, &key, now, life, loader);
+        expect_eq!(rt; (key, now, found), (key, now, Ok(Ok(value))));
     }
     let stats = Stats {
         hits: 2,
-        misses: 3,
+        misses: 4,
         expired: 2,
     };
     expect_eq!(rt; entries.stats(&rt), stats);
+    expect_eq!(rt; entries.get(&rt, &2, 5), Ok(None));
     let failed: Result<u64, u64> = Err(7);
     expect_eq!(rt; entries.get_or_insert_with(&rt, &1, 35, 10, || failed), Ok(Err(7)));
-    expect_eq!(rt; (entries.len(&rt), entries.expires_at(&rt, &1)), (0, Ok(None)));
-    expect_eq!(rt; entries.cache().weight(&rt), 0);
-    // What lives for no time is answered by its load alone.
-    let loader = || -> Result<u64, Infallible> { Ok(8) };
-    expect_eq!(rt; entries.get_or_insert_with(&rt, &2, 5, 0, loader), Ok(Ok(8)));
-    expect_eq!(rt; entries.get(&rt, &2, 5), Ok(None));
+    let left = (
+        entries.len(&rt),
+        entries.cache().weight(&rt),
+        entries.expires_at(&rt, &1),
+    );
+    expect_eq!(rt; left, (0, 0, Ok(None)));
     expect_eq!(rt; entries.insert(&rt, 3, 9, 5, 10).is_ok(), true);
     let removed = entries
         .remove(&rt, &3)

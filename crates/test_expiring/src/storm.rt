@@ -3,9 +3,9 @@ use quick_cache_expiring_sync::SharedExpiring;
 use std::alloc::{AllocError, Global};
 use std::sync::Wait;
 use std::sync::atomic::{AtomicU64, Ordering};
-use std::test::Fail;
 use std::thread::map_indices;
 use std::time::Clock;
+use test_tools::{expect_eq, expect_ok};
 
 const KEYS: u64 = 1000;
 
@@ -86,21 +86,20 @@ fn asks<R: Wait + Clock>(
 }
 
 #[test]
-fn nothing_over_is_served_and_one_loads_a_key_and_life(rt: HostRuntime) -> Result<(), Fail> {
-    let ends = zipf(rt.alloc())?;
-    let mut last = Vec::with_capacity(rt.alloc(), KEYS as usize)?;
+fn nothing_over_is_served_and_one_loads_a_key_and_life(rt: HostRuntime) {
+    let ends = expect_ok!(rt; zipf(rt.alloc()));
+    let mut last = expect_ok!(rt; Vec::with_capacity(rt.alloc(), KEYS as usize));
     for _ in 0..KEYS {
-        last.push(AtomicU64::new(0))?;
+        expect_ok!(rt; last.push(AtomicU64::new(0)));
     }
-    let entries = SharedExpiring::new(rt.alloc(), 8000)?;
+    let entries = expect_ok!(rt; SharedExpiring::new(rt.alloc(), 8000));
     let (ends, last, clock) = (ends.as_slice(), last.as_slice(), &AtomicU64::new(1));
-    let wrong = map_indices(
+    let wrong = expect_ok!(rt; map_indices(
         &rt,
         rt.alloc(),
         4,
         &|index| asks(&rt, &entries, ends, last, clock, index as u64),
-    )?;
-    assert_eq!(rt; wrong.as_slice(), [0, 0, 0, 0].as_slice());
-    assert_eq!(rt; entries.len(&rt), 1000);
-    Ok(())
+    ));
+    expect_eq!(rt; wrong.as_slice(), [0, 0, 0, 0].as_slice());
+    expect_eq!(rt; entries.len(&rt), 1000);
 }
