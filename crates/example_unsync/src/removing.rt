@@ -35,6 +35,19 @@ fn retain(rt: HostRuntime) -> Result<(), Fail> {
 }
 
 #[test]
+fn retain_some(rt: HostRuntime) -> Result<(), Fail> {
+    let mut cache: Cache<u64, u64> = Cache::new(rt.alloc(), 5)?;
+    for key in 1..4u64 {
+        cache.insert(key, key * 10)?;
+    }
+    // Two items are looked at, and the next call goes on behind them.
+    let (stopped, first) = cache.retain_some(None, 2, |_, _| false);
+    let (end, last) = cache.retain_some(stopped, 2, |_, _| false);
+    assert_eq!(rt; (first, last, end, cache.is_empty()), (2, 1, None, true));
+    Ok(())
+}
+
+#[test]
 fn clear(rt: HostRuntime) -> Result<(), Fail> {
     let mut cache = Cache::new(rt.alloc(), 5)?;
     cache.insert("square", 4)?;

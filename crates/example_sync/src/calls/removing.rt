@@ -29,8 +29,11 @@ fn retain(rt: HostRuntime) -> Result<(), Fail> {
     for key in 1..4u64 {
         assert_eq!(rt; cache.insert(&rt, key, key * 10), Ok(()));
     }
-    cache.retain(&rt, |key, value| *key == 1 || *value == 30);
-    assert_eq!(rt; (cache.len(&rt), cache.contains_key(&rt, &2)), (2, false));
+    let dropped = cache.retain(&rt, |key, value| *key == 1 || *value == 30);
+    assert_eq!(rt;
+        (dropped, cache.len(&rt), cache.contains_key(&rt, &2)),
+        (1, 2, false)
+    );
     Ok(())
 }
 
