@@ -1,4 +1,6 @@
 //! Items are saved, and come back to where they stood.
+ghost use Rattle.std.specs.Prelude.{◌==◌, ◌/◌};
+
 use quick_cache_listeners::{Pin, PinBy};
 use quick_cache_unsync::{
     Cache, DefaultHashBuilder, DefaultLifecycle, Options, OptionsBuilder, Queue, Weighter,
@@ -22,15 +24,15 @@ impl Weighter<u64, u64> for ByValue {
     }
 }
 
-/// Pins what has a great key.
+/// Pins the keys from 1000 to 1999.
 #[derive(Drop)]
 struct Great;
 
 impl Pin<u64, u64> for Great {
-    ghost pinned = { λ _ key _. key > 999 };
+    ghost pinned = { λ _ key _. key / 1000 == 1 };
 
     fn is_pinned(&self, key: &u64, _val: &u64) -> bool {
-        *key > 999
+        key / 1000 == 1
     }
 }
 
