@@ -1,5 +1,4 @@
 pub use Rattle.quick_cache_loading.specs.Touches
-pub mod Acting
 pub mod Asked
 pub mod Counts
 pub mod Fitting
