@@ -13,6 +13,7 @@ use Rattle.quick_cache_model.specs.Lookups.{looked_up, after_hit}
 use Rattle.quick_cache_model.specs.Placeholders.{MeetsPlaceholder}
 use Rattle.quick_cache_model.specs.Removal.{pair_of}
 use Rattle.quick_cache_store.specs.Lists.{IsItemOf, with_value, without_entry}
+pub use Rattle.quick_cache_store.specs.Shown.{MayBeShown}
 use Rattle.quick_cache_policy.specs.declared.contents.Contents.{Contents}
 use Rattle.quick_cache_model.specs.declared.calls.entry.EntryAction.{EntryAction}
 use Rattle.quick_cache_model.specs.declared.calls.entry.EntryAction.TheVariants.{Retain as retain, Remove as remove, ReplaceWithGuard as replace}
@@ -22,6 +23,12 @@ use Rattle.quick_cache_policy.specs.Loading.{IsMade, MakesNone}
 
 module _ {F K V R : Type 0}
     (calls : Mut F (Bor K × (MutBor V × Unit {0})) (R × (MutBor V × Unit {0}))) where
+  -- the callback, as it is now, may be called at the item under the query
+  abbrev pub MayBeShownUnder : F → (stands_for : K → Bool) → CacheState K V → Type 0
+  MayBeShownUnder callback stands_for state = (place : Place) (before : List (Item K V))
+      (item : Item K V) (after : List (Item K V)) → IsItemAt stands_for state place before item after
+      → MayBeShown calls callback item.key item.value
+
   -- the item under the query was shown, and has the value that was left
   pub record ShowsAt (stands_for : K → Bool) (callback : F) (old : CacheState K V) (answer : R)
       (next : F) (new : CacheState K V) : Type 0 where

@@ -22,6 +22,17 @@ HoldsOfItem (stored_ghost note) Q = ⊥
 
 module _ {F K V R : Type 0}
     (calls : Mut F (Bor K × (MutBor V × Unit {0})) (R × (MutBor V × Unit {0}))) where
+  -- the callback, as it is now, may be called at references to this pair
+  abbrev pub MayBeShown : F → K → V → Type 0
+  MayBeShown callback key value = (shown_key : Bor K) (shown : MutBor V) → shown_key.now ≡ key
+      → shown.now ≡ value → calls.pre callback (shown_key, (shown, tt))
+
+  -- so it may at the item of the token
+  abbrev pub MayBeShownSlot : {P T : Type 0} → F → Pool (Slot K V P T) → ℕ → Type 0
+  MayBeShownSlot callback pool token = (hash : ℕ) (item : Item K V)
+      → item_at pool token ≡ Some (record { hash = hash; entry = item_variant item })
+      → MayBeShown callback item.key item.value
+
   -- the item that is stored was shown, and has the value that was left
   pub record ShowsStored {P T : Type 0} (callback : F) (old : StoredEntry K V P T) (answer : R)
       (next : F) (new : StoredEntry K V P T) : Type 0 where

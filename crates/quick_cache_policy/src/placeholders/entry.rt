@@ -5,7 +5,7 @@ ghost use Rattle.quick_cache_store.specs.Lists.{FindsItem, HasItemToken};
 ghost use Rattle.quick_cache_store.specs.Rings.{restarts};
 ghost use Rattle.quick_cache_model.specs.Entries.{Retain as chosen_retain, Kept as came_kept};
 ghost use Rattle.quick_cache_policy.specs.Contents.{IsSound, state_of};
-ghost use Rattle.quick_cache_policy.specs.Entering.{ActsOnWritten, AnswersEntry, AnswersItem, IsHashed, IsNewUnder, RemovesWritten, ReplacesItem, ShowsAt, TakesWeighed};
+ghost use Rattle.quick_cache_policy.specs.Entering.{ActsOnWritten, AnswersEntry, AnswersItem, IsHashed, IsNewUnder, MayBeShownUnder, RemovesWritten, ReplacesItem, ShowsAt, TakesWeighed};
 ghost use Rattle.quick_cache_policy.specs.Finding.{AreUnder};
 ghost use Rattle.quick_cache_policy.specs.Places.{places_of, LosesOnly};
 ghost use Rattle.quick_cache_policy.specs.Policies.{rules_by};
@@ -43,7 +43,8 @@ impl<K: Eq + Hash + Drop, V: Drop, P: SharedPlaceholder<K>, A: Allocator> Conten
         callback: &mut F,
     ) -> R
         requires found { FindsItem (Q.equivalent _query.now) hash self.old.lists (number token) }
-        requires callable { F.IsAlwaysCallable callback.old }
+        requires callable { MayBeShownUnder F.FnMut callback.old (Q.equivalent _query.now)
+            (state_of P.ticket_of self.old) }
         ensures shows { ShowsAt F.FnMut (Q.equivalent _query.now) callback.old
             (state_of P.ticket_of self.old) result callback.new (state_of P.ticket_of self.new) }
         ensures found { FindsItem (Q.equivalent _query.now) hash self.new.lists (number token) }
@@ -189,7 +190,8 @@ impl<K: Eq + Hash + Drop, V: Drop, P: SharedPlaceholder<K>, A: Allocator> Conten
     ) -> Result<EntryOrPlaceholder<K, V, P, T>, Refusal>
         requires found { FindsItem (Q.equivalent query.now) hash self.old.lists (number token) }
         requires sound { IsSound P.ticket_of K.eq (M.hashed terms.now) self.old }
-        requires callable { F.IsAlwaysCallable callback.old }
+        requires callable { MayBeShownUnder F.FnMut callback.old (Q.equivalent query.now)
+            (state_of P.ticket_of self.old) }
         ensures answers { AnswersItem F.FnMut (rules_by M.Policy P.Touch.may_count terms.now)
             (Q.equivalent query.now) callback.old (state_of P.ticket_of self.old) P.own_ticket
             result callback.new (state_of P.ticket_of self.new) }
@@ -248,7 +250,8 @@ impl<K: Eq + Hash + Drop, V: Drop, P: SharedPlaceholder<K>, A: Allocator> Conten
         requires stands { (key : K) → Q.to_key_gives query.now key
             → Q.equivalent query.now key ≡ true }
         requires sound { IsSound P.ticket_of K.eq (M.hashed terms.now) self.old }
-        requires callable { F.IsAlwaysCallable callback.old }
+        requires callable { MayBeShownUnder F.FnMut callback.old (Q.equivalent query.now)
+            (state_of P.ticket_of self.old) }
         ensures answers { AnswersEntry F.FnMut (rules_by M.Policy P.Touch.may_count terms.now)
             (Q.equivalent query.now) callback.old (state_of P.ticket_of self.old) P.own_ticket
             (Q.to_key_gives query.now) hash result callback.new (state_of P.ticket_of self.new) }

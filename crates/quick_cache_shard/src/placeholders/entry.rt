@@ -1,6 +1,6 @@
 //! A call that shows an item to a callback of the caller's, and does what that chooses.
 ghost use Rattle.std.specs.Prelude.{◌≡◌, true};
-ghost use Rattle.quick_cache_policy.specs.Entering.{AnswersEntry, IsNewUnder};
+ghost use Rattle.quick_cache_policy.specs.Entering.{AnswersEntry, IsNewUnder, MayBeShownUnder};
 ghost use Rattle.quick_cache_shard.specs.Shard.{LosesOnly};
 ghost use Rattle.quick_cache_shard.specs.Stays.{IdlesWithin};
 ghost use Rattle.quick_cache_shard.specs.Steps.{rules_in};
@@ -50,7 +50,9 @@ impl<
         requires hash_is { hash ≡ ⟦<Self as Keyed>⟧.hash self.old.builder (Q.hash_input query.now) }
         requires stands { (key : K) → Q.to_key_gives query.now key
             → Q.equivalent query.now key ≡ true }
-        requires callable { F.IsAlwaysCallable callback.old }
+        // The callback is callable at the item under the query, and has to be nowhere else.
+        requires callable { MayBeShownUnder F.FnMut callback.old (Q.equivalent query.now)
+            self.old.state }
         ensures answers { AnswersEntry F.FnMut
             (rules_in ⟦<Self as Going>⟧.goes P.Touch.may_count self.old)
             (Q.equivalent query.now) callback.old self.old.state P.own_ticket

@@ -15,7 +15,7 @@ use Rattle.quick_cache_store.specs.Joined.{joined_slot, joined_slots, joined, Ar
 use Rattle.quick_cache_store.specs.Items.{with_mark, with_value}
 use Rattle.quick_cache_store.specs.Slots.{HasItem, HasLoading, HasEntry, HasValue, slot_changed}
 use Rattle.quick_cache_store.specs.Lent.{IsStoredValue}
-use Rattle.quick_cache_store.specs.Shown.{HoldsOfItem, ShowsStored, ShowsSlot}
+use Rattle.quick_cache_store.specs.Shown.{HoldsOfItem, MayBeShown, MayBeShownSlot, ShowsStored, ShowsSlot}
 use Rattle.quick_cache_model.specs.Callbacks.{Leaves}
 use denote.Ref.{Bor, MutBor}
 use denote.Param.Members.{Mut}
@@ -105,6 +105,24 @@ module _ {K V P T : Type 0} where
         let aside = at_token asides t no_aside in
         IsItem-entry stored aside has.1 (entry-same (slot_of stored aside) _ (item_at whole t)
         (slot-whole stored at) has.2)
+
+    -- a callback that may be called at the item of the slot may be at the one that is stored
+    module _ {F R : Type 0}
+        (calls : Mut F (Bor K × (MutBor V × Unit {0})) (R × (MutBor V × Unit {0})))
+        (callback : F) (may : MayBeShownSlot calls callback whole t) where
+      may-be-shown : (stored : StoredEntry K V P T) (aside : Beside) → IsItem stored
+          → item_at whole t ≡ Some (slot_of stored aside)
+          → HoldsOfItem stored (MayBeShown calls callback)
+      may-be-shown (stored_item head body) aside item has =
+          may aside.aside.hash (item_of_body head body aside) has
+      may-be-shown (stored_loading queue key placeholder) aside item has = absurd item
+      may-be-shown (stored_ghost note) aside item has = absurd item
+
+      pub shown-stored : (stored : StoredEntry K V P T) → HasItem whole t
+          → item_at pool t ≡ Some stored → HoldsOfItem stored (MayBeShown calls callback)
+      shown-stored stored has at =
+          may-be-shown stored (at_token asides t no_aside) (item-stored stored has at)
+          (slot-whole stored at)
 
     -- and a key that is being loaded where the slot has one
     pub loading-stored : (stored : StoredEntry K V P T) → HasLoading whole t

@@ -1,6 +1,6 @@
 //! An entry as its slot stores it. What is small stands beside the tag of the entry, so that an item
 //! takes 24 bytes where a key and a value take 8 each.
-ghost use Rattle.quick_cache_store.specs.Shown.{ShowsStored};
+ghost use Rattle.quick_cache_store.specs.Shown.{HoldsOfItem, MayBeShown, ShowsStored};
 ghost use Rattle.std.specs.Prelude.{◌≡◌, false};
 ghost use Rattle.std.specs.Borrow.{sem};
 ghost use Rattle.quick_cache_model.specs.Touches.{counted_up};
@@ -277,7 +277,7 @@ impl<K, V, P, T> StoredEntry<K, V, P, T> {
     #[inline]
     pub(crate) fn show<R, F: FnMut(&K, &mut V) -> R>(&mut self, callback: &mut F) -> R
         requires item { IsItem self.old }
-        requires callable { F.IsAlwaysCallable callback.old }
+        requires callable { HoldsOfItem self.old (MayBeShown F.FnMut callback.old) }
         ensures { ShowsStored F.FnMut callback.old self.old result callback.new self.new }
     {
         match self {

@@ -2,7 +2,7 @@
 ghost use Rattle.std.specs.Borrow.{sem};
 ghost use Rattle.std.specs.Int.NonZero.{non_zero_u32_get as number};
 ghost use Rattle.quick_cache_store.specs.Lists.{HasItemToken, IsValueAt};
-ghost use Rattle.quick_cache_store.specs.ListShown.{ShowsItem};
+ghost use Rattle.quick_cache_store.specs.ListShown.{MayBeShownItem, ShowsItem};
 
 use crate::lists::lists::Lists;
 use quick_cache_model::Token;
@@ -27,7 +27,7 @@ impl<K, V, P, T, A: Allocator> Lists<K, V, P, T, A> {
     #[inline]
     pub fn show<R, F: FnMut(&K, &mut V) -> R>(&mut self, token: Token, callback: &mut F) -> R
         requires token { HasItemToken self.old (number token) }
-        requires callable { F.IsAlwaysCallable callback.old }
+        requires callable { MayBeShownItem F.FnMut callback.old self.old (number token) }
         ensures { ShowsItem F.FnMut callback.old self.old (number token) result callback.new
             self.new }
     {

@@ -2,7 +2,7 @@
 ghost use Rattle.std.specs.Prelude.{◌≡◌, true};
 ghost use Rattle.std.specs.Borrow.{sem};
 ghost use Rattle.std.specs.Int.NonZero.{non_zero_u32_get as number};
-ghost use Rattle.quick_cache_store.specs.Shown.{ShowsSlot};
+ghost use Rattle.quick_cache_store.specs.Shown.{MayBeShownSlot, ShowsSlot};
 ghost use Rattle.quick_cache_store.specs.Slots.{HasItem, HasValue};
 
 use crate::slots::slots::Slots;
@@ -29,7 +29,7 @@ impl<K, V, P, T, A: Allocator> Slots<K, V, P, T, A> {
     #[inline]
     pub fn show<R, F: FnMut(&K, &mut V) -> R>(&mut self, token: Token, callback: &mut F) -> R
         requires item { HasItem self.old (number token) }
-        requires callable { F.IsAlwaysCallable callback.old }
+        requires callable { MayBeShownSlot F.FnMut callback.old self.old (number token) }
         ensures { ShowsSlot F.FnMut callback.old self.old (number token) result callback.new
             self.new }
     {

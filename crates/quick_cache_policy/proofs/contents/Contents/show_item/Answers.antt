@@ -5,12 +5,29 @@ use Rattle.quick_cache_store.specs.Lists.{Lists, FindsItem, with_value}
 use Rattle.quick_cache_store.specs.Views.{items_of}
 use Rattle.quick_cache_policy.specs.Contents.{IsSound}
 use Rattle.quick_cache_model.specs.Callbacks.{Leaves}
+use Rattle.quick_cache_store.specs.Shown.{MayBeShown}
 use Rattle.quick_cache_policy.proofs.EnterLemmas.{state_with}
 use Rattle.quick_cache_policy.proofs.ReferenceLemmas.{found-there, found-value, in_place, changed, written-sound}
 use Rattle.quick_cache_policy.proofs.WrittenLemmas.{written-found}
 use Rattle.quick_cache_policy.specs.Places.{places_of}
 use Rattle.quick_cache_policy.proofs.PlaceLemmas.{places_of-change}
 use Rattle.quick_cache_policy.proofs.contents.Contents.show_item.Goals as goal
+
+-- the item of the token is the one that was found
+pub show-requires-clause-callable : goal.show-requires-clause-callable
+show-requires-clause-callable g c = λ item stood.
+    let ticket_of = g.P.SharedPlaceholder.ticket_of in
+    let contents = c.args.self.now in
+    let stands_for = g.Q.Equivalent.equivalent c.args._query.now in
+    let t = number c.args.token in
+    let apart = c.facts.ensures.apart in
+    let found = c.requires.found in
+    subst (λ (i : Item g.row.K.Denot g.row.V.Denot). MayBeShown g.F.FnMut c.args.callback.now
+    i.key i.value)
+    (sym (found-value ticket_of contents apart t stands_for c.args.hash found item stood))
+    (c.requires.callable found.stands.place (items_of found.stands.stands.before) found.item
+    (items_of found.stands.stands.after)
+    (found-there ticket_of contents apart t stands_for c.args.hash found))
 
 -- the item that was shown is the one that was found
 pub returns-clause-shows : goal.returns-clause-shows

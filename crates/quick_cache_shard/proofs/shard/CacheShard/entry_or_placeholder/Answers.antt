@@ -18,6 +18,10 @@ entry_or_placeholder-answer-requires-clause-under g c =
     (sym (g.met.Q.Equivalent.same_hash c.args.query.now k passes))
     ∙ sym (rw (← c.self.view_is) at c.requires.hash_is)) c.self.invariant.hashed
 
+pub entry_or_placeholder-answer-requires-clause-callable : goal.entry_or_placeholder-answer-requires-clause-callable
+entry_or_placeholder-answer-requires-clause-callable g c =
+    rw (← c.self.view_is) at c.requires.callable
+
 pub returns-clause-answers : goal.returns-clause-answers
 returns-clause-answers g c =
     rw (← c.self.view_is) c.entry_or_placeholder-answer.ensures.answers

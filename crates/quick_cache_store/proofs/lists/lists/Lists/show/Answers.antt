@@ -12,6 +12,16 @@ show-requires-clause-item g c =
     item_by_token i.slots i.index i.rings
     (number c.args.token) (rw (← c.self.view_is) at c.requires.token)
 
+-- the item of the slot is that of the token
+pub show-requires-clause-callable : goal.show-requires-clause-callable
+show-requires-clause-callable g c =
+    let i = c.self.inside in
+    λ hash item at. c.requires.callable item (
+      hash,
+      rw (← c.self.view_is) (HasItem-from i.slots i.index i.rings
+          c.self.invariant.standing (number c.args.token) hash item at),
+    )
+
 -- the item keeps its weight, whatever value was left
 pub invariant_of-self : goal.invariant_of-self
 invariant_of-self g c =
