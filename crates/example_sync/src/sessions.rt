@@ -16,14 +16,14 @@ pub fn use_once<R: Wait + Clock>(
     sessions: &Cache<u64, u64>,
     id: u64,
 ) -> Result<Option<u64>, Refusal> {
-    let mut spend = |_id: &u64, left: &mut u64| {
+    let spend = |_id: &u64, left: &mut u64| {
         if *left <= 1 {
             return EntryAction::Remove;
         }
         *left -= 1;
         EntryAction::Retain(*left)
     };
-    match sessions.entry(rt, &id, None, &mut spend) {
+    match sessions.entry(rt, &id, None, spend) {
         EntryResult::Retained(left) => Ok(Some(left)),
         EntryResult::Removed(_, _) => Ok(None),
         EntryResult::Vacant(guard) => {

@@ -1,11 +1,11 @@
 -- What a callback told of an entry that ends.
 use Rattle.std.proofs.Common.{◌≡◌, ℕ, Bool, true, false, IsTrue, Result, Ok, Err, refl, subst}
 use denote.Ref.{Bor, MutBor}
-use denote.Param.Members.{Mut}
+use denote.Param.Members.{Once}
 use Rattle.quick_cache_model.specs.declared.refusal.Refusal.{Refusal}
 use Rattle.quick_cache_model.specs.declared.calls.entry.EntryAction.{EntryAction}
 use Rattle.quick_cache_model.specs.declared.calls.entry.EntryAction.TheVariants.{Retain as retain}
-use Rattle.quick_cache_guard.specs.Acts.{MayTell}
+use Rattle.quick_cache_guard.specs.Acts.{LeavesOnce, MayTell}
 use Rattle.quick_cache_locked.specs.Fitting.{ClonesFit}
 use Rattle.quick_cache_expiring.specs.declared.lasting.Lasting.{Lasting}
 use Rattle.quick_cache_expiring.specs.Lastings.{ClonesLasting, lasting_of}
@@ -16,10 +16,10 @@ use Rattle.quick_cache_expiring_sync.specs.Loads.{ChoosesToLoad}
 
 -- what it told to be renewed lived
 pub HasLived-told : {F K V : Type 0}
-    (calls : Mut F (Bor K × (MutBor (Lasting V) × Unit {0}))
+    (calls : Once F (Bor K × (MutBor (Lasting V) × Unit {0}))
     (EntryAction Bool × (MutBor (Lasting V) × Unit {0})))
     (fits : K → Lasting V → Type 0) (test : K → Bool) (callback : F) (now until : ℕ)
-    (renewed : Bool) (told : MayTell calls fits test callback renewed)
+    (renewed : Bool) (told : MayTell (LeavesOnce calls callback) fits test renewed)
     → ChoosesByEnd now until told.called.shown.now (retain renewed) told.called.left_by.now
     → IsTrue renewed → HasLived fits test now
 HasLived-told calls fits test callback now until true told chosen so = record {
@@ -32,11 +32,11 @@ HasLived-told calls fits test callback now until false told chosen so =
 
 -- a clone that it told lives and fits with the end that it was shown
 pub FitsAt-told : {F K V : Type 0}
-    (calls : Mut F (Bor K × (MutBor (Lasting V) × Unit {0}))
+    (calls : Once F (Bor K × (MutBor (Lasting V) × Unit {0}))
     (EntryAction (Result V Refusal) × (MutBor (Lasting V) × Unit {0})))
     (fits : K → Lasting V → Type 0) (test : K → Bool) (callback : F) (now : ℕ)
     (is_clone : V → V → Type 0) → ClonesFit fits (ClonesLasting is_clone)
-    → (answer : Result V Refusal) (told : MayTell calls fits test callback answer) (value : V)
+    → (answer : Result V Refusal) (told : MayTell (LeavesOnce calls callback) fits test answer) (value : V)
     → ChoosesToLoad is_clone now told.called.shown.now (retain answer) → answer ≡ Ok value
     → FitsAt fits test now value
 FitsAt-told calls fits test callback now is_clone clones (Ok given) told value chosen is =

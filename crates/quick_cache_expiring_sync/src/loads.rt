@@ -97,11 +97,11 @@ impl<
         ensures error { IfOk result (λ loaded. IfErr loaded (λ error. F.post loader (Err error))) }
         ensures refused { IfErr result IsLoadRefusal }
     {
-        let mut looks = |_key: &K, lasting: &mut Lasting<V>| -> EntryAction<Result<V, Refusal>>
+        let looks = |_key: &K, lasting: &mut Lasting<V>| -> EntryAction<Result<V, Refusal>>
             ensures same { lasting.new ≡ lasting.old }
             ensures chooses { ChoosesToLoad V.is_clone now lasting.old result }
         { look(lasting, now) };
-        match self.cache.entry(rt, query, None, &mut looks) {
+        match self.cache.entry(rt, query, None, looks) {
             EntryResult::Retained(Ok(value)) => Ok(Ok(value)),
             EntryResult::Retained(Err(refusal)) => Err(refusal),
             EntryResult::Replaced(guard, _) => {

@@ -118,13 +118,10 @@ impl<
             return Ok(false);
         }
         let until = end_of(now, life);
-        let mut renews = |_key: &K, lasting: &mut Lasting<V>| -> EntryAction<bool>
+        let renews = |_key: &K, lasting: &mut Lasting<V>| -> EntryAction<bool>
             ensures chooses { ChoosesByEnd now until lasting.old result lasting.new }
         { renew(lasting, now, until) };
-        match self
-            .cache
-            .entry(rt, query, Some(Duration::ZERO), &mut renews)
-        {
+        match self.cache.entry(rt, query, Some(Duration::ZERO), renews) {
             EntryResult::Retained(renewed) => {
                 if !renewed {
                     self.expires(rt, query, now);

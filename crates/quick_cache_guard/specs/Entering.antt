@@ -4,12 +4,12 @@ use Rattle.quick_cache_guard.specs.Futures.{Joining}
 use Rattle.quick_cache_guard.specs.declared.results.EntryResult.{EntryResult}
 use Rattle.quick_cache_guard.specs.declared.results.EntryResult.TheVariants as entry_result
 
--- its query, the future by which it waits while another loads the key, its callback, and whether it
--- has answered
+-- its query, the future by which it waits while another loads the key, its callback until that is
+-- called, and whether it has answered
 pub record EntryState (Q F : Type 0) : Type 0 where
   pub query : Q
   pub joining : Option (Joining Q)
-  pub callback : F
+  pub callback : Option F
   pub is_finished : Bool
 
 -- the source is the one that it waits for

@@ -1,7 +1,5 @@
 -- What an entry call answers.
 use Rattle.std.specs.Prelude.{◌≡◌, ◌⊎◌, ⊤, Bool, true, false, Option, Some, None, Result, Ok, Err}
-use denote.Ref.{Bor, MutBor}
-use denote.Param.Members.{Mut}
 use Rattle.quick_cache_loading.specs.Waiters.{IsLoadRefusal}
 use Rattle.quick_cache_guard.specs.declared.results.EntryResult.{EntryResult}
 use Rattle.quick_cache_guard.specs.declared.results.EntryResult.TheVariants as entry_result
@@ -53,21 +51,19 @@ IfUncalled (Err (Some entry_result.Timeout)) P = P
 IfUncalled (Err (Some (entry_result.Vacant guard))) P = P
 IfUncalled (Err (Some _)) P = ⊤
 
-module _ {F K V T : Type 0}
-    (calls : Mut F (Bor K × (MutBor V × Unit {0})) (EntryAction T × (MutBor V × Unit {0})))
-    (fits : K → V → Type 0) (stands_for : K → Bool) (callback : F) where
+module _ {K V T : Type 0} (leaves : K → V → EntryAction T → V → Type 0)
+    (fits : K → V → Type 0) (stands_for : K → Bool) where
   -- What an entry call answers is what the callback chose, by its one call. Where no item was acted
   -- on it was not called. A value whose place no guard could be had for is given back as removed.
-  abbrev pub AnswersAsChosen : {G : Type 0} → EntryResult T K V G → F → Type 0
-  AnswersAsChosen (entry_result.Retained told) next =
-      (key : K) × (left : V)
-      × Chooses calls fits stands_for callback (retain told) key left next
-  AnswersAsChosen (entry_result.Removed key value) next =
-      Chooses calls fits stands_for callback remove key value next
-      ⊎ ((shown : K) × Chooses calls fits stands_for callback replace shown value next)
-  AnswersAsChosen (entry_result.Replaced guard value) next =
-      (key : K) × Chooses calls fits stands_for callback replace key value next
-  AnswersAsChosen (entry_result.Vacant guard) next = next ≡ callback
-  AnswersAsChosen entry_result.Timeout next = next ≡ callback
-  AnswersAsChosen (entry_result.Refused refusal) next =
-      (next ≡ callback) ⊎ KeepsReplaced calls fits stands_for callback next
+  abbrev pub AnswersAsChosen : {G : Type 0} → (uncalled : Type 0) → EntryResult T K V G → Type 0
+  AnswersAsChosen uncalled (entry_result.Retained told) =
+      (key : K) × (left : V) × Chooses leaves fits stands_for (retain told) key left
+  AnswersAsChosen uncalled (entry_result.Removed key value) =
+      Chooses leaves fits stands_for remove key value
+      ⊎ ((shown : K) × Chooses leaves fits stands_for replace shown value)
+  AnswersAsChosen uncalled (entry_result.Replaced guard value) =
+      (key : K) × Chooses leaves fits stands_for replace key value
+  AnswersAsChosen uncalled (entry_result.Vacant guard) = uncalled
+  AnswersAsChosen uncalled entry_result.Timeout = uncalled
+  AnswersAsChosen uncalled (entry_result.Refused refusal) =
+      uncalled ⊎ KeepsReplaced leaves fits stands_for

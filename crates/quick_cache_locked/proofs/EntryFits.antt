@@ -15,6 +15,7 @@ use Rattle.quick_cache_model.specs.declared.calls.entry.EntryOrPlaceholder.TheVa
 use Rattle.quick_cache_model.specs.Callbacks.{ActsAsChosen, choice_of}
 use Rattle.quick_cache_policy.specs.Entering.{AnswersEntry}
 use Rattle.quick_cache_guard.specs.Acts.{Chooses, DoesAsChosen, IfAbsent, IfGone, IfKept, LeavesFit, MayTell}
+use Rattle.quick_cache_locked.specs.Acting.{LeavesNow}
 use Rattle.quick_cache_locked.specs.Fitting.{AllFit, FitsQuery}
 use Rattle.quick_cache_locked.proofs.FitLemmas.{rewritten-fits, SameButOrder-fits}
 use Rattle.quick_cache_locked.proofs.FitLoads.{MakesPlaceholder-fits, MeetsPlaceholder-fits}
@@ -76,7 +77,7 @@ module _ {K V : Type 0} (fits : K → V → Type 0) (rules : Rules K V) (stands_
 module _ {F K V T : Type 0} (fits : K → V → Type 0)
     (calls : Mut F (Bor K × (MutBor V × Unit {0})) (EntryAction T × (MutBor V × Unit {0})))
     (rules : Rules K V) (stands_for : K → Bool) (callback : F) (old : CacheState K V)
-    (leaves : LeavesFit calls fits callback) where
+    (leaves : LeavesFit (LeavesNow calls callback) fits) where
   -- what was left fits a key that the query stands for
   chosen_left : (action : EntryAction T) (outcome : EntryOutcome) (gives : Item K V → V → Type 0)
       (next : F) (new : CacheState K V)
@@ -86,7 +87,7 @@ module _ {F K V T : Type 0} (fits : K → V → Type 0)
   chosen_left action outcome gives next new acts fit =
       let was = ActsOnEntry-item fits rules stands_for old acts.item acts.left (choice_of action)
       outcome acts.step.ordered acts.step.holds fit in
-      (was.0, leaves acts.item.key acts.item.value action next acts.left acts.called was.1)
+      (was.0, leaves acts.item.key acts.item.value action acts.left (next, acts.called) was.1)
 
   -- and so all values fit
   chosen_fits : (action : EntryAction T) (outcome : EntryOutcome) (gives : Item K V → V → Type 0)
@@ -153,13 +154,12 @@ module _ {F K V T W : Type 0}
       (answer : Result (EntryOrPlaceholder K V W T) Refusal) (next : F) (new : CacheState K V)
       → AnswersEntry calls rules stands_for callback old own_ticket given hash answer next new
       → AllFit fits old
-      → IfKept answer (λ told. MayTell calls fits stands_for callback told)
+      → IfKept answer (λ told. MayTell (LeavesNow calls callback) fits stands_for told)
   AnswersEntry-tells fits (Ok (kept told)) next new acts fit = record {
     key = acts.item.key;
     value = acts.item.value;
-    next = next;
     left = acts.left;
-    called = acts.called;
+    called = (next, acts.called);
     stands = ActsOnEntry-stands rules stands_for old acts.item acts.left _ _ acts.step.ordered
         acts.step.holds;
     fits_key = (ActsOnEntry-item fits rules stands_for old acts.item acts.left _ _
@@ -188,10 +188,10 @@ module _ {F K V T W : Type 0}
     was_chosen : (action : EntryAction T) (outcome : EntryOutcome) (gives : Item K V → V → Type 0)
         (next : F) (new : CacheState K V)
         → (acts : ActsAsChosen calls rules stands_for callback old action outcome gives next new)
-        → Chooses calls fits stands_for callback action acts.item.key acts.left next
+        → Chooses (LeavesNow calls callback) fits stands_for action acts.item.key acts.left
     was_chosen action outcome gives next new acts = record {
       value = acts.item.value;
-      called = acts.called;
+      called = (next, acts.called);
       stands = ActsOnEntry-stands rules stands_for old acts.item acts.left _ _ acts.step.ordered
           acts.step.holds;
       fits_key = (ActsOnEntry-item fits rules stands_for old acts.item acts.left _ _
@@ -202,17 +202,17 @@ module _ {F K V T W : Type 0}
     pub AnswersEntry-chosen : (answer : Result (EntryOrPlaceholder K V W T) Refusal) (next : F)
         (new : CacheState K V)
         → AnswersEntry calls rules stands_for callback old own_ticket given hash answer next new
-        → DoesAsChosen calls fits stands_for callback answer next
+        → DoesAsChosen (LeavesNow calls callback) fits stands_for (next ≡ callback) answer
     AnswersEntry-chosen (Ok (kept told)) next new acts =
         (acts.item.key, acts.left, was_chosen _ _ _ next new acts)
     AnswersEntry-chosen (Ok (removed key value)) next new acts =
-        subst (λ k. Chooses calls fits stands_for callback remove k value next)
+        subst (λ k. Chooses (LeavesNow calls callback) fits stands_for remove k value)
         (sym acts.given.0)
-        (subst (λ v. Chooses calls fits stands_for callback remove acts.item.key v next)
+        (subst (λ v. Chooses (LeavesNow calls callback) fits stands_for remove acts.item.key v)
         (sym acts.given.1) (was_chosen _ _ _ next new acts))
     AnswersEntry-chosen (Ok (replaced placeholder value)) next new acts = (
       acts.item.key,
-      subst (λ v. Chooses calls fits stands_for callback replace acts.item.key v next)
+      subst (λ v. Chooses (LeavesNow calls callback) fits stands_for replace acts.item.key v)
           (sym acts.given.1) (was_chosen _ _ _ next new acts),
     )
     AnswersEntry-chosen (Ok (existing placeholder)) next new meets = meets.0

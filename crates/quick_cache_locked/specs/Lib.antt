@@ -1,4 +1,5 @@
 pub use Rattle.quick_cache_loading.specs.Touches
+pub mod Acting
 pub mod Asked
 pub mod Counts
 pub mod Fitting

@@ -162,7 +162,7 @@ impl<
         ensures timely { limit ≡ None → is_late result ≡ false }
     {
         let lives = &self.lives;
-        let mut looks = |_key: &K, loaded: &mut Loaded<V>| -> EntryAction<Result<V, Refusal>>
+        let looks = |_key: &K, loaded: &mut Loaded<V>| -> EntryAction<Result<V, Refusal>>
             ensures same { loaded.new ≡ loaded.old }
             ensures serves { Stays result ↔ Serves
                 (Li.life_of lives.entry.now key.entry.now loaded.old.value loaded.old.moment)
@@ -170,7 +170,7 @@ impl<
             ensures told { IfRetain result (λ told. IfOk told (V.is_clone loaded.old.value)) }
             ensures refused { IfRetain result (λ told. IfErr told (λ refusal. refusal ≡ Memory)) }
         { look(loaded, lives, key, now) };
-        match self.cache.entry(rt, key, limit, &mut looks) {
+        match self.cache.entry(rt, key, limit, looks) {
             EntryResult::Retained(Ok(value)) => EntryResult::Retained(value),
             EntryResult::Retained(Err(refusal)) => {
                 self.not_hits.fetch_add(1, Ordering::SeqCst);
@@ -195,11 +195,11 @@ impl<
     fn claims<R: Wait + Clock>(&self, rt: &R, key: &K, now: u64, refresh_after: u64) -> bool
         requires keys { (copy : K) → K.is_clone key.now copy → IsTrue (K.eq key.now copy) }
     {
-        let mut claims = |_key: &K, loaded: &mut Loaded<V>| -> EntryAction<bool>
+        let claims = |_key: &K, loaded: &mut Loaded<V>| -> EntryAction<bool>
             ensures value { loaded.new.value ≡ loaded.old.value }
             ensures moment { loaded.new.moment ≡ loaded.old.moment }
         { EntryAction::Retain(loaded.claim(refresh_after, now)) };
-        match self.cache.entry(rt, key, Some(Duration::ZERO), &mut claims) {
+        match self.cache.entry(rt, key, Some(Duration::ZERO), claims) {
             EntryResult::Retained(claimed) => {
                 self.not_hits.fetch_add(1, Ordering::SeqCst);
                 claimed

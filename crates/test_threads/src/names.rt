@@ -117,8 +117,8 @@ fn is_filled<R: Wait + Clock>(rt: &R, cache: &Cache<u64, u64>, value: u64) -> bo
 
 /// The pair that an entry call takes out.
 fn goes<R: Wait + Clock>(rt: &R, cache: &Cache<u64, u64>) -> Option<(u64, u64)> {
-    let mut callback = |_: &u64, _: &mut u64| -> Choice<()> { Choice::Remove };
-    match cache.entry(rt, &1, None, &mut callback) {
+    let callback = |_: &u64, _: &mut u64| -> Choice<()> { Choice::Remove };
+    match cache.entry(rt, &1, None, callback) {
         EntryResult::Removed(key, value) => Some((key, value)),
         _ => None,
     }

@@ -1,5 +1,6 @@
 //! What a caller relies on that sees values under the lock of the shared cache: they fit.
-ghost use Rattle.std.specs.Prelude.{◌≡◌, ◌<◌, IfOk, IfSome, None, Some};
+ghost use Rattle.std.specs.Prelude.{◌≡◌, ◌<◌, ◌≤◌, IfOk, IfSome, None, Some};
+ghost use Rattle.read_through.specs.Looks.{IfRetain};
 
 use quick_cache_guard::{EntryResult, Fetched, GuardResult};
 use quick_cache_model::{DefaultHashBuilder, EntryAction, Lifecycle, Refusal, UnitWeighter};
@@ -155,10 +156,42 @@ pub fn divide_or_load<R: Wait + Clock>(rt: &R, shares: &Shares, key: &u64, sum: 
 
 /// What an entry call takes out fits.
 pub fn divide_by_entry<R: Wait + Clock>(rt: &R, shares: &Shares, key: &u64, sum: u64) -> u64 {
-    let mut removes = |_: &u64, _: &mut u64| -> EntryAction<()> { EntryAction::Remove };
-    match shares.entry(rt, key, None, &mut removes) {
+    let removes = |_: &u64, _: &mut u64| -> EntryAction<()> { EntryAction::Remove };
+    match shares.entry(rt, key, None, removes) {
         EntryResult::Removed(_, value) => sum / value,
         _ => sum,
+    }
+}
+
+/// A callback may be handed in that is safe at values that fit alone. What it tells, it told of such
+/// a value.
+pub fn share_by_entry<R: Wait + Clock>(rt: &R, shares: &Shares, key: &u64, sum: u64) -> Option<u64>
+    ensures { IfSome result (λ share. share ≤ sum) }
+{
+    let divides = |_: &u64, value: &mut u64| -> EntryAction<u64>
+        requires { 0 < value.old }
+        ensures kept { value.new ≡ value.old }
+        ensures share { IfRetain result (λ share. share ≤ sum) }
+    { EntryAction::Retain(sum / *value) };
+    match shares.entry(rt, key, None, divides) {
+        EntryResult::Retained(share) => Some(share),
+        _ => None,
+    }
+}
+
+/// And one that gives away what it captured, since it is called once at most.
+pub fn name_by_entry<R: Wait + Clock>(
+    rt: &R,
+    shares: &Shares,
+    key: &u64,
+    name: Vec<u8>,
+) -> Option<Vec<u8>>
+    ensures { IfSome result (λ told. told ≡ name) }
+{
+    let names = |_: &u64, _: &mut u64| -> EntryAction<Vec<u8>> { EntryAction::Retain(name) };
+    match shares.entry(rt, key, None, names) {
+        EntryResult::Retained(told) => Some(told),
+        _ => None,
     }
 }
 

@@ -1,8 +1,8 @@
 //! The entry call.
-ghost use Rattle.std.specs.Prelude.{◌≡◌, true, false, None, IfOk, IfSome, IfNone, is_some};
+ghost use Rattle.std.specs.Prelude.{◌≡◌, ⊤, true, false, None, IfOk, IfSome, IfNone, IsSomeAnd, is_some};
 ghost use Rattle.quick_cache_loading.specs.Fitting.{FitsQuery};
 ghost use Rattle.quick_cache_loading.specs.Turns.{none_left};
-ghost use Rattle.quick_cache_guard.specs.Acts.{LeavesFit, MayTell};
+ghost use Rattle.quick_cache_guard.specs.Acts.{LeavesFit, LeavesHeld, LeavesOnce, MayAct, MayTell};
 ghost use Rattle.quick_cache_guard.specs.Entries.{AnswersAsChosen, IfAnswered, IfGivenBack, IfGuarded, IfRetained, IfUncalled, IsRefusedAsLoad, is_late};
 
 use crate::entries::entering::{answer, join_there, share_of_new};
@@ -34,36 +34,37 @@ pub fn entry<
     A: Allocator,
     Q: ToKey<K>,
     T: Drop,
-    F: FnMut(&K, &mut V) -> EntryAction<T>,
+    F: FnOnce(&K, &mut V) -> EntryAction<T>,
 >(
     rt: &'a R,
     shard: &'a RwLock<S>,
     query: &Q,
     limit: Option<Duration>,
-    callback: &mut F,
+    callback: F,
 ) -> EntryResult<T, K, V, PlaceholderGuard<'a, K, V, L, S, R, A>>
     requires stands { (key : K) → Q.to_key_gives query.now key
         → Q.equivalent query.now key ≡ true }
-    requires callable { F.IsAlwaysCallable callback.old }
-    // What the callback leaves fits.
-    requires leaves { LeavesFit F.FnMut L.fits callback.old }
+    // The callback is callable at values that fit, and has to be at no others; what it leaves fits.
+    requires callable { MayAct F.FnOnce L.fits (Q.equivalent query.now) callback }
+    requires leaves { LeavesFit (LeavesOnce F.FnOnce callback) L.fits }
     // Whatever other threads do, a value that is given back fits a key that the query stands for.
     ensures fits { IfGivenBack result (λ value. FitsQuery L.fits (Q.equivalent query.now) value) }
     // What is told was told of such a value.
-    ensures told { IfRetained result (λ told. MayTell F.FnMut L.fits
-        (Q.equivalent query.now) callback.old told) }
+    ensures told { IfRetained result (λ told. MayTell (LeavesOnce F.FnOnce callback) L.fits
+        (Q.equivalent query.now) told) }
     // A guard is for a key that the query becomes.
     ensures key { IfGuarded result (λ key. Q.to_key_gives query.now key) }
     // The answer is what the callback chose, by its one call.
-    ensures chosen { AnswersAsChosen F.FnMut L.fits
-        (Q.equivalent query.now) callback.old result callback.new }
+    ensures chosen { AnswersAsChosen (LeavesOnce F.FnOnce callback) L.fits
+        (Q.equivalent query.now) ⊤ result }
     // It is refused as a load is, and in time where there is no limit.
     ensures refused { IsRefusedAsLoad result }
     ensures timely { limit ≡ None → is_late result ≡ false }
 {
     let mut turns = Turns::within(limit);
+    let mut held = Some(callback);
     for _ in rt.forever() {
-        if let Some(answer) = come_and_wait(rt, shard, query, &mut turns, callback) {
+        if let Some(answer) = come_and_wait(rt, shard, query, &mut turns, &mut held) {
             return answer;
         }
         // A value that came is still on its way into the shard.
@@ -84,28 +85,29 @@ fn come_and_wait<
     A: Allocator,
     Q: ToKey<K>,
     T: Drop,
-    F: FnMut(&K, &mut V) -> EntryAction<T>,
+    F: FnOnce(&K, &mut V) -> EntryAction<T>,
 >(
     rt: &'a R,
     shard: &'a RwLock<S>,
     query: &Q,
     turns: &mut Turns,
-    callback: &mut F,
+    callback: &mut Option<F>,
 ) -> Option<EntryResult<T, K, V, PlaceholderGuard<'a, K, V, L, S, R, A>>>
     requires stands { (key : K) → Q.to_key_gives query.now key
         → Q.equivalent query.now key ≡ true }
-    requires callable { F.IsAlwaysCallable callback.old }
-    requires leaves { LeavesFit F.FnMut L.fits callback.old }
+    requires callable { IsSomeAnd callback.old (MayAct F.FnOnce L.fits (Q.equivalent query.now)) }
+    requires leaves { LeavesFit (LeavesHeld F.FnOnce callback.old) L.fits }
     ensures fits { IfSome result (λ answer. IfGivenBack answer
         (λ value. FitsQuery L.fits (Q.equivalent query.now) value)) }
     ensures told { IfSome result (λ answer. IfRetained answer
-        (λ told. MayTell F.FnMut L.fits (Q.equivalent query.now)
-        callback.old told)) }
+        (λ told. MayTell (LeavesHeld F.FnOnce callback.old) L.fits (Q.equivalent query.now)
+        told)) }
     ensures key { IfSome result (λ answer. IfGuarded answer
         (λ key. Q.to_key_gives query.now key)) }
     ensures uncalled { IfNone result (callback.new ≡ callback.old) }
-    ensures chosen { IfSome result (λ answer. AnswersAsChosen F.FnMut L.fits
-        (Q.equivalent query.now) callback.old answer callback.new) }
+    ensures chosen { IfSome result (λ answer. AnswersAsChosen
+        (LeavesHeld F.FnOnce callback.old) L.fits (Q.equivalent query.now)
+        (callback.new ≡ callback.old) answer) }
     ensures refused { IfSome result IsRefusedAsLoad }
     // Its time is over only where no turn is left.
     ensures timely { IfSome result (λ answer. is_late answer ≡ true
@@ -143,12 +145,12 @@ pub fn come<
     A: Allocator,
     Q: ToKey<K>,
     T: Drop,
-    F: FnMut(&K, &mut V) -> EntryAction<T>,
+    F: FnOnce(&K, &mut V) -> EntryAction<T>,
 >(
     rt: &'a R,
     shard: &'a RwLock<S>,
     query: &Q,
-    callback: &mut F,
+    callback: &mut Option<F>,
     is_task: bool,
     is_over: bool,
 ) -> Result<
@@ -157,21 +159,22 @@ pub fn come<
 >
     requires stands { (key : K) → Q.to_key_gives query.now key
         → Q.equivalent query.now key ≡ true }
-    requires callable { F.IsAlwaysCallable callback.old }
+    requires callable { IsSomeAnd callback.old (MayAct F.FnOnce L.fits (Q.equivalent query.now)) }
     // What the callback leaves fits.
-    requires leaves { LeavesFit F.FnMut L.fits callback.old }
+    requires leaves { LeavesFit (LeavesHeld F.FnOnce callback.old) L.fits }
     ensures keyed { IfOk result (λ waiting. Q.to_key_gives query.now waiting.key) }
     ensures fits { IfAnswered result (λ answer. IfGivenBack answer
         (λ value. FitsQuery L.fits (Q.equivalent query.now) value)) }
     ensures told { IfAnswered result (λ answer. IfRetained answer
-        (λ told. MayTell F.FnMut L.fits (Q.equivalent query.now)
-        callback.old told)) }
+        (λ told. MayTell (LeavesHeld F.FnOnce callback.old) L.fits (Q.equivalent query.now)
+        told)) }
     ensures key { IfAnswered result (λ answer. IfGuarded answer
         (λ key. Q.to_key_gives query.now key)) }
     // Where no item was found, the callback was not called.
     ensures uncalled { IfUncalled result (callback.new ≡ callback.old) }
-    ensures chosen { IfAnswered result (λ answer. AnswersAsChosen F.FnMut L.fits
-        (Q.equivalent query.now) callback.old answer callback.new) }
+    ensures chosen { IfAnswered result (λ answer. AnswersAsChosen
+        (LeavesHeld F.FnOnce callback.old) L.fits (Q.equivalent query.now)
+        (callback.new ≡ callback.old) answer) }
     ensures refused { IfAnswered result IsRefusedAsLoad }
     ensures timely { is_over ≡ false → IfAnswered result (λ answer. is_late answer ≡ false) }
 {

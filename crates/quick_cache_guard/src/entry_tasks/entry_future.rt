@@ -1,9 +1,9 @@
 //! The entry call, for a task.
-ghost use Rattle.std.specs.Prelude.{◌≡◌, ◌⊎◌, true, false, Some, None, IfSome};
+ghost use Rattle.std.specs.Prelude.{◌≡◌, ◌⊎◌, true, false, Some, None, IfSome, IsSomeAnd};
 ghost use Rattle.futures.specs.Poll.{IfReady, OnPending};
 ghost use Rattle.futures.specs.Task.{Covers, Keeps};
 ghost use Rattle.quick_cache_loading.specs.Fitting.{FitsQuery};
-ghost use Rattle.quick_cache_guard.specs.Acts.{LeavesFit, MayTell};
+ghost use Rattle.quick_cache_guard.specs.Acts.{LeavesFit, LeavesHeld, MayAct, MayTell};
 ghost use Rattle.quick_cache_guard.specs.Entries.{AnswersAsChosen, IsRefusedAsLoad};
 ghost use Rattle.quick_cache_guard.specs.Entering.{HasPlace, IfActed, WaitsFor, in_time_of};
 
@@ -18,7 +18,7 @@ use std::marker::{Model, PhantomData};
 use std::sync::{RwLock, Wait};
 
 /// Acts on the entry of the query's key by the callback, as `entry` does for a thread with no time
-/// limit. It owns the callback, which is called under the shard's lock, once at most.
+/// limit. It owns the callback until that is called under the shard's lock, once at most.
 ///
 /// A poll takes the shard's lock and that of a placeholder's state, and waits for nothing else. One
 /// that finds the key being loaded joins those who wait; once that load has ended it looks again.
@@ -42,7 +42,7 @@ pub struct EntryFuture<
     shard: &'a RwLock<S>,
     query: &'q Q,
     joining: Option<JoinFuture<'a, 'q, Q, K, V, L, S, R, A>>,
-    callback: F,
+    callback: Option<F>,
     is_finished: bool,
     of: PhantomData<T>,
 }
@@ -88,7 +88,7 @@ impl<
     S: EntryShard<K, V, L, A>,
     R: Wait,
     T: Drop,
-    F: FnMut(&K, &mut V) -> EntryAction<T>,
+    F: FnOnce(&K, &mut V) -> EntryAction<T>,
     A: Allocator,
 > EntryFuture<'a, 'q, Q, K, V, L, S, R, T, F, A> {
     /// A future that has not begun. It takes no lock.
@@ -96,7 +96,7 @@ impl<
         requires stands { (key : K) → Q.to_key_gives query.now key
             → Q.equivalent query.now key ≡ true }
         ensures query { result.query ≡ query.now }
-        ensures callback { result.callback ≡ callback }
+        ensures callback { result.callback ≡ Some callback }
         ensures begins { result.is_finished ≡ false }
     {
         EntryFuture {
@@ -104,7 +104,7 @@ impl<
             shard,
             query,
             joining: None,
-            callback,
+            callback: Some(callback),
             is_finished: false,
             of: PhantomData,
         }
@@ -115,18 +115,20 @@ impl<
         &mut self,
         cx: &mut Context<'_>,
     ) -> Poll<EntryResult<T, K, V, PlaceholderGuard<'a, K, V, L, S, R, A>>>
-        requires callable { self.old.is_finished ≡ false → F.IsAlwaysCallable self.old.callback }
+        requires callable { self.old.is_finished ≡ false → IsSomeAnd self.old.callback
+            (MayAct F.FnOnce L.fits (Q.equivalent self.old.query)) }
         // What the callback leaves fits.
         requires leaves { self.old.is_finished ≡ false
-            → LeavesFit F.FnMut L.fits self.old.callback }
+            → LeavesFit (LeavesHeld F.FnOnce self.old.callback) L.fits }
         ensures value { IfReady result (λ output. IfActed
             (λ value. FitsQuery L.fits (Q.equivalent self.old.query) value)
-            (λ told. MayTell F.FnMut L.fits (Q.equivalent self.old.query)
-            self.old.callback told)
+            (λ told. MayTell (LeavesHeld F.FnOnce self.old.callback) L.fits
+            (Q.equivalent self.old.query) told)
             (λ key. Q.to_key_gives self.old.query key) output) }
         // The answer is what the callback chose, by its one call.
-        ensures chosen { IfReady result (λ output. AnswersAsChosen F.FnMut L.fits
-            (Q.equivalent self.old.query) self.old.callback output self.new.callback) }
+        ensures chosen { IfReady result (λ output. AnswersAsChosen
+            (LeavesHeld F.FnOnce self.old.callback) L.fits (Q.equivalent self.old.query)
+            (self.new.callback ≡ self.old.callback) output) }
         ensures finished { IfReady result (λ output. self.new.is_finished ≡ true) }
         // It answers once, and is refused as a load is; then it is refused as `Finished`.
         ensures refused { self.old.is_finished ≡ true
@@ -161,11 +163,12 @@ impl<
     ) -> Poll<Option<EntryResult<T, K, V, PlaceholderGuard<'a, K, V, L, S, R, A>>>>
         ensures value { IfReady result (λ told. IfSome told (λ output. IfActed
             (λ value. FitsQuery L.fits (Q.equivalent self.old.query) value)
-            (λ told. MayTell F.FnMut L.fits (Q.equivalent self.old.query)
-            self.old.callback told)
+            (λ told. MayTell (LeavesHeld F.FnOnce self.old.callback) L.fits
+            (Q.equivalent self.old.query) told)
             (λ key. Q.to_key_gives self.old.query key) output)) }
-        ensures chosen { IfReady result (λ told. IfSome told (λ output. AnswersAsChosen F.FnMut L.fits
-            (Q.equivalent self.old.query) self.old.callback output self.new.callback)) }
+        ensures chosen { IfReady result (λ told. IfSome told (λ output. AnswersAsChosen
+            (LeavesHeld F.FnOnce self.old.callback) L.fits (Q.equivalent self.old.query)
+            (self.new.callback ≡ self.old.callback) output)) }
         ensures refused { IfReady result (λ told. IfSome told IsRefusedAsLoad) }
         ensures place { OnPending result ((cx.new.is_woken ≡ true) ⊎ HasPlace self.new) }
         ensures callback { self.new.callback ≡ self.old.callback }
@@ -191,11 +194,12 @@ impl<
         requires begins { joining.is_finished ≡ false }
         ensures value { IfReady result (λ told. IfSome told (λ output. IfActed
             (λ value. FitsQuery L.fits (Q.equivalent self.old.query) value)
-            (λ told. MayTell F.FnMut L.fits (Q.equivalent self.old.query)
-            self.old.callback told)
+            (λ told. MayTell (LeavesHeld F.FnOnce self.old.callback) L.fits
+            (Q.equivalent self.old.query) told)
             (λ key. Q.to_key_gives self.old.query key) output)) }
-        ensures chosen { IfReady result (λ told. IfSome told (λ output. AnswersAsChosen F.FnMut L.fits
-            (Q.equivalent self.old.query) self.old.callback output self.new.callback)) }
+        ensures chosen { IfReady result (λ told. IfSome told (λ output. AnswersAsChosen
+            (LeavesHeld F.FnOnce self.old.callback) L.fits (Q.equivalent self.old.query)
+            (self.new.callback ≡ self.old.callback) output)) }
         ensures refused { IfReady result (λ told. IfSome told IsRefusedAsLoad) }
         ensures place { OnPending result ((cx.new.is_woken ≡ true) ⊎ HasPlace self.new) }
         ensures callback { self.new.callback ≡ self.old.callback }
@@ -222,15 +226,17 @@ impl<
         &mut self,
         cx: &mut Context<'_>,
     ) -> Poll<EntryResult<T, K, V, PlaceholderGuard<'a, K, V, L, S, R, A>>>
-        requires callable { F.IsAlwaysCallable self.old.callback }
-        requires leaves { LeavesFit F.FnMut L.fits self.old.callback }
+        requires callable { IsSomeAnd self.old.callback
+            (MayAct F.FnOnce L.fits (Q.equivalent self.old.query)) }
+        requires leaves { LeavesFit (LeavesHeld F.FnOnce self.old.callback) L.fits }
         ensures value { IfReady result (λ output. IfActed
             (λ value. FitsQuery L.fits (Q.equivalent self.old.query) value)
-            (λ told. MayTell F.FnMut L.fits (Q.equivalent self.old.query)
-            self.old.callback told)
+            (λ told. MayTell (LeavesHeld F.FnOnce self.old.callback) L.fits
+            (Q.equivalent self.old.query) told)
             (λ key. Q.to_key_gives self.old.query key) output) }
-        ensures chosen { IfReady result (λ output. AnswersAsChosen F.FnMut L.fits
-            (Q.equivalent self.old.query) self.old.callback output self.new.callback) }
+        ensures chosen { IfReady result (λ output. AnswersAsChosen
+            (LeavesHeld F.FnOnce self.old.callback) L.fits (Q.equivalent self.old.query)
+            (self.new.callback ≡ self.old.callback) output) }
         ensures refused { IfReady result IsRefusedAsLoad }
         ensures place { OnPending result ((cx.new.is_woken ≡ true) ⊎ HasPlace self.new) }
         ensures finished { IfReady result (λ output. self.new.is_finished ≡ true) }
@@ -262,11 +268,12 @@ impl<
         requires keyed { Q.to_key_gives self.old.query waiting.key }
         ensures value { IfReady result (λ output. IfActed
             (λ value. FitsQuery L.fits (Q.equivalent self.old.query) value)
-            (λ told. MayTell F.FnMut L.fits (Q.equivalent self.old.query)
-            self.old.callback told)
+            (λ told. MayTell (LeavesHeld F.FnOnce self.old.callback) L.fits
+            (Q.equivalent self.old.query) told)
             (λ key. Q.to_key_gives self.old.query key) output) }
-        ensures chosen { IfReady result (λ output. AnswersAsChosen F.FnMut L.fits
-            (Q.equivalent self.old.query) self.old.callback output self.new.callback) }
+        ensures chosen { IfReady result (λ output. AnswersAsChosen
+            (LeavesHeld F.FnOnce self.old.callback) L.fits (Q.equivalent self.old.query)
+            (self.new.callback ≡ self.old.callback) output) }
         ensures refused { IfReady result IsRefusedAsLoad }
         ensures place { OnPending result ((cx.new.is_woken ≡ true) ⊎ HasPlace self.new) }
         ensures finished { IfReady result (λ output. self.new.is_finished ≡ true) }
@@ -335,14 +342,15 @@ impl<
     S: EntryShard<K, V, L, A>,
     R: Wait,
     T: Drop,
-    F: FnMut(&K, &mut V) -> EntryAction<T>,
+    F: FnOnce(&K, &mut V) -> EntryAction<T>,
     A: Allocator,
 > Future for EntryFuture<'a, 'q, Q, K, V, L, S, R, T, F, A> {
     type Output = EntryResult<T, K, V, PlaceholderGuard<'a, K, V, L, S, R, A>>;
 
     // Until it has answered, its callback may be called, and what that leaves fits.
     ghost can_poll = { λ f. f.is_finished ≡ false
-        → F.IsAlwaysCallable f.callback × LeavesFit F.FnMut L.fits f.callback };
+        → IsSomeAnd f.callback (MayAct F.FnOnce L.fits (Q.equivalent f.query))
+        × LeavesFit (LeavesHeld F.FnOnce f.callback) L.fits };
 
     // Once it waits, the source of its placeholder.
     ghost needs = { λ f. WaitsFor f };
@@ -351,8 +359,8 @@ impl<
     // a value, and a guard is for a key that the query becomes.
     ghost gives = { λ f output. IfActed
         (λ value. FitsQuery L.fits (Q.equivalent f.query) value)
-        (λ told. MayTell F.FnMut L.fits (Q.equivalent f.query)
-        f.callback told)
+        (λ told. MayTell (LeavesHeld F.FnOnce f.callback) L.fits (Q.equivalent f.query)
+        told)
         (λ key. Q.to_key_gives f.query key) output };
 
     fn poll(&mut self, cx: &mut Context<'_>) -> Poll<Self::Output> {

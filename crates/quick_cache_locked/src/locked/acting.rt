@@ -1,9 +1,10 @@
 //! Entry calls on a shard behind its lock.
-ghost use Rattle.std.specs.Prelude.{◌≡◌, IfErr};
+ghost use Rattle.std.specs.Prelude.{◌≡◌, IfErr, IsSomeAnd};
 ghost use Rattle.quick_cache_loading.specs.Waiters.{IsLoadRefusal};
-ghost use Rattle.quick_cache_guard.specs.Acts.{DoesAsChosen, IfAbsent, IfGone, IfKept, LeavesFit, MayTell};
+ghost use Rattle.quick_cache_guard.specs.Acts.{DoesAsChosen, IfAbsent, IfGone, IfKept, LeavesFit, LeavesHeld, MayTell, TakesOnce};
 ghost use Rattle.quick_cache_shard.specs.Entering.{AnswersEntry};
 ghost use Rattle.quick_cache_shard.specs.Shard.{LosesOnly, KeepsWork};
+ghost use Rattle.quick_cache_locked.specs.Acting.{LeavesNow, MayActNow};
 ghost use Rattle.quick_cache_locked.specs.Fitting.{FitsQuery};
 ghost use Rattle.quick_cache_locked.specs.Loads.{StandsForGiven};
 ghost use Rattle.quick_cache_locked.specs.Locked.{IsKept};
@@ -27,26 +28,27 @@ impl<
     A: Allocator + Clone,
 > LockedShard<K, V, We, B, L, A> {
     /// Shows the item under the query to the callback, which may write its value and chooses what
-    /// happens. Where there is none a placeholder is made or met. What the callback leaves fits.
+    /// happens. Where there is none a placeholder is made or met. What the callback is shown fits, and
+    /// so does what it leaves.
     pub fn act_on<Q: ToKey<K>, T, F: FnMut(&K, &mut V) -> EntryAction<T>>(
         &mut self,
         query: &Q,
         callback: &mut F,
     ) -> Result<EntryOrPlaceholder<K, V, SharedPlaceholder<K, V, L, A>, T>, Refusal>
         requires stands { StandsForGiven (Q.to_key_gives query.now) (Q.equivalent query.now) }
-        requires callable { F.IsAlwaysCallable callback.old }
-        requires leaves { LeavesFit F.FnMut L.fits callback.old }
+        requires callable { MayActNow F.FnMut L.fits (Q.equivalent query.now) callback.old }
+        requires leaves { LeavesFit (LeavesNow F.FnMut callback.old) L.fits }
         ensures acts { AnswersEntry F.FnMut (rules_in ⟦<Self as Going>⟧.goes any_touches self.old)
             (Q.equivalent query.now) callback.old self.old.state (λ placeholder. placeholder.ticket)
             (Q.to_key_gives query.now) (⟦<Self as Keyed>⟧.hash self.old.builder
             (Q.hash_input query.now)) result callback.new self.new.state }
         ensures fits { IfGone result (λ value. FitsQuery L.fits (Q.equivalent query.now) value) }
-        ensures tells { IfKept result (λ told. MayTell F.FnMut L.fits
-            (Q.equivalent query.now) callback.old told) }
+        ensures tells { IfKept result (λ told. MayTell (LeavesNow F.FnMut callback.old) L.fits
+            (Q.equivalent query.now) told) }
         ensures uncalled { IfAbsent result (callback.new ≡ callback.old) }
         ensures refused { IfErr result IsLoadRefusal }
-        ensures chosen { DoesAsChosen F.FnMut L.fits
-            (Q.equivalent query.now) callback.old result callback.new }
+        ensures chosen { DoesAsChosen (LeavesNow F.FnMut callback.old) L.fits
+            (Q.equivalent query.now) (callback.new ≡ callback.old) result }
         ensures places { LosesOnly self.old.places self.new.places }
         ensures same { KeepsWork self.old self.new }
         ensures kept { IsKept L.Lifecycle K.eq self.old }
@@ -66,11 +68,33 @@ impl<
     L: Lifecycle<K, V>,
     A: Allocator + Clone,
 > EntryShard<K, V, L, A> for LockedShard<K, V, We, B, L, A> {
-    fn act<Q: ToKey<K>, T, F: FnMut(&K, &mut V) -> EntryAction<T>>(
+    fn act<Q: ToKey<K>, T, F: FnOnce(&K, &mut V) -> EntryAction<T>>(
         &mut self,
         query: &Q,
-        callback: &mut F,
+        callback: &mut Option<F>,
     ) -> Result<EntryOrPlaceholder<K, V, SharedPlaceholder<K, V, L, A>, T>, Refusal> {
-        self.act_on(query, callback)
+        let mut call = |key: &K, value: &mut V| -> EntryAction<T>
+            requires callable { IsSomeAnd callback.now
+                (λ once. TakesOnce F.FnOnce once key.now value.old) }
+            ensures called { LeavesHeld F.FnOnce callback.entry.now
+                key.now value.old result value.new }
+        { call_held(callback, key, value) };
+        self.act_on(query, &mut call)
+    }
+}
+
+/// Calls the callback that is held, which is used up.
+fn call_held<K, V, T, F: FnOnce(&K, &mut V) -> EntryAction<T>>(
+    callback: &mut Option<F>,
+    key: &K,
+    value: &mut V,
+) -> EntryAction<T>
+    requires callable { IsSomeAnd callback.old
+        (λ once. TakesOnce F.FnOnce once key.now value.old) }
+    ensures called { LeavesHeld F.FnOnce callback.old key.now value.old result value.new }
+{
+    match callback.take() {
+        Some(once) => once(key, value),
+        None => unreachable!(),
     }
 }

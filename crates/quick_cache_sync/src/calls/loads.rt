@@ -1,8 +1,8 @@
 //! Calls of a cache that load a value where none is there, and make others wait for it. Whatever
 //! other threads do, what they give fits a key that the query stands for.
-ghost use Rattle.std.specs.Prelude.{◌≡◌, true, false, None, Ok, Err, IfOk, IfErr};
+ghost use Rattle.std.specs.Prelude.{◌≡◌, ⊤, true, false, None, Ok, Err, IfOk, IfErr};
 ghost use Rattle.quick_cache_guard.specs.Answers.{IfGuard, IfValue, IsLoadRefusal, RefusesAsLoad, is_timeout};
-ghost use Rattle.quick_cache_guard.specs.Acts.{LeavesFit, MayTell};
+ghost use Rattle.quick_cache_guard.specs.Acts.{LeavesFit, LeavesOnce, MayAct, MayTell};
 ghost use Rattle.quick_cache_guard.specs.Entries.{AnswersAsChosen, IfGivenBack, IfGuarded, IfRetained, IsRefusedAsLoad, is_late};
 ghost use Rattle.quick_cache_locked.specs.Fitting.{ClonesFit, FitsQuery};
 ghost use Rattle.quick_cache_locked.specs.Loads.{StandsForGiven};
@@ -109,27 +109,34 @@ impl<
     /// Where there is no item, this call gets the guard of a placeholder that it makes. Where
     /// another loads the key it waits, as `get_value_or_guard` does, and looks again once that load
     /// has ended; all its waits share the limit.
-    pub fn entry<'a, Q: ToKey<K>, R: Wait + Clock, T: Drop, F: FnMut(&K, &mut V) -> EntryAction<T>>(
+    pub fn entry<
+        'a,
+        Q: ToKey<K>,
+        R: Wait + Clock,
+        T: Drop,
+        F: FnOnce(&K, &mut V) -> EntryAction<T>,
+    >(
         &'a self,
         rt: &'a R,
         query: &Q,
         limit: Option<Duration>,
-        callback: &mut F,
+        callback: F,
     ) -> EntryResult<T, K, V, PlaceholderGuard<'a, K, V, L, LockedShard<K, V, We, B, L, A>, R, A>>
         requires stands { StandsForGiven (Q.to_key_gives query.now) (Q.equivalent query.now) }
-        requires callable { F.IsAlwaysCallable callback.old }
-        // What the callback leaves fits.
-        requires leaves { LeavesFit F.FnMut L.fits callback.old }
+        // The callback is callable at values that fit, and has to be at no others; what it leaves
+        // fits.
+        requires callable { MayAct F.FnOnce L.fits (Q.equivalent query.now) callback }
+        requires leaves { LeavesFit (LeavesOnce F.FnOnce callback) L.fits }
         // What is told was told of a value that fits, too.
         ensures fits { IfGivenBack result (λ value. FitsQuery L.fits (Q.equivalent query.now) value) }
-        ensures told { IfRetained result (λ told. MayTell F.FnMut L.fits
-            (Q.equivalent query.now) callback.old told) }
+        ensures told { IfRetained result (λ told. MayTell (LeavesOnce F.FnOnce callback) L.fits
+            (Q.equivalent query.now) told) }
         // A guard is for a key that the query becomes.
         ensures key { IfGuarded result (λ key. Q.to_key_gives query.now key) }
         // The answer is what the callback chose, by its one call, of an item that stood in the
-        // shard then. Where none did, it was not called.
-        ensures chosen { AnswersAsChosen F.FnMut L.fits
-            (Q.equivalent query.now) callback.old result callback.new }
+        // shard then.
+        ensures chosen { AnswersAsChosen (LeavesOnce F.FnOnce callback) L.fits
+            (Q.equivalent query.now) ⊤ result }
         // It is refused as a load is, and in time where there is no limit.
         ensures refused { IsRefusedAsLoad result }
         ensures timely { limit ≡ None → is_late result ≡ false }

@@ -1,5 +1,5 @@
 //! Calls of a cache for tasks, which wait without a thread.
-ghost use Rattle.std.specs.Prelude.{◌≡◌, false, Ok};
+ghost use Rattle.std.specs.Prelude.{◌≡◌, false, Some, Ok};
 ghost use Rattle.quick_cache_locked.specs.Fitting.{ClonesFit};
 ghost use Rattle.quick_cache_locked.specs.Loads.{StandsForGiven};
 
@@ -69,7 +69,7 @@ impl<
         Q: ToKey<K>,
         R: Wait,
         T: Drop,
-        F: FnMut(&K, &mut V) -> EntryAction<T>,
+        F: FnOnce(&K, &mut V) -> EntryAction<T>,
     >(
         &'a self,
         rt: &'a R,
@@ -78,7 +78,7 @@ impl<
     ) -> EntryFuture<'a, 'q, Q, K, V, L, LockedShard<K, V, We, B, L, A>, R, T, F, A>
         requires stands { StandsForGiven (Q.to_key_gives query.now) (Q.equivalent query.now) }
         ensures query { result.query ≡ query.now }
-        ensures callback { result.callback ≡ callback }
+        ensures callback { result.callback ≡ Some callback }
         ensures begins { result.is_finished ≡ false }
     {
         EntryFuture::new(rt, self.shard_of(query), query, callback)

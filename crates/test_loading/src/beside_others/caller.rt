@@ -168,8 +168,8 @@ fn acted<R: Wait>(acted: EntryResult<u64, u64, u64, Guard<'_, R>>, call: Call) -
 /// Acts on the entry, and waits for a millisecond or not at all.
 fn act<R: Wait + Clock>(rt: &R, cache: &Weighed, call: Call) -> Found {
     let limit = Duration::from_millis(call.coin >> 48 & 1);
-    let mut callback = |_: &u64, value: &mut u64| choose(call, value);
-    acted(cache.entry(rt, &call.key, Some(limit), &mut callback), call)
+    let callback = |_: &u64, value: &mut u64| choose(call, value);
+    acted(cache.entry(rt, &call.key, Some(limit), callback), call)
 }
 
 /// Polls a future up to twenty times, lets others go on between, and drops it.

@@ -19,10 +19,10 @@ type Divided = Cache<u64, u64, UnitWeighter, Upper>;
 
 /// Whether an entry call meets another one, each inside its callback.
 fn meets<R: Wait + Clock>(rt: &R, cache: &Divided, key: u64, flags: &AtomicU64) -> bool {
-    let mut callback = |_: &u64, _: &mut u64| -> EntryAction<bool> {
+    let callback = |_: &u64, _: &mut u64| -> EntryAction<bool> {
         EntryAction::Retain(raise_and_meet(flags))
     };
-    let acted = cache.entry(rt, &key, None, &mut callback);
+    let acted = cache.entry(rt, &key, None, callback);
     matches!(acted, EntryResult::Retained(true))
 }
 
@@ -59,8 +59,8 @@ fn callbacks_of_two_shards_overlap(rt: HostRuntime) {
 /// What an entry call tells that waits for a millisecond at most, and keeps what it finds: nothing
 /// where its time was over, and 0 where it is told something else.
 fn found_in_time<R: Wait + Clock>(rt: &R, cache: &Numbers) -> Option<u64> {
-    let mut keeps = |_: &u64, value: &mut u64| -> EntryAction<u64> { EntryAction::Retain(*value) };
-    match cache.entry(rt, &1, Some(Duration::from_millis(1)), &mut keeps) {
+    let keeps = |_: &u64, value: &mut u64| -> EntryAction<u64> { EntryAction::Retain(*value) };
+    match cache.entry(rt, &1, Some(Duration::from_millis(1)), keeps) {
         EntryResult::Retained(value) => Some(value),
         EntryResult::Timeout => None,
         _ => Some(0),

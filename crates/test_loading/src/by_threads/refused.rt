@@ -27,14 +27,14 @@ fn a_refused_replace_leaves_what_the_callback_wrote(rt: HostRuntime) {
     let ration = Rationed::new(rt.alloc(), 1000);
     let cache: RationedCache<'_> = expect_ok!(rt; Cache::new(&ration, 100));
     expect_eq!(rt; cache.insert(&rt, 1, 10), Ok(()));
-    let mut replaces = |_: &u64, value: &mut u64| -> EntryAction<u64> {
+    let replaces = |_: &u64, value: &mut u64| -> EntryAction<u64> {
         *value = 11;
         EntryAction::ReplaceWithGuard
     };
     let mut refused = 0u64;
     for blocks in 0..20 {
         ration.allow(blocks);
-        match cache.entry(&rt, &1, None, &mut replaces) {
+        match cache.entry(&rt, &1, None, replaces) {
             EntryResult::Refused(Refusal::Memory) => refused = refused.saturating_add(1),
             EntryResult::Replaced(_, 11) => break,
             _ => panic!(rt; "the item was there"),
@@ -59,7 +59,7 @@ fn a_hit_asks_for_no_memory(rt: HostRuntime) {
 
 /// Appends to the text under a key, or clears it where there is nothing to append, and keeps it.
 fn writes<R: Wait + Clock>(rt: &R, cache: &Texts, key: u64, more: &str) -> bool {
-    let mut callback = |_: &u64, text: &mut String| -> EntryAction<bool> {
+    let callback = |_: &u64, text: &mut String| -> EntryAction<bool> {
         if more.is_empty() {
             text.clear();
             return EntryAction::Retain(true);
@@ -67,7 +67,7 @@ fn writes<R: Wait + Clock>(rt: &R, cache: &Texts, key: u64, more: &str) -> bool 
         EntryAction::Retain(text.push_str(more).is_ok())
     };
     matches!(
-        cache.entry(rt, &key, None, &mut callback),
+        cache.entry(rt, &key, None, callback),
         EntryResult::Retained(true)
     )
 }
@@ -84,8 +84,8 @@ fn an_entry_is_weighed_anew(rt: HostRuntime) {
         expect!(rt; writes(&rt, &cache, 1, more));
         assert_eq!(rt; cache.weight(&rt), weight, "{more}");
     }
-    let mut goes = |_: &u64, _: &mut String| -> EntryAction<u64> { EntryAction::Remove };
-    let gone = cache.entry(&rt, &2, None, &mut goes);
+    let goes = |_: &u64, _: &mut String| -> EntryAction<u64> { EntryAction::Remove };
+    let gone = cache.entry(&rt, &2, None, goes);
     expect!(rt; matches!(gone, EntryResult::Removed(2, _)));
     expect_eq!(rt; (cache.weight(&rt), cache.len(&rt)), (0, 1));
 }

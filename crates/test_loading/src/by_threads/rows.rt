@@ -126,8 +126,8 @@ fn one_of_two_threads_loads_what_a_third_gave_up(rt: HostRuntime) {
     expect_eq!(rt; cache.misses(rt), 1);
     let text = expect_ok!(rt; format!(in rt.alloc(); "{guard:?}"));
     expect_eq!(rt; text.as_str(), "PlaceholderGuard { .. }");
-    let mut keeps = |_: &u64, _: &mut u64| -> EntryAction<u64> { EntryAction::Retain(0) };
-    let timed = cache.entry(rt, &1, Some(Duration::from_millis(0)), &mut keeps);
+    let keeps = |_: &u64, _: &mut u64| -> EntryAction<u64> { EntryAction::Retain(0) };
+    let timed = cache.entry(rt, &1, Some(Duration::from_millis(0)), keeps);
     expect!(rt; matches!(timed, EntryResult::Timeout));
     expect_eq!(rt; outcome(rt, cache, 1, Some(2)), 300);
     // One miss for the placeholder, and a hit for each time that it was met.

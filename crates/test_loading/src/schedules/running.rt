@@ -119,8 +119,8 @@ impl<'a, R: Wait + Clock + RandomSource + AllocGlobal> Running<'a, R> {
 
     fn act(&mut self, key: u64, millis: u64) -> Result<Told, Fail> {
         let limit = Some(Duration::from_millis(millis));
-        let mut callback = |_: &u64, value: &mut u64| chosen(value);
-        let answer = self.cache.entry(self.rt, &key, limit, &mut callback);
+        let callback = |_: &u64, value: &mut u64| chosen(value);
+        let answer = self.cache.entry(self.rt, &key, limit, callback);
         self.acted(answer)
     }
 

@@ -73,7 +73,7 @@ impl<'c, 'a, R: Wait + Clock> Stage<'c, 'a, R> {
     pub(crate) fn entry(&mut self, key: u64, step: Step) -> Result<Outcome, Fail> {
         let limit = Some(Duration::from_millis(1));
         let key = self.key(key)?;
-        let mut callback = |_: &Slip<'_>, value: &mut Slip<'_>| match step {
+        let callback = |_: &Slip<'_>, value: &mut Slip<'_>| match step {
             Step::EntryRemove(_) => EntryAction::Remove,
             Step::EntryReplace(_) => EntryAction::ReplaceWithGuard,
             Step::Entry(_, more) => {
@@ -82,7 +82,7 @@ impl<'c, 'a, R: Wait + Clock> Stage<'c, 'a, R> {
             }
             _ => EntryAction::Retain(value.number),
         };
-        let answer = self.cache.entry(self.rt, key, limit, &mut callback);
+        let answer = self.cache.entry(self.rt, key, limit, callback);
         self.entered(answer)
     }
 

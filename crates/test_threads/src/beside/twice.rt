@@ -100,8 +100,8 @@ pub fn double_or_load<R: Wait + Clock>(rt: &R, cache: &DoubleCache, number: u32)
 pub fn take_double<R: Wait + Clock>(rt: &R, cache: &DoubleCache, number: u64) -> Option<u64>
     ensures { IfSome result (λ double. double ≡ 2 * number) }
 {
-    let mut goes = |_: &u64, _: &mut u64| -> EntryAction<()> { EntryAction::Remove };
-    match cache.entry(rt, &number, None, &mut goes) {
+    let goes = |_: &u64, _: &mut u64| -> EntryAction<()> { EntryAction::Remove };
+    match cache.entry(rt, &number, None, goes) {
         EntryResult::Removed(_, double) => Some(double),
         EntryResult::Replaced(_, double) => Some(double),
         EntryResult::Retained(()) => None,
@@ -115,10 +115,8 @@ pub fn take_double<R: Wait + Clock>(rt: &R, cache: &DoubleCache, number: u64) ->
 pub fn seen_double<R: Wait + Clock>(rt: &R, cache: &DoubleCache, number: u64) -> Option<u64>
     ensures { IfSome result (λ double. double ≡ 2 * number) }
 {
-    let mut keeps = |_: &u64, double: &mut u64| -> EntryAction<u64> {
-        EntryAction::Retain(*double)
-    };
-    match cache.entry(rt, &number, None, &mut keeps) {
+    let keeps = |_: &u64, double: &mut u64| -> EntryAction<u64> { EntryAction::Retain(*double) };
+    match cache.entry(rt, &number, None, keeps) {
         EntryResult::Retained(double) => Some(double),
         EntryResult::Removed(_, _) => None,
         EntryResult::Replaced(_, _) => None,

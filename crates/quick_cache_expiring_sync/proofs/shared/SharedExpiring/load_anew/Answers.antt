@@ -13,4 +13,4 @@ returns-in-Retained-Ok-clause-gives g c =
     (sym c.in-Retained-Ok.value-is)
     (inl (FitsAt-told _ g.L.Lifecycle.fits (g.Q.Equivalent.equivalent c.args.query.now) _
     c.args.now g.V.Clone.is_clone c.requires.clones _ told c.in-Retained-Ok.value
-    told.called.called.met.1.0 c.in-Retained-Ok.field-0-is))
+    told.called.called.1 c.in-Retained-Ok.field-0-is))

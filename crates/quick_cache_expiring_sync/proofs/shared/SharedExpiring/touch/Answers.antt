@@ -9,11 +9,11 @@ returns-clause-lived g c = elim c.match-entry.branch [
   | in-Retained+then-not-renewed w ↦
       let told = w.in-Retained.ensures.told in
       rw w.result-is (HasLived-told _ g.L.Lifecycle.fits (g.Q.Equivalent.equivalent c.args.query.now) _
-      c.args.now _ w.in-Retained.renewed told told.called.called.met.0)
+      c.args.now _ w.in-Retained.renewed told told.called.called)
   | in-Retained+else-not-renewed w ↦
       let told = w.in-Retained.ensures.told in
       rw w.result-is (HasLived-told _ g.L.Lifecycle.fits (g.Q.Equivalent.equivalent c.args.query.now) _
-      c.args.now _ w.in-Retained.renewed told told.called.called.met.0)
+      c.args.now _ w.in-Retained.renewed told told.called.called)
   | in-Refused w ↦ rw w.result-is tt
   | in_default w ↦ rw w.result-is (λ so. let never : false ≡ true = so in absurd cc)
 ]

@@ -1,6 +1,14 @@
 use Rattle.quick_cache_locked.proofs.EntryFits.{AnswersEntry-fits, AnswersEntry-chosen, AnswersEntry-gives, AnswersEntry-tells, AnswersEntry-uncalled}
+use Rattle.quick_cache_locked.proofs.FitWrites.{IsItemAt-fits}
 use Rattle.quick_cache_locked.proofs.LoadLemmas.{AnswersEntry-refusal}
 use Rattle.quick_cache_locked.proofs.locked.LockedShard.act_on.Goals as goal
+
+-- the value of the item under the query fits its key
+pub entry_or_placeholder-requires-clause-callable : goal.entry_or_placeholder-requires-clause-callable
+entry_or_placeholder-requires-clause-callable g c = λ place before item after there.
+    c.requires.callable item.key item.value there.passes
+    (IsItemAt-fits g.L.Lifecycle.fits (g.Q.Equivalent.equivalent c.args.query.now)
+    c.self.inside.shard.state place before item after there c.self.invariant)
 
 -- what the callback leaves fits, and the other values stay as they were
 pub invariant_of-self : goal.invariant_of-self

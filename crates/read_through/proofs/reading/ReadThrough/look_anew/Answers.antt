@@ -8,7 +8,7 @@ use Rattle.read_through.proofs.reading.ReadThrough.look_anew.Goals as goal
 pub returns-in-Retained-Ok-clause-fresh : goal.returns-in-Retained-Ok-clause-fresh
 returns-in-Retained-Ok-clause-fresh g c =
     let told = c.in-Retained-Ok.ensures.told in
-    let met = told.called.called.met in
+    let met = told.called.called in
     let shown = told.called.shown.now in
     let clone = c.in-Retained-Ok.value in
     let serves = subst

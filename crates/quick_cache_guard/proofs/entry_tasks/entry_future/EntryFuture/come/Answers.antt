@@ -1,4 +1,5 @@
 use Rattle.std.proofs.Common.{◌≡◌, sym, ◌∙◌, rules}
+use Rattle.quick_cache_guard.specs.Acts.{LeavesHeld}
 use Rattle.quick_cache_guard.specs.Entries.{AnswersAsChosen}
 use Rattle.quick_cache_guard.proofs.entry_tasks.Polls.{IfReady-map}
 use Rattle.quick_cache_guard.proofs.entry_tasks.Timely.{IfActed-given, holds-given}
@@ -7,7 +8,8 @@ use Rattle.quick_cache_guard.proofs.entry_tasks.entry_future.EntryFuture.come.Go
 pub come-requires-clause-callable : goal.come-requires-clause-callable
 come-requires-clause-callable g c =
     let same : c.args.self.now.callback ≡ c.self.inside.callback = search rules in
-    rw same at c.requires.callable
+    let query : c.args.self.now.query ≡ c.self.inside.query.now = search rules in
+    rw (same, query) at c.requires.callable
 
 pub come-requires-clause-leaves : goal.come-requires-clause-leaves
 come-requires-clause-leaves g c =
@@ -31,7 +33,7 @@ returns-in-Err-clause-chosen g c =
     let after : c.come.new.callback ≡ c.give.new.self.callback = search rules in
     IfReady-map c.give.result _ _
     (λ output given. rw after at (rw query at (rw same at (holds-given
-    (λ answer. AnswersAsChosen g.F.FnMut g.L.Lifecycle.fits
-    (g.Q.Equivalent.equivalent c.self.inside.query.now) c.self.inside.callback answer
-    c.come.new.callback) c.in-Err.told output (sym c.in_time.ensures ∙ given)
-    c.in-Err.ensures.chosen)))) c.give.ensures.given
+    (λ answer. AnswersAsChosen (LeavesHeld g.F.FnOnce c.self.inside.callback)
+    g.L.Lifecycle.fits (g.Q.Equivalent.equivalent c.self.inside.query.now)
+    (c.come.new.callback ≡ c.self.inside.callback) answer) c.in-Err.told output
+    (sym c.in_time.ensures ∙ given) c.in-Err.ensures.chosen)))) c.give.ensures.given

@@ -5,12 +5,13 @@ use Rattle.quick_cache_guard.proofs.entry_tasks.entry_future.EntryFutureFuture.p
 pub go_on-requires-clause-leaves : goal.go_on-requires-clause-leaves
 go_on-requires-clause-leaves g c = λ goes_on. (c.requires goes_on).1
 
--- the callback was not called yet
+-- the callback was not called yet, and the query stays
 pub returns-clause-again : goal.returns-clause-again
 returns-clause-again g c =
     OnPending-both c.go_on.result (c.go_on.new.self.callback ≡ c.args.self.now.callback)
     (c.go_on.new.self.is_finished ≡ c.args.self.now.is_finished) _
-    (λ callback finished goes_on. rw callback (c.requires (sym finished ∙ goes_on)))
+    (λ callback finished goes_on. rw (callback, c.go_on.ensures.query)
+    (c.requires (sym finished ∙ goes_on)))
     c.go_on.ensures.uncalled c.go_on.ensures.goes_on
 
 -- query and callback stay, and with them what may be given
