@@ -33,7 +33,8 @@ pub trait EntryShard<K: Eq + Hash + Drop, V: Clone, L: Lifecycle<K, V>, A: Alloc
         requires stands { (key : K) → Q.to_key_gives query.now key
             → Q.equivalent query.now key ≡ true }
         // The callback is callable at values that fit, and has to be at no others.
-        requires callable { IsSomeAnd callback.old (MayAct F.FnOnce L.fits (Q.equivalent query.now)) }
+        requires callable { IsSomeAnd callback.old
+            (MayAct F.FnOnce L.fits (Q.equivalent query.now)) }
         requires leaves { LeavesFit (LeavesHeld F.FnOnce callback.old) L.fits }
         ensures fits { IfGone result (λ value. FitsQuery L.fits (Q.equivalent query.now) value) }
         ensures tells { IfKept result (λ told. MayTell (LeavesHeld F.FnOnce callback.old) L.fits

@@ -1,5 +1,5 @@
 //! The entry call, for a task.
-ghost use Rattle.std.specs.Prelude.{◌≡◌, ◌⊎◌, true, false, Some, None, IfSome, IsSomeAnd};
+ghost use Rattle.std.specs.Prelude.{◌≡◌, ◌⊎◌, ⊤, true, false, Some, None, IfSome, IsSomeAnd};
 ghost use Rattle.futures.specs.Poll.{IfReady, OnPending};
 ghost use Rattle.futures.specs.Task.{Covers, Keeps};
 ghost use Rattle.quick_cache_loading.specs.Fitting.{FitsQuery};
@@ -60,7 +60,7 @@ impl<
     F: Drop,
     A: Allocator,
 > Model for EntryFuture<'a, 'q, Q, K, V, L, S, R, T, F, A> {
-    ghost use Rattle.std.specs.Prelude.{◌≡◌, true, false, IfSome};
+    ghost use Rattle.std.specs.Prelude.{◌≡◌, true, false, IfSome, IsSome};
     ghost use Rattle.quick_cache_guard.specs.Entering.{EntryState};
 
     ghost Value = { EntryState Q F };
@@ -75,7 +75,8 @@ impl<
     ghost invariant = { λ f. ((key : K) → Q.to_key_gives f.query.now key
         → Q.equivalent f.query.now key ≡ true)
         × IfSome f.joining (λ joining. (joining.query ≡ f.query.now)
-        × (joining.is_finished ≡ false)) };
+        × (joining.is_finished ≡ false))
+        × (f.is_finished ≡ false → IsSome f.callback) };
 }
 
 impl<
@@ -115,11 +116,10 @@ impl<
         &mut self,
         cx: &mut Context<'_>,
     ) -> Poll<EntryResult<T, K, V, PlaceholderGuard<'a, K, V, L, S, R, A>>>
-        requires callable { self.old.is_finished ≡ false → IsSomeAnd self.old.callback
-            (MayAct F.FnOnce L.fits (Q.equivalent self.old.query)) }
+        requires callable { (callback : F) → self.old.callback ≡ Some callback
+            → MayAct F.FnOnce L.fits (Q.equivalent self.old.query) callback }
         // What the callback leaves fits.
-        requires leaves { self.old.is_finished ≡ false
-            → LeavesFit (LeavesHeld F.FnOnce self.old.callback) L.fits }
+        requires leaves { LeavesFit (LeavesHeld F.FnOnce self.old.callback) L.fits }
         ensures value { IfReady result (λ output. IfActed
             (λ value. FitsQuery L.fits (Q.equivalent self.old.query) value)
             (λ told. MayTell (LeavesHeld F.FnOnce self.old.callback) L.fits
@@ -255,7 +255,7 @@ impl<
             false,
         ) {
             Ok(waiting) => self.join(waiting, cx),
-            Err(told) => self.give(in_time(told), cx),
+            Err(told) => give(&mut self.is_finished, in_time(told), cx),
         }
     }
 
@@ -286,33 +286,26 @@ impl<
         let joining = JoinFuture::waiting(self.rt, self.shard, self.query, waiting);
         match self.wait(joining, cx) {
             Poll::Pending => Poll::Pending,
-            Poll::Ready(told) => self.give(told, cx),
+            Poll::Ready(told) => give(&mut self.is_finished, told, cx),
         }
     }
+}
 
-    /// Gives its answer, the only one. One who has to look again is polled again.
-    fn give(
-        &mut self,
-        told: Option<EntryResult<T, K, V, PlaceholderGuard<'a, K, V, L, S, R, A>>>,
-        cx: &mut Context<'_>,
-    ) -> Poll<EntryResult<T, K, V, PlaceholderGuard<'a, K, V, L, S, R, A>>>
-        ensures given { IfReady result (λ output. told.entry ≡ Some output) }
-        ensures again { OnPending result (told.entry ≡ None) }
-        ensures callback { self.new.callback ≡ self.old.callback }
-        ensures finished { IfReady result (λ output. self.new ≡ record self.old {
-          is_finished = true;
-        }) }
-        ensures same { OnPending result (self.new ≡ self.old) }
-        ensures woken { OnPending result (cx.new.is_woken ≡ true) }
-        ensures registered { OnPending result (Covers cx.new (WaitsFor self.new)) }
-        ensures kept { Keeps cx.old cx.new }
-    {
-        let Some(answer) = told else {
-            return cx.yield_now();
-        };
-        self.is_finished = true;
-        Poll::Ready(answer)
-    }
+/// Gives an answer, the only one. One who has to look again is polled again.
+fn give<E>(is_finished: &mut bool, told: Option<E>, cx: &mut Context<'_>) -> Poll<E>
+    ensures given { IfReady result (λ output. told ≡ Some output) }
+    ensures again { OnPending result (told ≡ None) }
+    ensures finished { IfReady result (λ output. is_finished.new ≡ true) }
+    ensures same { OnPending result (is_finished.new ≡ is_finished.old) }
+    ensures woken { OnPending result (cx.new.is_woken ≡ true) }
+    ensures registered { OnPending result (Covers cx.new (λ source. ⊤)) }
+    ensures kept { Keeps cx.old cx.new }
+{
+    let Some(answer) = told else {
+        return cx.yield_now();
+    };
+    *is_finished = true;
+    Poll::Ready(answer)
 }
 
 /// An answer that came in time. One who has no time limit looks again where it would be too late.
@@ -347,9 +340,9 @@ impl<
 > Future for EntryFuture<'a, 'q, Q, K, V, L, S, R, T, F, A> {
     type Output = EntryResult<T, K, V, PlaceholderGuard<'a, K, V, L, S, R, A>>;
 
-    // Until it has answered, its callback may be called, and what that leaves fits.
-    ghost can_poll = { λ f. f.is_finished ≡ false
-        → IsSomeAnd f.callback (MayAct F.FnOnce L.fits (Q.equivalent f.query))
+    // A callback that it holds may be called, and what that leaves fits.
+    ghost can_poll = { λ f. ((callback : F) → f.callback ≡ Some callback
+        → MayAct F.FnOnce L.fits (Q.equivalent f.query) callback)
         × LeavesFit (LeavesHeld F.FnOnce f.callback) L.fits };
 
     // Once it waits, the source of its placeholder.
