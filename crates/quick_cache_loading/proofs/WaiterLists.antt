@@ -21,7 +21,7 @@ has-push n (w ∷ ws) m = rw (has-push n ws m) (by_cases (w == n) (has n ws) (m 
   by_cases true b c = refl
   by_cases false b c = refl
 
-is_distinct-push : (ws : List ℕ) (m : ℕ)
+pub is_distinct-push : (ws : List ℕ) (m : ℕ)
     → is_distinct (ws ++ m ∷ []) ≡ (not (has m ws) && is_distinct ws)
 is_distinct-push [] m = refl
 is_distinct-push (w ∷ ws) m =

@@ -126,7 +126,7 @@ module _ {V : Type 0} (shows : V → V → Type 0) (stands : Bool) (n : ℕ) whe
       once-unshown looks.answer told
       (looked-unshown old.life old looks.answer new unfilled looks.step) looks.tells
   Enters-unshown _ old _ _ unfilled (Enters.lacks_room over create) = tt
-  Enters-unshown _ old _ _ unfilled (Enters.all_spent spent create) = tt
+  Enters-unshown _ old _ _ unfilled (Enters.all_spent spent over create) = tt
 
 -- a place is not told of
 pub by_number-unshown : {V : Type 0} (told : Result Place (Waited V)) → ShowsNone (by_number told)
