@@ -1,12 +1,12 @@
 -- What is seen of a key, and a replace where no item stands.
-use Rattle.std.proofs.Common.{◌≡◌, ℕ, ◌<◌, ◌≤◌, Bool, true, false, List, ◌∷◌, ◌++◌, length, length-append, map, Option, Some, None, Result, Ok, Err, IfOk, IsSome, IsTrue, refl, ap, subst, ◌∙◌, arith}
+use Rattle.std.proofs.Common.{◌≡◌, ℕ, ◌≤◌, Bool, true, false, List, ◌++◌, length, length-append, map, Option, Some, None, Result, Ok, Err, IfOk, IsSome, IsTrue, refl, ap, subst, ◌∙◌, arith}
 use Rattle.std.specs.Bool.{OnTrue, OnFalse}
 use Rattle.std.proofs.lemmas.List.{length-map}
 use Rattle.std.proofs.lemmas.List.Elements.{length_all_zip}
 use Rattle.std.proofs.lemmas.List.Sorted.{length_permutation}
-use Rattle.quick_cache_model.specs.CacheState.{CacheState, Item, Place, InHot, InCold, InStill, item_count, keys_by, SameButOrder}
+use Rattle.quick_cache_model.specs.CacheState.{CacheState, item_count, keys_by, SameButOrder}
 use Rattle.quick_cache_model.specs.Admission.{Admission, Admitted, TooHeavy, ChecksAdmission}
-use Rattle.quick_cache_model.specs.Finding.{IsItemAt, HasNoItem}
+use Rattle.quick_cache_model.specs.Finding.{HasNoItem}
 use Rattle.quick_cache_model.specs.Hooks.{Rules, Hooks, HookCall, RunsHooks}
 use Rattle.quick_cache_model.specs.Writes.{Strategy, Insert, IsReplace, Writes, WritesAdmitted, RejectsTooHeavy, TakesOutItem}
 use Rattle.quick_cache_model.proofs.LookupLaws.{not_both}
@@ -18,17 +18,6 @@ use Rattle.quick_cache_model.specs.Lookups.{Sees}
 use Rattle.quick_cache_model.specs.Removal.{pair_of}
 
 module _ {K V : Type 0} (test : K → Bool) (state : CacheState K V) where
-  -- an item that is there is counted
-  pub item-counts : (place : Place) (before : List (Item K V)) (item : Item K V)
-      (after : List (Item K V)) → IsItemAt test state place before item after
-      → 0 < item_count state
-  item-counts InHot before item after at =
-      omega (arith, ap length at.split, length-append before (item ∷ after))
-  item-counts InCold before item after at =
-      omega (arith, ap length at.split, length-append before (item ∷ after))
-  item-counts InStill before item after at =
-      omega (arith, ap length at.split, length-append before (item ∷ after))
-
   -- a key that is told to be there shows a value, and no other does
   pub asked-alike : keys_by test state ≤ 1 → (there : Bool) (shown : Option V)
       → OnTrue there (HasItem test state) → OnFalse there (HasNoItem test state)

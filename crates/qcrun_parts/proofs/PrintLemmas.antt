@@ -28,11 +28,6 @@ pub record HasPrinted (old now : Option (List ℕ)) (all left : List ℕ) : Type
   pub appended : Appends old now printed
   pub splits : all ≡ printed ++ left
 
--- before the first part
-pub HasPrinted-none : (old : Option (List ℕ)) (all : List ℕ) → HasPrinted old old all all
-HasPrinted-none old all =
-    record { printed = []; appended = Appends-nothing old; splits = refl }
-
 -- one part more
 pub HasPrinted-more : (old mid now : Option (List ℕ)) (all left part rest : List ℕ)
     → HasPrinted old mid all left → left ≡ part ++ rest → Appends mid now part

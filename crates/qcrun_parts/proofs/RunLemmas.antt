@@ -19,7 +19,7 @@ use Rattle.qcrun_parts.specs.declared.serving.Ending.{Ending}
 use Rattle.qcrun_parts.specs.declared.serving.Ending.TheVariants.{BadLine}
 use Rattle.qcrun_parts.specs.Sessions.{ServesCommand}
 use Rattle.qcrun_parts.specs.Runs.{ServesLine, ServesText, ServesKnown, PrintsLine, bad_line, status_of}
-use Rattle.qcrun_parts.proofs.PrintLemmas.{Appends-nothing, Appends-both}
+use Rattle.qcrun_parts.proofs.PrintLemmas.{Appends-both}
 
 err_is_not_ok : {X E : Type 0} (error : E) (value : X) → Err error ≡ Ok value → ⊥
 err_is_not_ok error value is = cc
@@ -123,18 +123,6 @@ module _ {S : Type 0} (serves_line : S → List ℕ → Bool → S → List ℕ 
   Serving first None before number now left after = ⊤
   Serving first (Some text) before number now left after =
       IsServing first text before number now left after
-
-  -- before the first line
-  pub Serving-first : (first : S) (text before left : Option (List ℕ)) → left ≡ text
-      → Serving first text before 1 first left before
-  Serving-first first None before left is = tt
-  Serving-first first (Some text) before left is = record {
-    rest = text;
-    printed = [];
-    known = is;
-    appended = Appends-nothing before;
-    goes = λ status more serves. serves;
-  }
 
   -- one line more
   pub Serving-more : (first : S) (text before : Option (List ℕ)) (number : ℕ) (old mid : S)

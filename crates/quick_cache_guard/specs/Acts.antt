@@ -7,7 +7,6 @@ use Rattle.quick_cache_model.specs.declared.calls.entry.EntryAction.{EntryAction
 use Rattle.quick_cache_model.specs.declared.calls.entry.EntryAction.TheVariants.{Retain as retain, Remove as remove, ReplaceWithGuard as replace}
 use Rattle.quick_cache_model.specs.declared.calls.entry.EntryOrPlaceholder.{EntryOrPlaceholder}
 use Rattle.quick_cache_model.specs.declared.calls.entry.EntryOrPlaceholder.TheVariants.{Kept as kept, Removed as removed, Replaced as replaced, ExistingPlaceholder as existing, NewPlaceholder as new_one}
-use Rattle.quick_cache_model.specs.Callbacks.{Leaves}
 
 module _ {F K V T : Type 0}
     (calls : Once F (Bor K × (MutBor V × Unit {0})) (EntryAction T × (MutBor V × Unit {0}))) where

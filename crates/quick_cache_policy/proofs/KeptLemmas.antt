@@ -209,16 +209,6 @@ module _ {K V : Type 0} (test : K → Bool) where
   unfolding one_for
   HasVictimFirst-keys = HasVictimFirst-sum one_for one_for-mark
 
-  -- the middle of a round
-  pub Going-keys : (steady : Type 0) (pinned : K → V → Bool) (takes_touches : Bool) (cut : ℕ)
-      (may_count : ℕ → Type 0) (old : List (Item K V)) (visited : ℕ) (unpinned : Bool)
-      (now : List (Item K V))
-      → Going steady pinned takes_touches cut may_count old visited unpinned now
-      → keys test now ≡ keys test old
-  unfolding one_for
-  Going-keys steady pinned takes_touches cut =
-      Going-sum one_for one_for-mark cut (one_for-touched cut) steady pinned takes_touches
-
 -- The weights.
 module _ {K V : Type 0} where
   -- the weight of an item
@@ -256,17 +246,6 @@ module _ {K V : Type 0} where
       → weight_of new ≡ weight_of old
   unfolding weight_alone
   HasVictimFirst-weight = HasVictimFirst-sum weight_alone weight_alone-mark
-
-  -- the middle of a round
-  pub Going-weight : (steady : Type 0) (pinned : K → V → Bool) (takes_touches : Bool) (cut : ℕ)
-      (may_count : ℕ → Type 0) (old : List (Item K V)) (visited : ℕ) (unpinned : Bool)
-      (now : List (Item K V))
-      → Going steady pinned takes_touches cut may_count old visited unpinned now
-      → weight_of now ≡ weight_of old
-  unfolding weight_alone
-  Going-weight steady pinned takes_touches cut =
-      Going-sum weight_alone weight_alone-mark cut (weight_alone-touched cut) steady pinned
-      takes_touches
 
 -- The pairs: marks change none, and a turn is another order.
 module _ {K V : Type 0} where

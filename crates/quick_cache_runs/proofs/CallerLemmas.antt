@@ -54,20 +54,6 @@ module _ {K V F : Type 0} where
   load_meets is (Reserve additional) = tt
   load_meets is Clear = tt
 
-  -- and so of all
-  pub loads_meet : {P : Type 0} → P → (calls : List (Call K V F)) → All (IfLoads P) calls
-  loads_meet {P} is [] = All-nil (IfLoads P)
-  loads_meet {P} is (call ∷ calls) =
-      All-cons (IfLoads P) call calls (load_meets is call) (loads_meet is calls)
-
-  -- and of all that are asked
-  pub predicates_meet : (P : F → Type 0) → ((asked : F) → P asked) → (calls : List (Call K V F))
-      → All (IfAsks P) calls
-  predicates_meet P is [] = All-nil (IfAsks P)
-  predicates_meet P is (call ∷ calls) =
-      All-cons (IfAsks P) call calls (asked_meets P is (predicate_of call))
-      (predicates_meet P is calls)
-
   -- where no predicate is asked, anything holds of those that are
   pub none_asked : (P : F → Type 0) (calls : List (Call K V F)) → All (IfAsks (λ asked. ⊥)) calls
       → All (IfAsks P) calls

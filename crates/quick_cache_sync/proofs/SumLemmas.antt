@@ -1,5 +1,5 @@
 -- Sums over the shards that were asked so far.
-use Rattle.std.proofs.Common.{◌≡◌, ℕ, ◌+◌, ◌-◌, ◌^◌, Bool, [], ◌∷◌, min, refl, arith}
+use Rattle.std.proofs.Common.{◌≡◌, ℕ, ◌+◌, ◌-◌, ◌^◌, Bool, ◌∷◌, min, arith}
 use Rattle.std.proofs.lemmas.List.Sums.{sum_by-cons}
 use Rattle.quick_cache_model.specs.declared.terms.lifecycle.Lifecycle as lifecycle
 use Rattle.quick_cache_shard.specs.Shard.{Shard}
@@ -8,10 +8,6 @@ use Rattle.quick_cache_sync.specs.Sums.{AddsUp}
 
 module _ {K V We B L S : Type 0} (life : lifecycle.Ghosts L K V S) (equal : K → K → Bool)
     (answers : Shard K V We B L → ℕ → Type 0) where
-  -- no shard was asked
-  pub AddsUp-none : AddsUp life equal answers 0 0
-  AddsUp-none = record { numbers = []; one_each = refl; each = tt; adds = omega arith }
-
   -- one more was asked
   pub AddsUp-more : (shards total number next : ℕ) → AddsUp life equal answers shards total
       → FromSome life equal (λ shard. answers shard number)

@@ -50,15 +50,6 @@ module _ {V E : Type 0} where
 
 module _ {K V : Type 0} (gives : K → ℕ → V → Type 0) (equal : K → K → Bool)
     (laws : IsEquivalence equal) where
-  -- what the source gives for a key is its value for each key that is equal
-  pub IsOf-equal : (asked key : K) (moment : ℕ) (value : V) → IsTrue (equal key asked)
-      → gives key moment value → IsOf gives equal asked moment value
-  IsOf-equal asked key moment value same gave = record {
-    key = key;
-    same = laws.symm asked key ∙ same;
-    gave = gave;
-  }
-
   -- and its value for one is its value for an equal one
   pub IsOf-same : (asked key : K) (moment : ℕ) (value : V) → IsTrue (equal asked key)
       → IsOf gives equal key moment value → IsOf gives equal asked moment value

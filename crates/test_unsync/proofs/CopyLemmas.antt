@@ -1,5 +1,5 @@
 -- A copy of numbers is the very state.
-use Rattle.std.proofs.Common.{◌≡◌, List, [], ◌∷◌, Result, Ok, Err, IfOk, refl, ◌∙◌}
+use Rattle.std.proofs.Common.{◌≡◌, List, [], ◌∷◌, refl, ◌∙◌}
 use Rattle.std.specs.List.{AllZip}
 use Rattle.quick_cache_model.specs.CacheState.{CacheState, Item, LoadingEntry}
 use Rattle.quick_cache_store.specs.ListCopies.{IsItemCopy}
@@ -40,11 +40,3 @@ module _ {K V : Type 0} (clones_key : K → K → Type 0) (clones_value : V → 
         still = items-same state.still copy.still is.still i;
         loading = loading-same state.loading copy.loading is.loading i;
       })
-
-  -- so is one that was made
-  pub copies-exactly : {C E : Type 0} (state_of : C → CacheState K V) (state : CacheState K V)
-      (result : Result C E)
-      → IfOk result (λ copy. IsCopyOf clones_key clones_value state (state_of copy))
-      → IfOk result (λ copy. state_of copy ≡ state)
-  copies-exactly state_of state (Ok copy) is = IsCopyOf-exact state (state_of copy) is
-  copies-exactly state_of state (Err refusal) is = is

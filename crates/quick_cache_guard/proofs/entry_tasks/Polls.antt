@@ -9,12 +9,6 @@ pub OnPending-map : {A : Type 0} (polled : Poll A) (P Q : Type 0) → (P → Q) 
 OnPending-map (Ready x) P Q go given = tt
 OnPending-map Pending P Q go given = go given
 
--- where it is pending, of two facts
-pub OnPending-both : {A : Type 0} (polled : Poll A) (P Q R : Type 0) → (P → Q → R)
-    → OnPending polled P → OnPending polled Q → OnPending polled R
-OnPending-both (Ready x) P Q R go first second = tt
-OnPending-both Pending P Q R go first second = go first second
-
 -- where it is ready
 pub IfReady-map : {A : Type 0} (polled : Poll A) (P Q : A → Type 0) → ((x : A) → P x → Q x)
     → IfReady polled P → IfReady polled Q

@@ -30,10 +30,9 @@ pub returns-in-Err-clause-chosen : goal.returns-in-Err-clause-chosen
 returns-in-Err-clause-chosen g c =
     let same : c.self.inside.callback ≡ c.args.self.now.callback = search rules in
     let query : c.self.inside.query.now ≡ c.args.self.now.query = search rules in
-    let after : c.come.new.callback ≡ c.give.new.self.callback = search rules in
     IfReady-map c.give.result _ _
-    (λ output given. rw after at (rw query at (rw same at (holds-given
+    (λ output given. rw query at (rw same at (holds-given
     (λ answer. AnswersAsChosen (LeavesHeld g.F.FnOnce c.self.inside.callback)
     g.L.Lifecycle.fits (g.Q.Equivalent.equivalent c.self.inside.query.now)
     (c.come.new.callback ≡ c.self.inside.callback) answer) c.in-Err.told output
-    (sym c.in_time.ensures ∙ given) c.in-Err.ensures.chosen)))) c.give.ensures.given
+    (sym c.in_time.ensures ∙ given) c.in-Err.ensures.chosen))) c.give.ensures.given

@@ -1,18 +1,12 @@
-use Rattle.std.proofs.Common.{◌≡◌, sym, ◌∙◌, rules}
-use Rattle.quick_cache_guard.proofs.entry_tasks.Polls.{OnPending-both, OnPending-map}
+use Rattle.std.proofs.Common.{◌≡◌, rules}
+use Rattle.quick_cache_guard.proofs.entry_tasks.Polls.{OnPending-map}
 use Rattle.quick_cache_guard.proofs.entry_tasks.entry_future.EntryFutureFuture.poll.Goals as goal
-
-pub go_on-requires-clause-leaves : goal.go_on-requires-clause-leaves
-go_on-requires-clause-leaves g c = λ goes_on. (c.requires goes_on).1
 
 -- the callback was not called yet, and the query stays
 pub returns-clause-again : goal.returns-clause-again
 returns-clause-again g c =
-    OnPending-both c.go_on.result (c.go_on.new.self.callback ≡ c.args.self.now.callback)
-    (c.go_on.new.self.is_finished ≡ c.args.self.now.is_finished) _
-    (λ callback finished goes_on. rw (callback, c.go_on.ensures.query)
-    (c.requires (sym finished ∙ goes_on)))
-    c.go_on.ensures.uncalled c.go_on.ensures.goes_on
+    OnPending-map c.go_on.result (c.go_on.new.self.callback ≡ c.args.self.now.callback) _
+    (λ callback. rw (callback, c.go_on.ensures.query) c.requires) c.go_on.ensures.uncalled
 
 -- query and callback stay, and with them what may be given
 pub returns-clause-same : goal.returns-clause-same
