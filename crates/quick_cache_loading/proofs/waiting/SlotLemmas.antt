@@ -156,6 +156,14 @@ module _ {V : Type 0} (next : ℕ) where
     absent (Filled v) below = refl
     absent GivenUp below = refl
 
+  -- one who gets a slot and loses it again leaves the others as they were
+  pub slot-back : (slots : List Slot) (life : Life V) (added woken : List Slot)
+      → added ≡ with_slot next slots → woken ≡ slots_of_others next added
+      → HaveSlots slots next life → woken ≡ slots
+  slot-back slots life added woken is_added is_woken have =
+      is_woken ∙ ap (λ s. slots_of_others next s) is_added
+      ∙ others-last next slots (fresh slots life have)
+
   module _ (slots : List Slot) (old : CoreState V) (a : Answer V) (new : CoreState V) where
     pub created : (life : Life V) → old.life ≡ life → Creates life old a new
         → HaveSlots slots next life → HaveSlots slots next new.life

@@ -11,6 +11,6 @@ invariant_of-self-in_default g c =
       search rules,
       search rules,
       rw c.wake_handed.ensures (abandoned c.self.inside.next c.self.inside.tasks
-          c.self.inside.core _ _ c.self.inside.core.life refl sound c.abandon-answer.ensures.step
+          c.self.inside.core c.abandon-answer.result c.abandon-answer.new.core c.self.inside.core.life refl sound c.abandon-answer.ensures.step
           c.self.invariant.3),
     )

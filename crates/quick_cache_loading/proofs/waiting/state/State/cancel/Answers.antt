@@ -20,6 +20,6 @@ invariant_of-self g c =
       search rules,
       search rules,
       search rules,
-      rw slots (cancelled c.self.inside.next c.self.inside.tasks c.self.inside.core _ _ _
+      rw slots (cancelled c.self.inside.next c.self.inside.tasks c.self.inside.core c.cancel-answer.result c.cancel-answer.new.core c.end-waiter.result
           c.self.inside.core.life refl sound c.cancel-answer.ensures.step c.self.invariant.3),
     )

@@ -10,8 +10,8 @@ invariant_of-self g c =
       search rules,
       search rules,
       search rules,
-      rw c.wake.ensures (timed_out c.self.inside.next c.self.inside.tasks c.self.inside.core _ _
-          g.V.Clone.is_clone _ c.self.inside.core.life refl sound c.step-answer.ensures.step
+      rw c.wake.ensures (timed_out c.self.inside.next c.self.inside.tasks c.self.inside.core c.step-answer.result c.step-answer.new.core
+          g.V.Clone.is_clone c.end-waiter.result c.self.inside.core.life refl sound c.step-answer.ensures.step
           c.self.invariant.3),
     )
 
@@ -21,7 +21,7 @@ invariant_of-self-in_default g c =
       search rules,
       search rules,
       search rules,
-      rw c.wake.ensures (timed_out c.self.inside.next c.self.inside.tasks c.self.inside.core _ _
-          g.V.Clone.is_clone _ c.self.inside.core.life refl sound c.step-answer.ensures.step
+      rw c.wake.ensures (timed_out c.self.inside.next c.self.inside.tasks c.self.inside.core c.step-answer.result c.step-answer.new.core
+          g.V.Clone.is_clone c.end-waiter.result c.self.inside.core.life refl sound c.step-answer.ensures.step
           c.self.invariant.3),
     )
