@@ -3,7 +3,7 @@ use Rattle.std.proofs.Common.{◌≡◌, ℕ, ◌==◌, Bool, true, false, not, 
 use Rattle.std.proofs.lemmas.Bool.Decides.{nat_tests}
 use Rattle.quick_cache_loading.proofs.BoolLemmas.{both, not-true, same-number, same-test}
 use Rattle.quick_cache_loading.specs.Waiting.{has, without_waiter, is_distinct}
-use Rattle.quick_cache_loading.specs.Core.{is_handed_to, is_apart, is_loading, is_sound, waiters_of}
+use Rattle.quick_cache_loading.specs.Core.{is_handed_to, is_apart, is_loading, is_sound}
 use Rattle.quick_cache_loading.specs.Stage.{life_of}
 use Rattle.quick_cache_loading.specs.declared.protocol.life.Holder.{Holder}
 use Rattle.quick_cache_loading.specs.declared.protocol.life.Holder.TheVariants.{Held, HandedTo}

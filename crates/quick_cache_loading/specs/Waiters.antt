@@ -1,5 +1,5 @@
 -- What is seen of a placeholder's locked state.
-use Rattle.std.specs.Prelude.{◌≡◌, ℕ, ◌<◌, ◌⊎◌, All, ⊤, Bool, true, false, List, Option, Some, None, Result, Ok, Err}
+use Rattle.std.specs.Prelude.{◌≡◌, ℕ, ◌<◌, All, ⊤, Bool, true, false, List, Option, Some, None, Result, Ok, Err}
 use Rattle.quick_cache_model.specs.declared.refusal.Refusal.{Refusal}
 use Rattle.quick_cache_model.specs.declared.refusal.Refusal.TheVariants as refusal
 use Rattle.quick_cache_model.specs.declared.refusal.Refusal.TheVariants.{Memory}

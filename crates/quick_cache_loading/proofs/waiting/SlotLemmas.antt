@@ -1,5 +1,5 @@
 -- Each who waits has a slot, whatever happens, and all numbers are below the next one's.
-use Rattle.std.proofs.Common.{◌≡◌, ◌==◌, ◌<◌, ◌+◌, ◌&&◌, ◌||◌, ◌⊎◌, not, inl, inr, ℕ, Bool, true, false, List, [], ◌∷◌, ◌++◌, None, Some, MatchBool, All, refl, sym, ◌∙◌, ap, cond, arith, map}
+use Rattle.std.proofs.Common.{◌≡◌, ◌==◌, ◌<◌, ◌+◌, ◌&&◌, ◌||◌, ◌⊎◌, not, inl, inr, ℕ, Bool, true, false, List, [], ◌∷◌, ◌++◌, None, Some, MatchBool, All, refl, sym, ◌∙◌, ap, cond, arith}
 use Rattle.std.proofs.lemmas.Bool.Decides.{nat_tests}
 use Rattle.std.proofs.lemmas.List.{map-append}
 use Rattle.std.proofs.lemmas.List.Elements.{All-nil, All-cons, All-head, All-tail, All-push, All-pop, All-filter, All-weaker}
@@ -14,7 +14,7 @@ use Rattle.quick_cache_loading.specs.Waiting.{has, without_waiter, is_distinct}
 use Rattle.quick_cache_loading.specs.Core.{Life, Loading, Filled, GivenUp, CoreState, core_state, is_handed_to, is_sound, numbers_in, waiters_of}
 use Rattle.quick_cache_loading.specs.LoadingStep.{Abandons, Adds, Cancels, Creates, Fills, Joins, NotNowOf, PassesOn, Receives, Remains, Shows, Takes, TimesOut, Withdraws}
 use Rattle.quick_cache_loading.specs.Tasks.{has_slot, numbers_of, slots_after, slots_of_others, with_slot}
-use Rattle.quick_cache_loading.specs.Waiters.{HaveSlots, has_joined}
+use Rattle.quick_cache_loading.specs.Waiters.{HaveSlots}
 use Rattle.quick_cache_loading.specs.declared.waiting.tasks.Slot.{Slot}
 use Rattle.quick_cache_loading.specs.declared.protocol.life.Holder.{Holder}
 use Rattle.quick_cache_loading.specs.declared.protocol.life.Holder.TheVariants.{Held, HandedTo}
