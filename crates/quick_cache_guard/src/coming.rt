@@ -80,7 +80,6 @@ pub fn come<
     rt: &'a R,
     shard: &'a RwLock<S>,
     query: &Q,
-    is_task: bool,
     is_over: bool,
 ) -> Result<Waiting<K, V, L, A>, Option<GuardResult<V, PlaceholderGuard<'a, K, V, L, S, R, A>>>>
     requires stands { (key : K) → Q.to_key_gives query.now key
@@ -109,7 +108,7 @@ pub fn come<
     let Some(placeholder) = shared.placeholder() else {
         return Err(Some(GuardResult::Refused(Refusal::Memory)));
     };
-    let entered = placeholder.enter(rt, &mut *locked, query, is_task, is_over);
+    let entered = placeholder.enter(rt, &mut *locked, query, is_over);
     drop(locked);
     match entered {
         Ok(place) => Ok(Waiting {
@@ -146,7 +145,7 @@ pub fn come_and_wait<
     ensures refused { IfSome result RefusesAsLoad }
     ensures timely { IfSome result (λ answer. is_timeout answer ≡ false) }
 {
-    match come(rt, shard, query, false, false) {
+    match come(rt, shard, query, false) {
         Ok(
             Waiting {
                 placeholder,
@@ -190,7 +189,7 @@ pub fn come_and_wait_within<
         → none_left turns.new.left ≡ true) }
     ensures counted { is_some turns.new.left ≡ is_some turns.old.left }
 {
-    match come(rt, shard, query, false, turns.is_over()) {
+    match come(rt, shard, query, turns.is_over()) {
         Ok(
             Waiting {
                 placeholder,

@@ -178,7 +178,7 @@ impl<
         }
         match self.waiting.take() {
             Some(waiting) => self.look(waiting, cx),
-            None => match come(self.rt, self.shard, self.query, true, false) {
+            None => match come(self.rt, self.shard, self.query, false) {
                 Ok(waiting) => self.look(waiting, cx),
                 Err(told) => self.give(told, cx),
             },

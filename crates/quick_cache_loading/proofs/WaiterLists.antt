@@ -3,7 +3,7 @@ use Rattle.std.proofs.Common.{◌≡◌, ℕ, ◌==◌, Bool, true, false, not, 
 use Rattle.std.proofs.lemmas.Bool.Decides.{nat_tests}
 use Rattle.quick_cache_loading.proofs.BoolLemmas.{both, not-true, same-number, same-test}
 use Rattle.quick_cache_loading.specs.Waiting.{has, without_waiter, is_distinct}
-use Rattle.quick_cache_loading.specs.Core.{is_handed_to, is_apart, is_loading, is_sound, waiters_of}
+use Rattle.quick_cache_loading.specs.Core.{is_handed_to, is_apart, is_loading, is_sound}
 use Rattle.quick_cache_loading.specs.Stage.{life_of}
 use Rattle.quick_cache_loading.specs.declared.protocol.life.Holder.{Holder}
 use Rattle.quick_cache_loading.specs.declared.protocol.life.Holder.TheVariants.{Held, HandedTo}
@@ -21,7 +21,7 @@ has-push n (w ∷ ws) m = rw (has-push n ws m) (by_cases (w == n) (has n ws) (m 
   by_cases true b c = refl
   by_cases false b c = refl
 
-is_distinct-push : (ws : List ℕ) (m : ℕ)
+pub is_distinct-push : (ws : List ℕ) (m : ℕ)
     → is_distinct (ws ++ m ∷ []) ≡ (not (has m ws) && is_distinct ws)
 is_distinct-push [] m = refl
 is_distinct-push (w ∷ ws) m =

@@ -1,3 +1,4 @@
 pub mod EnterLemmas
+mod SlotLemmas
 mod TaskLemmas
 mod WithdrawalLemmas

@@ -1,5 +1,5 @@
 -- The life of a placeholder, and what a core is seen as.
-use Rattle.std.specs.Prelude.{ℕ, ◌==◌, Bool, true, false, not, ◌&&◌, ◌||◌, List, [], Option, Some, None}
+use Rattle.std.specs.Prelude.{ℕ, ◌==◌, Bool, true, false, not, ◌&&◌, ◌||◌, List, [], ◌∷◌, Option, Some, None}
 use Rattle.quick_cache_loading.specs.Waiting.{has, is_distinct}
 use Rattle.quick_cache_loading.specs.declared.protocol.life.Holder.{Holder}
 use Rattle.quick_cache_loading.specs.declared.protocol.life.Holder.TheVariants.{Held, HandedTo}
@@ -45,6 +45,13 @@ abbrev pub waiters_of : {V : Type 0} → Life V → List ℕ
 waiters_of (Loading holder waiters) = waiters
 waiters_of (Filled v) = []
 waiters_of GivenUp = []
+
+-- all numbers that a life has: of the one to whom the guard was handed, and of those who wait
+abbrev pub numbers_in : {V : Type 0} → Life V → List ℕ
+numbers_in (Loading Held waiters) = waiters
+numbers_in (Loading (HandedTo m) waiters) = m ∷ waiters
+numbers_in (Filled v) = []
+numbers_in GivenUp = []
 
 -- the waiter is in the core's list
 abbrev pub waits : {V : Type 0} → ℕ → CoreState V → Bool

@@ -1,5 +1,5 @@
 -- Those who come to a placeholder.
-use Rattle.std.specs.Prelude.{◌≡◌, ℕ, ◌⊎◌, Bool, true, false, Some, Result, Ok, Err}
+use Rattle.std.specs.Prelude.{◌≡◌, ℕ, Bool, true, false, Some, Result, Ok, Err}
 use Rattle.quick_cache_model.specs.declared.refusal.Refusal.TheVariants.{Memory, TicketsSpent}
 use Rattle.quick_cache_loading.specs.LoadingStep.{LoadingStep}
 use Rattle.quick_cache_loading.specs.Core.{CoreState}
@@ -42,7 +42,7 @@ module _ {V : Type 0} (shows : V → V → Type 0) (stands : Bool) where
     pub tells : TellsOnce stands answer told
 
   -- One comes. A life begins, and it gets the share. Else the life goes on, and it joins by this
-  -- number, or looks once where its time is over; or there is no room for its waker, or no number.
+  -- number, or looks once where its time is over; or there is no room for its slot, or no number.
   pub data Enters (n : ℕ) (is_over : Bool) (old : CoreState V) : Result ℕ (Waited V)
       → CoreState V → Type 0 where
     begins : (share : ℕ) (new : CoreState V) → LoadingStep shows old Create answer.Created new
@@ -56,5 +56,6 @@ module _ {V : Type 0} (shows : V → V → Type 0) (stands : Bool) where
         → Enters n is_over old (Err told) new
     lacks_room : is_over ≡ false → LoadingStep shows old Create answer.NotNow old
         → Enters n is_over old (Err (waited.Refused Memory)) old
-    all_spent : n ≡ 18446744073709551615 → LoadingStep shows old Create answer.NotNow old
+    all_spent : n ≡ 18446744073709551615 → is_over ≡ false
+        → LoadingStep shows old Create answer.NotNow old
         → Enters n is_over old (Err (waited.Refused TicketsSpent)) old

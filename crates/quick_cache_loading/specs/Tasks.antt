@@ -1,11 +1,12 @@
--- The wakers of the tasks that wait.
-use Rattle.std.specs.Prelude.{◌≡◌, ◌==◌, ◌++◌, ◌∷◌, not, ℕ, Bool, List, [], None, Any, is_some, IsSomeAnd, Result, Ok, Err}
-use Rattle.std.specs.List.{filter, position}
+-- The slots of those who wait, with the wakers of tasks.
+use Rattle.std.specs.Prelude.{◌≡◌, ◌==◌, ◌++◌, ◌∷◌, not, ℕ, Bool, true, false, List, [], map, None, Any, IsSomeAnd, Result, Ok, Err}
+use Rattle.std.specs.List.{filter}
 use Rattle.futures.specs.Task.{Wakes}
 use Rattle.futures.specs.declared.task.context.Context.{Context}
 use Rattle.quick_cache_loading.specs.declared.protocol.events.Answer.{Answer}
 use Rattle.quick_cache_loading.specs.declared.protocol.events.Answer.TheVariants.{Done, HandedTo}
 use Rattle.quick_cache_loading.specs.declared.waiting.tasks.Slot.{Slot}
+use Rattle.quick_cache_loading.specs.Waiting.{has}
 
 -- the waiter has a slot with a waker of the context's task
 abbrev pub HasWaker : ℕ → Context → List Slot → Type 0
@@ -31,9 +32,18 @@ abbrev pub slots_after_answer : {V : Type 0} → Answer V → List Slot → List
 slots_after_answer Done slots = []
 slots_after_answer _ slots = slots
 
+-- the numbers of those who have a slot
+abbrev pub numbers_of : List Slot → List ℕ
+numbers_of slots = map (λ slot. slot.waiter) slots
+
 -- the waiter has a slot
 abbrev pub has_slot : ℕ → List Slot → Bool
-has_slot waiter slots = is_some (position (λ slot. slot.waiter == waiter) slots)
+has_slot waiter slots = has waiter (numbers_of slots)
+
+-- the slots once one has looked: it has none where it looked for the last time
+abbrev pub slots_after_look : Bool → ℕ → List Slot → List Slot
+slots_after_look true waiter slots = slots_of_others waiter slots
+slots_after_look false waiter slots = slots
 
 -- the slots with one more, which has no waker yet
 abbrev pub with_slot : ℕ → List Slot → List Slot

@@ -1,12 +1,12 @@
 -- What is seen of a placeholder's locked state.
-use Rattle.std.specs.Prelude.{◌≡◌, ℕ, ◌⊎◌, ⊤, Bool, true, false, List, Option, Some, None, Result, Ok, Err}
+use Rattle.std.specs.Prelude.{◌≡◌, ℕ, ◌<◌, All, ⊤, Bool, true, false, List, Option, Some, None, Result, Ok, Err}
 use Rattle.quick_cache_model.specs.declared.refusal.Refusal.{Refusal}
 use Rattle.quick_cache_model.specs.declared.refusal.Refusal.TheVariants as refusal
 use Rattle.quick_cache_model.specs.declared.refusal.Refusal.TheVariants.{Memory}
 use Rattle.quick_cache_loading.specs.LoadingStep.{LoadingStep}
 use Rattle.quick_cache_loading.specs.declared.protocol.events.Event.{Event}
 use Rattle.quick_cache_loading.specs.declared.protocol.events.Event.TheVariants as event
-use Rattle.quick_cache_loading.specs.Core.{CoreState}
+use Rattle.quick_cache_loading.specs.Core.{CoreState, Life, numbers_in, waiters_of}
 use Rattle.quick_cache_loading.specs.declared.protocol.events.Answer.{Answer}
 use Rattle.quick_cache_loading.specs.declared.protocol.events.Answer.TheVariants.{Done, NotNow}
 use Rattle.quick_cache_loading.specs.declared.protocol.events.Answer.TheVariants as answer
@@ -14,6 +14,7 @@ use Rattle.quick_cache_loading.specs.declared.waiting.waited.Waited.{Waited}
 use Rattle.quick_cache_loading.specs.declared.waiting.waited.Waited.TheVariants as waited
 use Rattle.quick_cache_loading.specs.declared.waiting.tasks.Slot.{Slot}
 use Rattle.quick_cache_loading.specs.declared.waiting.place.Place.{Place}
+use Rattle.quick_cache_loading.specs.Tasks.{numbers_of}
 
 -- its ticket, its own copy of the key, its life, the tasks that wait, and its counter
 pub record WaitingState (K V : Type 0) : Type 0 where
@@ -23,6 +24,12 @@ pub record WaitingState (K V : Type 0) : Type 0 where
   pub tasks : List Slot
   -- the number of the next one who comes to wait
   pub next : ℕ
+
+-- Who waits has a slot, in the order in which they came, and nobody else has one. All numbers are
+-- below that of the next one who comes.
+pub record HaveSlots {V : Type 0} (slots : List Slot) (next : ℕ) (life : Life V) : Type 0 where
+  pub each : numbers_of slots ≡ waiters_of life
+  pub below : All (λ n. n < next) (numbers_in life)
 
 -- the answer of the core to a fill
 abbrev pub answer_of_fill : {B V : Type 0} → Result (Unit {0}) B → Answer V

@@ -114,7 +114,7 @@ fn come_and_wait<
         → none_left turns.new.left ≡ true) }
     ensures counted { is_some turns.new.left ≡ is_some turns.old.left }
 {
-    match come(rt, shard, query, callback, false, turns.is_over()) {
+    match come(rt, shard, query, callback, turns.is_over()) {
         Ok(
             Waiting {
                 placeholder,
@@ -151,7 +151,6 @@ pub fn come<
     shard: &'a RwLock<S>,
     query: &Q,
     callback: &mut Option<F>,
-    is_task: bool,
     is_over: bool,
 ) -> Result<
     Waiting<K, V, L, A>,
@@ -197,10 +196,10 @@ pub fn come<
             }
         }
         Ok(EntryOrPlaceholder::ExistingPlaceholder(shared)) => {
-            join_there(rt, shard, locked, shared, query, own, is_task, is_over)
+            join_there(rt, shard, locked, shared, query, own, is_over)
         }
         Ok(EntryOrPlaceholder::NewPlaceholder(shared)) => {
-            join_there(rt, shard, locked, shared, query, own, is_task, is_over)
+            join_there(rt, shard, locked, shared, query, own, is_over)
         }
         Err(refusal) => Err(Some(EntryResult::Refused(refusal))),
     }

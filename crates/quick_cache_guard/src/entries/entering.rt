@@ -34,7 +34,6 @@ pub fn join_there<
     shared: SharedPlaceholder<K, V, L, A>,
     query: &Q,
     key: K,
-    is_task: bool,
     is_over: bool,
 ) -> Result<
     Waiting<K, V, L, A>,
@@ -51,7 +50,7 @@ pub fn join_there<
     let Some(placeholder) = shared.placeholder() else {
         return Err(Some(EntryResult::Refused(Refusal::Memory)));
     };
-    let entered = placeholder.enter_unfilled(rt, &mut *locked, query, is_task, is_over);
+    let entered = placeholder.enter_unfilled(rt, &mut *locked, query, is_over);
     drop(locked);
     match entered {
         Ok(place) => Ok(Waiting {
@@ -123,7 +122,7 @@ pub fn share_of_new<
     ensures share { IfSome result (λ given. given.1 ≡ (arc_value given.0).ticket) }
 {
     let placeholder = shared.placeholder()?;
-    match placeholder.enter_unfilled(rt, locked, query, false, true) {
+    match placeholder.enter_unfilled(rt, locked, query, true) {
         Err(Waited::Guard(share)) => Some((placeholder, share)),
         Err(Waited::Value(_)) => None,
         Err(Waited::Timeout) => None,

@@ -246,14 +246,7 @@ impl<
         ensures registered { OnPending result (Covers cx.new (WaitsFor self.new)) }
         ensures kept { Keeps cx.old cx.new }
     {
-        match come(
-            self.rt,
-            self.shard,
-            self.query,
-            &mut self.callback,
-            true,
-            false,
-        ) {
+        match come(self.rt, self.shard, self.query, &mut self.callback, false) {
             Ok(waiting) => self.join(waiting, cx),
             Err(told) => give(&mut self.is_finished, in_time(told), cx),
         }

@@ -1,5 +1,5 @@
 -- One who comes to a life that has begun, or to one that goes on.
-use Rattle.std.proofs.Common.{◌≡◌, ◌==◌, ◌⊎◌, ◌&&◌, ◌||◌, not, inl, inr, ℕ, Bool, true, false, true≢false, Result, Ok, Err, None, Some, MatchBool, ap, sym}
+use Rattle.std.proofs.Common.{◌≡◌, ◌==◌, ◌⊎◌, ◌&&◌, ◌||◌, not, inl, inr, ℕ, Bool, true, false, true≢false, Result, Ok, Err, None, Some, MatchBool, ap}
 use Rattle.std.specs.Prelude.{IfErr}
 use Rattle.quick_cache_model.specs.declared.refusal.Refusal.TheVariants.{Memory}
 use Rattle.quick_cache_loading.specs.Core.{Life, Loading, Filled, GivenUp, CoreState, core_state, is_filled, is_handed_to}
@@ -11,7 +11,7 @@ use Rattle.quick_cache_loading.specs.declared.protocol.events.Answer.TheVariants
 use Rattle.quick_cache_loading.specs.declared.protocol.events.Answer.TheVariants as answer
 use Rattle.quick_cache_loading.specs.declared.waiting.waited.Waited.{Waited}
 use Rattle.quick_cache_loading.specs.declared.waiting.waited.Waited.TheVariants as waited
-use Rattle.quick_cache_loading.specs.Entering.{Enters, LooksOnce, TellsNewcomer, TellsOnce}
+use Rattle.quick_cache_loading.specs.Entering.{Enters, TellsNewcomer, TellsOnce}
 use Rattle.quick_cache_loading.specs.Waiters.{IfValue, IsGuard, by_number}
 use Rattle.quick_cache_loading.specs.Waiting.{has, without_waiter}
 use Rattle.quick_cache_loading.specs.declared.waiting.place.Place.{Place}
@@ -126,7 +126,7 @@ module _ {V : Type 0} (shows : V → V → Type 0) (stands : Bool) (n : ℕ) whe
       once-unshown looks.answer told
       (looked-unshown old.life old looks.answer new unfilled looks.step) looks.tells
   Enters-unshown _ old _ _ unfilled (Enters.lacks_room over create) = tt
-  Enters-unshown _ old _ _ unfilled (Enters.all_spent spent create) = tt
+  Enters-unshown _ old _ _ unfilled (Enters.all_spent spent over create) = tt
 
 -- a place is not told of
 pub by_number-unshown : {V : Type 0} (told : Result Place (Waited V)) → ShowsNone (by_number told)

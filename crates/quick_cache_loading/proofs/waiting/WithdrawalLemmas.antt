@@ -28,7 +28,7 @@ has-front n m (w ∷ ws) absent = by_cases (w == n) absent (has-front n m ws) wh
   by_cases false absent rest = rest absent
 
 -- the one to whom the guard was handed is not among those who wait
-handed-absent : (h : Holder) (ws : List ℕ) (n : ℕ)
+pub handed-absent : (h : Holder) (ws : List ℕ) (n : ℕ)
     → is_sound {V = Unit {0}} (Loading h ws) ≡ true → is_handed_to h n ≡ true → has n ws ≡ false
 handed-absent Held ws n sound handed = absurd (cc)
 handed-absent (HandedTo m) ws n sound handed =

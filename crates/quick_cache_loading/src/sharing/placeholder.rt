@@ -154,7 +154,6 @@ impl<K: Eq + Hash + Drop, V: Clone, L: Lifecycle<K, V>, A: Allocator> Placeholde
         rt: &R,
         _locked: &mut S,
         query: &Q,
-        is_task: bool,
         is_over: bool,
     ) -> Result<Place, Waited<V>>
         ensures place { IfOk result (λ place. place.ticket ≡ self.now.ticket) }
@@ -170,7 +169,7 @@ impl<K: Eq + Hash + Drop, V: Clone, L: Lifecycle<K, V>, A: Allocator> Placeholde
         if state.ticket() != self.ticket {
             return Err(Waited::Again);
         }
-        state.enter(query, is_task, is_over)
+        state.enter(query, is_over)
     }
 
     /// As `enter`, for one who looks in the shard again where the value has come: it is not cloned.
@@ -179,7 +178,6 @@ impl<K: Eq + Hash + Drop, V: Clone, L: Lifecycle<K, V>, A: Allocator> Placeholde
         rt: &R,
         _locked: &mut S,
         query: &Q,
-        is_task: bool,
         is_over: bool,
     ) -> Result<Place, Waited<V>>
         ensures place { IfOk result (λ place. place.ticket ≡ self.now.ticket) }
@@ -195,7 +193,7 @@ impl<K: Eq + Hash + Drop, V: Clone, L: Lifecycle<K, V>, A: Allocator> Placeholde
         if state.ticket() != self.ticket || state.is_filled() {
             return Err(Waited::Again);
         }
-        state.enter(query, is_task, is_over)
+        state.enter(query, is_over)
     }
 
     /// A task looks whether the guard or the value has come to its waiter, and leaves its waker

@@ -1,5 +1,5 @@
 //! The state of a placeholder, as its lock keeps it.
-ghost use Rattle.std.specs.Prelude.{◌≡◌, ◌≢◌, ◌==◌, ◌+◌, true, false, MatchOption, MatchResult, not, length, Some, None, [], IfSome, is_some};
+ghost use Rattle.std.specs.Prelude.{◌≡◌, ◌≢◌, ◌==◌, true, false, MatchOption, MatchResult, not, length, Some, None, [], IfSome, is_some};
 ghost use Rattle.quick_cache_loading.specs.Core.{new_core, is_filled, is_sound, waiters_of, waits};
 ghost use Rattle.quick_cache_loading.specs.LoadingStep.{LoadingStep};
 ghost use Rattle.quick_cache_loading.specs.LoadingLaws.{ShowsNothing};
@@ -19,8 +19,9 @@ use std::alloc::{Allocator, Global};
 use std::marker::{Model, PhantomData};
 
 /// The state of a placeholder, whose core changes by the events of the loading core alone. It holds
-/// the share exactly where no guard is held, and the value that it is filled with fits its key.
-/// Contracts see its ticket, its own copy of the key, its core, and the slots of the tasks that wait.
+/// the share exactly where no guard is held, and the value that it is filled with fits its key. Who
+/// waits has a slot for its waker, and a number that nobody had: they are counted up. Contracts see
+/// its ticket, its own copy of the key, its core, the slots, and the next number.
 pub struct State<K: Eq + Drop, V: Drop, L: Lifecycle<K, V>, A: Allocator = Global> {
     ticket: u64,
     key: K,
@@ -36,14 +37,15 @@ impl<K: Eq + Drop, V: Drop, L: Lifecycle<K, V>, A: Allocator> Model for State<K,
     ghost use Rattle.std.specs.Prelude.{◌≡◌, ◌≢◌, ◌⊎◌, ◌==◌, true, MatchOption, MatchResult, is_some, IfSome};
     ghost use Rattle.quick_cache_loading.specs.Core.{held_count};
     ghost use Rattle.quick_cache_loading.specs.Fitting.{FilledFits};
-    ghost use Rattle.quick_cache_loading.specs.Waiters.{WaitingState};
+    ghost use Rattle.quick_cache_loading.specs.Waiters.{HaveSlots, WaitingState};
 
     ghost Value = { WaitingState K V };
 
     ghost view = { λ s. record { ticket = s.ticket; key = s.key; core = s.core; tasks = s.tasks; next = s.next } };
 
     ghost invariant = { λ s. (is_some s.share ≡ (held_count s.core == 0))
-        × IfSome s.share (λ share. share ≡ s.ticket) × FilledFits L.fits s.key s.core.life };
+        × IfSome s.share (λ share. share ≡ s.ticket) × FilledFits L.fits s.key s.core.life
+        × HaveSlots s.tasks s.next s.core.life };
 }
 
 impl<K: Eq + Drop, V: Drop, L: Lifecycle<K, V>, A: Allocator> Drop for State<K, V, L, A> {
@@ -131,22 +133,6 @@ impl<K: Eq + Drop, V: Drop, L: Lifecycle<K, V>, A: Allocator> State<K, V, L, A> 
         self.core.is_held();
     }
 
-    /// A number for one who comes to wait, which nobody had: they are counted up. Nothing changes
-    /// where all are spent.
-    pub fn next_waiter(&mut self) -> Option<u64>
-        ensures { MatchOption result
-            ((self.new ≡ self.old) × (self.old.next ≡ u64.MAX))
-            (λ waiter. (waiter ≡ self.old.next)
-            × (self.new ≡ record self.old { next = self.old.next + 1 })) }
-    {
-        let waiter = self.next;
-        if waiter == u64::MAX {
-            return None;
-        }
-        self.next = waiter + 1;
-        Some(waiter)
-    }
-
     /// Gives the guard of a share up, as `abandon` does. A share of another placeholder ends, and
     /// there is no answer.
     pub fn abandon_by(&mut self, share: Share) -> (Option<Answer<V>>, Option<Ended>)
@@ -223,6 +209,7 @@ impl<K: Eq + Drop, V: Drop, L: Lifecycle<K, V>, A: Allocator> State<K, V, L, A> 
           tasks = self.new.tasks;
         } }
     {
+        self.is_sound();
         let answer = abandon(&mut self.core);
         self.tasks.wake_handed(&answer);
         let ended = ended_by(self.ticket, &answer);

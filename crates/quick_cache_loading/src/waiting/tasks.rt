@@ -1,16 +1,16 @@
-//! The wakers of the tasks that wait.
-ghost use Rattle.std.specs.Prelude.{◌≡◌, ◌⊎◌, ◌<◌, ◌==◌, ◌++◌, ◌∷◌, true, false, [], None, IfSome, OnOk, OnErr, HoldsAt, vec_len};
+//! The slots of those who wait, with the wakers of tasks.
+ghost use Rattle.std.specs.Prelude.{◌≡◌, ◌⊎◌, ◌<◌, ◌==◌, true, false, [], IfSome, OnOk, OnErr, HoldsAt, vec_len};
 ghost use Rattle.std.specs.List.{position};
 ghost use Rattle.futures.specs.Poll.{OnPending};
 ghost use Rattle.futures.specs.Task.{Covers, Keeps};
-ghost use Rattle.quick_cache_loading.specs.Tasks.{HasWaker, has_slot, slots_after, slots_of_others};
+ghost use Rattle.quick_cache_loading.specs.Tasks.{HasWaker, has_slot, numbers_of, slots_after, slots_of_others, with_slot};
 
 use crate::protocol::Answer;
 use futures::task::{Context, Poll, Source, Waker};
 use std::alloc::{AllocError, Allocator, Global};
 use std::marker::Model;
 
-/// The place of a waiter that is a task, with its waker once it has left one.
+/// The slot of a waiter, with the waker of a task once it has left one.
 #[derive(Drop)]
 pub struct Slot {
     /// The waiter's number.
@@ -19,8 +19,8 @@ pub struct Slot {
     pub waker: Option<Waker>,
 }
 
-/// The tasks among those who wait. A slot that is taken out wakes its task, since a waker wakes when
-/// it is dropped. Contracts see the list of slots.
+/// The slots of those who wait. One that is taken out wakes its task, since a waker wakes when it is
+/// dropped. Contracts see the list of slots.
 #[derive(Drop)]
 pub struct Tasks<A: Allocator = Global> {
     slots: Vec<Slot, A>,
@@ -36,7 +36,7 @@ impl<A: Allocator> Model for Tasks<A> {
 }
 
 impl<A: Allocator> Tasks<A> {
-    /// No task waits. It allocates nothing.
+    /// Nobody waits. It allocates nothing.
     pub fn new(alloc: A) -> Self
         ensures { result ≡ [] }
     {
@@ -47,8 +47,7 @@ impl<A: Allocator> Tasks<A> {
 
     /// A slot for a waiter, which may allocate. Where it cannot be had, nothing changes.
     pub fn add(&mut self, waiter: u64) -> Result<(), AllocError>
-        ensures added { OnOk result (self.new ≡ self.old
-            ++ record { waiter = waiter; waker = None } ∷ []) }
+        ensures added { OnOk result (self.new ≡ with_slot waiter self.old) }
         ensures refused { OnErr result (self.new ≡ self.old) }
     {
         self.slots.push(Slot {
@@ -66,6 +65,8 @@ impl<A: Allocator> Tasks<A> {
         ensures waker { (cx.new.lacks_waker ≡ true)
             ⊎ (((has_slot waiter self.old ≡ false) × (cx.new.is_woken ≡ true))
             ⊎ HasWaker waiter cx.old self.new) }
+        // Nobody gets a slot by it, or loses one.
+        ensures same { numbers_of self.new ≡ numbers_of self.old }
     {
         match place_of(&self.slots, waiter) {
             None => cx.yield_now(),

@@ -1,11 +1,11 @@
 //! What happens to a placeholder: each call is one event of its core.
-ghost use Rattle.std.specs.Prelude.{◌≡◌, ◌≢◌, ◌⊎◌, ◌==◌, MatchResult, not, length, IfSome, IfOk, IfErr, IsSome, OnErr, is_some, false};
+ghost use Rattle.std.specs.Prelude.{◌≡◌, ◌≢◌, ◌⊎◌, ◌==◌, ◌+◌, ◌<◌, MatchResult, not, length, IfSome, IfNone, IfOk, IfErr, IsSome, OnErr, is_some, true, false};
 ghost use Rattle.quick_cache_loading.specs.Core.{held_count, waiters_of};
 ghost use Rattle.quick_cache_loading.specs.LoadingStep.{LoadingStep};
 ghost use Rattle.quick_cache_loading.specs.LoadingLaws.{given_by, shown_by};
 ghost use Rattle.quick_cache_loading.specs.Fitting.{ClonesFit};
 ghost use Rattle.quick_cache_loading.specs.Waiters.{answer_of_fill, back_after_fill, has_joined, is_timed_out, waits_on};
-ghost use Rattle.quick_cache_loading.specs.Tasks.{slots_after_answer, slots_after_fill, with_slot};
+ghost use Rattle.quick_cache_loading.specs.Tasks.{has_slot, slots_after_answer, slots_after_fill, slots_of_others, with_slot};
 
 use crate::protocol::{Answer, Event, step};
 use crate::waiting::ended::Filled;
@@ -31,79 +31,45 @@ impl<K: Eq + Drop, V: Clone, L: Lifecycle<K, V>, A: Allocator> State<K, V, L, A>
         (answer, share)
     }
 
-    /// A waiter asks for the value, and waits for it where it is loading. It gets its place exactly
-    /// where it joined.
-    pub fn join(&mut self, waiter: u64) -> (Answer<V>, Option<Place>)
-        ensures event { LoadingStep V.is_clone self.old.core (Event.Join waiter) result.0
-            self.new.core }
-        ensures gives { is_some result.1 ≡ has_joined result.0 }
-        ensures place { IfSome result.1 (λ place. place ≡ record {
-          ticket = self.old.ticket;
-          number = waiter;
-        }) }
-        ensures fits { ClonesFit L.fits V.is_clone
-            → IfSome (shown_by result.0) (λ value. L.fits self.old.key value) }
-        ensures same { self.new ≡ record self.old { core = self.new.core } }
-    {
-        let answer = step(&mut self.core, Event::Join(waiter));
-        let place = match answer {
-            Answer::Joined => Some(Place::new(self.ticket, waiter)),
-            _ => None,
-        };
-        (answer, place)
-    }
-
-    /// As `join`, for a task, which gets a slot for its waker first.
-    pub fn join_as_task(&mut self, waiter: u64) -> (Answer<V>, Option<Place>)
-        ensures event { LoadingStep V.is_clone self.old.core (Event.Join waiter) result.0
+    /// One comes for the value by the next number, and waits for it where it is loading. It gets its
+    /// place, and a slot for the waker of a task, exactly where it joined. It may allocate.
+    pub(crate) fn join(&mut self) -> (Answer<V>, Option<Place>)
+        requires unspent { self.old.next < u64.MAX }
+        ensures event { LoadingStep V.is_clone self.old.core (Event.Join self.old.next) result.0
             self.new.core
             ⊎ ((result.0 ≡ Answer.Refused Refusal.Memory) × (self.new.core ≡ self.old.core)) }
         ensures gives { is_some result.1 ≡ has_joined result.0 }
         ensures place { IfSome result.1 (λ place. place ≡ record {
           ticket = self.old.ticket;
-          number = waiter;
+          number = self.old.next;
         }) }
-        // It has a slot, and the others keep theirs.
-        ensures slot { IsSome result.1 → self.new.tasks ≡ with_slot waiter self.old.tasks }
-        ensures fits { ClonesFit L.fits V.is_clone
-            → IfSome (shown_by result.0) (λ value. L.fits self.old.key value) }
+        // It has a slot, and the others keep theirs. Its number is nobody's afterwards.
+        ensures joined { IsSome result.1 → (self.new.next ≡ self.old.next + 1)
+            × (self.new.tasks ≡ with_slot self.old.next self.old.tasks) }
+        ensures alone { IfNone result.1 ((self.new.next ≡ self.old.next)
+            × (self.new.tasks ≡ self.old.tasks)) }
         ensures same { self.new ≡ record self.old {
           core = self.new.core;
           tasks = self.new.tasks;
+          next = self.new.next;
         } }
+        ensures fits { ClonesFit L.fits V.is_clone
+            → IfSome (shown_by result.0) (λ value. L.fits self.old.key value) }
     {
+        let waiter = self.next;
         if self.tasks.add(waiter).is_err() {
             return (Answer::Refused(Refusal::Memory), None);
         }
-        let (answer, place) = self.join(waiter);
-        match &place {
-            Some(_) => {}
-            None => self.tasks.wake(waiter),
-        }
-        (answer, place)
-    }
-
-    /// Joins as a task, or as a thread.
-    pub(crate) fn join_by(&mut self, waiter: u64, is_task: bool) -> (Answer<V>, Option<Place>)
-        ensures event { LoadingStep V.is_clone self.old.core (Event.Join waiter) result.0
-            self.new.core
-            ⊎ ((result.0 ≡ Answer.Refused Refusal.Memory) × (self.new.core ≡ self.old.core)) }
-        ensures gives { is_some result.1 ≡ has_joined result.0 }
-        ensures place { IfSome result.1 (λ place. place ≡ record {
-          ticket = self.old.ticket;
-          number = waiter;
-        }) }
-        ensures fits { ClonesFit L.fits V.is_clone
-            → IfSome (shown_by result.0) (λ value. L.fits self.old.key value) }
-        ensures same { self.new ≡ record self.old {
-          core = self.new.core;
-          tasks = self.new.tasks;
-        } }
-    {
-        if is_task {
-            self.join_as_task(waiter)
-        } else {
-            self.join(waiter)
+        let answer = step(&mut self.core, Event::Join(waiter));
+        match answer {
+            Answer::Joined => {
+                self.next = waiter + 1;
+                (Answer::Joined, Some(Place::new(self.ticket, waiter)))
+            }
+            other => {
+                self.tasks.wake(waiter);
+                (other, None)
+            }
         }
     }
 
@@ -201,6 +167,8 @@ impl<K: Eq + Drop, V: Clone, L: Lifecycle<K, V>, A: Allocator> State<K, V, L, A>
             (λ kept. (kept ≡ place)
             × LoadingStep V.is_clone self.old.core (Event.Take place.number) Answer.Waiting
             self.new.core) }
+        // Who goes on waiting has its slot.
+        ensures waits { OnErr result (has_slot place.number self.new.tasks ≡ true) }
         ensures gives { IfOk result (λ given. is_some given.1 ≡ (given_by given.0 == 1)) }
         ensures share { IfOk result (λ given. IfSome given.1
             (λ share. share ≡ self.old.ticket)) }
@@ -222,7 +190,7 @@ impl<K: Eq + Drop, V: Clone, L: Lifecycle<K, V>, A: Allocator> State<K, V, L, A>
         }
     }
 
-    /// A waiter's time is over: it takes what has come, or waits no more.
+    /// A waiter's time is over: it takes what has come, or waits no more. Its slot is gone.
     pub fn time_out(&mut self, place: Place) -> (Answer<V>, Option<Share>)
         requires place { place.ticket ≡ self.old.ticket }
         ensures event { LoadingStep V.is_clone self.old.core (Event.TimeOut place.number) result.0
@@ -230,11 +198,18 @@ impl<K: Eq + Drop, V: Clone, L: Lifecycle<K, V>, A: Allocator> State<K, V, L, A>
         ensures gives { is_some result.1 ≡ (given_by result.0 == 1) }
         ensures share { IfSome result.1 (λ share. share ≡ self.old.ticket) }
         ensures ends { waits_on result.0 ≡ false }
+        ensures woken { self.new.tasks ≡ slots_of_others place.number self.old.tasks }
         ensures fits { ClonesFit L.fits V.is_clone
             → IfSome (shown_by result.0) (λ value. L.fits self.old.key value) }
-        ensures same { self.new ≡ record self.old { core = self.new.core } }
+        ensures same { self.new ≡ record self.old {
+          core = self.new.core;
+          tasks = self.new.tasks;
+        } }
     {
-        let answer = step(&mut self.core, Event::TimeOut(place.end()));
+        self.is_sound();
+        let waiter = place.end();
+        self.tasks.wake(waiter);
+        let answer = step(&mut self.core, Event::TimeOut(waiter));
         let share = match answer {
             Answer::Guard => self.share.take(),
             _ => None,

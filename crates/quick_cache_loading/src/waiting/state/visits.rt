@@ -3,7 +3,7 @@ ghost use Rattle.std.specs.Prelude.{◌≡◌, ◌≢◌, ◌⊎◌, ◌==◌, �
 ghost use Rattle.futures.specs.Task.{Covers, Keeps};
 ghost use Rattle.quick_cache_loading.specs.LoadingLaws.{given_by, shown_by};
 ghost use Rattle.quick_cache_loading.specs.Fitting.{ClonesFit, FitsQuery};
-ghost use Rattle.quick_cache_loading.specs.Tasks.{HasWaker, has_slot};
+ghost use Rattle.quick_cache_loading.specs.Tasks.{HasWaker, has_slot, slots_after_look, slots_of_others};
 ghost use Rattle.quick_cache_loading.specs.Waiters.{look_event, Looks, Tells, IfGuard, IfValue, RefusesAsLoad, by_number, has_joined, is_timed_out, is_timeout, told_or_none, waits_on};
 ghost use Rattle.quick_cache_loading.specs.Entering.{Enters, LooksOnce, TellsNewcomer};
 
@@ -46,7 +46,14 @@ impl<K: Eq + Hash + Drop, V: Clone, L: Lifecycle<K, V>, A: Allocator> State<K, V
         ensures share { IfOk result (λ told. IfGuard told (λ share. share ≡ place.ticket)) }
         ensures fits { ClonesFit L.fits V.is_clone → IfOk result
             (λ told. IfValue told (λ value. FitsQuery L.fits (Q.equivalent query.now) value)) }
-        ensures same { self.new ≡ record self.old { core = self.new.core } }
+        // Who goes on waiting has its slot, and who looks for the last time has none.
+        ensures waits { OnErr result (has_slot place.number self.new.tasks ≡ true) }
+        ensures woken { place.ticket ≡ self.old.ticket
+            → self.new.tasks ≡ slots_after_look is_over place.number self.old.tasks }
+        ensures same { self.new ≡ record self.old {
+          core = self.new.core;
+          tasks = self.new.tasks;
+        } }
     {
         if place.ticket() != self.ticket {
             place.end();
@@ -70,7 +77,11 @@ impl<K: Eq + Hash + Drop, V: Clone, L: Lifecycle<K, V>, A: Allocator> State<K, V
         ensures share { IfGuard result (λ share. share ≡ self.old.ticket) }
         ensures fits { ClonesFit L.fits V.is_clone
             → IfValue result (λ value. FitsQuery L.fits (Q.equivalent query.now) value) }
-        ensures same { self.new ≡ record self.old { core = self.new.core } }
+        ensures woken { self.new.tasks ≡ slots_of_others place.number self.old.tasks }
+        ensures same { self.new ≡ record self.old {
+          core = self.new.core;
+          tasks = self.new.tasks;
+        } }
     {
         let (answer, share) = self.time_out(place);
         self.told(query, answer, share)
@@ -145,10 +156,10 @@ impl<K: Eq + Hash + Drop, V: Clone, L: Lifecycle<K, V>, A: Allocator> State<K, V
         } }
         ensures registered { OnErr result (Covers cx.new (λ s. s ≡ source.now.id)) }
         ensures kept { Keeps cx.old cx.new }
-        // A pending poll has left its waker, or has no slot and is polled again.
+        // A pending poll has left its waker in its slot, unless none could be made.
+        ensures waits { OnErr result (has_slot place.number self.new.tasks ≡ true) }
         ensures waker { OnErr result ((cx.new.lacks_waker ≡ true)
-            ⊎ (((has_slot place.number self.old.tasks ≡ false) × (cx.new.is_woken ≡ true))
-            ⊎ HasWaker place.number cx.old self.new.tasks)) }
+            ⊎ HasWaker place.number cx.old self.new.tasks) }
     {
         let looked = self.look(place, query, false);
         if let Err(place) = &looked {
@@ -159,13 +170,8 @@ impl<K: Eq + Hash + Drop, V: Clone, L: Lifecycle<K, V>, A: Allocator> State<K, V
 
     /// One comes to load the value or to wait for it. It gets the share of a life that begins, or
     /// the value; or it is added to those who wait, and gets its place. One whose time is over is
-    /// told what has come, and never waits. A task gets a slot for its waker.
-    pub fn enter<Q: Equivalent<K>>(
-        &mut self,
-        query: &Q,
-        is_task: bool,
-        is_over: bool,
-    ) -> Result<Place, Waited<V>>
+    /// told what has come, and never waits.
+    pub fn enter<Q: Equivalent<K>>(&mut self, query: &Q, is_over: bool) -> Result<Place, Waited<V>>
         ensures enters { Enters V.is_clone (Q.equivalent query.now self.old.key) self.old.next is_over
             self.old.core (by_number result) self.new.core }
         // Its number is one that nobody had.
@@ -191,26 +197,30 @@ impl<K: Eq + Hash + Drop, V: Clone, L: Lifecycle<K, V>, A: Allocator> State<K, V
         if let Some(share) = share {
             return Err(Waited::Guard(share));
         }
-        let Some(waiter) = self.next_waiter() else {
-            return Err(Waited::Refused(Refusal::TicketsSpent));
-        };
         if is_over {
-            return Err(self.look_once(waiter, query));
+            return Err(self.look_once(query));
         }
-        let (answer, place) = self.join_by(waiter, is_task);
+        if self.next == u64::MAX {
+            return Err(Waited::Refused(Refusal::TicketsSpent));
+        }
+        let (answer, place) = self.join();
         self.told_newcomer(place, query, answer)
     }
 
-    /// One who comes when its time is over looks once.
-    fn look_once<Q: Equivalent<K>>(&mut self, waiter: u64, query: &Q) -> Waited<V>
-        ensures looks { LooksOnce V.is_clone (Q.equivalent query.now self.old.key) self.old.core waiter result self.new.core }
+    /// One who comes when its time is over looks once, by a number that it does not keep.
+    fn look_once<Q: Equivalent<K>>(&mut self, query: &Q) -> Waited<V>
+        ensures looks { LooksOnce V.is_clone (Q.equivalent query.now self.old.key) self.old.core
+            self.old.next result self.new.core }
         ensures refused { RefusesAsLoad result }
         ensures share { IfGuard result (λ share. share ≡ self.old.ticket) }
         ensures fits { ClonesFit L.fits V.is_clone
             → IfValue result (λ value. FitsQuery L.fits (Q.equivalent query.now) value) }
-        ensures same { self.new ≡ record self.old { core = self.new.core } }
+        ensures same { self.new ≡ record self.old {
+          core = self.new.core;
+          tasks = self.new.tasks;
+        } }
     {
-        match self.look_last(Place::new(self.ticket, waiter), query) {
+        match self.look_last(Place::new(self.ticket, self.next), query) {
             Waited::Again => Waited::Timeout,
             Waited::Timeout => Waited::Timeout,
             Waited::Value(value) => Waited::Value(value),

@@ -1,4 +1,4 @@
-use Rattle.std.proofs.Common.{refl, rules}
+use Rattle.std.proofs.Common.{refl}
 use Rattle.quick_cache_loading.specs.declared.protocol.events.Answer.TheVariants.{Waiting}
 use Rattle.quick_cache_loading.proofs.waiting.state.State.look.Goals as goal
 
