@@ -13,6 +13,17 @@ fn get(rt: HostRuntime) -> Result<(), Fail> {
 }
 
 #[test]
+fn find(rt: HostRuntime) -> Result<(), Fail> {
+    let mut cache = Cache::new(rt.alloc(), 5)?;
+    cache.insert("square", 4)?;
+    assert_eq!(rt; cache.find(&"square")?, Some(4));
+    assert_eq!(rt; cache.find(&"circle")?, None);
+    // No miss is counted: what loads the value then counts it.
+    assert_eq!(rt; (cache.hits(), cache.misses()), (1, 0));
+    Ok(())
+}
+
+#[test]
 fn peek(rt: HostRuntime) -> Result<(), Fail> {
     let mut cache = Cache::new(rt.alloc(), 5)?;
     cache.insert("square", 4)?;

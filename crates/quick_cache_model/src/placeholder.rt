@@ -1,5 +1,5 @@
 //! What stands at a key that is being loaded.
-ghost use Rattle.std.specs.Prelude.{◌≡◌, ℕ, IfOk, IfErr, ◌==◌};
+ghost use Rattle.std.specs.Prelude.{◌≡◌, ℕ, IfOk, IfErr, IsOk, ◌==◌};
 ghost use Rattle.std.specs.Int.NonZero.{non_zero_u32_get};
 ghost use Rattle.quick_cache_model.specs.declared.refusal.Refusal.TheVariants.{Memory};
 
@@ -66,10 +66,14 @@ pub trait SharedPlaceholder<K: Eq + Hash>: Drop {
 
 /// Makes placeholders of a type: it has what they take beside a query, as an allocator.
 pub trait MakesPlaceholders<K: Eq + Hash, P: SharedPlaceholder<K>> {
+    /// Whether it makes a placeholder without fail for a query that gives a key without fail.
+    ghost is_infallible: { Self → Type 0 };
+
     /// A placeholder for the query's key, refused for want of memory alone.
     fn make<Q: ToKey<K>>(&self, hash: u64, idx: Token, ticket: u64, query: &Q) -> Result<P, Refusal>
         ensures hash { IfOk result (λ made. P.hash_of made ≡ hash) }
         ensures idx { IfOk result (λ made. P.idx_of made ≡ non_zero_u32_get idx) }
         ensures ticket { IfOk result (λ made. P.own_ticket made ≡ ticket) }
+        ensures succeeds { is_infallible self.now → Q.to_key_is_infallible query.now → IsOk result }
         ensures refused { IfErr result (λ refusal. refusal ≡ Memory) };
 }

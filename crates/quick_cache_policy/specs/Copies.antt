@@ -1,7 +1,11 @@
 -- Copies of what a cache holds: clones stand in for keys and values.
-use Rattle.std.specs.Prelude.{◌≡◌, ℕ, Bool, true}
+use Rattle.std.specs.Prelude.{◌≡◌, ℕ, Bool, true, Option, Some, None, Result, Ok, Err}
 use Rattle.std.specs.List.{AllZip}
-use Rattle.quick_cache_model.specs.CacheState.{CacheState, LoadingEntry}
+use Rattle.quick_cache_model.specs.declared.refusal.Refusal.{Refusal}
+use Rattle.quick_cache_model.specs.declared.refusal.Refusal.TheVariants.{Memory}
+use Rattle.quick_cache_model.specs.CacheState.{CacheState, LoadingEntry, UpToOrder}
+use Rattle.quick_cache_model.specs.Finding.{HasNoItem}
+use Rattle.quick_cache_model.specs.Lookups.{LooksUp, Sees}
 use Rattle.quick_cache_store.specs.ListCopies.{IsItemCopy}
 
 -- a clone of a key is equal to it, as the keys' own test says
@@ -31,3 +35,25 @@ pub record IsCopyOf {K V : Type 0} (clones_key : K → K → Type 0) (clones_val
     still = copy.still;
     loading = copy.loading;
   }
+
+module _ {K V : Type 0} (stands_for : K → Bool) (is_clone : V → V → Type 0)
+    (old : CacheState K V) where
+  -- it is a clone of the value that a look-up found
+  pub record IsCopyFound (copy : V) (new : CacheState K V) : Type 0 where
+    pub value : V
+    pub looks : UpToOrder (LooksUp stands_for old (λ item. item.value) (Some value)) new
+    pub cloned : is_clone value copy
+
+  -- the value of an item that is there was not cloned, and nothing changed
+  pub record IsNotCopied (refusal : Refusal) (new : CacheState K V) : Type 0 where
+    pub value : V
+    pub seen : Sees stands_for old (λ item. item.value) (Some value)
+    pub memory : refusal ≡ Memory
+    pub unchanged : new ≡ old
+
+  -- A look-up that answers a clone. Where there is no item nothing is counted, and nothing changed;
+  -- nor did it where the clone was refused.
+  abbrev pub FindsCopy : Result (Option V) Refusal → CacheState K V → Type 0
+  FindsCopy (Ok (Some copy)) new = IsCopyFound copy new
+  FindsCopy (Ok None) new = HasNoItem stands_for old × (new ≡ old)
+  FindsCopy (Err refusal) new = IsNotCopied refusal new

@@ -89,6 +89,7 @@ module _ {K V P W A T : Type 0} (ticket_of : P → ℕ) (stands_for : K → Bool
   -- the query stands for the key of the item of this token, and it was looked up
   pub record IsLookedUp (token : Token) (new : Contents K V W A T P) : Type 0 where
     pub item : Item K V
+    pub stood : IsItemOf old.lists (non_zero_u32_get token) item
     pub passes : stands_for item.key ≡ true
     pub now : IsItemOf new.lists (non_zero_u32_get token) (looked_up old.mark_cut item)
     pub value : UpToOrder

@@ -13,7 +13,7 @@ ghost use Rattle.quick_cache_model.specs.Lookups.{LooksUp, Sees};
 ghost use Rattle.quick_cache_model.specs.Removal.{pair_of};
 ghost use Rattle.quick_cache_model.specs.Sizes.{hot_target_of, ghost_limit_of};
 ghost use Rattle.quick_cache_policy.specs.Work.{no_work};
-ghost use Rattle.quick_cache_policy.specs.Copies.{ClonesAreEqual, IsCopyOf};
+ghost use Rattle.quick_cache_policy.specs.Copies.{ClonesAreEqual, IsCopyOf, FindsCopy};
 ghost use Rattle.quick_cache_shard.specs.Shard.{UpToOrder, IsSoundShard, HasItem, made_with};
 ghost use Rattle.quick_cache_model.specs.Refusals.{slots_taken, slot_count};
 
@@ -261,6 +261,32 @@ impl<K: Eq + Hash, V, We, B: BuildHasher, L, P: SharedPlaceholder<K>, A: Allocat
         let token = self.contents.look_up(hash, query)?;
         self.contents.lists.facts();
         Some(self.contents.lists.item(token).value())
+    }
+
+    /// A clone of the value under the query, which is handed in with its hash, looked up as by
+    /// `get`. The clone is made before the hit is counted, and no miss is counted.
+    ///
+    /// # Errors
+    ///
+    /// `Memory` where the clone failed. Nothing has changed then.
+    #[inline(always)]
+    pub fn find_copy<Q: Equivalent<K>>(
+        &mut self,
+        hash: u64,
+        query: &Q,
+    ) -> Result<Option<V>, Refusal>
+    where
+        V: Clone,
+        requires hash_is { hash ≡ ⟦<Self as Keyed>⟧.hash self.old.builder (Q.hash_input query.now) }
+        ensures finds { FindsCopy (Q.equivalent query.now) V.is_clone self.old.state result
+            self.new.state }
+        ensures succeeds { ((value : V) → V.is_infallible value) → IsOk result }
+        ensures same { self.new ≡ record self.old { state = self.new.state } }
+        ensures sound { IsSoundShard K.eq self.new }
+    {
+        let found = self.contents.look_up_copy(hash, query);
+        self.facts();
+        found
     }
 
     /// The pair under the query, as `get` finds its value.

@@ -15,11 +15,14 @@ use Rattle.quick_cache_shard.specs.Filling.{AnswersFill, Fills}
 use Rattle.quick_cache_shard.specs.Loading.{IsMadeOrMet}
 use Rattle.quick_cache_model.specs.References.{TellsItem}
 use Rattle.std.specs.Bool.{OnTrue, OnFalse}
+use Rattle.std.specs.Prelude.{IfErr}
 use Rattle.quick_cache_model.specs.Finding.{HasNoItem, IsItemAt}
 use Rattle.quick_cache_shard.specs.Shard.{HasItem}
 use Rattle.quick_cache_unsync.specs.Loads.{IsAwaited, Takes, EndsLoad, AnswersLoad, OnResident}
 use Rattle.quick_cache_unsync.specs.Fetches.{EndsFetch, Fetches}
 use Rattle.quick_cache_unsync.specs.declared.loading.not_loaded.LoadError.{LoadError}
+use Rattle.quick_cache_unsync.specs.declared.loading.not_loaded.LoadError.TheVariants.{Failed, Refused}
+use Rattle.quick_cache_model.specs.declared.refusal.Refusal.TheVariants.{Memory}
 
 module _ {K V : Type 0} (stands_for : K → Bool) (gives : K → Type 0) (hash : ℕ)
     (old : CacheState K V) where
@@ -139,6 +142,18 @@ ends-load-by steady hooks rules now before same is_default stands_for gives hash
     old mid new ticket answer takes
     (subst (λ s. EndsLoad (steady s) (hooks s) (rules s) is_default stands_for ticket given mid
     answer new) same ends)
+
+-- what ends a load is no refusal
+pub ends-answered : {K V S E : Type 0} (steady : Type 0) (hooks : Hooks K V S) (rules : Rules K V)
+    (is_default : S → Type 0) (is_clone : V → V → Type 0) (ticket : ℕ) (given : Result V E → Type 0)
+    (old new : CacheState K V) (P : Type 0) (answer : Result V (LoadError E))
+    → EndsFetch steady hooks rules is_default is_clone ticket given old answer new
+    → IfErr answer (λ error. error ≡ Refused Memory → P)
+ends-answered steady hooks rules is_default is_clone ticket given old new P (Ok value) ends = tt
+ends-answered steady hooks rules is_default is_clone ticket given old new P (Err (Failed error))
+    ends = λ same. absurd cc
+ends-answered steady hooks rules is_default is_clone ticket given old new P (Err (Refused refusal))
+    ends = absurd ends
 
 -- a placeholder that was taken and ended, by what stood before it was taken
 pub fetches-by : {K V S E X : Type 0} (steady : X → Type 0) (hooks : X → Hooks K V S)

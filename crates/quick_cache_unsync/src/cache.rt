@@ -9,7 +9,7 @@ ghost use Rattle.quick_cache_model.specs.Finding.{HasNoItem};
 ghost use Rattle.quick_cache_model.specs.Hashing.{hash_of};
 ghost use Rattle.quick_cache_model.specs.Lookups.{Sees, LooksUp};
 ghost use Rattle.quick_cache_model.specs.Sizes.{hot_target_of, ghost_limit_of, default_hot_share, default_ghost_share};
-ghost use Rattle.quick_cache_shard.specs.Copies.{ClonesAreEqual, IsCopyOf};
+ghost use Rattle.quick_cache_shard.specs.Copies.{ClonesAreEqual, IsCopyOf, FindsCopy};
 ghost use Rattle.quick_cache_shard.specs.Shard.{no_work, HasItem, IsSoundShard, UpToOrder, made_with};
 ghost use Rattle.quick_cache_shard.specs.Room.{most_room};
 ghost use Rattle.quick_cache_model.specs.Refusals.{slots_taken, slot_count};
@@ -258,6 +258,27 @@ impl<K: Eq + Hash, V, We, B: BuildHasher, L, A: Allocator> Cache<K, V, We, B, L,
     {
         let hash = self.shard.hash(query);
         self.shard.get(hash, query)
+    }
+
+    /// A clone of the value under the query's key, looked up as by `get` once the clone is made. Where
+    /// nothing is found no miss is counted, and nothing changes: it is for who then goes on to a call
+    /// that counts it, as one that loads.
+    ///
+    /// # Errors
+    ///
+    /// `Memory` where the clone failed. Nothing has changed then.
+    #[inline(always)]
+    pub fn find<Q: Equivalent<K>>(&mut self, query: &Q) -> Result<Option<V>, Refusal>
+    where
+        V: Clone,
+        ensures finds { FindsCopy (Q.equivalent query.now) V.is_clone self.old.state result
+            self.new.state }
+        ensures succeeds { ((value : V) → V.is_infallible value) → IsOk result }
+        ensures same { self.new ≡ record self.old { state = self.new.state } }
+        ensures sound { IsSoundShard K.eq self.new }
+    {
+        let hash = self.shard.hash(query);
+        self.shard.find_copy(hash, query)
     }
 
     /// Looks at the query's key, and changes nothing.

@@ -157,6 +157,9 @@ impl<
     L: Lifecycle<K, V>,
     A: Allocator + Clone,
 > placeholder::MakesPlaceholders<K, SharedPlaceholder<K, V, L, A>> for Maker<A> {
+    // Its placeholder is an allocation.
+    ghost is_infallible = { λ _. ⊥ };
+
     fn make<Q: ToKey<K>>(
         &self,
         hash: u64,

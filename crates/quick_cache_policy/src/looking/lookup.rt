@@ -1,17 +1,18 @@
 //! Look-ups and removals.
-ghost use Rattle.std.specs.Prelude.{◌≡◌, ◌≤◌, MatchOption};
+ghost use Rattle.std.specs.Prelude.{◌≡◌, ◌≤◌, IsOk, MatchOption};
 ghost use Rattle.std.specs.Int.NonZero.{non_zero_u32_get as number};
 ghost use Rattle.quick_cache_store.specs.Lists.{Finds, FindsItem, HasNoItem};
 ghost use Rattle.quick_cache_model.specs.Removal.{Removes};
 ghost use Rattle.quick_cache_model.specs.CacheState.{UpToOrder};
 ghost use Rattle.quick_cache_policy.specs.Contents.{state_of};
+ghost use Rattle.quick_cache_policy.specs.Copies.{FindsCopy};
 ghost use Rattle.quick_cache_policy.specs.Entering.{CountsHit};
 ghost use Rattle.quick_cache_policy.specs.Finding.{AreUnder, IsLookedUp, IsMissed};
 ghost use Rattle.quick_cache_policy.specs.Places.{places_of, LosesOnly};
 ghost use Rattle.quick_cache_policy.specs.Stays.{KeepsSound};
 
 use crate::contents::Contents;
-use quick_cache_model::{Equivalent, SharedPlaceholder, Token};
+use quick_cache_model::{Equivalent, Refusal, SharedPlaceholder, Token};
 use quick_cache_store::lists::{Entry, Found, Order};
 use std::alloc::Allocator;
 use std::hash::Hash;
@@ -40,6 +41,45 @@ impl<K: Eq + Hash, V, P: SharedPlaceholder<K>, A: Allocator> Contents<K, V, P, A
         };
         self.count_hit(token, hash, query);
         Some(token)
+    }
+
+    /// A clone of the value under the query, looked up as by `look_up`. It is made before the hit is
+    /// counted, and where there is no item nothing is counted.
+    ///
+    /// # Errors
+    ///
+    /// `Memory` where the clone failed. Nothing has changed then.
+    #[inline(always)]
+    pub fn look_up_copy<Q: Equivalent<K>>(
+        &mut self,
+        hash: u64,
+        query: &Q,
+    ) -> Result<Option<V>, Refusal>
+    where
+        V: Clone,
+        requires under { AreUnder (Q.equivalent query.now) hash self.old.lists }
+        ensures finds { FindsCopy (Q.equivalent query.now) V.is_clone
+            (state_of P.ticket_of self.old) result (state_of P.ticket_of self.new) }
+        ensures succeeds { ((value : V) → V.is_infallible value) → IsOk result }
+        ensures sound { KeepsSound P.ticket_of K.eq self.old self.new }
+        // No item moves.
+        ensures places { places_of self.new.lists ≡ places_of self.old.lists }
+        ensures room { self.new.lists.room ≡ self.old.lists.room }
+        ensures same { self.new ≡ record self.old {
+          lists = self.new.lists;
+          hits = self.new.hits;
+        } }
+    {
+        self.lists.facts();
+        let Some(token) = self.find_item(hash, query) else {
+            return Ok(None);
+        };
+        let copy: Result<_, _> = self.lists.item(token).value().clone();
+        let Ok(copy) = copy else {
+            return Err(Refusal::Memory);
+        };
+        self.count_hit(token, hash, query);
+        Ok(Some(copy))
     }
 
     /// The item under the query.

@@ -1,10 +1,10 @@
 //! Placeholders that are made for keys, and met.
-ghost use Rattle.std.specs.Prelude.{◌≡◌, ℕ, ◌+◌, ◌≤◌, min, true, IfOk, IfErr};
+ghost use Rattle.std.specs.Prelude.{◌≡◌, ℕ, ◌+◌, ◌≤◌, min, true, IfOk, IfErr, IsOk};
 ghost use Rattle.std.specs.Int.NonZero.{non_zero_u32_get as number};
 ghost use Rattle.quick_cache_store.specs.Lists.{Finds};
 ghost use Rattle.quick_cache_model.specs.CacheState.{UpToOrder};
 ghost use Rattle.quick_cache_model.specs.Placeholders.{MeetsPlaceholder};
-ghost use Rattle.quick_cache_model.specs.declared.refusal.Refusal.TheVariants.{Memory};
+ghost use Rattle.quick_cache_model.specs.declared.refusal.Refusal.TheVariants.{Memory, TicketsSpent};
 ghost use Rattle.quick_cache_policy.specs.Contents.{IsSound, state_of};
 ghost use Rattle.quick_cache_policy.specs.Finding.{AreUnder};
 ghost use Rattle.quick_cache_policy.specs.Loading.{IsMadeUnder, Makes, LooksUpOrMakes};
@@ -34,6 +34,8 @@ impl<K: Eq + Hash + Drop, V: Drop, P: SharedPlaceholder<K>, A: Allocator> Conten
         ensures ticket { IfOk result (λ made. P.own_ticket made.1 ≡ self.now.next_ticket) }
         ensures idx { IfOk result (λ made. P.idx_of made.1 ≡ number token) }
         ensures hash { IfOk result (λ made. P.hash_of made.1 ≡ hash) }
+        ensures succeeds { M.is_infallible maker.now → Q.to_key_is_infallible query.now
+            → IsOk result }
         ensures refused { IfErr result (λ refusal. refusal ≡ Memory) }
     {
         let key = query.to_key()?;
@@ -80,6 +82,10 @@ impl<K: Eq + Hash + Drop, V: Drop, P: SharedPlaceholder<K>, A: Allocator> Conten
         // No item moves.
         ensures places { places_of self.new.lists ≡ places_of self.old.lists }
         ensures room { self.old.lists.room ≤ self.new.lists.room + 1 }
+        // Where key and placeholder are had without fail, it asks for memory only where there is no
+        // room.
+        ensures asks { M.is_infallible maker.now → Q.to_key_is_infallible query.now
+            → IfErr result (λ refusal. refusal ≡ Memory → self.old.lists.room ≡ 0) }
         ensures same { self.new ≡ record self.old {
           lists = self.new.lists;
           misses = self.new.misses;
@@ -120,6 +126,9 @@ impl<K: Eq + Hash + Drop, V: Drop, P: SharedPlaceholder<K>, A: Allocator> Conten
         // No item moves.
         ensures places { places_of self.new.lists ≡ places_of self.old.lists }
         ensures room { self.old.lists.room ≤ self.new.lists.room }
+        // Where key and placeholder are had without fail it is refused for tickets alone.
+        ensures asks { M.is_infallible maker.now → Q.to_key_is_infallible query.now
+            → IfErr result (λ refusal. refusal ≡ TicketsSpent) }
         ensures same { self.new ≡ record self.old {
           lists = self.new.lists;
           misses = self.new.misses;
@@ -179,6 +188,10 @@ impl<K: Eq + Hash + Drop, V: Drop, P: SharedPlaceholder<K>, A: Allocator> Conten
         // No item moves.
         ensures places { places_of self.new.lists ≡ places_of self.old.lists }
         ensures room { self.old.lists.room ≤ self.new.lists.room + 1 }
+        // Where key and placeholder are had without fail, it asks for memory only where there is no
+        // room.
+        ensures asks { M.is_infallible maker.now → Q.to_key_is_infallible query.now
+            → IfErr result (λ refusal. refusal ≡ Memory → self.old.lists.room ≡ 0) }
         ensures same { self.new ≡ record self.old {
           lists = self.new.lists;
           hits = self.new.hits;

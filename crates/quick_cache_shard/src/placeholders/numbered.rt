@@ -1,6 +1,6 @@
 //! A placeholder that is three numbers, and a count of touches that nobody adds to, as they stand in
 //! a cache that has one thread.
-ghost use Rattle.std.specs.Prelude.{◌≡◌, refl, IfOk, IsOk};
+ghost use Rattle.std.specs.Prelude.{◌≡◌, ⊤, refl, IfOk, IsOk};
 ghost use Rattle.std.specs.Int.NonZero.{non_zero_u32_get};
 
 use quick_cache_model::{MakesPlaceholders, Refusal, SharedPlaceholder, ToKey, Token, Touches};
@@ -127,6 +127,8 @@ impl<K: Eq + Hash, T: Touches> SharedPlaceholder<K> for Placeholder<T> {
 pub struct Plainly;
 
 impl<K: Eq + Hash, T: Touches> MakesPlaceholders<K, Placeholder<T>> for Plainly {
+    ghost is_infallible = { λ _. ⊤ };
+
     fn make<Q: ToKey<K>>(
         &self,
         hash: u64,

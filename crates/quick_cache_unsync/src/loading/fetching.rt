@@ -1,11 +1,13 @@
 //! Values that are answered as clones, whether they were found or loaded.
-ghost use Rattle.std.specs.Prelude.{◌≡◌, ◌<◌, ◌+◌, ◌≤◌, IfSome, true};
+ghost use Rattle.std.specs.Prelude.{◌≡◌, ◌<◌, ◌+◌, ◌≤◌, IfErr, IfSome, IsSome, true};
+ghost use Rattle.quick_cache_model.specs.declared.refusal.Refusal.TheVariants.{Memory};
 ghost use Rattle.quick_cache_shard.specs.References.{count_under};
 ghost use Rattle.quick_cache_shard.specs.Shard.{IsSoundShard, KeepsTerms};
 ghost use Rattle.quick_cache_shard.specs.Stays.{StaysWithin};
 ghost use Rattle.quick_cache_unsync.specs.Fetches.{FetchesBy, EndsFetchBy, IsCloneUnder};
 ghost use Rattle.quick_cache_unsync.specs.Loads.{IsAwaited};
 ghost use Rattle.quick_cache_unsync.specs.Touches.{no_touches};
+ghost use Rattle.quick_cache_unsync.specs.declared.loading.not_loaded.LoadError.TheVariants.{Refused};
 
 use crate::cache::Cache;
 use crate::loading::not_loaded::LoadError;
@@ -47,8 +49,11 @@ impl<
             L.RequestState.is_default V.is_clone (Q.equivalent query.now) (Q.to_key_gives query.now)
             (⟦<Self as Keyed>⟧.hash self.old.builder (Q.hash_input query.now))
             (F.post loader) result self.new }
-        // It takes room for one entry at most.
+        // It takes room for one entry at most, and where no clone fails it asks for memory only where
+        // there is no room.
         ensures room { self.old.room ≤ self.new.room + 1 }
+        ensures asks { Q.to_key_is_infallible query.now → ((value : V) → V.is_infallible value)
+            → IfErr result (λ error. error ≡ Refused Memory → self.old.room ≡ 0) }
         ensures same { KeepsTerms self.old self.new }
         ensures sound { IsSoundShard K.eq self.new }
     {
@@ -72,6 +77,8 @@ impl<
         ensures fetches { FetchesBy ⟦<Self as Going>⟧.goes no_touches self.old
             L.RequestState.is_default V.is_clone (Q.equivalent query.now) (Q.to_key_gives query.now)
             hash (F.post loader) result self.new }
+        ensures asks { Q.to_key_is_infallible query.now → ((value : V) → V.is_infallible value)
+            → IfErr result (λ error. error ≡ Refused Memory → self.old.room ≡ 0) }
         ensures stays { StaysWithin K.eq 1 self.old self.new }
     {
         match self.begin_load(hash, query) {
@@ -90,7 +97,9 @@ impl<
         V: Clone,
         requires hash_is { hash ≡ ⟦<Self as Keyed>⟧.hash self.now.builder (Q.hash_input query.now) }
         requires there { 0 < count_under (Q.equivalent query.now) self.now.state }
-        ensures { IfSome result (IsCloneUnder V.is_clone (Q.equivalent query.now) self.now.state) }
+        ensures shows { IfSome result
+            (IsCloneUnder V.is_clone (Q.equivalent query.now) self.now.state) }
+        ensures succeeds { ((value : V) → V.is_infallible value) → IsSome result }
     {
         match self.value_under(Some(token), hash, query).clone() {
             Ok(copy) => Some(copy),

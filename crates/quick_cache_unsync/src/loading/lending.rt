@@ -1,9 +1,11 @@
 //! References to values that are there or that a loader makes, and guards of what is not there.
 ghost use Rattle.std.specs.Prelude.{◌≡◌, ◌≤◌, ◌+◌, IfOk, IfErr, Ok, true};
 ghost use Rattle.std.specs.Borrow.{sem, RestsIfErr};
+ghost use Rattle.quick_cache_model.specs.declared.refusal.Refusal.TheVariants.{Memory};
 ghost use Rattle.quick_cache_shard.specs.Shard.{IsSoundShard, KeepsWork};
 ghost use Rattle.quick_cache_unsync.specs.Loads.{answer_of};
 ghost use Rattle.quick_cache_unsync.specs.Touches.{no_touches};
+ghost use Rattle.quick_cache_unsync.specs.declared.loading.not_loaded.NotLoaded.TheVariants.{Refused};
 ghost use Rattle.quick_cache_unsync.specs.Steps.{LoadsWithin, TakesNone};
 
 use crate::cache::Cache;
@@ -56,6 +58,9 @@ impl<
             L.RequestState.is_default (Q.equivalent query.now) (Q.to_key_gives query.now)
             (⟦<Self as Keyed>⟧.hash self.old.builder (Q.hash_input query.now))
             (F.post loader) (Ok (Ok true)) (read_from r)) }
+        // Where a key is had without fail, it asks for memory only where there is no room.
+        ensures asks { Q.to_key_is_infallible query.now
+            → IfErr result (λ error. error ≡ Refused Memory → self.old.room ≡ 0) }
         ensures lends { IfOk result (λ r. reader r ≡ self.entry.ghost_name) }
         ensures query { IfOk result (λ r. asked_of r ≡ query.now) }
         ensures sound { IfOk result (λ r. IsSoundShard K.eq (read_from r)) }
@@ -103,6 +108,9 @@ impl<
             L.RequestState.is_default (Q.equivalent query.now) (Q.to_key_gives query.now)
             (⟦<Self as Keyed>⟧.hash self.old.builder (Q.hash_input query.now))
             (F.post loader) (Ok (Ok true)) (lent r)) }
+        // Where a key is had without fail, it asks for memory only where there is no room.
+        ensures asks { Q.to_key_is_infallible query.now
+            → IfErr result (λ error. error ≡ Refused Memory → self.old.room ≡ 0) }
         ensures lends { IfOk result (λ r. lender r ≡ self.entry.ghost_name) }
         ensures query { IfOk result (λ r. query_of r ≡ query.now) }
         ensures sound { IfOk result (λ r. IsSoundShard K.eq (lent r)) }
@@ -145,8 +153,11 @@ impl<
             (⟦<Self as Keyed>⟧.hash self.old.builder (Q.hash_input query.now))
             query.now self.old.state given) }
         ensures lends { IfOk result (λ given. reader_of given ≡ self.entry.ghost_name) }
-        // It takes room for one entry at most.
+        // It takes room for one entry at most, and where a key is had without fail it asks for memory
+        // only where there is no room.
         ensures room { IfOk result (λ given. self.old.room ≤ (read_or_guarded given).room + 1) }
+        ensures asks { Q.to_key_is_infallible query.now
+            → IfErr result (λ refusal. refusal ≡ Memory → self.old.room ≡ 0) }
         ensures same { IfOk result (λ given. KeepsWork self.old (read_or_guarded given)) }
         ensures sound { IfOk result (λ given. IsSoundShard K.eq (read_or_guarded given)) }
     {
@@ -192,8 +203,11 @@ impl<
             (⟦<Self as Keyed>⟧.hash self.old.builder (Q.hash_input query.now))
             query.now self.old.state given) }
         ensures lends { IfOk result (λ given. lender_of given ≡ self.entry.ghost_name) }
-        // It takes room for one entry at most.
+        // It takes room for one entry at most, and where a key is had without fail it asks for memory
+        // only where there is no room.
         ensures room { IfOk result (λ given. self.old.room ≤ (lent_or_guarded given).room + 1) }
+        ensures asks { Q.to_key_is_infallible query.now
+            → IfErr result (λ refusal. refusal ≡ Memory → self.old.room ≡ 0) }
         ensures same { IfOk result (λ given. KeepsWork self.old (lent_or_guarded given)) }
         ensures sound { IfOk result (λ given. IsSoundShard K.eq (lent_or_guarded given)) }
     {

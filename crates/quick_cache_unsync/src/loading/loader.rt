@@ -1,5 +1,6 @@
 //! Values that a loader makes where there is none.
-ghost use Rattle.std.specs.Prelude.{◌≡◌, ◌<◌, ◌+◌, ◌≤◌, true};
+ghost use Rattle.std.specs.Prelude.{◌≡◌, ◌<◌, ◌+◌, ◌≤◌, true, IfErr};
+ghost use Rattle.quick_cache_model.specs.declared.refusal.Refusal.TheVariants.{Memory};
 ghost use Rattle.quick_cache_model.specs.Hashing.{hash_of};
 ghost use Rattle.quick_cache_shard.specs.References.{count_under};
 ghost use Rattle.quick_cache_shard.specs.Shard.{IsSoundShard, KeepsTerms};
@@ -54,6 +55,9 @@ impl<
             → Q.equivalent query.now key ≡ true }
         ensures takes { LooksUpOrTakes (Q.equivalent query.now) (Q.to_key_gives query.now) hash
             self.old.state (λ placeholder. placeholder.ticket) result self.new.state }
+        // Where a key is had without fail, it asks for memory only where there is no room.
+        ensures asks { Q.to_key_is_infallible query.now
+            → IfErr result (λ refusal. refusal ≡ Memory → self.old.room ≡ 0) }
         ensures stays { IdlesWithin K.eq 1 self.old self.new }
     {
         match self.shard.get_or_placeholder(&Plainly, hash, query) {
@@ -108,6 +112,8 @@ impl<
         ensures loads { LoadsBy ⟦<Self as Going>⟧.goes no_touches self.old
             L.RequestState.is_default (Q.equivalent query.now) (Q.to_key_gives query.now)
             hash (F.post loader) result.1 self.new }
+        ensures asks { Q.to_key_is_infallible query.now
+            → IfErr result.1 (λ refusal. refusal ≡ Memory → self.old.room ≡ 0) }
         ensures there { OnResident result.1
             (0 < count_under (Q.equivalent query.now) self.new.state) }
         ensures stays { StaysWithin K.eq 1 self.old self.new }
@@ -144,8 +150,11 @@ impl<
             L.RequestState.is_default (Q.equivalent query.now) (Q.to_key_gives query.now)
             (⟦<Self as Keyed>⟧.hash self.old.builder (Q.hash_input query.now))
             (F.post loader) result self.new }
-        // It takes room for one entry at most.
+        // It takes room for one entry at most, and where a key is had without fail it asks for memory
+        // only where there is no room.
         ensures room { self.old.room ≤ self.new.room + 1 }
+        ensures asks { Q.to_key_is_infallible query.now
+            → IfErr result (λ refusal. refusal ≡ Memory → self.old.room ≡ 0) }
         ensures same { KeepsTerms self.old self.new }
         ensures sound { IsSoundShard K.eq self.new }
     {

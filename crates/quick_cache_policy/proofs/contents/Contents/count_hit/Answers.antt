@@ -59,6 +59,7 @@ returns-clause-looks_up g c =
     subst (λ s. IsLookedUp ticket_of stands_for contents c.args.token s) (sym done.is)
     (record {
       item = item;
+      stood = (hash, has);
       passes = passes;
       now = counted-item ticket_of contents apart t hash item done.change done.counts has;
       value = looks_up-hit ticket_of contents apart t hash item done.change done.counts has
