@@ -12,6 +12,7 @@ use Rattle.quick_cache_model.specs.Hooks.{Rules, Hooks}
 use Rattle.quick_cache_model.specs.Lookups.{Sees, LooksUp}
 use Rattle.quick_cache_model.proofs.LookupLaws.{Sees-LooksUp}
 use Rattle.quick_cache_model.specs.Refusals.{MayRefuse, needs_of_clone}
+use Rattle.quick_cache_shard.specs.Copies.{IsNotCopied}
 use Rattle.quick_cache_shard.specs.Shard.{Wrote, RefusesWrite, HasItem}
 use Rattle.quick_cache_model.specs.Writes.{Insert as insertion}
 use denote.Ref.{Bor}
@@ -71,6 +72,16 @@ module _ {K V F M : Type 0} (rules : Rules K V) (equal : K → K → Bool)
   refused_look of call key look (Sees.is_there place before item after there) is_some =
       CacheStep.refuses_look call key Memory place before item after look there (clone_refused old)
   refused_look of call key look (Sees.is_absent none) is_some = absurd cc
+
+  -- where the value of an item that is there was not cloned, the look is refused
+  pub refused_copy : (call : Call K V F) (key : K) → IsLook key call
+      → (refusal : Refusal) (new : CacheState K V)
+      → IsNotCopied (equal key) shows old refusal new
+      → CacheStep {M = M} rules equal shows_key shows answers old call (Refused refusal) [] new
+  refused_copy call key look refusal new is =
+      subst (λ (x : Refusal × CacheState K V). CacheStep {M = M} rules equal shows_key shows answers
+      old call (Refused x.0) [] x.1) (λ i. (sym is.memory i, sym is.unchanged i))
+      (refused_look (λ item. item.value) call key look is.seen refl)
 
   -- room may be refused
   pub refused_room : (call : Call K V F) → MakesRoom call

@@ -10,6 +10,7 @@ use Rattle.quick_cache_model.specs.Lookups.{Sees, LooksUp}
 use Rattle.quick_cache_model.specs.Placeholders.{GivesUpPlaceholder}
 use Rattle.quick_cache_model.proofs.KeyCounts.{keys-none}
 use Rattle.quick_cache_model.proofs.LookupLaws.{Sees-LooksUp}
+use Rattle.quick_cache_shard.specs.Copies.{IsNotCopied}
 use Rattle.quick_cache_shard.specs.Loading.{MakesNone}
 use Rattle.quick_cache_shard.specs.References.{NotesLookUp}
 use Rattle.quick_cache_model.specs.declared.calls.call.Call.{Call}
@@ -93,6 +94,14 @@ module _ {K V F M : Type 0} (rules : Rules K V) (equal : K → K → Bool)
         CacheStep.refuses_found (Guarded key given) key given None Memory place before item after
         (IsLoad.guarded given) there (clone_refused old)
     guard-refuses-clone (Sees.is_absent none) is_some = absurd cc
+
+    -- so it is where a look-up that copies was refused
+    pub guard-refuses-copy : (refusal : Refusal) (new : CacheState K V)
+        → IsNotCopied (equal key) shows old refusal new
+        → Step (Guarded key given) (Refused refusal) [] new
+    guard-refuses-copy refusal new is =
+        subst (λ (x : Refusal × CacheState K V). Step (Guarded key given) (Refused x.0) [] x.1)
+        (λ i. (sym is.memory i, sym is.unchanged i)) (guard-refuses-clone is.seen refl)
 
     -- an item was seen and shown, and a value is written through the reference to it
     pub guard-writes : (left shown : V) (found : Option V) → keys_by (equal key) old ≤ 1

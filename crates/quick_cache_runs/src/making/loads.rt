@@ -1,6 +1,7 @@
 //! Calls that load what they do not find, each with its reply. Where pinning is steady, each is a
 //! step of its definition.
 ghost use Rattle.std.specs.Prelude.{Option, Some, IfOk, OnErr};
+ghost use Rattle.quick_cache_model.specs.Finding.{HasNoItem};
 ghost use Rattle.quick_cache_model.specs.Shown.{IsShown};
 ghost use Rattle.quick_cache_model.specs.Lookups.{Sees};
 ghost use Rattle.quick_cache_runs.specs.Made.{MakesCall};
@@ -42,6 +43,35 @@ impl<
     L: Lifecycle<K, V>,
     A: Allocator,
 > CallMaker<F, M, K, V, We, B, L, A> {
+    /// Takes a guard for a key of which there is no item, and fills it with this value or drops it.
+    #[inline(always)]
+    fn guard_absent(
+        cache: &mut Cache<K, V, We, B, L, A>,
+        key: &K,
+        given: Option<V>,
+        state: &mut L::RequestState,
+    ) -> Reply<K, V, M>
+        requires keys { ClonesAreEqual K.eq K.is_clone }
+        requires absent { HasNoItem (K.eq key.now) cache.old.state }
+        requires sound { IsSoundShard K.eq cache.old }
+        ensures step { MakesCall F ⟦<Cache<K, V, We, B, L, A> as Going>⟧.goes K.eq K.is_clone
+            V.is_clone cache.old state.old (Call.Guarded key.now given) result cache.new state.new }
+        ensures same { KeepsTerms cache.old cache.new }
+    {
+        match cache.get_ref_or_guard(key) {
+            // No item stands under the key, so no reference comes.
+            Ok(Ok(_)) => unreachable!(),
+            Ok(Err(guard)) => match given {
+                Some(value) => {
+                    guard.insert_with_lifecycle(value, state);
+                    Reply::Filled
+                }
+                None => Reply::Dropped,
+            },
+            Err(refusal) => Reply::Refused(refusal),
+        }
+    }
+
     /// Looks a key up, or takes a guard for it, which is filled with this value or dropped. The clone
     /// that the reply shows is made first.
     #[inline(always)]
@@ -56,26 +86,10 @@ impl<
             V.is_clone cache.old state.old (Call.Guarded key.now given) result cache.new state.new }
         ensures same { KeepsTerms cache.old cache.new }
     {
-        match cache.peek(key) {
-            Some(value) => match value.clone() {
-                Ok(copy) => {
-                    let _ = cache.get(key);
-                    Reply::Found(copy)
-                }
-                Err(_) => Reply::Refused(Refusal::Memory),
-            },
-            None => match cache.get_ref_or_guard(key) {
-                // No item stands under the key, so no reference comes.
-                Ok(Ok(_)) => unreachable!(),
-                Ok(Err(guard)) => match given {
-                    Some(value) => {
-                        guard.insert_with_lifecycle(value, state);
-                        Reply::Filled
-                    }
-                    None => Reply::Dropped,
-                },
-                Err(refusal) => Reply::Refused(refusal),
-            },
+        match cache.find(key) {
+            Ok(Some(copy)) => Reply::Found(copy),
+            Ok(None) => Self::guard_absent(cache, key, given, state),
+            Err(refusal) => Reply::Refused(refusal),
         }
     }
 

@@ -1,108 +1,55 @@
-use Rattle.std.proofs.Common.{rules, ◌≡◌, Some, None, refl, sym, subst}
-use Rattle.quick_cache_model.specs.CacheState.{Item}
+use Rattle.std.proofs.Common.{◌≡◌, ◌∙◌, sym, ap, subst}
+use Rattle.quick_cache_model.specs.CacheState.{CacheState}
+use Rattle.quick_cache_model.specs.Finding.{HasNoItem}
 use Rattle.quick_cache_model.specs.declared.calls.call.Call.TheVariants.{Guarded}
-use Rattle.quick_cache_model.specs.declared.calls.reply.Reply.TheVariants.{Filled, Dropped}
 use Rattle.quick_cache_shard.specs.Lifecycles.{hooks_by}
-use Rattle.quick_cache_shard.specs.Shard.{Shard}
-use Rattle.quick_cache_shard.specs.Steps.{goes_by, hooks_in, rules_in, steady_in}
-use Rattle.quick_cache_unsync.specs.Loads.{FillsIfThere}
-use Rattle.quick_cache_unsync.specs.Touches.{no_touches}
-use Rattle.quick_cache_runs.specs.Made.{IsMadeBy}
-use Rattle.quick_cache_runs.proofs.CallSteps.{LooksUp-seen, quietly}
-use Rattle.quick_cache_runs.proofs.LoadSteps.{sees-nothing, guard-finds, guard-refuses-clone}
-use Rattle.quick_cache_runs.proofs.LoadSteps.{guard-refuses, guard-drops, guard-fills}
+use Rattle.quick_cache_shard.specs.Shard.{Shard, KeepsTerms}
+use Rattle.quick_cache_shard.specs.Steps.{goes_by}
+use Rattle.quick_cache_runs.specs.Made.{MakesCall}
+use Rattle.quick_cache_runs.proofs.CallSteps.{quietly}
+use Rattle.quick_cache_runs.proofs.LoadSteps.{guard-finds, guard-refuses-copy}
 use Rattle.quick_cache_runs.proofs.calls.CallMaker.guarded.Goals as goal
 
--- the copy is a clone of the value that was seen, which the look-up finds
-pub returns-in-Ok-clause-step : goal.returns-in-Ok-clause-step
-returns-in-Ok-clause-step g c = λ steady answers.
-    let key = c.args.key.now in
-    let old = c.args.cache.now.state in
-    let equal = g.K.PartialEq.eq in
-    let of : Item g.row.K.Denot g.row.V.Denot → g.row.V.Denot = λ item. item.value in
-    quietly _ equal g.K.Clone.is_clone g.V.Clone.is_clone answers old
-    (hooks_by g.L.Lifecycle c.args.cache.now.lifecycle) c.args.state.now
-    (Guarded key c.args.given) _ _
-    (guard-finds _ equal g.K.Clone.is_clone g.V.Clone.is_clone answers old key c.args.given
-    c.in-Some.value.now c.in-Ok.copy _
-    (LooksUp-seen (equal key) old of (c.in-Some.ensures.sound.valid.one_entry_a_key key)
-    c.in-Some.ensures.sees c.get.follows.holds-at-none.0) c.in-Ok.ensures.cases)
-
--- an item was seen, so there was something to clone
-pub returns-in-Some-clause-step : goal.returns-in-Some-clause-step
-returns-in-Some-clause-step g c = λ steady answers.
-    let old = c.args.cache.now.state in
-    quietly _ g.K.PartialEq.eq g.K.Clone.is_clone g.V.Clone.is_clone answers old
-    (hooks_by g.L.Lifecycle c.args.cache.now.lifecycle) c.args.state.now
-    (Guarded c.args.key.now c.args.given) _ _
-    (guard-refuses-clone _ g.K.PartialEq.eq g.K.Clone.is_clone g.V.Clone.is_clone answers old
-    c.args.key.now c.args.given c.in-Some.ensures.sees refl)
-
--- no item was seen, so none is found
-pub unreachable-requires : goal.unreachable-requires
-unreachable-requires g c =
-    let told = rw c.in-Ok-Ok.field-0-is at c.in-Ok-Ok.ensures.answers in
-    sees-nothing (g.K.PartialEq.eq c.args.key.now) c.args.cache.now.state
-    (c.in-None.ensures.sound.valid.one_entry_a_key c.args.key.now) c.in-None.ensures.sees _ told.1
-
--- the guard's placeholder was filled, in a cache that goes by the same rules
-pub returns-in-Some-given-clause-step : goal.returns-in-Some-given-clause-step
-returns-in-Some-given-clause-step g c = λ steady answers.
-    let key = c.args.key.now in
+-- the copy is a clone of the value that was found
+pub returns-in-Ok-Some-clause-step : goal.returns-in-Ok-Some-clause-step
+returns-in-Ok-Some-clause-step g c = λ steady answers.
     let old = c.args.cache.now in
-    let guard = c.in-Ok-Err.guard in
-    let X = Shard g.row.K.Denot g.row.V.Denot g.row.We.Denot g.row.B.Denot g.row.L.Denot in
-    let goes = goes_by g.K.Hash.hash_input g.We.Weighter g.B.BuildHasher g.B.Hasher.Hasher
-    g.L.Lifecycle in
-    let equal = g.K.PartialEq.eq in
-    let takes = rw c.in-Ok-Err.field-0-is at c.in-Ok-Err.ensures.answers in
-    let final = c.cache-in-Some-given-1.given.0 in
-    let new = c.insert_with_lifecycle.new.self.0 in
-    let same : final ≡ new = search rules in
-    let fills = subst (λ (x : X). FillsIfThere (steady_in goes x) (hooks_in goes x)
-    (rules_in goes no_touches x) guard.ticket guard.cache.now.state c.in-Some-given.value
-    c.args.state.now new.state c.insert_with_lifecycle.new.state)
-    (rw c.in-Ok-Err.field-0-is at c.in-Ok-Err.ensures.same)
-    c.insert_with_lifecycle.ensures.fills in
-    rw c.in-Some-given.is
-    (subst (λ (x : X). IsMadeBy {M = g.row.M.Denot} goes equal g.K.Clone.is_clone g.V.Clone.is_clone
-    answers old c.args.state.now (Guarded key (Some c.in-Some-given.value)) Filled x
-    c.insert_with_lifecycle.new.state) (sym same)
-    (guard-fills (rules_in goes no_touches old) equal g.K.Clone.is_clone g.V.Clone.is_clone answers
-    old.state key (g.K.Clone.is_clone key) guard.ticket guard.cache.now.state takes
-    (hooks_in goes old) (steady_in goes old) steady c.in-Some-given.value
-    c.args.state.now new.state c.insert_with_lifecycle.new.state fills))
+    let finds = rw c.in-Ok-Some.field-0-is at c.in-Ok-Some.ensures.finds in
+    quietly _ g.K.PartialEq.eq g.K.Clone.is_clone g.V.Clone.is_clone answers old.state
+    (hooks_by g.L.Lifecycle old.lifecycle) c.args.state.now (Guarded c.args.key.now c.args.given) _ _
+    (guard-finds _ g.K.PartialEq.eq g.K.Clone.is_clone g.V.Clone.is_clone answers old.state
+    c.args.key.now c.args.given finds.value c.in-Ok-Some.copy _ finds.looks finds.cloned)
 
--- or given up
-pub returns-in-Ok-Err-clause-step : goal.returns-in-Ok-Err-clause-step
-returns-in-Ok-Err-clause-step g c = λ steady answers.
-    let key = c.args.key.now in
+-- no item is there, and nothing changed
+pub guard_absent-requires-clause-absent : goal.guard_absent-requires-clause-absent
+guard_absent-requires-clause-absent g c =
+    let finds = rw c.in-Ok-None.field-0-is at c.in-Ok-None.ensures.finds in
+    subst (λ (s : CacheState g.row.K.Denot g.row.V.Denot).
+    HasNoItem (g.K.PartialEq.eq c.args.key.now) s) (sym finds.1) finds.0
+
+pub returns-in-Ok-None : goal.returns-in-Ok-None
+returns-in-Ok-None g c =
+    let X = Shard g.row.K.Denot g.row.V.Denot g.row.We.Denot g.row.B.Denot g.row.L.Denot in
     let old = c.args.cache.now in
-    let guard = c.in-Ok-Err.guard in
-    let X = Shard g.row.K.Denot g.row.V.Denot g.row.We.Denot g.row.B.Denot g.row.L.Denot in
-    let goes = goes_by g.K.Hash.hash_input g.We.Weighter g.B.BuildHasher g.B.Hasher.Hasher
-    g.L.Lifecycle in
-    let equal = g.K.PartialEq.eq in
-    let takes = rw c.in-Ok-Err.field-0-is at c.in-Ok-Err.ensures.answers in
-    let final = c.cache-in-Ok-Err-1.given.0 in
-    let new = c.drop-guard.new.self.0 in
-    let same : final ≡ new = search rules in
-    rw c.in-None-given.is
-    (subst (λ (x : X). IsMadeBy {M = g.row.M.Denot} goes equal g.K.Clone.is_clone g.V.Clone.is_clone
-    answers old c.args.state.now (Guarded key None) Dropped x c.args.state.now) (sym same)
-    (quietly (rules_in goes no_touches old) equal g.K.Clone.is_clone g.V.Clone.is_clone answers
-    old.state (hooks_in goes old) c.args.state.now (Guarded key None) Dropped new.state
-    (guard-drops (rules_in goes no_touches old) equal g.K.Clone.is_clone g.V.Clone.is_clone answers
-    old.state key (g.K.Clone.is_clone key) guard.ticket guard.cache.now.state takes
-    new.state c.drop-guard.ensures.gives_up)))
+    let finds = rw c.in-Ok-None.field-0-is at c.in-Ok-None.ensures.finds in
+    let same : c.find.new.self ≡ old =
+    c.find.ensures.same
+    ∙ ap (λ (s : CacheState g.row.K.Denot g.row.V.Denot). record old { state = s }) finds.1 in
+    record {
+      step = subst (λ (x : X). MakesCall g.row.F.Denot
+          (goes_by g.K.Hash.hash_input g.We.Weighter g.B.BuildHasher g.B.Hasher.Hasher
+          g.L.Lifecycle) g.K.PartialEq.eq g.K.Clone.is_clone g.V.Clone.is_clone x c.args.state.now
+          (Guarded c.args.key.now c.args.given) c.guard_absent.result c.guard_absent.new.cache
+          c.guard_absent.new.state) same c.guard_absent.ensures.step;
+      same = subst (λ (x : X). KeepsTerms x c.guard_absent.new.cache) same
+          c.guard_absent.ensures.same;
+    }
 
--- no placeholder was made
-pub returns-clause-step : goal.returns-clause-step
-returns-clause-step g c = λ steady answers.
-    let rests = rw c.in-Err-get_ref_or_guard.is at c.get_ref_or_guard.follows.holds-at-none in
-    quietly _ g.K.PartialEq.eq g.K.Clone.is_clone g.V.Clone.is_clone answers
-    c.args.cache.now.state (hooks_by g.L.Lifecycle c.args.cache.now.lifecycle) c.args.state.now
-    (Guarded c.args.key.now c.args.given) _ _
-    (guard-refuses _ g.K.PartialEq.eq g.K.Clone.is_clone g.V.Clone.is_clone answers
-    c.args.cache.now.state c.args.key.now c.args.given (g.K.Clone.is_clone c.args.key.now)
-    c.in-Err-get_ref_or_guard.refusal _ rests.0)
+-- there is an item, whose value was not cloned
+pub returns-in-Err-clause-step : goal.returns-in-Err-clause-step
+returns-in-Err-clause-step g c = λ steady answers.
+    let old = c.args.cache.now in
+    quietly _ g.K.PartialEq.eq g.K.Clone.is_clone g.V.Clone.is_clone answers old.state
+    (hooks_by g.L.Lifecycle old.lifecycle) c.args.state.now (Guarded c.args.key.now c.args.given) _ _
+    (guard-refuses-copy _ g.K.PartialEq.eq g.K.Clone.is_clone g.V.Clone.is_clone answers old.state
+    c.args.key.now c.args.given c.in-Err.refusal _ (rw c.in-Err.is at c.find.ensures.finds))
