@@ -1,11 +1,11 @@
 //! What a user relies on of calls that spare a step: a put, loads, and a guard's insert.
-ghost use Rattle.std.specs.Prelude.{◌≡◌, ◌≤◌, length, IfOk, OnErr, Ok, true, false};
+ghost use Rattle.std.specs.Prelude.{◌≡◌, ◌≤◌, length, IfOk, OnErr, None, Ok, true, false};
 ghost use Rattle.quick_cache_model.specs.Finding.{HasNoItem, HasNoKey};
 ghost use Rattle.quick_cache_unsync.specs.Alone.{IsDoneAlone};
 ghost use Rattle.quick_cache_unsync.specs.Steps.{FillsIfThereBy};
 ghost use Rattle.quick_cache_unsync.specs.Touches.{no_touches};
 
-use quick_cache_model::ToKey;
+use quick_cache_model::{Equivalent, ToKey};
 use quick_cache_shard::Going;
 use quick_cache_unsync::{Cache, Guard, Lifecycle, LoadError, NotLoaded, Refusal, Weighter};
 use std::hash::{BuildHasher, Hash};
@@ -21,6 +21,17 @@ pub fn put_or_leave<
     ensures { OnErr result (cache.new.state ≡ cache.old.state) }
 {
     cache.put(key, value)
+}
+
+/// A find that gives nothing, or is refused, changes nothing: no miss is counted.
+pub fn find_or_leave<K: Eq + Hash, V: Clone, We, B: BuildHasher, L, Q: Equivalent<K>>(
+    cache: &mut Cache<K, V, We, B, L>,
+    query: &Q,
+) -> Result<Option<V>, Refusal>
+    ensures none { IfOk result (λ found. found ≡ None → cache.new ≡ cache.old) }
+    ensures refused { OnErr result (cache.new ≡ cache.old) }
+{
+    cache.find(query)
 }
 
 /// Of a key that is absent the loader's value is answered, whether it is kept or not.
