@@ -1,24 +1,22 @@
 -- Making room leads each pair that was resident to be so still, or to be told to a hook.
-use Rattle.std.proofs.Common.{◌≡◌, ℕ, ◌+◌, ◌-◌, Bool, true, false, List, [], ◌∷◌, ◌++◌, map}
-use Rattle.std.proofs.Common.{IsPermutation, refl, sym, subst, ◌∙◌}
+use Rattle.std.proofs.Common.{◌≡◌, ℕ, ◌+◌, ◌-◌, Bool, true, false, List, ◌∷◌, ◌++◌, map}
+use Rattle.std.proofs.Common.{IsPermutation, sym, subst, ◌∙◌}
 use Rattle.std.proofs.lemmas.List.{map-append}
 use Rattle.std.proofs.lemmas.List.Sorted.{IsPermutation-refl, IsPermutation-sym}
 use Rattle.std.proofs.lemmas.List.Sorted.{IsPermutation-trans}
-use Rattle.quick_cache_model.specs.declared.queue.Queue.{Queue}
 use Rattle.quick_cache_model.specs.declared.queue.Queue.TheVariants.{Hot, Cold}
-use Rattle.quick_cache_model.specs.CacheState.{CacheState, Item, InHot, InCold, with_items, entered}
-use Rattle.quick_cache_model.specs.Hooks.{Rules, HookCall, evicted}
-use Rattle.quick_cache_model.specs.Eviction.{lowered, promoted, EvictsVictim, AdvancesHot}
+use Rattle.quick_cache_model.specs.CacheState.{CacheState, InHot, InCold, with_items}
+use Rattle.quick_cache_model.specs.Hooks.{Rules, HookCall}
+use Rattle.quick_cache_model.specs.Eviction.{lowered, promoted, AdvancesHot}
 use Rattle.quick_cache_model.specs.Eviction.{EvictsToTarget, AdvancesCold, EvictsToCapacity}
-use Rattle.quick_cache_model.specs.Eviction.{ghosts_with}
 use Rattle.quick_cache_model.specs.Removal.{pair_of}
 use Rattle.quick_cache_model.specs.Fates.{residents}
 use Rattle.quick_cache_model.specs.Leads.{Leads}
-use Rattle.quick_cache_model.proofs.Leads.{Leads-same, Leads-from, Leads-changes}
+use Rattle.quick_cache_model.proofs.Leads.{Leads-same, Leads-from}
 use Rattle.quick_cache_model.specs.Leads.{Tells}
-use Rattle.quick_cache_model.proofs.Leads.{Leads-leaves, Tells-append}
+use Rattle.quick_cache_model.proofs.Leads.{Tells-append}
 use Rattle.quick_cache_model.proofs.Victims.{EvictsVictim-tells}
-use Rattle.quick_cache_model.proofs.Residents.{residents-put, residents-entered, residents-same}
+use Rattle.quick_cache_model.proofs.Residents.{residents-put, residents-same}
 use Rattle.quick_cache_model.proofs.Residents.{residents-found, residents-raised, pairs-lowered}
 
 module _ {K V : Type 0} (rules : Rules K V) where

@@ -1,5 +1,5 @@
 -- How many residents have a key that passes a test.
-use Rattle.std.proofs.Common.{◌≡◌, ℕ, ◌+◌, Bool, List, [], ◌∷◌, ◌++◌, map, Option, refl, arith}
+use Rattle.std.proofs.Common.{◌≡◌, ◌+◌, Bool, List, [], ◌∷◌, ◌++◌, map, Option, refl, arith}
 use Rattle.std.specs.Prelude.{count_by}
 use Rattle.quick_cache_model.specs.CacheState.{CacheState, Item, IsValid, keys_by}
 use Rattle.quick_cache_model.specs.Finding.{HasNoItem}

@@ -1,7 +1,9 @@
 //! Calls that look at one item or tell numbers, each with its reply.
 ghost use Rattle.std.specs.Prelude.{◌≡◌};
 ghost use Rattle.quick_cache_model.specs.Answered.{AlwaysClones, IsAnswered};
+ghost use Rattle.quick_cache_model.specs.Finding.{HasNoItem};
 ghost use Rattle.quick_cache_runs.specs.Made.{StepsBy};
+ghost use Rattle.quick_cache_shard.specs.Shard.{IsSoundShard};
 
 use crate::calls::CallMaker;
 use quick_cache_model::{Call, Lifecycle, Refusal, Reply, Weighter};
@@ -29,19 +31,24 @@ impl<
         // A look-up is refused only where a clone fails.
         ensures answered { AlwaysClones V.is_infallible → IsAnswered {F = F} (Call.Get key) result }
     {
-        match cache.peek(&key) {
-            None => {
-                let _ = cache.get(&key);
-                Reply::Value(None)
-            }
-            Some(value) => match value.clone() {
-                Ok(copy) => {
-                    let _ = cache.get(&key);
-                    Reply::Value(Some(copy))
-                }
-                Err(_) => Reply::Refused(Refusal::Memory),
-            },
+        match cache.find(&key) {
+            Ok(Some(copy)) => Reply::Value(Some(copy)),
+            Ok(None) => Self::miss(cache, &key),
+            Err(refusal) => Reply::Refused(refusal),
         }
+    }
+
+    /// Looks up a key that has no item, which counts a miss.
+    fn miss(cache: &mut Cache<K, V, We, B, L, A>, key: &K) -> Reply<K, V, M>
+        requires absent { HasNoItem (K.eq key.now) cache.old.state }
+        requires sound { IsSoundShard K.eq cache.old }
+        ensures step { StepsBy F ⟦<Cache<K, V, We, B, L, A> as Going>⟧.goes K.eq K.is_clone
+            V.is_clone cache.old (Call.Get key.now) result cache.new }
+        ensures same { cache.new ≡ record cache.old { state = cache.new.state } }
+        ensures answered { IsAnswered {F = F} (Call.Get key.now) result }
+    {
+        let _ = cache.get(key);
+        Reply::Value(None)
     }
 
     /// Looks at a key, and shows a clone of the value.
