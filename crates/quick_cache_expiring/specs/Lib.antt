@@ -1,4 +1,6 @@
 pub mod Lives
+pub mod Moments
+pub mod Looks
 pub mod Lastings
 pub mod Entries
 pub mod Purges

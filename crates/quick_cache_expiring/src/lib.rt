@@ -1,12 +1,14 @@
 //! Entries that end: caches whose values serve until a moment of their own, over the public
-//! contracts of the caches alone.
+//! contracts of the caches alone; and values that a loader gave, which live for so long.
 #![tactic(auto)]
 
 mod alone;
 mod by_value;
 mod lasting;
+mod loaded;
 
 pub use alone::expiring::Expiring;
 pub use by_value::ByValue;
 pub use lasting::{Lasting, Stats, end_of};
+pub use loaded::Loaded;
 pub use quick_cache_model::Refusal;

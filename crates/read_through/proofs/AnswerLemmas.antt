@@ -2,10 +2,10 @@
 use Rattle.std.proofs.Common.{◌≡◌, ℕ, Bool, IsTrue, Result, Ok, Err, IfOk, ◌∙◌, refl, sym, subst, arith}
 use Rattle.std.specs.Cmp.{IsEquivalence}
 use Rattle.quick_cache_locked.specs.Fitting.{ClonesFit}
-use Rattle.read_through.specs.declared.loaded.Loaded.{Loaded}
+use Rattle.quick_cache_expiring.specs.declared.loaded.Loaded.{Loaded}
 use Rattle.read_through.specs.declared.given.Given.{Given}
 use Rattle.read_through.specs.declared.given.Given.TheVariants.{Fresh, Stale}
-use Rattle.read_through.specs.Moments.{Serves, IsFresh, IsWithin}
+use Rattle.quick_cache_expiring.specs.Moments.{Serves, IsFresh, IsWithin}
 use Rattle.read_through.specs.Answers.{Answers, AnswersLate, IsOf, GivesClones}
 use Rattle.read_through.specs.Givens.{IfFresh, IfStale}
 

@@ -1,6 +1,6 @@
 -- What a loader's values are, and what is answered.
 use Rattle.std.specs.Prelude.{ℕ, Bool, IsTrue}
-use Rattle.read_through.specs.Moments.{IsFresh, IsWithin}
+use Rattle.quick_cache_expiring.specs.Moments.{IsFresh, IsWithin}
 
 module _ {K V : Type 0} (gives : K → ℕ → V → Type 0) where
   -- the source gives this value for an equal key at the moment

@@ -6,9 +6,9 @@ use Rattle.quick_cache_shard.specs.Shard.{Shard}
 use Rattle.quick_cache_locked.specs.Counts.{Shows}
 use Rattle.quick_cache_locked.specs.declared.count.Count.{Count}
 use Rattle.quick_cache_sync.specs.Sums.{AddsUp}
-use Rattle.read_through.specs.declared.by_value.ByValue.{ByValue}
+use Rattle.quick_cache_expiring.specs.declared.by_value.ByValue.{ByValue}
 use Rattle.read_through.specs.declared.fresh.Fresh.{Fresh}
-use Rattle.read_through.specs.declared.loaded.Loaded.{Loaded}
+use Rattle.quick_cache_expiring.specs.declared.loaded.Loaded.{Loaded}
 
 -- so many of them told this number, one after the other, and this is the sum of what they told
 abbrev pub Counted : {K V S R : Type 0} (We : Type 0) → lifecycle.Ghosts (Fresh S) K (Loaded V) R

@@ -3,17 +3,17 @@ ghost use Rattle.std.specs.Prelude.{◌≡◌, ◌↔◌, IsTrue, Ok, Err, None,
 ghost use Rattle.quick_cache_model.specs.declared.refusal.Refusal.TheVariants.{Memory};
 ghost use Rattle.quick_cache_guard.specs.Answers.{IsLoadRefusal};
 ghost use Rattle.quick_cache_guard.specs.Entries.{IfGivenBack, IfGuarded, IfRetained, IsRefusedAsLoad, is_late};
+ghost use Rattle.quick_cache_expiring.specs.Looks.{IfRetain, Stays};
+ghost use Rattle.quick_cache_expiring.specs.Moments.{Serves};
 ghost use Rattle.read_through.specs.Answers.{Answers, AnswersLate, GivesClones, IsOf};
 ghost use Rattle.read_through.specs.Givens.{IfFailed, IfFresh, IfStale};
-ghost use Rattle.read_through.specs.Looks.{IfRetain, Stays};
-ghost use Rattle.read_through.specs.Moments.{Serves};
 
 use crate::fresh::Fresh;
 use crate::given::Given;
 use crate::lives::Lives;
-use crate::loaded::{Loaded, look};
 use crate::reading::{ReadThrough, ShardOf};
 use crate::source::Source;
+use quick_cache_expiring::Loaded;
 use quick_cache_guard::{EntryResult, GuardResult, LoadingShard, PlaceholderGuard};
 use quick_cache_model::{Refusal, Weighter};
 use quick_cache_shard::EntryAction;
@@ -44,7 +44,7 @@ impl<
             return None;
         };
         let life = self.lives.life(key, &found.value, found.moment);
-        if !found.serves(life, now) || found.is_due(refresh_after, now) {
+        if !found.is_young(life, refresh_after, now) {
             // The look that follows counts it.
             self.not_hits.fetch_add(1, Ordering::SeqCst);
             return None;
@@ -169,7 +169,7 @@ impl<
                 loaded.old.moment now }
             ensures told { IfRetain result (λ told. IfOk told (V.is_clone loaded.old.value)) }
             ensures refused { IfRetain result (λ told. IfErr told (λ refusal. refusal ≡ Memory)) }
-        { look(loaded, lives, key, now) };
+        { loaded.look(lives.life(key, &loaded.value, loaded.moment), now) };
         match self.cache.entry(rt, key, limit, looks) {
             EntryResult::Retained(Ok(value)) => EntryResult::Retained(value),
             EntryResult::Retained(Err(refusal)) => {

@@ -3,8 +3,8 @@ ghost use Rattle.std.specs.Prelude.{◌≡◌, ⊤};
 ghost use Rattle.std.proofs.Common.{sym, ◌∙◌};
 ghost use Rattle.read_through.specs.Answers.{IsOf};
 
-use crate::loaded::Loaded;
 use crate::source::Source;
+use quick_cache_expiring::Loaded;
 use quick_cache_model::Lifecycle;
 use std::alloc::AllocError;
 use std::marker::PhantomData;

@@ -3,21 +3,18 @@
 #![tactic(auto)]
 
 mod answering;
-mod by_value;
 mod fresh;
 mod future;
 mod gets;
 mod given;
 mod lives;
-mod loaded;
 mod reading;
 mod source;
 
-pub use by_value::ByValue;
 pub use future::GetFuture;
 pub use given::{Given, Stats};
 pub use lives::{ByAnswer, Lasting, Lives};
-pub use loaded::Loaded;
+pub use quick_cache_expiring::{ByValue, Loaded};
 pub use quick_cache_model::Refusal;
 pub use reading::ReadThrough;
 pub use source::{AnySource, Source};

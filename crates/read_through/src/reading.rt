@@ -7,11 +7,10 @@ ghost use Rattle.quick_cache_locked.specs.declared.count.Count.TheVariants.{Item
 ghost use Rattle.read_through.specs.Answers.{IsOf};
 ghost use Rattle.read_through.specs.Counted.{Counted};
 
-use crate::by_value::ByValue;
 use crate::fresh::Fresh;
 use crate::given::Stats;
-use crate::loaded::Loaded;
 use crate::source::{AnySource, Source};
+use quick_cache_expiring::{ByValue, Loaded};
 use quick_cache_locked::LockedShard;
 use quick_cache_model::{DefaultHashBuilder, Lifecycle, Refusal, UnitWeighter, Weighter};
 use quick_cache_sync::Cache;

@@ -28,14 +28,8 @@ fn an_answer_lives_as_long_as_it_says(rt: HostRuntime) {
             ));
         for (now, value) in gets {
             let answer = loaded.get(&rt, &1, *now);
-            assert_eq!(rt;
-                answer,
-                Ok(Lasting {
-                    value: *value,
-                    life
-                }),
-                "life {life}, at {now}"
-            );
+            let value = *value;
+            expect_eq!(rt; (*now, answer), (*now, Ok(Lasting { value, life })));
         }
     }
 }
@@ -65,13 +59,18 @@ fn an_old_answer_is_asked_for_anew(rt: HostRuntime) {
     ];
     for (now, refresh_after, answer, count) in rows {
         let got = loaded.get_or_refresh(&rt, &1, now, refresh_after);
-        assert_eq!(rt;
-            (got, calls.load(Ordering::SeqCst)),
-            (Ok(answer), count),
-            "at {now}"
-        );
+        expect_eq!(rt; (now, got, calls.load(Ordering::SeqCst)), (now, Ok(answer), count));
     }
     expect_eq!(rt; (loaded.hits(&rt), loaded.misses(&rt)), (6, 2));
+}
+
+/// The value of an answer and its error, each 0 for none.
+fn given(answer: Result<Given<u64, u64>, u64>) -> (u64, u64) {
+    match answer {
+        Ok(Given::Fresh(value)) => (value, 0),
+        Ok(Given::Stale { value, error }) => (value, error),
+        Err(error) => (0, error),
+    }
 }
 
 #[test]
@@ -89,20 +88,19 @@ fn while_a_loader_fails_an_old_answer_is_given(rt: HostRuntime) {
         },
     ))
     .with_grace(10);
-    let stale = |error: u64| Ok(Given::Stale { value: 105, error });
-    // A moment, how old an answer may be, and the answer.
+    // A moment, how old an answer may be, the value of the answer and the error, each 0 for none.
     let rows = [
-        (5, u64::MAX, Ok(Given::Fresh(105))),
-        (12, 3, stale(12)),
+        (5, u64::MAX, 105, 0),
+        (12, 3, 105, 12),
         // The loader was asked a moment before.
-        (13, 3, Ok(Given::Fresh(105))),
-        (15, u64::MAX, stale(15)),
-        (24, u64::MAX, stale(24)),
-        (25, u64::MAX, Err(25)),
-        (30, u64::MAX, Ok(Given::Fresh(130))),
+        (13, 3, 105, 0),
+        (15, u64::MAX, 105, 15),
+        (24, u64::MAX, 105, 24),
+        (25, u64::MAX, 0, 25),
+        (30, u64::MAX, 130, 0),
     ];
-    for (now, refresh_after, answer) in rows {
+    for (now, refresh_after, value, error) in rows {
         let got = loaded.try_get_or_refresh(&rt, &1, now, refresh_after);
-        assert_eq!(rt; got, Ok(answer), "at {now}");
+        expect_eq!(rt; (now, got.map(given)), (now, Ok((value, error))));
     }
 }

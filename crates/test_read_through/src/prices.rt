@@ -31,14 +31,13 @@ pub fn two_prices<R: Wait + Clock>(
 #[cfg(test)]
 mod tests {
     use super::*;
-    use std::test::Fail;
+    use test_tools::expect_eq;
 
     #[test]
-    fn a_price_is_asked_for_again_after_ten_minutes(rt: HostRuntime) -> Result<(), Fail> {
+    fn a_price_is_asked_for_again_after_ten_minutes(rt: HostRuntime) {
         for (second, price) in [(599, 700), (600, 710)] {
             let prices = two_prices(&rt, rt.alloc(), 7, (0, second));
-            assert_eq!(rt; prices, Ok((700, price)));
+            expect_eq!(rt; prices, Ok((700, price)));
         }
-        Ok(())
     }
 }

@@ -53,6 +53,15 @@ impl Clone for Fragile<'_> {
     }
 }
 
+/// The number that was answered, or 0 where there was no memory.
+fn number(answer: Result<Fragile<'_>, Refusal>) -> Option<u64> {
+    match answer {
+        Ok(value) => Some(value.number),
+        Err(Refusal::Memory) => Some(0),
+        Err(_) => None,
+    }
+}
+
 #[test]
 fn what_cannot_be_stored_is_answered(rt: HostRuntime) {
     let left = AtomicU64::new(0);
@@ -65,23 +74,21 @@ fn what_cannot_be_stored_is_answered(rt: HostRuntime) {
             left: &left,
         },
     ));
-    // The clones that can be made, a moment, the answer, and how many are stored then.
+    // The clones that can be made, a moment, the answer, 0 where there is no memory for one, and how
+    // many are stored then.
     let rows = [
-        (0, 5, Ok(105), 0),
-        (1, 6, Ok(106), 0),
-        (2, 7, Ok(107), 1),
-        (0, 8, Err(Refusal::Memory), 1),
-        (1, 9, Ok(107), 1),
+        (0, 5, 105, 0),
+        (1, 6, 106, 0),
+        (2, 7, 107, 1),
+        (0, 8, 0, 1),
+        (1, 9, 107, 1),
         // What is too old needs no clone to give its place.
-        (0, 17, Ok(117), 0),
+        (0, 17, 117, 0),
     ];
     for (clones, now, answer, len) in rows {
         left.store(clones, Ordering::SeqCst);
-        let got = match loaded.get(&rt, &1, now) {
-            Ok(value) => Ok(value.number),
-            Err(refusal) => Err(refusal),
-        };
-        assert_eq!(rt; (got, loaded.len(&rt)), (answer, len), "at {now}");
+        let got = number(loaded.get(&rt, &1, now));
+        expect_eq!(rt; (now, got, loaded.len(&rt)), (now, Some(answer), len));
     }
     // A get that was refused counts as nothing.
     let stats = Stats {

@@ -1,6 +1,6 @@
 //! What a loader with its cache answers, and how often it is called.
 use crate::hundreds::{first_wrong, hundreds};
-use read_through::{Loaded, ReadThrough, Stats};
+use read_through::{ReadThrough, Stats};
 use std::sync::Barrier;
 use std::sync::atomic::{AtomicU64, Ordering};
 use std::thread::join;
@@ -38,7 +38,7 @@ fn loads_once_while_fresh(rt: HostRuntime) {
             },
         ));
         let wrong = first_wrong(&rt, &loaded, &calls, gets);
-        assert_eq!(rt; wrong, None, "capacity {capacity}, life {life}");
+        expect_eq!(rt; (capacity, life, wrong), (capacity, life, None));
     }
 }
 
@@ -82,10 +82,8 @@ fn what_is_removed_is_loaded_anew(rt: HostRuntime) {
         too_old: 1,
     };
     expect_eq!(rt; (loaded.len(&rt), loaded.stats(&rt)), (1, stats));
-    let Some(Loaded { value, moment, .. }) = loaded.remove(&rt, &1) else {
-        panic!(rt; "it is stored");
-    };
-    expect_eq!(rt; (value, moment, loaded.len(&rt)), (115, 15, 0));
+    let removed = loaded.remove(&rt, &1).map(|it| (it.value, it.moment));
+    expect_eq!(rt; (removed, loaded.len(&rt)), (Some((115, 15)), 0));
     expect!(rt; loaded.remove(&rt, &1).is_none());
     expect_eq!(rt; loaded.get(&rt, &1, 16), Ok(116));
     // What is put in was loaded at that moment, so to say.
@@ -111,6 +109,6 @@ fn an_error_is_stored_nowhere(rt: HostRuntime) {
         },
     ));
     for (now, answer) in [(3, Err(3)), (4, Err(4)), (5, Ok(105)), (3, Ok(105))] {
-        assert_eq!(rt; loaded.try_get(&rt, &1, now), Ok(answer), "at {now}");
+        expect_eq!(rt; (now, loaded.try_get(&rt, &1, now)), (now, Ok(answer)));
     }
 }

@@ -57,12 +57,10 @@ fn stamp_of_late<R: Wait + Clock>(
 #[cfg(test)]
 mod tests {
     use super::*;
-    use std::test::Fail;
 
     #[test]
-    fn a_plain_function_is_a_loader(rt: HostRuntime) -> Result<(), Fail> {
+    fn a_plain_function_is_a_loader(rt: HostRuntime) {
         expect_eq!(rt; stamp_of_now(&rt, rt.alloc(), 1, 5), Ok((1, 5)));
         expect_eq!(rt; stamp_of_late(&rt, rt.alloc(), 1, 16), Ok((1, 8)));
-        Ok(())
     }
 }

@@ -1,7 +1,6 @@
 //! Tasks that ask a loader with its cache.
 use crate::hundreds::hundreds;
 use futures::executor::block_on;
-use futures::task::Poll;
 use futures::test::MockTask;
 use quick_cache_model::UnitWeighter;
 use read_through::{AnySource, GetFuture, ReadThrough};
@@ -67,13 +66,15 @@ fn a_task_waits_for_the_load_of_a_thread(rt: HostRuntime) {
         let task = expect_ok!(rt; MockTask::new(rt));
         let (mut first, mut second) = (asks(rt, loaded, &1, 6), asks(rt, loaded, &1, 7));
         both.wait(rt);
-        let polled = (task.poll(&mut first), task.poll(&mut second));
+        let first_waits = task.poll(&mut first).is_pending();
+        let second_waits = task.poll(&mut second).is_pending();
         drop(second);
         both.wait(rt);
-        match polled {
-            (Poll::Pending, Poll::Pending) => Some(expect_ok!(rt; block_on(rt, first))),
-            _ => None,
-        }
+        (
+            first_waits,
+            second_waits,
+            expect_ok!(rt; block_on(rt, first)),
+        )
     };
-    expect_eq!(rt; join(rt, loads, waits), (Ok(105), Some(Ok(105))));
+    expect_eq!(rt; join(rt, loads, waits), (Ok(105), (true, true, Ok(105))));
 }

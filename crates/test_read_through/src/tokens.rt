@@ -40,11 +40,11 @@ pub fn token_of<R: Wait + Clock, F: Fn(&u64, u64) -> Result<Token, String>>(
 #[cfg(test)]
 mod tests {
     use super::*;
-    use std::test::Fail;
+    use test_tools::{expect_eq, expect_ok};
 
     #[test]
-    fn a_token_is_signed_anew_when_it_is_too_old(rt: HostRuntime) -> Result<(), Fail> {
-        let tokens: ReadThrough<u64, Token, _, Signer> = ReadThrough::new(
+    fn a_token_is_signed_anew_when_it_is_too_old(rt: HostRuntime) {
+        let tokens: ReadThrough<u64, Token, _, Signer> = expect_ok!(rt; ReadThrough::new(
             rt.alloc(),
             100,
             60,
@@ -54,11 +54,10 @@ mod tests {
                     signed: now,
                 })
             },
-        )?;
+        ));
         for (now, signed) in [(100, 100), (159, 100), (160, 160)] {
             let token = Token { user: 7, signed };
-            assert_eq!(rt; token_of(&rt, &tokens, 7, now), Ok(Ok(token)));
+            expect_eq!(rt; token_of(&rt, &tokens, 7, now), Ok(Ok(token)));
         }
-        Ok(())
     }
 }

@@ -1,6 +1,6 @@
 //! What a caller relies on that sees values under the lock of the shared cache: they fit.
 ghost use Rattle.std.specs.Prelude.{◌≡◌, ◌<◌, ◌≤◌, IfOk, IfSome, None, Some};
-ghost use Rattle.read_through.specs.Looks.{IfRetain};
+ghost use Rattle.quick_cache_expiring.specs.Looks.{IfRetain};
 
 use quick_cache_guard::{EntryResult, Fetched, GuardResult};
 use quick_cache_model::{DefaultHashBuilder, EntryAction, Lifecycle, Refusal, UnitWeighter};

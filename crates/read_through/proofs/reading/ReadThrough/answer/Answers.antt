@@ -1,6 +1,6 @@
 use Rattle.std.proofs.Common.{refl, subst}
 use Rattle.read_through.specs.Answers.{Answers, AnswersLate}
-use Rattle.read_through.specs.Moments.{Serves}
+use Rattle.quick_cache_expiring.specs.Moments.{Serves}
 use Rattle.read_through.proofs.AnswerLemmas.{Answers-called, AnswersLate-found, ClonesFit-loaded, IfFresh-loaded, IfStale-own}
 use Rattle.read_through.proofs.reading.ReadThrough.answer.Goals as goal
 

@@ -1,6 +1,6 @@
 use Rattle.std.proofs.Common.{sym, subst, IfOk}
 use Rattle.read_through.specs.Answers.{Answers}
-use Rattle.read_through.specs.Moments.{Serves}
+use Rattle.quick_cache_expiring.specs.Moments.{Serves}
 use Rattle.read_through.proofs.AnswerLemmas.{Answers-stored, IsOf-same}
 use Rattle.read_through.proofs.reading.ReadThrough.look_anew.Goals as goal
 

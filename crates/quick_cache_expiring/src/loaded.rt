@@ -1,12 +1,10 @@
-//! A value that was loaded, with its moment.
+//! A value that was loaded, with its moment, and whether it may be answered at another.
 ghost use Rattle.std.specs.Prelude.{◌≡◌, ◌↔◌, IsTrue, IfOk, IfErr};
 ghost use Rattle.quick_cache_model.specs.declared.refusal.Refusal.TheVariants.{Memory};
-ghost use Rattle.read_through.specs.Looks.{IfRetain, Stays};
-ghost use Rattle.read_through.specs.Moments.{IsWithin, Serves};
+ghost use Rattle.quick_cache_expiring.specs.Looks.{IfRetain, Stays};
+ghost use Rattle.quick_cache_expiring.specs.Moments.{IsDue, IsWithin, IsYoung, Serves};
 
-use crate::lives::Lives;
-use quick_cache_model::Refusal;
-use quick_cache_shard::EntryAction;
+use quick_cache_model::{EntryAction, Refusal};
 use std::alloc::AllocError;
 
 /// A value, the moment for which its loader was asked, and the one at which the loader was asked
@@ -47,6 +45,7 @@ impl<V> Loaded<V> {
 
     /// Whether it may be answered at a moment, where it lives so long. What lives for 0 serves
     /// nobody.
+    #[inline(always)]
     pub fn serves(&self, life: u64, now: u64) -> bool
         ensures { IsTrue result ↔ Serves life self.now.moment now }
     {
@@ -61,12 +60,28 @@ impl<V> Loaded<V> {
     }
 
     /// Whether its loader was last asked longer ago than that.
-    pub(crate) fn is_due(&self, refresh_after: u64, now: u64) -> bool {
+    #[inline(always)]
+    pub fn is_due(&self, refresh_after: u64, now: u64) -> bool
+        ensures { IsTrue result ↔ IsDue self.now.asked refresh_after now }
+    {
         now.saturating_sub(self.asked) > refresh_after
     }
 
-    /// Where that is so, its loader is to be asked now.
-    pub(crate) fn claim(&mut self, refresh_after: u64, now: u64) -> bool
+    /// Whether it serves at a moment, and its loader was asked no longer ago than that.
+    #[inline(always)]
+    pub fn is_young(&self, life: u64, refresh_after: u64, now: u64) -> bool
+        ensures { IsTrue result
+            ↔ IsYoung life self.now.moment self.now.asked refresh_after now }
+    {
+        if !self.serves(life, now) {
+            return false;
+        }
+        !self.is_due(refresh_after, now)
+    }
+
+    /// Where it is due, its loader is to be asked now, by who is told so.
+    pub fn claim(&mut self, refresh_after: u64, now: u64) -> bool
+        ensures claimed { IsTrue result ↔ IsDue self.old.asked refresh_after now }
         ensures value { self.new.value ≡ self.old.value }
         ensures moment { self.new.moment ≡ self.old.moment }
     {
@@ -76,27 +91,23 @@ impl<V> Loaded<V> {
         self.asked = now;
         true
     }
-}
 
-/// What becomes of an entry at a moment: where it serves it stays, and a clone is told, or that there
-/// is no memory for one; else it gives its place to a guard.
-pub(crate) fn look<K, V: Clone, Li: Lives<K, V>>(
-    loaded: &Loaded<V>,
-    lives: &Li,
-    key: &K,
-    now: u64,
-) -> EntryAction<Result<V, Refusal>>
-    ensures serves { Stays result ↔ Serves
-        (Li.life_of lives.now key.now loaded.now.value loaded.now.moment) loaded.now.moment now }
-    ensures told { IfRetain result (λ told. IfOk told (V.is_clone loaded.now.value)) }
-    ensures refused { IfRetain result (λ told. IfErr told (λ refusal. refusal ≡ Memory)) }
-{
-    let life = lives.life(key, &loaded.value, loaded.moment);
-    if !loaded.serves(life, now) {
-        return EntryAction::ReplaceWithGuard;
-    }
-    match loaded.value.clone() {
-        Ok(value) => EntryAction::Retain(Ok(value)),
-        Err(_) => EntryAction::Retain(Err(Refusal::Memory)),
+    /// What becomes of its entry at a moment: where it serves the entry stays, and a clone is told, or
+    /// that there is no memory for one; else the entry gives its place to a guard.
+    pub fn look(&self, life: u64, now: u64) -> EntryAction<Result<V, Refusal>>
+    where
+        V: Clone,
+        ensures serves { Stays result ↔ Serves life self.now.moment now }
+        ensures told { IfRetain result (λ told. IfOk told (V.is_clone self.now.value)) }
+        ensures refused { IfRetain result (λ told. IfErr told (λ refusal. refusal ≡ Memory)) }
+    {
+        if self.serves(life, now) {
+            match self.value.clone() {
+                Ok(value) => EntryAction::Retain(Ok(value)),
+                Err(_) => EntryAction::Retain(Err(Refusal::Memory)),
+            }
+        } else {
+            EntryAction::ReplaceWithGuard
+        }
     }
 }

@@ -1,5 +1,5 @@
 //! Four threads that ask for a thousand keys, by a clock that rises with each call.
-use quick_cache_expiring_sync::SharedExpiring;
+use quick_cache_expiring_sync::{Refusal, SharedExpiring};
 use std::alloc::{AllocError, Global};
 use std::sync::Wait;
 use std::sync::atomic::{AtomicU64, Ordering};
@@ -53,6 +53,14 @@ fn is_early(last: &[AtomicU64], key: u64, now: u64) -> bool {
     before > 0 && now < before.saturating_add(LIFE)
 }
 
+/// An answer that is no value of the key, or is over.
+fn is_wrong(answer: Result<Result<Loaded, ()>, Refusal>, key: u64, now: u64) -> bool {
+    match answer {
+        Ok(Ok((of, moment))) => of != key || now >= moment.saturating_add(LIFE),
+        _ => true,
+    }
+}
+
 /// Asks so often, and counts what is no value of the key, or over, and loads that come early.
 fn asks<R: Wait + Clock>(
     rt: &R,
@@ -69,18 +77,11 @@ fn asks<R: Wait + Clock>(
         let key = key_of(ends, state);
         let now = clock.fetch_add(1, Ordering::SeqCst);
         let loader = || -> Result<Loaded, ()> {
-            if is_early(last, key, now) {
-                wrong.fetch_add(1, Ordering::SeqCst);
-            }
+            wrong.fetch_add(u64::from(is_early(last, key, now)), Ordering::SeqCst);
             Ok((key, now))
         };
-        let is_right = match entries.get_or_insert_with(rt, &key, now, LIFE, loader) {
-            Ok(Ok((of, moment))) => of == key && now < moment.saturating_add(LIFE),
-            _ => false,
-        };
-        if !is_right {
-            wrong.fetch_add(1, Ordering::SeqCst);
-        }
+        let answer = entries.get_or_insert_with(rt, &key, now, LIFE, loader);
+        wrong.fetch_add(u64::from(is_wrong(answer, key, now)), Ordering::SeqCst);
     }
     wrong.load(Ordering::SeqCst)
 }

@@ -14,3 +14,12 @@ module _ (life moment now : ℕ) where
 -- its life and a grace after it are not over
 abbrev pub IsWithin : (life grace moment now : ℕ) → Type 0
 IsWithin life grace moment now = now < moment + life + grace
+
+-- its loader was last asked longer ago than that
+abbrev pub IsDue : (asked refresh_after now : ℕ) → Type 0
+IsDue asked refresh_after now = asked + refresh_after < now
+
+-- it serves, and is not due
+abbrev pub IsYoung : (life moment asked refresh_after now : ℕ) → Type 0
+IsYoung life moment asked refresh_after now = Serves life moment now
+    × (IsDue asked refresh_after now → ⊥)
