@@ -1,5 +1,5 @@
 -- Drains that are taken to their end.
-use Rattle.std.proofs.Common.{◌≡◌, List, ◌++◌, length, map, None, ap, subst, ◌∙◌, arith}
+use Rattle.std.proofs.Common.{◌≡◌, ◌≤◌, List, ◌++◌, length, map, None, ap, subst, ◌∙◌, arith}
 use Rattle.std.proofs.lemmas.List.{append-nil, length-map, length-append}
 use Rattle.std.specs.Iterator.{Yields}
 use Rattle.std.specs.List.Sorted.{IsPermutation}
@@ -37,4 +37,19 @@ module _ {K V We B L A H : Type 0} (first : Drain K V We B L A H) (old : Shard K
         subst (λ (x : Shard K V We B L). IsPermutation (pairs_in x) taken) begins all,
         ap (λ (x : Shard K V We B L). x.state) empty ∙ ends.1.cache.cleared
             ∙ along.keeps.cache.cleared ∙ ap (λ (x : Shard K V We B L). cleared x.state) begins,
+      )
+
+  -- and what they took is room again
+  pub drained-room : DrainsInAll first → (taken : List (K × V)) (later last : Drain K V We B L A H)
+      → Yields DrainSteps first taken later → DrainSteps later None last
+      → (final : Shard K V We B L) → final ≡ emptied (drained last)
+      → old.room ≤ final.room
+  drained-room gives taken later last yields ends final empty =
+      let along = gives taken later yields in
+      omega (
+        arith,
+        ap (λ (x : Shard K V We B L). x.room) begins,
+        along.keeps.cache.room,
+        ends.1.cache.room,
+        ap (λ (x : Shard K V We B L). x.room) empty,
       )

@@ -3,6 +3,7 @@ pub mod Books
 pub mod Conservation
 pub mod Asked
 pub mod Made
+pub mod Room
 pub use Rattle.quick_cache_model.specs.Answered
 pub use Rattle.quick_cache_model.specs.CacheStep
 pub use Rattle.quick_cache_model.specs.CacheRun

@@ -1,7 +1,9 @@
 //! One call, and its reply.
+ghost use Rattle.std.specs.Prelude.{◌≤◌, ◌+◌};
 ghost use Rattle.quick_cache_model.specs.Answered.{AlwaysClones, IsAnswered};
 ghost use Rattle.quick_cache_runs.specs.Asked.{IfAsks, IfLoads};
 ghost use Rattle.quick_cache_runs.specs.Made.{MakesAsked};
+ghost use Rattle.quick_cache_runs.specs.Room.{NeedsRoom, entry_refusal};
 ghost use Rattle.quick_cache_shard.specs.Copies.{ClonesAreEqual};
 ghost use Rattle.quick_cache_shard.specs.Shard.{KeepsTerms};
 
@@ -42,6 +44,11 @@ impl<
         // Where pinning is steady, and a predicate answers as a pure test does.
         ensures step { MakesAsked F.Fn ⟦<Cache<K, V, We, B, L, A> as Going>⟧.goes K.eq K.is_clone
             V.is_clone cache.old state.old call result cache.new state.new }
+        // It takes room for one entry at most. Where no clone fails, it is refused for want of
+        // memory only where there is no room.
+        ensures room { cache.old.room ≤ cache.new.room + 1 }
+        ensures asks { AlwaysClones K.is_infallible → AlwaysClones V.is_infallible
+            → NeedsRoom cache.old.room (entry_refusal call result) }
         ensures same { KeepsTerms cache.old cache.new }
         // A look is refused only where a clone fails.
         ensures answered { AlwaysClones V.is_infallible → IsAnswered call result }

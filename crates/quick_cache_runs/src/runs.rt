@@ -6,6 +6,7 @@ ghost use Rattle.quick_cache_model.specs.Answered.{AlwaysClones, IsAnswered, Are
 ghost use Rattle.quick_cache_model.specs.Answered.{replies_of};
 ghost use Rattle.quick_cache_runs.specs.Asked.{IfAsks, IfLoads};
 ghost use Rattle.quick_cache_runs.specs.Made.{MakesAsked, RunsAsked, RunsCallsBy, ConservesCallsBy};
+ghost use Rattle.quick_cache_runs.specs.Room.{AreInRoom, NeedsRoom, entry_refusal};
 ghost use Rattle.quick_cache_shard.specs.Copies.{ClonesAreEqual};
 ghost use Rattle.quick_cache_shard.specs.Shard.{KeepsTerms};
 
@@ -47,7 +48,10 @@ impl<
         ensures made { (reply : Reply K V M) × (replies.new.items ≡ replies.old.items ++ reply ∷ [])
             × MakesAsked F.Fn ⟦<Cache<K, V, We, B, L, A> as Going>⟧.goes K.eq K.is_clone V.is_clone
             cache.old state.old call reply cache.new state.new
-            × (AlwaysClones V.is_infallible → IsAnswered call reply) }
+            × (AlwaysClones V.is_infallible → IsAnswered call reply)
+            × (AlwaysClones K.is_infallible → AlwaysClones V.is_infallible
+            → NeedsRoom cache.old.room (entry_refusal call reply)) }
+        ensures room { cache.old.room ≤ cache.new.room + 1 }
         ensures same { KeepsTerms cache.old cache.new }
         ensures len { vec_len replies.new ≡ vec_len replies.old + 1 }
         ensures capacity { vec_capacity replies.new ≡ vec_capacity replies.old }
@@ -72,6 +76,8 @@ impl<
             V.is_clone cache.old state.old calls.items result.items cache.new state.new }
         ensures same { KeepsTerms cache.old cache.new }
         ensures answered { AlwaysClones V.is_infallible → AreAnswered calls.items result.items }
+        ensures asks { AlwaysClones K.is_infallible → AlwaysClones V.is_infallible
+            → AreInRoom cache.old.room calls.items result.items }
     {
         for call in calls {
             Self::make(&mut replies, cache, call, state);
@@ -116,6 +122,10 @@ pub fn run<
     ensures same { KeepsTerms cache.old cache.new }
     // A look is refused only where a clone fails.
     ensures answered { AlwaysClones V.is_infallible → AreAnswered calls.items (replies_of result) }
+    // Where no clone fails, a call that takes an entry in is refused for want of memory only where
+    // the calls before it took all the room.
+    ensures asks { AlwaysClones K.is_infallible → AlwaysClones V.is_infallible
+        → AreInRoom cache.old.room calls.items (replies_of result) }
 {
     valid(cache);
     let mut replies = Vec::new(alloc);

@@ -1,4 +1,5 @@
 //! Calls that ask a predicate which items go, each with its reply.
+ghost use Rattle.std.specs.Prelude.{◌≤◌};
 ghost use Rattle.quick_cache_shard.specs.Predicates.{Answers};
 ghost use Rattle.quick_cache_shard.specs.Shard.{KeepsWork};
 ghost use Rattle.quick_cache_runs.specs.Made.{StepsAsked};
@@ -32,6 +33,7 @@ impl<
         // Where the predicate answers as a pure test does, it is the removal by that test.
         ensures step { StepsAsked F.Fn ⟦<Cache<K, V, We, B, L, A> as Going>⟧.goes K.eq K.is_clone
             V.is_clone cache.old (Call.RemoveIf key wanted) result cache.new }
+        ensures room { cache.old.room ≤ cache.new.room }
         ensures same { KeepsWork cache.old cache.new }
     {
         let is_wanted = |value: &V| -> bool
@@ -49,6 +51,7 @@ impl<
         // Where the predicate answers as a pure test does, it is the removal by that test.
         ensures step { StepsAsked F.Fn ⟦<Cache<K, V, We, B, L, A> as Going>⟧.goes K.eq K.is_clone
             V.is_clone cache.old (Call.Retain keep) result cache.new }
+        ensures room { cache.old.room ≤ cache.new.room }
         ensures same { KeepsWork cache.old cache.new }
     {
         cache.retain(keep);

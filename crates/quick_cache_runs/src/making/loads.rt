@@ -1,10 +1,12 @@
 //! Calls that load what they do not find, each with its reply. Where pinning is steady, each is a
 //! step of its definition.
-ghost use Rattle.std.specs.Prelude.{Option, Some, IfOk, OnErr};
+ghost use Rattle.std.specs.Prelude.{◌≤◌, ◌+◌, Option, Some, IfOk, IsOk, OnErr};
+ghost use Rattle.quick_cache_model.specs.Answered.{AlwaysClones};
 ghost use Rattle.quick_cache_model.specs.Finding.{HasNoItem};
 ghost use Rattle.quick_cache_model.specs.Shown.{IsShown};
 ghost use Rattle.quick_cache_model.specs.Lookups.{Sees};
 ghost use Rattle.quick_cache_runs.specs.Made.{MakesCall};
+ghost use Rattle.quick_cache_runs.specs.Room.{NeedsRoom, refusal_of};
 ghost use Rattle.quick_cache_shard.specs.Copies.{ClonesAreEqual};
 ghost use Rattle.quick_cache_shard.specs.Shard.{IsSoundShard, KeepsTerms};
 
@@ -25,6 +27,7 @@ fn copied<K: Eq + Hash + Drop, V: Clone + Drop, We, B: BuildHasher, L, A: Alloca
         × IsShown V.is_clone found shown) }
     ensures fails { OnErr result ((found : V)
         × Sees (K.eq key.now) cache.now.state (λ item. item.value) (Some found)) }
+    ensures succeeds { AlwaysClones V.is_infallible → IsOk result }
     ensures sound { IsSoundShard K.eq cache.now }
 {
     match cache.peek(key) {
@@ -44,6 +47,7 @@ impl<
     A: Allocator,
 > CallMaker<F, M, K, V, We, B, L, A> {
     /// Takes a guard for a key of which there is no item, and fills it with this value or drops it.
+    /// Where a key is cloned without fail, it asks for memory only where there is no room.
     #[inline(always)]
     fn guard_absent(
         cache: &mut Cache<K, V, We, B, L, A>,
@@ -56,6 +60,8 @@ impl<
         requires sound { IsSoundShard K.eq cache.old }
         ensures step { MakesCall F ⟦<Cache<K, V, We, B, L, A> as Going>⟧.goes K.eq K.is_clone
             V.is_clone cache.old state.old (Call.Guarded key.now given) result cache.new state.new }
+        ensures room { cache.old.room ≤ cache.new.room + 1 }
+        ensures asks { K.is_infallible key.now → NeedsRoom cache.old.room (refusal_of result) }
         ensures same { KeepsTerms cache.old cache.new }
     {
         match cache.get_ref_or_guard(key) {
@@ -84,6 +90,9 @@ impl<
         requires keys { ClonesAreEqual K.eq K.is_clone }
         ensures step { MakesCall F ⟦<Cache<K, V, We, B, L, A> as Going>⟧.goes K.eq K.is_clone
             V.is_clone cache.old state.old (Call.Guarded key.now given) result cache.new state.new }
+        ensures room { cache.old.room ≤ cache.new.room + 1 }
+        ensures asks { K.is_infallible key.now → AlwaysClones V.is_infallible
+            → NeedsRoom cache.old.room (refusal_of result) }
         ensures same { KeepsTerms cache.old cache.new }
     {
         match cache.find(key) {
@@ -106,6 +115,9 @@ impl<
         ensures step { MakesCall F ⟦<Cache<K, V, We, B, L, A> as Going>⟧.goes K.eq K.is_clone
             V.is_clone cache.old state.old (Call.GuardedMut key.now given left) result
             cache.new state.new }
+        ensures room { cache.old.room ≤ cache.new.room + 1 }
+        ensures asks { K.is_infallible key.now → AlwaysClones V.is_infallible
+            → NeedsRoom cache.old.room (refusal_of result) }
         ensures same { KeepsTerms cache.old cache.new }
     {
         let Ok(shown) = copied(cache, key) else {
@@ -146,6 +158,9 @@ impl<
         requires keys { ClonesAreEqual K.eq K.is_clone }
         ensures step { MakesCall F ⟦<Cache<K, V, We, B, L, A> as Going>⟧.goes K.eq K.is_clone
             V.is_clone cache.old state.old (Call.Load key.now given) result cache.new state.new }
+        ensures room { cache.old.room ≤ cache.new.room + 1 }
+        ensures asks { K.is_infallible key.now → AlwaysClones V.is_infallible
+            → NeedsRoom cache.old.room (refusal_of result) }
         ensures same { KeepsTerms cache.old cache.new }
     {
         match Self::guarded(cache, key, given, state) {
@@ -168,6 +183,9 @@ impl<
         ensures step { MakesCall F ⟦<Cache<K, V, We, B, L, A> as Going>⟧.goes K.eq K.is_clone
             V.is_clone cache.old state.old (Call.LoadMut key.now given left) result
             cache.new state.new }
+        ensures room { cache.old.room ≤ cache.new.room + 1 }
+        ensures asks { K.is_infallible key.now → AlwaysClones V.is_infallible
+            → NeedsRoom cache.old.room (refusal_of result) }
         ensures same { KeepsTerms cache.old cache.new }
     {
         match Self::guarded(cache, key, given, state) {

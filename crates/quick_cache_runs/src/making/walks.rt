@@ -56,6 +56,7 @@ fn given_out<M: Allocator, K: Eq + Hash + Drop, V: Drop, We, B: BuildHasher, L, 
     requires none { pairs.items ≡ [] }
     requires room { item_count cache.old.state ≤ vec_capacity pairs }
     ensures drains { Drains cache.old.state result.items cache.new.state }
+    ensures room { cache.old.room ≤ cache.new.room }
     ensures same { KeepsWork cache.old cache.new }
 {
     for pair in cache.drain() {
@@ -94,6 +95,7 @@ impl<
     pub(crate) fn drain(alloc: &M, cache: &mut Cache<K, V, We, B, L, A>) -> Reply<K, V, M>
         ensures step { StepsBy F ⟦<Cache<K, V, We, B, L, A> as Going>⟧.goes K.eq K.is_clone
             V.is_clone cache.old (Call.Drain) result cache.new }
+        ensures room { cache.old.room ≤ cache.new.room }
         ensures same { KeepsWork cache.old cache.new }
     {
         let Ok(alloc) = alloc.clone() else {

@@ -1,8 +1,9 @@
 //! Calls that write, take items out or make room, each with its reply. Where pinning is steady, each
 //! is a step of its definition.
-ghost use Rattle.std.specs.Prelude.{◌≡◌};
+ghost use Rattle.std.specs.Prelude.{◌≡◌, ◌≤◌, ◌+◌};
 ghost use Rattle.quick_cache_shard.specs.Shard.{KeepsTerms, KeepsWork};
 ghost use Rattle.quick_cache_runs.specs.Made.{MakesCall, StepsBy};
+ghost use Rattle.quick_cache_runs.specs.Room.{NeedsRoom, refusal_of};
 
 use crate::calls::CallMaker;
 use quick_cache_model::{Call, Lifecycle, Reply, Weighter};
@@ -31,6 +32,8 @@ impl<
     ) -> Reply<K, V, M>
         ensures step { MakesCall F ⟦<Cache<K, V, We, B, L, A> as Going>⟧.goes K.eq K.is_clone
             V.is_clone cache.old state.old (Call.Insert key value) result cache.new state.new }
+        ensures room { cache.old.room ≤ cache.new.room + 1 }
+        ensures asks { NeedsRoom cache.old.room (refusal_of result) }
         ensures same { KeepsTerms cache.old cache.new }
     {
         match cache.insert_with_lifecycle(key, value, state) {
@@ -50,6 +53,7 @@ impl<
     ) -> Reply<K, V, M>
         ensures step { MakesCall F ⟦<Cache<K, V, We, B, L, A> as Going>⟧.goes K.eq K.is_clone
             V.is_clone cache.old state.old (Call.Replace key value soft) result cache.new state.new }
+        ensures room { cache.old.room ≤ cache.new.room }
         ensures same { KeepsTerms cache.old cache.new }
     {
         match cache.replace_with_lifecycle(key, value, soft, state) {
@@ -85,6 +89,7 @@ impl<
     pub(crate) fn remove(cache: &mut Cache<K, V, We, B, L, A>, key: K) -> Reply<K, V, M>
         ensures step { StepsBy F ⟦<Cache<K, V, We, B, L, A> as Going>⟧.goes K.eq K.is_clone
             V.is_clone cache.old (Call.Remove key) result cache.new }
+        ensures room { cache.old.room ≤ cache.new.room }
         ensures same { KeepsWork cache.old cache.new }
     {
         Reply::Pair(cache.remove(&key))
@@ -95,6 +100,7 @@ impl<
     pub(crate) fn clear(cache: &mut Cache<K, V, We, B, L, A>) -> Reply<K, V, M>
         ensures step { StepsBy F ⟦<Cache<K, V, We, B, L, A> as Going>⟧.goes K.eq K.is_clone
             V.is_clone cache.old (Call.Clear) result cache.new }
+        ensures room { cache.old.room ≤ cache.new.room }
         ensures same { KeepsWork cache.old cache.new }
     {
         cache.clear();
@@ -110,6 +116,7 @@ impl<
     ) -> Reply<K, V, M>
         ensures step { MakesCall F ⟦<Cache<K, V, We, B, L, A> as Going>⟧.goes K.eq K.is_clone
             V.is_clone cache.old state.old (Call.SetCapacity capacity) result cache.new state.new }
+        ensures room { cache.old.room ≤ cache.new.room }
         ensures same { KeepsTerms cache.old cache.new }
     {
         cache.set_capacity_with_lifecycle(capacity, state);
@@ -121,6 +128,7 @@ impl<
     pub(crate) fn reserve(cache: &mut Cache<K, V, We, B, L, A>, additional: usize) -> Reply<K, V, M>
         ensures step { StepsBy F ⟦<Cache<K, V, We, B, L, A> as Going>⟧.goes K.eq K.is_clone
             V.is_clone cache.old (Call.Reserve additional) result cache.new }
+        ensures room { cache.old.room ≤ cache.new.room }
         ensures same { cache.new ≡ record cache.old { room = cache.new.room } }
     {
         match cache.reserve(additional) {

@@ -2,7 +2,7 @@ use Rattle.std.proofs.Common.{arith, ◌∙◌, Ok, Err}
 use Rattle.quick_cache_model.proofs.RunLemmas.{stops_at_first}
 use Rattle.quick_cache_runs.proofs.ConservationLemmas.{RunsCalls-conserves}
 use Rattle.quick_cache_shard.specs.Lifecycles.{hooks_by}
-use Rattle.quick_cache_runs.proofs.RunLemmas.{AreAnswered-none}
+use Rattle.quick_cache_runs.proofs.RunLemmas.{AreAnswered-none, AreInRoom-none}
 use Rattle.quick_cache_runs.proofs.runs.run.Goals as goal
 
 -- there was no room for the reply to the first call, so all come back
@@ -31,6 +31,11 @@ returns-in_default-clause-conserves g c = λ steady answers asked.
 pub returns-in_default-clause-answered : goal.returns-in_default-clause-answered
 returns-in_default-clause-answered g c = λ always.
     AreAnswered-none c.args.calls.items c.reserve.new.self.items
+    (c.reserve.ensures.items ∙ c.new-replies.ensures.items)
+
+pub returns-in_default-clause-asks : goal.returns-in_default-clause-asks
+returns-in_default-clause-asks g c = λ keys values.
+    AreInRoom-none c.args.cache.now.room c.args.calls.items c.reserve.new.self.items
     (c.reserve.ensures.items ∙ c.new-replies.ensures.items)
 
 -- there is room for all replies

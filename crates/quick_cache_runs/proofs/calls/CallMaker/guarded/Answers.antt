@@ -41,6 +41,8 @@ returns-in-Ok-None g c =
           g.L.Lifecycle) g.K.PartialEq.eq g.K.Clone.is_clone g.V.Clone.is_clone x c.args.state.now
           (Guarded c.args.key.now c.args.given) c.guard_absent.result c.guard_absent.new.cache
           c.guard_absent.new.state) same c.guard_absent.ensures.step;
+      room = rw same at c.guard_absent.ensures.room;
+      asks = λ key values. rw same at (c.guard_absent.ensures.asks key);
       same = subst (λ (x : X). KeepsTerms x c.guard_absent.new.cache) same
           c.guard_absent.ensures.same;
     }

@@ -41,5 +41,7 @@ returns-in_default g c = record {
             c.guarded.new.cache.state made.step c.in_default.not-Filled c.in_default.not-Dropped;
         runs = made.runs;
       };
+  room = c.guarded.ensures.room;
+  asks = c.guarded.ensures.asks;
   same = c.guarded.ensures.same;
 }

@@ -77,5 +77,7 @@ returns-in_default g c = record {
             c.in_default.not-Dropped c.in_default.not-Found;
         runs = made.runs;
       };
+  room = c.guarded.ensures.room;
+  asks = c.guarded.ensures.asks;
   same = c.guarded.ensures.same;
 }

@@ -7,4 +7,5 @@ returns-clause-made g c = (
   c.push_reserved.ensures.items,
   c.act-reply.ensures.step,
   c.act-reply.ensures.answered,
+  c.act-reply.ensures.asks,
 )

@@ -2,6 +2,7 @@ use Rattle.std.proofs.Common.{[], ◌∷◌, refl, sym, ap, subst, ◌∙◌, ar
 use Rattle.std.proofs.lemmas.List.{length-append}
 use Rattle.std.specs.Prelude.{All}
 use Rattle.quick_cache_model.specs.Answered.{AreAnswered}
+use Rattle.quick_cache_runs.specs.Room.{AreInRoom}
 use Rattle.quick_cache_model.proofs.RunLemmas.{IsRun-append, no_calls, took_one, took_all}
 use Rattle.quick_cache_shard.specs.Copies.{ClonesAreEqual}
 use Rattle.quick_cache_shard.specs.Lifecycles.{hooks_by}
@@ -11,6 +12,7 @@ use Rattle.quick_cache_unsync.specs.Touches.{no_touches}
 use Rattle.quick_cache_runs.specs.Asked.{IfAsks, IfLoads, IsAskedAs}
 use Rattle.quick_cache_runs.specs.Made.{IsMade, IsRunBy}
 use Rattle.quick_cache_runs.proofs.RunLemmas.{All-next, AreAnswered-push, AreAnswered-none}
+use Rattle.quick_cache_runs.proofs.RunLemmas.{AreInRoom-push, AreInRoom-none}
 use Rattle.quick_cache_runs.proofs.calls.CallMaker.make_all.Goals as goal
 
 -- before the first call, and with room for all replies
@@ -28,6 +30,9 @@ loop-call-init g c = record {
         c.into_iter-call-iterator.ensures.into_iter_gives.0,
   );
   as_many = ap length (sym c.requires.none);
+  spared = omega (arith);
+  asks = λ keys values. AreInRoom-none {F = g.row.F.Denot} c.args.cache.now.room []
+      c.args.replies.items c.requires.none;
   answered = λ always. AreAnswered-none {F = g.row.F.Denot} [] c.args.replies.items
       c.requires.none;
   room = omega (
@@ -96,6 +101,16 @@ loop-call-preserved g c =
         length-append c.loop-call.replies.items (told.0 ∷ []),
         ap length told.1,
       );
+      spared = omega (
+        arith,
+        i.spared,
+        c.make.ensures.room,
+        length-append c.loop-call.yielded (call ∷ []),
+      );
+      asks = λ keys values. rw told.1
+          (AreInRoom-push c.args.cache.now.room c.loop-call.cache.room c.loop-call.yielded
+          c.loop-call.replies.items call told.0 i.as_many i.spared (i.asks keys values)
+          (told.4 keys values));
       answered = λ always. rw told.1
           (AreAnswered-push c.loop-call.yielded c.loop-call.replies.items call told.0
           i.as_many (i.answered always) (told.3 always));
@@ -125,3 +140,10 @@ returns-clause-answered g c = λ always.
     subst (λ made. AreAnswered made c.loop-call.replies.items)
     (took_all c.args.calls.items c.loop-call.yielded _ i.split
     (sym i.left ∙ c.in-None.ensures.steps.0)) (i.answered always)
+
+pub returns-clause-asks : goal.returns-clause-asks
+returns-clause-asks g c = λ keys values.
+    let i = c.loop-call.invariant in
+    subst (λ made. AreInRoom c.args.cache.now.room made c.loop-call.replies.items)
+    (took_all c.args.calls.items c.loop-call.yielded _ i.split
+    (sym i.left ∙ c.in-None.ensures.steps.0)) (i.asks keys values)

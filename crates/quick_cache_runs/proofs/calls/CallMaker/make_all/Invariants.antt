@@ -6,6 +6,7 @@ use Rattle.quick_cache_shard.specs.Shard.{KeepsTerms}
 use Rattle.quick_cache_shard.specs.Steps.{goes_by}
 use Rattle.quick_cache_runs.specs.Asked.{IsAskedAs}
 use Rattle.quick_cache_runs.specs.Made.{IsRunBy}
+use Rattle.quick_cache_runs.specs.Room.{AreInRoom}
 use Rattle.quick_cache_runs.proofs.calls.CallMaker.make_all.Given as goal
 
 -- the calls that the loop took were made, and there is room for the replies of those that are left
@@ -21,6 +22,9 @@ invariant-loop-call g l = record {
   same : KeepsTerms l.fn.cache l.cache;
   left : into_iter_len l.call-iterator ≡ length (into_iter_items l.call-iterator);
   as_many : length l.yielded ≡ length l.replies.items;
+  spared : l.fn.cache.room ≤ l.cache.room + length l.yielded;
+  asks : AlwaysClones g.K.Clone.is_infallible → AlwaysClones g.V.Clone.is_infallible
+      → AreInRoom l.fn.cache.room l.yielded l.replies.items;
   answered : AlwaysClones g.V.Clone.is_infallible → AreAnswered l.yielded l.replies.items;
   room : vec_len l.replies + into_iter_len l.call-iterator ≤ vec_capacity l.replies;
 }

@@ -2,7 +2,7 @@ use Rattle.std.proofs.Common.{rules, ◌≡◌, List, [], ◌∷◌, ◌++◌, �
 use Rattle.std.proofs.lemmas.List.Sorted.{length_permutation}
 use Rattle.quick_cache_model.specs.Removal.{Drains}
 use Rattle.quick_cache_unsync.specs.CacheDrain.{DrainsInAll}
-use Rattle.quick_cache_runs.proofs.DrainSteps.{rest-counted, drained-out}
+use Rattle.quick_cache_runs.proofs.DrainSteps.{rest-counted, drained-out, drained-room}
 use Rattle.quick_cache_runs.proofs.making.walks.given_out.Goals as goal
 
 -- there is no pair yet, and room for all
@@ -47,3 +47,14 @@ returns-clause-drains g c =
     (subst DrainsInAll (sym first) c.drain-pair-items.ensures.gives) c.loop-pair.yielded
     c.loop-pair.pair-iterator c.next.new.self c.loop-pair.yielded_by c.in-None.ensures.steps final
     (ended ∙ c.drop-pair-iterator.ensures))
+
+pub returns-clause-room : goal.returns-clause-room
+returns-clause-room g c =
+    let first = c.into_iter-pair-iterator.ensures.into_iter_gives in
+    let begins = ap (λ x. x.cache.now) first ∙ c.drain-pair-items.ensures.begins in
+    let final = c.cache-1.given.0 in
+    let ended : final ≡ c.drop-pair-iterator.new.self.0 = search rules in
+    drained-room c.into_iter-pair-iterator.result c.args.cache.now begins
+    (subst DrainsInAll (sym first) c.drain-pair-items.ensures.gives) c.loop-pair.yielded
+    c.loop-pair.pair-iterator c.next.new.self c.loop-pair.yielded_by c.in-None.ensures.steps final
+    (ended ∙ c.drop-pair-iterator.ensures)
