@@ -1,4 +1,5 @@
 //! A value that was loaded, with its moment, and whether it may be answered at another.
+ghost use Rattle.std.specs.Bool.{OnTrue, OnFalse};
 ghost use Rattle.std.specs.Prelude.{◌≡◌, ◌↔◌, IsTrue, IfOk, IfErr};
 ghost use Rattle.quick_cache_model.specs.declared.refusal.Refusal.TheVariants.{Memory};
 ghost use Rattle.quick_cache_expiring.specs.Looks.{IfRetain, Stays};
@@ -17,7 +18,8 @@ pub struct Loaded<V> {
 }
 
 impl<V: Clone> Clone for Loaded<V> {
-    ghost is_clone = { λ old new. V.is_clone old.value new.value × (new.moment ≡ old.moment) };
+    ghost is_clone = { λ old new. V.is_clone old.value new.value × (new.moment ≡ old.moment)
+        × (new.asked ≡ old.asked) };
 
     ghost is_infallible = { λ loaded. V.is_infallible loaded.value };
 
@@ -35,6 +37,7 @@ impl<V> Loaded<V> {
     pub fn at(value: V, moment: u64) -> Self
         ensures value { result.value ≡ value }
         ensures moment { result.moment ≡ moment }
+        ensures asked { result.asked ≡ moment }
     {
         Loaded {
             value,
@@ -84,6 +87,8 @@ impl<V> Loaded<V> {
         ensures claimed { IsTrue result ↔ IsDue self.old.asked refresh_after now }
         ensures value { self.new.value ≡ self.old.value }
         ensures moment { self.new.moment ≡ self.old.moment }
+        ensures asked { OnTrue result (self.new.asked ≡ now) }
+        ensures unasked { OnFalse result (self.new.asked ≡ self.old.asked) }
     {
         if !self.is_due(refresh_after, now) {
             return false;

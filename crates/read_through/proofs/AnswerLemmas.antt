@@ -72,7 +72,8 @@ module _ {K V : Type 0} (gives : K → ℕ → V → Type 0) (equal : K → K �
   -- so a clone of what is stored fits where that does
   pub ClonesFit-loaded : (is_clone : V → V → Type 0) → GivesClones gives is_clone
       → ClonesFit (λ (key : K) (loaded : Loaded V). IsOf gives equal key loaded.moment loaded.value)
-      (λ old new. is_clone old.value new.value × (new.moment ≡ old.moment))
+      (λ old new. is_clone old.value new.value × (new.moment ≡ old.moment)
+      × (new.asked ≡ old.asked))
   ClonesFit-loaded is_clone clones = λ key old new cloned fits.
       subst (λ moment. IsOf gives equal key moment new.value) (sym cloned.1)
       (IsOf-clone is_clone clones key old.moment old.value new.value cloned.0 fits)
