@@ -100,7 +100,7 @@ pub fn come<
         Err(refusal) => return Err(Some(GuardResult::Refused(refusal))),
     };
     let mut locked = shard.write(rt);
-    let shared = match locked.begin(query) {
+    let shared = match locked.begin_load(query) {
         Ok(Begun::Found(value)) => return Err(Some(GuardResult::Value(value))),
         Ok(Begun::Loading(shared)) => shared,
         Err(refusal) => return Err(Some(GuardResult::Refused(refusal))),

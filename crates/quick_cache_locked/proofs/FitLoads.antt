@@ -1,7 +1,6 @@
 -- Loads keep every value fitting its key.
 use Rattle.std.proofs.Common.{◌≡◌, ℕ, Bool, true, false, List, ◌∷◌, ◌++◌, Option, Some, None, Result, Ok, Err}
 use Rattle.std.proofs.Common.{subst}
-use Rattle.std.specs.Prelude.{MatchOption}
 use Rattle.std.specs.declared.num.NonZeroU32.{NonZeroU32 as Token}
 use Rattle.quick_cache_model.specs.declared.refusal.Refusal.{Refusal}
 use Rattle.std.specs.List.{AllByRecursion}
@@ -12,16 +11,14 @@ use Rattle.quick_cache_model.specs.Hooks.{Rules, Hooks, Calls}
 use Rattle.quick_cache_model.specs.Lookups.{LooksUp, after_hit, looked_up}
 use Rattle.quick_cache_model.specs.Placeholders.{MakesPlaceholder, MeetsPlaceholder, GivesUpPlaceholder, IsLoadingTicket}
 use Rattle.quick_cache_model.proofs.EachElement.{all-instead}
+use Rattle.quick_cache_shard.specs.Copies.{FindsCopy, IsCopyFound}
 use Rattle.quick_cache_shard.specs.Filling.{AnswersFill}
 use Rattle.quick_cache_shard.specs.Loading.{IsMadeOrMet, LooksUpOrMakes}
-use Rattle.quick_cache_shard.specs.References.{NotesLookUp}
-use Rattle.quick_cache_loading.specs.declared.sharing.shard.Begun.TheVariants.{Found}
 use Rattle.quick_cache_shard.specs.Lifecycles.{hooks_by}
-use Rattle.quick_cache_locked.specs.Fitting.{FitsIn, AllFit}
-use Rattle.quick_cache_locked.specs.Loads.{BeginsLoad, EndsLoad}
-use Rattle.quick_cache_locked.specs.Peeks.{Peeks}
+use Rattle.quick_cache_locked.specs.Fitting.{FitsIn, AllFit, ClonesFit, FitsQuery}
+use Rattle.quick_cache_locked.specs.Loads.{EndsLoad}
 use Rattle.quick_cache_locked.proofs.FitRemovals.{AllFit-same, AllFit-stepped}
-use Rattle.quick_cache_locked.proofs.PeekLemmas.{absent-item, Peeks-nothing, Peeks-something}
+use Rattle.quick_cache_locked.proofs.PeekLemmas.{absent-item}
 use Rattle.quick_cache_locked.proofs.TicketLemmas.{awaits_none}
 use Rattle.quick_cache_model.proofs.Fitting.{RunsHooks-fits, TellsBeside-fits}
 use Rattle.quick_cache_locked.proofs.FitLemmas.{AllFit-at, AllFit-with, SameButOrder-fits}
@@ -119,17 +116,31 @@ EndsLoad-filled steady hooks rules equal ticket old marked key value first last 
 
 module _ {K V : Type 0} (fits : K → V → Type 0) (stands_for : K → Bool)
     (old new : CacheState K V) where
-  -- a look-up leaves values that fit, whatever it found
-  pub AllFit-looked : {X : Type 0} (found : Option X)
-      → MatchOption found (NotesLookUp stands_for old false new)
-      (λ _. NotesLookUp stands_for old true new)
-      → AllFit fits old → AllFit fits new
-  AllFit-looked None step fit =
-      AllFit-stepped fits old new step
-      (λ next holds. LooksUp-fits fits stands_for old None next holds) fit
-  AllFit-looked (Some x) step fit =
-      AllFit-stepped fits old new step.1
-      (λ next holds. LooksUp-fits fits stands_for old (Some step.0) next holds) fit
+  -- a look-up that gives a clone leaves values that fit, whatever it found
+  pub AllFit-copied : (is_clone : V → V → Type 0) (found : Result (Option V) Refusal)
+      → FindsCopy stands_for is_clone old found new → AllFit fits old → AllFit fits new
+  AllFit-copied is_clone (Ok (Some copy)) finds fit =
+      AllFit-stepped fits old new finds.looks
+      (λ next holds. LooksUp-fits fits stands_for old (Some finds.value) next holds) fit
+  AllFit-copied is_clone (Ok None) none fit = AllFit-same fits old new none.1 fit
+  AllFit-copied is_clone (Err refusal) none fit = AllFit-same fits old new none.unchanged fit
+
+  -- and the clone fits, where clones do
+  pub IsCopyFound-fits : (is_clone : V → V → Type 0) (copy : V)
+      → IsCopyFound stands_for is_clone old copy new → AllFit fits old → ClonesFit fits is_clone
+      → FitsQuery fits stands_for copy
+  IsCopyFound-fits is_clone copy found fit clones =
+      go found.value found.looks.ordered found.looks.holds found.cloned
+    where
+      go : (value : V) (next : CacheState K V)
+          → LooksUp stands_for old (λ item. item.value) (Some value) next → is_clone value copy
+          → FitsQuery fits stands_for copy
+      go _ _ (LooksUp.hit place before item after there) cloned = record {
+        key = item.key;
+        stands = there.passes;
+        fits_key = clones item.key item.value copy cloned
+            (IsItemAt-fits fits stands_for old place before item after there fit);
+      }
 
   -- and so does one that makes a placeholder where it finds no key
   pub AllFit-looks_or_makes : {P : Type 0} (own_ticket : P → ℕ) (gives : K → Type 0) (hash : ℕ)
@@ -145,26 +156,12 @@ module _ {K V : Type 0} (fits : K → V → Type 0) (stands_for : K → Bool)
       AllFit-same fits old new none.unchanged fit
 
 module _ {K V P : Type 0} (own_ticket : P → ℕ) (stands_for : K → Bool) (gives : K → Type 0)
-    (hash : ℕ) (is_clone : V → V → Type 0) (old : CacheState K V) where
-  -- where a look showed nothing, no item is looked up
-  pub never_finds : (peeked : Result (Option V) Refusal)
-      (answer : Result (Result Token (P × Bool)) Refusal) (token : Token) (new : CacheState K V)
-      → Peeks stands_for is_clone old peeked → peeked ≡ Ok None
+    (hash : ℕ) (old : CacheState K V) where
+  -- where there is no item, none is looked up
+  pub never_finds : (answer : Result (Result Token (P × Bool)) Refusal) (token : Token)
+      (new : CacheState K V) → HasNoItem stands_for old
       → LooksUpOrMakes own_ticket stands_for gives hash old answer new → answer ≡ Ok (Ok token)
       → ⊥
-  never_finds peeked answer token new shows nothing looks is =
-      let none = Peeks-nothing stands_for is_clone old (rw nothing at shows) in
+  never_finds answer token new none looks is =
       let found = rw is at looks in
       absent-found stands_for old found.0 found.1.ordered none found.1.holds
-
-  -- where a look showed a clone, an item is looked up
-  pub BeginsLoad-finds : {X : Type 0} (found : Option X) (clone : V) (new : CacheState K V)
-      → Peeks stands_for is_clone old (Ok (Some clone))
-      → MatchOption found (NotesLookUp stands_for old false new)
-      (λ _. NotesLookUp stands_for old true new)
-      → BeginsLoad own_ticket stands_for gives hash is_clone old (Ok (Found clone)) new
-  BeginsLoad-finds (Some x) clone new shows step = BeginsLoad.finds clone step.0 new shows step.1
-  BeginsLoad-finds None clone new shows step = absurd (clash step.ordered step.holds)
-    where
-      clash : (next : CacheState K V) → LooksUp stands_for old (λ item. item.value) None next → ⊥
-      clash _ (LooksUp.miss none) = Peeks-something stands_for is_clone old clone shows none

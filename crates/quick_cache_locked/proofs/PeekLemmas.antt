@@ -71,23 +71,3 @@ module _ {K V : Type 0} (stands_for : K → Bool) (is_clone : V → V → Type 0
             (IsItemAt-fits fits stands_for old place before item after there fit);
       }
       go _ (Some value) (Sees.is_absent none) shows = absurd shows
-
-  -- a look that shows nothing saw nothing
-  pub Peeks-nothing : Peeks stands_for is_clone old (Ok None) → HasNoItem stands_for old
-  Peeks-nothing (Peeks.peeks found _ sees is) = go found sees is
-    where
-      go : (was : Option V) → Sees stands_for old (λ item. item.value) was
-          → IsShown is_clone was None → HasNoItem stands_for old
-      go _ (Sees.is_there place before item after there) shows = absurd shows
-      go _ (Sees.is_absent none) shows = none
-
-  -- and one that shows a clone saw an item
-  pub Peeks-something : (clone : V) → Peeks stands_for is_clone old (Ok (Some clone))
-      → HasNoItem stands_for old → ⊥
-  Peeks-something clone (Peeks.peeks found _ sees is) none = go found sees is
-    where
-      go : (was : Option V) → Sees stands_for old (λ item. item.value) was
-          → IsShown is_clone was (Some clone) → ⊥
-      go _ (Sees.is_there place before item after there) shows =
-          absent-item stands_for old place before item after there none
-      go _ (Sees.is_absent nothing) shows = absurd shows

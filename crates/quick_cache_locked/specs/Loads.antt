@@ -1,10 +1,10 @@
 -- Loads in a shard behind its lock: how they begin, and how they end.
-use Rattle.std.specs.Prelude.{◌≡◌, ℕ, Bool, true, false, Some, Result, Ok, Err}
+use Rattle.std.specs.Prelude.{◌≡◌, ℕ, Bool, true, false, Result, Ok, Err}
 use Rattle.quick_cache_model.specs.declared.refusal.Refusal.{Refusal}
 use Rattle.quick_cache_model.specs.declared.terms.lifecycle.Lifecycle as lifecycle
-use Rattle.quick_cache_model.specs.CacheState.{CacheState, UpToOrder}
+use Rattle.quick_cache_model.specs.CacheState.{CacheState}
 use Rattle.quick_cache_model.specs.Hooks.{Rules, Hooks, Calls}
-use Rattle.quick_cache_model.specs.Lookups.{LooksUp}
+use Rattle.quick_cache_shard.specs.Copies.{IsCopyFound, IsNotCopied}
 use Rattle.quick_cache_shard.specs.Filling.{AnswersFill, AwaitsKey}
 use Rattle.quick_cache_shard.specs.Loading.{IsMadeOrMet, MakesNone}
 use Rattle.quick_cache_loading.specs.declared.sharing.shard.Begun.{Begun}
@@ -12,7 +12,6 @@ use Rattle.quick_cache_loading.specs.declared.sharing.shard.Begun.TheVariants.{F
 use Rattle.quick_cache_shard.specs.Shard.{Shard}
 use Rattle.quick_cache_shard.specs.Steps.{Goes, steady_in, hooks_in, rules_in}
 use Rattle.quick_cache_locked.specs.Locked.{FromSome}
-use Rattle.quick_cache_locked.specs.Peeks.{Peeks}
 
 -- the query stands for each key that it may give
 abbrev pub StandsForGiven : {K : Type 0} → (gives : K → Type 0) → (stands_for : K → Bool) → Type 0
@@ -24,12 +23,10 @@ module _ {K V P : Type 0} (own_ticket : P → ℕ) (stands_for : K → Bool) (gi
   -- failed, and nothing changed. Else a placeholder is the answer, which was made or met; or none
   -- was made, and nothing changed.
   pub data BeginsLoad : Result (Begun V P) Refusal → CacheState K V → Type 0 where
-    finds : (clone value : V) (new : CacheState K V)
-        → Peeks stands_for is_clone old (Ok (Some clone))
-        → UpToOrder (LooksUp stands_for old (λ item. item.value) (Some value)) new
-        → BeginsLoad (Ok (Found clone)) new
-    lacks_a_clone : (refusal : Refusal) → Peeks stands_for is_clone old (Err refusal)
-        → BeginsLoad (Err refusal) old
+    finds : (copy : V) (new : CacheState K V) → IsCopyFound stands_for is_clone old copy new
+        → BeginsLoad (Ok (Found copy)) new
+    lacks_a_clone : (refusal : Refusal) (new : CacheState K V)
+        → IsNotCopied stands_for is_clone old refusal new → BeginsLoad (Err refusal) new
     makes_or_meets : (made : Bool) (placeholder : P) (new : CacheState K V)
         → IsMadeOrMet stands_for gives hash old made (own_ticket placeholder) new
         → BeginsLoad (Ok (Loading placeholder)) new

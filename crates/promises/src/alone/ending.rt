@@ -1,5 +1,5 @@
-//! What those rely on who purge a cache for one thread whose entries end.
-ghost use Rattle.std.specs.Prelude.{◌≡◌, ℕ, true};
+//! What those rely on who purge a cache for one thread whose entries end, or claim a load.
+ghost use Rattle.std.specs.Prelude.{◌≡◌, ℕ, true, false};
 ghost use Rattle.std.specs.List.{Contains};
 ghost use Rattle.quick_cache_model.specs.CacheState.{Item};
 ghost use Rattle.quick_cache_model.specs.Fitting.{AllFit};
@@ -7,7 +7,7 @@ ghost use Rattle.quick_cache_shard.specs.Shard.{residents};
 ghost use Rattle.quick_cache_expiring.specs.declared.lasting.Lasting.{Lasting};
 ghost use Rattle.quick_cache_expiring.specs.Lives.{lives};
 
-use quick_cache_expiring::Expiring;
+use quick_cache_expiring::{Expiring, Loaded};
 
 /// A purge of none takes none.
 pub fn purge_none(entries: &mut Expiring<u64, u64>, now: u64) -> usize
@@ -30,4 +30,22 @@ pub fn purge_and_keep(entries: &mut Expiring<u64, u64>, now: u64, at_most: usize
         → lives item.value.until now ≡ true → Contains (residents entries.new.cache.state) item }
 {
     entries.purge_some(now, at_most);
+}
+
+/// A load is claimed once at a moment.
+pub fn claim_again(loaded: &mut Loaded<u64>, refresh_after: u64, now: u64) -> bool
+    ensures { result ≡ false }
+{
+    loaded.claim(refresh_after, now);
+    loaded.claim(refresh_after, now)
+}
+
+/// What was just loaded is not due, nor is a clone of it.
+pub fn load_again(value: u64, refresh_after: u64, now: u64) -> bool
+    ensures { result ≡ false }
+{
+    match Loaded::at(value, now).clone() {
+        Ok(copy) => copy.is_due(refresh_after, now),
+        Err(_) => false,
+    }
 }

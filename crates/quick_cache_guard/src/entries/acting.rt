@@ -183,7 +183,7 @@ pub fn come<
         Err(refusal) => return Err(Some(EntryResult::Refused(refusal))),
     };
     let mut locked = shard.write(rt);
-    match locked.act(query, callback) {
+    match locked.act_on(query, callback) {
         Ok(EntryOrPlaceholder::Kept(told)) => Err(Some(EntryResult::Retained(told))),
         Ok(EntryOrPlaceholder::Removed(key, value)) => Err(Some(EntryResult::Removed(key, value))),
         Ok(EntryOrPlaceholder::Replaced(shared, value)) => {

@@ -25,7 +25,7 @@ pub trait EntryShard<K: Eq + Hash + Drop, V: Clone, L: Lifecycle<K, V>, A: Alloc
     ///
     /// Only where a placeholder would be made. An item that was to be replaced stays as the callback
     /// wrote it; else nothing has changed.
-    fn act<Q: ToKey<K>, T, F: FnOnce(&K, &mut V) -> EntryAction<T>>(
+    fn act_on<Q: ToKey<K>, T, F: FnOnce(&K, &mut V) -> EntryAction<T>>(
         &mut self,
         query: &Q,
         callback: &mut Option<F>,

@@ -116,10 +116,12 @@ impl<
         &mut self,
         cx: &mut Context<'_>,
     ) -> Poll<EntryResult<T, K, V, PlaceholderGuard<'a, K, V, L, S, R, A>>>
-        requires callable { (callback : F) → self.old.callback ≡ Some callback
+        requires callable { self.old.is_finished ≡ false → (callback : F)
+            → self.old.callback ≡ Some callback
             → MayAct F.FnOnce L.fits (Q.equivalent self.old.query) callback }
         // What the callback leaves fits.
-        requires leaves { LeavesFit (LeavesHeld F.FnOnce self.old.callback) L.fits }
+        requires leaves { self.old.is_finished ≡ false
+            → LeavesFit (LeavesHeld F.FnOnce self.old.callback) L.fits }
         ensures value { IfReady result (λ output. IfActed
             (λ value. FitsQuery L.fits (Q.equivalent self.old.query) value)
             (λ told. MayTell (LeavesHeld F.FnOnce self.old.callback) L.fits
@@ -333,10 +335,10 @@ impl<
 > Future for EntryFuture<'a, 'q, Q, K, V, L, S, R, T, F, A> {
     type Output = EntryResult<T, K, V, PlaceholderGuard<'a, K, V, L, S, R, A>>;
 
-    // A callback that it holds may be called, and what that leaves fits.
-    ghost can_poll = { λ f. ((callback : F) → f.callback ≡ Some callback
+    // Until it answers, a callback that it holds may be called, and what that leaves fits.
+    ghost can_poll = { λ f. (f.is_finished ≡ false → (callback : F) → f.callback ≡ Some callback
         → MayAct F.FnOnce L.fits (Q.equivalent f.query) callback)
-        × LeavesFit (LeavesHeld F.FnOnce f.callback) L.fits };
+        × (f.is_finished ≡ false → LeavesFit (LeavesHeld F.FnOnce f.callback) L.fits) };
 
     // Once it waits, the source of its placeholder.
     ghost needs = { λ f. WaitsFor f };

@@ -30,7 +30,7 @@ pub trait LoadingShard<K: Eq + Hash + Drop, V: Clone, L: Lifecycle<K, V>, A: All
 
     /// Looks the query's key up beside other readers, and gives a clone of its value. A find counts
     /// a hit and a touch of the item. Where there is none nothing is counted, since the caller goes
-    /// on to `begin`.
+    /// on to `begin_load`.
     ///
     /// # Errors
     ///
@@ -48,7 +48,7 @@ pub trait LoadingShard<K: Eq + Hash + Drop, V: Clone, L: Lifecycle<K, V>, A: All
     ///
     /// `Memory` where a clone of the value failed, and where a placeholder would be made what
     /// refuses one. Nothing has changed then.
-    fn begin<Q: ToKey<K>>(
+    fn begin_load<Q: ToKey<K>>(
         &mut self,
         query: &Q,
     ) -> Result<Begun<V, SharedPlaceholder<K, V, L, A>>, Refusal>
@@ -66,7 +66,7 @@ pub trait LoadingShard<K: Eq + Hash + Drop, V: Clone, L: Lifecycle<K, V>, A: All
     /// # Errors
     ///
     /// The value, where it is not there. Nothing has changed then.
-    fn fill(
+    fn end_load(
         &mut self,
         placeholder: &SharedPlaceholder<K, V, L, A>,
         filled: &Filled,
@@ -82,7 +82,7 @@ pub trait LoadingShard<K: Eq + Hash + Drop, V: Clone, L: Lifecycle<K, V>, A: All
             (fills filled.now.ticket filled.now.waited key.now value state.old state.new) };
 
     /// Takes the placeholder out whose life has ended, if it is there.
-    fn give_up(&mut self, placeholder: &SharedPlaceholder<K, V, L, A>, ended: &Ended)
+    fn give_up_load(&mut self, placeholder: &SharedPlaceholder<K, V, L, A>, ended: &Ended)
         requires ended { ended.now.ticket ≡ placeholder.now.ticket }
         ensures gives_up { gives_up ended.now.ticket self.old self.new };
 }

@@ -31,7 +31,7 @@ impl Ended {
         requires ended { self.ticket ≡ placeholder.now.ticket }
         ensures gives_up { S.gives_up self.ticket locked.old locked.new }
     {
-        locked.give_up(placeholder, &self);
+        locked.give_up_load(placeholder, &self);
         let Ended { ticket: _ } = self;
     }
 }
@@ -84,7 +84,7 @@ impl Filled {
         ensures told { OnOk result
             (S.fills self.ticket self.waited key.now value state.old state.new) }
     {
-        let put = locked.fill(placeholder, &self, key, value, state);
+        let put = locked.end_load(placeholder, &self, key, value, state);
         let Filled {
             ticket: _,
             waited: _,

@@ -68,7 +68,7 @@ impl<
     L: Lifecycle<K, V>,
     A: Allocator + Clone,
 > EntryShard<K, V, L, A> for LockedShard<K, V, We, B, L, A> {
-    fn act<Q: ToKey<K>, T, F: FnOnce(&K, &mut V) -> EntryAction<T>>(
+    fn act_on<Q: ToKey<K>, T, F: FnOnce(&K, &mut V) -> EntryAction<T>>(
         &mut self,
         query: &Q,
         callback: &mut Option<F>,

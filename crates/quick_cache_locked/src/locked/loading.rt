@@ -42,11 +42,8 @@ impl<
     {
         self.facts();
         let hash = self.shard.hash(query);
-        match self.peek(query) {
-            Ok(Some(copy)) => {
-                self.shard.look_up(hash, query);
-                Ok(Begun::Found(copy))
-            }
+        match self.shard.find_copy(hash, query) {
+            Ok(Some(copy)) => Ok(Begun::Found(copy)),
             Ok(None) => match self.shard.get_or_placeholder(&self.maker, hash, query) {
                 Ok(Ok(_)) => unreachable!(),
                 Ok(Err((placeholder, _))) => Ok(Begun::Loading(placeholder)),
@@ -118,14 +115,14 @@ impl<
         self.find(query)
     }
 
-    fn begin<Q: ToKey<K>>(
+    fn begin_load<Q: ToKey<K>>(
         &mut self,
         query: &Q,
     ) -> Result<Begun<V, SharedPlaceholder<K, V, L, A>>, Refusal> {
         self.begin_load(query)
     }
 
-    fn fill(
+    fn end_load(
         &mut self,
         placeholder: &SharedPlaceholder<K, V, L, A>,
         filled: &Filled,
@@ -136,7 +133,7 @@ impl<
         self.end_load(placeholder, key, filled.waited(), value, state)
     }
 
-    fn give_up(&mut self, placeholder: &SharedPlaceholder<K, V, L, A>, _ended: &Ended) {
+    fn give_up_load(&mut self, placeholder: &SharedPlaceholder<K, V, L, A>, _ended: &Ended) {
         self.give_up_load(placeholder);
     }
 }

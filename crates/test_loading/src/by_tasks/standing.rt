@@ -77,7 +77,7 @@ fn an_entry_call_asks_for_another_poll_and_for_no_clone(rt: HostRuntime) {
     ));
     let shard = RwLock::new(locked);
     let rt = &rt;
-    let Ok(Begun::Loading(shared)) = shard.write(rt).begin(&1) else {
+    let Ok(Begun::Loading(shared)) = shard.write(rt).begin_load(&1) else {
         panic!(rt; "the key is absent");
     };
     let Some(placeholder) = shared.placeholder() else {

@@ -1,12 +1,14 @@
 use Rattle.std.proofs.Common.{◌≡◌, rules}
-use Rattle.quick_cache_guard.proofs.entry_tasks.Polls.{OnPending-map}
+use Rattle.quick_cache_guard.proofs.entry_tasks.Polls.{OnPending-map, OnPending-map2}
 use Rattle.quick_cache_guard.proofs.entry_tasks.entry_future.EntryFutureFuture.poll.Goals as goal
 
 -- the callback was not called yet, and the query stays
 pub returns-clause-again : goal.returns-clause-again
 returns-clause-again g c =
-    OnPending-map c.go_on.result (c.go_on.new.self.callback ≡ c.args.self.now.callback) _
-    (λ callback. rw (callback, c.go_on.ensures.query) c.requires) c.go_on.ensures.uncalled
+    OnPending-map2 c.go_on.result (c.go_on.new.self.callback ≡ c.args.self.now.callback)
+    (c.go_on.new.self.is_finished ≡ c.args.self.now.is_finished) _
+    (λ callback finished. rw (callback, finished, c.go_on.ensures.query) c.requires)
+    c.go_on.ensures.uncalled c.go_on.ensures.goes_on
 
 -- query and callback stay, and with them what may be given
 pub returns-clause-same : goal.returns-clause-same

@@ -1,7 +1,7 @@
 use Rattle.quick_cache_shard.specs.Steps.{goes_by}
 use Rattle.quick_cache_locked.specs.Touches.{any_touches}
 use Rattle.quick_cache_locked.proofs.LoadLemmas.{EndsLoad-some}
-use Rattle.quick_cache_locked.proofs.locked.loading.LockedShardLoadingShard.fill.Goals as goal
+use Rattle.quick_cache_locked.proofs.locked.loading.LockedShardLoadingShard.end_load.Goals as goal
 
 -- the load ended in this shard, which is kept
 pub returns-clause-told : goal.returns-clause-told
