@@ -44,31 +44,35 @@ pub fn hold(blocks: &mut Blocks, number: u64) -> Result<Option<Rc<Block>>, Refus
 mod tests {
     use super::*;
     use std::ops::Range;
-    use std::test::Fail;
+    use std::process::Abort;
+    use test_tools::{expect, expect_eq, expect_ok};
+
+    /// Reads a block in.
+    fn read_in(rt: &impl Abort, alloc: Global, cache: &mut Blocks, number: u64) {
+        let block = expect_ok!(rt; Rc::new(alloc, Block::default()));
+        expect_eq!(rt; cache.put(number, block), Ok(()));
+    }
 
     /// Reads other blocks in, and looks each up.
-    fn use_others(alloc: Global, cache: &mut Blocks, numbers: Range<u64>) -> Result<(), Fail> {
+    fn use_others(rt: &impl Abort, alloc: Global, cache: &mut Blocks, numbers: Range<u64>) {
         for number in numbers {
-            cache.insert(number, Rc::new(alloc, [0; 16])?)?;
+            read_in(rt, alloc, cache, number);
             cache.get(&number);
         }
-        Ok(())
     }
 
     #[test]
-    fn a_block_in_use_stays(rt: HostRuntime) -> Result<(), Fail> {
-        let mut cache = blocks(rt.alloc(), 2)?;
+    fn a_block_in_use_stays(rt: HostRuntime) {
+        let mut cache = expect_ok!(rt; blocks(rt.alloc(), 2));
         for number in [1, 2] {
-            cache.insert(number, Rc::new(rt.alloc(), [number as u8; 16])?)?;
+            read_in(&rt, rt.alloc(), &mut cache, number);
         }
-        let held = hold(&mut cache, 2)?;
-        use_others(rt.alloc(), &mut cache, 3..10)?;
-        assert!(rt; cache.contains_key(&2));
-        assert!(rt; held.is_some());
+        let held = expect_ok!(rt; hold(&mut cache, 2));
+        use_others(&rt, rt.alloc(), &mut cache, 3..10);
+        expect!(rt; cache.contains_key(&2));
+        expect!(rt; held.is_some());
         drop(held);
-        use_others(rt.alloc(), &mut cache, 10..20)?;
-        assert!(rt; !cache.contains_key(&2));
-        assert_eq!(rt; cache.len(), 2);
-        Ok(())
+        use_others(&rt, rt.alloc(), &mut cache, 10..20);
+        expect_eq!(rt; (cache.contains_key(&2), cache.len()), (false, 2));
     }
 }

@@ -32,14 +32,14 @@ pub fn number_of(cache: &mut Cache<String, u64>, text: &str) -> Option<u64> {
 #[cfg(test)]
 mod tests {
     use super::*;
-    use std::test::Fail;
+    use test_tools::{expect_eq, expect_ok};
 
     #[test]
-    fn a_borrowed_text_finds_the_number_of_its_name(rt: HostRuntime) -> Result<(), Fail> {
-        let mut cache = Cache::new(rt.alloc(), 5)?;
-        cache.insert(String::from_str(rt.alloc(), "square")?, 4)?;
-        assert_eq!(rt; number_of(&mut cache, "square"), Some(4));
-        assert_eq!(rt; number_of(&mut cache, "circle"), None);
-        Ok(())
+    fn a_borrowed_text_finds_the_number_of_its_name(rt: HostRuntime) {
+        let mut cache = expect_ok!(rt; Cache::new(rt.alloc(), 5));
+        let square = expect_ok!(rt; String::from_str(rt.alloc(), "square"));
+        expect_eq!(rt; cache.put(square, 4), Ok(()));
+        expect_eq!(rt; number_of(&mut cache, "square"), Some(4));
+        expect_eq!(rt; number_of(&mut cache, "circle"), None);
     }
 }

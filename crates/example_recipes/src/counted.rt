@@ -32,10 +32,10 @@ pub fn write_and_count(
 mod tests {
     use super::*;
     use quick_cache_listeners::Cause;
-    use std::test::Fail;
+    use test_tools::{expect_eq, expect_ok};
 
     #[test]
-    fn what_leaves_is_counted_by_its_cause(rt: HostRuntime) -> Result<(), Fail> {
+    fn what_leaves_is_counted_by_its_cause(rt: HostRuntime) {
         let list = [
             (1, "four"),
             (2, "five!"),
@@ -43,7 +43,7 @@ mod tests {
             (3, "nine"),
             (4, "much too long"),
         ];
-        let told = write_and_count(rt.alloc(), 10, &list)?;
+        let told = expect_ok!(rt; write_and_count(rt.alloc(), 10, &list));
         // The first text of key 1 was replaced, one text made room for the fourth, and the last was
         // too heavy: nothing stood under its key, so it is told as a cold victim.
         for (cause, pairs, weight) in [
@@ -53,8 +53,7 @@ mod tests {
             (Cause::EvictedCold, 1, 13),
         ] {
             let tally = told.state.tallies.of(cause);
-            assert_eq!(rt; (tally.pairs, tally.weight), (pairs, weight));
+            expect_eq!(rt; (tally.pairs, tally.weight), (pairs, weight));
         }
-        Ok(())
     }
 }

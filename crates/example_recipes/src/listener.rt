@@ -45,26 +45,22 @@ pub fn two_items(alloc: Global) -> Result<ToldCache, Refusal> {
 #[cfg(test)]
 mod tests {
     use super::*;
-    use std::test::Fail;
+    use test_tools::{expect_eq, expect_ok};
 
     #[test]
-    fn the_listener_is_told_what_leaves(rt: HostRuntime) -> Result<(), Fail> {
-        let mut cache = two_items(rt.alloc())?;
+    fn the_listener_is_told_what_leaves(rt: HostRuntime) {
+        let mut cache = expect_ok!(rt; two_items(rt.alloc()));
         let mut left = Left::default();
-        cache.insert_with_lifecycle(1, 10, &mut left)?;
-        cache.insert_with_lifecycle(2, 20, &mut left)?;
-        assert_eq!(rt; left, Left::default());
-        cache.insert_with_lifecycle(3, 30, &mut left)?;
-        assert_eq!(rt;
-            left,
-            Left {
-                last: Some((2, 20)),
-                count: 1
-            }
-        );
+        for (key, value, last, count) in [
+            (1, 10, None, 0),
+            (2, 20, None, 0),
+            (3, 30, Some((2, 20)), 1),
+        ] {
+            expect_ok!(rt; cache.insert_with_lifecycle(key, value, &mut left));
+            expect_eq!(rt; (left.last, left.count), (last, count));
+        }
         // A removal hands its pair to the caller, and tells no hook.
-        assert_eq!(rt; cache.remove(&1), Some((1, 10)));
-        assert_eq!(rt; left.count, 1);
-        Ok(())
+        expect_eq!(rt; cache.remove(&1), Some((1, 10)));
+        expect_eq!(rt; left.count, 1);
     }
 }

@@ -27,27 +27,23 @@ pub fn remembered_root(
 #[cfg(test)]
 mod tests {
     use super::*;
-    use std::test::Fail;
+    use test_tools::{expect, expect_eq, expect_ok};
 
     #[test]
-    fn a_root_is_computed_once(rt: HostRuntime) -> Result<(), Fail> {
-        let mut roots: Cache<u64, u64> = Cache::new(rt.alloc(), 100)?;
+    fn a_root_is_computed_once(rt: HostRuntime) {
+        let mut roots: Cache<u64, u64> = expect_ok!(rt; Cache::new(rt.alloc(), 100));
         for _ in 0..3 {
-            assert_eq!(rt; remembered_root(&mut roots, 49), Ok(7));
+            expect_eq!(rt; remembered_root(&mut roots, 49), Ok(7));
         }
-        assert_eq!(rt;
-            remembered_root(&mut roots, 50),
-            Err(LoadError::Failed(NoSquare))
-        );
-        assert_eq!(rt; (roots.hits(), roots.misses(), roots.len()), (2, 2, 1));
-        Ok(())
+        let failed = Err(LoadError::Failed(NoSquare));
+        expect_eq!(rt; remembered_root(&mut roots, 50), failed);
+        expect_eq!(rt; (roots.hits(), roots.misses(), roots.len()), (2, 2, 1));
     }
 
     #[test]
-    fn a_root_is_answered_where_none_is_kept(rt: HostRuntime) -> Result<(), Fail> {
-        let mut none: Cache<u64, u64> = Cache::new(rt.alloc(), 0)?;
-        assert_eq!(rt; remembered_root(&mut none, 49), Ok(7));
-        assert!(rt; none.is_empty());
-        Ok(())
+    fn a_root_is_answered_where_none_is_kept(rt: HostRuntime) {
+        let mut none: Cache<u64, u64> = expect_ok!(rt; Cache::new(rt.alloc(), 0));
+        expect_eq!(rt; remembered_root(&mut none, 49), Ok(7));
+        expect!(rt; none.is_empty());
     }
 }

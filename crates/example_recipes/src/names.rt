@@ -17,17 +17,16 @@ pub fn number_of(
 #[cfg(test)]
 mod tests {
     use super::*;
-    use std::test::Fail;
+    use test_tools::{expect_eq, expect_ok};
 
     #[test]
-    fn names_are_numbered_as_they_come(rt: HostRuntime) -> Result<(), Fail> {
-        let mut known = Cache::new(rt.alloc(), 100)?;
+    fn names_are_numbered_as_they_come(rt: HostRuntime) {
+        let mut known = expect_ok!(rt; Cache::new(rt.alloc(), 100));
         for (name, number) in [("anna", 0), ("bert", 1), ("anna", 0), ("carl", 2)] {
-            assert_eq!(rt; number_of(rt.alloc(), &mut known, name)?, number);
+            expect_eq!(rt; number_of(rt.alloc(), &mut known, name), Ok(number));
         }
-        assert_eq!(rt; (known.hits(), known.misses(), known.len()), (1, 3, 3));
+        expect_eq!(rt; (known.hits(), known.misses(), known.len()), (1, 3, 3));
         known.clear();
-        assert_eq!(rt; number_of(rt.alloc(), &mut known, "anna")?, 3);
-        Ok(())
+        expect_eq!(rt; number_of(rt.alloc(), &mut known, "anna"), Ok(3));
     }
 }

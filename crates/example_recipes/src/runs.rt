@@ -19,11 +19,11 @@ pub fn replies(alloc: Global) -> Result<Vec<Reply<u64, u64>>, AllocError> {
 #[cfg(test)]
 mod tests {
     use super::*;
-    use std::test::Fail;
+    use test_tools::{expect_eq, expect_ok};
 
     #[test]
-    fn each_call_has_its_reply(rt: HostRuntime) -> Result<(), Fail> {
-        let replies = replies(rt.alloc())?;
+    fn each_call_has_its_reply(rt: HostRuntime) {
+        let replies = expect_ok!(rt; replies(rt.alloc()));
         let wanted = [
             Reply::Done,
             Reply::Value(Some(10)),
@@ -31,7 +31,6 @@ mod tests {
             Reply::Done,
             Reply::Pair(None),
         ];
-        assert_eq!(rt; replies.as_slice(), wanted.as_slice());
-        Ok(())
+        expect_eq!(rt; replies.as_slice(), wanted.as_slice());
     }
 }

@@ -63,26 +63,30 @@ mod tests {
     use super::*;
     use std::fs;
     use std::fs::File;
-    use std::test::Fail;
+    use std::process::Abort;
+    use test_tools::{expect, expect_eq, expect_ok};
 
-    #[test]
-    fn a_cache_stands_as_it_did(rt: HostRuntime) -> Result<(), Fail> {
-        let mut cache: Cache<u64, u64> = Cache::new(rt.alloc(), 3)?;
+    /// Four keys come into a cache for three, and the second one is looked up.
+    fn used(rt: &impl Abort, alloc: Global) -> Cache<u64, u64> {
+        let mut cache = expect_ok!(rt; Cache::new(alloc, 3));
         for key in [1, 2, 3, 4] {
-            cache.put(key, key * 10)?;
+            expect_eq!(rt; cache.put(key, key * 10), Ok(()));
             cache.get(&2);
         }
-        save(&cache, &mut File::create(&rt, "saved_cache.txt")?)?;
-        let text = fs::read_to_string(&rt, "saved_cache.txt")?;
-        fs::remove_file(&rt, "saved_cache.txt")?;
-        assert_eq!(rt; text.as_str(), "hot 1 10 0\nhot 2 20 2\ncold 4 40 0\n");
-        let Ok(again) = restored(rt.alloc(), 3, text.as_str()) else {
-            return Err(Fail::from("a line was refused"));
-        };
+        cache
+    }
+
+    #[test]
+    fn a_cache_stands_as_it_did(rt: HostRuntime) {
+        let cache = used(&rt, rt.alloc());
+        expect_ok!(rt; save(&cache, &mut expect_ok!(rt; File::create(&rt, "saved_cache.txt"))));
+        let text = expect_ok!(rt; fs::read_to_string(&rt, "saved_cache.txt"));
+        expect_ok!(rt; fs::remove_file(&rt, "saved_cache.txt"));
+        expect_eq!(rt; text.as_str(), "hot 1 10 0\nhot 2 20 2\ncold 4 40 0\n");
+        let again = expect_ok!(rt; restored(rt.alloc(), 3, text.as_str()));
         let mut copy = Vec::new(rt.alloc());
-        save(&again, &mut copy)?;
-        assert_eq!(rt; copy.as_slice(), text.as_bytes());
-        assert!(rt; restored(rt.alloc(), 3, "warm 5 5 0").is_err());
-        Ok(())
+        expect_ok!(rt; save(&again, &mut copy));
+        expect_eq!(rt; copy.as_slice(), text.as_bytes());
+        expect!(rt; restored(rt.alloc(), 3, "warm 5 5 0").is_err());
     }
 }

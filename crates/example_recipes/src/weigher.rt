@@ -31,30 +31,26 @@ pub fn pages(alloc: Global, bytes: u64) -> Result<Cache<u64, &'static str, ByLen
 #[cfg(test)]
 mod tests {
     use super::*;
-    use std::test::Fail;
+    use test_tools::{expect_eq, expect_ok};
 
     #[test]
-    fn a_capacity_is_in_the_unit_of_the_weigher(rt: HostRuntime) -> Result<(), Fail> {
-        let mut cache = pages(rt.alloc(), 4096)?;
-        assert_eq!(rt; ByLength.weight(&1, &"some text"), 9);
-        assert_eq!(rt;
-            (cache.len(), cache.weight(), cache.capacity()),
-            (0, 0, 4096)
-        );
-        cache.insert(1, "some text")?;
-        cache.insert(2, "more")?;
-        assert_eq!(rt; (cache.len(), cache.weight()), (2, 13));
-        assert_eq!(rt; cache.get(&1).copied(), Some("some text"));
-        assert_eq!(rt; cache.remove(&1), Some((1, "some text")));
-        assert_eq!(rt; cache.weight(), 4);
-        Ok(())
+    fn a_capacity_is_in_the_unit_of_the_weigher(rt: HostRuntime) {
+        let mut cache = expect_ok!(rt; pages(rt.alloc(), 4096));
+        expect_eq!(rt; ByLength.weight(&1, &"some text"), 9);
+        expect_eq!(rt; (cache.len(), cache.weight(), cache.capacity()), (0, 0, 4096));
+        for (number, text) in [(1, "some text"), (2, "more")] {
+            expect_eq!(rt; cache.put(number, text), Ok(()));
+        }
+        expect_eq!(rt; (cache.len(), cache.weight()), (2, 13));
+        expect_eq!(rt; cache.get(&1).copied(), Some("some text"));
+        expect_eq!(rt; cache.remove(&1), Some((1, "some text")));
+        expect_eq!(rt; cache.weight(), 4);
     }
 
     #[test]
-    fn a_page_heavier_than_the_hot_target_is_turned_away(rt: HostRuntime) -> Result<(), Fail> {
-        let mut cache = pages(rt.alloc(), 8)?;
-        cache.insert(1, "some text")?;
-        assert_eq!(rt; (cache.len(), cache.weight()), (0, 0));
-        Ok(())
+    fn a_page_heavier_than_the_hot_target_is_turned_away(rt: HostRuntime) {
+        let mut cache = expect_ok!(rt; pages(rt.alloc(), 8));
+        expect_eq!(rt; cache.put(1, "some text"), Ok(()));
+        expect_eq!(rt; (cache.len(), cache.weight()), (0, 0));
     }
 }

@@ -123,19 +123,24 @@ fn hottest(rt: HostRuntime) -> Result<(), Fail> {
     Ok(())
 }
 
+/// Puts all items of a cache into another one.
+fn put_back(cache: &Cache<u64, u64>, again: &mut Cache<u64, u64>) -> Result<(), Fail> {
+    for (key, value, queue, mark) in cache.saved() {
+        again.restore(*key, *value, queue, mark)?;
+    }
+    Ok(())
+}
+
 #[test]
 fn saved_and_restored(rt: HostRuntime) -> Result<(), Fail> {
     let mut cache: Cache<u64, u64> = Cache::new(rt.alloc(), 5)?;
     cache.insert(1, 10)?;
     cache.get(&1);
     let mut again: Cache<u64, u64> = Cache::new(rt.alloc(), 5)?;
-    for (key, value, queue, mark) in cache.saved() {
-        again.restore(*key, *value, queue, mark)?;
-    }
+    put_back(&cache, &mut again)?;
     // The pair has its mark again.
-    for (key, value, queue, mark) in again.saved() {
-        assert_eq!(rt; (*key, *value, queue, mark), (1, 10, Queue::Hot, 1));
-    }
+    assert_eq!(rt; again.saved().next(), Some((&1, &10, Queue::Hot, 1)));
+    assert_eq!(rt; again.len(), 1);
     // What stands is not put back once more.
     assert_eq!(rt; again.restore(1, 11, Queue::Cold, 0), Err((1, 11, None)));
     Ok(())

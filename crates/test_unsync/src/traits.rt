@@ -5,6 +5,7 @@ use quick_cache_base::{
     Weighter, hash_of,
 };
 use quick_cache_unsync::Cache;
+use std::alloc::Global;
 use test_tools::{expect, expect_eq, expect_ok};
 
 #[test]
@@ -34,31 +35,42 @@ fn thirty() -> Result<u64, Refusal> {
     Ok(30)
 }
 
+/// What is loaded under a text.
+fn load_text(alloc: Global, ages: &mut Cache<String, u64>, name: &str) -> Option<u64> {
+    match ages.get_or_insert_with(&TextIn::new(alloc, name), thirty) {
+        Ok(age) => Some(*age),
+        Err(_) => None,
+    }
+}
+
 #[test]
 fn a_borrowed_text_finds_and_loads_the_text_of_its_bytes(rt: HostRuntime) {
     let alloc = rt.alloc();
     let mut ages: Cache<String, u64> = expect_ok!(rt; Cache::new(alloc, 5));
-    let loaded = match ages.get_or_insert_with(&TextIn::new(alloc, "anna"), || thirty()) {
-        Ok(age) => Some(*age),
+    expect_eq!(rt; load_text(alloc, &mut ages, "anna"), Some(30));
+    for (name, age) in [("anna", Some(30)), ("ann", None)] {
+        expect_eq!(rt; ages.get(&Text(name)).copied(), age);
+    }
+    let gone = ages.remove(&Text("anna"));
+    expect_eq!(rt; gone.map(|(_, age)| age), Some(30));
+}
+
+/// What is loaded under bytes.
+fn load_bytes(alloc: Global, sizes: &mut Cache<Vec<u8>, u64>, bytes: &[u8]) -> Option<u64> {
+    match sizes.get_or_insert_with(&BytesIn::new(alloc, bytes), thirty) {
+        Ok(size) => Some(*size),
         Err(_) => None,
-    };
-    let found = ages.get(&Text("anna")).copied();
-    let other = ages.get(&Text("ann")).copied();
-    let gone = ages.remove(&Text("anna")).map(|(_, age)| age);
-    expect_eq!(rt; (loaded, found, other, gone), (Some(30), Some(30), None, Some(30)));
+    }
 }
 
 #[test]
 fn borrowed_bytes_find_and_load_the_list_of_them(rt: HostRuntime) {
     let alloc = rt.alloc();
     let mut sizes: Cache<Vec<u8>, u64> = expect_ok!(rt; Cache::new(alloc, 5));
-    let loaded = match sizes.get_or_insert_with(&BytesIn::new(alloc, &[1, 2]), || thirty()) {
-        Ok(size) => Some(*size),
-        Err(_) => None,
-    };
-    let found = sizes.get(&Bytes(&[1, 2])).copied();
-    let other = sizes.get(&Bytes(&[2, 1])).copied();
-    expect_eq!(rt; (loaded, found, other), (Some(30), Some(30), None));
+    expect_eq!(rt; load_bytes(alloc, &mut sizes, &[1, 2]), Some(30));
+    for (bytes, size) in [([1, 2], Some(30)), ([2, 1], None)] {
+        expect_eq!(rt; sizes.get(&Bytes(&bytes)).copied(), size);
+    }
 }
 
 #[test]

@@ -2,8 +2,9 @@
 use quick_cache::{DefaultHashBuilder, Refusal, UnitWeighter, sync};
 use quick_cache_listeners::{ByLength, Cause, CountedByThreads, SharedTallies, Tallies};
 use std::alloc::Global;
+use std::process::Abort;
 use std::sync::{Arc, Wait};
-use std::thread::join;
+use std::thread::{Threads, join};
 use test_tools::{expect_eq, expect_ok};
 
 /// Counts what leaves a cache of texts, by their length.
@@ -13,14 +14,14 @@ type Counting = CountedByThreads<ByLength, sync::DefaultLifecycle<u64, &'static 
 type Texts = sync::Cache<u64, &'static str, ByLength, DefaultHashBuilder, Counting>;
 
 /// A cache for ten bytes of text, which counts into these tallies.
-fn texts(alloc: Global, tallies: Arc<SharedTallies>) -> Result<Texts, Refusal> {
+fn texts(rt: &impl Abort, alloc: Global, tallies: Arc<SharedTallies>) -> Texts {
     let lifecycle = CountedByThreads {
         tallies,
         weigher: ByLength,
         inner: sync::DefaultLifecycle::new(),
     };
     let builder = DefaultHashBuilder::new();
-    sync::Cache::with(alloc, 10, 10, ByLength, builder, lifecycle)
+    expect_ok!(rt; sync::Cache::with(alloc, 10, 10, ByLength, builder, lifecycle))
 }
 
 /// Writes each of these texts.
@@ -38,14 +39,14 @@ type CountingNumbers = CountedByThreads<UnitWeighter, sync::DefaultLifecycle<u64
 type Numbers = sync::Cache<u64, u64, UnitWeighter, DefaultHashBuilder, CountingNumbers>;
 
 /// A cache for a hundred numbers, which counts into these tallies.
-fn numbers(alloc: Global, tallies: Arc<SharedTallies>) -> Result<Numbers, Refusal> {
+fn numbers(rt: &impl Abort, alloc: Global, tallies: Arc<SharedTallies>) -> Numbers {
     let lifecycle = CountedByThreads {
         tallies,
         weigher: UnitWeighter,
         inner: sync::DefaultLifecycle::new(),
     };
     let builder = DefaultHashBuilder::new();
-    sync::Cache::with(alloc, 100, 100, UnitWeighter, builder, lifecycle)
+    expect_ok!(rt; sync::Cache::with(alloc, 100, 100, UnitWeighter, builder, lifecycle))
 }
 
 /// Writes each of a thousand numbers from the first on.
@@ -57,6 +58,18 @@ fn write_a_thousand<R: Wait>(rt: &R, numbers: &Numbers, first: u64) -> Result<()
     Ok(())
 }
 
+/// Two threads write a thousand numbers each.
+fn write_by_two<R: Wait + Threads + Sync>(
+    rt: &R,
+    numbers: &Numbers,
+) -> (Result<(), Refusal>, Result<(), Refusal>) {
+    join(
+        rt,
+        || write_a_thousand(rt, numbers, 0),
+        || write_a_thousand(rt, numbers, 1000),
+    )
+}
+
 /// How many pairs left for a cause, and their weight.
 fn of(tallies: &Tallies, cause: Cause) -> (u64, u64) {
     let tally = tallies.of(cause);
@@ -65,10 +78,9 @@ fn of(tallies: &Tallies, cause: Cause) -> (u64, u64) {
 
 #[test]
 fn what_leaves_a_shared_cache_is_counted_by_its_cause(rt: HostRuntime) {
-    let alloc = rt.alloc();
-    let tallies = expect_ok!(rt; Arc::new(alloc, SharedTallies::new()));
+    let tallies = expect_ok!(rt; Arc::new(rt.alloc(), SharedTallies::new()));
     let shared = expect_ok!(rt; tallies.clone());
-    let cache = expect_ok!(rt; texts(alloc, shared));
+    let cache = texts(&rt, rt.alloc(), shared);
     let list = [
         (1, "four"),
         (2, "five!"),
@@ -76,29 +88,26 @@ fn what_leaves_a_shared_cache_is_counted_by_its_cause(rt: HostRuntime) {
         (3, "nine"),
         (4, "much too long"),
     ];
-    expect_ok!(rt; write_all(&rt, &cache, &list));
-    let seen = tallies.seen();
-    expect_eq!(rt; of(&seen, Cause::Replaced), (1, 4));
-    expect_eq!(rt; of(&seen, Cause::TurnedAway), (0, 0));
-    expect_eq!(rt; of(&seen, Cause::EvictedHot), (1, 5));
-    // Nothing stood under the key of what is too heavy, so it is told as a cold victim.
-    expect_eq!(rt; of(&seen, Cause::EvictedCold), (1, 13));
+    expect_eq!(rt; write_all(&rt, &cache, &list), Ok(()));
     expect_eq!(rt; cache.len(&rt), 2);
+    let seen = tallies.seen();
+    // Nothing stood under the key of what is too heavy, so it is told as a cold victim.
+    for (cause, left) in [
+        (Cause::Replaced, (1, 4)),
+        (Cause::TurnedAway, (0, 0)),
+        (Cause::EvictedHot, (1, 5)),
+        (Cause::EvictedCold, (1, 13)),
+    ] {
+        expect_eq!(rt; of(&seen, cause), left);
+    }
 }
 
 #[test]
 fn each_pair_that_threads_push_out_is_counted_once(rt: HostRuntime) {
-    let alloc = rt.alloc();
-    let tallies = expect_ok!(rt; Arc::new(alloc, SharedTallies::new()));
+    let tallies = expect_ok!(rt; Arc::new(rt.alloc(), SharedTallies::new()));
     let shared = expect_ok!(rt; tallies.clone());
-    let cache = expect_ok!(rt; numbers(alloc, shared));
-    let (first, second) = join(
-        &rt,
-        || write_a_thousand(&rt, &cache, 0),
-        || write_a_thousand(&rt, &cache, 1000),
-    );
-    expect_ok!(rt; first);
-    expect_ok!(rt; second);
+    let cache = numbers(&rt, rt.alloc(), shared);
+    expect_eq!(rt; write_by_two(&rt, &cache), (Ok(()), Ok(())));
     let seen = tallies.seen();
     let (hot, hot_weight) = of(&seen, Cause::EvictedHot);
     let (cold, cold_weight) = of(&seen, Cause::EvictedCold);

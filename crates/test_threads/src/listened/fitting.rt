@@ -72,33 +72,37 @@ fn store<R: Wait>(rt: &R, cache: &SharedTens, key: u32) -> bool {
     cache.insert(rt, key, 10 * key).is_ok()
 }
 
+/// The keys that are stored, in their order.
+const KEYS: [u32; 3] = [2, 1, 4];
+
+/// What is found then: a new pair made room for itself, but not that of an odd key.
+const FOUND: [(u64, Option<u64>); 3] = [(2, None), (1, Some(10)), (4, Some(40))];
+
 #[test]
-fn an_odd_pair_stays_in_either_cache(rt: HostRuntime) {
-    let alloc = rt.alloc();
-    let builder = DefaultHashBuilder::new;
-    let mut cache: TenCache = expect_ok!(rt; unsync::Cache::with(
-        alloc,
-        2,
-        2,
-        UnitWeighter,
-        builder(),
-        steady(PinBy(Odd, Tens)),
-    ));
-    let shared: SharedTens = expect_ok!(rt; sync::Cache::with(
-        alloc,
-        2,
-        2,
-        UnitWeighter,
-        builder(),
-        steady(PinBy(Odd, Tens)),
-    ));
-    for key in [2, 1, 4u32] {
-        let number = u64::from(key);
-        expect_eq!(rt; cache.insert(number, 10 * number), Ok(()));
-        expect!(rt; store(&rt, &shared, key));
+fn an_odd_pair_stays_in_a_cache_for_one_thread(rt: HostRuntime) {
+    let lifecycle = steady(PinBy(Odd, Tens));
+    let builder = DefaultHashBuilder::new();
+    let mut cache: TenCache = expect_ok!(rt;
+        unsync::Cache::with(rt.alloc(), 2, 2, UnitWeighter, builder, lifecycle));
+    for key in KEYS {
+        let key = u64::from(key);
+        expect_ok!(rt; cache.insert(key, 10 * key));
     }
-    for (key, wanted) in [(2, None), (1, Some(10)), (4, Some(40))] {
+    for (key, wanted) in FOUND {
         expect_eq!(rt; cache.get(&key).copied(), wanted);
-        expect_eq!(rt; stored(&rt, &shared, key), Ok(wanted));
+    }
+}
+
+#[test]
+fn an_odd_pair_stays_in_a_cache_that_threads_share(rt: HostRuntime) {
+    let lifecycle = steady(PinBy(Odd, Tens));
+    let builder = DefaultHashBuilder::new();
+    let cache: SharedTens = expect_ok!(rt;
+        sync::Cache::with(rt.alloc(), 2, 2, UnitWeighter, builder, lifecycle));
+    for key in KEYS {
+        expect!(rt; store(&rt, &cache, key));
+    }
+    for (key, wanted) in FOUND {
+        expect_eq!(rt; stored(&rt, &cache, key), Ok(wanted));
     }
 }

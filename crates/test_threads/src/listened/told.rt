@@ -1,11 +1,11 @@
 //! What leaves either cache is collected and handed on, weights are lengths, and a test pins.
 ghost use Rattle.std.specs.Prelude.{◌==◌, ◌%◌};
 
-use quick_cache::{DefaultHashBuilder, Refusal, Weighter, sync, unsync};
+use quick_cache::{DefaultHashBuilder, sync, unsync};
 use quick_cache_listeners::{ByLength, Collect, Collected, Listener, OnLeave, Pin, PinBy};
-use std::alloc::{AllocError, Global};
-use std::sync::Wait;
-use test_tools::{expect, expect_eq, expect_ok};
+use std::alloc::Global;
+use std::process::Abort;
+use test_tools::{expect_eq, expect_ok};
 
 /// Pins the pairs of odd keys.
 #[derive(Debug, Clone, Drop)]
@@ -31,36 +31,12 @@ type SharedTexts = sync::Cache<u64, String, ByLength, DefaultHashBuilder, Keepin
 /// What leaves a cache of ten bytes.
 type Left = Collected<u64, String>;
 
-/// A text under each of the keys, in a cache for one thread.
-fn put(alloc: Global, texts: &mut Texts, left: &mut Left, keys: &[u64]) -> Result<(), Refusal> {
-    for key in keys {
-        let Ok(text) = String::from_str(alloc, "four") else {
-            return Err(Refusal::Memory);
-        };
-        texts
-            .insert_with_lifecycle(*key, text, left)
-            .map_err(|(_, _, refusal)| refusal)?;
-    }
-    Ok(())
-}
+/// The keys of the texts that are written, in their order.
+const KEYS: [u64; 5] = [2, 1, 4, 6, 8];
 
-/// The same, in a shared cache.
-fn share<R: Wait>(
-    rt: &R,
-    alloc: Global,
-    texts: &SharedTexts,
-    left: &mut Left,
-    keys: &[u64],
-) -> Result<(), Refusal> {
-    for key in keys {
-        let Ok(text) = String::from_str(alloc, "four") else {
-            return Err(Refusal::Memory);
-        };
-        texts
-            .insert_with_lifecycle(rt, *key, text, left)
-            .map_err(|(_, _, refusal)| refusal)?;
-    }
-    Ok(())
+/// A text of four bytes.
+fn four(rt: &impl Abort, alloc: Global) -> String {
+    expect_ok!(rt; String::from_str(alloc, "four"))
 }
 
 /// The keys of what left, as the digits of a number, and how long the texts were in all.
@@ -74,33 +50,33 @@ fn handed_on(left: Left) -> (u64, u64) {
 }
 
 #[test]
-fn what_leaves_either_cache_is_handed_on(rt: HostRuntime) {
-    let alloc = rt.alloc();
-    let keeping = || PinBy(Odd, OnLeave(Collect));
-    let mut texts: Texts = expect_ok!(rt; unsync::Cache::with(
-        alloc,
-        10,
-        10,
-        ByLength,
-        DefaultHashBuilder::new(),
-        keeping(),
-    ));
-    let shared: SharedTexts = expect_ok!(rt; sync::Cache::with(
-        alloc,
-        10,
-        10,
-        ByLength,
-        DefaultHashBuilder::new(),
-        keeping(),
-    ));
-    let mut left = Left::with(Vec::new(alloc));
-    expect_ok!(rt; put(alloc, &mut texts, &mut left, &[2, 1, 4, 6, 8]));
-    let mut others = Left::with(Vec::new(alloc));
-    expect_ok!(rt; share(&rt, alloc, &shared, &mut others, &[2, 1, 4, 6, 8]));
+fn what_leaves_a_cache_for_one_thread_is_handed_on(rt: HostRuntime) {
+    let keeping = PinBy(Odd, OnLeave(Collect));
+    let builder = DefaultHashBuilder::new();
+    let mut texts: Texts = expect_ok!(rt;
+        unsync::Cache::with(rt.alloc(), 10, 10, ByLength, builder, keeping));
+    let mut left = Left::with(Vec::new(rt.alloc()));
+    for key in KEYS {
+        let text = four(&rt, rt.alloc());
+        expect_ok!(rt; texts.insert_with_lifecycle(key, text, &mut left));
+    }
     expect_eq!(rt; handed_on(left), (246, 12));
-    expect_eq!(rt; handed_on(others), (246, 12));
     expect_eq!(rt; (texts.len(), texts.weight()), (2, 8));
-    expect_eq!(rt; (shared.len(&rt), shared.weight(&rt)), (2, 8));
+}
+
+#[test]
+fn what_leaves_a_shared_cache_is_handed_on(rt: HostRuntime) {
+    let keeping = PinBy(Odd, OnLeave(Collect));
+    let builder = DefaultHashBuilder::new();
+    let texts: SharedTexts = expect_ok!(rt;
+        sync::Cache::with(rt.alloc(), 10, 10, ByLength, builder, keeping));
+    let mut left = Left::with(Vec::new(rt.alloc()));
+    for key in KEYS {
+        let text = four(&rt, rt.alloc());
+        expect_ok!(rt; texts.insert_with_lifecycle(&rt, key, text, &mut left));
+    }
+    expect_eq!(rt; handed_on(left), (246, 12));
+    expect_eq!(rt; (texts.len(&rt), texts.weight(&rt)), (2, 8));
 }
 
 /// Adds up how long the texts are that leave.
@@ -120,35 +96,29 @@ type Borrowed = unsync::Cache<u64, &'static str, ByLength, DefaultHashBuilder, O
 
 type SharedBorrowed = sync::Cache<u64, &'static str, ByLength, DefaultHashBuilder, OnLeave<Bytes>>;
 
+/// Texts of nine bytes in all, behind one of three.
+const TEXTS: [(u64, &str); 3] = [(1, "one"), (2, "three"), (3, "four")];
+
 #[test]
-fn a_listener_of_ones_own_is_told_by_either_cache(rt: HostRuntime) {
-    let alloc = rt.alloc();
-    let builder = DefaultHashBuilder::new;
-    let mut texts: Borrowed = expect_ok!(rt; unsync::Cache::with(
-        alloc,
-        10,
-        10,
-        ByLength,
-        builder(),
-        OnLeave(Bytes),
-    ));
-    let shared: SharedBorrowed = expect_ok!(rt; sync::Cache::with(
-        alloc,
-        10,
-        10,
-        ByLength,
-        builder(),
-        OnLeave(Bytes),
-    ));
-    let (mut left, mut others) = (0, 0);
-    for (key, text) in [(1, "one"), (2, "three"), (3, "four")] {
-        expect!(rt; texts.insert_with_lifecycle(key, text, &mut left).is_ok());
-        expect!(rt;
-            shared
-                .insert_with_lifecycle(&rt, key, text, &mut others)
-                .is_ok()
-        );
+fn a_listener_of_ones_own_is_told_by_a_cache_for_one_thread(rt: HostRuntime) {
+    let builder = DefaultHashBuilder::new();
+    let mut texts: Borrowed = expect_ok!(rt;
+        unsync::Cache::with(rt.alloc(), 10, 10, ByLength, builder, OnLeave(Bytes)));
+    let mut left = 0;
+    for (key, text) in TEXTS {
+        expect_ok!(rt; texts.insert_with_lifecycle(key, text, &mut left));
     }
     expect_eq!(rt; (left, texts.weight()), (3, 9));
-    expect_eq!(rt; (others, shared.weight(&rt)), (3, 9));
+}
+
+#[test]
+fn a_listener_of_ones_own_is_told_by_a_shared_cache(rt: HostRuntime) {
+    let builder = DefaultHashBuilder::new();
+    let texts: SharedBorrowed = expect_ok!(rt;
+        sync::Cache::with(rt.alloc(), 10, 10, ByLength, builder, OnLeave(Bytes)));
+    let mut left = 0;
+    for (key, text) in TEXTS {
+        expect_ok!(rt; texts.insert_with_lifecycle(&rt, key, text, &mut left));
+    }
+    expect_eq!(rt; (left, texts.weight(&rt)), (3, 9));
 }

@@ -6,8 +6,8 @@ use quick_cache_unsync::{
     Cache, DefaultHashBuilder, DefaultLifecycle, Options, OptionsBuilder, Queue, Weighter,
 };
 use std::alloc::Global;
-use std::test::Fail;
-use test_tools::{expect, expect_eq};
+use std::process::Abort;
+use test_tools::{expect, expect_eq, expect_ok};
 
 /// A pair that is saved, with its ring and its mark.
 type Saved = (u64, u64, Queue, u8);
@@ -46,42 +46,55 @@ type Weighed = Cache<
 >;
 
 /// What such a cache of this capacity is made by.
-fn sized(capacity: u64) -> Result<Options, Fail> {
+fn sized(rt: &impl Abort, capacity: u64) -> Options {
     let mut options = OptionsBuilder::new();
     options.estimated_items_capacity(100);
     options.weight_capacity(capacity);
-    Ok(options.build()?)
+    expect_ok!(rt; options.build())
 }
 
 /// A cache of this capacity into which these pairs came back.
-fn restored(alloc: Global, capacity: u64, pairs: Vec<Saved>) -> Result<Weighed, Fail> {
+fn restored(rt: &impl Abort, alloc: Global, capacity: u64, pairs: &[Saved]) -> Weighed {
+    let options = sized(rt, capacity);
     let lifecycle = PinBy(Great, DefaultLifecycle::new());
     let builder = DefaultHashBuilder::new();
-    let pairs = pairs.into_iter();
-    Ok(Cache::restored(alloc, sized(capacity)?, ByValue, builder, lifecycle, pairs)?)
+    let pairs = pairs.iter().copied();
+    expect_ok!(rt; Cache::restored(alloc, options, ByValue, builder, lifecycle, pairs))
 }
 
-/// An empty one.
-fn weighed(alloc: Global, capacity: u64) -> Result<Weighed, Fail> {
-    restored(alloc, capacity, Vec::new(alloc))
-}
-
-/// All items, those that weigh nothing by ascending keys.
-fn saved(cache: &Weighed, alloc: Global) -> Result<Vec<Saved>, Fail> {
+/// All items, those that weigh nothing last, by ascending keys.
+fn saved(rt: &impl Abort, alloc: Global, cache: &Weighed) -> Vec<Saved> {
     let mut list = Vec::new(alloc);
-    let mut weightless = Vec::new(alloc);
     for (key, value, queue, mark) in cache.saved() {
-        if *value > 0 {
-            list.push((*key, *value, queue, mark))?;
-        } else {
-            weightless.push((*key, *value, queue, mark))?;
-        }
+        expect_ok!(rt; list.push((*key, *value, queue, mark)));
     }
-    weightless.sort_unstable_by_key(|item| item.0);
-    for item in weightless {
-        list.push(item)?;
-    }
-    Ok(list)
+    // What weighs something stays in its order, which is the first.
+    let place_of = |item: &Saved| if item.1 > 0 {
+        0
+    } else {
+        item.0.saturating_add(1)
+    };
+    expect_ok!(rt; list.sort_by_key(place_of));
+    list
+}
+
+/// What a cache weighs, how many items it has, and how many look-ups hit and missed.
+fn counts_of(cache: &Weighed) -> [u64; 4] {
+    [
+        cache.weight(),
+        cache.len() as u64,
+        cache.hits(),
+        cache.misses(),
+    ]
+}
+
+/// All items of a cache, with which it stands again.
+fn stands_again(rt: &impl Abort, alloc: Global, cache: &Weighed) -> Vec<Saved> {
+    let list = saved(rt, alloc, cache);
+    let again = restored(rt, alloc, cache.capacity(), &list);
+    expect_eq!(rt; saved(rt, alloc, &again).as_slice(), list.as_slice());
+    expect_eq!(rt; counts_of(&again), [cache.weight(), cache.len() as u64, 0, 0]);
+    list
 }
 
 /// A number that looks random.
@@ -89,96 +102,119 @@ fn mixed(number: u64) -> u64 {
     (number.wrapping_mul(6364136223846793005) >> 33) % 70
 }
 
+/// Looks a key up, and writes it where it is not there.
+fn look_or_write(rt: &impl Abort, cache: &mut Weighed, key: u64) {
+    if cache.get(&key).is_none() {
+        expect_ok!(rt; cache.insert(key, key % 31));
+    }
+}
+
+/// How many of these items are hot, are cold, weigh nothing, and have a mark, of those that weigh
+/// nothing and of the others.
+fn kinds_of(list: &[Saved]) -> [u64; 5] {
+    let (mut hot, mut cold, mut light) = (0u64, 0u64, 0u64);
+    let (mut light_marked, mut marked) = (0u64, 0u64);
+    for (_, value, queue, mark) in list {
+        hot = hot.saturating_add(u64::from(*queue == Queue::Hot));
+        cold = cold.saturating_add(u64::from(*queue == Queue::Cold));
+        light = light.saturating_add(u64::from(*value == 0));
+        light_marked = light_marked.saturating_add(u64::from((*value == 0) & (*mark > 0)));
+        marked = marked.saturating_add(u64::from((*value > 0) & (*mark > 0)));
+    }
+    [hot, cold, light, light_marked, marked]
+}
+
 #[test]
-fn rings_marks_and_what_weighs_nothing_stand_again(rt: HostRuntime) -> Result<(), Fail> {
+fn rings_marks_and_what_weighs_nothing_stand_again(rt: HostRuntime) {
     let alloc = rt.alloc();
-    let mut cache = weighed(alloc, 500)?;
-    let mut seen = [0u64; 5];
+    let mut cache = restored(&rt, alloc, 500, &[]);
+    let mut seen = Vec::new(alloc);
     for round in 0..3000u64 {
-        let key = mixed(round);
-        if cache.get(&key).is_none() {
-            cache.insert(key, key % 31)?;
-        }
+        look_or_write(&rt, &mut cache, mixed(round));
         if round % 100 == 0 {
-            let list = saved(&cache, alloc)?;
-            for (_, value, queue, mark) in &list {
-                seen[0] = seen[0].saturating_add(u64::from(*queue == Queue::Hot));
-                seen[1] = seen[1].saturating_add(u64::from(*queue == Queue::Cold));
-                seen[2] = seen[2].saturating_add(u64::from(*value == 0));
-                seen[3] = seen[3].saturating_add(u64::from(*value == 0 && *mark > 0));
-                seen[4] = seen[4].saturating_add(u64::from(*value > 0 && *mark > 0));
-            }
-            let again = restored(alloc, 500, saved(&cache, alloc)?)?;
-            expect_eq!(rt; saved(&again, alloc)?, list);
-            expect_eq!(rt; (again.weight(), again.len()), (cache.weight(), cache.len()));
-            expect_eq!(rt; (again.hits(), again.misses()), (0, 0));
+            let list = stands_again(&rt, alloc, &cache);
+            expect_ok!(rt; seen.extend_from_slice(&list));
         }
     }
-    for count in seen {
+    for count in kinds_of(&seen) {
         expect!(rt; count > 10);
     }
-    Ok(())
 }
 
 #[test]
-fn a_cache_above_its_capacity_stands_again(rt: HostRuntime) -> Result<(), Fail> {
+fn a_cache_above_its_capacity_stands_again(rt: HostRuntime) {
     let alloc = rt.alloc();
     // Two pairs are pinned, and only one has room.
-    let mut cache = weighed(alloc, 1)?;
-    cache.insert(1000, 1)?;
-    cache.insert(1001, 1)?;
-    let list = saved(&cache, alloc)?;
-    expect_eq!(rt; (list.len(), cache.weight()), (2, 2));
-    expect_eq!(rt; saved(&restored(alloc, 1, saved(&cache, alloc)?)?, alloc)?, list);
-    // A value was written that is too heavy for the cache; the next write makes room.
-    let mut cache = restored(
-        alloc,
-        10,
-        vec![in alloc; (1, 40, Queue::Cold, 0), (2, 3, Queue::Hot, 1)]?,
-    )?;
-    expect_eq!(rt; (cache.weight(), cache.capacity(), cache.len()), (43, 10, 2));
-    cache.insert(3, 1)?;
+    let mut cache = restored(&rt, alloc, 1, &[]);
+    for key in [1000, 1001] {
+        expect_ok!(rt; cache.insert(key, 1));
+    }
+    expect_eq!(rt; stands_again(&rt, alloc, &cache).len(), 2);
+    expect_eq!(rt; cache.weight(), 2);
+}
+
+#[test]
+fn the_next_write_makes_room_for_what_came_back_too_heavy(rt: HostRuntime) {
+    let pairs = [(1, 40, Queue::Cold, 0), (2, 3, Queue::Hot, 1)];
+    let mut cache = restored(&rt, rt.alloc(), 10, &pairs);
+    expect_eq!(rt; cache.capacity(), 10);
+    expect_eq!(rt; counts_of(&cache), [43, 2, 0, 0]);
+    expect_ok!(rt; cache.insert(3, 1));
     expect!(rt; cache.weight() <= 10);
-    expect_eq!(rt; (cache.contains_key(&1), cache.contains_key(&3)), (false, true));
-    Ok(())
+    expect!(rt; !cache.contains_key(&1));
+    expect!(rt; cache.contains_key(&3));
 }
 
 #[test]
-fn a_ring_may_be_empty_where_the_other_is_not(rt: HostRuntime) -> Result<(), Fail> {
-    let alloc = rt.alloc();
+fn a_ring_may_be_empty_where_the_other_is_not(rt: HostRuntime) {
     let cold = [(2, 1, Queue::Cold, 0)];
-    let cache = restored(alloc, 2, Vec::from_array(alloc, cold)?)?;
-    expect_eq!(rt; saved(&cache, alloc)?.as_slice(), cold.as_slice());
-    Ok(())
+    let cache = restored(&rt, rt.alloc(), 2, &cold);
+    expect_eq!(rt; saved(&rt, rt.alloc(), &cache).as_slice(), cold.as_slice());
+}
+
+/// Whether an item comes back. One that does not is given back, with no refusal.
+fn comes_back(rt: &impl Abort, cache: &mut Weighed, item: Saved) -> bool {
+    let (key, value, queue, mark) = item;
+    let back = cache.restore(key, value, queue, mark).err();
+    let comes = back.is_none();
+    expect_eq!(rt; back, (!comes).then_some((key, value, None)));
+    comes
 }
 
 #[test]
-fn what_cannot_come_back_is_given_back(rt: HostRuntime) -> Result<(), Fail> {
+fn what_cannot_come_back_is_given_back(rt: HostRuntime) {
     let alloc = rt.alloc();
-    let mut cache = weighed(alloc, 10)?;
-    expect_eq!(rt; cache.restore(1, 4, Queue::Hot, 200), Ok(()));
-    expect_eq!(rt; cache.restore(1, 3, Queue::Cold, 0), Err((1, 3, None)));
-    // What is heavier than the cache, and what weighs nothing.
-    expect_eq!(rt; cache.restore(3, 60, Queue::Hot, 1), Ok(()));
-    expect_eq!(rt; cache.restore(4, 0, Queue::Cold, 1), Ok(()));
+    let mut cache = restored(&rt, alloc, 10, &[]);
+    // The last two are heavier than the cache, and weigh nothing.
+    let rows = [
+        ((1, 4, Queue::Hot, 200), true),
+        ((1, 3, Queue::Cold, 0), false),
+        ((3, 60, Queue::Hot, 1), true),
+        ((4, 0, Queue::Cold, 1), true),
+    ];
+    for (item, comes) in rows {
+        expect_eq!(rt; comes_back(&rt, &mut cache, item), comes);
+    }
     // The mark is the greatest there is.
     let list = [
         (1, 4, Queue::Hot, 2),
         (3, 60, Queue::Hot, 1),
         (4, 0, Queue::Cold, 1),
     ];
-    expect_eq!(rt; saved(&cache, alloc)?.as_slice(), list.as_slice());
+    expect_eq!(rt; saved(&rt, alloc, &cache).as_slice(), list.as_slice());
     // No ghost comes of it.
     expect_eq!(rt; cache.remove(&1), Some((1, 4)));
-    expect_eq!(rt; cache.restore(1, 4, Queue::Cold, 0), Ok(()));
-    // Of many pairs of a key the first comes back.
-    let twice = vec![in alloc;
+    expect!(rt; comes_back(&rt, &mut cache, (1, 4, Queue::Cold, 0)));
+}
+
+#[test]
+fn of_many_pairs_of_a_key_the_first_comes_back(rt: HostRuntime) {
+    let twice = [
         (1, 1, Queue::Hot, 0),
         (1, 2, Queue::Cold, 1),
         (2, 0, Queue::Hot, 3),
-    ]?;
-    let cache = restored(alloc, 10, twice)?;
+    ];
+    let cache = restored(&rt, rt.alloc(), 10, &twice);
     let list = [(1, 1, Queue::Hot, 0), (2, 0, Queue::Hot, 2)];
-    expect_eq!(rt; saved(&cache, alloc)?.as_slice(), list.as_slice());
-    Ok(())
+    expect_eq!(rt; saved(&rt, rt.alloc(), &cache).as_slice(), list.as_slice());
 }
