@@ -1,6 +1,8 @@
 -- What an entry call answers.
 use Rattle.std.specs.Prelude.{◌⊎◌, ⊤, Bool, true, false, Option, Some, None, Result, Ok, Err}
 use Rattle.quick_cache_loading.specs.Waiters.{IsLoadRefusal}
+use Rattle.quick_cache_guard.specs.declared.results.GuardResult.{GuardResult}
+use Rattle.quick_cache_guard.specs.declared.results.GuardResult.TheVariants as guard_result
 use Rattle.quick_cache_guard.specs.declared.results.EntryResult.{EntryResult}
 use Rattle.quick_cache_guard.specs.declared.results.EntryResult.TheVariants as entry_result
 use Rattle.quick_cache_model.specs.declared.calls.entry.EntryAction.{EntryAction}
@@ -34,6 +36,14 @@ module _ {T K V G : Type 0} where
   abbrev pub is_late : EntryResult T K V G → Bool
   is_late entry_result.Timeout = true
   is_late _ = false
+
+-- what an entry call answers, where one who asks for a value answers this; nothing where it came
+abbrev pub entry_of : {T K V G : Type 0} → Option (GuardResult V G) → Option (EntryResult T K V G)
+entry_of (Some (guard_result.Value value)) = None
+entry_of (Some (guard_result.Guard guard)) = Some (entry_result.Vacant guard)
+entry_of (Some guard_result.Timeout) = Some entry_result.Timeout
+entry_of (Some (guard_result.Refused refusal)) = Some (entry_result.Refused refusal)
+entry_of None = None
 
 -- of one who came to the shard: what it answers, where it neither waits nor looks again
 abbrev pub IfAnswered : {W E : Type 0} → Result W (Option E) → (E → Type 0) → Type 0

@@ -1,5 +1,15 @@
--- What a contract sees of a future that waits for a value.
-use Rattle.std.specs.Prelude.{ℕ, Bool, Option, Some, None}
+-- What a contract sees of a future that waits for a value, and what a poll does.
+use Rattle.std.specs.Prelude.{◌≡◌, ◌⊎◌, ⊤, ℕ, Bool, true, false, Option, Some, None, IsSomeAnd, Result}
+use Rattle.futures.specs.Poll.{IfReady, OnPending}
+use Rattle.futures.specs.Task.{Covers, Keeps}
+use Rattle.futures.specs.declared.task.Poll.{Poll}
+use Rattle.futures.specs.declared.task.Poll.TheVariants as poll
+use Rattle.futures.specs.declared.task.context.Context.{Context}
+use Rattle.quick_cache_loading.specs.Fitting.{ClonesFit, FitsQuery}
+use Rattle.quick_cache_model.specs.declared.refusal.Refusal.{Refusal}
+use Rattle.quick_cache_guard.specs.Answers.{IfGiven}
+use Rattle.quick_cache_guard.specs.declared.stage.Stage.{Stage}
+use Rattle.quick_cache_guard.specs.declared.stage.Stage.TheVariants as stage
 
 -- its query, once it waits the source by which its placeholder wakes it, and whether it has answered
 pub record Joining (Q : Type 0) : Type 0 where
@@ -7,7 +17,47 @@ pub record Joining (Q : Type 0) : Type 0 where
   pub source : Option ℕ
   pub is_finished : Bool
 
--- what is read off one that is there
-abbrev pub read_off : {X Y : Type 0} → Option X → (X → Y) → Option Y
-read_off (Some x) f = Some (f x)
-read_off None f = None
+module _ {W : Type 0} where
+  -- by which source it is woken, where it waits
+  abbrev pub source_of : Stage W → (W → Option ℕ) → Option ℕ
+  source_of stage.Looks source = None
+  source_of (stage.Waits waits) source = source waits
+  source_of stage.Finished source = None
+
+  -- of what it waits by this is true
+  abbrev pub IfWaits : Stage W → (W → Type 0) → Type 0
+  IfWaits stage.Looks P = ⊤
+  IfWaits (stage.Waits waits) P = P waits
+  IfWaits stage.Finished P = ⊤
+
+  -- it has answered
+  abbrev pub has_answered : Stage W → Bool
+  has_answered stage.Looks = false
+  has_answered (stage.Waits waits) = false
+  has_answered stage.Finished = true
+
+-- this is the source by which it is woken
+abbrev pub IsSource : Option ℕ → ℕ → Type 0
+IsSource source s = IsSomeAnd source (λ own. s ≡ own)
+
+-- A future answers once: while it is not finished it is refused as a load is, and once it is it is
+-- refused so.
+pub record AnswersOnce {O : Type 0} (IsRefusedAsLoad : O → Type 0) (finished : O) (before : Bool)
+    (polled : Poll O) (after : Bool) : Type 0 where
+  pub first : before ≡ false → IfReady polled IsRefusedAsLoad
+  pub again : before ≡ true → polled ≡ poll.Ready finished
+  pub ends : IfReady polled (λ _. after ≡ true)
+  pub goes_on : OnPending polled (after ≡ before)
+
+-- A pending poll has its place, or has asked for another, and has registered where it waits.
+pub record Registers {O : Type 0} (HasPlace : Type 0) (needs : ℕ → Type 0) (polled : Poll O)
+    (old new : Context) : Type 0 where
+  pub place : OnPending polled ((new.is_woken ≡ true) ⊎ HasPlace)
+  pub registered : OnPending polled (Covers new needs)
+  pub kept : Keeps old new
+
+-- a value that fits a key that the query stands for, or the guard of a key that it becomes
+abbrev pub GivesFor : {K V : Type 0} (fits : K → V → Type 0) (is_clone : V → V → Type 0)
+    (stands_for : K → Bool) (becomes : K → Type 0) → Result (Result V K) Refusal → Type 0
+GivesFor fits is_clone stands_for becomes =
+    IfGiven (λ value. ClonesFit fits is_clone → FitsQuery fits stands_for value) becomes

@@ -1,6 +1,9 @@
 -- What a contract sees of a future that loads.
-use Rattle.std.specs.Prelude.{◌≡◌, ⊤, Bool, true, false, ℕ, Option, IsSomeAnd, Result, Ok, Err}
+use Rattle.std.specs.Prelude.{◌≡◌, ◌⊎◌, ⊤, Bool, true, false, ℕ, Option, None, IsSome, Result, Ok, Err}
 use Rattle.quick_cache_model.specs.declared.refusal.Refusal.{Refusal}
+use Rattle.quick_cache_guard.specs.Futures.{IsSource, Joining}
+use Rattle.quick_cache_guard.specs.declared.tasks.get_or_insert.Loading.{Loading}
+use Rattle.quick_cache_guard.specs.declared.tasks.get_or_insert.Loading.TheVariants as loading
 
 -- its query, the source that it waits for before it has the guard, the loader's future, and whether
 -- it has the guard, and whether it has answered
@@ -11,11 +14,46 @@ pub record LoadState (Q F : Type 0) : Type 0 where
   pub has_guard : Bool
   pub is_finished : Bool
 
+module _ {J G : Type 0} where
+  -- of what it asks by this is true
+  abbrev pub IfAsks : Loading J G → (J → Type 0) → Type 0
+  IfAsks (loading.Asks joining) P = P joining
+  IfAsks (loading.Loads guard) P = ⊤
+  IfAsks loading.Finished P = ⊤
+
+  -- of its guard this is true
+  abbrev pub IfLoads : Loading J G → (G → Type 0) → Type 0
+  IfLoads (loading.Asks joining) P = ⊤
+  IfLoads (loading.Loads guard) P = P guard
+  IfLoads loading.Finished P = ⊤
+
+  -- it has the guard
+  abbrev pub has_guard : Loading J G → Bool
+  has_guard (loading.Asks joining) = false
+  has_guard (loading.Loads guard) = true
+  has_guard loading.Finished = false
+
+  -- it has answered
+  abbrev pub is_finished : Loading J G → Bool
+  is_finished (loading.Asks joining) = false
+  is_finished (loading.Loads guard) = false
+  is_finished loading.Finished = true
+
+-- the source by which it is woken before it has the guard
+abbrev pub asked_source : {Q G : Type 0} → Loading (Joining Q) G → Option ℕ
+asked_source (loading.Asks joining) = joining.source
+asked_source (loading.Loads guard) = None
+asked_source loading.Finished = None
+
 -- what it waits for: the placeholder's source, or what the loader's future waits for
 abbrev pub NeedsOf : {F : Type 0} → (F → ℕ → Type 0) → (has_guard : Bool) → Option ℕ → F → ℕ
     → Type 0
 NeedsOf needs true source loader s = needs loader s
-NeedsOf needs false source loader s = IsSomeAnd source (λ waited_for. s ≡ waited_for)
+NeedsOf needs false source loader s = IsSource source s
+
+-- it has its place among those who wait, or the guard
+abbrev pub HasPlace : {Q F : Type 0} → LoadState Q F → Type 0
+HasPlace state = (state.has_guard ≡ true) ⊎ IsSome state.source
 
 -- of a value that is given the one is true, and of an error of the loader's the other
 abbrev pub IfLoaded : {V E : Type 0} → (V → Type 0) → (E → Type 0)

@@ -1,10 +1,10 @@
 //! One who comes to a shard for the value of a key: it waits, or is told at once.
-ghost use Rattle.std.specs.Prelude.{◌≡◌, true, false, IfOk, IfErr, IfSome, IsErr, is_some};
+ghost use Rattle.std.specs.Prelude.{◌≡◌, true, false, IfOk, IfErr, IfSome, IsErr};
 ghost use Rattle.std.specs.Arc.{arc_value};
 ghost use Rattle.quick_cache_loading.specs.Waiters.{IfGuard as IfShare};
 ghost use Rattle.quick_cache_loading.specs.Fitting.{ClonesFit, FitsQuery};
 ghost use Rattle.quick_cache_guard.specs.Answers.{IfValue, IfGuard, RefusesAsLoad, answer_of, is_timeout, output_of};
-ghost use Rattle.quick_cache_loading.specs.Turns.{none_left};
+ghost use Rattle.quick_cache_loading.specs.Turns.{NoMoreLeft, none_left};
 
 use crate::guard::PlaceholderGuard;
 use crate::results::GuardResult;
@@ -160,6 +160,44 @@ pub fn come_and_wait<
     }
 }
 
+/// Waits at its place, for so many turns at most. Nothing is answered where one has to look again.
+pub fn wait_at<
+    'a,
+    K: Eq + Hash + Drop,
+    V: Clone,
+    L: Lifecycle<K, V>,
+    S: LoadingShard<K, V, L, A>,
+    R: Wait + Clock,
+    A: Allocator,
+    Q: ToKey<K>,
+>(
+    rt: &'a R,
+    shard: &'a RwLock<S>,
+    query: &Q,
+    waiting: Waiting<K, V, L, A>,
+    turns: &mut Turns,
+) -> Option<GuardResult<V, PlaceholderGuard<'a, K, V, L, S, R, A>>>
+    requires keyed { Q.to_key_gives query.now waiting.key }
+    ensures fits { ClonesFit L.fits V.is_clone → IfSome result
+        (λ answer. IfValue answer
+        (λ value. FitsQuery L.fits (Q.equivalent query.now) value)) }
+    ensures key { IfSome result (λ answer. IfGuard answer
+        (λ key. Q.to_key_gives query.now key)) }
+    ensures refused { IfSome result RefusesAsLoad }
+    // Its time is over only where no turn is left.
+    ensures timely { IfSome result (λ answer. is_timeout answer ≡ true
+        → none_left turns.new.left ≡ true) }
+    ensures counts { NoMoreLeft turns.old.left turns.new.left }
+{
+    let Waiting {
+        placeholder,
+        place,
+        key,
+    } = waiting;
+    let told = placeholder.wait_within(rt, place, query, turns);
+    answer(rt, shard, placeholder, key, told)
+}
+
 /// As `come_and_wait`, for so many turns at most.
 pub fn come_and_wait_within<
     'a,
@@ -187,19 +225,10 @@ pub fn come_and_wait_within<
     // Its time is over only where no turn is left.
     ensures timely { IfSome result (λ answer. is_timeout answer ≡ true
         → none_left turns.new.left ≡ true) }
-    ensures counted { is_some turns.new.left ≡ is_some turns.old.left }
+    ensures counts { NoMoreLeft turns.old.left turns.new.left }
 {
     match come(rt, shard, query, turns.is_over()) {
-        Ok(
-            Waiting {
-                placeholder,
-                place,
-                key,
-            },
-        ) => {
-            let told = placeholder.wait_within(rt, place, query, turns);
-            answer(rt, shard, placeholder, key, told)
-        }
+        Ok(waiting) => wait_at(rt, shard, query, waiting, turns),
         Err(told) => told,
     }
 }

@@ -1,14 +1,16 @@
 //! A value, or the guard of a key that is absent, for a task, which waits without a thread.
-ghost use Rattle.std.specs.Prelude.{◌≡◌, ◌⊎◌, true, false, Some, None, IsSome};
-ghost use Rattle.std.specs.Option.{IfSome, IsSomeAnd};
-ghost use Rattle.futures.specs.Poll.{IfReady, OnPending};
-ghost use Rattle.futures.specs.Task.{Covers, Keeps};
+ghost use Rattle.std.specs.Prelude.{◌≡◌, true, false, Some, Err, IsSome, IfSome};
+ghost use Rattle.std.specs.Arc.{arc_value};
+ghost use Rattle.futures.specs.Poll.{IfReady};
+ghost use Rattle.quick_cache_guard.specs.Answers.{IfGuard, IfValue, IsRefusedAsLoad, RefusesAsLoad};
+ghost use Rattle.quick_cache_guard.specs.Futures.{AnswersOnce, GivesFor, IfWaits, IsSource, Registers, has_answered, source_of};
 ghost use Rattle.quick_cache_loading.specs.Fitting.{ClonesFit, FitsQuery};
-ghost use Rattle.quick_cache_guard.specs.Answers.{IfGiven, IfGuard, IfValue, IsRefusedAsLoad, RefusesAsLoad};
 
 use crate::coming::{Waiting, answer, come, output};
 use crate::guard::PlaceholderGuard;
+use crate::loads::look;
 use crate::results::GuardResult;
+use crate::stage::Stage;
 use futures::Future;
 use futures::task::{Context, Poll};
 use quick_cache_loading::sharing::LoadingShard;
@@ -19,12 +21,14 @@ use std::marker::Model;
 use std::mem::replace;
 use std::sync::{RwLock, Wait};
 
-/// Gives the value under the query's key, or the right to load it.
+/// Gives the value under the query's key, or the right to load it, as `get_value_or_guard` does for
+/// a thread with no time limit.
 ///
-/// A poll takes the shard's lock and that of a placeholder's state, and waits for nothing else. One
-/// that is pending has left its waker in the state, or has asked to be polled again. Polled after
-/// its answer it is refused as `Finished`. Dropped, it waits no more; a guard that was on its way to
-/// it is handed on, or the placeholder given up, as by a guard that is dropped.
+/// It looks under the shard's read lock first. A poll takes the shard's lock and that of a
+/// placeholder's state, and waits for nothing else. One that is pending has left its waker in the
+/// state, or has asked to be polled again. Polled after its answer it is refused as `Finished`.
+/// Dropped, it waits no more; a guard that was on its way to it is handed on, or the placeholder
+/// given up, as by a guard that is dropped.
 pub struct JoinFuture<
     'a,
     'q,
@@ -39,8 +43,7 @@ pub struct JoinFuture<
     rt: &'a R,
     shard: &'a RwLock<S>,
     query: &'q Q,
-    waiting: Option<Waiting<K, V, L, A>>,
-    is_finished: bool,
+    stage: Stage<Waiting<K, V, L, A>>,
 }
 
 impl<
@@ -54,21 +57,21 @@ impl<
     R: Wait,
     A: Allocator,
 > Model for JoinFuture<'a, 'q, Q, K, V, L, S, R, A> {
-    ghost use Rattle.std.specs.Prelude.{◌≡◌, true, IfSome};
+    ghost use Rattle.std.specs.Prelude.{◌≡◌, true, Some};
     ghost use Rattle.std.specs.Arc.{arc_value};
-    ghost use Rattle.quick_cache_guard.specs.Futures.{Joining, read_off};
+    ghost use Rattle.quick_cache_guard.specs.Futures.{IfWaits, Joining, has_answered, source_of};
 
     ghost Value = { Joining Q };
 
     ghost view = { λ f. record {
       query = f.query.now;
-      source = read_off f.waiting (λ waiting. (arc_value waiting.placeholder).source.id);
-      is_finished = f.is_finished;
+      source = source_of f.stage (λ waiting. Some (arc_value waiting.placeholder).source.id);
+      is_finished = has_answered f.stage;
     } };
 
     ghost invariant = { λ f. ((key : K) → Q.to_key_gives f.query.now key
         → Q.equivalent f.query.now key ≡ true)
-        × IfSome f.waiting (λ waiting. Q.to_key_gives f.query.now waiting.key) };
+        × IfWaits f.stage (λ waiting. Q.to_key_gives f.query.now waiting.key) };
 }
 
 impl<
@@ -85,16 +88,15 @@ impl<
             rt,
             shard,
             query: _,
-            waiting,
-            is_finished: _,
+            stage,
         } = self;
-        if let Some(
+        if let Stage::Waits(
             Waiting {
                 placeholder,
                 place,
                 key: _key,
             },
-        ) = waiting
+        ) = stage
         {
             placeholder.withdraw(rt, &mut *shard.write(rt), place);
         }
@@ -123,8 +125,7 @@ impl<
             rt,
             shard,
             query,
-            waiting: None,
-            is_finished: false,
+            stage: Stage::Looks,
         }
     }
 
@@ -145,8 +146,7 @@ impl<
             rt,
             shard,
             query,
-            waiting: Some(waiting),
-            is_finished: false,
+            stage: Stage::Waits(waiting),
         }
     }
 
@@ -155,57 +155,60 @@ impl<
         &mut self,
         cx: &mut Context<'_>,
     ) -> Poll<Result<Result<V, PlaceholderGuard<'a, K, V, L, S, R, A>>, Refusal>>
-        ensures value { IfReady result (λ output. IfGiven
-            (λ value. ClonesFit L.fits V.is_clone
-            → FitsQuery L.fits (Q.equivalent self.old.query) value)
-            (λ key. Q.to_key_gives self.old.query key) output) }
-        // It answers once, and is refused as a load is; then it is refused as `Finished`.
-        ensures finished { IfReady result (λ output. self.new.is_finished ≡ true) }
-        ensures refused { self.old.is_finished ≡ true
-            → result ≡ Poll.Ready (Err Refusal.Finished) }
-        ensures unfinished { self.old.is_finished ≡ false → IfReady result IsRefusedAsLoad }
-        ensures goes_on { OnPending result (self.new.is_finished ≡ self.old.is_finished) }
-        // A pending poll has its place, or has asked for another.
-        ensures place { OnPending result
-            ((cx.new.is_woken ≡ true) ⊎ IsSome self.new.source) }
+        ensures gives { IfReady result (GivesFor L.fits V.is_clone (Q.equivalent self.old.query)
+            (Q.to_key_gives self.old.query)) }
+        ensures once { AnswersOnce IsRefusedAsLoad (Err Refusal.Finished) self.old.is_finished
+            result self.new.is_finished }
+        ensures registers { Registers (IsSome self.new.source) (IsSource self.new.source) result
+            cx.old cx.new }
         ensures query { self.new.query ≡ self.old.query }
-        ensures registered { OnPending result
-            (Covers cx.new (λ s. IsSomeAnd self.new.source (λ source. s ≡ source))) }
-        ensures kept { Keeps cx.old cx.new }
     {
-        if self.is_finished {
-            return Poll::Ready(Err(Refusal::Finished));
+        match replace(&mut self.stage, Stage::Finished) {
+            Stage::Looks => self.look(cx),
+            Stage::Waits(waiting) => self.wait(waiting, cx),
+            Stage::Finished => Poll::Ready(Err(Refusal::Finished)),
         }
-        match self.waiting.take() {
-            Some(waiting) => self.look(waiting, cx),
-            None => match come(self.rt, self.shard, self.query, false) {
-                Ok(waiting) => self.look(waiting, cx),
+    }
+
+    /// Looks in the shard, and waits where another loads the key.
+    fn look(
+        &mut self,
+        cx: &mut Context<'_>,
+    ) -> Poll<Result<Result<V, PlaceholderGuard<'a, K, V, L, S, R, A>>, Refusal>>
+        requires taken { self.old.is_finished ≡ true }
+        ensures gives { IfReady result (GivesFor L.fits V.is_clone (Q.equivalent self.old.query)
+            (Q.to_key_gives self.old.query)) }
+        ensures once { AnswersOnce IsRefusedAsLoad (Err Refusal.Finished) false result
+            self.new.is_finished }
+        ensures registers { Registers (IsSome self.new.source) (IsSource self.new.source) result
+            cx.old cx.new }
+        ensures query { self.new.query ≡ self.old.query }
+    {
+        match look(self.rt, self.shard, self.query) {
+            Ok(Some(value)) => Poll::Ready(Ok(Ok(value))),
+            Ok(None) => match come(self.rt, self.shard, self.query, false) {
+                Ok(waiting) => self.wait(waiting, cx),
                 Err(told) => self.give(told, cx),
             },
+            Err(refusal) => Poll::Ready(Err(refusal)),
         }
     }
 
     /// Looks whether the guard or the value has come to the waiter, which waits on where neither has.
-    fn look(
+    fn wait(
         &mut self,
         waiting: Waiting<K, V, L, A>,
         cx: &mut Context<'_>,
     ) -> Poll<Result<Result<V, PlaceholderGuard<'a, K, V, L, S, R, A>>, Refusal>>
+        requires taken { self.old.is_finished ≡ true }
         requires keyed { Q.to_key_gives self.old.query waiting.key }
-        requires none { self.old.source ≡ None }
-        ensures value { IfReady result (λ output. IfGiven
-            (λ value. ClonesFit L.fits V.is_clone
-            → FitsQuery L.fits (Q.equivalent self.old.query) value)
-            (λ key. Q.to_key_gives self.old.query key) output) }
-        ensures finished { IfReady result (λ output. self.new.is_finished ≡ true) }
-        ensures unfinished { IfReady result IsRefusedAsLoad }
-        ensures goes_on { OnPending result (self.new.is_finished ≡ self.old.is_finished) }
-        ensures place { OnPending result
-            ((cx.new.is_woken ≡ true) ⊎ IsSome self.new.source) }
+        ensures gives { IfReady result (GivesFor L.fits V.is_clone (Q.equivalent self.old.query)
+            (Q.to_key_gives self.old.query)) }
+        ensures once { AnswersOnce IsRefusedAsLoad (Err Refusal.Finished) false result
+            self.new.is_finished }
+        ensures registers { Registers (IsSome self.new.source) (IsSource self.new.source) result
+            cx.old cx.new }
         ensures query { self.new.query ≡ self.old.query }
-        ensures registered { OnPending result
-            (Covers cx.new (λ s. IsSomeAnd self.new.source (λ source. s ≡ source))) }
-        ensures kept { Keeps cx.old cx.new }
     {
         let Waiting {
             placeholder,
@@ -214,15 +217,11 @@ impl<
         } = waiting;
         match placeholder.poll(self.rt, place, self.query, cx) {
             Err(place) => {
-                let waiting = Waiting {
+                self.stand(Stage::Waits(Waiting {
                     placeholder,
                     place,
                     key,
-                };
-                // It held none.
-                if let Some(_other) = replace(&mut self.waiting, Some(waiting)) {
-                    unreachable!()
-                }
+                }));
                 Poll::Pending
             }
             Ok(told) => {
@@ -238,30 +237,40 @@ impl<
         told: Option<GuardResult<V, PlaceholderGuard<'a, K, V, L, S, R, A>>>,
         cx: &mut Context<'_>,
     ) -> Poll<Result<Result<V, PlaceholderGuard<'a, K, V, L, S, R, A>>, Refusal>>
+        requires taken { self.old.is_finished ≡ true }
         requires fits { ClonesFit L.fits V.is_clone → IfSome told
             (λ answer. IfValue answer
             (λ value. FitsQuery L.fits (Q.equivalent self.old.query) value)) }
         requires key { IfSome told (λ answer. IfGuard answer
             (λ key. Q.to_key_gives self.old.query key)) }
         requires refused { IfSome told RefusesAsLoad }
-        ensures value { IfReady result (λ output. IfGiven
-            (λ value. ClonesFit L.fits V.is_clone
-            → FitsQuery L.fits (Q.equivalent self.old.query) value)
-            (λ key. Q.to_key_gives self.old.query key) output) }
-        ensures unfinished { IfReady result IsRefusedAsLoad }
-        ensures finished { IfReady result (λ output. self.new.is_finished ≡ true) }
-        ensures goes_on { OnPending result (self.new ≡ self.old) }
-        ensures woken { OnPending result (cx.new.is_woken ≡ true) }
+        ensures gives { IfReady result (GivesFor L.fits V.is_clone (Q.equivalent self.old.query)
+            (Q.to_key_gives self.old.query)) }
+        ensures once { AnswersOnce IsRefusedAsLoad (Err Refusal.Finished) false result
+            self.new.is_finished }
+        ensures registers { Registers (IsSome self.new.source) (IsSource self.new.source) result
+            cx.old cx.new }
         ensures query { self.new.query ≡ self.old.query }
-        ensures registered { OnPending result
-            (Covers cx.new (λ s. IsSomeAnd self.new.source (λ source. s ≡ source))) }
-        ensures kept { Keeps cx.old cx.new }
     {
         let Some(output) = output(told) else {
+            self.stand(Stage::Looks);
             return cx.yield_now();
         };
-        self.is_finished = true;
         Poll::Ready(output)
+    }
+
+    /// Stands there until the next poll. Its stage was taken.
+    fn stand(&mut self, stage: Stage<Waiting<K, V, L, A>>)
+        requires taken { self.old.is_finished ≡ true }
+        requires keyed { IfWaits stage (λ waiting. Q.to_key_gives self.old.query waiting.key) }
+        ensures { self.new ≡ record self.old {
+          source = source_of stage (λ waiting. Some (arc_value waiting.placeholder).source.id);
+          is_finished = has_answered stage;
+        } }
+    {
+        if let Stage::Waits(_other) = replace(&mut self.stage, stage) {
+            unreachable!()
+        }
     }
 }
 
@@ -279,13 +288,11 @@ impl<
     type Output = Result<Result<V, PlaceholderGuard<'a, K, V, L, S, R, A>>, Refusal>;
 
     // Once it waits, the source of its placeholder.
-    ghost needs = { λ f s. IsSomeAnd f.source (λ source. s ≡ source) };
+    ghost needs = { λ f. IsSource f.source };
 
     // The value fits a key that the query stands for, and the guard is for a key that it becomes.
-    ghost gives = { λ f output. IfGiven
-        (λ value. ClonesFit L.fits V.is_clone
-        → FitsQuery L.fits (Q.equivalent f.query) value)
-        (λ key. Q.to_key_gives f.query key) output };
+    ghost gives = { λ f. GivesFor L.fits V.is_clone (Q.equivalent f.query)
+        (Q.to_key_gives f.query) };
 
     fn poll(&mut self, cx: &mut Context<'_>) -> Poll<Self::Output> {
         self.go_on(cx)

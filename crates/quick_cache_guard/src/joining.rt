@@ -1,6 +1,7 @@
 //! A value, or the guard of a key that is absent, for a thread that waits where another loads it.
 ghost use Rattle.std.specs.Prelude.{◌≡◌, true, false, None};
 ghost use Rattle.quick_cache_loading.specs.Fitting.{ClonesFit, FitsQuery};
+ghost use Rattle.quick_cache_loading.specs.Turns.{NoMoreLeft, none_left};
 ghost use Rattle.quick_cache_guard.specs.Answers.{IfGiven, IfGuard, IfValue, IsRefusedAsLoad, RefusesAsLoad, is_timeout};
 
 use crate::coming::{come_and_wait, come_and_wait_within, output};
@@ -44,9 +45,30 @@ impl<
         ensures refused { RefusesAsLoad result }
         ensures timely { limit ≡ None → is_timeout result ≡ false }
     {
-        let mut turns = Turns::within(limit);
+        Self::join_within(rt, shard, query, &mut Turns::within(limit))
+    }
+
+    /// As `join`, where all its waits share these turns.
+    fn join_within<Q: ToKey<K>>(
+        rt: &'a R,
+        shard: &'a RwLock<S>,
+        query: &Q,
+        turns: &mut Turns,
+    ) -> GuardResult<V, Self>
+    where
+        R: Clock,
+        requires stands { (key : K) → Q.to_key_gives query.now key
+            → Q.equivalent query.now key ≡ true }
+        ensures fits { ClonesFit L.fits V.is_clone
+            → IfValue result (λ value. FitsQuery L.fits (Q.equivalent query.now) value) }
+        ensures key { IfGuard result (λ key. Q.to_key_gives query.now key) }
+        ensures refused { RefusesAsLoad result }
+        // Its time is over only where none of them is left.
+        ensures timely { is_timeout result ≡ true → none_left turns.new.left ≡ true }
+        ensures counts { NoMoreLeft turns.old.left turns.new.left }
+    {
         for _ in rt.forever() {
-            if let Some(answer) = come_and_wait_within(rt, shard, query, &mut turns) {
+            if let Some(answer) = come_and_wait_within(rt, shard, query, turns) {
                 return answer;
             }
         }

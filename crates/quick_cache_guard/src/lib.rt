@@ -9,10 +9,12 @@ mod guard;
 mod joining;
 pub mod loads;
 mod results;
+mod stage;
 pub mod tasks;
 
 pub use coming::Waiting;
 pub use future::JoinFuture;
 pub use guard::{FillError, PlaceholderGuard};
-pub use quick_cache_loading::sharing::{Begun, LoadingShard};
+pub use quick_cache_loading::sharing::{Begun, LoadingShard, Turns};
 pub use results::{EntryResult, Fetched, GuardResult};
+pub use stage::Stage;

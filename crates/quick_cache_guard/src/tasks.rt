@@ -2,7 +2,6 @@
 //! one shard.
 
 mod get_or_insert;
-mod value_or_guard;
 
+pub use crate::future::JoinFuture as ValueOrGuard;
 pub use get_or_insert::GetOrInsert;
-pub use value_or_guard::ValueOrGuard;

@@ -1,6 +1,5 @@
 -- A loader with its cache, as contracts see it.
-use Rattle.std.specs.Prelude.{ℕ, Bool, Option, Some, None}
-use Rattle.quick_cache_guard.specs.Futures.{Joining}
+use Rattle.std.specs.Prelude.{ℕ, Bool, Option}
 
 -- the loader, how long its values live, for how long after that they may be answered where a load
 -- fails, and how many shards its cache has
@@ -18,8 +17,3 @@ pub record Asking (K L F : Type 0) : Type 0 where
   pub moment : ℕ
   pub source : Option ℕ
   pub is_finished : Bool
-
--- the source for which one waits, where one does
-abbrev pub source_of : {Q : Type 0} → Option (Joining Q) → Option ℕ
-source_of (Some waiting) = waiting.source
-source_of None = None

@@ -1,9 +1,8 @@
 //! The value of a key for a task, which waits without a thread.
-ghost use Rattle.std.specs.Prelude.{◌≡◌, ◌⊎◌, IsTrue, true, false, Err, IfErr, IfOk, IfSome, IsSome};
-ghost use Rattle.std.specs.Option.{IsSomeAnd};
-ghost use Rattle.futures.specs.Poll.{IfReady, OnPending};
-ghost use Rattle.futures.specs.Task.{Covers, Keeps};
+ghost use Rattle.std.specs.Prelude.{◌≡◌, IsTrue, true, false, Err, IfErr, IfOk, IfSome, IsSome};
+ghost use Rattle.futures.specs.Poll.{IfReady};
 ghost use Rattle.quick_cache_guard.specs.Answers.{IsLoadRefusal};
+ghost use Rattle.quick_cache_guard.specs.Futures.{AnswersOnce, IsSource, Registers};
 ghost use Rattle.read_through.specs.Answers.{Answers, GivesClones, IsOf};
 ghost use Rattle.read_through.specs.Loads.{LoadsFrom};
 
@@ -16,11 +15,12 @@ use futures::Future;
 use futures::task::{Context, Poll};
 use quick_cache_expiring::Loaded;
 use quick_cache_guard::tasks::ValueOrGuard;
-use quick_cache_guard::{EntryResult, PlaceholderGuard};
+use quick_cache_guard::{EntryResult, PlaceholderGuard, Stage};
 use quick_cache_model::{Refusal, Weighter};
 use std::alloc::Allocator;
 use std::hash::Hash;
 use std::marker::Model;
+use std::mem::replace;
 use std::sync::Wait;
 use std::sync::atomic::Ordering;
 use std::time::{Clock, Duration};
@@ -47,8 +47,7 @@ pub struct GetFuture<
     reading: &'a ReadThrough<K, V, F, S, A, Li, We>,
     key: &'a K,
     now: u64,
-    waiting: Option<ValueOrGuard<'a, 'a, K, K, Loaded<V>, Fresh<S>, ShardOf<K, V, S, A, We>, R, A>>,
-    is_finished: bool,
+    stage: Stage<ValueOrGuard<'a, 'a, K, K, Loaded<V>, Fresh<S>, ShardOf<K, V, S, A, We>, R, A>>,
 }
 
 impl<
@@ -62,9 +61,10 @@ impl<
     We: Weighter<K, V>,
     R: Wait,
 > Model for GetFuture<'a, K, V, F, S, A, Li, We, R> {
-    ghost use Rattle.std.specs.Prelude.{◌≡◌, IsTrue, IfSome, false};
+    ghost use Rattle.std.specs.Prelude.{◌≡◌, IsTrue, false};
+    ghost use Rattle.quick_cache_guard.specs.Futures.{IfWaits, has_answered, source_of};
     ghost use Rattle.read_through.specs.Answers.{GivesClones};
-    ghost use Rattle.read_through.specs.Reading.{Asking, source_of};
+    ghost use Rattle.read_through.specs.Reading.{Asking};
 
     ghost Value = { Asking K Li F };
 
@@ -72,14 +72,14 @@ impl<
       reading = f.reading.now;
       key = f.key.now;
       moment = f.now;
-      source = source_of f.waiting;
-      is_finished = f.is_finished;
+      source = source_of f.stage (λ waiting. waiting.source);
+      is_finished = has_answered f.stage;
     } };
 
     ghost invariant = { λ f. ((copy : K) → K.is_clone f.key.now copy
         → IsTrue (K.eq f.key.now copy))
         × GivesClones S.gives V.is_clone
-        × IfSome f.waiting (λ waiting. (waiting.query ≡ f.key.now)
+        × IfWaits f.stage (λ waiting. (waiting.query ≡ f.key.now)
         × (waiting.is_finished ≡ false)) };
 }
 
@@ -113,8 +113,7 @@ impl<
             reading,
             key,
             now,
-            waiting: None,
-            is_finished: false,
+            stage: Stage::Looks,
         }
     }
 
@@ -125,70 +124,86 @@ impl<
         ensures fresh { IfReady result (λ answer. IfOk answer (Answers S.gives K.eq self.old.key
             (Li.life_of self.old.reading.lives self.old.key) self.old.moment)) }
         // It is refused as a load is, and answers once; then it is refused as `Finished`.
-        ensures unfinished { self.old.is_finished ≡ false
-            → IfReady result (λ answer. IfErr answer IsLoadRefusal) }
-        ensures finished { IfReady result (λ _. self.new.is_finished ≡ true) }
-        ensures refused { self.old.is_finished ≡ true
-            → result ≡ Poll.Ready (Err Refusal.Finished) }
-        ensures goes_on { OnPending result (self.new.is_finished ≡ self.old.is_finished) }
-        // A pending poll has its place, or has asked for another.
-        ensures place { OnPending result
-            ((cx.new.is_woken ≡ true) ⊎ IsSome self.new.source) }
+        ensures once { AnswersOnce (λ answer. IfErr answer IsLoadRefusal) (Err Refusal.Finished)
+            self.old.is_finished result self.new.is_finished }
+        ensures registers { Registers (IsSome self.new.source) (IsSource self.new.source) result
+            cx.old cx.new }
         ensures same { self.new ≡ record self.old {
           source = self.new.source;
           is_finished = self.new.is_finished;
         } }
-        ensures registered { OnPending result
-            (Covers cx.new (λ s. IsSomeAnd self.new.source (λ source. s ≡ source))) }
-        ensures kept { Keeps cx.old cx.new }
     {
-        if self.is_finished {
-            return Poll::Ready(Err(Refusal::Finished));
+        match replace(&mut self.stage, Stage::Finished) {
+            Stage::Looks => {
+                let reading = self.reading;
+                let waiting = reading.cache.get_value_or_guard_async(self.rt, self.key);
+                self.wait(waiting, cx)
+            }
+            Stage::Waits(waiting) => self.wait(waiting, cx),
+            Stage::Finished => Poll::Ready(Err(Refusal::Finished)),
         }
-        let reading = self.reading;
-        let mut waiting = match self.waiting.take() {
-            Some(waiting) => waiting,
-            None => reading.cache.get_value_or_guard_async(self.rt, self.key),
-        };
+    }
+
+    /// Waits for what the cache has or another loads, and loads it where it gets the guard.
+    fn wait(
+        &mut self,
+        waiting: ValueOrGuard<'a, 'a, K, K, Loaded<V>, Fresh<S>, ShardOf<K, V, S, A, We>, R, A>,
+        cx: &mut Context<'_>,
+    ) -> Poll<Result<V, Refusal>>
+        requires taken { self.old.is_finished ≡ true }
+        requires query { waiting.query ≡ self.old.key }
+        requires begins { waiting.is_finished ≡ false }
+        requires callable { F.IsAlwaysCallable self.old.reading.loader }
+        requires loads { LoadsFrom F.Fn self.old.reading.loader S.gives }
+        ensures fresh { IfReady result (λ answer. IfOk answer (Answers S.gives K.eq self.old.key
+            (Li.life_of self.old.reading.lives self.old.key) self.old.moment)) }
+        ensures once { AnswersOnce (λ answer. IfErr answer IsLoadRefusal) (Err Refusal.Finished)
+            false result self.new.is_finished }
+        ensures registers { Registers (IsSome self.new.source) (IsSource self.new.source) result
+            cx.old cx.new }
+        ensures same { self.new ≡ record self.old {
+          source = self.new.source;
+          is_finished = self.new.is_finished;
+        } }
+    {
+        let mut waiting = waiting;
         match waiting.go_on(cx) {
             Poll::Pending => {
-                self.waiting = Some(waiting);
+                self.stage = Stage::Waits(waiting);
                 Poll::Pending
             }
             Poll::Ready(Ok(Ok(found))) => self.take(found, cx),
             Poll::Ready(Ok(Err(guard))) => {
                 let mut guard = Some(guard);
-                self.load(&mut guard)
+                Poll::Ready(Ok(self.load(&mut guard)))
             }
             // What could not be cloned may be too old to be.
             Poll::Ready(Err(Refusal::Memory)) => self.look(cx),
-            Poll::Ready(Err(refusal)) => self.give(Err(refusal)),
+            Poll::Ready(Err(refusal)) => Poll::Ready(Err(refusal)),
         }
     }
 
     /// Answers what was found where it serves, and looks once more where it is too old.
     fn take(&mut self, found: Loaded<V>, cx: &mut Context<'_>) -> Poll<Result<V, Refusal>>
+        requires taken { self.old.is_finished ≡ true }
         requires source { IsOf S.gives K.eq self.old.key found.moment found.value }
         requires callable { F.IsAlwaysCallable self.old.reading.loader }
         requires loads { LoadsFrom F.Fn self.old.reading.loader S.gives }
         ensures fresh { IfReady result (λ answer. IfOk answer (Answers S.gives K.eq self.old.key
             (Li.life_of self.old.reading.lives self.old.key) self.old.moment)) }
-        ensures finished { IfReady result (λ _. self.new.is_finished ≡ true) }
-        ensures unfinished { IfReady result (λ answer. IfErr answer IsLoadRefusal) }
-        ensures goes_on { OnPending result (self.new.is_finished ≡ self.old.is_finished) }
-        ensures woken { OnPending result (cx.new.is_woken ≡ true) }
+        ensures once { AnswersOnce (λ answer. IfErr answer IsLoadRefusal) (Err Refusal.Finished)
+            false result self.new.is_finished }
+        ensures registers { Registers (IsSome self.new.source) (IsSource self.new.source) result
+            cx.old cx.new }
         ensures same { self.new ≡ record self.old {
           source = self.new.source;
           is_finished = self.new.is_finished;
         } }
-        ensures registered { OnPending result
-            (Covers cx.new (λ s. IsSomeAnd self.new.source (λ source. s ≡ source))) }
-        ensures kept { Keeps cx.old cx.new }
     {
         let reading = self.reading;
         let life = reading.lives.life(self.key, &found.value, found.moment);
         if found.serves(life, self.now) {
-            return self.give(Ok(found.value));
+            return Poll::Ready(Ok(found.value));
         }
         reading.not_hits.fetch_add(1, Ordering::SeqCst);
         self.look(cx)
@@ -197,73 +212,58 @@ impl<
     /// Looks once more at what is stored, and loads where it does not serve. Where another loads the
     /// key by now, the next poll begins anew.
     fn look(&mut self, cx: &mut Context<'_>) -> Poll<Result<V, Refusal>>
+        requires taken { self.old.is_finished ≡ true }
         requires callable { F.IsAlwaysCallable self.old.reading.loader }
         requires loads { LoadsFrom F.Fn self.old.reading.loader S.gives }
         ensures fresh { IfReady result (λ answer. IfOk answer (Answers S.gives K.eq self.old.key
             (Li.life_of self.old.reading.lives self.old.key) self.old.moment)) }
-        ensures finished { IfReady result (λ _. self.new.is_finished ≡ true) }
-        ensures unfinished { IfReady result (λ answer. IfErr answer IsLoadRefusal) }
-        ensures goes_on { OnPending result (self.new.is_finished ≡ self.old.is_finished) }
-        ensures woken { OnPending result (cx.new.is_woken ≡ true) }
+        ensures once { AnswersOnce (λ answer. IfErr answer IsLoadRefusal) (Err Refusal.Finished)
+            false result self.new.is_finished }
+        ensures registers { Registers (IsSome self.new.source) (IsSource self.new.source) result
+            cx.old cx.new }
         ensures same { self.new ≡ record self.old {
           source = self.new.source;
           is_finished = self.new.is_finished;
         } }
-        ensures registered { OnPending result
-            (Covers cx.new (λ s. IsSomeAnd self.new.source (λ source. s ≡ source))) }
-        ensures kept { Keeps cx.old cx.new }
     {
         let reading = self.reading;
         let nobody_waits = Some(Duration::ZERO);
         match reading.look_anew(self.rt, self.key, self.now, nobody_waits) {
-            EntryResult::Retained(value) => self.give(Ok(value)),
+            EntryResult::Retained(value) => Poll::Ready(Ok(value)),
             EntryResult::Replaced(guard, _old) => {
                 let mut guard = Some(guard);
-                self.load(&mut guard)
+                Poll::Ready(Ok(self.load(&mut guard)))
             }
             EntryResult::Vacant(guard) => {
                 let mut guard = Some(guard);
-                self.load(&mut guard)
+                Poll::Ready(Ok(self.load(&mut guard)))
             }
             // There was no memory for a guard.
-            EntryResult::Removed(_, _) => {
-                let mut none = None;
-                self.load(&mut none)
+            EntryResult::Removed(_, _) => Poll::Ready(Ok(self.load(&mut None))),
+            EntryResult::Timeout => {
+                self.stage = Stage::Looks;
+                cx.yield_now()
             }
-            EntryResult::Timeout => cx.yield_now(),
-            EntryResult::Refused(refusal) => self.give(Err(refusal)),
+            EntryResult::Refused(refusal) => Poll::Ready(Err(refusal)),
         }
     }
 
-    /// Calls the loader, stores what it gives by the guard, and answers that.
+    /// Calls the loader, stores what it gives by the guard, and gives that.
     fn load(
-        &mut self,
+        &self,
         guard: &mut Option<
             PlaceholderGuard<'a, K, Loaded<V>, Fresh<S>, ShardOf<K, V, S, A, We>, R, A>,
         >,
-    ) -> Poll<Result<V, Refusal>>
-        requires same { IfSome guard.old (λ guard. IsTrue (K.eq self.old.key guard)) }
-        requires callable { F.IsAlwaysCallable self.old.reading.loader }
-        requires loads { LoadsFrom F.Fn self.old.reading.loader S.gives }
-        ensures fresh { IfReady result (λ answer. IfOk answer (Answers S.gives K.eq self.old.key
-            (Li.life_of self.old.reading.lives self.old.key) self.old.moment)) }
-        ensures ready { OnPending result ⊥ }
-        ensures unfinished { IfReady result (λ answer. IfErr answer IsLoadRefusal) }
-        ensures finishes { self.new ≡ record self.old { is_finished = true } }
+    ) -> V
+        requires same { IfSome guard.old (λ guard. IsTrue (K.eq self.now.key guard)) }
+        requires callable { F.IsAlwaysCallable self.now.reading.loader }
+        requires loads { LoadsFrom F.Fn self.now.reading.loader S.gives }
+        ensures fresh { Answers S.gives K.eq self.now.key
+            (Li.life_of self.now.reading.lives self.now.key) self.now.moment result }
     {
         let reading = self.reading;
         let value = reading.load(self.key, self.now);
-        let value = store(guard, self.key, self.now, value);
-        self.give(Ok(value))
-    }
-
-    /// Gives its answer, the only one.
-    fn give(&mut self, answer: Result<V, Refusal>) -> Poll<Result<V, Refusal>>
-        ensures given { result ≡ Poll.Ready answer }
-        ensures finishes { self.new ≡ record self.old { is_finished = true } }
-    {
-        self.is_finished = true;
-        Poll::Ready(answer)
+        store(guard, self.key, self.now, value)
     }
 }
 

@@ -1,11 +1,12 @@
 //! The entry call.
-ghost use Rattle.std.specs.Prelude.{◌≡◌, ⊤, true, false, None, IfOk, IfSome, IfNone, IsSomeAnd, is_some};
+ghost use Rattle.std.specs.Prelude.{◌≡◌, ⊤, true, false, IfOk, IfSome, IfNone, IsSomeAnd};
 ghost use Rattle.quick_cache_loading.specs.Fitting.{FitsQuery};
-ghost use Rattle.quick_cache_loading.specs.Turns.{none_left};
+ghost use Rattle.quick_cache_loading.specs.Turns.{NoMoreLeft, none_left};
 ghost use Rattle.quick_cache_guard.specs.Acts.{LeavesFit, LeavesHeld, LeavesOnce, MayAct, MayTell};
 ghost use Rattle.quick_cache_guard.specs.Entries.{AnswersAsChosen, IfAnswered, IfGivenBack, IfGuarded, IfRetained, IfUncalled, IsRefusedAsLoad, is_late};
 
-use crate::entries::entering::{answer, join_there, share_of_new};
+use crate::coming::wait_at;
+use crate::entries::entering::{entry_of, join_there, share_of_new};
 use crate::entries::shard::EntryShard;
 use crate::{EntryResult, PlaceholderGuard, Waiting};
 use quick_cache_loading::sharing::Turns;
@@ -14,7 +15,7 @@ use std::alloc::Allocator;
 use std::hash::Hash;
 use std::sync::{RwLock, Wait};
 use std::thread::yield_now;
-use std::time::{Clock, Duration};
+use std::time::Clock;
 
 /// Shows the item under the query's key to the callback, under the shard's write lock. The callback
 /// may write the value, and chooses what happens: the item stays, or goes, or gives its value and
@@ -22,8 +23,7 @@ use std::time::{Clock, Duration};
 /// that calls the same cache may wait forever.
 ///
 /// Where there is no item, this call gets the guard of a placeholder that it makes. Where another
-/// loads the key it waits, as `get_value_or_guard` does, and looks again once that load has ended;
-/// all its waits share the limit.
+/// loads the key it waits, for so many turns at most, and looks again once that load has ended.
 pub fn entry<
     'a,
     K: Eq + Hash + Drop,
@@ -39,7 +39,7 @@ pub fn entry<
     rt: &'a R,
     shard: &'a RwLock<S>,
     query: &Q,
-    limit: Option<Duration>,
+    turns: &mut Turns,
     callback: F,
 ) -> EntryResult<T, K, V, PlaceholderGuard<'a, K, V, L, S, R, A>>
     requires stands { (key : K) → Q.to_key_gives query.now key
@@ -57,14 +57,14 @@ pub fn entry<
     // The answer is what the callback chose, by its one call.
     ensures chosen { AnswersAsChosen (LeavesOnce F.FnOnce callback) L.fits
         (Q.equivalent query.now) ⊤ result }
-    // It is refused as a load is, and in time where there is no limit.
     ensures refused { IsRefusedAsLoad result }
-    ensures timely { limit ≡ None → is_late result ≡ false }
+    // All its waits share the turns: its time is over only where none of them is left.
+    ensures timely { is_late result ≡ true → none_left turns.new.left ≡ true }
+    ensures counts { NoMoreLeft turns.old.left turns.new.left }
 {
-    let mut turns = Turns::within(limit);
     let mut held = Some(callback);
     for _ in rt.forever() {
-        if let Some(answer) = come_and_wait(rt, shard, query, &mut turns, &mut held) {
+        if let Some(answer) = come_and_wait(rt, shard, query, turns, &mut held) {
             return answer;
         }
         // A value that came is still on its way into the shard.
@@ -112,19 +112,10 @@ fn come_and_wait<
     // Its time is over only where no turn is left.
     ensures timely { IfSome result (λ answer. is_late answer ≡ true
         → none_left turns.new.left ≡ true) }
-    ensures counted { is_some turns.new.left ≡ is_some turns.old.left }
+    ensures counts { NoMoreLeft turns.old.left turns.new.left }
 {
     match come(rt, shard, query, callback, turns.is_over()) {
-        Ok(
-            Waiting {
-                placeholder,
-                place,
-                key,
-            },
-        ) => {
-            let told = placeholder.wait_within(rt, place, query, turns);
-            answer(rt, shard, placeholder, key, told)
-        }
+        Ok(waiting) => entry_of(wait_at(rt, shard, query, waiting, turns)),
         Err(told) => told,
     }
 }

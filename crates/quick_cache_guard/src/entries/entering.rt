@@ -1,10 +1,10 @@
 //! One who comes to a shard for an entry, and finds a placeholder.
 ghost use Rattle.std.specs.Prelude.{◌≡◌, false, IfOk, IfSome};
 ghost use Rattle.std.specs.Arc.{arc_value};
-ghost use Rattle.quick_cache_loading.specs.Waiters.{IfGuard as IfShare, RefusesAsLoad, is_timeout};
-ghost use Rattle.quick_cache_guard.specs.Entries.{IfAnswered, IfGivenBack, IfGuarded, IfRetained, IsRefusedAsLoad, is_late};
+ghost use Rattle.quick_cache_guard.specs.Entries.{IfAnswered, IfGivenBack, IfGuarded, IfRetained, IsRefusedAsLoad, entry_of, is_late};
 
-use crate::{EntryResult, LoadingShard, PlaceholderGuard, Waiting};
+use crate::coming::answer;
+use crate::{EntryResult, GuardResult, LoadingShard, PlaceholderGuard, Waiting};
 use quick_cache_loading::sharing::{Placeholder, SharedPlaceholder};
 use quick_cache_loading::waiting::{Share, Waited};
 use quick_cache_model::{Equivalent, Lifecycle, Refusal};
@@ -58,48 +58,23 @@ pub fn join_there<
             place,
             key,
         }),
-        Err(told) => Err(answer(rt, shard, placeholder, key, told)),
+        Err(told) => Err(entry_of(answer(rt, shard, placeholder, key, told))),
     }
 }
 
-/// What one answers who is told this. Nothing is answered where it looks in the shard again: the
-/// placeholder was filled, or left the shard.
-pub fn answer<
-    'a,
-    K: Eq + Hash + Drop,
-    V: Clone,
-    L: Lifecycle<K, V>,
-    S: LoadingShard<K, V, L, A>,
-    R: Wait,
-    A: Allocator,
-    T: Drop,
->(
-    rt: &'a R,
-    shard: &'a RwLock<S>,
-    placeholder: Arc<Placeholder<K, V, L, A>, A>,
-    key: K,
-    told: Waited<V>,
-) -> Option<EntryResult<T, K, V, PlaceholderGuard<'a, K, V, L, S, R, A>>>
-    requires share { IfShare told (λ share. share ≡ (arc_value placeholder).ticket) }
-    requires refused { RefusesAsLoad told }
-    ensures back { IfSome result (λ answer. IfGivenBack answer (λ value. ⊥)) }
-    ensures told { IfSome result (λ answer. IfRetained answer (λ told. ⊥)) }
-    ensures key { IfSome result (λ answer. IfGuarded answer (λ own. own ≡ key)) }
-    ensures refused { IfSome result IsRefusedAsLoad }
-    ensures timely { is_timeout told ≡ false → IfSome result (λ answer. is_late answer ≡ false) }
+/// What an entry call answers, where one who asks for a value answers this. It looks in the shard
+/// again where the value came.
+pub fn entry_of<T: Drop, K: Drop, V: Drop, G: Drop>(
+    told: Option<GuardResult<V, G>>,
+) -> Option<EntryResult<T, K, V, G>>
+    ensures { result ≡ entry_of told }
 {
     match told {
-        Waited::Guard(share) => Some(EntryResult::Vacant(PlaceholderGuard::start_loading(
-            rt,
-            shard,
-            placeholder,
-            key,
-            share,
-        ))),
-        Waited::Timeout => Some(EntryResult::Timeout),
-        Waited::Refused(refusal) => Some(EntryResult::Refused(refusal)),
-        Waited::Value(_) => None,
-        Waited::Again => None,
+        Some(GuardResult::Guard(guard)) => Some(EntryResult::Vacant(guard)),
+        Some(GuardResult::Timeout) => Some(EntryResult::Timeout),
+        Some(GuardResult::Refused(refusal)) => Some(EntryResult::Refused(refusal)),
+        Some(GuardResult::Value(_)) => None,
+        None => None,
     }
 }
 

@@ -1,20 +1,21 @@
 //! The entry call, for a task.
-ghost use Rattle.std.specs.Prelude.{◌≡◌, ◌⊎◌, ⊤, true, false, Some, None, IfSome, IsSomeAnd};
+ghost use Rattle.std.specs.Prelude.{◌≡◌, ⊤, true, false, Some, IfSome, IsSome, IsSomeAnd};
 ghost use Rattle.futures.specs.Poll.{IfReady, OnPending};
-ghost use Rattle.futures.specs.Task.{Covers, Keeps};
 ghost use Rattle.quick_cache_loading.specs.Fitting.{FitsQuery};
-ghost use Rattle.quick_cache_guard.specs.Acts.{LeavesFit, LeavesHeld, MayAct, MayTell};
+ghost use Rattle.quick_cache_guard.specs.Acts.{LeavesFit, LeavesHeld, MayAct};
 ghost use Rattle.quick_cache_guard.specs.Entries.{AnswersAsChosen, IsRefusedAsLoad};
-ghost use Rattle.quick_cache_guard.specs.Entering.{HasPlace, IfActed, WaitsFor, in_time_of};
+ghost use Rattle.quick_cache_guard.specs.Entering.{GivesEntry};
+ghost use Rattle.quick_cache_guard.specs.Futures.{AnswersOnce, IsSource, Registers};
 
 use crate::entries::{EntryShard, come};
-use crate::{EntryResult, JoinFuture, LoadingShard, PlaceholderGuard, Waiting};
+use crate::{EntryResult, JoinFuture, LoadingShard, PlaceholderGuard, Stage};
 use futures::Future;
 use futures::task::{Context, Poll};
 use quick_cache_model::{EntryAction, Lifecycle, Refusal, ToKey};
 use std::alloc::{Allocator, Global};
 use std::hash::Hash;
 use std::marker::{Model, PhantomData};
+use std::mem::replace;
 use std::sync::{RwLock, Wait};
 
 /// Acts on the entry of the query's key by the callback, as `entry` does for a thread with no time
@@ -41,9 +42,8 @@ pub struct EntryFuture<
     rt: &'a R,
     shard: &'a RwLock<S>,
     query: &'q Q,
-    joining: Option<JoinFuture<'a, 'q, Q, K, V, L, S, R, A>>,
+    stage: Stage<JoinFuture<'a, 'q, Q, K, V, L, S, R, A>>,
     callback: Option<F>,
-    is_finished: bool,
     of: PhantomData<T>,
 }
 
@@ -60,23 +60,24 @@ impl<
     F: Drop,
     A: Allocator,
 > Model for EntryFuture<'a, 'q, Q, K, V, L, S, R, T, F, A> {
-    ghost use Rattle.std.specs.Prelude.{◌≡◌, true, false, IfSome, IsSome};
+    ghost use Rattle.std.specs.Prelude.{◌≡◌, true, false, IsSome};
     ghost use Rattle.quick_cache_guard.specs.Entering.{EntryState};
+    ghost use Rattle.quick_cache_guard.specs.Futures.{IfWaits, has_answered, source_of};
 
     ghost Value = { EntryState Q F };
 
     ghost view = { λ f. record {
       query = f.query.now;
-      joining = f.joining;
+      source = source_of f.stage (λ joining. joining.source);
       callback = f.callback;
-      is_finished = f.is_finished;
+      is_finished = has_answered f.stage;
     } };
 
     ghost invariant = { λ f. ((key : K) → Q.to_key_gives f.query.now key
         → Q.equivalent f.query.now key ≡ true)
-        × IfSome f.joining (λ joining. (joining.query ≡ f.query.now)
+        × IfWaits f.stage (λ joining. (joining.query ≡ f.query.now)
         × (joining.is_finished ≡ false))
-        × (f.is_finished ≡ false → IsSome f.callback) };
+        × (has_answered f.stage ≡ false → IsSome f.callback) };
 }
 
 impl<
@@ -104,9 +105,8 @@ impl<
             rt,
             shard,
             query,
-            joining: None,
+            stage: Stage::Looks,
             callback: Some(callback),
-            is_finished: false,
             of: PhantomData,
         }
     }
@@ -122,66 +122,26 @@ impl<
         // What the callback leaves fits.
         requires leaves { self.old.is_finished ≡ false
             → LeavesFit (LeavesHeld F.FnOnce self.old.callback) L.fits }
-        ensures value { IfReady result (λ output. IfActed
-            (λ value. FitsQuery L.fits (Q.equivalent self.old.query) value)
-            (λ told. MayTell (LeavesHeld F.FnOnce self.old.callback) L.fits
-            (Q.equivalent self.old.query) told)
-            (λ key. Q.to_key_gives self.old.query key) output) }
+        ensures gives { IfReady result (GivesEntry F.FnOnce L.fits (Q.equivalent self.old.query)
+            (Q.to_key_gives self.old.query) self.old.callback) }
         // The answer is what the callback chose, by its one call.
-        ensures chosen { IfReady result (λ output. AnswersAsChosen
-            (LeavesHeld F.FnOnce self.old.callback) L.fits (Q.equivalent self.old.query)
-            (self.new.callback ≡ self.old.callback) output) }
-        ensures finished { IfReady result (λ output. self.new.is_finished ≡ true) }
-        // It answers once, and is refused as a load is; then it is refused as `Finished`.
-        ensures refused { self.old.is_finished ≡ true
-            → result ≡ Poll.Ready (EntryResult.Refused Refusal.Finished) }
-        ensures unfinished { self.old.is_finished ≡ false → IfReady result IsRefusedAsLoad }
-        // A pending poll has its place, or has asked for another.
-        ensures place { OnPending result ((cx.new.is_woken ≡ true) ⊎ HasPlace self.new) }
+        ensures chosen { IfReady result (AnswersAsChosen (LeavesHeld F.FnOnce self.old.callback)
+            L.fits (Q.equivalent self.old.query) (self.new.callback ≡ self.old.callback)) }
+        ensures once { AnswersOnce IsRefusedAsLoad (EntryResult.Refused Refusal.Finished) self.old.is_finished
+            result self.new.is_finished }
+        ensures registers { Registers (IsSome self.new.source) (IsSource self.new.source) result
+            cx.old cx.new }
         ensures query { self.new.query ≡ self.old.query }
         ensures uncalled { OnPending result (self.new.callback ≡ self.old.callback) }
-        ensures goes_on { OnPending result (self.new.is_finished ≡ self.old.is_finished) }
-        ensures registered { OnPending result (Covers cx.new (WaitsFor self.new)) }
-        ensures kept { Keeps cx.old cx.new }
     {
-        if self.is_finished {
-            return Poll::Ready(EntryResult::Refused(Refusal::Finished));
-        }
-        match self.waited(cx) {
-            Poll::Pending => Poll::Pending,
-            Poll::Ready(Some(answer)) => {
-                self.is_finished = true;
-                Poll::Ready(answer)
-            }
-            Poll::Ready(None) => self.come(cx),
-        }
-    }
-
-    /// What comes of another's load, where one waits for it. Nothing is answered where one has to
-    /// look in the shard.
-    fn waited(
-        &mut self,
-        cx: &mut Context<'_>,
-    ) -> Poll<Option<EntryResult<T, K, V, PlaceholderGuard<'a, K, V, L, S, R, A>>>>
-        ensures value { IfReady result (λ told. IfSome told (λ output. IfActed
-            (λ value. FitsQuery L.fits (Q.equivalent self.old.query) value)
-            (λ told. MayTell (LeavesHeld F.FnOnce self.old.callback) L.fits
-            (Q.equivalent self.old.query) told)
-            (λ key. Q.to_key_gives self.old.query key) output)) }
-        ensures chosen { IfReady result (λ told. IfSome told (λ output. AnswersAsChosen
-            (LeavesHeld F.FnOnce self.old.callback) L.fits (Q.equivalent self.old.query)
-            (self.new.callback ≡ self.old.callback) output)) }
-        ensures refused { IfReady result (λ told. IfSome told IsRefusedAsLoad) }
-        ensures place { OnPending result ((cx.new.is_woken ≡ true) ⊎ HasPlace self.new) }
-        ensures callback { self.new.callback ≡ self.old.callback }
-        ensures finished { self.new.is_finished ≡ self.old.is_finished }
-        ensures query { self.new.query ≡ self.old.query }
-        ensures registered { OnPending result (Covers cx.new (WaitsFor self.new)) }
-        ensures kept { Keeps cx.old cx.new }
-    {
-        match self.joining.take() {
-            Some(joining) => self.wait(joining, cx),
-            None => Poll::Ready(None),
+        match replace(&mut self.stage, Stage::Finished) {
+            Stage::Looks => self.come(cx),
+            Stage::Waits(joining) => match self.wait(joining, cx) {
+                Poll::Pending => Poll::Pending,
+                Poll::Ready(Some(answer)) => Poll::Ready(answer),
+                Poll::Ready(None) => self.come(cx),
+            },
+            Stage::Finished => Poll::Ready(EntryResult::Refused(Refusal::Finished)),
         }
     }
 
@@ -192,28 +152,27 @@ impl<
         joining: JoinFuture<'a, 'q, Q, K, V, L, S, R, A>,
         cx: &mut Context<'_>,
     ) -> Poll<Option<EntryResult<T, K, V, PlaceholderGuard<'a, K, V, L, S, R, A>>>>
+        requires taken { self.old.is_finished ≡ true }
+        requires held { IsSome self.old.callback }
         requires query { joining.query ≡ self.old.query }
         requires begins { joining.is_finished ≡ false }
-        ensures value { IfReady result (λ told. IfSome told (λ output. IfActed
-            (λ value. FitsQuery L.fits (Q.equivalent self.old.query) value)
-            (λ told. MayTell (LeavesHeld F.FnOnce self.old.callback) L.fits
-            (Q.equivalent self.old.query) told)
-            (λ key. Q.to_key_gives self.old.query key) output)) }
-        ensures chosen { IfReady result (λ told. IfSome told (λ output. AnswersAsChosen
+        ensures gives { IfReady result (λ told. IfSome told (GivesEntry F.FnOnce L.fits
+            (Q.equivalent self.old.query) (Q.to_key_gives self.old.query) self.old.callback)) }
+        ensures chosen { IfReady result (λ told. IfSome told (AnswersAsChosen
             (LeavesHeld F.FnOnce self.old.callback) L.fits (Q.equivalent self.old.query)
-            (self.new.callback ≡ self.old.callback) output)) }
+            (self.new.callback ≡ self.old.callback))) }
         ensures refused { IfReady result (λ told. IfSome told IsRefusedAsLoad) }
-        ensures place { OnPending result ((cx.new.is_woken ≡ true) ⊎ HasPlace self.new) }
-        ensures callback { self.new.callback ≡ self.old.callback }
-        ensures finished { self.new.is_finished ≡ self.old.is_finished }
+        ensures taken { IfReady result (λ _. self.new.is_finished ≡ true) }
+        ensures goes_on { OnPending result (self.new.is_finished ≡ false) }
+        ensures registers { Registers (IsSome self.new.source) (IsSource self.new.source) result
+            cx.old cx.new }
         ensures query { self.new.query ≡ self.old.query }
-        ensures registered { OnPending result (Covers cx.new (WaitsFor self.new)) }
-        ensures kept { Keeps cx.old cx.new }
+        ensures callback { self.new.callback ≡ self.old.callback }
     {
         let mut joining = joining;
         match joining.go_on(cx) {
             Poll::Pending => {
-                self.joining = Some(joining);
+                self.stage = Stage::Waits(joining);
                 Poll::Pending
             }
             Poll::Ready(Ok(Ok(_))) => Poll::Ready(None),
@@ -228,95 +187,51 @@ impl<
         &mut self,
         cx: &mut Context<'_>,
     ) -> Poll<EntryResult<T, K, V, PlaceholderGuard<'a, K, V, L, S, R, A>>>
+        requires taken { self.old.is_finished ≡ true }
         requires callable { IsSomeAnd self.old.callback
             (MayAct F.FnOnce L.fits (Q.equivalent self.old.query)) }
         requires leaves { LeavesFit (LeavesHeld F.FnOnce self.old.callback) L.fits }
-        ensures value { IfReady result (λ output. IfActed
-            (λ value. FitsQuery L.fits (Q.equivalent self.old.query) value)
-            (λ told. MayTell (LeavesHeld F.FnOnce self.old.callback) L.fits
-            (Q.equivalent self.old.query) told)
-            (λ key. Q.to_key_gives self.old.query key) output) }
-        ensures chosen { IfReady result (λ output. AnswersAsChosen
-            (LeavesHeld F.FnOnce self.old.callback) L.fits (Q.equivalent self.old.query)
-            (self.new.callback ≡ self.old.callback) output) }
-        ensures refused { IfReady result IsRefusedAsLoad }
-        ensures place { OnPending result ((cx.new.is_woken ≡ true) ⊎ HasPlace self.new) }
-        ensures finished { IfReady result (λ output. self.new.is_finished ≡ true) }
+        ensures gives { IfReady result (GivesEntry F.FnOnce L.fits (Q.equivalent self.old.query)
+            (Q.to_key_gives self.old.query) self.old.callback) }
+        ensures chosen { IfReady result (AnswersAsChosen (LeavesHeld F.FnOnce self.old.callback)
+            L.fits (Q.equivalent self.old.query) (self.new.callback ≡ self.old.callback)) }
+        ensures once { AnswersOnce IsRefusedAsLoad (EntryResult.Refused Refusal.Finished) false
+            result self.new.is_finished }
+        ensures registers { Registers (IsSome self.new.source) (IsSource self.new.source) result
+            cx.old cx.new }
         ensures query { self.new.query ≡ self.old.query }
         ensures uncalled { OnPending result (self.new.callback ≡ self.old.callback) }
-        ensures goes_on { OnPending result (self.new.is_finished ≡ self.old.is_finished) }
-        ensures registered { OnPending result (Covers cx.new (WaitsFor self.new)) }
-        ensures kept { Keeps cx.old cx.new }
     {
         match come(self.rt, self.shard, self.query, &mut self.callback, false) {
-            Ok(waiting) => self.join(waiting, cx),
-            Err(told) => give(&mut self.is_finished, in_time(told), cx),
+            Ok(waiting) => {
+                let joining = JoinFuture::waiting(self.rt, self.shard, self.query, waiting);
+                match self.wait(joining, cx) {
+                    Poll::Pending => Poll::Pending,
+                    Poll::Ready(Some(answer)) => Poll::Ready(answer),
+                    Poll::Ready(None) => self.look_again(cx),
+                }
+            }
+            Err(Some(answer)) => Poll::Ready(answer),
+            Err(None) => self.look_again(cx),
         }
     }
 
-    /// Waits with those who wait for another's load. One whose load ended meanwhile is polled again.
-    fn join(
+    /// Looks in the shard at the next poll, which it asks for.
+    fn look_again(
         &mut self,
-        waiting: Waiting<K, V, L, A>,
         cx: &mut Context<'_>,
     ) -> Poll<EntryResult<T, K, V, PlaceholderGuard<'a, K, V, L, S, R, A>>>
-        requires keyed { Q.to_key_gives self.old.query waiting.key }
-        ensures value { IfReady result (λ output. IfActed
-            (λ value. FitsQuery L.fits (Q.equivalent self.old.query) value)
-            (λ told. MayTell (LeavesHeld F.FnOnce self.old.callback) L.fits
-            (Q.equivalent self.old.query) told)
-            (λ key. Q.to_key_gives self.old.query key) output) }
-        ensures chosen { IfReady result (λ output. AnswersAsChosen
-            (LeavesHeld F.FnOnce self.old.callback) L.fits (Q.equivalent self.old.query)
-            (self.new.callback ≡ self.old.callback) output) }
-        ensures refused { IfReady result IsRefusedAsLoad }
-        ensures place { OnPending result ((cx.new.is_woken ≡ true) ⊎ HasPlace self.new) }
-        ensures finished { IfReady result (λ output. self.new.is_finished ≡ true) }
+        requires held { IsSome self.old.callback }
+        requires taken { self.old.is_finished ≡ true }
+        ensures again { IfReady result (λ _. ⊥) }
+        ensures goes_on { self.new.is_finished ≡ false }
+        ensures registers { Registers (IsSome self.new.source) (IsSource self.new.source) result
+            cx.old cx.new }
         ensures query { self.new.query ≡ self.old.query }
         ensures callback { self.new.callback ≡ self.old.callback }
-        ensures goes_on { OnPending result (self.new.is_finished ≡ self.old.is_finished) }
-        ensures registered { OnPending result (Covers cx.new (WaitsFor self.new)) }
-        ensures kept { Keeps cx.old cx.new }
     {
-        let joining = JoinFuture::waiting(self.rt, self.shard, self.query, waiting);
-        match self.wait(joining, cx) {
-            Poll::Pending => Poll::Pending,
-            Poll::Ready(told) => give(&mut self.is_finished, told, cx),
-        }
-    }
-}
-
-/// Gives an answer, the only one. One who has to look again is polled again.
-fn give<E>(is_finished: &mut bool, told: Option<E>, cx: &mut Context<'_>) -> Poll<E>
-    ensures given { IfReady result (λ output. told ≡ Some output) }
-    ensures again { OnPending result (told ≡ None) }
-    ensures finished { IfReady result (λ output. is_finished.new ≡ true) }
-    ensures same { OnPending result (is_finished.new ≡ is_finished.old) }
-    ensures woken { OnPending result (cx.new.is_woken ≡ true) }
-    ensures registered { OnPending result (Covers cx.new (λ source. ⊤)) }
-    ensures kept { Keeps cx.old cx.new }
-{
-    let Some(answer) = told else {
-        return cx.yield_now();
-    };
-    *is_finished = true;
-    Poll::Ready(answer)
-}
-
-/// An answer that came in time. One who has no time limit looks again where it would be too late.
-fn in_time<T: Drop, K: Drop, V: Drop, G: Drop>(
-    told: Option<EntryResult<T, K, V, G>>,
-) -> Option<EntryResult<T, K, V, G>>
-    ensures { result ≡ in_time_of told }
-{
-    match told {
-        Some(EntryResult::Retained(told)) => Some(EntryResult::Retained(told)),
-        Some(EntryResult::Removed(key, value)) => Some(EntryResult::Removed(key, value)),
-        Some(EntryResult::Replaced(guard, value)) => Some(EntryResult::Replaced(guard, value)),
-        Some(EntryResult::Vacant(guard)) => Some(EntryResult::Vacant(guard)),
-        Some(EntryResult::Refused(refusal)) => Some(EntryResult::Refused(refusal)),
-        Some(EntryResult::Timeout) => None,
-        None => None,
+        self.stage = Stage::Looks;
+        cx.yield_now()
     }
 }
 
@@ -341,15 +256,12 @@ impl<
         × (f.is_finished ≡ false → LeavesFit (LeavesHeld F.FnOnce f.callback) L.fits) };
 
     // Once it waits, the source of its placeholder.
-    ghost needs = { λ f. WaitsFor f };
+    ghost needs = { λ f. IsSource f.source };
 
     // A value that is given back fits a key that the query stands for, what is told was told of such
     // a value, and a guard is for a key that the query becomes.
-    ghost gives = { λ f output. IfActed
-        (λ value. FitsQuery L.fits (Q.equivalent f.query) value)
-        (λ told. MayTell (LeavesHeld F.FnOnce f.callback) L.fits (Q.equivalent f.query)
-        told)
-        (λ key. Q.to_key_gives f.query key) output };
+    ghost gives = { λ f. GivesEntry F.FnOnce L.fits (Q.equivalent f.query)
+        (Q.to_key_gives f.query) f.callback };
 
     fn poll(&mut self, cx: &mut Context<'_>) -> Poll<Self::Output> {
         self.go_on(cx)

@@ -1,21 +1,32 @@
 //! The value of a key, which a future of the caller's loads where there is none.
-ghost use Rattle.std.specs.Prelude.{◌≡◌, ◌⊎◌, true, false, Ok, Err, IsSome};
+ghost use Rattle.std.specs.Prelude.{◌≡◌, true, false, Ok, Err};
 ghost use Rattle.futures.specs.Poll.{IfReady, OnPending};
-ghost use Rattle.futures.specs.Task.{Covers, Keeps};
 ghost use Rattle.quick_cache_loading.specs.Fitting.{ClonesFit, FitsQuery};
 ghost use Rattle.quick_cache_guard.specs.Answers.{IsRefusedAsLoad};
-ghost use Rattle.quick_cache_guard.specs.Loaders.{IfLoaded, NeedsOf};
+ghost use Rattle.quick_cache_guard.specs.Futures.{AnswersOnce, Registers};
+ghost use Rattle.quick_cache_guard.specs.Loaders.{HasPlace, IfLoaded, NeedsOf};
 
 use crate::loads::keep;
-use crate::tasks::value_or_guard::ValueOrGuard;
-use crate::{LoadingShard, PlaceholderGuard};
+use crate::{JoinFuture, LoadingShard, PlaceholderGuard};
 use futures::Future;
 use futures::task::{Context, Poll};
 use quick_cache_model::{Lifecycle, Refusal, ToKey};
 use std::alloc::{Allocator, Global};
 use std::hash::Hash;
 use std::marker::{Model, PhantomData};
+use std::mem::replace;
 use std::sync::{RwLock, Wait};
+
+/// Where a future stands that loads.
+#[derive(Drop)]
+pub enum Loading<J, G> {
+    /// It asks for the value or the guard.
+    Asks(J),
+    /// It has the guard, and polls the loader.
+    Loads(G),
+    /// It has answered.
+    Finished,
+}
 
 /// Gives the value under the query's key, or the one that the loader's future gives, which is put
 /// in, as `get_or_insert_with` does for a thread.
@@ -36,10 +47,12 @@ pub struct GetOrInsert<
     E: Drop,
     A: Allocator = Global,
 > {
-    waiting: ValueOrGuard<'a, 'a, Q, K, V, L, S, R, A>,
-    guard: Option<PlaceholderGuard<'a, K, V, L, S, R, A>>,
+    query: &'a Q,
+    loading: Loading<
+        JoinFuture<'a, 'a, Q, K, V, L, S, R, A>,
+        PlaceholderGuard<'a, K, V, L, S, R, A>,
+    >,
     loader: F,
-    is_finished: bool,
     of: PhantomData<E>,
 }
 
@@ -55,28 +68,29 @@ impl<
     E: Drop,
     A: Allocator,
 > Model for GetOrInsert<'a, Q, K, V, L, S, R, F, E, A> {
-    ghost use Rattle.std.specs.Prelude.{◌≡◌, true, false, Ok, is_some, IfSome};
+    ghost use Rattle.std.specs.Prelude.{◌≡◌, true, false, Ok};
     ghost use Rattle.quick_cache_loading.specs.Fitting.{ClonesFit};
-    ghost use Rattle.quick_cache_guard.specs.Loaders.{LoadState};
+    ghost use Rattle.quick_cache_guard.specs.Loaders.{IfAsks, IfLoads, LoadState, asked_source, has_guard, is_finished};
 
     ghost Value = { LoadState Q F };
 
     ghost view = { λ f. record {
-      query = f.waiting.query;
-      source = f.waiting.source;
+      query = f.query.now;
+      source = asked_source f.loading;
       loader = f.loader;
-      has_guard = is_some f.guard;
-      is_finished = f.is_finished;
+      has_guard = has_guard f.loading;
+      is_finished = is_finished f.loading;
     } };
 
-    ghost invariant = { λ f. ((key : K) → Q.to_key_gives f.waiting.query key
-        → Q.equivalent f.waiting.query key ≡ true)
-        × IfSome f.guard (λ key. Q.to_key_gives f.waiting.query key)
+    ghost invariant = { λ f. ((key : K) → Q.to_key_gives f.query.now key
+        → Q.equivalent f.query.now key ≡ true)
+        × IfAsks f.loading (λ joining. (joining.query ≡ f.query.now)
+        × (joining.is_finished ≡ false))
+        × IfLoads f.loading (λ key. Q.to_key_gives f.query.now key)
         × ClonesFit L.fits V.is_clone
-        × (f.is_finished ≡ false → f.waiting.is_finished ≡ is_some f.guard)
-        × (f.is_finished ≡ false → F.can_poll f.loader
+        × (is_finished f.loading ≡ false → F.can_poll f.loader
         × ((value : V) → F.gives f.loader (Ok value) → (key : K)
-        → Q.to_key_gives f.waiting.query key → L.fits key value)) };
+        → Q.to_key_gives f.query.now key → L.fits key value)) };
 }
 
 impl<
@@ -105,85 +119,100 @@ impl<
         ensures begins { result.is_finished ≡ false }
     {
         GetOrInsert {
-            waiting: ValueOrGuard::new(rt, shard, query),
-            guard: None,
+            query,
+            loading: Loading::Asks(JoinFuture::new(rt, shard, query)),
             loader,
-            is_finished: false,
             of: PhantomData,
         }
     }
 
     /// A poll, which keeps the query.
     pub fn go_on(&mut self, cx: &mut Context<'_>) -> Poll<Result<Result<V, E>, Refusal>>
-        ensures value { IfReady result (λ output. IfLoaded
+        ensures gives { IfReady result (IfLoaded
             (λ value. FitsQuery L.fits (Q.equivalent self.old.query) value)
-            (λ error. F.gives self.old.loader (Err error)) output) }
-        // It answers once, and is refused as a load is; then it is refused as `Finished`.
-        ensures finished { IfReady result (λ output. self.new.is_finished ≡ true) }
-        ensures refused { self.old.is_finished ≡ true
-            → result ≡ Poll.Ready (Err Refusal.Finished) }
-        ensures unfinished { self.old.is_finished ≡ false → IfReady result IsRefusedAsLoad }
-        ensures goes_on { OnPending result (self.new.is_finished ≡ self.old.is_finished) }
-        // A pending poll has the guard, or its place, or has asked for another.
-        ensures place { OnPending result ((self.new.has_guard ≡ true)
-            ⊎ ((cx.new.is_woken ≡ true) ⊎ IsSome self.new.source)) }
+            (λ error. F.gives self.old.loader (Err error))) }
+        ensures once { AnswersOnce IsRefusedAsLoad (Err Refusal.Finished) self.old.is_finished
+            result self.new.is_finished }
+        ensures registers { Registers (HasPlace self.new)
+            (NeedsOf F.needs self.new.has_guard self.new.source self.new.loader) result
+            cx.old cx.new }
         ensures query { self.new.query ≡ self.old.query }
         ensures loader { OnPending result ((x : _) → F.gives self.new.loader x
             → F.gives self.old.loader x) }
-        ensures registered { OnPending result (Covers cx.new
-            (NeedsOf F.needs self.new.has_guard self.new.source self.new.loader)) }
-        ensures kept { Keeps cx.old cx.new }
     {
-        if self.is_finished {
-            return Poll::Ready(Err(Refusal::Finished));
-        }
-        if self.guard.is_some() {
-            return self.load(cx);
-        }
-        match self.waiting.go_on(cx) {
-            Poll::Pending => Poll::Pending,
-            Poll::Ready(Ok(Ok(value))) => {
-                self.is_finished = true;
-                Poll::Ready(Ok(Ok(value)))
-            }
-            Poll::Ready(Ok(Err(guard))) => {
-                self.guard = Some(guard);
-                self.load(cx)
-            }
-            Poll::Ready(Err(refusal)) => {
-                self.is_finished = true;
-                Poll::Ready(Err(refusal))
-            }
+        match replace(&mut self.loading, Loading::Finished) {
+            Loading::Asks(joining) => self.ask(joining, cx),
+            Loading::Loads(guard) => self.load(guard, cx),
+            Loading::Finished => Poll::Ready(Err(Refusal::Finished)),
         }
     }
 
-    /// Polls the loader, for the guard that it has.
-    fn load(&mut self, cx: &mut Context<'_>) -> Poll<Result<Result<V, E>, Refusal>>
-        requires guard { self.old.has_guard ≡ true }
-        requires goes_on { self.old.is_finished ≡ false }
-        ensures value { IfReady result (λ output. IfLoaded
+    /// Asks for the value or the guard.
+    fn ask(
+        &mut self,
+        joining: JoinFuture<'a, 'a, Q, K, V, L, S, R, A>,
+        cx: &mut Context<'_>,
+    ) -> Poll<Result<Result<V, E>, Refusal>>
+        requires taken { self.old.is_finished ≡ true }
+        requires query { joining.query ≡ self.old.query }
+        requires goes_on { joining.is_finished ≡ false }
+        requires can_poll { F.can_poll self.old.loader }
+        requires loads { (value : V) → F.gives self.old.loader (Ok value) → (key : K)
+            → Q.to_key_gives self.old.query key → L.fits key value }
+        requires clones { ClonesFit L.fits V.is_clone }
+        ensures gives { IfReady result (IfLoaded
             (λ value. FitsQuery L.fits (Q.equivalent self.old.query) value)
-            (λ error. F.gives self.old.loader (Err error)) output) }
-        ensures finished { IfReady result (λ output. self.new.is_finished ≡ true) }
-        ensures unfinished { IfReady result IsRefusedAsLoad }
-        ensures goes_on { OnPending result (self.new.is_finished ≡ self.old.is_finished) }
-        ensures guard { OnPending result (self.new.has_guard ≡ true) }
+            (λ error. F.gives self.old.loader (Err error))) }
+        ensures once { AnswersOnce IsRefusedAsLoad (Err Refusal.Finished) false result
+            self.new.is_finished }
+        ensures registers { Registers (HasPlace self.new)
+            (NeedsOf F.needs self.new.has_guard self.new.source self.new.loader) result
+            cx.old cx.new }
         ensures query { self.new.query ≡ self.old.query }
         ensures loader { OnPending result ((x : _) → F.gives self.new.loader x
             → F.gives self.old.loader x) }
-        ensures registered { OnPending result (Covers cx.new
-            (NeedsOf F.needs self.new.has_guard self.new.source self.new.loader)) }
-        ensures kept { Keeps cx.old cx.new }
+    {
+        let mut joining = joining;
+        match joining.go_on(cx) {
+            Poll::Pending => {
+                self.loading = Loading::Asks(joining);
+                Poll::Pending
+            }
+            Poll::Ready(Ok(Ok(value))) => Poll::Ready(Ok(Ok(value))),
+            Poll::Ready(Ok(Err(guard))) => self.load(guard, cx),
+            Poll::Ready(Err(refusal)) => Poll::Ready(Err(refusal)),
+        }
+    }
+
+    /// Polls the loader, and fills the guard with what it gives.
+    fn load(
+        &mut self,
+        guard: PlaceholderGuard<'a, K, V, L, S, R, A>,
+        cx: &mut Context<'_>,
+    ) -> Poll<Result<Result<V, E>, Refusal>>
+        requires taken { self.old.is_finished ≡ true }
+        requires keyed { Q.to_key_gives self.old.query guard }
+        requires can_poll { F.can_poll self.old.loader }
+        requires loads { (value : V) → F.gives self.old.loader (Ok value) → (key : K)
+            → Q.to_key_gives self.old.query key → L.fits key value }
+        ensures gives { IfReady result (IfLoaded
+            (λ value. FitsQuery L.fits (Q.equivalent self.old.query) value)
+            (λ error. F.gives self.old.loader (Err error))) }
+        ensures once { AnswersOnce IsRefusedAsLoad (Err Refusal.Finished) false result
+            self.new.is_finished }
+        ensures registers { Registers (HasPlace self.new)
+            (NeedsOf F.needs self.new.has_guard self.new.source self.new.loader) result
+            cx.old cx.new }
+        ensures query { self.new.query ≡ self.old.query }
+        ensures loader { OnPending result ((x : _) → F.gives self.new.loader x
+            → F.gives self.old.loader x) }
     {
         match self.loader.poll(cx) {
-            Poll::Pending => Poll::Pending,
-            Poll::Ready(loaded) => {
-                self.is_finished = true;
-                match self.guard.take() {
-                    Some(guard) => Poll::Ready(Ok(keep(guard, loaded))),
-                    None => unreachable!(),
-                }
+            Poll::Pending => {
+                self.loading = Loading::Loads(guard);
+                Poll::Pending
             }
+            Poll::Ready(loaded) => Poll::Ready(Ok(keep(guard, loaded))),
         }
     }
 }
@@ -206,9 +235,8 @@ impl<
     ghost needs = { λ f. NeedsOf F.needs f.has_guard f.source f.loader };
 
     // The value fits a key that the query stands for, and an error is one that the loader gives.
-    ghost gives = { λ f output. IfLoaded
-        (λ value. FitsQuery L.fits (Q.equivalent f.query) value)
-        (λ error. F.gives f.loader (Err error)) output };
+    ghost gives = { λ f. IfLoaded (λ value. FitsQuery L.fits (Q.equivalent f.query) value)
+        (λ error. F.gives f.loader (Err error)) };
 
     fn poll(&mut self, cx: &mut Context<'_>) -> Poll<Self::Output> {
         self.go_on(cx)

@@ -103,24 +103,10 @@ module _ {V : Type 0} where
   no-fill : (a : Answer V) → a ≡ answer.Done → a ≡ answer.NotNow → ⊥
   no-fill a did e = absurd (cc)
 
-  no-wait : (a : Answer V) → a ≡ answer.Waiting → a ≡ answer.NotNow → ⊥
-  no-wait a did e = absurd (cc)
-
-  no-guard : (a : Answer V) → a ≡ answer.Waiting → a ≡ answer.Guard → ⊥
-  no-guard a did e = absurd (cc)
-
   -- one that is shown a value does not join
   shows-no_join : (shows : V → V → Type 0) (v : V) (old : CoreState V) (a : Answer V)
       (new : CoreState V) → Shows shows v old a new → a ≡ answer.Joined → ⊥
   shows-no_join shows v old a new step did = by_cases step.0 where
-    by_cases : ((w : V) × shows v w × (a ≡ answer.Value w)) ⊎ (a ≡ answer.Refused Memory) → ⊥
-    by_cases (inl shown) = let is = shown.2 in absurd (cc)
-    by_cases (inr is) = absurd (cc)
-
-  -- nor goes on waiting
-  shows-no_waiting : (shows : V → V → Type 0) (v : V) (old : CoreState V) (a : Answer V)
-      (new : CoreState V) → Shows shows v old a new → a ≡ answer.Waiting → ⊥
-  shows-no_waiting shows v old a new step did = by_cases step.0 where
     by_cases : ((w : V) × shows v w × (a ≡ answer.Value w)) ⊎ (a ≡ answer.Refused Memory) → ⊥
     by_cases (inl shown) = let is = shown.2 in absurd (cc)
     by_cases (inr is) = absurd (cc)
@@ -339,23 +325,3 @@ module _ {V : Type 0} (next : ℕ) where
         rw (step.0, step.1, is) (unseated slots old a new n _ refl have)
     cancelled n GivenUp is sound step have =
         rw (step.0, step.1, is) (unseated slots old a new n _ refl have)
-
-  -- who goes on waiting has a slot
-  pub waits-on : (shows : V → V → Type 0) (slots : List Slot) (n : ℕ) (life : Life V)
-      (old : CoreState V) (a : Answer V) (new : CoreState V) → a ≡ answer.Waiting
-      → Takes shows life n old a new → HaveSlots slots next life → has_slot n slots ≡ true
-  waits-on shows slots n (Loading h ws) old a new did step have =
-      rw have.each (go (is_handed_to h n) step)
-    where
-      waits : (b : Bool) → MatchBool b ((a ≡ answer.Waiting) × (new ≡ old)) (NotNowOf old a new)
-          → b ≡ true
-      waits true on = refl
-      waits false later = absurd (no-wait a did later.0)
-
-      go : (b : Bool) → MatchBool b (Receives ws old a new) (Remains ws n old a new)
-          → has n ws ≡ true
-      go true gets = absurd (no-guard a did gets.0)
-      go false on = waits (has n ws) on
-  waits-on shows slots n (Filled v) old a new did step have =
-      absurd (shows-no_waiting shows v old a new step did)
-  waits-on shows slots n GivenUp old a new did step have = absurd (no-wait a did step.0)

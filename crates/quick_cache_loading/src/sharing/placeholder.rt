@@ -1,10 +1,10 @@
 //! A key that is being loaded, as threads share it: its state behind a lock of its own.
-ghost use Rattle.std.specs.Prelude.{◌≡◌, ◌⊎◌, true, false, is_some, IfSome, IfOk, IfErr, IsErr, OnErr};
+ghost use Rattle.std.specs.Prelude.{◌≡◌, ◌⊎◌, true, false, IfSome, IfOk, IfErr, IsErr, OnErr};
 ghost use Rattle.std.specs.Int.NonZero.{non_zero_u32_get};
 ghost use Rattle.futures.specs.Task.{Covers, Keeps};
 ghost use Rattle.quick_cache_loading.specs.Fitting.{ClonesFit, FitsQuery};
 ghost use Rattle.quick_cache_loading.specs.Waiters.{IfGuard, IfValue, RefusesAsLoad, is_timeout};
-ghost use Rattle.quick_cache_loading.specs.Turns.{none_left};
+ghost use Rattle.quick_cache_loading.specs.Turns.{NoMoreLeft, none_left};
 
 use crate::sharing::shard::LoadingShard;
 use crate::sharing::shared::SharedPlaceholder;
@@ -253,7 +253,7 @@ impl<K: Eq + Hash + Drop, V: Clone, L: Lifecycle<K, V>, A: Allocator> Placeholde
         ensures refused { RefusesAsLoad result }
         // Its time is over only where no turn is left.
         ensures timely { is_timeout result ≡ true → none_left turns.new.left ≡ true }
-        ensures counted { is_some turns.new.left ≡ is_some turns.old.left }
+        ensures counts { NoMoreLeft turns.old.left turns.new.left }
         ensures share { IfGuard result (λ share. share ≡ place.ticket) }
         ensures fits { ClonesFit L.fits V.is_clone
             → IfValue result (λ value. FitsQuery L.fits (Q.equivalent query.now) value) }

@@ -8,7 +8,9 @@ ghost use Rattle.quick_cache_locked.specs.Fitting.{ClonesFit, FitsQuery};
 ghost use Rattle.quick_cache_locked.specs.Loads.{StandsForGiven};
 
 use crate::cache::Cache;
-use quick_cache_guard::{EntryResult, Fetched, GuardResult, PlaceholderGuard, entries, loads};
+use quick_cache_guard::{
+    EntryResult, Fetched, GuardResult, PlaceholderGuard, Turns, entries, loads,
+};
 use quick_cache_locked::LockedShard;
 use quick_cache_model::{Lifecycle, Refusal, ToKey, Weighter};
 use quick_cache_shard::EntryAction;
@@ -141,6 +143,12 @@ impl<
         ensures refused { IsRefusedAsLoad result }
         ensures timely { limit ≡ None → is_late result ≡ false }
     {
-        entries::entry(rt, self.shard_of(query), query, limit, callback)
+        entries::entry(
+            rt,
+            self.shard_of(query),
+            query,
+            &mut Turns::within(limit),
+            callback,
+        )
     }
 }

@@ -7,7 +7,7 @@ pub returns-clause-fresh : goal.returns-clause-fresh
 returns-clause-fresh g c =
     let key : c.args.self.now.key ≡ c.self.inside.key.now = search rules in
     let moment : c.args.self.now.moment ≡ c.self.inside.now = search rules in
-    rw c.give.ensures.given (Answers-own g.S.Source.gives g.K.PartialEq.eq g.met.K.Eq.laws
-    c.args.self.now.key (g.Li.Lives.life_of c.args.self.now.reading.lives c.args.self.now.key)
-    c.args.self.now.moment c.store-value.result
-    (rw (key, moment, c.store-value.ensures) c.load-value.ensures))
+    Answers-own g.S.Source.gives g.K.PartialEq.eq g.met.K.Eq.laws c.args.self.now.key
+    (g.Li.Lives.life_of c.args.self.now.reading.lives c.args.self.now.key)
+    c.args.self.now.moment c.store.result
+    (rw (key, moment, c.store.ensures) c.load-value.ensures)

@@ -1,3 +1,0 @@
-mod Held
-mod Polls
-mod Timely

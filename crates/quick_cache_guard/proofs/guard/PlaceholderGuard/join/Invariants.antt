@@ -1,8 +1,0 @@
-use Rattle.std.proofs.Common.{◌≡◌, None}
-use Rattle.quick_cache_guard.proofs.guard.PlaceholderGuard.join.Given as goal
-
--- with no limit no turns are counted
-abbrev pub invariant-loop : goal.invariant-loop
-invariant-loop g l =
-    (goal.iterator-loop g).can_next l.iterator' × (goal.iterator-loop g).is_finite l.iterator'
-    × (l.fn.limit ≡ None → l.turns.left ≡ None)
