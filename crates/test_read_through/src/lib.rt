@@ -1,7 +1,6 @@
 //! Tests of what ends. Of caches whose entries end: rows of moments, a storm of threads, and passes, a
-//! caller that knows of each value what its lifecycle says. Of a loader with its cache: rows, and four
-//! uses of it: prices that grow old, tokens that are signed anew, a resolver, and a loader whose source
-//! is its graph.
+//! caller that knows of each value what its lifecycle says. Of a loader with its cache: rows, and three
+//! uses of it: tokens that are signed anew, a resolver, and a loader whose source is its graph.
 #![tactic(auto)]
 
 #[cfg(test)]
@@ -12,8 +11,6 @@ mod hundreds;
 mod lives;
 #[cfg(test)]
 mod passes;
-#[cfg(test)]
-mod prices;
 #[cfg(test)]
 mod refused;
 #[cfg(test)]
