@@ -15,9 +15,7 @@ fn colours(alloc: Global) -> Result<Cache<&'static str, &'static str>, Refusal> 
 }
 
 fn main(rt: HostRuntime) -> io::Result<()> {
-    let Ok(mut cache) = colours(rt.alloc()) else {
-        return println!(rt; "no memory");
-    };
+    let mut cache = colours(rt.alloc())?;
     for shape in ["square", "circle", "triangle"] {
         match cache.get(&shape) {
             Some(colour) => println!(rt; "{shape} is {colour}")?,

@@ -133,40 +133,12 @@ impl<
           is_finished = self.new.is_finished;
         } }
     {
-        match replace(&mut self.stage, Stage::Finished) {
-            Stage::Looks => {
-                let reading = self.reading;
-                let waiting = reading.cache.get_value_or_guard_async(self.rt, self.key);
-                self.wait(waiting, cx)
-            }
-            Stage::Waits(waiting) => self.wait(waiting, cx),
-            Stage::Finished => Poll::Ready(Err(Refusal::Finished)),
-        }
-    }
-
-    /// Waits for what the cache has or another loads, and loads it where it gets the guard.
-    fn wait(
-        &mut self,
-        waiting: ValueOrGuard<'a, 'a, K, K, Loaded<V>, Fresh<S>, ShardOf<K, V, S, A, We>, R, A>,
-        cx: &mut Context<'_>,
-    ) -> Poll<Result<V, Refusal>>
-        requires taken { self.old.is_finished ≡ true }
-        requires query { waiting.query ≡ self.old.key }
-        requires begins { waiting.is_finished ≡ false }
-        requires callable { F.IsAlwaysCallable self.old.reading.loader }
-        requires loads { LoadsFrom F.Fn self.old.reading.loader S.gives }
-        ensures fresh { IfReady result (λ answer. IfOk answer (Answers S.gives K.eq self.old.key
-            (Li.life_of self.old.reading.lives self.old.key) self.old.moment)) }
-        ensures once { AnswersOnce (λ answer. IfErr answer IsLoadRefusal) (Err Refusal.Finished)
-            false result self.new.is_finished }
-        ensures registers { Registers (IsSome self.new.source) (IsSource self.new.source) result
-            cx.old cx.new }
-        ensures same { self.new ≡ record self.old {
-          source = self.new.source;
-          is_finished = self.new.is_finished;
-        } }
-    {
-        let mut waiting = waiting;
+        let reading = self.reading;
+        let mut waiting = match replace(&mut self.stage, Stage::Finished) {
+            Stage::Looks => reading.cache.get_value_or_guard_async(self.rt, self.key),
+            Stage::Waits(waiting) => waiting,
+            Stage::Finished => return Poll::Ready(Err(Refusal::Finished)),
+        };
         match waiting.go_on(cx) {
             Poll::Pending => {
                 self.stage = Stage::Waits(waiting);
@@ -258,8 +230,9 @@ impl<
         requires same { IfSome guard.old (λ guard. IsTrue (K.eq self.now.key guard)) }
         requires callable { F.IsAlwaysCallable self.now.reading.loader }
         requires loads { LoadsFrom F.Fn self.now.reading.loader S.gives }
-        ensures fresh { Answers S.gives K.eq self.now.key
-            (Li.life_of self.now.reading.lives self.now.key) self.now.moment result }
+        ensures { Answers S.gives K.eq self.entry.now.key
+            (Li.life_of self.entry.now.reading.lives self.entry.now.key) self.entry.now.moment
+            result }
     {
         let reading = self.reading;
         let value = reading.load(self.key, self.now);
@@ -285,7 +258,7 @@ impl<
         × LoadsFrom F.Fn f.reading.loader S.gives };
 
     // Once it waits, the source of its placeholder.
-    ghost needs = { λ f s. IsSomeAnd f.source (λ source. s ≡ source) };
+    ghost needs = { λ f. IsSource f.source };
 
     // The value is the source's for the key, and fresh.
     ghost gives = { λ f answer. IfOk answer (Answers S.gives K.eq f.key

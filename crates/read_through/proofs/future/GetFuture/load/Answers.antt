@@ -3,8 +3,8 @@ use Rattle.read_through.proofs.AnswerLemmas.{Answers-own}
 use Rattle.read_through.proofs.future.GetFuture.load.Goals as goal
 
 -- what is loaded for the key now is an answer
-pub returns-clause-fresh : goal.returns-clause-fresh
-returns-clause-fresh g c =
+pub returns : goal.returns
+returns g c =
     let key : c.args.self.now.key ≡ c.self.inside.key.now = search rules in
     let moment : c.args.self.now.moment ≡ c.self.inside.now = search rules in
     Answers-own g.S.Source.gives g.K.PartialEq.eq g.met.K.Eq.laws c.args.self.now.key
