@@ -6,7 +6,7 @@ ghost use Rattle.quick_cache_guard.specs.Fills.{FilledBy};
 
 use quick_cache_base::protocol::{Answer, Core, Event, run};
 use quick_cache_guard::entries::{EntryShard, entry};
-use quick_cache_guard::{EntryResult, FillError, LoadingShard, PlaceholderGuard};
+use quick_cache_guard::{EntryResult, FillError, LoadingShard, PlaceholderGuard, Turns};
 use quick_cache_loading::waiting::{Ended, Place, State};
 use quick_cache_model::{EntryAction, Lifecycle, Refusal, ToKey};
 use std::alloc::Global;
@@ -60,7 +60,8 @@ pub fn fill_and_tell<
     }
 }
 
-/// An entry call whose callback keeps what it sees removes nothing and replaces nothing.
+/// An entry call whose callback keeps what it sees removes nothing and replaces nothing, and with no
+/// limit it is never too late.
 pub fn keep_what_is_there<
     K: Eq + Hash + Drop,
     V: Clone,
@@ -73,12 +74,12 @@ pub fn keep_what_is_there<
         → Q.equivalent query.now key ≡ true }
 {
     let mut keeps = |_: &K, _: &mut V| -> EntryAction<()> { EntryAction::Retain(()) };
-    match entry(rt, shard, query, None, &mut keeps) {
+    match entry(rt, shard, query, &mut Turns::within(None), &mut keeps) {
         EntryResult::Retained(()) => true,
         EntryResult::Removed(_, _) => unreachable!(),
         EntryResult::Replaced(_, _) => unreachable!(),
         EntryResult::Vacant(_) => false,
-        EntryResult::Timeout => false,
+        EntryResult::Timeout => unreachable!(),
         EntryResult::Refused(_) => false,
     }
 }
