@@ -198,41 +198,6 @@ pub fn wait_at<
     answer(rt, shard, placeholder, key, told)
 }
 
-/// As `come_and_wait`, for so many turns at most.
-pub fn come_and_wait_within<
-    'a,
-    K: Eq + Hash + Drop,
-    V: Clone,
-    L: Lifecycle<K, V>,
-    S: LoadingShard<K, V, L, A>,
-    R: Wait + Clock,
-    A: Allocator,
-    Q: ToKey<K>,
->(
-    rt: &'a R,
-    shard: &'a RwLock<S>,
-    query: &Q,
-    turns: &mut Turns,
-) -> Option<GuardResult<V, PlaceholderGuard<'a, K, V, L, S, R, A>>>
-    requires stands { (key : K) → Q.to_key_gives query.now key
-        → Q.equivalent query.now key ≡ true }
-    ensures fits { ClonesFit L.fits V.is_clone → IfSome result
-        (λ answer. IfValue answer
-        (λ value. FitsQuery L.fits (Q.equivalent query.now) value)) }
-    ensures key { IfSome result (λ answer. IfGuard answer
-        (λ key. Q.to_key_gives query.now key)) }
-    ensures refused { IfSome result RefusesAsLoad }
-    // Its time is over only where no turn is left.
-    ensures timely { IfSome result (λ answer. is_timeout answer ≡ true
-        → none_left turns.new.left ≡ true) }
-    ensures counts { NoMoreLeft turns.old.left turns.new.left }
-{
-    match come(rt, shard, query, turns.is_over()) {
-        Ok(waiting) => wait_at(rt, shard, query, waiting, turns),
-        Err(told) => told,
-    }
-}
-
 /// What one who waits with no limit gets, unless it has to look again.
 pub fn output<V: Drop, G: Drop>(
     told: Option<GuardResult<V, G>>,

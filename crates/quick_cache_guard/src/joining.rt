@@ -4,7 +4,7 @@ ghost use Rattle.quick_cache_loading.specs.Fitting.{ClonesFit, FitsQuery};
 ghost use Rattle.quick_cache_loading.specs.Turns.{NoMoreLeft, none_left};
 ghost use Rattle.quick_cache_guard.specs.Answers.{IfGiven, IfGuard, IfValue, IsRefusedAsLoad, RefusesAsLoad, is_timeout};
 
-use crate::coming::{come_and_wait, come_and_wait_within, output};
+use crate::coming::{come, come_and_wait, output, wait_at};
 use crate::guard::PlaceholderGuard;
 use crate::results::GuardResult;
 use quick_cache_loading::sharing::{LoadingShard, Turns};
@@ -68,8 +68,14 @@ impl<
         ensures counts { NoMoreLeft turns.old.left turns.new.left }
     {
         for _ in rt.forever() {
-            if let Some(answer) = come_and_wait_within(rt, shard, query, turns) {
-                return answer;
+            match come(rt, shard, query, turns.is_over()) {
+                Ok(waiting) => {
+                    if let Some(answer) = wait_at(rt, shard, query, waiting, turns) {
+                        return answer;
+                    }
+                }
+                Err(Some(answer)) => return answer,
+                Err(None) => {}
             }
         }
         unreachable!()

@@ -64,60 +64,19 @@ pub fn entry<
 {
     let mut held = Some(callback);
     for _ in rt.forever() {
-        if let Some(answer) = come_and_wait(rt, shard, query, turns, &mut held) {
-            return answer;
+        match come(rt, shard, query, &mut held, turns.is_over()) {
+            Ok(waiting) => {
+                if let Some(answer) = entry_of(wait_at(rt, shard, query, waiting, turns)) {
+                    return answer;
+                }
+            }
+            Err(Some(answer)) => return answer,
+            Err(None) => {}
         }
         // A value that came is still on its way into the shard.
         yield_now();
     }
     unreachable!()
-}
-
-/// Comes to the shard once, and waits. Nothing is answered where one has to look again, and the
-/// callback was not called then.
-fn come_and_wait<
-    'a,
-    K: Eq + Hash + Drop,
-    V: Clone,
-    L: Lifecycle<K, V>,
-    S: EntryShard<K, V, L, A>,
-    R: Wait + Clock,
-    A: Allocator,
-    Q: ToKey<K>,
-    T: Drop,
-    F: FnOnce(&K, &mut V) -> EntryAction<T>,
->(
-    rt: &'a R,
-    shard: &'a RwLock<S>,
-    query: &Q,
-    turns: &mut Turns,
-    callback: &mut Option<F>,
-) -> Option<EntryResult<T, K, V, PlaceholderGuard<'a, K, V, L, S, R, A>>>
-    requires stands { (key : K) → Q.to_key_gives query.now key
-        → Q.equivalent query.now key ≡ true }
-    requires callable { IsSomeAnd callback.old (MayAct F.FnOnce L.fits (Q.equivalent query.now)) }
-    requires leaves { LeavesFit (LeavesHeld F.FnOnce callback.old) L.fits }
-    ensures fits { IfSome result (λ answer. IfGivenBack answer
-        (λ value. FitsQuery L.fits (Q.equivalent query.now) value)) }
-    ensures told { IfSome result (λ answer. IfRetained answer
-        (λ told. MayTell (LeavesHeld F.FnOnce callback.old) L.fits (Q.equivalent query.now)
-        told)) }
-    ensures key { IfSome result (λ answer. IfGuarded answer
-        (λ key. Q.to_key_gives query.now key)) }
-    ensures uncalled { IfNone result (callback.new ≡ callback.old) }
-    ensures chosen { IfSome result (λ answer. AnswersAsChosen
-        (LeavesHeld F.FnOnce callback.old) L.fits (Q.equivalent query.now)
-        (callback.new ≡ callback.old) answer) }
-    ensures refused { IfSome result IsRefusedAsLoad }
-    // Its time is over only where no turn is left.
-    ensures timely { IfSome result (λ answer. is_late answer ≡ true
-        → none_left turns.new.left ≡ true) }
-    ensures counts { NoMoreLeft turns.old.left turns.new.left }
-{
-    match come(rt, shard, query, callback, turns.is_over()) {
-        Ok(waiting) => entry_of(wait_at(rt, shard, query, waiting, turns)),
-        Err(told) => told,
-    }
 }
 
 /// Comes to the shard once, under its write lock. One who finds the key being loaded joins those who
