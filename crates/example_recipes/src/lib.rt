@@ -2,19 +2,11 @@
 #![tactic(auto)]
 
 #[cfg(test)]
-mod blocks;
+mod leaving;
 #[cfg(test)]
-mod borrowed;
+mod looking;
 #[cfg(test)]
-mod counted;
-#[cfg(test)]
-mod listener;
-#[cfg(test)]
-mod made;
-#[cfg(test)]
-mod memo;
-#[cfg(test)]
-mod names;
+mod making;
 #[cfg(test)]
 mod promises;
 #[cfg(test)]
@@ -22,8 +14,4 @@ mod runs;
 #[cfg(test)]
 mod saved;
 #[cfg(test)]
-mod sessions;
-#[cfg(test)]
 mod signed_in;
-#[cfg(test)]
-mod weigher;

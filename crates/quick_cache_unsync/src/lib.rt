@@ -2,14 +2,11 @@
 #![tactic(auto)]
 
 mod cache;
-mod hottest;
 mod lent;
 mod lifecycle;
 mod loading;
 mod many;
 mod removal;
-mod retaining;
-mod saving;
 mod sizes;
 mod walking;
 mod writing;

@@ -1,4 +1,4 @@
-//! Many pairs at once: those of an iterator are written, and the hottest are shown.
+//! Many pairs at once: those of an iterator are written.
 ghost use Rattle.std.specs.Prelude.{◌≡◌, IfErr};
 ghost use Rattle.std.specs.Iterator.{IsFinite};
 ghost use Rattle.quick_cache_model.specs.declared.refusal.Refusal.TheVariants.{Memory};

@@ -1,4 +1,7 @@
 //! Walks over the items.
 
 pub mod drain;
+pub mod hottest;
 pub mod iter;
+pub mod retaining;
+pub mod saving;

@@ -9,10 +9,9 @@ ghost use Rattle.read_through.specs.Answers.{Answers, AnswersLate, GivesClones, 
 ghost use Rattle.read_through.specs.Givens.{IfFailed, IfFresh, IfStale};
 
 use crate::fresh::Fresh;
-use crate::given::Given;
+use crate::given::{Given, Source};
 use crate::lives::Lives;
 use crate::reading::{ReadThrough, ShardOf};
-use crate::source::Source;
 use quick_cache_expiring::Loaded;
 use quick_cache_guard::{EntryResult, GuardResult, LoadingShard, PlaceholderGuard};
 use quick_cache_model::{Refusal, Weighter};

@@ -3,7 +3,7 @@ ghost use Rattle.std.specs.Prelude.{◌≡◌, ⊤};
 ghost use Rattle.std.proofs.Common.{sym, ◌∙◌};
 ghost use Rattle.read_through.specs.Answers.{IsOf};
 
-use crate::source::Source;
+use crate::given::Source;
 use quick_cache_expiring::Loaded;
 use quick_cache_model::Lifecycle;
 use std::alloc::AllocError;

@@ -8,9 +8,9 @@ ghost use Rattle.read_through.specs.Loads.{LoadsFrom};
 
 use crate::answering::store;
 use crate::fresh::Fresh;
+use crate::given::Source;
 use crate::lives::Lives;
 use crate::reading::{ReadThrough, ShardOf};
-use crate::source::Source;
 use futures::Future;
 use futures::task::{Context, Poll};
 use quick_cache_expiring::Loaded;

@@ -6,10 +6,9 @@ ghost use Rattle.read_through.specs.Givens.{IfFailed, IfFresh, IfStale};
 ghost use Rattle.read_through.specs.Loads.{Loads, LoadsFrom, LoadsOkFrom};
 
 use crate::future::GetFuture;
-use crate::given::Given;
+use crate::given::{Given, Source};
 use crate::lives::Lives;
 use crate::reading::ReadThrough;
-use crate::source::Source;
 use quick_cache_model::{Refusal, Weighter};
 use std::alloc::Allocator;
 use std::convert::Infallible;

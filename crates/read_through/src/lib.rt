@@ -9,12 +9,10 @@ mod gets;
 mod given;
 mod lives;
 mod reading;
-mod source;
 
 pub use future::GetFuture;
-pub use given::{Given, Stats};
+pub use given::{AnySource, Given, Source, Stats};
 pub use lives::{ByAnswer, Lasting, Lives};
 pub use quick_cache_expiring::{ByValue, Loaded};
 pub use quick_cache_model::Refusal;
 pub use reading::ReadThrough;
-pub use source::{AnySource, Source};

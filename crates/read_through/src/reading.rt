@@ -8,8 +8,7 @@ ghost use Rattle.read_through.specs.Answers.{IsOf};
 ghost use Rattle.read_through.specs.Counted.{Counted};
 
 use crate::fresh::Fresh;
-use crate::given::Stats;
-use crate::source::{AnySource, Source};
+use crate::given::{AnySource, Source, Stats};
 use quick_cache_expiring::{ByValue, Loaded};
 use quick_cache_locked::LockedShard;
 use quick_cache_model::{DefaultHashBuilder, Lifecycle, Refusal, UnitWeighter, Weighter};

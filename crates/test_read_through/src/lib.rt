@@ -4,26 +4,8 @@
 #![tactic(auto)]
 
 #[cfg(test)]
-mod expiring_rows;
+mod expiring;
 #[cfg(test)]
-mod hundreds;
+mod loader;
 #[cfg(test)]
-mod lives;
-#[cfg(test)]
-mod passes;
-#[cfg(test)]
-mod refused;
-#[cfg(test)]
-mod resolver;
-#[cfg(test)]
-mod rows;
-#[cfg(test)]
-mod shared_rows;
-#[cfg(test)]
-mod stamps;
-#[cfg(test)]
-mod storm;
-#[cfg(test)]
-mod tasks;
-#[cfg(test)]
-mod tokens;
+mod uses;

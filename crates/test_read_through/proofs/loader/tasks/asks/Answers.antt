@@ -1,5 +1,5 @@
 use Rattle.std.proofs.Common.{◌≡◌}
-use Rattle.test_read_through.proofs.tasks.asks.Goals as goal
+use Rattle.test_read_through.proofs.loader.tasks.asks.Goals as goal
 
 -- the loader that is called is the one that may be
 pub returns : goal.returns

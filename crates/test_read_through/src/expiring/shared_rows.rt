@@ -1,5 +1,5 @@
 //! The rows of the cache that threads share.
-use crate::expiring_rows::{LIVES, PURGED_IN_PARTS};
+use crate::expiring::rows::{LIVES, PURGED_IN_PARTS};
 use quick_cache_expiring_sync::{SharedExpiring, Stats};
 use std::convert::Infallible;
 use test_tools::{expect_eq, expect_ok};

@@ -1,7 +1,7 @@
 //! Gets without memory for an entry, or for a clone.
 ghost use Rattle.std.specs.Prelude.{◌≡◌};
 
-use crate::hundreds::hundreds;
+use crate::loader::hundreds::hundreds;
 use read_through::{AnySource, ReadThrough, Refusal, Stats};
 use std::alloc::{AllocError, Global};
 use std::sync::atomic::{AtomicU64, Ordering};

@@ -1,6 +1,6 @@
 //! Answers with lives of their own, old answers that are asked for anew, and those that are answered
 //! while a loader fails.
-use crate::hundreds::hundreds;
+use crate::loader::hundreds::hundreds;
 use read_through::{ByAnswer, Given, Lasting, ReadThrough};
 use std::alloc::Global;
 use std::sync::atomic::{AtomicU64, Ordering};

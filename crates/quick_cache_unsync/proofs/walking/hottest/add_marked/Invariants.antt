@@ -1,6 +1,6 @@
 use Rattle.std.proofs.Common.{◌≡◌, ◌≤◌, ◌++◌, vec_len, take}
 use Rattle.quick_cache_unsync.specs.Hottest.{pairs_shown, with_mark}
-use Rattle.quick_cache_unsync.proofs.hottest.add_marked.Given as goal
+use Rattle.quick_cache_unsync.proofs.walking.hottest.add_marked.Given as goal
 
 -- what is still to be added makes the list whole
 abbrev pub invariant-loop-key : goal.invariant-loop-key

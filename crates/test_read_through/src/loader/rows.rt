@@ -1,5 +1,5 @@
 //! What a loader with its cache answers, and how often it is called.
-use crate::hundreds::{first_wrong, hundreds};
+use crate::loader::hundreds::{first_wrong, hundreds};
 use read_through::{ReadThrough, Stats};
 use std::sync::Barrier;
 use std::sync::atomic::{AtomicU64, Ordering};

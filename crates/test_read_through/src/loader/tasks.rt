@@ -1,5 +1,5 @@
 //! Tasks that ask a loader with its cache.
-use crate::hundreds::hundreds;
+use crate::loader::hundreds::hundreds;
 use futures::executor::block_on;
 use futures::test::MockTask;
 use quick_cache_model::UnitWeighter;

@@ -1,0 +1,6 @@
+//! Caches whose entries end.
+
+pub mod passes;
+pub mod rows;
+pub mod shared_rows;
+pub mod storm;

@@ -1,0 +1,7 @@
+//! A loader with its cache, by rows, refusals and tasks.
+
+pub mod hundreds;
+pub mod lives;
+pub mod refused;
+pub mod rows;
+pub mod tasks;

@@ -1,0 +1,5 @@
+//! Uses of a loader with its cache.
+
+pub mod resolver;
+pub mod stamps;
+pub mod tokens;
