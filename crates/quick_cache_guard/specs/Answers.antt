@@ -46,6 +46,14 @@ abbrev pub RefusesAsLoad : {V G : Type 0} → GuardResult V G → Type 0
 RefusesAsLoad (guard_result.Refused refusal) = IsLoadRefusal refusal
 RefusesAsLoad _ = ⊤
 
+-- One who asks for a value is answered one of which the first is true, a guard, which is seen as its
+-- key, of which the second is, or a refusal only for what a load may be refused for.
+abbrev pub IsAnswered : {V G : Type 0} → (V → Type 0) → (G → Type 0) → GuardResult V G → Type 0
+IsAnswered P R (guard_result.Value value) = P value
+IsAnswered P R (guard_result.Guard guard) = R guard
+IsAnswered P R (guard_result.Refused refusal) = IsLoadRefusal refusal
+IsAnswered P R guard_result.Timeout = ⊤
+
 -- the time was over
 abbrev pub is_timeout : {V G : Type 0} → GuardResult V G → Bool
 is_timeout guard_result.Timeout = true

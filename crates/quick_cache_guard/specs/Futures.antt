@@ -5,7 +5,7 @@ use Rattle.futures.specs.Task.{Covers, Keeps}
 use Rattle.futures.specs.declared.task.Poll.{Poll}
 use Rattle.futures.specs.declared.task.Poll.TheVariants as poll
 use Rattle.futures.specs.declared.task.context.Context.{Context}
-use Rattle.quick_cache_loading.specs.Fitting.{ClonesFit, FitsQuery}
+use Rattle.quick_cache_loading.specs.Fitting.{Serves}
 use Rattle.quick_cache_model.specs.declared.refusal.Refusal.{Refusal}
 use Rattle.quick_cache_guard.specs.Answers.{IfGiven}
 use Rattle.quick_cache_guard.specs.declared.stage.Stage.{Stage}
@@ -40,8 +40,8 @@ module _ {W : Type 0} where
 abbrev pub IsSource : Option ℕ → ℕ → Type 0
 IsSource source s = IsSomeAnd source (λ own. s ≡ own)
 
--- A future answers once: while it is not finished it is refused as a load is, and once it is it is
--- refused so.
+-- A future answers once. Before it has answered it is refused only as a load is, and afterwards each
+-- poll is refused by this answer.
 pub record AnswersOnce {O : Type 0} (IsRefusedAsLoad : O → Type 0) (finished : O) (before : Bool)
     (polled : Poll O) (after : Bool) : Type 0 where
   pub first : before ≡ false → IfReady polled IsRefusedAsLoad
@@ -60,4 +60,4 @@ pub record Registers {O : Type 0} (HasPlace : Type 0) (needs : ℕ → Type 0) (
 abbrev pub GivesFor : {K V : Type 0} (fits : K → V → Type 0) (is_clone : V → V → Type 0)
     (stands_for : K → Bool) (becomes : K → Type 0) → Result (Result V K) Refusal → Type 0
 GivesFor fits is_clone stands_for becomes =
-    IfGiven (λ value. ClonesFit fits is_clone → FitsQuery fits stands_for value) becomes
+    IfGiven (Serves fits is_clone stands_for) becomes

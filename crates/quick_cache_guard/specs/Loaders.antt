@@ -34,10 +34,10 @@ module _ {J G : Type 0} where
   has_guard loading.Finished = false
 
   -- it has answered
-  abbrev pub is_finished : Loading J G → Bool
-  is_finished (loading.Asks joining) = false
-  is_finished (loading.Loads guard) = false
-  is_finished loading.Finished = true
+  abbrev pub has_answered : Loading J G → Bool
+  has_answered (loading.Asks joining) = false
+  has_answered (loading.Loads guard) = false
+  has_answered loading.Finished = true
 
 -- the source by which it is woken before it has the guard
 abbrev pub asked_source : {Q G : Type 0} → Loading (Joining Q) G → Option ℕ

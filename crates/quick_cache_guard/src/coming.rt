@@ -1,9 +1,9 @@
 //! One who comes to a shard for the value of a key: it waits, or is told at once.
-ghost use Rattle.std.specs.Prelude.{◌≡◌, true, false, IfOk, IfErr, IfSome, IsErr};
+ghost use Rattle.std.specs.Prelude.{◌≡◌, ⊤, true, false, IfOk, IfErr, IfSome, IsErr};
 ghost use Rattle.std.specs.Arc.{arc_value};
-ghost use Rattle.quick_cache_loading.specs.Waiters.{IfGuard as IfShare};
-ghost use Rattle.quick_cache_loading.specs.Fitting.{ClonesFit, FitsQuery};
-ghost use Rattle.quick_cache_guard.specs.Answers.{IfValue, IfGuard, RefusesAsLoad, answer_of, is_timeout, output_of};
+ghost use Rattle.quick_cache_loading.specs.Waiters.{IsTold};
+ghost use Rattle.quick_cache_loading.specs.Fitting.{Serves};
+ghost use Rattle.quick_cache_guard.specs.Answers.{IsAnswered, answer_of, is_timeout, output_of};
 ghost use Rattle.quick_cache_loading.specs.Turns.{NoMoreLeft, none_left};
 
 use crate::guard::PlaceholderGuard;
@@ -44,7 +44,7 @@ pub fn answer<
     key: K,
     told: Waited<V>,
 ) -> Option<GuardResult<V, PlaceholderGuard<'a, K, V, L, S, R, A>>>
-    requires share { IfShare told (λ share. share ≡ (arc_value placeholder).ticket) }
+    requires told { IsTold (arc_value placeholder).ticket (λ value. ⊤) told }
     ensures { result ≡ answer_of key told }
 {
     match told {
@@ -85,13 +85,9 @@ pub fn come<
     requires stands { (key : K) → Q.to_key_gives query.now key
         → Q.equivalent query.now key ≡ true }
     ensures keyed { IfOk result (λ waiting. Q.to_key_gives query.now waiting.key) }
-    ensures fits { ClonesFit L.fits V.is_clone → IfErr result
-        (λ told. IfSome told (λ answer. IfValue answer
-        (λ value. FitsQuery L.fits (Q.equivalent query.now) value))) }
-    ensures key { IfErr result (λ told. IfSome told (λ answer. IfGuard answer
-        (λ key. Q.to_key_gives query.now key))) }
+    ensures answers { IfErr result (λ told. IfSome told (IsAnswered
+        (Serves L.fits V.is_clone (Q.equivalent query.now)) (Q.to_key_gives query.now))) }
     ensures over { is_over ≡ true → IsErr result }
-    ensures refused { IfErr result (λ told. IfSome told RefusesAsLoad) }
     ensures timely { is_over ≡ false
         → IfErr result (λ told. IfSome told (λ answer. is_timeout answer ≡ false)) }
 {
@@ -137,12 +133,8 @@ pub fn come_and_wait<
 ) -> Option<GuardResult<V, PlaceholderGuard<'a, K, V, L, S, R, A>>>
     requires stands { (key : K) → Q.to_key_gives query.now key
         → Q.equivalent query.now key ≡ true }
-    ensures fits { ClonesFit L.fits V.is_clone → IfSome result
-        (λ answer. IfValue answer
-        (λ value. FitsQuery L.fits (Q.equivalent query.now) value)) }
-    ensures key { IfSome result (λ answer. IfGuard answer
-        (λ key. Q.to_key_gives query.now key)) }
-    ensures refused { IfSome result RefusesAsLoad }
+    ensures answers { IfSome result (IsAnswered
+        (Serves L.fits V.is_clone (Q.equivalent query.now)) (Q.to_key_gives query.now)) }
     ensures timely { IfSome result (λ answer. is_timeout answer ≡ false) }
 {
     match come(rt, shard, query, false) {
@@ -178,12 +170,8 @@ pub fn wait_at<
     turns: &mut Turns,
 ) -> Option<GuardResult<V, PlaceholderGuard<'a, K, V, L, S, R, A>>>
     requires keyed { Q.to_key_gives query.now waiting.key }
-    ensures fits { ClonesFit L.fits V.is_clone → IfSome result
-        (λ answer. IfValue answer
-        (λ value. FitsQuery L.fits (Q.equivalent query.now) value)) }
-    ensures key { IfSome result (λ answer. IfGuard answer
-        (λ key. Q.to_key_gives query.now key)) }
-    ensures refused { IfSome result RefusesAsLoad }
+    ensures answers { IfSome result (IsAnswered
+        (Serves L.fits V.is_clone (Q.equivalent query.now)) (Q.to_key_gives query.now)) }
     // Its time is over only where no turn is left.
     ensures timely { IfSome result (λ answer. is_timeout answer ≡ true
         → none_left turns.new.left ≡ true) }

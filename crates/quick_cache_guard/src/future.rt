@@ -2,9 +2,9 @@
 ghost use Rattle.std.specs.Prelude.{◌≡◌, true, false, Some, Err, IsSome, IfSome};
 ghost use Rattle.std.specs.Arc.{arc_value};
 ghost use Rattle.futures.specs.Poll.{IfReady};
-ghost use Rattle.quick_cache_guard.specs.Answers.{IfGuard, IfValue, IsRefusedAsLoad, RefusesAsLoad};
+ghost use Rattle.quick_cache_guard.specs.Answers.{IsAnswered, IsRefusedAsLoad};
 ghost use Rattle.quick_cache_guard.specs.Futures.{AnswersOnce, GivesFor, IfWaits, IsSource, Registers, has_answered, source_of};
-ghost use Rattle.quick_cache_loading.specs.Fitting.{ClonesFit, FitsQuery};
+ghost use Rattle.quick_cache_loading.specs.Fitting.{Serves};
 
 use crate::coming::{Waiting, answer, come, output};
 use crate::guard::PlaceholderGuard;
@@ -238,12 +238,9 @@ impl<
         cx: &mut Context<'_>,
     ) -> Poll<Result<Result<V, PlaceholderGuard<'a, K, V, L, S, R, A>>, Refusal>>
         requires taken { self.old.is_finished ≡ true }
-        requires fits { ClonesFit L.fits V.is_clone → IfSome told
-            (λ answer. IfValue answer
-            (λ value. FitsQuery L.fits (Q.equivalent self.old.query) value)) }
-        requires key { IfSome told (λ answer. IfGuard answer
-            (λ key. Q.to_key_gives self.old.query key)) }
-        requires refused { IfSome told RefusesAsLoad }
+        requires answers { IfSome told (IsAnswered
+            (Serves L.fits V.is_clone (Q.equivalent self.old.query))
+            (Q.to_key_gives self.old.query)) }
         ensures gives { IfReady result (GivesFor L.fits V.is_clone (Q.equivalent self.old.query)
             (Q.to_key_gives self.old.query)) }
         ensures once { AnswersOnce IsRefusedAsLoad (Err Refusal.Finished) false result

@@ -2,7 +2,7 @@
 ghost use Rattle.std.specs.Prelude.{◌≡◌, IfErr, OnOk, OnErr, Some, codes};
 ghost use Rattle.std.specs.Arc.{arc_value};
 ghost use Rattle.quick_cache_loading.specs.Fitting.{ClonesFit};
-ghost use Rattle.quick_cache_guard.specs.Fills.{FilledBy, IfBack, back_of};
+ghost use Rattle.quick_cache_guard.specs.Fills.{FilledAlone, FilledBy, IfBack, back_of};
 
 use quick_cache_loading::sharing::{LoadingShard, Placeholder, SharedPlaceholder};
 use quick_cache_loading::waiting::Share;
@@ -137,6 +137,8 @@ impl<
         requires fits { L.fits self value }
         requires clones { ClonesFit L.fits V.is_clone }
         ensures back { IfErr result (λ error. back_of error ≡ value) }
+        ensures told { OnOk result
+            (FilledAlone L.RequestState.is_default S.fills self.entry value) }
     {
         let mut state = L::RequestState::default();
         self.insert_with_lifecycle(value, &mut state)

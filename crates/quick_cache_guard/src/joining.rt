@@ -1,8 +1,8 @@
 //! A value, or the guard of a key that is absent, for a thread that waits where another loads it.
 ghost use Rattle.std.specs.Prelude.{◌≡◌, true, false, None};
-ghost use Rattle.quick_cache_loading.specs.Fitting.{ClonesFit, FitsQuery};
+ghost use Rattle.quick_cache_loading.specs.Fitting.{Serves};
 ghost use Rattle.quick_cache_loading.specs.Turns.{NoMoreLeft, none_left};
-ghost use Rattle.quick_cache_guard.specs.Answers.{IfGiven, IfGuard, IfValue, IsRefusedAsLoad, RefusesAsLoad, is_timeout};
+ghost use Rattle.quick_cache_guard.specs.Answers.{IfGiven, IsAnswered, IsRefusedAsLoad, is_timeout};
 
 use crate::coming::{come, come_and_wait, output, wait_at};
 use crate::guard::PlaceholderGuard;
@@ -36,13 +36,10 @@ impl<
         R: Clock,
         requires stands { (key : K) → Q.to_key_gives query.now key
             → Q.equivalent query.now key ≡ true }
-        // Whatever other threads do, the value fits a key that the query stands for.
-        ensures fits { ClonesFit L.fits V.is_clone
-            → IfValue result (λ value. FitsQuery L.fits (Q.equivalent query.now) value) }
-        // The guard is for a key that the query becomes.
-        ensures key { IfGuard result (λ key. Q.to_key_gives query.now key) }
-        // It is refused as a load is, and in time where there is no limit.
-        ensures refused { RefusesAsLoad result }
+        // Whatever other threads do, the value fits a key that the query stands for, and the guard
+        // is for a key that the query becomes. It is refused as a load is.
+        ensures answers { IsAnswered (Serves L.fits V.is_clone (Q.equivalent query.now))
+            (Q.to_key_gives query.now) result }
         ensures timely { limit ≡ None → is_timeout result ≡ false }
     {
         Self::join_within(rt, shard, query, &mut Turns::within(limit))
@@ -59,10 +56,8 @@ impl<
         R: Clock,
         requires stands { (key : K) → Q.to_key_gives query.now key
             → Q.equivalent query.now key ≡ true }
-        ensures fits { ClonesFit L.fits V.is_clone
-            → IfValue result (λ value. FitsQuery L.fits (Q.equivalent query.now) value) }
-        ensures key { IfGuard result (λ key. Q.to_key_gives query.now key) }
-        ensures refused { RefusesAsLoad result }
+        ensures answers { IsAnswered (Serves L.fits V.is_clone (Q.equivalent query.now))
+            (Q.to_key_gives query.now) result }
         // Its time is over only where none of them is left.
         ensures timely { is_timeout result ≡ true → none_left turns.new.left ≡ true }
         ensures counts { NoMoreLeft turns.old.left turns.new.left }
@@ -92,9 +87,8 @@ impl<
         // Whatever other threads do, the value fits a key that the query stands for, and the guard
         // is for a key that the query becomes.
         ensures gives { IfGiven
-            (λ value. ClonesFit L.fits V.is_clone
-            → FitsQuery L.fits (Q.equivalent query.now) value)
-            (λ key. Q.to_key_gives query.now key) result }
+            (Serves L.fits V.is_clone (Q.equivalent query.now)) (Q.to_key_gives query.now)
+            result }
         ensures refused { IsRefusedAsLoad result }
     {
         for _ in rt.forever() {

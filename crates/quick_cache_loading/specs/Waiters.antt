@@ -61,14 +61,10 @@ abbrev pub look_event : {V : Type 0} → ℕ → Bool → Event V
 look_event waiter true = event.TimeOut waiter
 look_event waiter false = event.Take waiter
 
--- what is told of a share, and of a value
+-- what is told of a share
 abbrev pub IfGuard : {V : Type 0} → Waited V → (ℕ → Type 0) → Type 0
 IfGuard (waited.Guard share) P = P share
 IfGuard _ P = ⊤
-
-abbrev pub IfValue : {V : Type 0} → Waited V → (V → Type 0) → Type 0
-IfValue (waited.Value value) P = P value
-IfValue _ P = ⊤
 
 -- it is told that it has the guard
 abbrev pub IsGuard : {V : Type 0} → Option (Waited V) → Type 0
@@ -106,10 +102,14 @@ IsLoadRefusal refusal.SlotsFull = ⊤
 IsLoadRefusal refusal.TicketsSpent = ⊤
 IsLoadRefusal refusal.Finished = ⊥
 
--- one is told a refusal only where loading may be refused so
-abbrev pub RefusesAsLoad : {V : Type 0} → Waited V → Type 0
-RefusesAsLoad (waited.Refused why) = IsLoadRefusal why
-RefusesAsLoad _ = ⊤
+-- One is told a value of which this is true, a share of this ticket, or a refusal only where loading
+-- may be refused so.
+abbrev pub IsTold : {V : Type 0} → ℕ → (V → Type 0) → Waited V → Type 0
+IsTold ticket P (waited.Value value) = P value
+IsTold ticket P (waited.Guard share) = share ≡ ticket
+IsTold ticket P (waited.Refused why) = IsLoadRefusal why
+IsTold ticket P waited.Timeout = ⊤
+IsTold ticket P waited.Again = ⊤
 
 -- one is told that its time is over
 abbrev pub is_timeout : {V : Type 0} → Waited V → Bool

@@ -1,8 +1,8 @@
 //! What those rely on who load a key in the shared cache, or act on its entry.
-ghost use Rattle.std.specs.Prelude.{◌≡◌, IfErr, IfOk, OnErr, true, false, vec_len};
+ghost use Rattle.std.specs.Prelude.{◌≡◌, IfErr, IfOk, OnErr, OnOk, true, false, vec_len};
 ghost use Rattle.quick_cache_loading.specs.Core.{waits};
 ghost use Rattle.quick_cache_loading.specs.Fitting.{ClonesFit};
-ghost use Rattle.quick_cache_guard.specs.Fills.{FilledBy};
+ghost use Rattle.quick_cache_guard.specs.Fills.{FilledAlone, FilledBy};
 
 use quick_cache_base::protocol::{Answer, Core, Event, run};
 use quick_cache_guard::entries::{EntryShard, entry};
@@ -14,7 +14,8 @@ use std::hash::Hash;
 use std::sync::{RwLock, Wait};
 use std::time::Clock;
 
-/// A fill that fails gives the value back, and the guard is given up.
+/// A fill tells a request state of its own. One that fails gives the value back, and the guard is
+/// given up.
 pub fn fill_or_take_back<
     K: Eq + Hash + Drop,
     V: Clone,
@@ -24,7 +25,9 @@ pub fn fill_or_take_back<
 >(guard: PlaceholderGuard<'_, K, V, L, S, R>, value: V) -> Result<(), V>
     requires fits { L.fits guard value }
     requires clones { ClonesFit L.fits V.is_clone }
-    ensures { IfErr result (λ back. back ≡ value) }
+    ensures told { OnOk result
+        (FilledAlone L.RequestState.is_default S.fills guard.entry value) }
+    ensures back { IfErr result (λ back. back ≡ value) }
 {
     match guard.insert(value) {
         Ok(()) => Ok(()),

@@ -70,7 +70,7 @@ impl<
 > Model for GetOrInsert<'a, Q, K, V, L, S, R, F, E, A> {
     ghost use Rattle.std.specs.Prelude.{◌≡◌, true, false, Ok};
     ghost use Rattle.quick_cache_loading.specs.Fitting.{ClonesFit};
-    ghost use Rattle.quick_cache_guard.specs.Loaders.{IfAsks, IfLoads, LoadState, asked_source, has_guard, is_finished};
+    ghost use Rattle.quick_cache_guard.specs.Loaders.{IfAsks, IfLoads, LoadState, asked_source, has_answered, has_guard};
 
     ghost Value = { LoadState Q F };
 
@@ -79,7 +79,7 @@ impl<
       source = asked_source f.loading;
       loader = f.loader;
       has_guard = has_guard f.loading;
-      is_finished = is_finished f.loading;
+      is_finished = has_answered f.loading;
     } };
 
     ghost invariant = { λ f. ((key : K) → Q.to_key_gives f.query.now key
@@ -88,7 +88,7 @@ impl<
         × (joining.is_finished ≡ false))
         × IfLoads f.loading (λ key. Q.to_key_gives f.query.now key)
         × ClonesFit L.fits V.is_clone
-        × (is_finished f.loading ≡ false → F.can_poll f.loader
+        × (has_answered f.loading ≡ false → F.can_poll f.loader
         × ((value : V) → F.gives f.loader (Ok value) → (key : K)
         → Q.to_key_gives f.query.now key → L.fits key value)) };
 }

@@ -1,6 +1,6 @@
 -- One who comes to a life that has begun, or to one that goes on.
 use Rattle.std.proofs.Common.{◌≡◌, ◌==◌, ◌⊎◌, ◌&&◌, ◌||◌, not, inl, inr, ℕ, Bool, true, false, true≢false, Result, Ok, Err, None, Some, MatchBool, ap}
-use Rattle.std.specs.Prelude.{IfErr}
+use Rattle.std.specs.Prelude.{IfErr, ⊤}
 use Rattle.quick_cache_model.specs.declared.refusal.Refusal.TheVariants.{Memory}
 use Rattle.quick_cache_loading.specs.Core.{Life, Loading, Filled, GivenUp, CoreState, core_state, is_filled, is_handed_to}
 use Rattle.quick_cache_loading.specs.LoadingStep.{Adds, Creates, Joins, LoadingStep, NotNowOf, Receives, TimesOut, Withdraws}
@@ -12,7 +12,7 @@ use Rattle.quick_cache_loading.specs.declared.protocol.events.Answer.TheVariants
 use Rattle.quick_cache_loading.specs.declared.waiting.waited.Waited.{Waited}
 use Rattle.quick_cache_loading.specs.declared.waiting.waited.Waited.TheVariants as waited
 use Rattle.quick_cache_loading.specs.Entering.{Enters, TellsNewcomer, TellsOnce}
-use Rattle.quick_cache_loading.specs.Waiters.{IfValue, IsGuard, by_number}
+use Rattle.quick_cache_loading.specs.Waiters.{IsGuard, IsTold, by_number}
 use Rattle.quick_cache_loading.specs.Waiting.{has, without_waiter}
 use Rattle.quick_cache_loading.specs.declared.waiting.place.Place.{Place}
 
@@ -46,10 +46,14 @@ module _ {V : Type 0} (shows : V → V → Type 0) (stands : Bool) (n : ℕ) (is
 -- ---- one who comes to a life that is not filled is shown no value
 
 -- one is told of no value
-abbrev pub ShowsNone : {V : Type 0} → Result ℕ (Waited V) → Type 0
-ShowsNone told = IfErr told (λ one. IfValue one (λ v. ⊥))
+abbrev pub IsUnshown : {V : Type 0} → Waited V → Type 0
+IsUnshown (waited.Value v) = ⊥
+IsUnshown _ = ⊤
 
-guard-unshown : {V : Type 0} (told : Waited V) → IsGuard (Some told) → IfValue told (λ v. ⊥)
+abbrev pub ShowsNone : {V : Type 0} → Result ℕ (Waited V) → Type 0
+ShowsNone told = IfErr told IsUnshown
+
+guard-unshown : {V : Type 0} (told : Waited V) → IsGuard (Some told) → IsUnshown told
 guard-unshown (waited.Guard share) is = tt
 guard-unshown (waited.Value v) is = absurd is
 guard-unshown waited.Timeout is = tt
@@ -72,7 +76,7 @@ module _ {V : Type 0} (shows : V → V → Type 0) (stands : Bool) (n : ℕ) whe
   newcomer-unshown answer.NotNow told none tells = rw tells tt
 
   once-unshown : (a : Answer V) (told : Waited V) → shown_by a ≡ None
-      → TellsOnce stands a told → IfValue told (λ v. ⊥)
+      → TellsOnce stands a told → IsUnshown told
   once-unshown answer.Joined told none tells = rw tells tt
   once-unshown (answer.Value v) told none tells = absurd (cc)
   once-unshown (answer.Refused why) told none tells = rw tells tt
@@ -128,8 +132,13 @@ module _ {V : Type 0} (shows : V → V → Type 0) (stands : Bool) (n : ℕ) whe
   Enters-unshown _ old _ _ unfilled (Enters.lacks_room over create) = tt
   Enters-unshown _ old _ _ unfilled (Enters.all_spent spent over create) = tt
 
--- a place is not told of
-pub by_number-unshown : {V : Type 0} (told : Result Place (Waited V)) → ShowsNone (by_number told)
-    → IfErr told (λ one. IfValue one (λ v. ⊥))
-by_number-unshown (Ok place) none = tt
-by_number-unshown (Err one) none = none
+-- so what one is told is no value
+pub told-unshown : {V : Type 0} (P : V → Type 0) (ticket : ℕ) (told : Result Place (Waited V))
+    → ShowsNone (by_number told) → IfErr told (IsTold ticket P)
+    → IfErr told (IsTold ticket (λ v. ⊥))
+told-unshown P ticket (Ok place) none told = tt
+told-unshown P ticket (Err (waited.Value v)) none told = absurd none
+told-unshown P ticket (Err (waited.Guard share)) none told = told
+told-unshown P ticket (Err (waited.Refused why)) none told = told
+told-unshown P ticket (Err waited.Timeout) none told = tt
+told-unshown P ticket (Err waited.Again) none told = tt

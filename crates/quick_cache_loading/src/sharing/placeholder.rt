@@ -2,8 +2,8 @@
 ghost use Rattle.std.specs.Prelude.{◌≡◌, ◌⊎◌, true, false, IfSome, IfOk, IfErr, IsErr, OnErr};
 ghost use Rattle.std.specs.Int.NonZero.{non_zero_u32_get};
 ghost use Rattle.futures.specs.Task.{Covers, Keeps};
-ghost use Rattle.quick_cache_loading.specs.Fitting.{ClonesFit, FitsQuery};
-ghost use Rattle.quick_cache_loading.specs.Waiters.{IfGuard, IfValue, RefusesAsLoad, is_timeout};
+ghost use Rattle.quick_cache_loading.specs.Fitting.{Serves};
+ghost use Rattle.quick_cache_loading.specs.Waiters.{IsTold, is_timeout};
 ghost use Rattle.quick_cache_loading.specs.Turns.{NoMoreLeft, none_left};
 
 use crate::sharing::shard::LoadingShard;
@@ -159,11 +159,9 @@ impl<K: Eq + Hash + Drop, V: Clone, L: Lifecycle<K, V>, A: Allocator> Placeholde
         ensures place { IfOk result (λ place. place.ticket ≡ self.now.ticket) }
         ensures shard { _locked.new ≡ _locked.old }
         ensures over { is_over ≡ true → IsErr result }
-        ensures refused { IfErr result RefusesAsLoad }
         ensures timely { is_over ≡ false → IfErr result (λ told. is_timeout told ≡ false) }
-        ensures share { IfErr result (λ told. IfGuard told (λ share. share ≡ self.now.ticket)) }
-        ensures fits { ClonesFit L.fits V.is_clone → IfErr result
-            (λ told. IfValue told (λ value. FitsQuery L.fits (Q.equivalent query.now) value)) }
+        ensures told { IfErr result (IsTold self.now.ticket
+            (Serves L.fits V.is_clone (Q.equivalent query.now))) }
     {
         let mut state = self.state.lock(rt);
         if state.ticket() != self.ticket {
@@ -183,11 +181,9 @@ impl<K: Eq + Hash + Drop, V: Clone, L: Lifecycle<K, V>, A: Allocator> Placeholde
         ensures place { IfOk result (λ place. place.ticket ≡ self.now.ticket) }
         ensures shard { _locked.new ≡ _locked.old }
         ensures over { is_over ≡ true → IsErr result }
-        ensures refused { IfErr result RefusesAsLoad }
         ensures timely { is_over ≡ false → IfErr result (λ told. is_timeout told ≡ false) }
-        ensures share { IfErr result (λ told. IfGuard told (λ share. share ≡ self.now.ticket)) }
         // It is shown no value, and so asks for no clone of one.
-        ensures unshown { IfErr result (λ told. IfValue told (λ value. ⊥)) }
+        ensures told { IfErr result (IsTold self.now.ticket (λ value. ⊥)) }
     {
         let mut state = self.state.lock(rt);
         if state.ticket() != self.ticket || state.is_filled() {
@@ -210,11 +206,9 @@ impl<K: Eq + Hash + Drop, V: Clone, L: Lifecycle<K, V>, A: Allocator> Placeholde
         cx: &mut Context<'_>,
     ) -> Result<Waited<V>, Place>
         ensures place { IfErr result (λ kept. kept ≡ place) }
-        ensures refused { IfOk result RefusesAsLoad }
         ensures timely { IfOk result (λ told. is_timeout told ≡ false) }
-        ensures share { IfOk result (λ told. IfGuard told (λ share. share ≡ place.ticket)) }
-        ensures fits { ClonesFit L.fits V.is_clone → IfOk result
-            (λ told. IfValue told (λ value. FitsQuery L.fits (Q.equivalent query.now) value)) }
+        ensures told { IfOk result (IsTold place.ticket
+            (Serves L.fits V.is_clone (Q.equivalent query.now))) }
         ensures registered { OnErr result (Covers cx.new (λ s. s ≡ self.now.source.id)) }
         ensures kept { Keeps cx.old cx.new }
     {
@@ -224,11 +218,9 @@ impl<K: Eq + Hash + Drop, V: Clone, L: Lifecycle<K, V>, A: Allocator> Placeholde
     /// Waits until the guard or the value comes to a waiter. It takes the state's lock, and lets it
     /// go while it sleeps.
     pub fn wait<Q: Equivalent<K>, R: Wait>(&self, rt: &R, place: Place, query: &Q) -> Waited<V>
-        ensures refused { RefusesAsLoad result }
         ensures timely { is_timeout result ≡ false }
-        ensures share { IfGuard result (λ share. share ≡ place.ticket) }
-        ensures fits { ClonesFit L.fits V.is_clone
-            → IfValue result (λ value. FitsQuery L.fits (Q.equivalent query.now) value) }
+        ensures told { IsTold place.ticket
+            (Serves L.fits V.is_clone (Q.equivalent query.now)) result }
     {
         let mut place = place;
         for _ in rt.forever() {
@@ -250,13 +242,11 @@ impl<K: Eq + Hash + Drop, V: Clone, L: Lifecycle<K, V>, A: Allocator> Placeholde
         query: &Q,
         turns: &mut Turns,
     ) -> Waited<V>
-        ensures refused { RefusesAsLoad result }
         // Its time is over only where no turn is left.
         ensures timely { is_timeout result ≡ true → none_left turns.new.left ≡ true }
         ensures counts { NoMoreLeft turns.old.left turns.new.left }
-        ensures share { IfGuard result (λ share. share ≡ place.ticket) }
-        ensures fits { ClonesFit L.fits V.is_clone
-            → IfValue result (λ value. FitsQuery L.fits (Q.equivalent query.now) value) }
+        ensures told { IsTold place.ticket
+            (Serves L.fits V.is_clone (Q.equivalent query.now)) result }
     {
         if !turns.is_counted() {
             return self.wait(rt, place, query);

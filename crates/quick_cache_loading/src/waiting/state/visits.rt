@@ -2,9 +2,9 @@
 ghost use Rattle.std.specs.Prelude.{◌≡◌, ◌≢◌, ◌⊎◌, ◌==◌, ◌+◌, ◌≤◌, ℕ, true, false, Some, IfSome, IfOk, IfErr, IsOk, IsErr, OnOk, OnErr, is_some};
 ghost use Rattle.futures.specs.Task.{Covers, Keeps};
 ghost use Rattle.quick_cache_loading.specs.LoadingLaws.{given_by, shown_by};
-ghost use Rattle.quick_cache_loading.specs.Fitting.{ClonesFit, FitsQuery};
+ghost use Rattle.quick_cache_loading.specs.Fitting.{ClonesFit, Serves};
 ghost use Rattle.quick_cache_loading.specs.Tasks.{HasWaker, has_slot, slots_after_look, slots_of_others};
-ghost use Rattle.quick_cache_loading.specs.Waiters.{look_event, Looks, Tells, IfGuard, IfValue, RefusesAsLoad, by_number, has_joined, is_timed_out, is_timeout, told_or_none, waits_on};
+ghost use Rattle.quick_cache_loading.specs.Waiters.{IsTold, Looks, Tells, by_number, has_joined, is_timed_out, is_timeout, look_event, told_or_none, waits_on};
 ghost use Rattle.quick_cache_loading.specs.Entering.{Enters, LooksOnce, TellsNewcomer};
 
 use crate::protocol::{Answer, Event};
@@ -41,11 +41,9 @@ impl<K: Eq + Hash + Drop, V: Clone, L: Lifecycle<K, V>, A: Allocator> State<K, V
             → (result ≡ Ok Waited.Again) × (self.new ≡ self.old) }
         ensures place { IfErr result (λ kept. kept ≡ place) }
         ensures over { is_over ≡ true → IsOk result }
-        ensures refused { IfOk result RefusesAsLoad }
         ensures timely { is_over ≡ false → IfOk result (λ told. is_timeout told ≡ false) }
-        ensures share { IfOk result (λ told. IfGuard told (λ share. share ≡ place.ticket)) }
-        ensures fits { ClonesFit L.fits V.is_clone → IfOk result
-            (λ told. IfValue told (λ value. FitsQuery L.fits (Q.equivalent query.now) value)) }
+        ensures told { IfOk result (IsTold place.ticket
+            (Serves L.fits V.is_clone (Q.equivalent query.now))) }
         // Who goes on waiting has its slot, and who looks for the last time has none.
         ensures waits { OnErr result (has_slot place.number self.new.tasks ≡ true) }
         ensures woken { place.ticket ≡ self.old.ticket
@@ -73,10 +71,8 @@ impl<K: Eq + Hash + Drop, V: Clone, L: Lifecycle<K, V>, A: Allocator> State<K, V
         requires place { place.ticket ≡ self.old.ticket }
         ensures looks { Looks V.is_clone (Q.equivalent query.now self.old.key) self.old.core (Event.TimeOut place.number) (Some result)
             self.new.core }
-        ensures refused { RefusesAsLoad result }
-        ensures share { IfGuard result (λ share. share ≡ self.old.ticket) }
-        ensures fits { ClonesFit L.fits V.is_clone
-            → IfValue result (λ value. FitsQuery L.fits (Q.equivalent query.now) value) }
+        ensures told { IsTold self.old.ticket
+            (Serves L.fits V.is_clone (Q.equivalent query.now)) result }
         ensures woken { self.new.tasks ≡ slots_of_others place.number self.old.tasks }
         ensures same { self.new ≡ record self.old {
           core = self.new.core;
@@ -98,12 +94,12 @@ impl<K: Eq + Hash + Drop, V: Clone, L: Lifecycle<K, V>, A: Allocator> State<K, V
         requires gives { is_some share ≡ (given_by answer == 1) }
         requires ends { waits_on answer ≡ false }
         requires share { IfSome share (λ share. share ≡ self.now.ticket) }
+        requires fits { ClonesFit L.fits V.is_clone
+            → IfSome (shown_by answer) (λ value. L.fits self.now.key value) }
         ensures tells { Tells (Q.equivalent query.now self.now.key) answer (Some result) }
-        ensures refused { RefusesAsLoad result }
         ensures timely { is_timed_out answer ≡ false → is_timeout result ≡ false }
-        ensures share { IfGuard result (λ share. share ≡ self.now.ticket) }
-        ensures fits { IfSome (shown_by answer) (λ value. L.fits self.now.key value)
-            → IfValue result (λ value. FitsQuery L.fits (Q.equivalent query.now) value) }
+        ensures told { IsTold self.now.ticket
+            (Serves L.fits V.is_clone (Q.equivalent query.now)) result }
     {
         if let Some(share) = share {
             return Waited::Guard(share);
@@ -145,11 +141,9 @@ impl<K: Eq + Hash + Drop, V: Clone, L: Lifecycle<K, V>, A: Allocator> State<K, V
             → Looks V.is_clone (Q.equivalent query.now self.old.key) self.old.core (Event.Take place.number)
             (told_or_none result) self.new.core }
         ensures place { IfErr result (λ kept. kept ≡ place) }
-        ensures refused { IfOk result RefusesAsLoad }
         ensures timely { IfOk result (λ told. is_timeout told ≡ false) }
-        ensures share { IfOk result (λ told. IfGuard told (λ share. share ≡ place.ticket)) }
-        ensures fits { ClonesFit L.fits V.is_clone → IfOk result
-            (λ told. IfValue told (λ value. FitsQuery L.fits (Q.equivalent query.now) value)) }
+        ensures told { IfOk result (IsTold place.ticket
+            (Serves L.fits V.is_clone (Q.equivalent query.now))) }
         ensures same { self.new ≡ record self.old {
           core = self.new.core;
           tasks = self.new.tasks;
@@ -182,11 +176,9 @@ impl<K: Eq + Hash + Drop, V: Clone, L: Lifecycle<K, V>, A: Allocator> State<K, V
         ensures next { OnOk result (self.new.next ≡ self.old.next + 1) }
         ensures grows { self.old.next ≤ self.new.next }
         ensures over { is_over ≡ true → IsErr result }
-        ensures refused { IfErr result RefusesAsLoad }
         ensures timely { is_over ≡ false → IfErr result (λ told. is_timeout told ≡ false) }
-        ensures share { IfErr result (λ told. IfGuard told (λ share. share ≡ self.old.ticket)) }
-        ensures fits { ClonesFit L.fits V.is_clone → IfErr result
-            (λ told. IfValue told (λ value. FitsQuery L.fits (Q.equivalent query.now) value)) }
+        ensures told { IfErr result (IsTold self.old.ticket
+            (Serves L.fits V.is_clone (Q.equivalent query.now))) }
         ensures same { self.new ≡ record self.old {
           core = self.new.core;
           tasks = self.new.tasks;
@@ -211,10 +203,8 @@ impl<K: Eq + Hash + Drop, V: Clone, L: Lifecycle<K, V>, A: Allocator> State<K, V
     fn look_once<Q: Equivalent<K>>(&mut self, query: &Q) -> Waited<V>
         ensures looks { LooksOnce V.is_clone (Q.equivalent query.now self.old.key) self.old.core
             self.old.next result self.new.core }
-        ensures refused { RefusesAsLoad result }
-        ensures share { IfGuard result (λ share. share ≡ self.old.ticket) }
-        ensures fits { ClonesFit L.fits V.is_clone
-            → IfValue result (λ value. FitsQuery L.fits (Q.equivalent query.now) value) }
+        ensures told { IsTold self.old.ticket
+            (Serves L.fits V.is_clone (Q.equivalent query.now)) result }
         ensures same { self.new ≡ record self.old {
           core = self.new.core;
           tasks = self.new.tasks;
@@ -237,15 +227,14 @@ impl<K: Eq + Hash + Drop, V: Clone, L: Lifecycle<K, V>, A: Allocator> State<K, V
         answer: Answer<V>,
     ) -> Result<Place, Waited<V>>
         requires gives { is_some place ≡ has_joined answer }
+        requires fits { ClonesFit L.fits V.is_clone
+            → IfSome (shown_by answer) (λ value. L.fits self.now.key value) }
         ensures tells { (n : ℕ) → IfSome place (λ place. place.number ≡ n)
             → TellsNewcomer (Q.equivalent query.now self.now.key) n answer (by_number result) }
         ensures place { IfOk result (λ own. place ≡ Some own) }
-        ensures refused { IfErr result RefusesAsLoad }
         ensures timely { IfErr result (λ told. is_timeout told ≡ false) }
-        ensures share { IfErr result (λ told. IfGuard told (λ share. ⊥)) }
-        ensures fits { IfSome (shown_by answer) (λ value. L.fits self.now.key value)
-            → IfErr result
-            (λ told. IfValue told (λ value. FitsQuery L.fits (Q.equivalent query.now) value)) }
+        ensures told { IfErr result (IsTold self.now.ticket
+            (Serves L.fits V.is_clone (Q.equivalent query.now))) }
     {
         if let Some(place) = place {
             return Ok(place);

@@ -1,10 +1,12 @@
 use Rattle.std.proofs.Common.{◌≡◌, false, rules}
 use Rattle.quick_cache_loading.specs.Core.{is_filled}
-use Rattle.quick_cache_loading.proofs.waiting.EnterLemmas.{Enters-unshown, by_number-unshown}
+use Rattle.quick_cache_loading.proofs.waiting.EnterLemmas.{Enters-unshown, told-unshown}
 use Rattle.quick_cache_loading.proofs.sharing.placeholder.Placeholder.enter_unfilled.Goals as goal
 
 -- a life that is not filled shows no value
-pub returns-clause-unshown : goal.returns-clause-unshown
-returns-clause-unshown g c =
+pub returns-clause-told : goal.returns-clause-told
+returns-clause-told g c =
     let unfilled : is_filled c.deref_mut.result.now.core.life ≡ false = search rules in
-    by_number-unshown _ (Enters-unshown _ _ _ _ _ _ _ unfilled c.enter.ensures.enters)
+    let own : c.args.self.now.ticket ≡ c.deref_mut.result.now.ticket = search rules in
+    rw own (told-unshown _ _ _ (Enters-unshown _ _ _ _ _ _ _ unfilled c.enter.ensures.enters)
+    c.enter.ensures.told)

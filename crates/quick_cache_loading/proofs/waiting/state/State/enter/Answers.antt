@@ -1,4 +1,4 @@
-use Rattle.std.proofs.Common.{◌≡◌, ◌==◌, ◌∙◌, ap, true, false, rules}
+use Rattle.std.proofs.Common.{◌≡◌, ◌==◌, true, false, rules}
 use Rattle.quick_cache_loading.specs.LoadingLaws.{given_by}
 use Rattle.quick_cache_loading.specs.Entering.{Enters}
 use Rattle.quick_cache_loading.proofs.waiting.EnterLemmas.{began, went_on, came}
@@ -16,18 +16,17 @@ pub returns-then-is_over-clause-enters : goal.returns-then-is_over-clause-enters
 returns-then-is_over-clause-enters g c =
     let gives : (given_by c.create-share.result.0 == 1) ≡ false = search rules in
     let on = went_on _ _ _ c.args.self.now.core.life c.create-share.ensures.event gives in
-    let same = c.create-share.ensures.same in
+    let key : c.create-share.new.self.key ≡ c.args.self.now.key = search rules in
+    let next : c.create-share.new.self.next ≡ c.args.self.now.next = search rules in
     Enters.looks_once _ _ c.if-is_over.true (rw (on.0, on.1) at c.create-share.ensures.event)
-    (rw (ap (λ s. s.key) same, on.1, ap (λ s. s.next) same) at c.look_once.ensures.looks)
+    (rw (key, on.1, next) at c.look_once.ensures.looks)
 
 pub returns-clause-enters : goal.returns-clause-enters
 returns-clause-enters g c =
     let gives : (given_by c.create-share.result.0 == 1) ≡ false = search rules in
     let on = went_on _ _ _ c.args.self.now.core.life c.create-share.ensures.event gives in
-    let same = c.create-share.ensures.same in
-    let next : c.create-share.new.self.next ≡ c.args.self.now.next = ap (λ s. s.next) same in
-    let key : c.join-answer.new.self.key ≡ c.args.self.now.key =
-    ap (λ s. s.key) c.join-answer.ensures.same ∙ ap (λ s. s.key) same in
+    let next : c.create-share.new.self.next ≡ c.args.self.now.next = search rules in
+    let key : c.join-answer.new.self.key ≡ c.args.self.now.key = search rules in
     let tells = c.told_newcomer.ensures.tells c.create-share.new.self.next (search rules) in
     came _ _ _ _ _ c.join-answer.result.0 _ c.create-share.new.self.core
     c.join-answer.new.self.core c.if-is_over.false
@@ -39,7 +38,6 @@ pub returns-then-self-clause-enters : goal.returns-then-self-clause-enters
 returns-then-self-clause-enters g c =
     let gives : (given_by c.create-share.result.0 == 1) ≡ false = search rules in
     let on = went_on _ _ _ c.args.self.now.core.life c.create-share.ensures.event gives in
-    let next : c.self.inside.next ≡ c.args.self.now.next =
-    ap (λ s. s.next) c.self.view_is ∙ ap (λ s. s.next) c.create-share.ensures.same in
+    let next : c.self.inside.next ≡ c.args.self.now.next = search rules in
     rw on.1 (Enters.all_spent (rw next at c.if-self.true) c.if-is_over.false
     (rw (on.0, on.1) at c.create-share.ensures.event))
