@@ -5,7 +5,7 @@ use Rattle.futures.specs.Task.{Covers, Keeps}
 use Rattle.futures.specs.declared.task.Poll.{Poll}
 use Rattle.futures.specs.declared.task.Poll.TheVariants as poll
 use Rattle.futures.specs.declared.task.context.Context.{Context}
-use Rattle.quick_cache_loading.specs.Fitting.{Serves}
+use Rattle.quick_cache_loading.specs.Fitting.{FitsIfClonesDo}
 use Rattle.quick_cache_model.specs.declared.refusal.Refusal.{Refusal}
 use Rattle.quick_cache_guard.specs.Answers.{IfGiven}
 use Rattle.quick_cache_guard.specs.declared.stage.Stage.{Stage}
@@ -60,4 +60,4 @@ pub record Registers {O : Type 0} (HasPlace : Type 0) (needs : ℕ → Type 0) (
 abbrev pub GivesFor : {K V : Type 0} (fits : K → V → Type 0) (is_clone : V → V → Type 0)
     (stands_for : K → Bool) (becomes : K → Type 0) → Result (Result V K) Refusal → Type 0
 GivesFor fits is_clone stands_for becomes =
-    IfGiven (Serves fits is_clone stands_for) becomes
+    IfGiven (FitsIfClonesDo fits is_clone stands_for) becomes

@@ -2,7 +2,7 @@
 ghost use Rattle.std.specs.Prelude.{◌≡◌, ⊤, true, false, IfOk, IfErr, IfSome, IsErr};
 ghost use Rattle.std.specs.Arc.{arc_value};
 ghost use Rattle.quick_cache_loading.specs.Waiters.{IsTold};
-ghost use Rattle.quick_cache_loading.specs.Fitting.{Serves};
+ghost use Rattle.quick_cache_loading.specs.Fitting.{FitsIfClonesDo};
 ghost use Rattle.quick_cache_guard.specs.Answers.{IsAnswered, answer_of, is_timeout, output_of};
 ghost use Rattle.quick_cache_loading.specs.Turns.{NoMoreLeft, none_left};
 
@@ -86,7 +86,7 @@ pub fn come<
         → Q.equivalent query.now key ≡ true }
     ensures keyed { IfOk result (λ waiting. Q.to_key_gives query.now waiting.key) }
     ensures answers { IfErr result (λ told. IfSome told (IsAnswered
-        (Serves L.fits V.is_clone (Q.equivalent query.now)) (Q.to_key_gives query.now))) }
+        (FitsIfClonesDo L.fits V.is_clone (Q.equivalent query.now)) (Q.to_key_gives query.now))) }
     ensures over { is_over ≡ true → IsErr result }
     ensures timely { is_over ≡ false
         → IfErr result (λ told. IfSome told (λ answer. is_timeout answer ≡ false)) }
@@ -134,7 +134,7 @@ pub fn come_and_wait<
     requires stands { (key : K) → Q.to_key_gives query.now key
         → Q.equivalent query.now key ≡ true }
     ensures answers { IfSome result (IsAnswered
-        (Serves L.fits V.is_clone (Q.equivalent query.now)) (Q.to_key_gives query.now)) }
+        (FitsIfClonesDo L.fits V.is_clone (Q.equivalent query.now)) (Q.to_key_gives query.now)) }
     ensures timely { IfSome result (λ answer. is_timeout answer ≡ false) }
 {
     match come(rt, shard, query, false) {
@@ -171,7 +171,7 @@ pub fn wait_at<
 ) -> Option<GuardResult<V, PlaceholderGuard<'a, K, V, L, S, R, A>>>
     requires keyed { Q.to_key_gives query.now waiting.key }
     ensures answers { IfSome result (IsAnswered
-        (Serves L.fits V.is_clone (Q.equivalent query.now)) (Q.to_key_gives query.now)) }
+        (FitsIfClonesDo L.fits V.is_clone (Q.equivalent query.now)) (Q.to_key_gives query.now)) }
     // Its time is over only where no turn is left.
     ensures timely { IfSome result (λ answer. is_timeout answer ≡ true
         → none_left turns.new.left ≡ true) }

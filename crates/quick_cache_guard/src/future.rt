@@ -4,7 +4,7 @@ ghost use Rattle.std.specs.Arc.{arc_value};
 ghost use Rattle.futures.specs.Poll.{IfReady};
 ghost use Rattle.quick_cache_guard.specs.Answers.{IsAnswered, IsRefusedAsLoad};
 ghost use Rattle.quick_cache_guard.specs.Futures.{AnswersOnce, GivesFor, IfWaits, IsSource, Registers, has_answered, source_of};
-ghost use Rattle.quick_cache_loading.specs.Fitting.{Serves};
+ghost use Rattle.quick_cache_loading.specs.Fitting.{FitsIfClonesDo};
 
 use crate::coming::{Waiting, answer, come, output};
 use crate::guard::PlaceholderGuard;
@@ -239,7 +239,7 @@ impl<
     ) -> Poll<Result<Result<V, PlaceholderGuard<'a, K, V, L, S, R, A>>, Refusal>>
         requires taken { self.old.is_finished ≡ true }
         requires answers { IfSome told (IsAnswered
-            (Serves L.fits V.is_clone (Q.equivalent self.old.query))
+            (FitsIfClonesDo L.fits V.is_clone (Q.equivalent self.old.query))
             (Q.to_key_gives self.old.query)) }
         ensures gives { IfReady result (GivesFor L.fits V.is_clone (Q.equivalent self.old.query)
             (Q.to_key_gives self.old.query)) }

@@ -19,5 +19,5 @@ module _ {K V : Type 0} (fits : K → V → Type 0) where
     pub fits_key : fits key value
 
   -- where clones fit as their values do, the value fits a key that the query stands for
-  abbrev pub Serves : (V → V → Type 0) → (stands_for : K → Bool) → V → Type 0
-  Serves is_clone stands_for value = ClonesFit is_clone → FitsQuery stands_for value
+  abbrev pub FitsIfClonesDo : (V → V → Type 0) → (stands_for : K → Bool) → V → Type 0
+  FitsIfClonesDo is_clone stands_for value = ClonesFit is_clone → FitsQuery stands_for value

@@ -4,7 +4,7 @@ use Rattle.std.specs.List.{filter}
 use Rattle.futures.specs.Task.{Wakes}
 use Rattle.futures.specs.declared.task.context.Context.{Context}
 use Rattle.quick_cache_loading.specs.declared.protocol.events.Answer.{Answer}
-use Rattle.quick_cache_loading.specs.declared.protocol.events.Answer.TheVariants.{Done, HandedTo}
+use Rattle.quick_cache_loading.specs.declared.protocol.events.Answer.TheVariants.{HandedTo}
 use Rattle.quick_cache_loading.specs.declared.waiting.tasks.Slot.{Slot}
 use Rattle.quick_cache_loading.specs.Waiting.{has}
 
@@ -26,11 +26,6 @@ slots_after _ slots = slots
 abbrev pub slots_after_fill : {A B : Type 0} → Result A B → List Slot → List Slot
 slots_after_fill (Ok done) slots = []
 slots_after_fill (Err back) slots = slots
-
--- the same, by the answer to the fill
-abbrev pub slots_after_answer : {V : Type 0} → Answer V → List Slot → List Slot
-slots_after_answer Done slots = []
-slots_after_answer _ slots = slots
 
 -- the numbers of those who have a slot
 abbrev pub numbers_of : List Slot → List ℕ

@@ -8,7 +8,6 @@ use Rattle.quick_cache_loading.specs.declared.protocol.events.Event.{Event}
 use Rattle.quick_cache_loading.specs.declared.protocol.events.Event.TheVariants as event
 use Rattle.quick_cache_loading.specs.Core.{CoreState, Life, numbers_in, waiters_of}
 use Rattle.quick_cache_loading.specs.declared.protocol.events.Answer.{Answer}
-use Rattle.quick_cache_loading.specs.declared.protocol.events.Answer.TheVariants.{Done, NotNow}
 use Rattle.quick_cache_loading.specs.declared.protocol.events.Answer.TheVariants as answer
 use Rattle.quick_cache_loading.specs.declared.waiting.waited.Waited.{Waited}
 use Rattle.quick_cache_loading.specs.declared.waiting.waited.Waited.TheVariants as waited
@@ -31,16 +30,6 @@ pub record HaveSlots {V : Type 0} (slots : List Slot) (next : ℕ) (life : Life 
   pub each : numbers_of slots ≡ waiters_of life
   pub below : All (λ n. n < next) (numbers_in life)
 
--- the answer of the core to a fill
-abbrev pub answer_of_fill : {B V : Type 0} → Result (Unit {0}) B → Answer V
-answer_of_fill (Ok done) = Done
-answer_of_fill (Err back) = NotNow
-
--- the value comes back where no guard was held
-abbrev pub back_after_fill : {V : Type 0} → Answer V → V → Option V
-back_after_fill NotNow value = Some value
-back_after_fill _ value = None
-
 -- the life is given up by this answer, so that its placeholder is to leave the shard
 abbrev pub ends_life : {V : Type 0} → Answer V → Bool
 ends_life answer.GivenUp = true
@@ -60,11 +49,6 @@ waits_on _ = false
 abbrev pub look_event : {V : Type 0} → ℕ → Bool → Event V
 look_event waiter true = event.TimeOut waiter
 look_event waiter false = event.Take waiter
-
--- what is told of a share
-abbrev pub IfGuard : {V : Type 0} → Waited V → (ℕ → Type 0) → Type 0
-IfGuard (waited.Guard share) P = P share
-IfGuard _ P = ⊤
 
 -- it is told that it has the guard
 abbrev pub IsGuard : {V : Type 0} → Option (Waited V) → Type 0

@@ -1,3 +1,2 @@
-mod CopyLemmas
 mod ShownLemmas
 mod SpentLemmas

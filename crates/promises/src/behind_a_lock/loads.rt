@@ -102,9 +102,8 @@ pub fn run_events<V: Clone>(
 pub fn wait_no_more<K: Eq + Drop, V: Clone + Drop, L: Lifecycle<K, V>>(
     state: &mut State<K, V, L>,
     place: Place,
-) -> (Answer<V>, Option<Ended>)
-    requires place { place.ticket ≡ state.old.ticket }
-    ensures { waits place.number state.new.core ≡ false }
+) -> (Option<Answer<V>>, Option<Ended>)
+    ensures { place.ticket ≡ state.old.ticket → waits place.number state.new.core ≡ false }
 {
     state.cancel(place)
 }

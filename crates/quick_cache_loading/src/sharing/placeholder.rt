@@ -2,7 +2,7 @@
 ghost use Rattle.std.specs.Prelude.{◌≡◌, ◌⊎◌, true, false, IfSome, IfOk, IfErr, IsErr, OnErr};
 ghost use Rattle.std.specs.Int.NonZero.{non_zero_u32_get};
 ghost use Rattle.futures.specs.Task.{Covers, Keeps};
-ghost use Rattle.quick_cache_loading.specs.Fitting.{Serves};
+ghost use Rattle.quick_cache_loading.specs.Fitting.{FitsIfClonesDo};
 ghost use Rattle.quick_cache_loading.specs.Waiters.{IsTold, is_timeout};
 ghost use Rattle.quick_cache_loading.specs.Turns.{NoMoreLeft, none_left};
 
@@ -95,7 +95,7 @@ impl<K: Eq + Hash + Drop, V: Clone, L: Lifecycle<K, V>, A: Allocator> Placeholde
         ensures back { IfErr result (λ back. (back.0 ≡ share) × (back.1 ≡ value)) }
     {
         let mut state = self.state.lock(rt);
-        let filled = state.fill_for(key, share, value)?;
+        let filled = state.fill(key, share, value)?;
         self.ready.notify_all();
         Ok(filled)
     }
@@ -113,7 +113,7 @@ impl<K: Eq + Hash + Drop, V: Clone, L: Lifecycle<K, V>, A: Allocator> Placeholde
             ⊎ S.gives_up self.now.ticket locked.old locked.new }
     {
         let mut state = self.state.lock(rt);
-        let (_, ended) = state.abandon_by(share);
+        let (_, ended) = state.abandon(share);
         drop(state);
         self.ready.notify_all();
         if let Some(ended) = ended {
@@ -134,7 +134,7 @@ impl<K: Eq + Hash + Drop, V: Clone, L: Lifecycle<K, V>, A: Allocator> Placeholde
             ⊎ S.gives_up self.now.ticket locked.old locked.new }
     {
         let mut state = self.state.lock(rt);
-        let (_, ended) = state.withdraw(place);
+        let (_, ended) = state.cancel(place);
         drop(state);
         self.ready.notify_all();
         if let Some(ended) = ended {
@@ -161,7 +161,7 @@ impl<K: Eq + Hash + Drop, V: Clone, L: Lifecycle<K, V>, A: Allocator> Placeholde
         ensures over { is_over ≡ true → IsErr result }
         ensures timely { is_over ≡ false → IfErr result (λ told. is_timeout told ≡ false) }
         ensures told { IfErr result (IsTold self.now.ticket
-            (Serves L.fits V.is_clone (Q.equivalent query.now))) }
+            (FitsIfClonesDo L.fits V.is_clone (Q.equivalent query.now))) }
     {
         let mut state = self.state.lock(rt);
         if state.ticket() != self.ticket {
@@ -208,7 +208,7 @@ impl<K: Eq + Hash + Drop, V: Clone, L: Lifecycle<K, V>, A: Allocator> Placeholde
         ensures place { IfErr result (λ kept. kept ≡ place) }
         ensures timely { IfOk result (λ told. is_timeout told ≡ false) }
         ensures told { IfOk result (IsTold place.ticket
-            (Serves L.fits V.is_clone (Q.equivalent query.now))) }
+            (FitsIfClonesDo L.fits V.is_clone (Q.equivalent query.now))) }
         ensures registered { OnErr result (Covers cx.new (λ s. s ≡ self.now.source.id)) }
         ensures kept { Keeps cx.old cx.new }
     {
@@ -220,7 +220,7 @@ impl<K: Eq + Hash + Drop, V: Clone, L: Lifecycle<K, V>, A: Allocator> Placeholde
     pub fn wait<Q: Equivalent<K>, R: Wait>(&self, rt: &R, place: Place, query: &Q) -> Waited<V>
         ensures timely { is_timeout result ≡ false }
         ensures told { IsTold place.ticket
-            (Serves L.fits V.is_clone (Q.equivalent query.now)) result }
+            (FitsIfClonesDo L.fits V.is_clone (Q.equivalent query.now)) result }
     {
         let mut place = place;
         for _ in rt.forever() {
@@ -246,7 +246,7 @@ impl<K: Eq + Hash + Drop, V: Clone, L: Lifecycle<K, V>, A: Allocator> Placeholde
         ensures timely { is_timeout result ≡ true → none_left turns.new.left ≡ true }
         ensures counts { NoMoreLeft turns.old.left turns.new.left }
         ensures told { IsTold place.ticket
-            (Serves L.fits V.is_clone (Q.equivalent query.now)) result }
+            (FitsIfClonesDo L.fits V.is_clone (Q.equivalent query.now)) result }
     {
         if !turns.is_counted() {
             return self.wait(rt, place, query);

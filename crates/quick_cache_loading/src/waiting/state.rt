@@ -1,5 +1,5 @@
 //! The state of a placeholder, as its lock keeps it.
-ghost use Rattle.std.specs.Prelude.{◌≡◌, ◌≢◌, ◌==◌, true, false, MatchOption, MatchResult, not, length, Some, None, [], IfSome, is_some};
+ghost use Rattle.std.specs.Prelude.{◌≡◌, ◌≢◌, ◌==◌, true, false, MatchOption, MatchResult, not, length, Some, None, [], IfSome, IfNone, is_some};
 ghost use Rattle.quick_cache_loading.specs.Core.{new_core, is_filled, is_sound, waiters_of, waits};
 ghost use Rattle.quick_cache_loading.specs.LoadingStep.{LoadingStep};
 ghost use Rattle.quick_cache_loading.specs.LoadingLaws.{ShowsNothing};
@@ -133,29 +133,6 @@ impl<K: Eq + Drop, V: Drop, L: Lifecycle<K, V>, A: Allocator> State<K, V, L, A> 
         self.core.is_held();
     }
 
-    /// Gives the guard of a share up, as `abandon` does. A share of another placeholder ends, and
-    /// there is no answer.
-    pub fn abandon_by(&mut self, share: Share) -> (Option<Answer<V>>, Option<Ended>)
-        ensures event { MatchOption result.0
-            ((share ≢ self.old.ticket) × (self.new ≡ self.old) × (result.1 ≡ None))
-            (λ answer. (share ≡ self.old.ticket)
-            × LoadingStep ShowsNothing self.old.core Event.Abandon answer self.new.core
-            × (is_some result.1 ≡ ends_life answer)
-            × (self.new.tasks ≡ slots_after answer self.old.tasks)) }
-        ensures ended { IfSome result.1 (λ ended. ended.ticket ≡ share) }
-        ensures same { self.new ≡ record self.old {
-          core = self.new.core;
-          tasks = self.new.tasks;
-        } }
-    {
-        if share.ticket() != self.ticket {
-            share.end();
-            return (None, None);
-        }
-        let (answer, ended) = self.abandon(share);
-        (Some(answer), ended)
-    }
-
     /// Hands the guard of a share on where anyone waits. Else the share comes back. A share of
     /// another placeholder ends.
     pub fn hand_on(&mut self, share: Share) -> Result<Option<Answer<V>>, Share>
@@ -174,7 +151,7 @@ impl<K: Eq + Drop, V: Drop, L: Lifecycle<K, V>, A: Allocator> State<K, V, L, A> 
         if !self.has_waiters() {
             return Err(share);
         }
-        let (answer, ended) = self.abandon_by(share);
+        let (answer, ended) = self.abandon(share);
         match ended {
             None => Ok(answer),
             Some(_ended) => unreachable!(),
@@ -195,20 +172,28 @@ impl<K: Eq + Drop, V: Drop, L: Lifecycle<K, V>, A: Allocator> State<K, V, L, A> 
         self.core.has_waiters()
     }
 
-    /// Gives the guard up, which takes its share back. Where it is not held, the share ends.
-    pub fn abandon(&mut self, share: Share) -> (Answer<V>, Option<Ended>)
-        requires share { share ≡ self.old.ticket }
-        ensures event { LoadingStep ShowsNothing self.old.core Event.Abandon result.0 self.new.core }
+    /// Gives the guard of a share up, which takes the share back. Where no guard is held the share
+    /// ends. So does a share of another placeholder, and there is no answer.
+    pub fn abandon(&mut self, share: Share) -> (Option<Answer<V>>, Option<Ended>)
+        ensures other { IfNone result.0
+            ((share ≢ self.old.ticket) × (self.new ≡ self.old) × (result.1 ≡ None)) }
+        ensures event { IfSome result.0 (λ answer. (share ≡ self.old.ticket)
+            × LoadingStep ShowsNothing self.old.core Event.Abandon answer self.new.core) }
         // What tells the shard comes exactly where the life was given up.
-        ensures ends { is_some result.1 ≡ ends_life result.0 }
-        ensures ended { IfSome result.1 (λ ended. ended.ticket ≡ self.old.ticket) }
+        ensures ends { IfSome result.0 (λ answer. is_some result.1 ≡ ends_life answer) }
+        ensures ended { IfSome result.1 (λ ended. ended.ticket ≡ share) }
         // The task of the one to whom the guard is handed is woken, and no other.
-        ensures woken { self.new.tasks ≡ slots_after result.0 self.old.tasks }
+        ensures woken { IfSome result.0
+            (λ answer. self.new.tasks ≡ slots_after answer self.old.tasks) }
         ensures same { self.new ≡ record self.old {
           core = self.new.core;
           tasks = self.new.tasks;
         } }
     {
+        if share.ticket() != self.ticket {
+            share.end();
+            return (None, None);
+        }
         self.is_sound();
         let answer = abandon(&mut self.core);
         self.tasks.wake_handed(&answer);
@@ -217,49 +202,25 @@ impl<K: Eq + Drop, V: Drop, L: Lifecycle<K, V>, A: Allocator> State<K, V, L, A> 
             Answer::NotNow => share.end(),
             _ => keep(&mut self.share, share),
         }
-        (answer, ended)
+        (Some(answer), ended)
     }
 
     /// Withdraws a waiter, whose task is woken. A guard that was on its way to it is handed on, or
-    /// given up.
-    pub fn cancel(&mut self, place: Place) -> (Answer<V>, Option<Ended>)
-        requires place { place.ticket ≡ self.old.ticket }
-        ensures event { LoadingStep ShowsNothing self.old.core (Event.Cancel place.number) result.0
-            self.new.core }
-        // What tells the shard comes exactly where the life was given up.
-        ensures ends { is_some result.1 ≡ ends_life result.0 }
-        ensures ended { IfSome result.1 (λ ended. ended.ticket ≡ self.old.ticket) }
-        // It waits no more, and its slot is gone.
-        ensures withdrawn { waits place.number self.new.core ≡ false }
-        ensures woken { self.new.tasks
-            ≡ slots_after result.0 (slots_of_others place.number self.old.tasks) }
-        ensures same { self.new ≡ record self.old {
-          core = self.new.core;
-          tasks = self.new.tasks;
-        } }
-    {
-        self.is_sound();
-        let waiter = place.end();
-        self.tasks.wake(waiter);
-        let answer = cancel(&mut self.core, waiter);
-        self.tasks.wake_handed(&answer);
-        let ended = ended_by(self.ticket, &answer);
-        (answer, ended)
-    }
-
-    /// Withdraws a waiter, as `cancel` does. A place at another placeholder ends, and there is no
-    /// answer.
-    pub fn withdraw(&mut self, place: Place) -> (Option<Answer<V>>, Option<Ended>)
-        ensures event { MatchOption result.0
-            ((place.ticket ≢ self.old.ticket) × (self.new ≡ self.old) × (result.1 ≡ None))
-            (λ answer. (place.ticket ≡ self.old.ticket)
+    /// given up. A place at another placeholder ends, and there is no answer.
+    pub fn cancel(&mut self, place: Place) -> (Option<Answer<V>>, Option<Ended>)
+        ensures other { IfNone result.0
+            ((place.ticket ≢ self.old.ticket) × (self.new ≡ self.old) × (result.1 ≡ None)) }
+        ensures event { IfSome result.0 (λ answer. (place.ticket ≡ self.old.ticket)
             × LoadingStep ShowsNothing self.old.core (Event.Cancel place.number) answer
-            self.new.core
-            × (waits place.number self.new.core ≡ false)
-            × (is_some result.1 ≡ ends_life answer)
-            × (self.new.tasks
-            ≡ slots_after answer (slots_of_others place.number self.old.tasks))) }
+            self.new.core) }
+        // What tells the shard comes exactly where the life was given up.
+        ensures ends { IfSome result.0 (λ answer. is_some result.1 ≡ ends_life answer) }
         ensures ended { IfSome result.1 (λ ended. ended.ticket ≡ place.ticket) }
+        // It waits no more, and its slot is gone.
+        ensures withdrawn { place.ticket ≡ self.old.ticket
+            → waits place.number self.new.core ≡ false }
+        ensures woken { IfSome result.0 (λ answer. self.new.tasks
+            ≡ slots_after answer (slots_of_others place.number self.old.tasks)) }
         ensures same { self.new ≡ record self.old {
           core = self.new.core;
           tasks = self.new.tasks;
@@ -269,7 +230,12 @@ impl<K: Eq + Drop, V: Drop, L: Lifecycle<K, V>, A: Allocator> State<K, V, L, A> 
             place.end();
             return (None, None);
         }
-        let (answer, ended) = self.cancel(place);
+        self.is_sound();
+        let waiter = place.end();
+        self.tasks.wake(waiter);
+        let answer = cancel(&mut self.core, waiter);
+        self.tasks.wake_handed(&answer);
+        let ended = ended_by(self.ticket, &answer);
         (Some(answer), ended)
     }
 }

@@ -1,10 +1,10 @@
-use Rattle.quick_cache_loading.specs.Fitting.{Serves}
+use Rattle.quick_cache_loading.specs.Fitting.{FitsIfClonesDo}
 use Rattle.quick_cache_guard.proofs.AnswerLemmas.{answered}
 use Rattle.quick_cache_guard.proofs.coming.come.Goals as goal
 
 -- it answers as it is told
 pub returns-clause-answers : goal.returns-clause-answers
 returns-clause-answers g c = rw c.answer.ensures (answered
-    (Serves g.L.Lifecycle.fits g.V.Clone.is_clone (g.Q.Equivalent.equivalent c.args.query.now))
+    (FitsIfClonesDo g.L.Lifecycle.fits g.V.Clone.is_clone (g.Q.Equivalent.equivalent c.args.query.now))
     (g.Q.ToKey.to_key_gives c.args.query.now) _ c.in-Ok.key c.in-Err-entered.told
     c.in-Ok.ensures.gives c.in-Err-entered.ensures.told)

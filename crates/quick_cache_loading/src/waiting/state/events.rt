@@ -4,8 +4,8 @@ ghost use Rattle.quick_cache_loading.specs.Core.{held_count, waiters_of};
 ghost use Rattle.quick_cache_loading.specs.LoadingStep.{LoadingStep};
 ghost use Rattle.quick_cache_loading.specs.LoadingLaws.{given_by, shown_by};
 ghost use Rattle.quick_cache_loading.specs.Fitting.{ClonesFit};
-ghost use Rattle.quick_cache_loading.specs.Waiters.{answer_of_fill, back_after_fill, has_joined, is_timed_out, waits_on};
-ghost use Rattle.quick_cache_loading.specs.Tasks.{has_slot, slots_after_answer, slots_after_fill, slots_of_others, with_slot};
+ghost use Rattle.quick_cache_loading.specs.Waiters.{has_joined, is_timed_out, waits_on};
+ghost use Rattle.quick_cache_loading.specs.Tasks.{has_slot, slots_after_fill, slots_of_others, with_slot};
 
 use crate::protocol::{Answer, Event, step};
 use crate::waiting::ended::Filled;
@@ -73,57 +73,14 @@ impl<K: Eq + Drop, V: Clone, L: Lifecycle<K, V>, A: Allocator> State<K, V, L, A>
         }
     }
 
-    /// Fills the placeholder with a value that fits its key, and takes the share back. Where no
-    /// guard is held the share ends, and the value comes back.
-    pub fn fill(&mut self, share: Share, value: V) -> (Answer<V>, Option<V>)
-        requires share { share ≡ self.old.ticket }
-        requires fits { L.fits self.old.key value }
-        ensures event { LoadingStep V.is_clone self.old.core (Event.Fill value) result.0
-            self.new.core }
-        ensures back { result.1 ≡ back_after_fill result.0 value }
-        // All tasks are woken by a fill, and by nothing else.
-        ensures woken { self.new.tasks ≡ slots_after_answer result.0 self.old.tasks }
-        ensures same { self.new ≡ record self.old {
-          core = self.new.core;
-          tasks = self.new.tasks;
-        } }
-    {
-        match self.try_fill(share, value) {
-            Ok(()) => (Answer::Done, None),
-            Err((share, value)) => {
-                share.end();
-                (Answer::NotNow, Some(value))
-            }
-        }
-    }
-
-    // The same, but where no guard is held the share and the value come back.
-    fn try_fill(&mut self, share: Share, value: V) -> Result<(), (Share, V)>
-        requires share { share ≡ self.old.ticket }
-        requires fits { L.fits self.old.key value }
-        ensures event { LoadingStep V.is_clone self.old.core (Event.Fill value)
-            (answer_of_fill result) self.new.core }
-        ensures back { IfErr result (λ back. (back.0 ≡ share) × (back.1 ≡ value)) }
-        // All tasks are woken by a fill, and by nothing else.
-        ensures woken { self.new.tasks ≡ slots_after_fill result self.old.tasks }
-        ensures same { self.new ≡ record self.old {
-          core = self.new.core;
-          tasks = self.new.tasks;
-        } }
-    {
-        if !self.core.is_held() {
-            return Err((share, value));
-        }
-        step(&mut self.core, Event::Fill(value));
-        keep(&mut self.share, share);
-        self.tasks.wake_all();
-        Ok(())
-    }
-
-    /// Fills the placeholder as `fill` does, with a value that fits the guard's own copy of the
-    /// key, and gives what tells the shard so, and whether anyone waited. Where the share is of
-    /// another placeholder, or the key is, both come back.
-    pub fn fill_for(&mut self, key: &K, share: Share, value: V) -> Result<Filled, (Share, V)>
+    /// Fills the placeholder with a value that fits the guard's own copy of the key, and takes the
+    /// share back. It gives what tells the shard so, and whether anyone waited.
+    ///
+    /// # Errors
+    ///
+    /// The share and the value, where the share or the key is of another placeholder, or no guard is
+    /// held.
+    pub fn fill(&mut self, key: &K, share: Share, value: V) -> Result<Filled, (Share, V)>
         requires fits { L.fits key.now value }
         ensures event { MatchResult result
             (λ filled. (filled ≡ record {
@@ -132,8 +89,8 @@ impl<K: Eq + Drop, V: Clone, L: Lifecycle<K, V>, A: Allocator> State<K, V, L, A>
             }) × LoadingStep V.is_clone self.old.core (Event.Fill value) Answer.Done self.new.core
             × (share ≡ self.old.ticket))
             (λ back. self.new.core ≡ self.old.core) }
+        // All tasks are woken by a fill, and by nothing else.
         ensures woken { self.new.tasks ≡ slots_after_fill result self.old.tasks }
-        // It comes back where the placeholder was another, or no guard was held, and only there.
         ensures back { IfErr result (λ back. (back.0 ≡ share) × (back.1 ≡ value)) }
         ensures refused { OnErr result ((share ≢ self.old.ticket) ⊎ ((key.now ≢ self.old.key)
             ⊎ (held_count self.old.core ≡ 0))) }
@@ -148,8 +105,13 @@ impl<K: Eq + Drop, V: Clone, L: Lifecycle<K, V>, A: Allocator> State<K, V, L, A>
         if *key != self.key {
             return Err((share, value));
         }
+        if !self.core.is_held() {
+            return Err((share, value));
+        }
         let waited = self.has_waiters();
-        self.try_fill(share, value)?;
+        step(&mut self.core, Event::Fill(value));
+        keep(&mut self.share, share);
+        self.tasks.wake_all();
         Ok(Filled::new(self.ticket, waited))
     }
 

@@ -2,7 +2,7 @@
 ghost use Rattle.std.specs.Prelude.{◌≡◌, ◌≢◌, ◌⊎◌, ◌==◌, ◌+◌, ◌≤◌, ℕ, true, false, Some, IfSome, IfOk, IfErr, IsOk, IsErr, OnOk, OnErr, is_some};
 ghost use Rattle.futures.specs.Task.{Covers, Keeps};
 ghost use Rattle.quick_cache_loading.specs.LoadingLaws.{given_by, shown_by};
-ghost use Rattle.quick_cache_loading.specs.Fitting.{ClonesFit, Serves};
+ghost use Rattle.quick_cache_loading.specs.Fitting.{ClonesFit, FitsIfClonesDo};
 ghost use Rattle.quick_cache_loading.specs.Tasks.{HasWaker, has_slot, slots_after_look, slots_of_others};
 ghost use Rattle.quick_cache_loading.specs.Waiters.{IsTold, Looks, Tells, by_number, has_joined, is_timed_out, is_timeout, look_event, told_or_none, waits_on};
 ghost use Rattle.quick_cache_loading.specs.Entering.{Enters, LooksOnce, TellsNewcomer};
@@ -43,7 +43,7 @@ impl<K: Eq + Hash + Drop, V: Clone, L: Lifecycle<K, V>, A: Allocator> State<K, V
         ensures over { is_over ≡ true → IsOk result }
         ensures timely { is_over ≡ false → IfOk result (λ told. is_timeout told ≡ false) }
         ensures told { IfOk result (IsTold place.ticket
-            (Serves L.fits V.is_clone (Q.equivalent query.now))) }
+            (FitsIfClonesDo L.fits V.is_clone (Q.equivalent query.now))) }
         // Who goes on waiting has its slot, and who looks for the last time has none.
         ensures waits { OnErr result (has_slot place.number self.new.tasks ≡ true) }
         ensures woken { place.ticket ≡ self.old.ticket
@@ -72,7 +72,7 @@ impl<K: Eq + Hash + Drop, V: Clone, L: Lifecycle<K, V>, A: Allocator> State<K, V
         ensures looks { Looks V.is_clone (Q.equivalent query.now self.old.key) self.old.core (Event.TimeOut place.number) (Some result)
             self.new.core }
         ensures told { IsTold self.old.ticket
-            (Serves L.fits V.is_clone (Q.equivalent query.now)) result }
+            (FitsIfClonesDo L.fits V.is_clone (Q.equivalent query.now)) result }
         ensures woken { self.new.tasks ≡ slots_of_others place.number self.old.tasks }
         ensures same { self.new ≡ record self.old {
           core = self.new.core;
@@ -99,7 +99,7 @@ impl<K: Eq + Hash + Drop, V: Clone, L: Lifecycle<K, V>, A: Allocator> State<K, V
         ensures tells { Tells (Q.equivalent query.now self.now.key) answer (Some result) }
         ensures timely { is_timed_out answer ≡ false → is_timeout result ≡ false }
         ensures told { IsTold self.now.ticket
-            (Serves L.fits V.is_clone (Q.equivalent query.now)) result }
+            (FitsIfClonesDo L.fits V.is_clone (Q.equivalent query.now)) result }
     {
         if let Some(share) = share {
             return Waited::Guard(share);
@@ -143,7 +143,7 @@ impl<K: Eq + Hash + Drop, V: Clone, L: Lifecycle<K, V>, A: Allocator> State<K, V
         ensures place { IfErr result (λ kept. kept ≡ place) }
         ensures timely { IfOk result (λ told. is_timeout told ≡ false) }
         ensures told { IfOk result (IsTold place.ticket
-            (Serves L.fits V.is_clone (Q.equivalent query.now))) }
+            (FitsIfClonesDo L.fits V.is_clone (Q.equivalent query.now))) }
         ensures same { self.new ≡ record self.old {
           core = self.new.core;
           tasks = self.new.tasks;
@@ -178,7 +178,7 @@ impl<K: Eq + Hash + Drop, V: Clone, L: Lifecycle<K, V>, A: Allocator> State<K, V
         ensures over { is_over ≡ true → IsErr result }
         ensures timely { is_over ≡ false → IfErr result (λ told. is_timeout told ≡ false) }
         ensures told { IfErr result (IsTold self.old.ticket
-            (Serves L.fits V.is_clone (Q.equivalent query.now))) }
+            (FitsIfClonesDo L.fits V.is_clone (Q.equivalent query.now))) }
         ensures same { self.new ≡ record self.old {
           core = self.new.core;
           tasks = self.new.tasks;
@@ -204,7 +204,7 @@ impl<K: Eq + Hash + Drop, V: Clone, L: Lifecycle<K, V>, A: Allocator> State<K, V
         ensures looks { LooksOnce V.is_clone (Q.equivalent query.now self.old.key) self.old.core
             self.old.next result self.new.core }
         ensures told { IsTold self.old.ticket
-            (Serves L.fits V.is_clone (Q.equivalent query.now)) result }
+            (FitsIfClonesDo L.fits V.is_clone (Q.equivalent query.now)) result }
         ensures same { self.new ≡ record self.old {
           core = self.new.core;
           tasks = self.new.tasks;
@@ -234,7 +234,7 @@ impl<K: Eq + Hash + Drop, V: Clone, L: Lifecycle<K, V>, A: Allocator> State<K, V
         ensures place { IfOk result (λ own. place ≡ Some own) }
         ensures timely { IfErr result (λ told. is_timeout told ≡ false) }
         ensures told { IfErr result (IsTold self.now.ticket
-            (Serves L.fits V.is_clone (Q.equivalent query.now))) }
+            (FitsIfClonesDo L.fits V.is_clone (Q.equivalent query.now))) }
     {
         if let Some(place) = place {
             return Ok(place);

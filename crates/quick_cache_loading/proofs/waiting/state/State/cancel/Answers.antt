@@ -9,7 +9,7 @@ use Rattle.quick_cache_loading.proofs.waiting.state.State.cancel.Goals as goal
 pub returns-clause-withdrawn : goal.returns-clause-withdrawn
 returns-clause-withdrawn g c =
     let sound : is_sound c.self.inside.core.life ≡ true = search rules in
-    rw (← c.end-waiter.ensures) (withdrawn c.self.inside.core.life _ c.self.inside.core
+    λ here. rw (← c.end-waiter.ensures) (withdrawn c.self.inside.core.life _ c.self.inside.core
     c.cancel-answer.result _ refl sound c.cancel-answer.ensures.step)
 
 -- it has a slot no more, nor has one to whom its guard is handed

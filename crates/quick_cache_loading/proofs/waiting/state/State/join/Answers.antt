@@ -1,6 +1,7 @@
-use Rattle.std.proofs.Common.{◌≡◌, ◌∙◌, ap, rules}
+use Rattle.std.proofs.Common.{◌≡◌, ◌∙◌, ap, sym, rules}
 use Rattle.quick_cache_loading.specs.Tasks.{with_slot}
 use Rattle.quick_cache_loading.proofs.waiting.SlotLemmas.{joined, not-joined, slot-back}
+use Rattle.quick_cache_loading.proofs.waiting.TaskLemmas.{joined-other}
 use Rattle.quick_cache_loading.proofs.waiting.state.State.join.Goals as goal
 
 -- who joins has the last slot, by a number that nobody had
@@ -34,7 +35,7 @@ returns-in_default g c =
     c.wake.new.self (search rules) c.wake.ensures c.self.invariant.3 in
     record {
       event = search rules;
-      gives = search rules;
+      gives = sym (joined-other c.step-answer.result c.in_default.not-Joined);
       place = tt;
       joined = search rules;
       alone =

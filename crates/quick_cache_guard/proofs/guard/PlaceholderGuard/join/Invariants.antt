@@ -1,5 +1,5 @@
 use Rattle.quick_cache_loading.specs.Turns.{NoMoreLeft}
-use Rattle.quick_cache_guard.proofs.guard.PlaceholderGuard.join_within.Given as goal
+use Rattle.quick_cache_guard.proofs.guard.PlaceholderGuard.join.Given as goal
 
 -- the turns of all waits are counted down
 abbrev pub invariant-loop : goal.invariant-loop
