@@ -4,7 +4,7 @@ ghost use Rattle.std.specs.Arc.{arc_value};
 ghost use Rattle.quick_cache_loading.specs.Waiters.{IsTold};
 ghost use Rattle.quick_cache_loading.specs.Fitting.{FitsIfClonesDo};
 ghost use Rattle.quick_cache_guard.specs.Answers.{IsAnswered, answer_of, is_timeout, output_of};
-ghost use Rattle.quick_cache_loading.specs.Turns.{NoMoreLeft, none_left};
+ghost use Rattle.quick_cache_loading.specs.Turns.{IsLater, none_left};
 
 use crate::guard::PlaceholderGuard;
 use crate::results::GuardResult;
@@ -174,8 +174,8 @@ pub fn wait_at<
         (FitsIfClonesDo L.fits V.is_clone (Q.equivalent query.now)) (Q.to_key_gives query.now)) }
     // Its time is over only where no turn is left.
     ensures timely { IfSome result (λ answer. is_timeout answer ≡ true
-        → none_left turns.new.left ≡ true) }
-    ensures counts { NoMoreLeft turns.old.left turns.new.left }
+        → none_left turns.new.limit turns.new.ended ≡ true) }
+    ensures counts { IsLater turns.old turns.new }
 {
     let Waiting {
         placeholder,

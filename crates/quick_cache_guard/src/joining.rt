@@ -1,7 +1,7 @@
 //! A value, or the guard of a key that is absent, for a thread that waits where another loads it.
 ghost use Rattle.std.specs.Prelude.{◌≡◌, true};
 ghost use Rattle.quick_cache_loading.specs.Fitting.{FitsIfClonesDo};
-ghost use Rattle.quick_cache_loading.specs.Turns.{NoMoreLeft, none_left};
+ghost use Rattle.quick_cache_loading.specs.Turns.{IsLater, none_left};
 ghost use Rattle.quick_cache_guard.specs.Answers.{IfGiven, IsAnswered, IsRefusedAsLoad, is_timeout};
 
 use crate::coming::{come, come_and_wait, output, wait_at};
@@ -41,8 +41,8 @@ impl<
         ensures answers { IsAnswered (FitsIfClonesDo L.fits V.is_clone (Q.equivalent query.now))
             (Q.to_key_gives query.now) result }
         // Its time is over only where no turn is left.
-        ensures timely { is_timeout result ≡ true → none_left turns.new.left ≡ true }
-        ensures counts { NoMoreLeft turns.old.left turns.new.left }
+        ensures timely { is_timeout result ≡ true → none_left turns.new.limit turns.new.ended ≡ true }
+        ensures counts { IsLater turns.old turns.new }
     {
         for _ in rt.forever() {
             match come(rt, shard, query, turns.is_over()) {

@@ -1,18 +1,12 @@
 -- Time limits, in turns of a millisecond.
-use Rattle.std.specs.Prelude.{ℕ, ◌-◌, ◌==◌, ◌≤◌, ⊤, Bool, false, Option, Some, None}
+use Rattle.std.specs.Prelude.{ℕ, ◌≤◌, ◌≡◌, nat_lt, not, Bool, false, Option, Some, None}
+use Rattle.quick_cache_loading.specs.declared.sharing.turns.Turns.{Turns}
 
--- they are counted, and none is left
-abbrev pub none_left : Option ℕ → Bool
-none_left (Some left) = left == 0
-none_left None = false
+-- they are counted, and as many as the limit has have ended
+abbrev pub none_left : (limit : Option ℕ) (ended : ℕ) → Bool
+none_left (Some limit) ended = not (nat_lt ended limit)
+none_left None ended = false
 
--- what is left after one more, where they are counted
-abbrev pub one_less : Option ℕ → Option ℕ
-one_less (Some left) = Some (left - 1)
-one_less None = None
-
--- no more are left than before; where they are not counted, they are not counted still
-abbrev pub NoMoreLeft : (old new : Option ℕ) → Type 0
-NoMoreLeft (Some old) (Some new) = new ≤ old
-NoMoreLeft None None = ⊤
-NoMoreLeft _ _ = ⊥
+-- the limit is the same, and no fewer have ended
+abbrev pub IsLater : (old new : Turns) → Type 0
+IsLater old new = (new.limit ≡ old.limit) × (old.ended ≤ new.ended)

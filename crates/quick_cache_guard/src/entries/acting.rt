@@ -1,7 +1,7 @@
 //! The entry call.
 ghost use Rattle.std.specs.Prelude.{◌≡◌, ⊤, true, false, IfOk, IfSome, IfNone, IsSomeAnd};
 ghost use Rattle.quick_cache_loading.specs.Fitting.{FitsQuery};
-ghost use Rattle.quick_cache_loading.specs.Turns.{NoMoreLeft, none_left};
+ghost use Rattle.quick_cache_loading.specs.Turns.{IsLater, none_left};
 ghost use Rattle.quick_cache_guard.specs.Acts.{LeavesFit, LeavesHeld, LeavesOnce, MayAct, MayTell};
 ghost use Rattle.quick_cache_guard.specs.Entries.{AnswersAsChosen, IfAnswered, IfGivenBack, IfGuarded, IfRetained, IfUncalled, IsRefusedAsLoad, is_late};
 
@@ -59,8 +59,8 @@ pub fn entry<
         (Q.equivalent query.now) ⊤ result }
     ensures refused { IsRefusedAsLoad result }
     // All its waits share the turns: its time is over only where none of them is left.
-    ensures timely { is_late result ≡ true → none_left turns.new.left ≡ true }
-    ensures counts { NoMoreLeft turns.old.left turns.new.left }
+    ensures timely { is_late result ≡ true → none_left turns.new.limit turns.new.ended ≡ true }
+    ensures counts { IsLater turns.old turns.new }
 {
     let mut held = Some(callback);
     for _ in rt.forever() {

@@ -12,7 +12,7 @@ use Rattle.quick_cache_loading.proofs.waiting.WithdrawalLemmas.{handed-absent}
 use Rattle.quick_cache_model.specs.declared.refusal.Refusal.TheVariants.{Memory}
 use Rattle.quick_cache_loading.specs.Waiting.{has, without_waiter, is_distinct}
 use Rattle.quick_cache_loading.specs.Core.{Life, Loading, Filled, GivenUp, CoreState, core_state, is_handed_to, is_sound, numbers_in, waiters_of}
-use Rattle.quick_cache_loading.specs.LoadingStep.{Abandons, Adds, Cancels, Creates, Fills, Joins, NotNowOf, PassesOn, Receives, Remains, Shows, Takes, TimesOut, Withdraws}
+use Rattle.quick_cache_loading.specs.LoadingStep.{Abandons, Adds, Cancels, Joins, NotNowOf, PassesOn, Receives, Remains, Shows, Takes, TimesOut, Withdraws}
 use Rattle.quick_cache_loading.specs.Tasks.{has_slot, numbers_of, slots_after, slots_of_others, with_slot}
 use Rattle.quick_cache_loading.specs.Waiters.{HaveSlots}
 use Rattle.quick_cache_loading.specs.declared.waiting.tasks.Slot.{Slot}
@@ -100,9 +100,6 @@ module _ {V : Type 0} where
   no-join : (a : Answer V) → a ≡ answer.Joined → a ≡ answer.NotNow → ⊥
   no-join a did e = absurd (cc)
 
-  no-fill : (a : Answer V) → a ≡ answer.Done → a ≡ answer.NotNow → ⊥
-  no-fill a did e = absurd (cc)
-
   -- one that is shown a value does not join
   shows-no_join : (shows : V → V → Type 0) (v : V) (old : CoreState V) (a : Answer V)
       (new : CoreState V) → Shows shows v old a new → a ≡ answer.Joined → ⊥
@@ -151,12 +148,6 @@ module _ {V : Type 0} (next : ℕ) where
       ∙ others-last next slots (fresh slots life have)
 
   module _ (slots : List Slot) (old : CoreState V) (a : Answer V) (new : CoreState V) where
-    pub created : (life : Life V) → old.life ≡ life → Creates life old a new
-        → HaveSlots slots next life → HaveSlots slots next new.life
-    created (Loading h ws) is step have = rw (step.1, is) have
-    created (Filled v) is step have = rw (step.1, is) have
-    created GivenUp is step have = rw step.1 (record { each = have.each; below = have.below })
-
     -- who joins has the last slot
     pub joined : (shows : V → V → Type 0) (life : Life V) → a ≡ answer.Joined
         → Joins shows life next old a new → HaveSlots slots next life
@@ -205,15 +196,6 @@ module _ {V : Type 0} (next : ℕ) where
       go true shown = shown.1
       go false later = later.1
     not-joined shows GivenUp other step = step.1
-
-    -- after a fill nobody waits
-    pub filled : (v : V) (life : Life V) → a ≡ answer.Done → Fills life v old a new
-        → HaveSlots [] next new.life
-    filled v (Loading Held ws) did step =
-        rw step.1 (record { each = refl; below = All-nil (λ n. n < next) })
-    filled v (Loading (HandedTo m) ws) did step = absurd (no-fill a did step.0)
-    filled v (Filled w) did step = absurd (no-fill a did step.0)
-    filled v GivenUp did step = absurd (no-fill a did step.0)
 
     -- who takes what came changes no slot
     pub taken : (shows : V → V → Type 0) (n : ℕ) (life : Life V) → old.life ≡ life

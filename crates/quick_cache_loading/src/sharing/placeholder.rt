@@ -4,11 +4,11 @@ ghost use Rattle.std.specs.Int.NonZero.{non_zero_u32_get};
 ghost use Rattle.futures.specs.Task.{Covers, Keeps};
 ghost use Rattle.quick_cache_loading.specs.Fitting.{FitsIfClonesDo};
 ghost use Rattle.quick_cache_loading.specs.Waiters.{IsTold, is_timeout};
-ghost use Rattle.quick_cache_loading.specs.Turns.{NoMoreLeft, none_left};
+ghost use Rattle.quick_cache_loading.specs.Turns.{IsLater, none_left};
 
 use crate::sharing::shard::LoadingShard;
 use crate::sharing::shared::SharedPlaceholder;
-use crate::sharing::turns::{Turns, turn};
+use crate::sharing::turns::Turns;
 use crate::waiting::{Filled, Place, Share, State, Waited};
 use futures::task::{Context, Source};
 use quick_cache_model::{Equivalent, Lifecycle, Token};
@@ -243,8 +243,8 @@ impl<K: Eq + Hash + Drop, V: Clone, L: Lifecycle<K, V>, A: Allocator> Placeholde
         turns: &mut Turns,
     ) -> Waited<V>
         // Its time is over only where no turn is left.
-        ensures timely { is_timeout result ≡ true → none_left turns.new.left ≡ true }
-        ensures counts { NoMoreLeft turns.old.left turns.new.left }
+        ensures timely { is_timeout result ≡ true → none_left turns.new.limit turns.new.ended ≡ true }
+        ensures counts { IsLater turns.old turns.new }
         ensures told { IsTold place.ticket
             (FitsIfClonesDo L.fits V.is_clone (Q.equivalent query.now)) result }
     {
@@ -258,11 +258,7 @@ impl<K: Eq + Hash + Drop, V: Clone, L: Lifecycle<K, V>, A: Allocator> Placeholde
                 Ok(told) => return told,
                 Err(kept) => place = kept,
             }
-            let (state, waited) = self.ready.wait_timeout(rt, state, turn());
-            drop(state);
-            if waited.timed_out() {
-                turns.count();
-            }
+            turns.wait(rt, &self.ready, state);
         }
         unreachable!()
     }
