@@ -14,7 +14,7 @@ pub struct Ended {
 
 impl Ended {
     /// The life of the placeholder of this ticket was given up.
-    pub(crate) fn new(ticket: u64) -> Self
+    pub(super) fn new(ticket: u64) -> Self
         ensures { result.ticket ≡ ticket }
     {
         Ended { ticket }
@@ -45,7 +45,7 @@ pub struct Filled {
 
 impl Filled {
     /// The placeholder of this ticket was filled.
-    pub(crate) fn new(ticket: u64, waited: bool) -> Self
+    pub(super) fn new(ticket: u64, waited: bool) -> Self
         ensures { result ≡ record { ticket = ticket; waited = waited } }
     {
         Filled { ticket, waited }

@@ -10,7 +10,7 @@ pub struct Place {
 
 impl Place {
     /// The place of this number.
-    pub(crate) fn new(ticket: u64, number: u64) -> Self
+    pub(super) fn new(ticket: u64, number: u64) -> Self
         ensures { result ≡ record { ticket = ticket; number = number } }
     {
         Place { ticket, number }
@@ -24,7 +24,7 @@ impl Place {
     }
 
     /// Who has it waits no more. The answer is its number.
-    pub(crate) fn end(self) -> u64
+    pub(super) fn end(self) -> u64
         ensures { result ≡ self.number }
     {
         let Place { ticket: _, number } = self;

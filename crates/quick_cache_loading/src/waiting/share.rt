@@ -19,7 +19,7 @@ impl Model for Share {
 
 impl Share {
     /// The one share of the placeholder of this ticket.
-    pub(crate) fn new(ticket: u64) -> Self
+    pub(super) fn new(ticket: u64) -> Self
         ensures { result ≡ ticket }
     {
         Share { ticket }
@@ -34,7 +34,7 @@ impl Share {
 
     /// Lets go of a share that is of no use: its placeholder is not the one that it is brought to,
     /// or no guard of that is held.
-    pub(crate) fn end(self) {
+    pub(super) fn end(self) {
         let Share { ticket: _ } = self;
     }
 }

@@ -33,7 +33,7 @@ impl<K: Eq + Drop, V: Clone, L: Lifecycle<K, V>, A: Allocator> State<K, V, L, A>
 
     /// One comes for the value by the next number, and waits for it where it is loading. It gets its
     /// place, and a slot for the waker of a task, exactly where it joined. It may allocate.
-    pub(crate) fn join(&mut self) -> (Answer<V>, Option<Place>)
+    pub(super) fn join(&mut self) -> (Answer<V>, Option<Place>)
         requires unspent { self.old.next < u64.MAX }
         ensures event { LoadingStep V.is_clone self.old.core (Event.Join self.old.next) result.0
             self.new.core
