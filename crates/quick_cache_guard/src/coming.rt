@@ -49,7 +49,7 @@ pub fn answer<
 {
     match told {
         Waited::Value(value) => Some(GuardResult::Value(value)),
-        Waited::Guard(share) => Some(GuardResult::Guard(PlaceholderGuard::start_loading(
+        Waited::Guard(share) => Some(GuardResult::Guard(PlaceholderGuard::by_share(
             rt,
             shard,
             placeholder,

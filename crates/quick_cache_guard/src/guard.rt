@@ -1,5 +1,5 @@
 //! The right to load a key.
-ghost use Rattle.std.specs.Prelude.{◌≡◌, IfErr, OnOk, OnErr, Some, codes};
+ghost use Rattle.std.specs.Prelude.{◌≡◌, IfErr, OnOk, OnErr, Some, codes, is_some, true};
 ghost use Rattle.std.specs.Arc.{arc_value};
 ghost use Rattle.quick_cache_loading.specs.Fitting.{ClonesFit};
 ghost use Rattle.quick_cache_guard.specs.Fills.{FilledAlone, FilledBy, IfBack, back_of};
@@ -109,6 +109,24 @@ impl<
 > PlaceholderGuard<'a, K, V, L, S, R, A> {
     /// The guard of a placeholder, by its share. It takes no lock.
     pub fn start_loading(
+        rt: &'a R,
+        shard: &'a RwLock<S>,
+        placeholder: SharedPlaceholder<K, V, L, A>,
+        key: K,
+        share: Share,
+    ) -> Self
+        requires owned { is_some placeholder.placeholder ≡ true }
+        requires share { share ≡ placeholder.ticket }
+        ensures key { result ≡ key }
+    {
+        match placeholder.into_placeholder() {
+            Some(placeholder) => Self::by_share(rt, shard, placeholder, key, share),
+            None => unreachable!(),
+        }
+    }
+
+    /// The same, of the placeholder itself.
+    pub(crate) fn by_share(
         rt: &'a R,
         shard: &'a RwLock<S>,
         placeholder: Arc<Placeholder<K, V, L, A>, A>,

@@ -1,5 +1,5 @@
 //! A value, or the guard of a key that is absent, for a thread that waits where another loads it.
-ghost use Rattle.std.specs.Prelude.{◌≡◌, true};
+ghost use Rattle.std.specs.Prelude.{◌≡◌, true, false, None};
 ghost use Rattle.quick_cache_loading.specs.Fitting.{FitsIfClonesDo};
 ghost use Rattle.quick_cache_loading.specs.Turns.{IsLater, none_left};
 ghost use Rattle.quick_cache_guard.specs.Answers.{IfGiven, IsAnswered, IsRefusedAsLoad, is_timeout};
@@ -12,7 +12,7 @@ use quick_cache_model::{Lifecycle, Refusal, ToKey};
 use std::alloc::Allocator;
 use std::hash::Hash;
 use std::sync::{RwLock, Wait};
-use std::time::Clock;
+use std::time::{Clock, Duration};
 
 impl<
     'a,
@@ -24,9 +24,31 @@ impl<
     A: Allocator,
 > PlaceholderGuard<'a, K, V, L, S, R, A> {
     /// The value under the query's key, or the right to load it. Who finds it loading waits, for so
-    /// many turns at most, which all its waits share. Where none is left at first, it does not wait.
-    /// It takes the write lock of the shard, and lets it go before it waits.
+    /// many turns of a millisecond as the limit has, rounded up, which all its waits share. With a
+    /// limit of zero it does not wait. It takes the write lock of the shard, and lets it go before it
+    /// waits.
     pub fn join<Q: ToKey<K>>(
+        rt: &'a R,
+        shard: &'a RwLock<S>,
+        query: &Q,
+        limit: Option<Duration>,
+    ) -> GuardResult<V, Self>
+    where
+        R: Clock,
+        requires stands { (key : K) → Q.to_key_gives query.now key
+            → Q.equivalent query.now key ≡ true }
+        // Whatever other threads do, the value fits a key that the query stands for, and the guard
+        // is for a key that the query becomes. It is refused as a load is.
+        ensures answers { IsAnswered (FitsIfClonesDo L.fits V.is_clone (Q.equivalent query.now))
+            (Q.to_key_gives query.now) result }
+        // Without a limit it is in time.
+        ensures timely { limit ≡ None → is_timeout result ≡ false }
+    {
+        Self::join_within(rt, shard, query, &mut Turns::within(limit))
+    }
+
+    /// As `join`, for so many turns at most.
+    fn join_within<Q: ToKey<K>>(
         rt: &'a R,
         shard: &'a RwLock<S>,
         query: &Q,

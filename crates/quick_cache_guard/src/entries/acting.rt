@@ -139,7 +139,7 @@ pub fn come<
         Ok(EntryOrPlaceholder::Replaced(shared, value)) => {
             match share_of_new(rt, &mut *locked, &shared, query) {
                 Some((placeholder, share)) => {
-                    let guard = PlaceholderGuard::start_loading(rt, shard, placeholder, own, share);
+                    let guard = PlaceholderGuard::by_share(rt, shard, placeholder, own, share);
                     Err(Some(EntryResult::Replaced(guard, value)))
                 }
                 None => Err(Some(EntryResult::Removed(own, value))),

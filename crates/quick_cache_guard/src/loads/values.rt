@@ -7,7 +7,6 @@ ghost use Rattle.quick_cache_loading.specs.Waiters.{IsLoadRefusal};
 use crate::loads::looking::look;
 use crate::results::Fetched;
 use crate::{GuardResult, LoadingShard, PlaceholderGuard};
-use quick_cache_loading::sharing::Turns;
 use quick_cache_model::{Lifecycle, Refusal, ToKey};
 use std::alloc::Allocator;
 use std::hash::Hash;
@@ -48,7 +47,7 @@ pub fn get_value_or_guard<
 {
     match look(rt, shard, query) {
         Ok(Some(value)) => GuardResult::Value(value),
-        Ok(None) => PlaceholderGuard::join(rt, shard, query, &mut Turns::within(limit)),
+        Ok(None) => PlaceholderGuard::join(rt, shard, query, limit),
         Err(refusal) => GuardResult::Refused(refusal),
     }
 }

@@ -1,5 +1,5 @@
 //! What the slot of a key that is being loaded shares with those who load it and wait for it.
-ghost use Rattle.std.specs.Prelude.{◌≡◌, IfOk, IfSome};
+ghost use Rattle.std.specs.Prelude.{◌≡◌, IfOk, IfSome, is_some};
 ghost use Rattle.std.specs.Option.{ForSome};
 ghost use Rattle.std.specs.Arc.{arc_value};
 ghost use Rattle.std.specs.Int.NonZero.{non_zero_u32_get};
@@ -31,6 +31,15 @@ pub struct KeptPlaceholder<K: Eq + Drop, V: Drop, L: Lifecycle<K, V>, A: Allocat
     ghost of_ticket: { ForSome placeholder (λ shared. (arc_value shared).ticket ≡ ticket) },
 }
 
+impl<K: Eq + Drop, V: Drop, L: Lifecycle<K, V>, A: Allocator> KeptPlaceholder<K, V, L, A> {
+    /// The placeholder's number in its shard.
+    pub fn ticket(&self) -> u64
+        ensures { result ≡ self.now.ticket }
+    {
+        self.ticket
+    }
+}
+
 /// One owner more, if there can be.
 fn again<K: Eq + Drop, V: Drop, L: Lifecycle<K, V>, A: Allocator>(
     placeholder: &Option<Arc<Placeholder<K, V, L, A>, A>>,
@@ -51,6 +60,14 @@ impl<K: Eq + Drop, V: Drop, L: Lifecycle<K, V>, A: Allocator> SharedPlaceholder<
         ensures of_ticket { IfSome result (λ shared. (arc_value shared).ticket ≡ self.now.ticket) }
     {
         again(&self.placeholder, self.ticket)
+    }
+
+    /// The placeholder, which it gives up as its owner.
+    pub fn into_placeholder(self) -> Option<Arc<Placeholder<K, V, L, A>, A>>
+        ensures of_ticket { IfSome result (λ shared. (arc_value shared).ticket ≡ self.ticket) }
+        ensures owned { is_some result ≡ is_some self.placeholder }
+    {
+        self.placeholder
     }
 
     /// What names the placeholder to its shard, and does not own it. It takes no memory.

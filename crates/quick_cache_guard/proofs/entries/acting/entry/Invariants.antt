@@ -2,7 +2,7 @@ use Rattle.std.proofs.Common.{◌≡◌, Some}
 use Rattle.quick_cache_loading.specs.Turns.{IsLater}
 use Rattle.quick_cache_guard.proofs.entries.acting.entry.Given as goal
 
--- the callback was not called yet, and the turns of all waits are counted down
+-- the callback was not called yet, and the turns of all waits are counted
 abbrev pub invariant-loop : goal.invariant-loop
 invariant-loop g l =
     (goal.iterator-loop g).can_next l.iterator' × (goal.iterator-loop g).is_finite l.iterator'
