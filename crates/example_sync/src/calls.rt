@@ -1,5 +1,6 @@
 //! An example of each call.
 
+pub mod keeping;
 pub mod looking;
 pub mod making;
 pub mod removing;

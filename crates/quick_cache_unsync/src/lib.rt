@@ -22,7 +22,7 @@ pub use quick_cache_model::{
     Bytes, BytesIn, DefaultHashBuilder, Equivalent, ItemStats, Lifecycle, MemoryUsed, Queue,
     Refusal, Text, TextIn, ToKey, Token, UnitWeighter, Weighter, hash_of,
 };
-pub use quick_cache_options::options::{Options, OptionsBuilder};
+pub use quick_cache_options::options::{Error, Options, OptionsBuilder};
 pub use quick_cache_shard::{CacheShard, Placeholder, Plainly, SavedIter};
 pub use walking::drain::Drain;
 pub use walking::iter::Iter;
