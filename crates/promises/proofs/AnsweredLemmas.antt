@@ -43,21 +43,22 @@ module _ {K V : Type 0} (stands_for : K → Bool) (old : CacheState K V)
   no-hit _ _ (LooksUp.hit place before item after at) = no-item place before item after at
 
   module _ {S E : Type 0} (steady : Type 0) (hooks : Hooks K V S) (rules : Rules K V)
-      (is_default : S → Type 0) (is_clone : V → V → Type 0) (gives : K → Type 0) (hash : ℕ)
-      (given : Result V E → Type 0) where
+      (is_default : S → Type 0) (is_clone : V → V → Type 0) (is_infallible : V → Type 0)
+      (gives : K → Type 0) (hash : ℕ) (given : Result V E → Type 0) where
     ended : (ticket : ℕ) (mid new : CacheState K V) (answer : Result V (LoadError E))
-        → EndsFetch steady hooks rules is_default is_clone ticket given mid answer new
+        → EndsFetch steady hooks rules is_default is_clone is_infallible ticket given mid answer new
         → IfOk answer (λ value. given (Ok value))
     ended ticket mid new (Ok value) ends = ends.loaded
     ended ticket mid new (Err error) ends = tt
 
     -- what is answered is what the loader gave
     pub Fetches-absent : (answer : Result V (LoadError E)) (new : CacheState K V)
-        → Fetches steady hooks rules is_default is_clone stands_for gives hash given old answer new
+        → Fetches steady hooks rules is_default is_clone is_infallible stands_for gives hash given
+        old answer new
         → IfOk answer (λ value. given (Ok value))
     Fetches-absent _ new (Fetches.found value copy _ up clone) =
         absurd (no-hit value up.ordered up.holds)
-    Fetches-absent _ new (Fetches.not_cloned value _ up) = tt
+    Fetches-absent _ new (Fetches.not_cloned value _ up uncloned) = tt
     Fetches-absent _ new (Fetches.loads answer ticket mid _ takes ends) =
         ended ticket mid new answer ends
     Fetches-absent _ new (Fetches.refused refusal _ none) = tt

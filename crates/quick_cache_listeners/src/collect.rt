@@ -30,6 +30,8 @@ impl<K, V> Model for Collected<K, V> {
 }
 
 impl<K, V> Default for Collected<K, V> {
+    ghost is_default = { λ kept. kept ≡ record { pairs = None; room = 0; lost = 0 } };
+
     fn default() -> Self {
         Collected {
             pairs: None,

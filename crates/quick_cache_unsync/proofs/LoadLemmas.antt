@@ -145,30 +145,34 @@ ends-load-by steady hooks rules now before same is_default stands_for gives hash
 
 -- what ends a load is no refusal
 pub ends-answered : {K V S E : Type 0} (steady : Type 0) (hooks : Hooks K V S) (rules : Rules K V)
-    (is_default : S → Type 0) (is_clone : V → V → Type 0) (ticket : ℕ) (given : Result V E → Type 0)
-    (old new : CacheState K V) (P : Type 0) (answer : Result V (LoadError E))
-    → EndsFetch steady hooks rules is_default is_clone ticket given old answer new
+    (is_default : S → Type 0) (is_clone : V → V → Type 0) (is_infallible : V → Type 0) (ticket : ℕ)
+    (given : Result V E → Type 0) (old new : CacheState K V) (P : Type 0)
+    (answer : Result V (LoadError E))
+    → EndsFetch steady hooks rules is_default is_clone is_infallible ticket given old answer new
     → IfErr answer (λ error. error ≡ Refused Memory → P)
-ends-answered steady hooks rules is_default is_clone ticket given old new P (Ok value) ends = tt
-ends-answered steady hooks rules is_default is_clone ticket given old new P (Err (Failed error))
-    ends = λ same. absurd cc
-ends-answered steady hooks rules is_default is_clone ticket given old new P (Err (Refused refusal))
-    ends = absurd ends
+ends-answered steady hooks rules is_default is_clone is_infallible ticket given old new P
+    (Ok value) ends = tt
+ends-answered steady hooks rules is_default is_clone is_infallible ticket given old new P
+    (Err (Failed error)) ends = λ same. absurd cc
+ends-answered steady hooks rules is_default is_clone is_infallible ticket given old new P
+    (Err (Refused refusal)) ends = absurd ends
 
 -- a placeholder that was taken and ended, by what stood before it was taken
 pub fetches-by : {K V S E X : Type 0} (steady : X → Type 0) (hooks : X → Hooks K V S)
     (rules : X → Rules K V) (now before : X) → now ≡ before
-    → (is_default : S → Type 0) (is_clone : V → V → Type 0) (stands_for : K → Bool)
-    (gives : K → Type 0) (hash : ℕ) (given : Result V E → Type 0) (old mid new : CacheState K V)
-    (ticket : ℕ) (answer : Result V (LoadError E)) → Takes stands_for gives hash old ticket mid
-    → EndsFetch (steady now) (hooks now) (rules now) is_default is_clone ticket given mid answer new
-    → Fetches (steady before) (hooks before) (rules before) is_default is_clone stands_for gives hash
-    given old answer new
-fetches-by steady hooks rules now before same is_default is_clone stands_for gives hash given old
-    mid new ticket answer takes ends =
+    → (is_default : S → Type 0) (is_clone : V → V → Type 0) (is_infallible : V → Type 0)
+    (stands_for : K → Bool) (gives : K → Type 0) (hash : ℕ) (given : Result V E → Type 0)
+    (old mid new : CacheState K V) (ticket : ℕ) (answer : Result V (LoadError E))
+    → Takes stands_for gives hash old ticket mid
+    → EndsFetch (steady now) (hooks now) (rules now) is_default is_clone is_infallible ticket given
+    mid answer new
+    → Fetches (steady before) (hooks before) (rules before) is_default is_clone is_infallible
+    stands_for gives hash given old answer new
+fetches-by steady hooks rules now before same is_default is_clone is_infallible stands_for gives
+    hash given old mid new ticket answer takes ends =
     Fetches.loads answer ticket mid new takes
-    (subst (λ s. EndsFetch (steady s) (hooks s) (rules s) is_default is_clone ticket given mid
-    answer new) same ends)
+    (subst (λ s. EndsFetch (steady s) (hooks s) (rules s) is_default is_clone is_infallible ticket
+    given mid answer new) same ends)
 
 module _ {K V : Type 0} (stands_for : K → Bool) where
   -- an item that there is is counted

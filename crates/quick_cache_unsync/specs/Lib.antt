@@ -9,6 +9,7 @@ pub mod References
 pub mod Loads
 pub mod Fetches
 pub mod LoadTexts
+pub mod LoadKinds
 pub mod Many
 pub mod Saving
 pub mod Hottest

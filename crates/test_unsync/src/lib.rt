@@ -1,11 +1,13 @@
-//! Tests of the cache for one thread, of its traits, of lists of calls, of caches with many entries,
-//! and of copies: what a call shows of a value is a clone of it.
+//! Tests of the cache for one thread, of its traits and listeners, of lists of calls, of caches with
+//! many entries, and of copies: what a call shows of a value is a clone of it.
 #![tactic(auto)]
 
 #[cfg(test)]
 mod copying;
 #[cfg(test)]
 mod large;
+#[cfg(test)]
+mod listened;
 #[cfg(test)]
 mod of_a_shard;
 #[cfg(test)]

@@ -55,6 +55,14 @@ pub fn lose_one(left: &mut Collected<u64, u64>, key: u64, value: u64)
     OnLeave(Collect).on_evict_cold(left, key, value);
 }
 
+/// A call that is handed no list has lost nothing before.
+pub fn lose_none() -> u64
+    ensures { result ≡ 0 }
+{
+    let left: Collected<u64, u64> = Collected::default();
+    left.lost()
+}
+
 /// Keeps why the last pair left.
 #[derive(Drop)]
 pub struct LastCause;
@@ -75,6 +83,15 @@ pub fn hear_of_the_first(heard: &mut Request<Option<Cause>>, key: u64, value: u6
 {
     heard.begin();
     OnLeaveWhy(LastCause).on_evict_hot(heard, key, value);
+}
+
+/// So is what leaves first in a call that has a state of its own.
+pub fn hear_of_the_first_alone(key: u64, value: u64) -> Request<Option<Cause>>
+    ensures { result.state ≡ Some Replaced }
+{
+    let mut heard = Request::default();
+    OnLeaveWhy(LastCause).on_evict_cold(&mut heard, key, value);
+    heard
 }
 
 /// A victim of the cold ring is counted with its weight.

@@ -32,6 +32,9 @@ pub struct Request<S> {
 }
 
 impl<S: Default> Default for Request<S> {
+    // It begins a call, so that the laws of the causes hold of a call with a state of its own.
+    ghost is_default = { λ request. S.is_default request.state × (request.stage ≡ Fresh) };
+
     fn default() -> Self {
         Request {
             state: S::default(),

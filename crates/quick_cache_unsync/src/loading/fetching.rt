@@ -1,10 +1,10 @@
 //! Values that are answered as clones, whether they were found or loaded.
-ghost use Rattle.std.specs.Prelude.{◌≡◌, ◌<◌, ◌+◌, ◌≤◌, IfErr, IfSome, IsSome, true};
+ghost use Rattle.std.specs.Prelude.{◌≡◌, ◌<◌, ◌+◌, ◌≤◌, IfErr, IfNone, IfSome, IsSome, true};
 ghost use Rattle.quick_cache_model.specs.declared.refusal.Refusal.TheVariants.{Memory};
 ghost use Rattle.quick_cache_shard.specs.References.{count_under};
 ghost use Rattle.quick_cache_shard.specs.Shard.{IsSoundShard, KeepsTerms};
 ghost use Rattle.quick_cache_shard.specs.Stays.{StaysWithin};
-ghost use Rattle.quick_cache_unsync.specs.Fetches.{FetchesBy, EndsFetchBy, IsCloneUnder};
+ghost use Rattle.quick_cache_unsync.specs.Fetches.{FetchesBy, EndsFetchBy, IsCloneUnder, IsUnclonedUnder};
 ghost use Rattle.quick_cache_unsync.specs.Loads.{IsAwaited};
 ghost use Rattle.quick_cache_unsync.specs.Touches.{no_touches};
 ghost use Rattle.quick_cache_unsync.specs.declared.loading.not_loaded.LoadError.TheVariants.{Refused};
@@ -46,7 +46,8 @@ impl<
         requires loader { F.pre loader }
         // Where pinning is steady, a value fills the placeholder by a step of its definition.
         ensures fetches { FetchesBy ⟦<Self as Going>⟧.goes no_touches self.old
-            L.RequestState.is_default V.is_clone (Q.equivalent query.now) (Q.to_key_gives query.now)
+            L.RequestState.is_default V.is_clone V.is_infallible (Q.equivalent query.now)
+            (Q.to_key_gives query.now)
             (⟦<Self as Keyed>⟧.hash self.old.builder (Q.hash_input query.now))
             (F.post loader) result self.new }
         // It takes room for one entry at most, and where no clone fails it asks for memory only where
@@ -75,7 +76,8 @@ impl<
             → Q.equivalent query.now key ≡ true }
         requires loader { F.pre loader }
         ensures fetches { FetchesBy ⟦<Self as Going>⟧.goes no_touches self.old
-            L.RequestState.is_default V.is_clone (Q.equivalent query.now) (Q.to_key_gives query.now)
+            L.RequestState.is_default V.is_clone V.is_infallible (Q.equivalent query.now)
+            (Q.to_key_gives query.now)
             hash (F.post loader) result self.new }
         ensures asks { Q.to_key_is_infallible query.now → ((value : V) → V.is_infallible value)
             → IfErr result (λ error. error ≡ Refused Memory → self.old.room ≡ 0) }
@@ -99,6 +101,8 @@ impl<
         requires there { 0 < count_under (Q.equivalent query.now) self.now.state }
         ensures shows { IfSome result
             (IsCloneUnder V.is_clone (Q.equivalent query.now) self.now.state) }
+        ensures refused { IfNone result
+            (IsUnclonedUnder V.is_infallible (Q.equivalent query.now) self.now.state) }
         ensures succeeds { ((value : V) → V.is_infallible value) → IsSome result }
     {
         match self.value_under(Some(token), hash, query).clone() {
@@ -118,8 +122,8 @@ impl<
         requires awaited { IsAwaited placeholder.now.ticket self.old.state }
         requires loader { F.pre loader }
         ensures ends { EndsFetchBy ⟦<Self as Going>⟧.goes no_touches self.old
-            L.RequestState.is_default V.is_clone placeholder.now.ticket (F.post loader) result
-            self.new }
+            L.RequestState.is_default V.is_clone V.is_infallible placeholder.now.ticket
+            (F.post loader) result self.new }
         ensures stays { StaysWithin K.eq 0 self.old self.new }
     {
         match loader() {

@@ -1,5 +1,6 @@
 //! Why a call that loads gives no reference, or no value.
 ghost use Rattle.quick_cache_unsync.specs.LoadTexts.{not_loaded_text, load_error_text};
+ghost use Rattle.quick_cache_unsync.specs.LoadKinds.{NotLoadedBecomes, LoadErrorBecomes};
 
 use quick_cache_model::Refusal;
 use std::error::Error;
@@ -32,6 +33,8 @@ impl<E: Display> Display for NotLoaded<E> {
 impl<E: Error> Error for NotLoaded<E> {}
 
 impl<E: Into<io::Error>> From<NotLoaded<E>> for io::Error {
+    ghost from_gives = { NotLoadedBecomes E.converts };
+
     fn from(error: NotLoaded<E>) -> io::Error {
         match error {
             NotLoaded::NotKept => io::Error::from(io::ErrorKind::Other),
@@ -65,6 +68,8 @@ impl<E: Display> Display for LoadError<E> {
 impl<E: Error> Error for LoadError<E> {}
 
 impl<E: Into<io::Error>> From<LoadError<E>> for io::Error {
+    ghost from_gives = { LoadErrorBecomes E.converts };
+
     fn from(error: LoadError<E>) -> io::Error {
         match error {
             LoadError::Failed(error) => error.into(),

@@ -1,5 +1,6 @@
 //! Calls that spare their caller a step: pairs are put, walked in a loop, and loaded with an answer.
 use quick_cache_unsync::{Cache, LoadError, NotLoaded, Refusal};
+use std::io;
 use test_tools::{expect, expect_eq, expect_ok};
 
 #[test]
@@ -41,4 +42,27 @@ fn errors_read_as_sentences(rt: HostRuntime) {
         text.as_str(),
         "the loaded value did not stay; not loaded: no memory; refused: no slot is left"
     );
+}
+
+/// A loader that finds no file.
+fn no_file() -> io::Result<u64> {
+    Err(io::Error::from(io::ErrorKind::NotFound))
+}
+
+/// What is answered of a file that is not there.
+fn answer(cache: &mut Cache<u64, u64>) -> io::Result<u64> {
+    Ok(cache.get_or_load(&1, no_file)?)
+}
+
+/// What is lent of it.
+fn lend(cache: &mut Cache<u64, u64>) -> io::Result<u64> {
+    Ok(*cache.get_or_insert_with(&1, no_file)?)
+}
+
+#[test]
+fn a_question_mark_keeps_the_kind_of_a_loaders_error(rt: HostRuntime) {
+    let mut cache: Cache<u64, u64> = expect_ok!(rt; Cache::new(rt.alloc(), 5));
+    for failed in [answer(&mut cache), lend(&mut cache)] {
+        expect_eq!(rt; failed.map_err(|error| error.kind()), Err(io::ErrorKind::NotFound));
+    }
 }

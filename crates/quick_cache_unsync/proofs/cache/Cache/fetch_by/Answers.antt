@@ -26,7 +26,7 @@ returns-in-Ok-Err-clause-fetches g c =
     g.L.Lifecycle in
     fetches-by (steady_in goes) (hooks_in goes) (rules_in goes no_touches) _ _
     c.begin_load.ensures.stays.same
-    g.L.RequestState.Default.is_default g.V.Clone.is_clone
+    g.L.RequestState.Default.is_default g.V.Clone.is_clone g.V.Clone.is_infallible
     (g.Q.Equivalent.equivalent c.args.query.now) (g.Q.ToKey.to_key_gives c.args.query.now) _ _
     c.args.self.now.state c.begin_load.new.self.state c.end_fetch.new.self.state
     c.in-Ok-Err.placeholder.ticket c.end_fetch.result
@@ -39,7 +39,8 @@ returns-in-Ok-Err-clause-asks g c = λ key always.
     let goes = goes_by g.K.Hash.hash_input g.We.Weighter g.B.BuildHasher g.B.Hasher.Hasher
     g.L.Lifecycle in
     ends-answered (steady_in goes now) (hooks_in goes now) (rules_in goes no_touches now)
-    g.L.RequestState.Default.is_default g.V.Clone.is_clone c.in-Ok-Err.placeholder.ticket
+    g.L.RequestState.Default.is_default g.V.Clone.is_clone g.V.Clone.is_infallible
+    c.in-Ok-Err.placeholder.ticket
     (λ given. g.F.FnOnce.post c.args.loader tt given) now.state c.end_fetch.new.self.state _
     c.end_fetch.result c.end_fetch.ensures.ends
 
@@ -52,7 +53,7 @@ returns-in-Some-clause-fetches g c =
 pub returns-in-Ok-Ok-clause-fetches : goal.returns-in-Ok-Ok-clause-fetches
 returns-in-Ok-Ok-clause-fetches g c =
     let up = rw c.in-Ok-Ok.field-0-is at c.in-Ok-Ok.ensures.takes in
-    Fetches.not_cloned up.0 _ up.1
+    Fetches.not_cloned up.0 _ up.1 (rw c.in-None.is at c.clone_under.ensures.refused)
 
 pub returns-clause-fetches : goal.returns-clause-fetches
 returns-clause-fetches g c =

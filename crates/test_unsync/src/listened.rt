@@ -1,0 +1,127 @@
+//! Lifecycles that are ready made: pins by what others hold, listeners that hear why a pair left,
+//! and counts.
+use quick_cache_base::{DefaultHashBuilder, UnitWeighter};
+use quick_cache_listeners::{
+    ByLength, Cause, Collect, Collected, Held, ListenerWhy, OnLeave, OnLeaveWhy, PinHeld,
+    SharedTallies, Tally,
+};
+use quick_cache_unsync::{Cache, DefaultLifecycle};
+use std::alloc::Global;
+use std::cell::Cell;
+use std::ops::Range;
+use std::process::Abort;
+use std::rc::Rc;
+use std::sync::Arc;
+use test_tools::{expect_eq, expect_ok};
+
+/// Numbers that threads hold, each of which stays while one of them does.
+type InUse = Cache<
+    u64,
+    Arc<u64>,
+    UnitWeighter,
+    DefaultHashBuilder,
+    PinHeld<DefaultLifecycle<u64, Arc<u64>>>,
+>;
+
+/// Writes these numbers, and looks each up.
+fn use_others(rt: &impl Abort, alloc: Global, cache: &mut InUse, numbers: Range<u64>) {
+    for number in numbers {
+        let value = expect_ok!(rt; Arc::new(alloc, number));
+        expect_eq!(rt; cache.put(number, value), Ok(()));
+        cache.get(&number);
+    }
+}
+
+#[test]
+fn what_a_thread_holds_stays(rt: HostRuntime) {
+    let pins = PinHeld(DefaultLifecycle::new());
+    let builder = DefaultHashBuilder::new();
+    let mut cache: InUse =
+        expect_ok!(rt; Cache::with(rt.alloc(), 2, 2, UnitWeighter, builder, pins));
+    let held = expect_ok!(rt; Arc::new(rt.alloc(), 2));
+    let own = expect_ok!(rt; held.clone());
+    expect_eq!(rt; cache.put(2, own), Ok(()));
+    use_others(&rt, rt.alloc(), &mut cache, 3..10);
+    expect_eq!(rt; (cache.contains_key(&2), cache.len()), (true, 2));
+    drop(held);
+    use_others(&rt, rt.alloc(), &mut cache, 10..20);
+    expect_eq!(rt; (cache.contains_key(&2), cache.len()), (false, 2));
+}
+
+#[test]
+fn a_second_handle_holds_and_the_only_one_does_not(rt: HostRuntime) {
+    let alone = expect_ok!(rt; Rc::new(rt.alloc(), 1));
+    let shared = expect_ok!(rt; Arc::new(rt.alloc(), 1));
+    expect_eq!(rt; (alone.is_held(), shared.is_held()), (false, false));
+    let other = expect_ok!(rt; alone.clone());
+    let others = expect_ok!(rt; shared.clone());
+    expect_eq!(rt; (other.is_held(), others.is_held()), (true, true));
+}
+
+/// Notes which pair left last, and why.
+#[derive(Drop)]
+struct Noted<'a>(&'a Cell<Option<(u64, Cause)>>);
+
+impl<'a> ListenerWhy<u64, &'static str> for Noted<'a> {
+    type State = ();
+
+    fn tell(&self, _state: &mut (), key: u64, _text: &'static str, cause: Cause) {
+        self.0.set(Some((key, cause)));
+    }
+}
+
+#[test]
+fn a_put_tells_why_each_pair_left(rt: HostRuntime) {
+    let last = Cell::new(None);
+    let builder = DefaultHashBuilder::new();
+    let noted = OnLeaveWhy(Noted(&last));
+    let mut cache = expect_ok!(rt; Cache::with(rt.alloc(), 10, 10, ByLength, builder, noted));
+    // Nothing stands under the last key, so its pair, which is too heavy, is told as a cold victim.
+    for (key, text, left) in [
+        (1, "four", None),
+        (2, "five!", None),
+        (1, "six", Some((1, Cause::Replaced))),
+        (3, "nine", Some((2, Cause::EvictedHot))),
+        (1, "much too long", Some((1, Cause::TurnedAway))),
+        (4, "much too long", Some((4, Cause::EvictedCold))),
+    ] {
+        last.set(None);
+        expect_eq!(rt; cache.put(key, text), Ok(()));
+        expect_eq!(rt; last.get(), left);
+    }
+}
+
+#[test]
+fn what_leaves_without_a_list_is_lost(rt: HostRuntime) {
+    let builder = DefaultHashBuilder::new();
+    let mut cache =
+        expect_ok!(rt; Cache::with(rt.alloc(), 2, 2, UnitWeighter, builder, OnLeave(Collect)));
+    let mut left: Collected<u64, u64> = Collected::default();
+    for (key, lost) in [(1, 0), (2, 0), (3, 1), (3, 2)] {
+        expect_eq!(rt; cache.insert_with_lifecycle(key, 7, &mut left), Ok(()));
+        expect_eq!(rt; left.lost(), lost);
+    }
+}
+
+#[test]
+fn what_threads_count_is_told_by_its_cause(rt: HostRuntime) {
+    let tallies = SharedTallies::new();
+    for (cause, weight) in [
+        (Cause::EvictedHot, 10),
+        (Cause::EvictedCold, 20),
+        (Cause::Replaced, 30),
+        (Cause::TurnedAway, 40),
+        (Cause::EvictedCold, 50),
+    ] {
+        tallies.count(cause, weight);
+    }
+    let seen = tallies.seen();
+    for (cause, pairs, weight) in [
+        (Cause::EvictedHot, 1, 10),
+        (Cause::EvictedCold, 2, 70),
+        (Cause::Replaced, 1, 30),
+        (Cause::TurnedAway, 1, 40),
+    ] {
+        expect_eq!(rt; seen.of(cause), Tally { pairs, weight });
+    }
+}
