@@ -66,9 +66,9 @@ fn a_predicate_is_asked_once_of_each_item(rt: HostRuntime) {
     let first = asked.get();
     cache.retain(|key, _| is_even(key));
     let second = asked.get();
-    cache.remove_if(&2, &is_even);
+    cache.remove_if(&2, |value| is_even(value));
     // An odd one left before, and is not there to be asked of.
-    cache.remove_if(&3, &is_even);
+    cache.remove_if(&3, |value| is_even(value));
     expect_eq!(rt; ([first, second, asked.get()], cache.len()), ([7, 11, 12], 3));
 }
 
@@ -87,8 +87,8 @@ fn so_it_is_in_the_shared_cache(rt: HostRuntime) {
     let first = asked.load(Ordering::SeqCst);
     cache.retain(&rt, |key, _| is_even(key));
     let second = asked.load(Ordering::SeqCst);
-    cache.remove_if(&rt, &2, &is_even);
-    cache.remove_if(&rt, &3, &is_even);
+    cache.remove_if(&rt, &2, |value| is_even(value));
+    cache.remove_if(&rt, &3, |value| is_even(value));
     let all = asked.load(Ordering::SeqCst);
     expect_eq!(rt; ([first, second, all], cache.len(&rt)), ([7, 11, 12], 3));
 }

@@ -16,8 +16,12 @@ fn restored(rt: &impl Abort, alloc: Global) -> Cache<u64, u64> {
     options.weight_capacity(MANY as u64);
     let options = expect_ok!(rt; options.build());
     let (builder, lifecycle) = (DefaultHashBuilder::new(), DefaultLifecycle::new());
-    let saved = (0..MANY as u64).map(|key| (key, key, Queue::Cold, (key % 3) as u8));
-    expect_ok!(rt; Cache::restored(alloc, options, UnitWeighter, builder, lifecycle, saved))
+    let mut list = Vec::new(alloc);
+    for key in 0..MANY as u64 {
+        expect_ok!(rt; list.push((key, key, Queue::Cold, (key % 3) as u8)));
+    }
+    let pairs = list.iter().copied();
+    expect_ok!(rt; Cache::restored(alloc, options, UnitWeighter, builder, lifecycle, pairs))
 }
 
 /// How many items are saved, up to the first that is not the next number with its mark.
@@ -38,6 +42,7 @@ fn seventy_thousand_items_are_restored_saved_and_listed(rt: HostRuntime) {
     expect_eq!(rt; (cache.len(), count_in_order(&cache)), (MANY, MANY as u64));
     let list = expect_ok!(rt; cache.hottest(rt.alloc(), MANY));
     // Those of the greatest mark come first, and of these the first in the ring.
-    let ends = [list.first(), list.last()].map(|end| end.map(|pair| *pair.0));
-    expect_eq!(rt; (list.len(), ends), (MANY, [Some(2), Some(69999)]));
+    let first = list.first().map(|pair| *pair.0);
+    let last = list.last().map(|pair| *pair.0);
+    expect_eq!(rt; (list.len(), first, last), (MANY, Some(2), Some(69999)));
 }
