@@ -205,9 +205,9 @@ fn a_run_without_room_makes_no_event_happen(rt: HostRuntime) {
 
 /// A life that is begun, joined, left and given up, over and over.
 #[test]
-fn ten_thousand_events_have_as_many_answers(rt: HostRuntime) {
+fn seventy_thousand_events_have_as_many_answers(rt: HostRuntime) {
     let mut events = Vec::new(rt.alloc());
-    for _ in 0..2500 {
+    for _ in 0..17500 {
         for event in [
             Happens::Create,
             Happens::Join(1),
@@ -219,7 +219,7 @@ fn ten_thousand_events_have_as_many_answers(rt: HostRuntime) {
     }
     let mut core: Core<u64> = Core::new(rt.alloc());
     let answers = expect_ok!(rt; run(&mut core, events));
-    expect_eq!(rt; answers.len(), 10_000);
+    expect_eq!(rt; answers.len(), 70_000);
     for at in 0..answers.len() {
         let wanted = match at % 4 {
             0 => Answer::Created,

@@ -75,15 +75,15 @@ fn keeps_a_thousand_pairs_of_one_hash(rt: HostRuntime) {
 }
 
 #[test]
-fn keeps_ten_thousand_pairs_of_as_many_hashes(rt: HostRuntime) {
+fn keeps_seventy_thousand_pairs_of_as_many_hashes(rt: HostRuntime) {
     let mut table = expect_ok!(rt; Table::new(rt.alloc()));
-    for number in 1..=10_000 {
+    for number in 1..=70_000 {
         expect_ok!(rt; put(&mut table, spread(number), token(&rt, number)));
     }
-    expect_eq!(rt; table.len(), 10_000);
-    for number in 1..=10_000 {
+    expect_eq!(rt; table.len(), 70_000);
+    for number in 1..=70_000 {
         let wanted = token(&rt, number);
         expect_eq!(rt; table.find(spread(number), |_| true), Some(wanted));
     }
-    expect_eq!(rt; table.find(spread(10_001), |_| true), None);
+    expect_eq!(rt; table.find(spread(70_001), |_| true), None);
 }

@@ -1,5 +1,5 @@
-//! Tests of `qcrun`: what is printed for whole scripts, of which one has 2000 lines, and the status at
-//! the end.
+//! Tests of `qcrun`: what is printed for whole scripts, of which one has 2000 lines and one 70,000, and
+//! the status at the end.
 #![tactic(auto)]
 
 #[cfg(test)]

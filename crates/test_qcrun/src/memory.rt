@@ -2,7 +2,7 @@
 use qcrun_parts::serve;
 use std::alloc::Global;
 use std::io::{self, Read};
-use test_tools::Rationed;
+use test_tools::{Rationed, expect_eq};
 
 /// Gives a line at each read, and allows so many blocks from then on.
 #[derive(Drop)]
@@ -21,6 +21,22 @@ impl Read for RationedLines<'_> {
         self.next = self.next.saturating_add(1);
         let mut line = line.as_bytes();
         line.read(buf)
+    }
+}
+
+#[test]
+fn without_a_block_for_the_lines_the_status_is_1(rt: HostRuntime) {
+    for (blocks, status, printed) in [(0, 1, ""), (1, 0, "ok\n")] {
+        let ration = Rationed::new(rt.alloc(), blocks);
+        let lines = [(100, "cache 55 55\n")];
+        let reader = RationedLines {
+            ration: &ration,
+            lines: &lines,
+            next: 0,
+        };
+        let mut written = Vec::new(rt.alloc());
+        let told = serve(&ration, reader, &mut written, &mut Vec::new(rt.alloc()));
+        expect_eq!(rt; (told, written.as_slice()), (status, printed.as_bytes()));
     }
 }
 

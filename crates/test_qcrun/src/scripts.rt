@@ -312,7 +312,7 @@ pub fn write_each(
 }
 
 #[test]
-fn a_bad_line_is_told_by_its_number(rt: HostRuntime) -> Result<(), Fail> {
+fn a_bad_line_is_told_by_its_number_behind_seventy_thousand(rt: HostRuntime) -> Result<(), Fail> {
     let mut script = Vec::new(rt.alloc());
     let mut wanted = Vec::new(rt.alloc());
     write!(script, "cache 200 200\n")?;
@@ -321,8 +321,12 @@ fn a_bad_line_is_told_by_its_number(rt: HostRuntime) -> Result<(), Fail> {
     for _ in 2..=150 {
         writeln!(wanted, "ok")?;
     }
+    for _ in 0..70000 {
+        writeln!(script, "get 2")?;
+        writeln!(wanted, "some 1")?;
+    }
     write!(script, "\nget\nget 2\n")?;
-    writeln!(wanted, "bad line 152")?;
+    writeln!(wanted, "bad line 70152")?;
     let mut written = Vec::new(rt.alloc());
     let ended = serve(
         rt.alloc(),

@@ -37,9 +37,9 @@ impl Weighter<u64, u64> for AsNothing {
 
 /// Pins while a number is odd, to which it adds at each question, and counts the calls of its hooks.
 #[derive(Drop)]
-struct Counting<'a> {
-    asked: &'a Cell<u64>,
-    adds: u64,
+pub(crate) struct Counting<'a> {
+    pub asked: &'a Cell<u64>,
+    pub adds: u64,
 }
 
 impl Lifecycle<u64, u64> for Counting<'_> {
@@ -83,10 +83,10 @@ impl Lifecycle<u64, u64> for Counting<'_> {
 }
 
 /// A cache with such pins.
-type Pinning<'a, We> = Cache<u64, u64, We, DefaultHashBuilder, Counting<'a>>;
+pub(crate) type Pinning<'a, We> = Cache<u64, u64, We, DefaultHashBuilder, Counting<'a>>;
 
 /// A cache in which this share of the weight may be hot.
-fn pinning<'a, We: Weighter<u64, u64> + Drop>(
+pub(crate) fn pinning<'a, We: Weighter<u64, u64> + Drop>(
     alloc: Global,
     items: usize,
     weight: u64,
@@ -104,7 +104,11 @@ fn pinning<'a, We: Weighter<u64, u64> + Drop>(
 }
 
 /// Inserts a pair, and tells how many calls of hooks that made.
-fn put<We: Weighter<u64, u64>>(cache: &mut Pinning<'_, We>, key: u64, value: u64) -> Option<u64> {
+pub(crate) fn put<We: Weighter<u64, u64>>(
+    cache: &mut Pinning<'_, We>,
+    key: u64,
+    value: u64,
+) -> Option<u64> {
     let mut events = 0;
     cache.insert_with_lifecycle(key, value, &mut events).ok()?;
     Some(events)

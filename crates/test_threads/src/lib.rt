@@ -15,6 +15,8 @@ mod calls;
 #[cfg(test)]
 mod hottest;
 #[cfg(test)]
+mod large;
+#[cfg(test)]
 mod listened;
 #[cfg(test)]
 mod names;

@@ -1,4 +1,5 @@
-//! Ten thousand entries, and lists of ten thousand calls: nothing is refused past some size.
+//! Seventy thousand entries, and lists of as many calls: nothing is refused past some size, and no
+//! token, count or place ends at sixteen bits.
 ghost use Rattle.std.specs.Prelude.{All, IfOk};
 ghost use Rattle.quick_cache_runs.specs.Asked.{IfAsks};
 
@@ -10,7 +11,7 @@ use std::process::Abort;
 use test_tools::{Rationed, expect, expect_eq, expect_ok};
 
 /// How many entries or calls a test makes.
-const MANY: u64 = 10000;
+const MANY: u64 = 70000;
 
 /// A cache that holds the numbers below this one, each with its double.
 fn doubles(rt: &impl Abort, alloc: Global, count: u64) -> Cache<u64, u64> {
@@ -36,7 +37,7 @@ fn ample_memory_is_never_refused(rt: HostRuntime) {
 }
 
 #[test]
-fn a_clone_has_ten_thousand_entries(rt: HostRuntime) {
+fn a_clone_has_seventy_thousand_entries(rt: HostRuntime) {
     let cache = doubles(&rt, rt.alloc(), MANY);
     let mut copy = expect_ok!(rt; cache.try_clone());
     expect_eq!(rt; copy.len(), MANY as usize);
@@ -92,7 +93,7 @@ fn run_by_threes(rt: &impl Abort, alloc: Global, count: u64) {
 }
 
 #[test]
-fn twenty_and_ten_thousand_calls_are_made(rt: HostRuntime) {
+fn twenty_and_seventy_thousand_calls_are_made(rt: HostRuntime) {
     run_by_threes(&rt, rt.alloc(), 20);
     run_by_threes(&rt, rt.alloc(), MANY);
 }
@@ -125,7 +126,7 @@ fn doubles_in<M: Allocator>(reply: &Reply<u64, u64, M>) -> Option<(u64, u64)> {
 }
 
 #[test]
-fn a_walk_and_a_drain_give_ten_thousand_pairs(rt: HostRuntime) {
+fn a_walk_and_a_drain_give_seventy_thousand_pairs(rt: HostRuntime) {
     let alloc = rt.alloc();
     let mut cache = doubles(&rt, rt.alloc(), MANY);
     let calls: Vec<Call<u64, u64, Predicate>> = expect_ok!(rt; vec![in alloc;
@@ -136,7 +137,7 @@ fn a_walk_and_a_drain_give_ten_thousand_pairs(rt: HostRuntime) {
     let Ok(replies) = run(alloc, &mut cache, calls, &mut ()) else {
         panic!(rt; "there is memory");
     };
-    let wanted = [(MANY, 49995000), (MANY, 49995000), (0, 0)];
+    let wanted = [(MANY, 2449965000), (MANY, 2449965000), (0, 0)];
     for (reply, wanted) in replies.iter().zip(wanted) {
         expect_eq!(rt; doubles_in(reply), Some(wanted));
     }

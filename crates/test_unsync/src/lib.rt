@@ -7,6 +7,8 @@ mod copying;
 #[cfg(test)]
 mod large;
 #[cfg(test)]
+mod large_lists;
+#[cfg(test)]
 mod listened;
 #[cfg(test)]
 mod of_a_shard;

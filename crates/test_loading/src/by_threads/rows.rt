@@ -28,9 +28,21 @@ fn outcome<R: Wait + Clock>(rt: &R, cache: &Numbers, key: u64, limit: Option<u64
     }
 }
 
-// What a loader gives: the value, or none where it is 0; and whether it is told that it did. The
-// calls are counted.
+// What a loader gives: the value, or none where it is 0. The calls are counted.
 fn loaded<R: Wait>(
+    rt: &R,
+    cache: &Numbers,
+    calls: &mut u64,
+    value: u64,
+) -> Result<Result<u64, ()>, Refusal> {
+    cache.get_or_insert_with(rt, &4, || {
+        *calls = calls.saturating_add(1);
+        if value == 0 { Err(()) } else { Ok(value) }
+    })
+}
+
+// The same, and whether it is told that this call's loader gave the value.
+fn loaded_and_told<R: Wait>(
     rt: &R,
     cache: &Numbers,
     calls: &mut u64,
@@ -73,10 +85,20 @@ fn the_loader_is_called_until_it_gives_a_value(rt: HostRuntime) {
     let cache: Numbers = expect_ok!(rt; Cache::new(rt.alloc(), 100));
     let mut calls = 0;
     expect_eq!(rt; loaded(&rt, &cache, &mut calls, 0), Ok(Err(())));
-    expect_eq!(rt; loaded(&rt, &cache, &mut calls, 4), Ok(Ok((4, true))));
-    expect_eq!(rt; loaded(&rt, &cache, &mut calls, 5), Ok(Ok((4, false))));
+    expect_eq!(rt; loaded(&rt, &cache, &mut calls, 4), Ok(Ok(4)));
+    expect_eq!(rt; loaded(&rt, &cache, &mut calls, 5), Ok(Ok(4)));
     expect_eq!(rt; outcome(&rt, &cache, 4, None), 4);
     expect_eq!(rt; (calls, cache.hits(&rt), cache.misses(&rt)), (2, 2, 2));
+}
+
+#[test]
+fn who_loads_is_told_whether_its_loader_gave_the_value(rt: HostRuntime) {
+    let cache: Numbers = expect_ok!(rt; Cache::new(rt.alloc(), 100));
+    let mut calls = 0;
+    expect_eq!(rt; loaded_and_told(&rt, &cache, &mut calls, 0), Ok(Err(())));
+    expect_eq!(rt; loaded_and_told(&rt, &cache, &mut calls, 4), Ok(Ok((4, true))));
+    expect_eq!(rt; loaded_and_told(&rt, &cache, &mut calls, 5), Ok(Ok((4, false))));
+    expect_eq!(rt; calls, 2);
 }
 
 #[test]
