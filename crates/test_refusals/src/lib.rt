@@ -8,6 +8,8 @@ mod asked;
 #[cfg(test)]
 mod drawn;
 #[cfg(test)]
+mod earlier;
+#[cfg(test)]
 mod hard;
 #[cfg(test)]
 mod sweeps;

@@ -9,10 +9,10 @@ use std::time::Duration;
 use test_tools::{Rationed, expect, expect_eq, expect_ok};
 
 /// A text whose clones can be refused.
-type Text<'a> = String<&'a Rationed<Global>>;
+pub type Text<'a> = String<&'a Rationed<Global>>;
 
 /// A cache of such texts.
-type Texts<'a> = Cache<
+pub type Texts<'a> = Cache<
     u64,
     Text<'a>,
     UnitWeighter,

@@ -39,15 +39,15 @@ pub mod in_unsync {
 
 pub mod in_sync_placeholder {
     pub use quick_cache::sync_placeholder::{
-        EntryResult, FillError, GuardResult, JoinFuture, Placeholder, PlaceholderGuard, Share,
-        SharedPlaceholder, State,
+        Ended, EntryResult, FillError, Filled, GuardResult, JoinFuture, LoadingShard, Place,
+        Placeholder, PlaceholderGuard, Share, SharedPlaceholder, State,
     };
 }
 
 pub mod in_sync {
     pub use quick_cache::sync::{
         Cache, DefaultLifecycle, Drain, EntryAction, EntryFuture, EntryResult, Fetched,
-        GetOrInsert, GuardResult, Iter, LockContention, PlaceholderGuard, Seat, TraceCall, Traced,
-        TryError, ValueOrGuard,
+        GetOrInsert, Guard, GuardResult, Iter, LockContention, LockedShard, PlaceholderGuard, Seat,
+        TraceCall, Traced, TryError, ValueOrGuard,
     };
 }
