@@ -1,5 +1,6 @@
 -- A look-up that makes a placeholder where no key is found, and what it answers.
-use Rattle.std.specs.Prelude.{ℕ, Bool, Result, Ok, Err, Some}
+use Rattle.std.specs.Prelude.{◌≡◌, ℕ, Bool, false, Result, Ok, Err, Some}
+use Rattle.std.specs.List.{AllByRecursion}
 use Rattle.std.specs.Int.NonZero.{non_zero_u32_get}
 use Rattle.std.specs.declared.num.NonZeroU32.{NonZeroU32 as Token}
 use Rattle.quick_cache_model.specs.declared.refusal.Refusal.{Refusal}
@@ -26,3 +27,12 @@ FindsToken stands_for new (Ok (Ok token)) =
     HasTokenUnder stands_for new (non_zero_u32_get token)
 FindsToken stands_for new (Ok (Err begun)) = Unit {0}
 FindsToken stands_for new (Err refusal) = Unit {0}
+
+-- a placeholder is meant where its ticket is wanted
+abbrev pub MeansByTicket : {P : Type 0} → (ticket_of : P → ℕ) → (means : P → Bool)
+    → (wanted : ℕ → Bool) → Type 0
+MeansByTicket {P} ticket_of means wanted = (kept : P) → means kept ≡ wanted (ticket_of kept)
+
+-- no key is being loaded by a ticket that is wanted
+abbrev pub HasNoneWanted : {K V : Type 0} → (wanted : ℕ → Bool) → CacheState K V → Type 0
+HasNoneWanted wanted state = AllByRecursion (λ entry. wanted entry.ticket ≡ false) state.loading

@@ -1,9 +1,9 @@
 //! Placeholders: made or met by a look-up, filled, or given up.
-ghost use Rattle.std.specs.Prelude.{◌≡◌, true, IfErr, MatchOption};
+ghost use Rattle.std.specs.Prelude.{◌≡◌, ℕ, Bool, true, IfErr, MatchOption};
 ghost use Rattle.quick_cache_model.specs.declared.refusal.Refusal.TheVariants.{Memory};
 ghost use Rattle.quick_cache_model.specs.Placeholders.{GivesUpPlaceholder, HasNoTicket};
 ghost use Rattle.quick_cache_policy.specs.Filling.{AwaitsKey};
-ghost use Rattle.quick_cache_shard.specs.Loading.{FindsToken, IsMadeUnder, LooksUpOrMakes};
+ghost use Rattle.quick_cache_shard.specs.Loading.{FindsToken, HasNoneWanted, IsMadeUnder, LooksUpOrMakes, MeansByTicket};
 ghost use Rattle.quick_cache_shard.specs.Shard.{LosesOnly, UpToOrder, IsSoundShard};
 ghost use Rattle.quick_cache_shard.specs.Stays.{IdlesWithin};
 
@@ -72,10 +72,21 @@ impl<
         self.contents.awaited_key(placeholder)
     }
 
-    /// Shows what is kept of each placeholder to a visitor, up to the first that it means. It looks
-    /// at each slot.
-    pub fn visit_placeholders<M: Meaning<K, P::Kept>>(&self, visitor: &M) {
-        let _ = self.contents.lists.find_placeholder(Token::MIN, visitor);
+    /// What is kept of a placeholder that is meant, if one is there: each is shown, up to the first
+    /// that is. Where some key is being loaded, it looks at each slot.
+    pub fn find_placeholder<M: Meaning<K, P::Kept>>(&self, meant: &M) -> Option<&P::Kept>
+        // Where tickets tell what is meant, one of such a ticket comes, or none is there.
+        ensures finds { (wanted : ℕ → Bool) → MeansByTicket P.ticket_of (M.means meant.now) wanted
+            → MatchOption result (HasNoneWanted wanted self.now.state)
+            (λ kept. wanted (P.ticket_of kept.now) ≡ true) }
+    {
+        let lists = &self.contents.lists;
+        lists.facts();
+        let Some(token) = lists.find_placeholder(Token::MIN, meant) else {
+            return None;
+        };
+        let awaited = lists.awaited(token);
+        Some(awaited.placeholder())
     }
 
     /// Takes the placeholder of that ticket out, if it is there, and calls no hook. It is looked
