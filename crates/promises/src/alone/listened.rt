@@ -1,13 +1,19 @@
 //! What the listeners, pins and weights that are ready made promise.
 ghost use Rattle.std.specs.Prelude.{◌≡◌, ◌<◌, ◌∷◌, [], Some, None, length, ◌==◌, ◌%◌, ◌+◌, ◌^◌};
 ghost use Rattle.quick_cache_listeners.specs.declared.causes.cause.Cause.TheVariants.{Replaced};
-ghost use Rattle.quick_cache_listeners.specs.declared.causes.cause.Stage.TheVariants.{Armed};
+ghost use Rattle.quick_cache_listeners.specs.declared.causes.cause.Stage.TheVariants.{Armed, Fresh};
+ghost use Rattle.quick_cache_shard.specs.Steps.{InsertsBy};
+ghost use Rattle.quick_cache_unsync.specs.Alone.{IsDoneAlone};
+ghost use Rattle.quick_cache_unsync.specs.Touches.{no_touches};
 
 use quick_cache_listeners::{
     ByLength, Cause, Collect, Collected, Counted, CountedByThreads, Counts, ListenerWhy, OnLeave,
     OnLeaveWhy, Pin, PinBy, PinHeld, Request, SharedTallies,
 };
 use quick_cache_model::{Lifecycle, Weighter};
+use quick_cache_shard::Going;
+use quick_cache_unsync::{Cache, Refusal};
+use std::hash::{BuildHasher, Hash};
 use std::rc::Rc;
 use std::sync::Arc;
 
@@ -92,6 +98,21 @@ pub fn hear_of_the_first_alone(key: u64, value: u64) -> Request<Option<Cause>>
     let mut heard = Request::default();
     OnLeaveWhy(LastCause).on_evict_cold(&mut heard, key, value);
     heard
+}
+
+/// A plain insert begins as the laws of the causes do.
+pub fn insert_from_the_beginning<
+    K: Eq + Hash + Drop,
+    V: Drop,
+    We: Weighter<K, V>,
+    B: BuildHasher,
+    L: ListenerWhy<K, V>,
+>(cache: &mut Cache<K, V, We, B, OnLeaveWhy<L>>, key: K, value: V) -> Result<(), (K, V, Refusal)>
+    ensures { IsDoneAlone (λ request. request.stage ≡ Fresh)
+        (InsertsBy ⟦<Cache<K, V, We, B, OnLeaveWhy<L>> as Going>⟧.goes no_touches cache.old K.eq key
+        value result cache.new) }
+{
+    cache.insert(key, value)
 }
 
 /// A victim of the cold ring is counted with its weight.
