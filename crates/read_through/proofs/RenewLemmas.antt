@@ -1,14 +1,12 @@
 -- What the callbacks told that claim an entry or renew it.
-use Rattle.std.proofs.Common.{◌≡◌, ℕ, Bool, true, false, IsTrue, Option, Some, None, IfSome, ap, sym, subst, ◌∙◌}
-use Rattle.std.specs.Cmp.{IsEquivalence}
+use Rattle.std.proofs.Common.{◌≡◌, ℕ, Bool, true, false, IsTrue, Option, Some, None, IfSome, ap, subst, ◌∙◌}
 use denote.Ref.{Bor, MutBor}
 use denote.Param.Members.{Once}
 use Rattle.quick_cache_model.specs.declared.calls.entry.EntryAction.{EntryAction}
-use Rattle.quick_cache_model.specs.declared.calls.entry.EntryAction.TheVariants.{Retain as retain, Remove as remove, ReplaceWithGuard as replace}
-use Rattle.quick_cache_guard.specs.Acts.{LeavesOnce, LeavesFit, MayTell}
+use Rattle.quick_cache_model.specs.declared.calls.entry.EntryAction.TheVariants.{Retain as retain}
+use Rattle.quick_cache_guard.specs.Acts.{LeavesOnce, MayTell}
 use Rattle.quick_cache_expiring.specs.declared.loaded.Loaded.{Loaded}
 use Rattle.quick_cache_expiring.specs.Moments.{IsDue}
-use Rattle.read_through.specs.Answers.{IsOf, GivesClones}
 use Rattle.read_through.specs.Renewals.{ChoosesToClaim, ChoosesToRenew, Claims, IsClaimed, Renews}
 
 -- what it told to be claimed was due
@@ -48,41 +46,3 @@ Renews-told calls fits test callback is_clone claimed now value true told chosen
 }
 Renews-told calls fits test callback is_clone claimed now value false told chosen so =
     let never : false ≡ true = so in absurd cc
-
-module _ {K V : Type 0} (gives : K → ℕ → V → Type 0) (equal : K → K → Bool)
-    (laws : IsEquivalence equal) (is_clone : V → V → Type 0)
-    (clones : GivesClones gives is_clone) (asked : K) (claimed now : ℕ) (value : V)
-    (gave : gives asked now value) where
-  -- what is left fits, by what was chosen
-  renewed-fits : (key : K) → IsTrue (equal asked key) → (old left : Loaded V)
-      (action : EntryAction Bool) → ChoosesToRenew is_clone claimed now value old action left
-      → IsOf gives equal key old.moment old.value → IsOf gives equal key left.moment left.value
-  renewed-fits key same old left (retain true) chosen fits = record {
-    key = asked;
-    same = laws.symm key asked ∙ same;
-    gave = subst (λ (moment : ℕ). gives asked moment left.value) (sym chosen.1.1)
-        (clones asked now value left.value chosen.1.0 gave);
-  }
-  renewed-fits key same old left (retain false) chosen fits =
-      subst (λ (loaded : Loaded V). IsOf gives equal key loaded.moment loaded.value) (sym chosen)
-      fits
-  renewed-fits key same old left remove chosen fits = absurd chosen
-  renewed-fits key same old left replace chosen fits = absurd chosen
-
-  -- so a callback leaves what fits that chooses so, and is called at equal keys
-  pub LeavesFit-renewed : {F : Type 0}
-      (calls : Once F (Bor K × (MutBor (Loaded V) × Unit {0}))
-      (EntryAction Bool × (MutBor (Loaded V) × Unit {0}))) (callback : F)
-      → ((own : Bor K) (old left : MutBor (Loaded V)) (action : EntryAction Bool)
-      → calls.post callback (own, (old, tt)) (action, (left, tt))
-      → IsTrue (equal asked own.now)
-      × ChoosesToRenew is_clone claimed now value old.now action left.now)
-      → LeavesFit (LeavesOnce calls callback)
-      (λ (key : K) (loaded : Loaded V). IsOf gives equal key loaded.moment loaded.value)
-  LeavesFit-renewed calls callback says = λ key old action left met fits.
-      let said = says met.shown_key met.shown met.left_by action met.called in
-      subst (λ (loaded : Loaded V). IsOf gives equal key loaded.moment loaded.value) met.leaves
-      (renewed-fits key (subst (λ (own : K). IsTrue (equal asked own)) met.shows.0 said.0) old
-      met.left_by.now action
-      (subst (λ (was : Loaded V). ChoosesToRenew is_clone claimed now value was action
-      met.left_by.now) met.shows.1 said.1) fits)
