@@ -1,6 +1,4 @@
-use Rattle.std.proofs.Common.{refl}
 use Rattle.quick_cache_shard.specs.WalksFrom.{number_or_zero}
-use Rattle.quick_cache_expiring.specs.Entries.{Entries}
 use Rattle.quick_cache_expiring.proofs.EntryLemmas.{Expires-drops, Gets-over}
 use Rattle.quick_cache_expiring.proofs.alone.expiring.Expiring.expires.Goals as goal
 
