@@ -279,6 +279,7 @@ def modules_under(module):
 # Names.
 
 
+@functools.cache
 def look(module, path):
     """What a path means in a module: an item or a module of the repository, or nothing."""
     first, _, rest = path.partition("::")
