@@ -9,7 +9,7 @@ import os
 import re
 from dataclasses import dataclass, field
 
-from functions import COMMENTS, FILES, ROOT, blank, read
+from functions import COMMENTS, FILES, ROOT, blank, end_of_block, read
 
 
 @dataclass(eq=False)
@@ -45,18 +45,7 @@ class Module:
 
 # Text.
 
-BRACE = re.compile(r"[{}]")
 MARK = re.compile(r"[()\[\]{};]")
-
-
-def end_of_block(code, at):
-    """The place behind the brace that closes the one at this place."""
-    depth = 0
-    for found in BRACE.finditer(code, at):
-        depth += 1 if found.group() == "{" else -1
-        if depth == 0:
-            return found.end()
-    return len(code)
 
 
 def stop(code, at):
@@ -76,7 +65,8 @@ def in_one_line(code):
     """Code in one line, as if it had always stood in one."""
     code = re.sub(r"\s+", " ", code).strip()
     code = re.sub(r"([(\[<]) ", r"\1", code)
-    return re.sub(r",? ?([)\]>])", r"\1", code.replace("->", "\0")).replace("\0", "->").replace(", }", " }").rstrip(",")
+    code = re.sub(r",? ?([)\]]|(?<!-)>)", r"\1", code)
+    return code.replace(", }", " }").rstrip(",")
 
 
 def parted(code, by=","):
