@@ -38,13 +38,16 @@ def blank(found):
     return " " * len(found.group())
 
 
+BRACE = re.compile(r"[{}]")
+
+
 def end_of_block(text, at):
     """The place behind the brace that closes the one at this place."""
     depth = 0
-    for i in range(at, len(text)):
-        depth += {"{": 1, "}": -1}.get(text[i], 0)
+    for brace in BRACE.finditer(text, at):
+        depth += 1 if brace[0] == "{" else -1
         if depth == 0:
-            return i + 1
+            return brace.end()
     return len(text)
 
 
