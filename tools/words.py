@@ -481,7 +481,8 @@ class Source:
 
     def member(self, name, rest):
         """What a type parameter has by its bounds: one member, or all that a trait has."""
-        note = member_of(self.path, self.bounds[name], rest) or f"the kit's, by `{name}: {self.bounds[name]}`"
+        by = f"by `{name}: {self.bounds[name]}`" if self.bounds[name] else "of every type"
+        note = member_of(self.path, self.bounds[name], rest) or f"the kit's, {by}"
         return note if isinstance(note, tuple) else ("member", ".".join([name, *rest]), note)
 
     def models(self, head):
