@@ -18,7 +18,7 @@ use Rattle.quick_cache_expiring.specs.declared.lasting.Lasting.{Lasting}
 use Rattle.quick_cache_expiring.specs.declared.by_value.ByValue.{ByValue}
 use Rattle.quick_cache_expiring.specs.Lastings.{lasting_of}
 use Rattle.quick_cache_expiring.specs.Lives.{lives}
-use Rattle.quick_cache_expiring.specs.Entries.{Entries, KeepsRest, HasNoneOver, HasOver, Shows, DropsOver, LooksUpAt, Drops, Gets, Renews}
+use Rattle.quick_cache_expiring.specs.Entries.{Entries, KeepsRest, HasNoneOver, HasOver, Shows, DropsOver, LooksUpAt, Drops, Expires, Gets, Renews}
 
 -- a query stands for one key at most of a state in which no two keys are equal
 pub keys_by-one : {K V : Type 0} (test : K → Bool) (equal : K → K → Bool)
@@ -189,26 +189,35 @@ Gets-looks {K} {V} {We} {B} {L} test now old new none found looks same rest show
       over = false;
       looks_up = LooksUpAt-up test now old.cache.state none found new.cache.state looks;
       expired = ap (λ (e : Entries K V We B L). e.expired) rest;
+      missed = ap (λ (e : Entries K V We B L). e.missed) rest;
       from = ap (λ (e : Entries K V We B L). e.from) rest;
       same = KeepsWork-state old.cache new.cache same;
     })
 
 -- a look-up of what is over
-pub Gets-over : {K V We B L : Type 0} (test : K → Bool) (now : ℕ) (old mid new : Entries K V We B L)
-    → Drops test now old mid → new.cache ≡ mid.cache → new.expired ≡ counted_up 1 mid.expired
-    → new.from ≡ mid.from → Gets test now old None new
-Gets-over {K} {V} {We} {B} {L} test now old mid new drops cache expired from = record {
+pub Gets-over : {K V We B L : Type 0} (test : K → Bool) (now : ℕ) (old new : Entries K V We B L)
+    → Expires test now old new → Gets test now old None new
+Gets-over {K} {V} {We} {B} {L} test now old new expires = record {
   over = true;
-  looks_up = subst (λ (s : Shard K (Lasting V) (ByValue We) B L).
-      UpToOrder (LooksUpAt test now old.cache.state None true) s.state) (sym cache)
-      (UpToOrder-map (DropsOver test now old.cache.state)
-      (LooksUpAt test now old.cache.state None true) mid.cache.state
-      (λ state gone. LooksUpAt.over state gone) drops.goes);
-  expired = expired
-      ∙ ap (λ (e : Entries K V We B L). counted_up 1 e.expired) drops.rest;
-  from = from ∙ ap (λ (e : Entries K V We B L). e.from) drops.rest;
-  same = subst (λ (s : Shard K (Lasting V) (ByValue We) B L). KeepsWork old.cache s) (sym cache)
-      drops.same;
+  looks_up = UpToOrder-map (DropsOver test now old.cache.state)
+      (LooksUpAt test now old.cache.state None true) new.cache.state
+      (λ state gone. LooksUpAt.over state gone) expires.goes;
+  expired = ap (λ (e : Entries K V We B L). e.expired) expires.rest;
+  missed = ap (λ (e : Entries K V We B L). e.missed) expires.rest;
+  from = ap (λ (e : Entries K V We B L). e.from) expires.rest;
+  same = expires.same;
+}
+
+-- what went is counted
+pub Expires-drops : {K V We B L : Type 0} (test : K → Bool) (now : ℕ)
+    (old mid : Entries K V We B L) (expired : ℕ) → Drops test now old mid
+    → expired ≡ counted_up 1 mid.expired
+    → Expires test now old (record mid { expired = expired })
+Expires-drops {K} {V} {We} {B} {L} test now old mid expired drops is = record {
+  goes = drops.goes;
+  rest = ap (λ (n : ℕ). record mid { expired = n }) is
+      ∙ ap (λ (e : Entries K V We B L). record e { expired = counted_up 1 e.expired }) drops.rest;
+  same = drops.same;
 }
 
 -- what a look-up found where none is over lives, and a query stands for its key

@@ -1,9 +1,9 @@
 -- Loads whose loader gives a value with its end.
-use Rattle.std.proofs.Common.{◌≡◌, ℕ, Bool, true, false, Result, Ok, Err, inl, inr, sym, ap, ◌∙◌}
+use Rattle.std.proofs.Common.{◌≡◌, ℕ, Bool, true, false, Result, Ok, Err, sym, ap, ◌∙◌}
 use Rattle.std.specs.Bool.{OnTrue, OnFalse}
 use Rattle.quick_cache_shard.specs.Shard.{Shard, KeepsTerms, KeepsWork}
-use Rattle.quick_cache_expiring.specs.Entries.{Entries, KeepsRest, Drops, HasNoneOver}
-use Rattle.quick_cache_expiring.specs.Loads.{DropsIfOver}
+use Rattle.quick_cache_expiring.specs.Entries.{Entries, Expires, HasNoneOver}
+use Rattle.quick_cache_expiring.specs.Loads.{ExpiresIf}
 use Rattle.quick_cache_model.specs.declared.refusal.Refusal.{Refusal}
 use Rattle.quick_cache_model.specs.CacheState.{CacheState}
 use Rattle.quick_cache_model.specs.Hooks.{Rules, Hooks}
@@ -38,25 +38,23 @@ module _ {K V S E : Type 0} (steady : Type 0) (hooks : Hooks K V S) (rules : Rul
       AnswersLoad.refused refusal new none
 
 -- what is over goes, or nothing is
-pub DropsIfOver-told : {K V We B L : Type 0} (test : K → Bool) (now : ℕ) (old new : Entries K V We B L)
-    (dropped : Bool) → OnTrue dropped (Drops test now old new) → OnFalse dropped (new ≡ old)
-    → OnFalse dropped (HasNoneOver test now old.cache.state) → DropsIfOver test now old new
-DropsIfOver-told test now old new true drops same none = inl drops
-DropsIfOver-told test now old new false drops same none = inr (none, same)
+pub ExpiresIf-told : {K V We B L : Type 0} (test : K → Bool) (now : ℕ) (old new : Entries K V We B L)
+    (over : Bool) → OnTrue over (Expires test now old new) → OnFalse over (new ≡ old)
+    → OnFalse over (HasNoneOver test now old.cache.state) → ExpiresIf over test now old new
+ExpiresIf-told test now old new true expires same none = expires
+ExpiresIf-told test now old new false expires same none = (none, same)
 
--- so the cache is made with the same, and nothing else has changed
-pub DropsIfOver-same : {K V We B L : Type 0} (test : K → Bool) (now : ℕ)
-    (old new : Entries K V We B L) → DropsIfOver test now old new
-    → KeepsWork old.cache new.cache × KeepsRest old new
-DropsIfOver-same test now old new (inl drops) = (drops.same, drops.rest)
-DropsIfOver-same {K} {V} {We} {B} {L} test now old new (inr same) = (
-  ap (λ (e : Entries K V We B L). e.cache) same.1 ∙ (λ i. record old.cache {
-    state = (sym same.1 i).cache.state;
-    places = (sym same.1 i).cache.places;
-    room = (sym same.1 i).cache.room;
-  }),
-  same.1 ∙ ap (λ (e : Entries K V We B L). record old { cache = e.cache }) (sym same.1),
-)
+-- so the cache is made with the same
+pub ExpiresIf-same : {K V We B L : Type 0} (test : K → Bool) (now : ℕ)
+    (old new : Entries K V We B L) (over : Bool) → ExpiresIf over test now old new
+    → KeepsWork old.cache new.cache
+ExpiresIf-same test now old new true expires = expires.same
+ExpiresIf-same {K} {V} {We} {B} {L} test now old new false same =
+    ap (λ (e : Entries K V We B L). e.cache) same.1 ∙ (λ i. record old.cache {
+      state = (sym same.1 i).cache.state;
+      places = (sym same.1 i).cache.places;
+      room = (sym same.1 i).cache.room;
+    })
 
 -- the same of two steps
 pub KeepsTerms-after : {K V We B L : Type 0} (old mid new : Shard K V We B L) → KeepsWork old mid

@@ -13,11 +13,12 @@ use Rattle.quick_cache_expiring.specs.declared.by_value.ByValue.{ByValue}
 use Rattle.quick_cache_expiring.specs.Lastings.{lasting_of}
 use Rattle.quick_cache_expiring.specs.Lives.{lives}
 
--- the cache of the values with their ends, how many looks found what was over, and the token behind
--- which the next purge of some goes on
+-- the cache of the values with their ends, how many looks found what was over, for how many of these
+-- the cache counted the miss, and the token behind which the next purge of some goes on
 pub record Entries (K V We B L : Type 0) : Type 0 where
   pub cache : Shard K (Lasting V) (ByValue We) B L
   pub expired : ℕ
+  pub missed : ℕ
   pub from : ℕ
 
 -- nothing but the cache has changed
@@ -70,18 +71,25 @@ module _ {K V : Type 0} (stands_for : K → Bool) (now : ℕ) (old : CacheState 
     over : (new : CacheState K (Lasting V)) → DropsOver new → LooksUpAt None true new
     miss : HasNoItem stands_for old → LooksUpAt None false (after_miss old)
 
+-- the entry under the query is over and goes
+pub record Drops {K V We B L : Type 0} (stands_for : K → Bool) (now : ℕ)
+    (old new : Entries K V We B L) : Type 0 where
+  pub goes : UpToOrder (DropsOver stands_for now old.cache.state) new.cache.state
+  pub rest : KeepsRest old new
+  pub same : KeepsWork old.cache new.cache
+
 module _ {K V We B L : Type 0} (stands_for : K → Bool) (now : ℕ) (old : Entries K V We B L) where
-  -- the entry under the query is over and goes
-  pub record Drops (new : Entries K V We B L) : Type 0 where
-    pub goes : UpToOrder (DropsOver stands_for now old.cache.state) new.cache.state
-    pub rest : KeepsRest old new
-    pub same : KeepsWork old.cache new.cache
+  -- the same, and that is counted
+  abbrev pub Expires : (new : Entries K V We B L) → Type 0
+  Expires new =
+      Drops stands_for now (record old { expired = counted_up 1 old.expired }) new
 
   -- a look-up gives this
   pub record Gets (found : Option V) (new : Entries K V We B L) : Type 0 where
     pub over : Bool
     pub looks_up : UpToOrder (LooksUpAt stands_for now old.cache.state found over) new.cache.state
     pub expired : new.expired ≡ (if over then counted_up 1 old.expired else old.expired)
+    pub missed : new.missed ≡ old.missed
     pub from : new.from ≡ old.from
     pub same : KeepsWork old.cache new.cache
 

@@ -11,4 +11,4 @@ pub use alone::expiring::Expiring;
 pub use by_value::ByValue;
 pub use lasting::{Lasting, Stats, end_of};
 pub use loaded::Loaded;
-pub use quick_cache_model::Refusal;
+pub use quick_cache_model::{Bytes, BytesIn, Refusal, Text, TextIn};

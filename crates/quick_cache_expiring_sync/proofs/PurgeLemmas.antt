@@ -1,9 +1,10 @@
 -- Purges of shards, from what a predicate answered.
-use Rattle.std.proofs.Common.{ℕ, Bool}
+use Rattle.std.proofs.Common.{ℕ, Bool, Option}
 use Rattle.quick_cache_model.specs.declared.terms.lifecycle.Lifecycle as lifecycle
 use Rattle.quick_cache_model.specs.CacheState.{CacheState}
 use Rattle.quick_cache_model.proofs.EachElement.{all-weaker}
 use Rattle.quick_cache_model.proofs.OrderLaws.{UpToOrder-map}
+use Rattle.quick_cache_shard.specs.Predicates.{RemovesAsked}
 use Rattle.quick_cache_shard.specs.Shard.{Shard}
 use Rattle.quick_cache_locked.specs.Locked.{FromSome}
 use Rattle.quick_cache_sync.specs.Answers.{RetainsAskedSo}
@@ -39,3 +40,17 @@ module _ {K V : Type 0} (first second : K → V → Bool → Type 0)
         }) some) adds.numbers adds.each;
     adds = adds.adds;
   }
+
+-- so of one that is asked for alone
+pub RemovesAsked-says : {K V : Type 0} (test : K → Bool) (first second : V → Bool → Type 0)
+    (says : (value : V) (answer : Bool) → first value answer → second value answer)
+    (old : CacheState K V) (answer : Option (K × V)) (new : CacheState K V)
+    → RemovesAsked test old first answer new → RemovesAsked test old second answer new
+RemovesAsked-says test first second says old _ _
+    (RemovesAsked.goes place before item after at said) =
+    RemovesAsked.goes place before item after at (says item.value _ said)
+RemovesAsked-says test first second says old _ _
+    (RemovesAsked.stays place before item after at said) =
+    RemovesAsked.stays place before item after at (says item.value _ said)
+RemovesAsked-says test first second says old _ _ (RemovesAsked.absent none) =
+    RemovesAsked.absent none

@@ -1,10 +1,14 @@
 //! Looks at entries that may be over. Whatever other threads do, what is given at a moment was
 //! stored with an end that is not reached then, and fits with that end.
+ghost use Rattle.std.specs.Prelude.{◌≡◌, not};
 ghost use Rattle.quick_cache_shard.specs.Shard.{Shard};
 ghost use Rattle.quick_cache_locked.specs.Locked.{FromSome};
+ghost use Rattle.quick_cache_sync.specs.Answers.{RemovesAskedSo};
+ghost use Rattle.quick_cache_expiring.specs.Lives.{lives};
 ghost use Rattle.quick_cache_expiring.specs.declared.lasting.Lasting.{Lasting};
 ghost use Rattle.quick_cache_expiring.specs.declared.by_value.ByValue.{ByValue};
 ghost use Rattle.quick_cache_expiring_sync.specs.Looks.{ShowsAt, ShowsEnd, ShowsFittingAt};
+ghost use Rattle.quick_cache_expiring_sync.specs.Purges.{GoesWhereOver};
 
 use crate::shared::SharedExpiring;
 use quick_cache_expiring::{ByValue, Lasting};
@@ -49,7 +53,7 @@ impl<
         if lasting.lives(now) {
             return Ok(Some(lasting.value));
         }
-        self.expires(rt, query, now);
+        drop(self.expires(rt, query, now));
         Ok(None)
     }
 
@@ -113,10 +117,22 @@ impl<
     A: Allocator,
 > SharedExpiring<K, V, We, B, L, A> {
     /// Counts that a look found what is over, and takes that out by one step that asks once more,
-    /// since another may have stored what serves.
-    pub(crate) fn expires<Q: Equivalent<K>, R: Wait>(&self, rt: &R, query: &Q, now: u64) {
+    /// since another may have stored what serves. It gives what it took out.
+    pub(crate) fn expires<Q: Equivalent<K>, R: Wait>(
+        &self,
+        rt: &R,
+        query: &Q,
+        now: u64,
+    ) -> Option<(K, Lasting<V>)>
+        // What is over goes, and what lives stays.
+        ensures answers { FromSome L.Lifecycle K.eq
+            (λ (shard : Shard K (Lasting V) (ByValue We) B L). RemovesAskedSo
+            (Q.equivalent query.now) shard.state (GoesWhereOver now) result) }
+    {
         self.expired.fetch_add(1, Ordering::SeqCst);
-        let is_over = |lasting: &Lasting<V>| -> bool { !lasting.lives(now) };
-        drop(self.cache.remove_if(rt, query, is_over));
+        let is_over = |lasting: &Lasting<V>| -> bool
+            ensures over { result ≡ not (lives lasting.now.until now) }
+        { !lasting.lives(now) };
+        self.cache.remove_if(rt, query, is_over)
     }
 }

@@ -8,5 +8,5 @@ mod shared;
 mod writes;
 
 pub use quick_cache_expiring::{ByValue, Lasting, Stats, end_of};
-pub use quick_cache_model::Refusal;
+pub use quick_cache_model::{Bytes, BytesIn, Refusal, Text, TextIn};
 pub use shared::SharedExpiring;

@@ -124,7 +124,7 @@ impl<
         match self.cache.entry(rt, query, Some(Duration::ZERO), renews) {
             EntryResult::Retained(renewed) => {
                 if !renewed {
-                    self.expires(rt, query, now);
+                    drop(self.expires(rt, query, now));
                 }
                 Ok(renewed)
             }

@@ -10,7 +10,7 @@ use Rattle.quick_cache_model.specs.Placeholders.{GivesUpPlaceholder}
 use Rattle.quick_cache_shard.specs.Filling.{AwaitsKey}
 use Rattle.quick_cache_shard.specs.Predicates.{RetainsAsked, StayAsAnswered}
 use Rattle.quick_cache_shard.proofs.PlaceLemmas.{Contains-cons_cases}
-use Rattle.quick_cache_locked.specs.Invalidates.{InvalidatesAsked, StaysByKey}
+use Rattle.quick_cache_locked.specs.Invalidates.{GivesUpAsked, InvalidatesAsked, StaysByKey}
 use Rattle.quick_cache_locked.proofs.TicketLemmas.{of_ticket}
 
 -- no said twice
@@ -113,7 +113,7 @@ module _ {K V : Type 0} (answers : K → Bool → Type 0) where
         left entry (inr passes) = inr passes
 
   -- a placeholder whose key was answered yes is given up
-  pub Invalidates-goes_on : (equal : K → K → Bool) (ticket : ℕ) (key : K)
+  Invalidates-goes_on : (equal : K → K → Bool) (ticket : ℕ) (key : K)
       (old mid new : CacheState K V) → IsValid equal mid → AwaitsKey ticket mid key
       → answers key true → UpToOrder (GivesUpPlaceholder ticket mid) new
       → UpToOrder (InvalidatesAsked answers old) mid → UpToOrder (InvalidatesAsked answers old) new
@@ -143,3 +143,13 @@ module _ {K V : Type 0} (answers : K → Bool → Type 0) where
       by _ (GivesUpPlaceholder.was_gone none) order =
           goes-on old mid mid new refl order (λ other within. within) (λ other within. inl within)
           so_far
+
+  -- so the next ticket was asked
+  pub Invalidates-turn : (equal : K → K → Bool) (ticket : ℕ) (gave : Bool)
+      (old mid new : CacheState K V) → IsValid equal mid → GivesUpAsked answers ticket mid gave new
+      → UpToOrder (InvalidatesAsked answers old) mid → UpToOrder (InvalidatesAsked answers old) new
+  Invalidates-turn equal ticket _ old mid _ valid (GivesUpAsked.was_gone none) so_far = so_far
+  Invalidates-turn equal ticket _ old mid _ valid (GivesUpAsked.stays key awaits says) so_far =
+      so_far
+  Invalidates-turn equal ticket _ old mid _ valid (GivesUpAsked.goes key new awaits passes gives) so_far =
+      Invalidates-goes_on equal ticket key old mid new valid awaits passes gives so_far

@@ -8,6 +8,7 @@ mod TicketLemmas
 mod EntryFits
 mod LoadLemmas
 mod InvalidateLemmas
+mod AskedLemmas
 mod HeatLemmas
 mod SavedLemmas
 mod WalkLemmas

@@ -1,5 +1,5 @@
 -- A ticket has one placeholder, so what holds of its key holds of each key that it awaits.
-use Rattle.std.proofs.Common.{◌≡◌, ℕ, ◌≤◌, ◌==◌, Bool, false, List, [], ◌∷◌, ◌++◌, sym, ap}
+use Rattle.std.proofs.Common.{◌≡◌, ◌≢◌, ℕ, ◌+◌, ◌≤◌, ◌==◌, Bool, false, List, [], ◌∷◌, ◌++◌, sym, ap}
 use Rattle.std.proofs.Common.{subst, arith}
 use Rattle.std.specs.List.{AllByRecursion}
 use Rattle.std.proofs.lemmas.Bool.{eq-eqb}
@@ -17,7 +17,7 @@ module _ {K : Type 0} (ticket : ℕ) (P : K → Type 0) where
   IsOf entry = entry.ticket ≡ ticket → P entry.key
 
   -- entries none of which has the ticket
-  no_ticket : (entries : List (LoadingEntry K)) → tickets ticket entries ≡ 0
+  pub no_ticket : (entries : List (LoadingEntry K)) → tickets ticket entries ≡ 0
       → AllByRecursion IsOf entries
   no_ticket [] none = tt
   no_ticket (entry ∷ entries) none = (
@@ -33,7 +33,7 @@ module _ {K : Type 0} (ticket : ℕ) (P : K → Type 0) where
   module _ {V : Type 0} (equal : K → K → Bool) (old : CacheState K V) (valid : IsValid equal old)
     where
       -- each entry of the ticket has such a key, where the one that it awaits is such
-      each_of_ticket : (own : K) → AwaitsKey ticket old own → P own
+      pub each_of_ticket : (own : K) → AwaitsKey ticket old own → P own
           → AllByRecursion IsOf old.loading
       each_of_ticket own awaits holds =
           let before = awaits.before in
@@ -89,3 +89,25 @@ module _ {K V : Type 0} (equal : K → K → Bool) (ticket : ℕ) (key : K) (old
       there.entry there.after
       (subst (λ entries. AllByRecursion (λ (entry : LoadingEntry K). entry.ticket ≡ ticket → ⊥)
       entries) there.there.split none) there.there.is_of_ticket)
+
+-- none but that entry has the ticket
+pub alone : {K V : Type 0} (ticket : ℕ) (equal : K → K → Bool) (old : CacheState K V)
+    → IsValid equal old → (before : List (LoadingEntry K)) (entry : LoadingEntry K)
+    (after : List (LoadingEntry K)) → IsLoadingTicket ticket old before entry after
+    → AllByRecursion (λ (e : LoadingEntry K). e.ticket ≢ ticket) (before ++ after)
+alone {K} ticket equal old valid before entry after there =
+    let has : one_if (entry.ticket == ticket) ≡ 1 =
+    ap one_if (eq-eqb entry.ticket ticket there.is_of_ticket) in
+    let counts : tickets ticket (before ++ entry ∷ after) ≤ 1 =
+    subst (λ entries. tickets ticket entries ≤ 1) there.split (valid.one_entry_a_ticket ticket) in
+    let both : tickets ticket before + tickets ticket after ≡ 0 =
+    omega (
+      arith,
+      counts,
+      has,
+      tickets-append ticket before (entry ∷ after),
+      tickets-cons ticket entry after,
+    ) in
+    all-append (λ (e : LoadingEntry K). e.ticket ≢ ticket) before after
+    (no_ticket ticket (λ (k : K). ⊥) before (omega (arith, both)))
+    (no_ticket ticket (λ (k : K). ⊥) after (omega (arith, both)))

@@ -1,8 +1,31 @@
 -- Keys that leave a shard, with what is being loaded for them.
-use Rattle.std.specs.Prelude.{◌≡◌, Bool, true, not, ◌⊎◌}
+use Rattle.std.specs.Prelude.{◌≡◌, ℕ, Bool, true, not, ◌⊎◌, Option, None, Some, ltb, cond, false}
 use Rattle.std.specs.List.{Contains}
-use Rattle.quick_cache_model.specs.CacheState.{CacheState, LoadingEntry}
+use Rattle.quick_cache_shard.specs.Loading.{HasNoneWanted}
+use Rattle.quick_cache_model.specs.CacheState.{CacheState, LoadingEntry, UpToOrder}
+use Rattle.quick_cache_model.specs.Placeholders.{GivesUpPlaceholder, HasNoTicket}
+use Rattle.quick_cache_shard.specs.Filling.{AwaitsKey}
 use Rattle.quick_cache_shard.specs.Predicates.{StayAsAnswered}
+
+-- a ticket is above one, if one is named
+abbrev pub is_above : Option ℕ → ℕ → Bool
+is_above None ticket = true
+is_above (Some least) ticket = ltb least ticket
+
+-- a ticket is below one, if one is named
+abbrev pub is_below : Option ℕ → ℕ → Bool
+is_below None ticket = true
+is_below (Some greatest) ticket = ltb ticket greatest
+
+-- a ticket is above the one and below the other
+abbrev pub is_between : (above below : Option ℕ) → ℕ → Bool
+is_between above below ticket = cond (is_above above ticket) (is_below below ticket) false
+
+-- a ticket is above another, and no placeholder has one between the two
+pub record IsNextTicket {K V : Type 0} (above : Option ℕ) (ticket : ℕ) (state : CacheState K V)
+    : Type 0 where
+  pub after : is_above above ticket ≡ true
+  pub none_between : HasNoneWanted (is_between above (Some ticket)) state
 
 module _ {K V : Type 0} (answers : K → Bool → Type 0) where
   -- an item stays where its key was answered no
@@ -25,3 +48,12 @@ module _ {K V : Type 0} (answers : K → Bool → Type 0) where
       still = new.still;
       loading = new.loading;
     }
+
+  -- The placeholder of the ticket is given up where its key was answered yes. Where that was
+  -- answered no, or there is none, nothing changes.
+  pub data GivesUpAsked (ticket : ℕ) (old : CacheState K V) : Bool → CacheState K V → Type 0 where
+    was_gone : HasNoTicket ticket old → GivesUpAsked ticket old false old
+    stays : (key : K) → AwaitsKey ticket old key → answers key false
+        → GivesUpAsked ticket old false old
+    goes : (key : K) (new : CacheState K V) → AwaitsKey ticket old key → answers key true
+        → UpToOrder (GivesUpPlaceholder ticket old) new → GivesUpAsked ticket old true new

@@ -3,3 +3,5 @@ pub mod Answers
 pub mod Loads
 pub mod Givens
 pub mod Counted
+pub mod Renewals
+pub mod Serving

@@ -6,6 +6,8 @@ ghost use Rattle.quick_cache_guard.specs.Entries.{IfGivenBack, IfGuarded, IfReta
 ghost use Rattle.quick_cache_expiring.specs.Looks.{IfRetain, Stays};
 ghost use Rattle.quick_cache_expiring.specs.Moments.{Serves};
 ghost use Rattle.read_through.specs.Answers.{Answers, AnswersLate, GivesClones, IsOf};
+ghost use Rattle.read_through.specs.Renewals.{ChoosesToClaim, ChoosesToRenew, Claims, Renews};
+ghost use Rattle.read_through.specs.Serving.{ServesYoung};
 ghost use Rattle.read_through.specs.Givens.{IfFailed, IfFresh, IfStale};
 
 use crate::fresh::Fresh;
@@ -14,7 +16,7 @@ use crate::lives::Lives;
 use crate::reading::{ReadThrough, ShardOf};
 use quick_cache_expiring::Loaded;
 use quick_cache_guard::{EntryResult, GuardResult, LoadingShard, PlaceholderGuard};
-use quick_cache_model::{Refusal, Weighter};
+use quick_cache_model::{Lifecycle, Refusal, Weighter};
 use quick_cache_shard::EntryAction;
 use std::alloc::Allocator;
 use std::hash::Hash;
@@ -38,6 +40,9 @@ impl<
         requires clones { GivesClones S.gives V.is_clone }
         ensures fresh { IfSome result
             (Answers S.gives K.eq key.now (Li.life_of self.now.lives key.now) now) }
+        // It stood under the key, and its loader was asked no longer ago than that.
+        ensures young { IfSome result (ServesYoung We ⟦<Fresh<S> as Lifecycle<K, Loaded<V>>>⟧
+            K.eq V.is_clone key.now (Li.life_of self.now.lives key.now) refresh_after now) }
     {
         let Ok(Some(found)) = self.cache.find(rt, key) else {
             return None;
@@ -80,8 +85,10 @@ impl<
                     self.not_hits.fetch_add(1, Ordering::SeqCst);
                     return self.answer_anew(rt, key, now, load);
                 }
-                if found.is_due(refresh_after, now) && self.claims(rt, key, now, refresh_after) {
-                    return Ok(self.renewed(rt, key, now, found, load()));
+                if found.is_due(refresh_after, now) {
+                    if let Some(claimed) = self.claims(rt, key, now, refresh_after) {
+                        return Ok(self.renewed(rt, key, now, claimed, found, load()));
+                    }
                 }
                 Ok(Ok(Given::Fresh(found.value)))
             }
@@ -190,30 +197,34 @@ impl<
     }
 
     /// Whether this call is to ask the loader anew for a value that serves: where nobody has within
-    /// that time, this is the moment at which it was asked last from now on.
-    fn claims<R: Wait + Clock>(&self, rt: &R, key: &K, now: u64, refresh_after: u64) -> bool
+    /// that time, this is the moment at which it was asked last from now on. It tells the moment of
+    /// the value.
+    fn claims<R: Wait + Clock>(&self, rt: &R, key: &K, now: u64, refresh_after: u64) -> Option<u64>
         requires keys { (copy : K) → K.is_clone key.now copy → IsTrue (K.eq key.now copy) }
+        // What is claimed stood under the key, and nobody had asked for it anew.
+        ensures claims { IfSome result
+            (Claims ⟦<Fresh<S> as Lifecycle<K, Loaded<V>>>⟧.fits (K.eq key.now) refresh_after now) }
     {
-        let claims = |_key: &K, loaded: &mut Loaded<V>| -> EntryAction<bool>
-            ensures value { loaded.new.value ≡ loaded.old.value }
-            ensures moment { loaded.new.moment ≡ loaded.old.moment }
-        { EntryAction::Retain(loaded.claim(refresh_after, now)) };
+        let claims = |_key: &K, loaded: &mut Loaded<V>| -> EntryAction<Option<u64>>
+            ensures chooses { ChoosesToClaim refresh_after now loaded.old result loaded.new }
+        { claim(loaded, refresh_after, now) };
         match self.cache.entry(rt, key, Some(Duration::ZERO), claims) {
             EntryResult::Retained(claimed) => {
                 self.not_hits.fetch_add(1, Ordering::SeqCst);
                 claimed
             }
-            _ => false,
+            _ => None,
         }
     }
 
-    /// Answers what was loaded in the place of what serves, which it replaces unless that was
-    /// removed meanwhile. Where the load failed, what serves is answered.
-    fn renewed<R: Wait, E: Drop>(
+    /// Answers what was loaded in the place of what serves, which it replaces where that is still what
+    /// was claimed. Where the load failed, what serves is answered.
+    fn renewed<R: Wait + Clock, E: Drop>(
         &self,
         rt: &R,
         key: &K,
         now: u64,
+        claimed: u64,
         found: Loaded<V>,
         loaded: Result<V, E>,
     ) -> Result<Given<V, E>, E>
@@ -226,7 +237,7 @@ impl<
     {
         match loaded {
             Ok(value) => {
-                self.renew(rt, key, now, &value);
+                self.renews(rt, key, now, claimed, &value);
                 Ok(Given::Fresh(value))
             }
             Err(error) => Ok(Given::Stale {
@@ -236,19 +247,38 @@ impl<
         }
     }
 
-    /// Stores a clone of what was loaded in the place of what stands under the key, if anything does.
-    fn renew<R: Wait>(&self, rt: &R, key: &K, now: u64, value: &V)
+    /// Stores a clone of what was loaded now in the place of what was claimed, where that stands there
+    /// still, and tells whether it does so. What another stored meanwhile stays, and what was removed
+    /// does not come back.
+    fn renews<R: Wait + Clock>(&self, rt: &R, key: &K, now: u64, claimed: u64, value: &V) -> bool
         requires keys { (copy : K) → K.is_clone key.now copy → IsTrue (K.eq key.now copy) }
         requires gave { S.gives key.now now value.now }
         requires clones { GivesClones S.gives V.is_clone }
+        // What gave its place stood under the key, and is what was claimed.
+        ensures renews { IsTrue result → Renews ⟦<Fresh<S> as Lifecycle<K, Loaded<V>>>⟧.fits
+            (K.eq key.now) V.is_clone claimed now value.now }
     {
-        let Ok(own) = key.clone() else {
-            return;
+        // One that is gone is not loaded by an entry call, which would count that.
+        if !self.cache.contains_key(rt, key) {
+            return false;
+        }
+        let renews = |own: &K, loaded: &mut Loaded<V>| -> EntryAction<bool>
+            requires same { IsTrue (K.eq key.now own.now) }
+            ensures same { IsTrue (K.eq key.entry.now own.now) }
+            ensures chooses { ChoosesToRenew V.is_clone claimed now value.entry.now loaded.old
+                result loaded.new }
+        {
+            // Its contract speaks of the key.
+            let _key = key;
+            renew(loaded, claimed, now, value)
         };
-        let Ok(copy) = value.clone() else {
-            return;
-        };
-        let _ = self.cache.replace(rt, own, Loaded::at(copy, now), true);
+        match self.cache.entry(rt, key, Some(Duration::ZERO), renews) {
+            EntryResult::Retained(renewed) => {
+                self.not_hits.fetch_add(1, Ordering::SeqCst);
+                renewed
+            }
+            _ => false,
+        }
     }
 
     /// Fills by the guard, and where the load failed with the old value while its life and the grace
@@ -285,6 +315,31 @@ impl<
             }
         }
     }
+}
+
+/// Claims what is due, and tells its moment.
+fn claim<V>(loaded: &mut Loaded<V>, refresh_after: u64, now: u64) -> EntryAction<Option<u64>>
+    ensures chooses { ChoosesToClaim refresh_after now loaded.old result loaded.new }
+{
+    if loaded.claim(refresh_after, now) {
+        return EntryAction::Retain(Some(loaded.moment));
+    }
+    EntryAction::Retain(None)
+}
+
+/// Writes a clone of what was loaded now where a value is of the moment that was claimed, and its
+/// loader was last asked now, and tells whether it does.
+fn renew<V: Clone>(loaded: &mut Loaded<V>, claimed: u64, now: u64, value: &V) -> EntryAction<bool>
+    ensures chooses { ChoosesToRenew V.is_clone claimed now value.now loaded.old result loaded.new }
+{
+    if loaded.moment != claimed || loaded.asked != now {
+        return EntryAction::Retain(false);
+    }
+    let Ok(copy) = value.clone() else {
+        return EntryAction::Retain(false);
+    };
+    *loaded = Loaded::at(copy, now);
+    EntryAction::Retain(true)
 }
 
 /// What was loaded, as an answer.

@@ -71,8 +71,9 @@ impl<
     }
 
     /// As `get`, and where the value serves and its loader was last asked longer ago than
-    /// `refresh_after`, this call asks it anew, stores what it gives and answers that; all others
-    /// are answered the old value meanwhile.
+    /// `refresh_after`, this call asks it anew and answers what it gives; all others are answered the
+    /// old value meanwhile. What it gives is stored in the place of the old value, if that was neither
+    /// removed nor replaced meanwhile. It is weighed anew; what is too much leaves with the next write.
     ///
     /// # Errors
     ///

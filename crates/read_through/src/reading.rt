@@ -184,7 +184,8 @@ impl<K: Eq + Hash + Drop, V: Drop, F, S: Source<K, V>, A: Allocator, Li, We> Rea
         self.cache.put(rt, key, Loaded::at(value, now))
     }
 
-    /// Takes what is stored under the key out, fresh or not, so that the next get of it loads.
+    /// Takes what is stored under the key out, fresh or not, so that the next get of it loads. What a
+    /// load gives that is under way is not stored.
     pub fn remove<R: Wait>(&self, rt: &R, key: &K) -> Option<Loaded<V>>
         ensures { IfSome result (λ loaded.
             IsOf S.gives K.eq key.now loaded.moment loaded.value) }
@@ -193,6 +194,16 @@ impl<K: Eq + Hash + Drop, V: Drop, F, S: Source<K, V>, A: Allocator, Li, We> Rea
             Some((_, loaded)) => Some(loaded),
             None => None,
         }
+    }
+
+    /// Drops what is stored of the keys that pass the test, and takes from the loads that are under
+    /// way for such keys the right to be stored. It tells how many values and loads there were; one
+    /// that asks for a stored value anew is not counted beside that. It takes the write lock of each
+    /// shard in turn, under which the test runs.
+    pub fn invalidate_if<T: Fn(&K) -> bool, R: Wait>(&self, rt: &R, test: T) -> usize
+        requires callable { T.IsAlwaysCallable test }
+    {
+        self.cache.invalidate_if(rt, test)
     }
 
     /// Drops all that is stored.

@@ -1,5 +1,6 @@
 //! A loader with its cache, by rows, refusals and tasks.
 
+pub mod changes;
 pub mod hundreds;
 pub mod lives;
 pub mod refused;

@@ -29,6 +29,8 @@ pub struct Expiring<
     pub(crate) cache: Cache<K, Lasting<V>, ByValue<We>, B, L, A>,
     // How many looks found what was over.
     pub(crate) expired: u64,
+    // For how many of these the cache counted the miss.
+    pub(crate) missed: u64,
     // The token behind which the next purge of some goes on.
     pub(crate) from: Option<Token>,
 }
@@ -42,6 +44,7 @@ impl<K: Eq + Hash, V, We, B: BuildHasher, L, A: Allocator> Model for Expiring<K,
     ghost view = { λ entries. record {
       cache = entries.cache;
       expired = entries.expired;
+      missed = entries.missed;
       from = number_or_zero entries.from;
     } };
 }
@@ -65,7 +68,8 @@ impl<K: Eq + Hash, V, A: Allocator> Expiring<
         A: Clone,
         ensures makes { IfOk result (λ made. made.cache.state ≡ empty_state items
             (hot_target_of items default_hot_share) (ghost_limit_of items default_ghost_share)) }
-        ensures none { IfOk result (λ made. (made.expired ≡ 0) × (made.from ≡ 0)) }
+        ensures none { IfOk result (λ made. (made.expired ≡ 0) × (made.missed ≡ 0)
+            × (made.from ≡ 0)) }
         ensures succeeds { A.is_infallible alloc → IsOk result }
         ensures refused { IfErr result (λ refusal. refusal ≡ Memory) }
     {
@@ -105,7 +109,8 @@ impl<K: Eq + Hash, V, We, B: BuildHasher, L, A: Allocator> Expiring<K, V, We, B,
         ensures weigher { IfOk result (λ made. made.cache.weigher.weigher ≡ weigher) }
         ensures builder { IfOk result (λ made. made.cache.builder ≡ builder) }
         ensures lifecycle { IfOk result (λ made. made.cache.lifecycle ≡ lifecycle) }
-        ensures none { IfOk result (λ made. (made.expired ≡ 0) × (made.from ≡ 0)) }
+        ensures none { IfOk result (λ made. (made.expired ≡ 0) × (made.missed ≡ 0)
+            × (made.from ≡ 0)) }
         ensures succeeds { A.is_infallible alloc → IsOk result }
         ensures refused { IfErr result (λ refusal. refusal ≡ Memory) }
     {
@@ -114,6 +119,7 @@ impl<K: Eq + Hash, V, We, B: BuildHasher, L, A: Allocator> Expiring<K, V, We, B,
         Ok(Expiring {
             cache,
             expired: 0,
+            missed: 0,
             from: None,
         })
     }
@@ -135,12 +141,17 @@ impl<K: Eq + Hash, V, We, B: BuildHasher, L, A: Allocator> Expiring<K, V, We, B,
     /// What the looks found.
     pub fn stats(&self) -> Stats
         ensures hits { result.hits ≡ self.now.cache.state.hits }
-        ensures misses { result.misses ≡ counted_up self.now.expired self.now.cache.state.misses }
+        // A load that found what was over counts as one miss, too.
+        ensures misses { result.misses ≡ counted_up (self.now.expired - self.now.missed)
+            self.now.cache.state.misses }
         ensures expired { result.expired ≡ self.now.expired }
     {
         Stats {
             hits: self.cache.hits(),
-            misses: self.cache.misses().saturating_add(self.expired),
+            misses: self
+                .cache
+                .misses()
+                .saturating_add(self.expired.saturating_sub(self.missed)),
             expired: self.expired,
         }
     }

@@ -4,7 +4,7 @@ ghost use Rattle.std.specs.Borrow.{sem};
 ghost use Rattle.std.specs.Bool.{OnTrue, OnFalse};
 ghost use Rattle.quick_cache_model.specs.Lookups.{Sees};
 ghost use Rattle.quick_cache_shard.specs.Shard.{IsSoundShard};
-ghost use Rattle.quick_cache_expiring.specs.Entries.{Drops, Gets, HasNoneOver, HasOver, Shows};
+ghost use Rattle.quick_cache_expiring.specs.Entries.{Drops, Expires, Gets, HasNoneOver, HasOver, Shows};
 
 use crate::alone::expiring::Expiring;
 use quick_cache_model::Equivalent;
@@ -69,6 +69,7 @@ impl<K: Eq + Hash, V, We, B: BuildHasher, L, A: Allocator> Expiring<K, V, We, B,
         K: Drop,
         V: Drop,
         ensures gets { OnTrue result (Gets (Q.equivalent query.now) now self.old None self.new) }
+        ensures expires { OnTrue result (Expires (Q.equivalent query.now) now self.old self.new) }
         ensures same { OnFalse result (self.new ≡ self.old) }
         ensures none { OnFalse result
             (HasNoneOver (Q.equivalent query.now) now self.old.cache.state) }
@@ -81,7 +82,7 @@ impl<K: Eq + Hash, V, We, B: BuildHasher, L, A: Allocator> Expiring<K, V, We, B,
     }
 
     /// Takes the entry under the query's key out where it is over, and tells whether it was.
-    pub(crate) fn drops_over<Q: Equivalent<K>>(&mut self, query: &Q, now: u64) -> bool
+    fn drops_over<Q: Equivalent<K>>(&mut self, query: &Q, now: u64) -> bool
     where
         K: Drop,
         V: Drop,

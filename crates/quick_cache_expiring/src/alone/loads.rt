@@ -2,7 +2,7 @@
 ghost use Rattle.std.specs.Prelude.{◌≡◌, true};
 ghost use Rattle.quick_cache_model.specs.Hashing.{hash_of};
 ghost use Rattle.quick_cache_expiring.specs.Lives.{end_of};
-ghost use Rattle.quick_cache_expiring.specs.Loads.{GivesWithEnd, LoadsAt};
+ghost use Rattle.quick_cache_expiring.specs.Loads.{GivesWithEnd, LoadsAt, missed_after};
 
 use crate::alone::expiring::Expiring;
 use crate::by_value::ByValue;
@@ -22,8 +22,9 @@ impl<
     A: Allocator,
 > Expiring<K, V, We, B, L, A> {
     /// Looks the query's key up, as `get` does. Where nothing serves, calls the loader and stores
-    /// its value from this moment on, for so long. What is over is taken out first. The answer tells
-    /// whether an entry of the key is there when the call returns.
+    /// its value from this moment on, for so long. What is over is taken out first, and counts as one
+    /// miss and as expired, as by `get`. The answer tells whether an entry of the key is there when
+    /// the call returns.
     ///
     /// # Errors
     ///
@@ -45,7 +46,7 @@ impl<
             now (end_of now life) (F.post loader) self.old result self.new }
     {
         let until = end_of(now, life);
-        self.drops_over(query, now);
+        let over = self.expires(query, now);
         let lasts = || -> Result<Lasting<V>, E>
             requires { F.pre loader }
             ensures { GivesWithEnd (F.post loader) until result }
@@ -55,6 +56,20 @@ impl<
                 Err(error) => Err(error),
             }
         };
-        self.cache.load(query, lasts)
+        let answer = self.cache.load(query, lasts);
+        self.misses(over, &answer);
+        answer
+    }
+
+    /// Counts that the cache counted the miss of a load that found what was over, which it does
+    /// unless the load was refused.
+    fn misses<E>(&mut self, over: bool, answer: &Result<Result<bool, E>, Refusal>)
+        ensures { self.new ≡ record self.old {
+          missed = missed_after over answer.now self.old.missed;
+        } }
+    {
+        if over && answer.is_ok() {
+            self.missed = self.missed.saturating_add(1);
+        }
     }
 }

@@ -81,6 +81,27 @@ fn what_is_invalidated_is_not_stored_afterwards(rt: HostRuntime) {
 }
 
 #[test]
+fn each_load_of_a_shard_is_invalidated(rt: HostRuntime) {
+    // All keys of so small a cache have one shard.
+    let cache: Numbers = expect_ok!(rt; Cache::new(rt.alloc(), 8));
+    let (GuardResult::Guard(first), GuardResult::Guard(other), GuardResult::Guard(last)) = (
+        cache.get_value_or_guard(&rt, &2, None),
+        cache.get_value_or_guard(&rt, &3, None),
+        cache.get_value_or_guard(&rt, &4, None),
+    ) else {
+        panic!(rt; "the keys are absent");
+    };
+    expect_eq!(rt; cache.invalidate_if(&rt, |key| *key % 2 == 0), 2);
+    let stored = [
+        first.insert(20).is_ok(),
+        other.insert(30).is_ok(),
+        last.insert(40).is_ok(),
+    ];
+    expect_eq!(rt; stored, [false, true, false]);
+    expect_eq!(rt; cache.len(&rt), 1);
+}
+
+#[test]
 fn the_loader_is_called_until_it_gives_a_value(rt: HostRuntime) {
     let cache: Numbers = expect_ok!(rt; Cache::new(rt.alloc(), 100));
     let mut calls = 0;

@@ -98,4 +98,29 @@ fn what_is_over_is_loaded_anew(rt: HostRuntime) {
     let failed: Result<u64, u64> = Err(7);
     expect_eq!(rt; entries.load(&2, 5, 10, || failed), Ok(Err(7)));
     expect_eq!(rt; (entries.len(), entries.peek(&2, 5).copied()), (1, None));
+    let stats = Stats {
+        hits: 2,
+        misses: 4,
+        expired: 2,
+    };
+    expect_eq!(rt; entries.stats(), stats);
+}
+
+#[test]
+fn a_load_of_what_is_over_counts_as_a_get_of_it(rt: HostRuntime) {
+    let mut entries: Expiring<u64, u64> = expect_ok!(rt; Expiring::new(rt.alloc(), 8));
+    expect_eq!(rt; entries.insert(1, 0, 0, 10).is_ok(), true);
+    // The moment of a load for ten moments, and the hits, the misses and what had expired then.
+    for (now, counts) in [
+        (9, [1, 0, 0]),
+        (10, [1, 1, 1]),
+        (19, [2, 1, 1]),
+        (20, [2, 2, 2]),
+    ] {
+        let loader = || -> Result<u64, Infallible> { Ok(now) };
+        expect_eq!(rt; entries.load(&1, now, 10, loader), Ok(Ok(true)));
+        let stats = entries.stats();
+        expect_eq!(rt; [stats.hits, stats.misses, stats.expired], counts);
+    }
+    expect_eq!(rt; (entries.get(&1, 30).copied(), entries.stats().misses), (None, 3));
 }

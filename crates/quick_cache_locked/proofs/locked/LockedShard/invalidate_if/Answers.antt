@@ -1,12 +1,12 @@
-use Rattle.std.specs.List.{Contains}
 use Rattle.std.specs.Fn.{FnReturnsAt}
-use Rattle.std.proofs.Common.{◌≡◌, true, false, not, refl, ap, sym, ◌∙◌, subst}
-use Rattle.quick_cache_model.specs.CacheState.{IsValid, UpToOrder}
-use Rattle.quick_cache_shard.specs.Filling.{AwaitsKey}
+use Rattle.std.proofs.Common.{not, Some, sym, ap, ◌∙◌, subst, arith}
+use Rattle.quick_cache_model.specs.CacheState.{item_count}
+use Rattle.quick_cache_policy.proofs.FindLemmas.{none-found}
+use Rattle.quick_cache_shard.specs.Loading.{HasNoneWanted}
 use Rattle.quick_cache_shard.specs.Shard.{Shard}
-use Rattle.quick_cache_locked.specs.Invalidates.{InvalidatesAsked}
-use Rattle.quick_cache_locked.proofs.InvalidateLemmas.{Invalidates-begins, Invalidates-goes_on, not-twice}
-use Rattle.quick_cache_locked.proofs.locked.LockedShard.invalidate_if.Goals.{then-passes, else-passes, in-Some-loading_key, in-None}
+use Rattle.quick_cache_locked.specs.Invalidates.{GivesUpAsked, is_between}
+use Rattle.quick_cache_locked.proofs.AskedLemmas.{SaysNo, all-asked, asked-turn, none-asked, retains-count, turn-counts}
+use Rattle.quick_cache_locked.proofs.InvalidateLemmas.{Invalidates-begins, Invalidates-turn, not-twice}
 use Rattle.quick_cache_locked.proofs.locked.LockedShard.invalidate_if.Goals as goal
 
 -- the items were asked
@@ -20,87 +20,75 @@ loop-shared-init g c = record {
       (sym (ap not said.2 ∙ not-twice said.0))
       (subst (λ shown. FnReturnsAt g.F.Fn c.args.test shown said.0) says.shows.0 said.1))
       c.args.self.now.state c.retain.new.self.state c.retain.ensures.asks;
+  asked = none-asked (SaysNo (FnReturnsAt g.F.Fn c.args.test)) c.retain.new.self.state.loading;
+  number = omega (
+    arith,
+    retains-count _ c.args.self.now.state c.retain.new.self.state c.retain.ensures.asks,
+    c.len-before.ensures.count,
+    ap (λ (s : Shard _ _ _ _ _). item_count s.state) c.self.view_is,
+    c.len.ensures.count,
+    ap (λ (s : Shard _ _ _ _ _). item_count s.state) c.self-2.view_is,
+    c.saturating_sub-gone.ensures,
+  );
 }
 
--- one placeholder more was asked, and what is left was there
-pub loop-shared-preserved-after-passes : goal.loop-shared-preserved-after-passes
-loop-shared-preserved-after-passes g c = record {
-  places = λ place there. c.loop-shared.invariant.places place (elim c.if-passes.branch [
-    | then-passes w ↦ w.give_up_load.ensures.places place
-        (subst (λ s. Contains s.places place) w.self-is there)
-    | else-passes w ↦ subst (λ s. Contains s.places place) w.self-is there
-  ]);
-  asks = elim c.if-passes.branch [
-    | then-passes w ↦ elim c.match-loading_key.branch [
-      | in-Some-loading_key m ↦
-          let key = m.in-Some-loading_key.key in
-          let is_kept = c.self-in-loop-shared.view_is in
-          subst (λ (s : Shard g.row.K.Denot g.row.V.Denot g.row.We.Denot g.row.B.Denot
-          g.row.L.Denot). UpToOrder (InvalidatesAsked (FnReturnsAt g.F.Fn c.args.test)
-          c.args.self.now.state) s.state) (sym w.self-is)
-          (Invalidates-goes_on (FnReturnsAt g.F.Fn c.args.test) g.K.PartialEq.eq
-          c.in-Some.shared.ticket key.now c.args.self.now.state c.loop-shared.self.state
-          w.give_up_load.new.self.state
-          (subst (λ (s : Shard g.row.K.Denot g.row.V.Denot g.row.We.Denot g.row.B.Denot
-          g.row.L.Denot). IsValid g.K.PartialEq.eq s.state) is_kept
-          c.loading_key.ensures.sound.valid)
-          (subst (λ (s : Shard g.row.K.Denot g.row.V.Denot g.row.We.Denot g.row.B.Denot
-          g.row.L.Denot). AwaitsKey c.in-Some.shared.ticket s.state key.now) is_kept
-          m.in-Some-loading_key.ensures.key)
-          (record {
-            shown = key;
-            shows = refl;
-            says = record {
-              met = subst (λ answer. g.F.Fn.post c.args.test (key, tt) answer)
-                  (sym m.passes-is ∙ w.if-passes.true) m.test-passes.ensures;
-            };
-          })
-          w.give_up_load.ensures.gives_up c.loop-shared.invariant.asks)
-      | in-None m ↦ let never : true ≡ false = sym w.if-passes.true ∙ m.passes-is in absurd cc
-    ]
-    | else-passes w ↦ subst (λ (s : Shard g.row.K.Denot g.row.V.Denot g.row.We.Denot
-        g.row.B.Denot g.row.L.Denot). UpToOrder (InvalidatesAsked (FnReturnsAt g.F.Fn c.args.test)
-        c.args.self.now.state) s.state) (sym w.self-is) c.loop-shared.invariant.asks
-  ];
-}
-
+-- one ticket more was asked
 pub loop-shared-preserved : goal.loop-shared-preserved
-loop-shared-preserved g c = record {
-  places = λ place there. c.loop-shared.invariant.places place (elim c.if-passes.branch [
-    | then-passes w ↦ w.give_up_load.ensures.places place
-        (subst (λ s. Contains s.places place) w.self-is there)
-    | else-passes w ↦ subst (λ s. Contains s.places place) w.self-is there
-  ]);
-  asks = elim c.if-passes.branch [
-    | then-passes w ↦ elim c.match-loading_key.branch [
-      | in-Some-loading_key m ↦
-          let key = m.in-Some-loading_key.key in
-          let is_kept = c.self-in-loop-shared.view_is in
-          subst (λ (s : Shard g.row.K.Denot g.row.V.Denot g.row.We.Denot g.row.B.Denot
-          g.row.L.Denot). UpToOrder (InvalidatesAsked (FnReturnsAt g.F.Fn c.args.test)
-          c.args.self.now.state) s.state) (sym w.self-is)
-          (Invalidates-goes_on (FnReturnsAt g.F.Fn c.args.test) g.K.PartialEq.eq
-          c.in-Some.shared.ticket key.now c.args.self.now.state c.loop-shared.self.state
-          w.give_up_load.new.self.state
-          (subst (λ (s : Shard g.row.K.Denot g.row.V.Denot g.row.We.Denot g.row.B.Denot
-          g.row.L.Denot). IsValid g.K.PartialEq.eq s.state) is_kept
-          c.loading_key.ensures.sound.valid)
-          (subst (λ (s : Shard g.row.K.Denot g.row.V.Denot g.row.We.Denot g.row.B.Denot
-          g.row.L.Denot). AwaitsKey c.in-Some.shared.ticket s.state key.now) is_kept
-          m.in-Some-loading_key.ensures.key)
-          (record {
-            shown = key;
-            shows = refl;
-            says = record {
-              met = subst (λ answer. g.F.Fn.post c.args.test (key, tt) answer)
-                  (sym m.passes-is ∙ w.if-passes.true) m.test-passes.ensures;
-            };
-          })
-          w.give_up_load.ensures.gives_up c.loop-shared.invariant.asks)
-      | in-None m ↦ let never : true ≡ false = sym w.if-passes.true ∙ m.passes-is in absurd cc
-    ]
-    | else-passes w ↦ subst (λ (s : Shard g.row.K.Denot g.row.V.Denot g.row.We.Denot
-        g.row.B.Denot g.row.L.Denot). UpToOrder (InvalidatesAsked (FnReturnsAt g.F.Fn c.args.test)
-        c.args.self.now.state) s.state) (sym w.self-is) c.loop-shared.invariant.asks
-  ];
-}
+loop-shared-preserved g c =
+    let answers = FnReturnsAt g.F.Fn c.args.test in
+    let ticket = c.ticket.result in
+    let old = c.loop-shared.self.state in
+    let new = c.give_up_if.new.self.state in
+    let valid = c.give_up_if.ensures.sound.valid in
+    let gives = subst (λ t. GivesUpAsked answers t old c.give_up_if.result new)
+    (sym c.ticket.ensures) c.give_up_if.ensures.gives_up in
+    let none_between = subst (λ t. HasNoneWanted (is_between c.loop-shared.above (Some t)) old)
+    (sym c.ticket.ensures) c.in-Some.ensures.none_between in
+    let so_far = c.loop-shared.invariant in
+    record {
+      places = λ place there. so_far.places place (c.give_up_if.ensures.places place there);
+      asks = Invalidates-turn answers g.K.PartialEq.eq ticket _ c.args.self.now.state old new valid
+          gives so_far.asks;
+      asked = asked-turn answers ticket g.K.PartialEq.eq c.loop-shared.above _ old new valid
+          none_between so_far.asked gives;
+      number = omega (
+        arith,
+        turn-counts answers ticket _ old new gives,
+        c.from-gone.ensures,
+        so_far.number,
+      );
+    }
+
+-- the same, where the placeholder was let go
+pub loop-shared-preserved-in-Some : goal.loop-shared-preserved-in-Some
+loop-shared-preserved-in-Some g c =
+    let answers = FnReturnsAt g.F.Fn c.args.test in
+    let ticket = c.ticket.result in
+    let old = c.loop-shared.self.state in
+    let new = c.give_up_if.new.self.state in
+    let valid = c.give_up_if.ensures.sound.valid in
+    let gives = subst (λ t. GivesUpAsked answers t old c.give_up_if.result new)
+    (sym c.ticket.ensures) c.give_up_if.ensures.gives_up in
+    let none_between = subst (λ t. HasNoneWanted (is_between c.loop-shared.above (Some t)) old)
+    (sym c.ticket.ensures) c.in-Some.ensures.none_between in
+    let so_far = c.loop-shared.invariant in
+    record {
+      places = λ place there. so_far.places place (c.give_up_if.ensures.places place there);
+      asks = Invalidates-turn answers g.K.PartialEq.eq ticket _ c.args.self.now.state old new valid
+          gives so_far.asks;
+      asked = asked-turn answers ticket g.K.PartialEq.eq c.loop-shared.above _ old new valid
+          none_between so_far.asked gives;
+      number = omega (
+        arith,
+        turn-counts answers ticket _ old new gives,
+        c.from-gone.ensures,
+        so_far.number,
+      );
+    }
+
+-- no ticket is left, so each was asked
+pub returns-clause-asked : goal.returns-clause-asked
+returns-clause-asked g c =
+    all-asked (SaysNo (FnReturnsAt g.F.Fn c.args.test)) c.loop-shared.above
+    c.loop-shared.self.state.loading
+    (none-found _ _ c.in_default.not-Some c.next_load.ensures) c.loop-shared.invariant.asked

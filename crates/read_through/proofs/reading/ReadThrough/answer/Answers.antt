@@ -5,8 +5,8 @@ use Rattle.read_through.proofs.AnswerLemmas.{Answers-called, AnswersLate-found, 
 use Rattle.read_through.proofs.reading.ReadThrough.answer.Goals as goal
 
 -- what was found under an equal key and serves is answered where the load failed
-pub returns-then-claims-clause-stale : goal.returns-then-claims-clause-stale
-returns-then-claims-clause-stale g c =
+pub returns-in-Some-clause-stale : goal.returns-in-Some-clause-stale
+returns-in-Some-clause-stale g c =
     let fits = c.in-Value.ensures.fits (ClonesFit-loaded g.S.Source.gives g.K.PartialEq.eq
     g.met.K.Eq.laws g.V.Clone.is_clone c.requires.clones) in
     let found = c.in-Value.found in
@@ -21,6 +21,19 @@ returns-then-claims-clause-stale g c =
     (c.if-not-serves.ensures.0 refl))))
     c.renewed.result
     c.renewed.ensures.stale
+
+-- so is what was loaded in its place
+pub returns-in-Some-clause-fresh : goal.returns-in-Some-clause-fresh
+returns-in-Some-clause-fresh g c =
+    IfFresh-loaded
+    (Answers g.S.Source.gives g.K.PartialEq.eq c.args.key.now
+    (g.Li.Lives.life_of c.args.self.now.lives c.args.key.now) c.args.now)
+    c.load.result
+    (Answers-called g.S.Source.gives g.K.PartialEq.eq g.met.K.Eq.laws c.args.key.now
+    (g.Li.Lives.life_of c.args.self.now.lives c.args.key.now) c.args.now
+    (g.G.FnOnce.post c.args.load tt) c.requires.loads c.load.result c.load.ensures)
+    c.renewed.result
+    c.renewed.ensures.fresh
 
 -- who has the guard loads
 pub returns-in-Guard-clause-fresh : goal.returns-in-Guard-clause-fresh

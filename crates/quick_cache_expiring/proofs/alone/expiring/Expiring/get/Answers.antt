@@ -13,8 +13,8 @@ returns-in_err-lasting g c =
         (λ entries. tt),
         rw (← same)
             (Gets-looks (g.Q.Equivalent.equivalent c.args.query.now) c.args.now
-            (record { cache = c.self.inside.cache; expired = c.self.inside.expired; from = number_or_zero c.self.inside.from })
-            (record { cache = c.get.follows.lender-at-none; expired = c.self.inside.expired; from = number_or_zero c.self.inside.from }) none
+            (record { cache = c.self.inside.cache; expired = c.self.inside.expired; missed = c.self.inside.missed; from = number_or_zero c.self.inside.from })
+            (record { cache = c.get.follows.lender-at-none; expired = c.self.inside.expired; missed = c.self.inside.missed; from = number_or_zero c.self.inside.from }) none
             (option_copied c.get.result) looks.0 looks.1 refl (option_copied c.from_residual.result)
             (ap value_in (ap option_copied c.in_err-lasting.was)
             ∙ sym (ap option_copied c.from_residual.ensures))),
@@ -32,8 +32,8 @@ returns g c =
         (λ entries. tt),
         rw (← same)
             (Gets-looks (g.Q.Equivalent.equivalent c.args.query.now) c.args.now
-            (record { cache = c.self.inside.cache; expired = c.self.inside.expired; from = number_or_zero c.self.inside.from })
-            (record { cache = c.get.follows.lender-at-none; expired = c.self.inside.expired; from = number_or_zero c.self.inside.from }) none
+            (record { cache = c.self.inside.cache; expired = c.self.inside.expired; missed = c.self.inside.missed; from = number_or_zero c.self.inside.from })
+            (record { cache = c.get.follows.lender-at-none; expired = c.self.inside.expired; missed = c.self.inside.missed; from = number_or_zero c.self.inside.from }) none
             (option_copied c.get.result) looks.0 looks.1 refl _
             (ap value_in (ap option_copied c.in_ok-lasting.was))),
       ),

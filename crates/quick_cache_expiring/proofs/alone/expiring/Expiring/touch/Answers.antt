@@ -14,8 +14,8 @@ returns-in_default g c =
     record {
       touches = rw (← same)
           (Gets-looks (g.Q.Equivalent.equivalent c.args.query.now) c.args.now
-          (record { cache = c.self.inside.cache; expired = c.self.inside.expired; from = number_or_zero c.self.inside.from })
-          (record { cache = c.get_mut.follows.lender-at-none; expired = c.self.inside.expired; from = number_or_zero c.self.inside.from })
+          (record { cache = c.self.inside.cache; expired = c.self.inside.expired; missed = c.self.inside.missed; from = number_or_zero c.self.inside.from })
+          (record { cache = c.get_mut.follows.lender-at-none; expired = c.self.inside.expired; missed = c.self.inside.missed; from = number_or_zero c.self.inside.from })
           none None looks.0 looks.1 refl None refl);
     }
 
@@ -33,8 +33,8 @@ returns g c =
           (goes_by g.K.Hash.hash_input
           (ghosts g.row.K g.row.V g.row.We g.We.Weighter g.We.Weighter-dict) g.B.BuildHasher
           g.B.Hasher.Hasher g.L.Lifecycle) c.args.now c.end_of-until.result
-          (record { cache = c.self.inside.cache; expired = c.self.inside.expired; from = number_or_zero c.self.inside.from })
-          (record { cache = c.self-2-1.given.0; expired = c.self.inside.expired; from = number_or_zero c.self.inside.from })
+          (record { cache = c.self.inside.cache; expired = c.self.inside.expired; missed = c.self.inside.missed; from = number_or_zero c.self.inside.from })
+          (record { cache = c.self-2-1.given.0; expired = c.self.inside.expired; missed = c.self.inside.missed; from = number_or_zero c.self.inside.from })
           c.args.query.now r.query.now e.query none r.cache.now e.same
           (keys_by-one test g.K.PartialEq.eq (g.met.Q.Equivalent.same_key c.args.query.now)
           r.cache.now.state e.sound.valid)

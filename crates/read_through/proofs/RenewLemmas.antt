@@ -1,0 +1,48 @@
+-- What the callbacks told that claim an entry or renew it.
+use Rattle.std.proofs.Common.{◌≡◌, ℕ, Bool, true, false, IsTrue, Option, Some, None, IfSome, ap, subst, ◌∙◌}
+use denote.Ref.{Bor, MutBor}
+use denote.Param.Members.{Once}
+use Rattle.quick_cache_model.specs.declared.calls.entry.EntryAction.{EntryAction}
+use Rattle.quick_cache_model.specs.declared.calls.entry.EntryAction.TheVariants.{Retain as retain}
+use Rattle.quick_cache_guard.specs.Acts.{LeavesOnce, MayTell}
+use Rattle.quick_cache_expiring.specs.declared.loaded.Loaded.{Loaded}
+use Rattle.quick_cache_expiring.specs.Moments.{IsDue}
+use Rattle.read_through.specs.Renewals.{ChoosesToClaim, ChoosesToRenew, Claims, IsClaimed, Renews}
+
+-- what it told to be claimed was due
+pub Claims-told : {F K V : Type 0}
+    (calls : Once F (Bor K × (MutBor (Loaded V) × Unit {0}))
+    (EntryAction (Option ℕ) × (MutBor (Loaded V) × Unit {0})))
+    (fits : K → Loaded V → Type 0) (test : K → Bool) (callback : F) (refresh_after now : ℕ)
+    (claimed : Option ℕ) (told : MayTell (LeavesOnce calls callback) fits test claimed)
+    → ChoosesToClaim refresh_after now told.called.shown.now (retain claimed)
+    told.called.left_by.now
+    → IfSome claimed (Claims fits test refresh_after now)
+Claims-told calls fits test callback refresh_after now (Some moment) told chosen = record {
+  was = told.value;
+  due = subst (λ (loaded : Loaded _). IsDue loaded.asked refresh_after now) told.called.shows.1
+      chosen.0;
+  of = chosen.1 ∙ ap (λ (loaded : Loaded _). loaded.moment) told.called.shows.1;
+  fits_query = record { key = told.key; stands = told.stands; fits_key = told.fits_key };
+}
+Claims-told calls fits test callback refresh_after now None told chosen = tt
+
+-- what it told to be renewed was what was claimed
+pub Renews-told : {F K V : Type 0}
+    (calls : Once F (Bor K × (MutBor (Loaded V) × Unit {0}))
+    (EntryAction Bool × (MutBor (Loaded V) × Unit {0})))
+    (fits : K → Loaded V → Type 0) (test : K → Bool) (callback : F) (is_clone : V → V → Type 0)
+    (claimed now : ℕ) (value : V) (renewed : Bool)
+    (told : MayTell (LeavesOnce calls callback) fits test renewed)
+    → ChoosesToRenew is_clone claimed now value told.called.shown.now (retain renewed)
+    told.called.left_by.now
+    → IsTrue renewed → Renews fits test is_clone claimed now value
+Renews-told calls fits test callback is_clone claimed now value true told chosen so = record {
+  was = told.value;
+  left = told.called.left_by.now;
+  claimed_then = subst (IsClaimed claimed now) told.called.shows.1 chosen.0;
+  loaded_now = chosen.1;
+  fits_query = record { key = told.key; stands = told.stands; fits_key = told.fits_key };
+}
+Renews-told calls fits test callback is_clone claimed now value false told chosen so =
+    let never : false ≡ true = so in absurd cc

@@ -1,0 +1,26 @@
+//! Texts that find what is kept under a `String`, by what the crates themselves give on.
+use quick_cache_expiring::{Expiring, Text, TextIn};
+use quick_cache_expiring_sync::SharedExpiring;
+use std::convert::Infallible;
+use test_tools::{expect, expect_eq, expect_ok};
+
+#[test]
+fn a_text_finds_and_loads_what_ends(rt: HostRuntime) {
+    let alloc = rt.alloc();
+    let mut ages: Expiring<String, u64> = expect_ok!(rt; Expiring::new(alloc, 8));
+    let loader = || -> Result<u64, Infallible> { Ok(30) };
+    expect_eq!(rt; ages.load(&TextIn::new(alloc, "anna"), 0, 10, loader), Ok(Ok(true)));
+    expect_eq!(rt; ages.get(&Text("anna"), 9).copied(), Some(30));
+    expect!(rt; ages.get(&Text("ann"), 9).is_none());
+}
+
+#[test]
+fn a_text_finds_and_loads_what_threads_share(rt: HostRuntime) {
+    let alloc = rt.alloc();
+    let ages: SharedExpiring<String, u64> = expect_ok!(rt; SharedExpiring::new(alloc, 8));
+    let anna = quick_cache_expiring_sync::TextIn::new(alloc, "anna");
+    let loader = || -> Result<u64, Infallible> { Ok(30) };
+    expect_eq!(rt; ages.get_or_insert_with(&rt, &anna, 0, 10, loader), Ok(Ok(30)));
+    let found = ages.get(&rt, &quick_cache_expiring_sync::Text("anna"), 9);
+    expect_eq!(rt; found, Ok(Some(30)));
+}
