@@ -44,10 +44,10 @@ BRACE = re.compile(r"[{}]")
 def end_of_block(text, at):
     """The place behind the brace that closes the one at this place."""
     depth = 0
-    for found in BRACE.finditer(text, at):
-        depth += 1 if found.group() == "{" else -1
+    for brace in BRACE.finditer(text, at):
+        depth += 1 if brace[0] == "{" else -1
         if depth == 0:
-            return found.end()
+            return brace.end()
     return len(text)
 
 
@@ -60,20 +60,22 @@ HEAD = re.compile(
 
 
 def clauses_behind(text, at):
-    """The labels of the clauses of a function whose parameters begin at this place; and its end."""
-    labels = []
+    """The clauses of a function whose parameters begin at this place, each with its label and where it
+    begins and ends; and the function's end."""
+    clauses = []
     while at < len(text):
         found = HEAD.match(text, at)
         if found["clause"]:
-            labels.append(found["label"] or found["clause"].rstrip("*"))
             at = end_of_block(text, found.end() - 1)
+            label = found["label"] or found["clause"].rstrip("*")
+            clauses.append((label, found.start(), at))
         elif found["body"]:
-            return labels, end_of_block(text, at)
+            return clauses, end_of_block(text, at)
         elif found["end"]:
-            return labels, found.end()
+            return clauses, found.end()
         else:
             at = found.end()
-    return labels, at
+    return clauses, at
 
 
 ITEM = re.compile(
@@ -104,10 +106,19 @@ def owner_of(kind, head):
     return names[-1] if kind == "impl" and names else names[0] if names else ""
 
 
-@functools.cache
 def functions_of(crate):
-    """What a crate has: each function as `Type::name` or `name`, with its labels; and the files."""
-    found = {}
+    """What a crate has: each function as `Type::name` or `name`, with its labels."""
+    return read_off(crate)[0]
+
+
+def places_of(crate, name):
+    """Where a function stands: for each of this name its file, where it begins, and its clauses."""
+    return read_off(crate)[1].get(name, [])
+
+
+@functools.cache
+def read_off(crate):
+    found, places = {}, {}
     for path in [it for it in FILES if it.startswith(f"crates/{crate}/src/")]:
         text = COMMENTS.sub(blank, read(path))
         at, owners, here = 0, [], []
@@ -123,10 +134,12 @@ def functions_of(crate):
                     if item["kind"] == "trait":
                         found.setdefault(owner, set())
             elif item["fn"]:
-                labels, at = clauses_behind(text, at)
+                clauses, at = clauses_behind(text, at)
+                labels = [it[0] for it in clauses]
                 owner = next((it for it in reversed(owners) if it[1] != "mod"), None)
                 name = f"{owner[0]}::{item['fn']}" if owner else item["fn"]
                 found.setdefault(name, set()).update(labels)
+                places.setdefault(name, []).append((path, item.start(), clauses))
                 if owner:
                     owner[2].append(name)
                     if owner[1] == "trait":
@@ -145,7 +158,7 @@ def functions_of(crate):
                 found[name].add(ghost)
             if kind == "trait" and owner in found:
                 found[owner].add(ghost)
-    return found
+    return found, places
 
 
 if __name__ == "__main__":
