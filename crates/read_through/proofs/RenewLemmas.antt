@@ -1,12 +1,13 @@
 -- What the callbacks told that claim an entry or renew it.
-use Rattle.std.proofs.Common.{◌≡◌, ℕ, Bool, true, false, IsTrue, Option, Some, None, IfSome, ap, subst, ◌∙◌}
+use Rattle.std.proofs.Common.{◌≡◌, ℕ, Bool, true, false, IsTrue, Option, Some, None, IfSome, ap, subst, sym, ◌∙◌}
 use denote.Ref.{Bor, MutBor}
 use denote.Param.Members.{Once}
 use Rattle.quick_cache_model.specs.declared.calls.entry.EntryAction.{EntryAction}
-use Rattle.quick_cache_model.specs.declared.calls.entry.EntryAction.TheVariants.{Retain as retain}
+use Rattle.quick_cache_model.specs.declared.calls.entry.EntryAction.TheVariants.{Retain as retain, Remove as remove, ReplaceWithGuard as replace}
 use Rattle.quick_cache_guard.specs.Acts.{LeavesOnce, MayTell}
 use Rattle.quick_cache_expiring.specs.declared.loaded.Loaded.{Loaded}
 use Rattle.quick_cache_expiring.specs.Moments.{IsDue}
+use Rattle.read_through.specs.Answers.{GivesClones, IsOf}
 use Rattle.read_through.specs.Renewals.{ChoosesToClaim, ChoosesToRenew, Claims, IsClaimed, Renews}
 
 -- what it told to be claimed was due
@@ -46,3 +47,25 @@ Renews-told calls fits test callback is_clone claimed now value true told chosen
 }
 Renews-told calls fits test callback is_clone claimed now value false told chosen so =
     let never : false ≡ true = so in absurd cc
+
+-- what a renewal leaves is the source's, as what it was shown was
+pub renewed-source : {K V : Type 0} (gives : K → ℕ → V → Type 0) (equal : K → K → Bool)
+    (is_clone : V → V → Type 0) (asked : K) (claimed now : ℕ) (loaded : V)
+    → GivesClones gives is_clone → gives asked now loaded → (key : K) → IsTrue (equal key asked)
+    → (old new : Loaded V) (action : EntryAction Bool)
+    → ChoosesToRenew is_clone claimed now loaded old action new
+    → IsOf gives equal key old.moment old.value → IsOf gives equal key new.moment new.value
+renewed-source gives equal is_clone asked claimed now loaded clones gave key same old new
+    (retain true) chosen source = record {
+      key = asked;
+      same = same;
+      gave = subst (λ moment. gives asked moment new.value) (sym chosen.1.1)
+          (clones asked now loaded new.value chosen.1.0 gave);
+    }
+renewed-source gives equal is_clone asked claimed now loaded clones gave key same old new
+    (retain false) chosen source =
+    subst (λ (it : Loaded _). IsOf gives equal key it.moment it.value) (sym chosen) source
+renewed-source gives equal is_clone asked claimed now loaded clones gave key same old new remove
+    chosen source = absurd chosen
+renewed-source gives equal is_clone asked claimed now loaded clones gave key same old new replace
+    chosen source = absurd chosen
