@@ -41,19 +41,6 @@ fn doubles<R: Wait + Abort>(rt: &R, alloc: Global) -> Cache<u64, u64> {
     cache
 }
 
-/// What a walk shows.
-fn shown<R: Wait>(rt: &R, cache: &Cache<u64, u64>) -> Met {
-    let mut met = Met::default();
-    let mut walk = cache.iter(rt);
-    for _ in 0..=MANY {
-        let Some(Ok((key, value))) = walk.next() else {
-            return met;
-        };
-        met.add(key, value);
-    }
-    met
-}
-
 /// What a drain takes.
 fn drained<R: Wait>(rt: &R, cache: &Cache<u64, u64>) -> Met {
     let mut met = Met::default();
@@ -90,10 +77,10 @@ fn restored<R: Wait + Abort>(
 }
 
 #[test]
-fn seventy_thousand_entries_are_shown_and_listed(rt: HostRuntime) {
+fn seventy_thousand_entries_are_listed(rt: HostRuntime) {
     let cache = doubles(&rt, rt.alloc());
     let hottest = expect_ok!(rt; cache.hottest(&rt, rt.alloc(), MANY as usize));
-    expect_eq!(rt; [shown(&rt, &cache), listed(&hottest)], [ALL, ALL]);
+    expect_eq!(rt; listed(&hottest), ALL);
 }
 
 #[test]
