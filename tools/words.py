@@ -17,7 +17,7 @@ import functools
 import os
 import re
 
-from functions import COMMENTS, FILES, end_of_block, read
+from functions import COMMENTS, FILES, end_of_block, read, without_angles
 
 # Words and signs that the language has by itself.
 BUILT_IN = set("Type Unit record data abbrev pub unfoldable opaque module where let in if then else tt absurd coded λ 𝓛 _".split())
@@ -395,15 +395,6 @@ def doc_of(path, at):
 
 def line_at(text, at):
     return text.rfind("\n", 0, at) + 1
-
-
-def without_angles(head):
-    depth, kept = 0, ""
-    for letter in head.replace("->", "  "):
-        depth += {"<": 1, ">": -1}.get(letter, 0)
-        if depth == 0 and letter != ">":
-            kept += letter
-    return kept
 
 
 def impl_of(head):

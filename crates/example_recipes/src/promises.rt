@@ -30,13 +30,14 @@ pub fn put_zero<K: Eq + Hash + Drop, We: Weighter<K, u64>, B: BuildHasher, L: Li
 mod tests {
     use super::*;
     use std::test::Fail;
+    use test_tools::expect_eq;
 
     #[test]
     fn a_zero_that_was_put_is_seen(rt: HostRuntime) -> Result<(), Fail> {
         let mut cache: Cache<&str, u64> = Cache::new(rt.alloc(), 5)?;
         put_zero(&mut cache, "square")?;
-        assert_eq!(rt; number_under(&cache, &"square"), Some(0));
-        assert_eq!(rt; number_under(&cache, &"circle"), None);
+        expect_eq!(rt; number_under(&cache, &"square"), Some(0));
+        expect_eq!(rt; number_under(&cache, &"circle"), None);
         Ok(())
     }
 }

@@ -59,6 +59,7 @@ mod tests {
     use super::*;
     use std::test::Fail;
     use std::thread::map_indices;
+    use test_tools::expect_eq;
 
     /// A hundred sessions of one thread, of which every second one is seen again.
     fn visits<R: Wait + Clock>(rt: &R, store: &SignedIn, thread: u64) -> Result<u64, Refusal> {
@@ -84,14 +85,14 @@ mod tests {
             &|thread| visits(&rt, &store, thread as u64),
         )?;
         for count in seen {
-            assert_eq!(rt; count, Ok(50));
+            expect_eq!(rt; count, Ok(50));
         }
         // One that was not seen again is over at its hour; and the sweep takes the others like it.
-        assert_eq!(rt; store.seen(&rt, 1, 3600), Ok(None));
-        assert_eq!(rt; store.sweep(&rt, 3600), 199);
-        assert_eq!(rt; store.seen(&rt, 2, 5399), Ok(Some("anna")));
-        assert_eq!(rt; store.sweep(&rt, 5400), 199);
-        assert_eq!(rt; store.sessions.len(&rt), 1);
+        expect_eq!(rt; store.seen(&rt, 1, 3600), Ok(None));
+        expect_eq!(rt; store.sweep(&rt, 3600), 199);
+        expect_eq!(rt; store.seen(&rt, 2, 5399), Ok(Some("anna")));
+        expect_eq!(rt; store.sweep(&rt, 5400), 199);
+        expect_eq!(rt; store.sessions.len(&rt), 1);
         Ok(())
     }
 }

@@ -3,6 +3,7 @@ use crate::divisors::least_divisor;
 use quick_cache::Refusal;
 use quick_cache::sync::Cache;
 use std::sync::Wait;
+use test_tools::expect_eq;
 
 /// The least divisor of a number above 1. One thread computes it; who asks meanwhile waits, and is
 /// given what came of it.
@@ -26,9 +27,9 @@ mod tests {
         let known: Cache<u64, u64> = Cache::new(rt.alloc(), 1000)?;
         let found = map_indices(&rt, rt.alloc(), 4, &|_| divisor_once(&rt, &known, 91))?;
         for divisor in found {
-            assert_eq!(rt; divisor, Ok(7));
+            expect_eq!(rt; divisor, Ok(7));
         }
-        assert_eq!(rt; (known.len(&rt), known.misses(&rt)), (1, 1));
+        expect_eq!(rt; (known.len(&rt), known.misses(&rt)), (1, 1));
         Ok(())
     }
 }

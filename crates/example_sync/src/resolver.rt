@@ -7,6 +7,7 @@ use std::alloc::AllocGlobal;
 use std::random::RandomSource;
 use std::sync::Wait;
 use std::sync::atomic::{AtomicU64, Ordering};
+use test_tools::expect_eq;
 
 /// A look-up of a name, which is counted. It has asked once it was polled, and has the address when
 /// it is polled again.
@@ -67,9 +68,9 @@ mod tests {
         let known: Cache<&'static str, u64> = Cache::new(rt.alloc(), 1000)?;
         let count = AtomicU64::new(0);
         for _ in 0..4 {
-            assert_eq!(&rt; resolve(&rt, &known, "example.org", &count), Some(11));
+            expect_eq!(&rt; resolve(&rt, &known, "example.org", &count), Some(11));
         }
-        assert_eq!(&rt; count.load(Ordering::SeqCst), 1);
+        expect_eq!(&rt; count.load(Ordering::SeqCst), 1);
         Ok(())
     }
 }

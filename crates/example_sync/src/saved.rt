@@ -3,6 +3,7 @@ use quick_cache::Refusal;
 use quick_cache::sync::Cache;
 use std::alloc::Global;
 use std::sync::Wait;
+use test_tools::expect_eq;
 
 /// Puts a copy of each item of the first cache into the second, with its ring, its place and its
 /// mark. What other threads put in or take out meanwhile may be among them or not.
@@ -47,8 +48,8 @@ mod tests {
             marked = marked.saturating_add(usize::from(one.mark > 0));
             alike = alike.saturating_add(usize::from(same));
         }
-        assert_eq!(rt; (alike, found.len()), (first.len(&rt), wanted.len()));
-        assert_eq!(rt; (hot > 0, hot < alike, marked > 0), (true, true, true));
+        expect_eq!(rt; (alike, found.len()), (first.len(&rt), wanted.len()));
+        expect_eq!(rt; (hot > 0, hot < alike, marked > 0), (true, true, true));
         Ok(())
     }
 }

@@ -5,6 +5,7 @@ use quick_cache::sync::Cache;
 use quick_cache::sync_placeholder::EntryResult;
 use std::sync::Wait;
 use std::time::Clock;
+use test_tools::expect_eq;
 
 /// How often a session may be used.
 const USES: u64 = 3;
@@ -45,7 +46,7 @@ mod tests {
     fn a_session_ends_with_its_last_use(rt: HostRuntime) -> Result<(), Fail> {
         let sessions: Cache<u64, u64> = Cache::new(rt.alloc(), 100)?;
         for left in [Some(3), Some(2), Some(1), None, Some(3)] {
-            assert_eq!(rt; use_once(&rt, &sessions, 5), Ok(left));
+            expect_eq!(rt; use_once(&rt, &sessions, 5), Ok(left));
         }
         Ok(())
     }

@@ -1,14 +1,15 @@
 //! What stands in a cache is looked up, or looked at.
 use quick_cache_unsync::{Cache, Queue};
 use std::test::Fail;
+use test_tools::{expect, expect_eq};
 
 #[test]
 fn get(rt: HostRuntime) -> Result<(), Fail> {
     let mut cache = Cache::new(rt.alloc(), 5)?;
     cache.insert("square", 4)?;
-    assert_eq!(rt; cache.get(&"square").copied(), Some(4));
-    assert_eq!(rt; cache.get(&"circle").copied(), None);
-    assert_eq!(rt; (cache.hits(), cache.misses()), (1, 1));
+    expect_eq!(rt; cache.get(&"square").copied(), Some(4));
+    expect_eq!(rt; cache.get(&"circle").copied(), None);
+    expect_eq!(rt; (cache.hits(), cache.misses()), (1, 1));
     Ok(())
 }
 
@@ -16,10 +17,10 @@ fn get(rt: HostRuntime) -> Result<(), Fail> {
 fn find(rt: HostRuntime) -> Result<(), Fail> {
     let mut cache = Cache::new(rt.alloc(), 5)?;
     cache.insert("square", 4)?;
-    assert_eq!(rt; cache.find(&"square")?, Some(4));
-    assert_eq!(rt; cache.find(&"circle")?, None);
+    expect_eq!(rt; cache.find(&"square")?, Some(4));
+    expect_eq!(rt; cache.find(&"circle")?, None);
     // No miss is counted: what loads the value then counts it.
-    assert_eq!(rt; (cache.hits(), cache.misses()), (1, 0));
+    expect_eq!(rt; (cache.hits(), cache.misses()), (1, 0));
     Ok(())
 }
 
@@ -27,9 +28,9 @@ fn find(rt: HostRuntime) -> Result<(), Fail> {
 fn peek(rt: HostRuntime) -> Result<(), Fail> {
     let mut cache = Cache::new(rt.alloc(), 5)?;
     cache.insert("square", 4)?;
-    assert_eq!(rt; cache.peek(&"square").copied(), Some(4));
+    expect_eq!(rt; cache.peek(&"square").copied(), Some(4));
     // A look is no use of the item, and no hit.
-    assert_eq!(rt; (cache.hits(), cache.misses()), (0, 0));
+    expect_eq!(rt; (cache.hits(), cache.misses()), (0, 0));
     Ok(())
 }
 
@@ -37,8 +38,8 @@ fn peek(rt: HostRuntime) -> Result<(), Fail> {
 fn contains_key(rt: HostRuntime) -> Result<(), Fail> {
     let mut cache = Cache::new(rt.alloc(), 5)?;
     cache.insert("square", 4)?;
-    assert!(rt; cache.contains_key(&"square"));
-    assert!(rt; !cache.contains_key(&"circle"));
+    expect!(rt; cache.contains_key(&"square"));
+    expect!(rt; !cache.contains_key(&"circle"));
     Ok(())
 }
 
@@ -49,11 +50,11 @@ fn shard(rt: HostRuntime) -> Result<(), Fail> {
     cache.get(&1);
     let mut marks = 0u64;
     for (key, value, mark) in cache.shard().iter_hot() {
-        assert_eq!(rt; (*key, *value, mark), (1, 10, 1));
+        expect_eq!(rt; (*key, *value, mark), (1, 10, 1));
         marks = marks.saturating_add(1);
     }
-    assert_eq!(rt; marks, 1);
-    assert_eq!(rt;
+    expect_eq!(rt; marks, 1);
+    expect_eq!(rt;
         (cache.shard().hot_target(), cache.shard().ghost_limit()),
         (97, 50)
     );
@@ -63,10 +64,10 @@ fn shard(rt: HostRuntime) -> Result<(), Fail> {
 #[test]
 fn len_is_empty_weight_and_capacity(rt: HostRuntime) -> Result<(), Fail> {
     let mut cache: Cache<u64, u64> = Cache::new(rt.alloc(), 5)?;
-    assert!(rt; cache.is_empty());
+    expect!(rt; cache.is_empty());
     cache.insert(1, 10)?;
-    assert!(rt; !cache.is_empty());
-    assert_eq!(rt; (cache.len(), cache.weight(), cache.capacity()), (1, 1, 5));
+    expect!(rt; !cache.is_empty());
+    expect_eq!(rt; (cache.len(), cache.weight(), cache.capacity()), (1, 1, 5));
     Ok(())
 }
 
@@ -77,7 +78,7 @@ fn hits_and_misses(rt: HostRuntime) -> Result<(), Fail> {
     for key in [1, 1, 2] {
         cache.get(&key);
     }
-    assert_eq!(rt; (cache.hits(), cache.misses()), (2, 1));
+    expect_eq!(rt; (cache.hits(), cache.misses()), (2, 1));
     Ok(())
 }
 
@@ -87,7 +88,7 @@ fn item_stats(rt: HostRuntime) -> Result<(), Fail> {
     cache.insert(1, 10)?;
     cache.get(&1);
     cache.peek(&1);
-    assert_eq!(rt;
+    expect_eq!(rt;
         cache.item_stats(&1).map(|stats| stats.access_count),
         Some(1)
     );
@@ -103,7 +104,7 @@ fn iter(rt: HostRuntime) -> Result<(), Fail> {
     for (key, value) in cache.iter() {
         sum = sum.saturating_add(*key).saturating_add(*value);
     }
-    assert_eq!(rt; sum, 33);
+    expect_eq!(rt; sum, 33);
     Ok(())
 }
 
@@ -119,7 +120,7 @@ fn hottest(rt: HostRuntime) -> Result<(), Fail> {
     for (key, _) in &cache.hottest(rt.alloc(), 2)? {
         keys = keys.saturating_mul(10).saturating_add(**key);
     }
-    assert_eq!(rt; keys, 21);
+    expect_eq!(rt; keys, 21);
     Ok(())
 }
 
@@ -139,10 +140,10 @@ fn saved_and_restored(rt: HostRuntime) -> Result<(), Fail> {
     let mut again: Cache<u64, u64> = Cache::new(rt.alloc(), 5)?;
     put_back(&cache, &mut again)?;
     // The pair has its mark again.
-    assert_eq!(rt; again.saved().next(), Some((&1, &10, Queue::Hot, 1)));
-    assert_eq!(rt; again.len(), 1);
+    expect_eq!(rt; again.saved().next(), Some((&1, &10, Queue::Hot, 1)));
+    expect_eq!(rt; again.len(), 1);
     // What stands is not put back once more.
-    assert_eq!(rt; again.restore(1, 11, Queue::Cold, 0), Err((1, 11, None)));
+    expect_eq!(rt; again.restore(1, 11, Queue::Cold, 0), Err((1, 11, None)));
     Ok(())
 }
 
@@ -151,7 +152,7 @@ fn memory_used(rt: HostRuntime) -> Result<(), Fail> {
     let mut cache: Cache<u64, u64> = Cache::new(rt.alloc(), 5)?;
     cache.insert(1, 10)?;
     // In bytes: the slots, and the index that finds them.
-    assert!(rt; cache.memory_used().entries > 0);
-    assert!(rt; cache.memory_used().map > 0);
+    expect!(rt; cache.memory_used().entries > 0);
+    expect!(rt; cache.memory_used().map > 0);
     Ok(())
 }

@@ -3,6 +3,7 @@ use quick_cache_unsync::{
     Cache, DefaultHashBuilder, DefaultLifecycle, OptionsBuilder, UnitWeighter, Weighter,
 };
 use std::test::Fail;
+use test_tools::expect_eq;
 
 /// Weighs a list of numbers by how many there are.
 #[derive(Clone, Drop)]
@@ -20,7 +21,7 @@ impl Weighter<u64, [u64; 4]> for BySize {
 fn new(rt: HostRuntime) -> Result<(), Fail> {
     let mut cache = Cache::new(rt.alloc(), 100)?;
     cache.insert("square", 4)?;
-    assert_eq!(rt; (cache.len(), cache.capacity()), (1, 100));
+    expect_eq!(rt; (cache.len(), cache.capacity()), (1, 100));
     Ok(())
 }
 
@@ -28,7 +29,7 @@ fn new(rt: HostRuntime) -> Result<(), Fail> {
 fn with_weighter(rt: HostRuntime) -> Result<(), Fail> {
     let mut cache = Cache::with_weighter(rt.alloc(), 100, 1000, BySize)?;
     cache.insert(1, [1, 2, 3, 4])?;
-    assert_eq!(rt;
+    expect_eq!(rt;
         (cache.len(), cache.weight(), cache.capacity()),
         (1, 4, 1000)
     );
@@ -46,7 +47,7 @@ fn with(rt: HostRuntime) -> Result<(), Fail> {
         DefaultLifecycle::new(),
     )?;
     cache.insert(1, 10)?;
-    assert_eq!(rt; (cache.weight(), cache.capacity()), (1, 50));
+    expect_eq!(rt; (cache.weight(), cache.capacity()), (1, 50));
     Ok(())
 }
 
@@ -54,9 +55,9 @@ fn with(rt: HostRuntime) -> Result<(), Fail> {
 fn reserve(rt: HostRuntime) -> Result<(), Fail> {
     let mut cache: Cache<u64, u64> = Cache::new(rt.alloc(), 100)?;
     // Three inserts of new keys, and the ghosts that they leave, now ask for no memory.
-    assert_eq!(rt; cache.reserve(3), Ok(()));
+    expect_eq!(rt; cache.reserve(3), Ok(()));
     cache.insert(1, 10)?;
-    assert_eq!(rt; cache.len(), 1);
+    expect_eq!(rt; cache.len(), 1);
     Ok(())
 }
 
@@ -66,11 +67,11 @@ fn try_clone(rt: HostRuntime) -> Result<(), Fail> {
     cache.insert(1, 10)?;
     let mut copy = cache.try_clone()?;
     cache.insert(2, 20)?;
-    assert_eq!(rt;
+    expect_eq!(rt;
         (copy.get(&1).copied(), copy.get(&2).copied()),
         (Some(10), None)
     );
-    assert_eq!(rt; cache.get(&2).copied(), Some(20));
+    expect_eq!(rt; cache.get(&2).copied(), Some(20));
     Ok(())
 }
 
@@ -89,7 +90,7 @@ fn with_options(rt: HostRuntime) -> Result<(), Fail> {
         DefaultLifecycle::new(),
     )?;
     cache.insert(1, 10)?;
-    assert_eq!(rt; (cache.capacity(), cache.shard().hot_target()), (1000, 900));
+    expect_eq!(rt; (cache.capacity(), cache.shard().hot_target()), (1000, 900));
     Ok(())
 }
 
@@ -100,6 +101,6 @@ fn set_capacity(rt: HostRuntime) -> Result<(), Fail> {
         cache.insert(key, key)?;
     }
     cache.set_capacity(2);
-    assert_eq!(rt; (cache.capacity(), cache.len()), (2, 2));
+    expect_eq!(rt; (cache.capacity(), cache.len()), (2, 2));
     Ok(())
 }

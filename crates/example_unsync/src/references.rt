@@ -1,6 +1,7 @@
 //! Values are written through references.
 use quick_cache_unsync::Cache;
 use std::test::Fail;
+use test_tools::expect_eq;
 
 #[test]
 fn get_mut(rt: HostRuntime) -> Result<(), Fail> {
@@ -9,8 +10,8 @@ fn get_mut(rt: HostRuntime) -> Result<(), Fail> {
     if let Some(mut sides) = cache.get_mut(&"square") {
         *sides = 5;
     }
-    assert_eq!(rt; cache.peek(&"square").copied(), Some(5));
-    assert_eq!(rt; cache.hits(), 1);
+    expect_eq!(rt; cache.peek(&"square").copied(), Some(5));
+    expect_eq!(rt; cache.hits(), 1);
     Ok(())
 }
 
@@ -21,8 +22,8 @@ fn peek_mut(rt: HostRuntime) -> Result<(), Fail> {
     if let Some(mut sides) = cache.peek_mut(&"square") {
         *sides = 5;
     }
-    assert_eq!(rt; cache.peek(&"square").copied(), Some(5));
+    expect_eq!(rt; cache.peek(&"square").copied(), Some(5));
     // It is no use of the item, and no hit.
-    assert_eq!(rt; cache.hits(), 0);
+    expect_eq!(rt; cache.hits(), 0);
     Ok(())
 }

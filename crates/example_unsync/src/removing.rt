@@ -1,13 +1,14 @@
 //! Pairs are taken out.
 use quick_cache_unsync::Cache;
 use std::test::Fail;
+use test_tools::{expect, expect_eq};
 
 #[test]
 fn remove(rt: HostRuntime) -> Result<(), Fail> {
     let mut cache = Cache::new(rt.alloc(), 5)?;
     cache.insert("square", 4)?;
-    assert_eq!(rt; cache.remove(&"square"), Some(("square", 4)));
-    assert_eq!(rt; cache.remove(&"square"), None);
+    expect_eq!(rt; cache.remove(&"square"), Some(("square", 4)));
+    expect_eq!(rt; cache.remove(&"square"), None);
     Ok(())
 }
 
@@ -15,8 +16,8 @@ fn remove(rt: HostRuntime) -> Result<(), Fail> {
 fn remove_if(rt: HostRuntime) -> Result<(), Fail> {
     let mut cache = Cache::new(rt.alloc(), 5)?;
     cache.insert("square", 4)?;
-    assert_eq!(rt; cache.remove_if(&"square", |sides| *sides > 4), None);
-    assert_eq!(rt;
+    expect_eq!(rt; cache.remove_if(&"square", |sides| *sides > 4), None);
+    expect_eq!(rt;
         cache.remove_if(&"square", |sides| *sides == 4),
         Some(("square", 4))
     );
@@ -30,7 +31,7 @@ fn retain(rt: HostRuntime) -> Result<(), Fail> {
         cache.insert(key, key * 10)?;
     }
     cache.retain(|key, value| *key == 1 || *value == 30);
-    assert_eq!(rt; (cache.len(), cache.contains_key(&2)), (2, false));
+    expect_eq!(rt; (cache.len(), cache.contains_key(&2)), (2, false));
     Ok(())
 }
 
@@ -43,7 +44,7 @@ fn retain_some(rt: HostRuntime) -> Result<(), Fail> {
     // Two items are looked at, and the next call goes on behind them.
     let (stopped, first) = cache.retain_some(None, 2, |_, _| false);
     let (end, last) = cache.retain_some(stopped, 2, |_, _| false);
-    assert_eq!(rt; (first, last, end, cache.is_empty()), (2, 1, None, true));
+    expect_eq!(rt; (first, last, end, cache.is_empty()), (2, 1, None, true));
     Ok(())
 }
 
@@ -52,7 +53,7 @@ fn clear(rt: HostRuntime) -> Result<(), Fail> {
     let mut cache = Cache::new(rt.alloc(), 5)?;
     cache.insert("square", 4)?;
     cache.clear();
-    assert!(rt; cache.is_empty());
+    expect!(rt; cache.is_empty());
     Ok(())
 }
 
@@ -66,6 +67,6 @@ fn drain(rt: HostRuntime) -> Result<(), Fail> {
     for (_, value) in cache.drain() {
         sum = sum.saturating_add(value);
     }
-    assert_eq!(rt; (sum, cache.is_empty()), (60, true));
+    expect_eq!(rt; (sum, cache.is_empty()), (60, true));
     Ok(())
 }

@@ -3,6 +3,7 @@ ghost use Rattle.std.specs.Prelude.{◌≡◌};
 
 use quick_cache_unsync::{Cache, DefaultHashBuilder, Lifecycle, UnitWeighter};
 use std::test::Fail;
+use test_tools::{expect, expect_eq};
 
 /// Counts what leaves.
 #[derive(Drop)]
@@ -47,7 +48,7 @@ fn insert(rt: HostRuntime) -> Result<(), Fail> {
     let mut cache = Cache::new(rt.alloc(), 5)?;
     cache.insert("square", 4)?;
     cache.insert("square", 16)?;
-    assert_eq!(rt; cache.peek(&"square").copied(), Some(16));
+    expect_eq!(rt; cache.peek(&"square").copied(), Some(16));
     Ok(())
 }
 
@@ -65,7 +66,7 @@ fn insert_with_lifecycle(rt: HostRuntime) -> Result<(), Fail> {
     for key in [1, 2, 3] {
         cache.insert_with_lifecycle(key, key, &mut left)?;
     }
-    assert_eq!(rt; (cache.len(), left), (2, 1));
+    expect_eq!(rt; (cache.len(), left), (2, 1));
     Ok(())
 }
 
@@ -73,10 +74,10 @@ fn insert_with_lifecycle(rt: HostRuntime) -> Result<(), Fail> {
 fn replace(rt: HostRuntime) -> Result<(), Fail> {
     let mut cache = Cache::new(rt.alloc(), 5)?;
     cache.insert("square", 4)?;
-    assert_eq!(rt; cache.replace("square", 16, false), Ok(()));
+    expect_eq!(rt; cache.replace("square", 16, false), Ok(()));
     // A replace writes over items alone.
-    assert_eq!(rt; cache.replace("circle", 3, false), Err(("circle", 3)));
-    assert_eq!(rt; cache.peek(&"square").copied(), Some(16));
+    expect_eq!(rt; cache.replace("circle", 3, false), Err(("circle", 3)));
+    expect_eq!(rt; cache.peek(&"square").copied(), Some(16));
     Ok(())
 }
 
@@ -92,12 +93,12 @@ fn replace_with_lifecycle(rt: HostRuntime) -> Result<(), Fail> {
     )?;
     cache.insert(1, 10)?;
     let mut left = 0;
-    assert_eq!(rt;
+    expect_eq!(rt;
         cache.replace_with_lifecycle(1, 11, true, &mut left),
         Ok(())
     );
     // The pair that stood there left.
-    assert_eq!(rt; (cache.peek(&1).copied(), left), (Some(11), 1));
+    expect_eq!(rt; (cache.peek(&1).copied(), left), (Some(11), 1));
     Ok(())
 }
 
@@ -116,14 +117,14 @@ fn set_capacity_with_lifecycle(rt: HostRuntime) -> Result<(), Fail> {
     }
     let mut left = 0;
     cache.set_capacity_with_lifecycle(2, &mut left);
-    assert_eq!(rt; (cache.len(), left), (2, 3));
+    expect_eq!(rt; (cache.len(), left), (2, 3));
     Ok(())
 }
 
 #[test]
 fn fill(rt: HostRuntime) -> Result<(), Fail> {
     let mut cache: Cache<u64, u64> = Cache::new(rt.alloc(), 5)?;
-    assert!(rt; cache.fill((1..4).map(|key| (key, key))).is_ok());
-    assert_eq!(rt; (cache.len(), cache.peek(&3).copied()), (3, Some(3)));
+    expect!(rt; cache.fill((1..4).map(|key| (key, key))).is_ok());
+    expect_eq!(rt; (cache.len(), cache.peek(&3).copied()), (3, Some(3)));
     Ok(())
 }

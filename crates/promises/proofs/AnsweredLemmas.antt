@@ -1,9 +1,9 @@
 -- What loads answer of a key that is absent, and leave of it.
-use Rattle.std.proofs.Common.{◌≡◌, ◌≢◌, ◌≤◌, ◌+◌, ℕ, Bool, false, true≢false, List, [], ◌∷◌, ◌++◌, length, length-append, Result, Ok, Err, IfOk, Some, refl, ap, subst, sym, ◌∙◌, arith}
+use Rattle.std.proofs.Common.{◌≡◌, ◌≢◌, ◌≤◌, ◌+◌, ℕ, Bool, false, true≢false, List, [], ◌∷◌, ◌++◌, length, length-append, Result, Ok, Err}
+use Rattle.std.proofs.Common.{IfOk, Some, refl, ap, subst, sym, ◌∙◌, arith}
 use Rattle.std.specs.List.{AllByRecursion}
-use Rattle.quick_cache_model.specs.CacheState.{CacheState, Item, Place, InHot, InCold, InStill}
+use Rattle.quick_cache_model.specs.CacheState.{CacheState, Item, Place, InHot, InCold, InStill, LoadingEntry}
 use Rattle.std.proofs.lemmas.List.Sorted.{length_permutation, IsPermutation-sym}
-use Rattle.quick_cache_model.specs.CacheState.{LoadingEntry}
 use Rattle.quick_cache_model.specs.Finding.{IsItemAt, HasNoItem, HasNoKey}
 use Rattle.quick_cache_model.specs.Loads.{TakesPlaceholder, LoadsNothing}
 use Rattle.quick_cache_model.specs.Placeholders.{HasNoTicket, MakesPlaceholder, MeetsPlaceholder, GivesUpPlaceholder}

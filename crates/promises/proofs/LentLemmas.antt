@@ -1,5 +1,6 @@
 -- What is shown of an item, taken out and lent is one.
-use Rattle.std.proofs.Common.{◌≡◌, ◌∙◌, ◌≤◌, inl, inr, ℕ, Bool, true, List, ◌∷◌, ◌++◌, Option, Some, None, MatchOption, is_some, refl, sym, ap, subst}
+use Rattle.std.proofs.Common.{◌≡◌, ◌∙◌, ◌≤◌, inl, inr, ℕ, Bool, true, List, ◌∷◌, ◌++◌, Option, Some, None, MatchOption, is_some, refl, sym}
+use Rattle.std.proofs.Common.{ap, subst}
 use Rattle.std.specs.List.{Contains}
 use Rattle.std.proofs.lemmas.List.{map-id}
 use Rattle.std.proofs.lemmas.List.Elements.{Contains-append_cases}

@@ -1,5 +1,6 @@
 -- What is seen of a key, and a replace where no item stands.
-use Rattle.std.proofs.Common.{◌≡◌, ℕ, ◌≤◌, Bool, true, false, List, ◌++◌, length, length-append, map, Option, Some, None, Result, Ok, Err, IfOk, IsSome, IsTrue, refl, ap, subst, ◌∙◌, arith}
+use Rattle.std.proofs.Common.{◌≡◌, ℕ, ◌≤◌, Bool, true, false, List, ◌++◌, length, length-append, map, Option, Some, None, Result, Ok, Err}
+use Rattle.std.proofs.Common.{IfOk, IsSome, IsTrue, refl, ap, subst, ◌∙◌, arith}
 use Rattle.std.specs.Bool.{OnTrue, OnFalse}
 use Rattle.std.proofs.lemmas.List.{length-map}
 use Rattle.std.proofs.lemmas.List.Elements.{length_all_zip}

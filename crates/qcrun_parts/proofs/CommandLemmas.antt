@@ -1,20 +1,15 @@
 -- A line is split in one way, and it is the line of one command at most.
-use Rattle.std.proofs.Common.{◌≡◌, ◌≢◌, ◌<◌, ◌≤◌, ◌⊎◌, inl, inr, ⊎_elim, ℕ, zero, suc, Bool, true, false, cond, eqb, List, [], ◌∷◌, ◌++◌, length, get_or, Result, Ok, Err, refl, sym, ap, ◌∙◌, subst, arith}
+use Rattle.std.proofs.Common.{◌≡◌, ◌≢◌, ◌<◌, ◌≤◌, ◌⊎◌, inl, inr, ⊎_elim, ℕ, zero, suc, Bool, true, false, cond, eqb, List, [], ◌∷◌, ◌++◌}
+use Rattle.std.proofs.Common.{length, get_or, Result, Ok, Err, refl, sym, ap, ◌∙◌, subst, arith}
 use Rattle.std.proofs.Math.Seq.{get_or-append_seam}
 use Rattle.std.proofs.lemmas.List.{append-nil, length-append}
 use Rattle.std.proofs.lemmas.Bool.{false≢true}
 use Rattle.std.specs.Char.{digit_value}
 use Rattle.std.specs.Prelude.{codes, IsErr}
 use Rattle.std.specs.Str.Parse.{AllDigits}
-use Rattle.qcrun_parts.specs.Commands.{IsNumber, AreNumbers, HasGhosts, HasMore, HasNumbers, IsLineOf}
-use Rattle.qcrun_parts.specs.Commands.{HasSharesInRange, IsOkExactly}
+use Rattle.qcrun_parts.specs.Commands.{IsNumber, AreNumbers, HasGhosts, HasMore, HasNumbers, IsLineOf, HasSharesInRange, IsOkExactly}
 use Rattle.qcrun_parts.specs.Commands.{name_of, numbers_of}
 use Rattle.qcrun_parts.specs.declared.command.Command.{Command}
-use Rattle.qcrun_parts.specs.declared.command.Command.TheVariants.{Cache, CacheWithShares, CacheWithMark}
-use Rattle.qcrun_parts.specs.declared.command.Command.TheVariants.{Insert, Replace, Soft, Get}
-use Rattle.qcrun_parts.specs.declared.command.Command.TheVariants.{Peek, Remove, RemoveIf, Set, Poke}
-use Rattle.qcrun_parts.specs.declared.command.Command.TheVariants.{Load, Fail, Guard, Drop, Stats}
-use Rattle.qcrun_parts.specs.declared.command.Command.TheVariants.{Clear, Capacity, Hits, Show}
 
 pub IsOkExactly-err : {X E : Type 0} (P : X → Type 0) (answer : Result X E) → IsErr answer
     → ((other : X) → P other → ⊥)
@@ -89,54 +84,55 @@ LacksSpace-tested (c ∷ word) tested =
 
 -- no command's name has a space
 name_of-lacks_space : (command : Command) → LacksSpace (name_of command)
-name_of-lacks_space (Cache items weight) = LacksSpace-tested (codes "cache") refl
-name_of-lacks_space (CacheWithShares items weight hot ghost) =
+name_of-lacks_space (Command.Cache items weight) = LacksSpace-tested (codes "cache") refl
+name_of-lacks_space (Command.CacheWithShares items weight hot ghost) =
     LacksSpace-tested (codes "cache") refl
-name_of-lacks_space (CacheWithMark items weight hot ghost mark) =
+name_of-lacks_space (Command.CacheWithMark items weight hot ghost mark) =
     LacksSpace-tested (codes "cache") refl
-name_of-lacks_space (Insert key value) = LacksSpace-tested (codes "insert") refl
-name_of-lacks_space (Replace key value) = LacksSpace-tested (codes "replace") refl
-name_of-lacks_space (Soft key value) = LacksSpace-tested (codes "soft") refl
-name_of-lacks_space (Get key) = LacksSpace-tested (codes "get") refl
-name_of-lacks_space (Peek key) = LacksSpace-tested (codes "peek") refl
-name_of-lacks_space (Remove key) = LacksSpace-tested (codes "remove") refl
-name_of-lacks_space (RemoveIf key value) = LacksSpace-tested (codes "removeif") refl
-name_of-lacks_space (Set key value) = LacksSpace-tested (codes "set") refl
-name_of-lacks_space (Poke key value) = LacksSpace-tested (codes "poke") refl
-name_of-lacks_space (Load key value) = LacksSpace-tested (codes "load") refl
-name_of-lacks_space (Fail key) = LacksSpace-tested (codes "fail") refl
-name_of-lacks_space (Guard key value) = LacksSpace-tested (codes "guard") refl
-name_of-lacks_space (Drop key) = LacksSpace-tested (codes "drop") refl
-name_of-lacks_space (Stats key) = LacksSpace-tested (codes "stats") refl
-name_of-lacks_space Clear = LacksSpace-tested (codes "clear") refl
-name_of-lacks_space (Capacity weight) = LacksSpace-tested (codes "capacity") refl
-name_of-lacks_space Hits = LacksSpace-tested (codes "hits") refl
-name_of-lacks_space Show = LacksSpace-tested (codes "show") refl
+name_of-lacks_space (Command.Insert key value) = LacksSpace-tested (codes "insert") refl
+name_of-lacks_space (Command.Replace key value) = LacksSpace-tested (codes "replace") refl
+name_of-lacks_space (Command.Soft key value) = LacksSpace-tested (codes "soft") refl
+name_of-lacks_space (Command.Get key) = LacksSpace-tested (codes "get") refl
+name_of-lacks_space (Command.Peek key) = LacksSpace-tested (codes "peek") refl
+name_of-lacks_space (Command.Remove key) = LacksSpace-tested (codes "remove") refl
+name_of-lacks_space (Command.RemoveIf key value) = LacksSpace-tested (codes "removeif") refl
+name_of-lacks_space (Command.Set key value) = LacksSpace-tested (codes "set") refl
+name_of-lacks_space (Command.Poke key value) = LacksSpace-tested (codes "poke") refl
+name_of-lacks_space (Command.Load key value) = LacksSpace-tested (codes "load") refl
+name_of-lacks_space (Command.Fail key) = LacksSpace-tested (codes "fail") refl
+name_of-lacks_space (Command.Guard key value) = LacksSpace-tested (codes "guard") refl
+name_of-lacks_space (Command.Drop key) = LacksSpace-tested (codes "drop") refl
+name_of-lacks_space (Command.Stats key) = LacksSpace-tested (codes "stats") refl
+name_of-lacks_space Command.Clear = LacksSpace-tested (codes "clear") refl
+name_of-lacks_space (Command.Capacity weight) = LacksSpace-tested (codes "capacity") refl
+name_of-lacks_space Command.Hits = LacksSpace-tested (codes "hits") refl
+name_of-lacks_space Command.Show = LacksSpace-tested (codes "show") refl
 
 -- it has two numbers at most, or four or five
 numbers_of-count : (command : Command) → (length (numbers_of command) ≤ 2)
     ⊎ ((4 ≤ length (numbers_of command)) × (length (numbers_of command) ≤ 5))
-numbers_of-count (Cache items weight) = inl (omega arith)
-numbers_of-count (CacheWithShares items weight hot ghost) = inr (omega arith, omega arith)
-numbers_of-count (CacheWithMark items weight hot ghost mark) = inr (omega arith, omega arith)
-numbers_of-count (Insert key value) = inl (omega arith)
-numbers_of-count (Replace key value) = inl (omega arith)
-numbers_of-count (Soft key value) = inl (omega arith)
-numbers_of-count (Get key) = inl (omega arith)
-numbers_of-count (Peek key) = inl (omega arith)
-numbers_of-count (Remove key) = inl (omega arith)
-numbers_of-count (RemoveIf key value) = inl (omega arith)
-numbers_of-count (Set key value) = inl (omega arith)
-numbers_of-count (Poke key value) = inl (omega arith)
-numbers_of-count (Load key value) = inl (omega arith)
-numbers_of-count (Fail key) = inl (omega arith)
-numbers_of-count (Guard key value) = inl (omega arith)
-numbers_of-count (Drop key) = inl (omega arith)
-numbers_of-count (Stats key) = inl (omega arith)
-numbers_of-count Clear = inl (omega arith)
-numbers_of-count (Capacity weight) = inl (omega arith)
-numbers_of-count Hits = inl (omega arith)
-numbers_of-count Show = inl (omega arith)
+numbers_of-count (Command.Cache items weight) = inl (omega arith)
+numbers_of-count (Command.CacheWithShares items weight hot ghost) = inr (omega arith, omega arith)
+numbers_of-count (Command.CacheWithMark items weight hot ghost mark) =
+    inr (omega arith, omega arith)
+numbers_of-count (Command.Insert key value) = inl (omega arith)
+numbers_of-count (Command.Replace key value) = inl (omega arith)
+numbers_of-count (Command.Soft key value) = inl (omega arith)
+numbers_of-count (Command.Get key) = inl (omega arith)
+numbers_of-count (Command.Peek key) = inl (omega arith)
+numbers_of-count (Command.Remove key) = inl (omega arith)
+numbers_of-count (Command.RemoveIf key value) = inl (omega arith)
+numbers_of-count (Command.Set key value) = inl (omega arith)
+numbers_of-count (Command.Poke key value) = inl (omega arith)
+numbers_of-count (Command.Load key value) = inl (omega arith)
+numbers_of-count (Command.Fail key) = inl (omega arith)
+numbers_of-count (Command.Guard key value) = inl (omega arith)
+numbers_of-count (Command.Drop key) = inl (omega arith)
+numbers_of-count (Command.Stats key) = inl (omega arith)
+numbers_of-count Command.Clear = inl (omega arith)
+numbers_of-count (Command.Capacity weight) = inl (omega arith)
+numbers_of-count Command.Hits = inl (omega arith)
+numbers_of-count Command.Show = inl (omega arith)
 
 -- another way to say of which values an answer is Ok
 pub IsOkExactly-as : {X E : Type 0} (answer : Result X E) (P Q : X → Type 0)

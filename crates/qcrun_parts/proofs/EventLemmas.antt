@@ -4,7 +4,6 @@ use Rattle.std.proofs.lemmas.List.{append-nil}
 use Rattle.std.specs.Prelude.{map}
 use Rattle.quick_cache_model.specs.Hooks.{Hooks, HookCall, BeforeEvict, EvictHot, EvictCold, RunsHooks}
 use Rattle.qcrun_parts.specs.declared.events.Event.{Event}
-use Rattle.qcrun_parts.specs.declared.events.Event.TheVariants.{Before, Hot, Cold}
 use Rattle.qcrun_parts.specs.Events.{event_of, Keeps, LeavesByKind, TellsOf}
 use Rattle.qcrun_parts.specs.Kinds.{value_left}
 
@@ -12,10 +11,10 @@ module _ {A : Type 0} where
   -- hooks that keep what they are told
   abbrev pub keeping_hooks : Hooks ℕ ℕ (Option (Vec Event A))
   keeping_hooks = record {
-    before_evict = λ old key value new left. Keeps old (Before key value) new
+    before_evict = λ old key value new left. Keeps old (Event.Before key value) new
         × (left ≡ value_left value);
-    evict_hot = λ old key value new. Keeps old (Hot key value) new;
-    evict_cold = λ old key value new. Keeps old (Cold key value) new;
+    evict_hot = λ old key value new. Keeps old (Event.Hot key value) new;
+    evict_cold = λ old key value new. Keeps old (Event.Cold key value) new;
   }
 
   -- the events of these calls stand behind those that were kept before, if all could be kept

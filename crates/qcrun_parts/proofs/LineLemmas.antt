@@ -7,11 +7,6 @@ use Rattle.std.proofs.lemmas.Str.Ascii.{IsAscii-nil, IsAscii-cons}
 use Rattle.std.specs.Prelude.{codes, nat_lt, IsUtf8, IsAscii}
 use Rattle.qcrun_parts.specs.Commands.{IsNumber, AreNumbers, IsLineOf, name_of, numbers_of}
 use Rattle.qcrun_parts.specs.declared.command.Command.{Command}
-use Rattle.qcrun_parts.specs.declared.command.Command.TheVariants.{Cache, CacheWithShares, CacheWithMark}
-use Rattle.qcrun_parts.specs.declared.command.Command.TheVariants.{Insert, Replace, Soft, Get}
-use Rattle.qcrun_parts.specs.declared.command.Command.TheVariants.{Peek, Remove, RemoveIf, Set, Poke}
-use Rattle.qcrun_parts.specs.declared.command.Command.TheVariants.{Load, Fail, Guard, Drop, Stats}
-use Rattle.qcrun_parts.specs.declared.command.Command.TheVariants.{Clear, Capacity, Hits, Show}
 
 -- whether each byte is below 128
 abbrev are_low : List ℕ → Bool
@@ -32,27 +27,28 @@ IsAscii-tested (c ∷ word) tested =
 
 -- the name of a command
 IsAscii-name : (command : Command) → IsAscii (name_of command)
-IsAscii-name (Cache items weight) = IsAscii-tested (codes "cache") refl
-IsAscii-name (CacheWithShares items weight hot ghost) = IsAscii-tested (codes "cache") refl
-IsAscii-name (CacheWithMark items weight hot ghost mark) = IsAscii-tested (codes "cache") refl
-IsAscii-name (Insert key value) = IsAscii-tested (codes "insert") refl
-IsAscii-name (Replace key value) = IsAscii-tested (codes "replace") refl
-IsAscii-name (Soft key value) = IsAscii-tested (codes "soft") refl
-IsAscii-name (Get key) = IsAscii-tested (codes "get") refl
-IsAscii-name (Peek key) = IsAscii-tested (codes "peek") refl
-IsAscii-name (Remove key) = IsAscii-tested (codes "remove") refl
-IsAscii-name (RemoveIf key value) = IsAscii-tested (codes "removeif") refl
-IsAscii-name (Set key value) = IsAscii-tested (codes "set") refl
-IsAscii-name (Poke key value) = IsAscii-tested (codes "poke") refl
-IsAscii-name (Load key value) = IsAscii-tested (codes "load") refl
-IsAscii-name (Fail key) = IsAscii-tested (codes "fail") refl
-IsAscii-name (Guard key value) = IsAscii-tested (codes "guard") refl
-IsAscii-name (Drop key) = IsAscii-tested (codes "drop") refl
-IsAscii-name (Stats key) = IsAscii-tested (codes "stats") refl
-IsAscii-name Clear = IsAscii-tested (codes "clear") refl
-IsAscii-name (Capacity weight) = IsAscii-tested (codes "capacity") refl
-IsAscii-name Hits = IsAscii-tested (codes "hits") refl
-IsAscii-name Show = IsAscii-tested (codes "show") refl
+IsAscii-name (Command.Cache items weight) = IsAscii-tested (codes "cache") refl
+IsAscii-name (Command.CacheWithShares items weight hot ghost) = IsAscii-tested (codes "cache") refl
+IsAscii-name (Command.CacheWithMark items weight hot ghost mark) =
+    IsAscii-tested (codes "cache") refl
+IsAscii-name (Command.Insert key value) = IsAscii-tested (codes "insert") refl
+IsAscii-name (Command.Replace key value) = IsAscii-tested (codes "replace") refl
+IsAscii-name (Command.Soft key value) = IsAscii-tested (codes "soft") refl
+IsAscii-name (Command.Get key) = IsAscii-tested (codes "get") refl
+IsAscii-name (Command.Peek key) = IsAscii-tested (codes "peek") refl
+IsAscii-name (Command.Remove key) = IsAscii-tested (codes "remove") refl
+IsAscii-name (Command.RemoveIf key value) = IsAscii-tested (codes "removeif") refl
+IsAscii-name (Command.Set key value) = IsAscii-tested (codes "set") refl
+IsAscii-name (Command.Poke key value) = IsAscii-tested (codes "poke") refl
+IsAscii-name (Command.Load key value) = IsAscii-tested (codes "load") refl
+IsAscii-name (Command.Fail key) = IsAscii-tested (codes "fail") refl
+IsAscii-name (Command.Guard key value) = IsAscii-tested (codes "guard") refl
+IsAscii-name (Command.Drop key) = IsAscii-tested (codes "drop") refl
+IsAscii-name (Command.Stats key) = IsAscii-tested (codes "stats") refl
+IsAscii-name Command.Clear = IsAscii-tested (codes "clear") refl
+IsAscii-name (Command.Capacity weight) = IsAscii-tested (codes "capacity") refl
+IsAscii-name Command.Hits = IsAscii-tested (codes "hits") refl
+IsAscii-name Command.Show = IsAscii-tested (codes "show") refl
 
 IsAscii-number : (word : List ℕ) (number : ℕ) → IsNumber word number → IsAscii word
 IsAscii-number word number is = IsAscii-from_digits word is.0.0.1

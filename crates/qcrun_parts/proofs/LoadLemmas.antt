@@ -6,8 +6,7 @@ use Rattle.std.specs.Prelude.{nat_eq}
 use Rattle.std.specs.declared.alloc.Global.{Global}
 use Rattle.quick_cache_model.proofs.EachElement.{all-middle, all-permutation}
 use Rattle.std.proofs.lemmas.List.Sorted.{IsPermutation-sym}
-use Rattle.quick_cache_model.specs.CacheState.{CacheState, Item, Place, InHot, InCold, InStill}
-use Rattle.quick_cache_model.specs.CacheState.{SameButOrder, UpToOrder}
+use Rattle.quick_cache_model.specs.CacheState.{CacheState, Item, Place, InHot, InCold, InStill, SameButOrder, UpToOrder}
 use Rattle.quick_cache_model.specs.Finding.{IsItemAt, HasNoItem}
 use Rattle.quick_cache_model.specs.Hooks.{Rules, Hooks, HookCall, Calls}
 use Rattle.quick_cache_model.specs.Lookups.{LooksUp, looked_up}
@@ -16,15 +15,12 @@ use Rattle.quick_cache_model.specs.Refusals.{MayRefuse, needs_of_placeholder}
 use Rattle.quick_cache_model.specs.declared.refusal.Refusal.{Refusal}
 use Rattle.quick_cache_model.specs.CacheStep.{CacheStep}
 use Rattle.quick_cache_model.specs.Kinds.{IsLoad}
-use Rattle.quick_cache_model.specs.declared.calls.call.Call.TheVariants.{Load, Guarded}
+use Rattle.quick_cache_model.specs.declared.calls.call.Call.{Call}
 use Rattle.quick_cache_model.specs.declared.calls.reply.Reply.{Reply}
-use Rattle.quick_cache_model.specs.declared.calls.reply.Reply.TheVariants.{Filled, Dropped, Found}
-use Rattle.quick_cache_model.specs.declared.calls.reply.Reply.TheVariants.{Loaded, LoadFailed, Refused}
 use Rattle.quick_cache_shard.specs.References.{IsValueUnder, NotesLookUp}
 use Rattle.quick_cache_shard.specs.Shard.{HasItem}
 use Rattle.quick_cache_unsync.specs.Loads.{Takes, FillsIfThere}
-use Rattle.quick_cache_unsync.proofs.LoadLemmas.{Takes-awaited, Takes-takes, Takes-nothing}
-use Rattle.quick_cache_unsync.proofs.LoadLemmas.{Fills-awaited, tells-item}
+use Rattle.quick_cache_unsync.proofs.LoadLemmas.{Takes-awaited, Takes-takes, Takes-nothing, Fills-awaited, tells-item}
 use Rattle.qcrun_parts.specs.Served.{Serves}
 
 -- what holds wherever an element may stand holds of each
@@ -82,13 +78,13 @@ module _ {K V : Type 0} (test : K → Bool) (value : V) where
 pub guarded-finds : (rules : Rules ℕ ℕ) (old new : CacheState ℕ ℕ) (key query : ℕ)
     (given : Option ℕ) (value : ℕ) → query ≡ key → NotesLookUp (nat_eq key) old true new
     → IsValueUnder (nat_eq query) new value
-    → Serves rules old (Guarded key given) (Found value) [] new
+    → Serves rules old (Call.Guarded key given) (Reply.Found value) [] new
 guarded-finds rules old new key query given value same looks is =
     let under = subst (λ (k : ℕ). IsValueUnder (nat_eq k) new value) same is in
     let seen : value ≡ looks.0 =
     value-hit (nat_eq key) value old looks.0 looks.1.ordered new looks.1.holds looks.1.same under
     in (
-      CacheStep.finds (Guarded key given) key given None value value new new
+      CacheStep.finds (Call.Guarded key given) key given None value value new new
           (IsLoad.guarded given)
           (subst (λ (v : ℕ). UpToOrder (LooksUp (nat_eq key) old (λ item. item.value) (Some v)) new)
           (sym seen) looks.1) refl refl,
@@ -99,16 +95,19 @@ guarded-finds rules old new key query given value same looks is =
 pub guarded-refused : (rules : Rules ℕ ℕ) (old : CacheState ℕ ℕ) (key : ℕ) (given : Option ℕ)
     (refusal : Refusal)
     → MayRefuse (needs_of_placeholder (nat_eq key) (rules.hash key) old) old refusal
-    → Serves rules old (Guarded key given) (Refused refusal) [] old
-guarded-refused rules old key given refusal may =
-    (CacheStep.refuses_load (Guarded key given) key given None refusal (IsLoad.guarded given) may, may)
+    → Serves rules old (Call.Guarded key given) (Reply.Refused refusal) [] old
+guarded-refused rules old key given refusal may = (
+  CacheStep.refuses_load (Call.Guarded key given) key given None refusal (IsLoad.guarded given)
+      may,
+  may,
+)
 
 -- A placeholder was taken for the key.
 module _ (rules : Rules ℕ ℕ) (old mid new : CacheState ℕ ℕ) (key ticket : ℕ)
     {gives : ℕ → Type 0} (takes : Takes (nat_eq key) gives (rules.hash key) old ticket mid) where
   -- its guard is dropped
   pub guarded-drops : UpToOrder (GivesUpPlaceholder ticket mid) new
-      → Serves rules old (Guarded key None) Dropped [] new
+      → Serves rules old (Call.Guarded key None) Reply.Dropped [] new
   guarded-drops gone = (
     CacheStep.drops key new
         (Takes-nothing (nat_eq key) gives (rules.hash key) old rules ticket mid new takes gone),
@@ -118,7 +117,8 @@ module _ (rules : Rules ℕ ℕ) (old mid new : CacheState ℕ ℕ) (key ticket 
   -- its guard fills it
   pub guarded-fills : {S : Type 0} (hooks : Hooks ℕ ℕ S) (value : ℕ) (first last : S)
       → FillsIfThere (Unit {0}) hooks rules ticket mid value first new last
-      → Calls hooks (λ calls. Serves rules old (Guarded key (Some value)) Filled calls new) first
+      → Calls hooks (λ calls. Serves rules old (Call.Guarded key (Some value)) Reply.Filled calls
+      new) first
       last
   guarded-fills hooks value first last fills =
       let filled = Fills-awaited (Unit {0}) hooks rules ticket false value mid new first last
@@ -141,9 +141,9 @@ module _ (rules : Rules ℕ ℕ) (old mid new : CacheState ℕ ℕ) (key ticket 
 module _ (rules : Rules ℕ ℕ) (old : CacheState ℕ ℕ) (key : ℕ) where
   -- a guard that was filled loads its value
   pub load-filled : (given : Option ℕ) (there : Bool) (hook_calls : List (HookCall ℕ ℕ))
-      (new : CacheState ℕ ℕ) → Serves rules old (Guarded key given) Filled hook_calls new
+      (new : CacheState ℕ ℕ) → Serves rules old (Call.Guarded key given) Reply.Filled hook_calls new
       → OnTrue there (HasItem (nat_eq key) new) → OnFalse there (HasNoItem (nat_eq key) new)
-      → Serves rules old (Load key given) (Loaded there) hook_calls new
+      → Serves rules old (Call.Load key given) (Reply.Loaded there) hook_calls new
   load-filled _ there _ _ (CacheStep.fills _ value calls new loads, made) item none = (
     CacheStep.loads key value there calls new loads
         (tells-item (nat_eq key) new there item none),
@@ -152,16 +152,16 @@ module _ (rules : Rules ℕ ℕ) (old : CacheState ℕ ℕ) (key : ℕ) where
 
   -- one that was dropped is a load that failed
   pub load-dropped : (given : Option ℕ) (hook_calls : List (HookCall ℕ ℕ)) (new : CacheState ℕ ℕ)
-      → Serves rules old (Guarded key given) Dropped hook_calls new
-      → Serves rules old (Load key given) LoadFailed hook_calls new
+      → Serves rules old (Call.Guarded key given) Reply.Dropped hook_calls new
+      → Serves rules old (Call.Load key given) Reply.LoadFailed hook_calls new
   load-dropped _ _ _ (CacheStep.drops _ new nothing, made) = (CacheStep.fails key new nothing, tt)
 
   -- and where no guard was given, the value was found, or the load refused
   pub load-other : (given : Option ℕ) (reply : Reply ℕ ℕ Global)
       (hook_calls : List (HookCall ℕ ℕ)) (new : CacheState ℕ ℕ)
-      → Serves rules old (Guarded key given) reply hook_calls new
-      → (reply ≡ Filled → ⊥) → (reply ≡ Dropped → ⊥)
-      → Serves rules old (Load key given) reply hook_calls new
+      → Serves rules old (Call.Guarded key given) reply hook_calls new
+      → (reply ≡ Reply.Filled → ⊥) → (reply ≡ Reply.Dropped → ⊥)
+      → Serves rules old (Call.Load key given) reply hook_calls new
   load-other _ _ _ _ (CacheStep.fills _ value _ _ loads, made) unfilled undropped =
       absurd (unfilled refl)
   load-other _ _ _ _ (CacheStep.drops _ _ nothing, made) unfilled undropped =
@@ -171,7 +171,7 @@ module _ (rules : Rules ℕ ℕ) (old : CacheState ℕ ℕ) (key : ℕ) where
         shows writes,
     made,
   ) unfilled undropped = (
-    CacheStep.finds (Load key given) key given None found shown mid new (IsLoad.load given)
+    CacheStep.finds (Call.Load key given) key given None found shown mid new (IsLoad.load given)
         looks shows writes,
     tt,
   )
@@ -180,7 +180,7 @@ module _ (rules : Rules ℕ ℕ) (old : CacheState ℕ ℕ) (key : ℕ) where
         (IsLoad.guarded _) at may,
     made,
   ) unfilled undropped = (
-    CacheStep.refuses_found (Load key given) key given None refusal place before item after
+    CacheStep.refuses_found (Call.Load key given) key given None refusal place before item after
         (IsLoad.load given) at may,
     made,
   )
@@ -192,6 +192,6 @@ module _ (rules : Rules ℕ ℕ) (old : CacheState ℕ ℕ) (key : ℕ) where
       elim room [ ]
   load-other given _ _ _ (CacheStep.refuses_load _ _ _ _ refusal (IsLoad.guarded _) may, made)
       unfilled undropped = (
-        CacheStep.refuses_load (Load key given) key given None refusal (IsLoad.load given) may,
+        CacheStep.refuses_load (Call.Load key given) key given None refusal (IsLoad.load given) may,
         made,
       )

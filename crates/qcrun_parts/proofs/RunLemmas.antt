@@ -1,7 +1,6 @@
 -- Runs, line by line.
-use Rattle.std.proofs.Common.{◌≡◌, ◌+◌, ◌≤◌, ◌⊎◌, inl, inr, ⊎_elim, ℕ, Bool, true, false, ◌==◌}
-use Rattle.std.proofs.Common.{List, [], ◌∷◌, ◌++◌, length, Option, Some, None, Result, Ok, Err, All}
-use Rattle.std.proofs.Common.{refl, sym, ap, subst, ◌∙◌, append_assoc, arith}
+use Rattle.std.proofs.Common.{◌≡◌, ◌+◌, ◌≤◌, ◌⊎◌, inl, inr, ⊎_elim, ℕ, Bool, true, false, ◌==◌, List, [], ◌∷◌, ◌++◌, length, Option, Some}
+use Rattle.std.proofs.Common.{None, Result, Ok, Err, All, refl, sym, ap, subst, ◌∙◌, append_assoc, arith}
 use Rattle.std.proofs.lemmas.Bool.{cases_eq, eqb-true}
 use Rattle.std.proofs.lemmas.List.{append-nil, length-append}
 use Rattle.std.proofs.lemmas.List.Elements.{All-nil, All-cons, All-append}
@@ -10,13 +9,11 @@ use Rattle.std.specs.Prelude.{⊤, IfOk, OnOk}
 use Rattle.quick_cache_model.specs.Hooks.{Rules}
 use Rattle.quick_cache_shard.specs.Shard.{Shard}
 use Rattle.qcrun_parts.specs.declared.command.Command.{Command}
-use Rattle.qcrun_parts.specs.declared.lines.Line.TheVariants.{Whole, TooLong, End}
+use Rattle.qcrun_parts.specs.declared.lines.Line.{Line}
 use Rattle.qcrun_parts.specs.Commands.{IsLineOf, IsOkExactly}
 use Rattle.qcrun_parts.specs.Lines.{IsInLine, IsFirstLine, IsTooLong, ReadsLine}
 use Rattle.qcrun_parts.specs.declared.serving.session.Outcome.{Outcome}
-use Rattle.qcrun_parts.specs.declared.serving.session.Outcome.TheVariants.{NoCache}
 use Rattle.qcrun_parts.specs.declared.serving.Ending.{Ending}
-use Rattle.qcrun_parts.specs.declared.serving.Ending.TheVariants.{BadLine}
 use Rattle.qcrun_parts.specs.Sessions.{ServesCommand}
 use Rattle.qcrun_parts.specs.Runs.{ServesLine, ServesText, ServesKnown, PrintsLine, bad_line, status_of}
 use Rattle.qcrun_parts.proofs.PrintLemmas.{Appends-both}
@@ -100,7 +97,7 @@ module _ {We B L A : Type 0} (rules : Shard ℕ ℕ We B L → Rules ℕ ℕ) wh
   pub ServesLine-lacks : {old new : Option (Shard ℕ ℕ We B L)} {line : List ℕ} {outcome : Outcome A}
       (command : Command) → (line ≡ [] → ⊥) → IsLineOf line command
       → ServesCommand rules old command outcome new
-      → outcome ≡ NoCache → ServesLine A rules old line false new []
+      → outcome ≡ Outcome.NoCache → ServesLine A rules old line false new []
   ServesLine-lacks {old} {new} command some is serves lacks =
       ServesLine.lacks_cache command new some is
       (subst (λ outcome. ServesCommand rules old command outcome new) lacks serves)
@@ -127,13 +124,13 @@ module _ {S : Type 0} (serves_line : S → List ℕ → Bool → S → List ℕ 
   -- one line more
   pub Serving-more : (first : S) (text before : Option (List ℕ)) (number : ℕ) (old mid : S)
       (left after : Option (List ℕ)) (line : List ℕ) (last now : Option (List ℕ))
-      → Serving first text before number old left after → ReadsLine left line last Whole
+      → Serving first text before number old left after → ReadsLine left line last Line.Whole
       → PrintsLine (serves_line old line) true mid after now
       → Serving first text before (number + 1) mid last now
   Serving-more first None before number old mid left after line last now serving reads prints = tt
   Serving-more first (Some text) before number old mid left after line last now serving reads
       prints =
-      let read = subst (λ known. ReadsLine known line last Whole) serving.known reads in
+      let read = subst (λ known. ReadsLine known line last Line.Whole) serving.known reads in
       record {
         rest = read.0;
         printed = serving.printed ++ prints.printed;
@@ -150,11 +147,11 @@ module _ {S : Type 0} (serves_line : S → List ℕ → Bool → S → List ℕ 
   -- no line is left
   pub ServesKnown-end : (first : S) (text before : Option (List ℕ)) (number : ℕ) (now : S)
       (left after : Option (List ℕ)) (line : List ℕ) (last : Option (List ℕ))
-      → Serving first text before number now left after → ReadsLine left line last End
+      → Serving first text before number now left after → ReadsLine left line last Line.End
       → ServesKnown serves_line first text 0 before after
   ServesKnown-end first None before number now left after line last serving reads = tt
   ServesKnown-end first (Some text) before number now left after line last serving reads =
-      let none = subst (λ known. ReadsLine known line last End) serving.known reads in (
+      let none = subst (λ known. ReadsLine known line last Line.End) serving.known reads in (
         serving.printed,
         subst (ServesText serves_line 1 first text 0) (append-nil serving.printed)
             (serving.goes 0 [] (rw none (ServesText.ends number now))),
@@ -164,14 +161,14 @@ module _ {S : Type 0} (serves_line : S → List ℕ → Bool → S → List ℕ 
   -- a line was bad
   pub ServesKnown-bad : (first : S) (text before : Option (List ℕ)) (number : ℕ) (old new : S)
       (left after : Option (List ℕ)) (line : List ℕ) (last mid now : Option (List ℕ))
-      → Serving first text before number old left after → ReadsLine left line last Whole
+      → Serving first text before number old left after → ReadsLine left line last Line.Whole
       → PrintsLine (serves_line old line) false new after mid → Appends mid now (bad_line number)
       → ServesKnown serves_line first text 2 before now
   ServesKnown-bad first None before number old new left after line last mid now serving reads prints
       tells = tt
   ServesKnown-bad first (Some text) before number old new left after line last mid now serving reads
       prints tells =
-      let read = subst (λ known. ReadsLine known line last Whole) serving.known reads in
+      let read = subst (λ known. ReadsLine known line last Line.Whole) serving.known reads in
       let told = prints.printed ++ bad_line number in (
         serving.printed ++ told,
         serving.goes 2 told
@@ -184,13 +181,13 @@ module _ {S : Type 0} (serves_line : S → List ℕ → Bool → S → List ℕ 
   -- a line was too long
   pub ServesKnown-too_long : (first : S) (text before : Option (List ℕ)) (number : ℕ) (old : S)
       (left after : Option (List ℕ)) (line : List ℕ) (last now : Option (List ℕ))
-      → Serving first text before number old left after → ReadsLine left line last TooLong
+      → Serving first text before number old left after → ReadsLine left line last Line.TooLong
       → Appends after now (bad_line number) → ServesKnown serves_line first text 2 before now
   ServesKnown-too_long first None before number old left after line last now serving reads
       tells = tt
   ServesKnown-too_long first (Some text) before number old left after line last now serving
       reads tells =
-      let long = subst (λ known. ReadsLine known line last TooLong) serving.known reads in
+      let long = subst (λ known. ReadsLine known line last Line.TooLong) serving.known reads in
       let begun = first_line serving.rest line long in (
         serving.printed ++ bad_line number,
         serving.goes 2 (bad_line number)
@@ -202,8 +199,8 @@ module _ {S : Type 0} (serves_line : S → List ℕ → Bool → S → List ℕ 
   -- the same where a call told it
   pub ServesKnown-told-bad : {E : Type 0} (first : S) (text before : Option (List ℕ)) (number : ℕ)
       (old new : S) (left after : Option (List ℕ)) (line : List ℕ) (last mid now : Option (List ℕ))
-      (told : Result Ending E) → IfOk told (λ ending. ending ≡ BadLine)
-      → Serving first text before number old left after → ReadsLine left line last Whole
+      (told : Result Ending E) → IfOk told (λ ending. ending ≡ Ending.BadLine)
+      → Serving first text before number old left after → ReadsLine left line last Line.Whole
       → PrintsLine (serves_line old line) false new after mid
       → OnOk told (Appends mid now (bad_line number))
       → IfOk told (λ ending. ServesKnown serves_line first text (status_of ending) before now)
@@ -217,8 +214,8 @@ module _ {S : Type 0} (serves_line : S → List ℕ → Bool → S → List ℕ 
 
   pub ServesKnown-told-long : {E : Type 0} (first : S) (text before : Option (List ℕ)) (number : ℕ)
       (old : S) (left after : Option (List ℕ)) (line : List ℕ) (last now : Option (List ℕ))
-      (told : Result Ending E) → IfOk told (λ ending. ending ≡ BadLine)
-      → Serving first text before number old left after → ReadsLine left line last TooLong
+      (told : Result Ending E) → IfOk told (λ ending. ending ≡ Ending.BadLine)
+      → Serving first text before number old left after → ReadsLine left line last Line.TooLong
       → OnOk told (Appends after now (bad_line number))
       → IfOk told (λ ending. ServesKnown serves_line first text (status_of ending) before now)
   ServesKnown-told-long first text before number old left after line last now (Ok ending) is serving

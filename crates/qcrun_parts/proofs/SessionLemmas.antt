@@ -6,7 +6,7 @@ use Rattle.quick_cache_shard.specs.Shard.{Shard}
 use Rattle.quick_cache_model.specs.declared.calls.reply.Reply.{Reply}
 use Rattle.qcrun_parts.specs.declared.command.Command.{Command}
 use Rattle.qcrun_parts.specs.declared.reply.Answer.{Answer}
-use Rattle.qcrun_parts.specs.declared.serving.session.Outcome.TheVariants.{Answered}
+use Rattle.qcrun_parts.specs.declared.serving.session.Outcome.{Outcome}
 use Rattle.qcrun_parts.specs.declared.events.Event.{Event}
 use Rattle.qcrun_parts.specs.Answers.{answer_of}
 use Rattle.qcrun_parts.specs.Events.{LeavesByKind, TellsOf}
@@ -22,7 +22,7 @@ module _ {We B L A : Type 0} (rules : Shard ℕ ℕ We B L → Rules ℕ ℕ) wh
       → new ≡ record cache { state = new.state; places = new.places; room = new.room; work = new.work }
       → ServesAsked (rules cache) cache.state command reply hook_calls new.state
       → LeavesByKind hook_calls × TellsOf hook_calls events
-      → ServesCommand rules old command (Answered events answer) (Some new)
+      → ServesCommand rules old command (Outcome.Answered events answer) (Some new)
   ServesCommand-call old command answer cache new reply hook_calls events stood told same serves
       tells =
       rw stood (rw told (ServesCommand.makes_call cache new command reply hook_calls events same

@@ -1,13 +1,7 @@
 -- The lines that are commands.
-use Rattle.std.specs.Prelude.{◌≡◌, ◌↔◌, ⊤, Result, Ok, ℕ, ◌^◌, ◌<◌, ◌≤◌, List, [], ◌∷◌, ◌++◌}
-use Rattle.std.specs.Prelude.{length, codes}
+use Rattle.std.specs.Prelude.{◌≡◌, ◌↔◌, ⊤, Result, Ok, ℕ, ◌^◌, ◌<◌, ◌≤◌, List, [], ◌∷◌, ◌++◌, length, codes}
 use Rattle.std.specs.Str.Parse.{IsNumeral, digits_value}
 use Rattle.qcrun_parts.specs.declared.command.Command.{Command}
-use Rattle.qcrun_parts.specs.declared.command.Command.TheVariants.{Cache, CacheWithShares, CacheWithMark}
-use Rattle.qcrun_parts.specs.declared.command.Command.TheVariants.{Insert, Replace, Soft, Get}
-use Rattle.qcrun_parts.specs.declared.command.Command.TheVariants.{Peek, Remove, RemoveIf, Set, Poke}
-use Rattle.qcrun_parts.specs.declared.command.Command.TheVariants.{Load, Fail, Guard, Drop, Stats}
-use Rattle.qcrun_parts.specs.declared.command.Command.TheVariants.{Clear, Capacity, Hits, Show}
 
 -- one to twenty decimal digits, of at most the greatest u64
 abbrev pub IsNumeralInRange : List ℕ → Type 0
@@ -30,56 +24,58 @@ AreNumbers words (number ∷ numbers) = (word : List ℕ) × (rest : List ℕ) �
 
 -- the name of a command
 abbrev pub name_of : Command → List ℕ
-name_of (Cache items weight) = codes "cache"
-name_of (CacheWithShares items weight hot ghost) = codes "cache"
-name_of (CacheWithMark items weight hot ghost mark) = codes "cache"
-name_of (Insert key value) = codes "insert"
-name_of (Replace key value) = codes "replace"
-name_of (Soft key value) = codes "soft"
-name_of (Get key) = codes "get"
-name_of (Peek key) = codes "peek"
-name_of (Remove key) = codes "remove"
-name_of (RemoveIf key value) = codes "removeif"
-name_of (Set key value) = codes "set"
-name_of (Poke key value) = codes "poke"
-name_of (Load key value) = codes "load"
-name_of (Fail key) = codes "fail"
-name_of (Guard key value) = codes "guard"
-name_of (Drop key) = codes "drop"
-name_of (Stats key) = codes "stats"
-name_of Clear = codes "clear"
-name_of (Capacity weight) = codes "capacity"
-name_of Hits = codes "hits"
-name_of Show = codes "show"
+name_of (Command.Cache items weight) = codes "cache"
+name_of (Command.CacheWithShares items weight hot ghost) = codes "cache"
+name_of (Command.CacheWithMark items weight hot ghost mark) = codes "cache"
+name_of (Command.Insert key value) = codes "insert"
+name_of (Command.Replace key value) = codes "replace"
+name_of (Command.Soft key value) = codes "soft"
+name_of (Command.Get key) = codes "get"
+name_of (Command.Peek key) = codes "peek"
+name_of (Command.Remove key) = codes "remove"
+name_of (Command.RemoveIf key value) = codes "removeif"
+name_of (Command.Set key value) = codes "set"
+name_of (Command.Poke key value) = codes "poke"
+name_of (Command.Load key value) = codes "load"
+name_of (Command.Fail key) = codes "fail"
+name_of (Command.Guard key value) = codes "guard"
+name_of (Command.Drop key) = codes "drop"
+name_of (Command.Stats key) = codes "stats"
+name_of Command.Clear = codes "clear"
+name_of (Command.Capacity weight) = codes "capacity"
+name_of Command.Hits = codes "hits"
+name_of Command.Show = codes "show"
 
 -- the numbers behind its name
 abbrev pub numbers_of : Command → List ℕ
-numbers_of (Cache items weight) = items ∷ weight ∷ []
-numbers_of (CacheWithShares items weight hot ghost) = items ∷ weight ∷ hot ∷ ghost ∷ []
-numbers_of (CacheWithMark items weight hot ghost mark) = items ∷ weight ∷ hot ∷ ghost ∷ mark ∷ []
-numbers_of (Insert key value) = key ∷ value ∷ []
-numbers_of (Replace key value) = key ∷ value ∷ []
-numbers_of (Soft key value) = key ∷ value ∷ []
-numbers_of (Get key) = key ∷ []
-numbers_of (Peek key) = key ∷ []
-numbers_of (Remove key) = key ∷ []
-numbers_of (RemoveIf key value) = key ∷ value ∷ []
-numbers_of (Set key value) = key ∷ value ∷ []
-numbers_of (Poke key value) = key ∷ value ∷ []
-numbers_of (Load key value) = key ∷ value ∷ []
-numbers_of (Fail key) = key ∷ []
-numbers_of (Guard key value) = key ∷ value ∷ []
-numbers_of (Drop key) = key ∷ []
-numbers_of (Stats key) = key ∷ []
-numbers_of Clear = []
-numbers_of (Capacity weight) = weight ∷ []
-numbers_of Hits = []
-numbers_of Show = []
+numbers_of (Command.Cache items weight) = items ∷ weight ∷ []
+numbers_of (Command.CacheWithShares items weight hot ghost) = items ∷ weight ∷ hot ∷ ghost ∷ []
+numbers_of (Command.CacheWithMark items weight hot ghost mark) =
+    items ∷ weight ∷ hot ∷ ghost ∷ mark ∷ []
+numbers_of (Command.Insert key value) = key ∷ value ∷ []
+numbers_of (Command.Replace key value) = key ∷ value ∷ []
+numbers_of (Command.Soft key value) = key ∷ value ∷ []
+numbers_of (Command.Get key) = key ∷ []
+numbers_of (Command.Peek key) = key ∷ []
+numbers_of (Command.Remove key) = key ∷ []
+numbers_of (Command.RemoveIf key value) = key ∷ value ∷ []
+numbers_of (Command.Set key value) = key ∷ value ∷ []
+numbers_of (Command.Poke key value) = key ∷ value ∷ []
+numbers_of (Command.Load key value) = key ∷ value ∷ []
+numbers_of (Command.Fail key) = key ∷ []
+numbers_of (Command.Guard key value) = key ∷ value ∷ []
+numbers_of (Command.Drop key) = key ∷ []
+numbers_of (Command.Stats key) = key ∷ []
+numbers_of Command.Clear = []
+numbers_of (Command.Capacity weight) = weight ∷ []
+numbers_of Command.Hits = []
+numbers_of Command.Show = []
 
 -- a share is of at most the greatest u32, and a mark of at most the greatest u8
 abbrev pub HasSharesInRange : Command → Type 0
-HasSharesInRange (CacheWithShares items weight hot ghost) = (hot < 2 ^ 32) × (ghost < 2 ^ 32)
-HasSharesInRange (CacheWithMark items weight hot ghost mark) =
+HasSharesInRange (Command.CacheWithShares items weight hot ghost) = (hot < 2 ^ 32)
+    × (ghost < 2 ^ 32)
+HasSharesInRange (Command.CacheWithMark items weight hot ghost mark) =
     (hot < 2 ^ 32) × (ghost < 2 ^ 32) × (mark < 2 ^ 8)
 HasSharesInRange _ = ⊤
 

@@ -3,20 +3,19 @@ use Rattle.std.specs.Prelude.{◌≡◌, ⊤, ℕ, List, [], ◌∷◌, ◌++◌
 use Rattle.std.specs.Fmt.{decimal}
 use Rattle.quick_cache_model.specs.Hooks.{HookCall, BeforeEvict, EvictHot, EvictCold}
 use Rattle.qcrun_parts.specs.declared.events.Event.{Event}
-use Rattle.qcrun_parts.specs.declared.events.Event.TheVariants.{Before, Hot, Cold}
 use Rattle.qcrun_parts.specs.Kinds.{value_left}
 
 -- what is kept of a hook call: the pair as the hook was handed it
 abbrev pub event_of : HookCall ℕ ℕ → Event
-event_of (BeforeEvict key value left) = Before key value
-event_of (EvictHot key value) = Hot key value
-event_of (EvictCold key value) = Cold key value
+event_of (BeforeEvict key value left) = Event.Before key value
+event_of (EvictHot key value) = Event.Hot key value
+event_of (EvictCold key value) = Event.Cold key value
 
 -- the hook, and the pair behind it
 abbrev pub event_text : Event → List ℕ
-event_text (Before key value) = codes "before " ++ decimal key ++ codes " " ++ decimal value
-event_text (Hot key value) = codes "hot " ++ decimal key ++ codes " " ++ decimal value
-event_text (Cold key value) = codes "cold " ++ decimal key ++ codes " " ++ decimal value
+event_text (Event.Before key value) = codes "before " ++ decimal key ++ codes " " ++ decimal value
+event_text (Event.Hot key value) = codes "hot " ++ decimal key ++ codes " " ++ decimal value
+event_text (Event.Cold key value) = codes "cold " ++ decimal key ++ codes " " ++ decimal value
 
 -- each value that `before_evict` leaves is the one that its kind has left
 abbrev pub LeavesByKind : List (HookCall ℕ ℕ) → Type 0

@@ -1,7 +1,6 @@
 -- The lines of a text, and what reading one leaves.
 use Rattle.std.specs.Prelude.{◌≡◌, ◌<◌, ⊤, ℕ, List, [], ◌∷◌, ◌++◌, length, Option, Some, None, All}
 use Rattle.qcrun_parts.specs.declared.lines.Line.{Line}
-use Rattle.qcrun_parts.specs.declared.lines.Line.TheVariants.{Whole, TooLong, End}
 
 -- not a line feed
 abbrev pub IsInLine : ℕ → Type 0
@@ -37,7 +36,7 @@ pub record IsTooLong (text line : List ℕ) : Type 0 where
 -- What is known of the bytes that are left, once a line was asked for.
 abbrev pub ReadsLine : Option (List ℕ) → List ℕ → Option (List ℕ) → Line → Type 0
 ReadsLine None line left answer = ⊤
-ReadsLine (Some text) line left Whole =
+ReadsLine (Some text) line left Line.Whole =
     (rest : List ℕ) × IsFirstLine text line rest × (left ≡ Some rest)
-ReadsLine (Some text) line left TooLong = IsTooLong text line
-ReadsLine (Some text) line left End = text ≡ []
+ReadsLine (Some text) line left Line.TooLong = IsTooLong text line
+ReadsLine (Some text) line left Line.End = text ≡ []

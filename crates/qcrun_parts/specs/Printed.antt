@@ -4,7 +4,6 @@ use Rattle.std.specs.Fmt.{decimal}
 use Rattle.quick_cache_model.specs.CacheState.{CacheState, item_count, total_weight}
 use Rattle.quick_cache_shard.specs.Shard.{Shard, shown}
 use Rattle.qcrun_parts.specs.declared.serving.session.Outcome.{Outcome}
-use Rattle.qcrun_parts.specs.declared.serving.session.Outcome.TheVariants.{Answered, Shows, NoCache}
 use Rattle.qcrun_parts.specs.declared.events.Event.{Event}
 use Rattle.qcrun_parts.specs.Answers.{text_of}
 use Rattle.qcrun_parts.specs.Events.{event_text}
@@ -76,7 +75,7 @@ events_text (Some events) = event_lines events.items
 -- the text for what became of a command, where this cache stands behind it: an answer stands behind
 -- the events
 abbrev pub outcome_text : {We B L A : Type 0} → Outcome A → Option (Shard ℕ ℕ We B L) → List ℕ
-outcome_text (Answered events answer) cache = events_text events ++ line_of (text_of answer)
-outcome_text (Shows still) (Some cache) = shown_text cache.state still.items
-outcome_text (Shows still) None = []
-outcome_text NoCache cache = []
+outcome_text (Outcome.Answered events answer) cache = events_text events ++ line_of (text_of answer)
+outcome_text (Outcome.Shows still) (Some cache) = shown_text cache.state still.items
+outcome_text (Outcome.Shows still) None = []
+outcome_text Outcome.NoCache cache = []

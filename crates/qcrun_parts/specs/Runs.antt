@@ -6,9 +6,7 @@ use Rattle.quick_cache_model.specs.Hooks.{Rules}
 use Rattle.quick_cache_shard.specs.Shard.{Shard}
 use Rattle.qcrun_parts.specs.declared.command.Command.{Command}
 use Rattle.qcrun_parts.specs.declared.serving.session.Outcome.{Outcome}
-use Rattle.qcrun_parts.specs.declared.serving.session.Outcome.TheVariants.{NoCache}
 use Rattle.qcrun_parts.specs.declared.serving.Ending.{Ending}
-use Rattle.qcrun_parts.specs.declared.serving.Ending.TheVariants.{EndOfInput, BadLine}
 use Rattle.qcrun_parts.specs.Commands.{IsLineOf}
 use Rattle.qcrun_parts.specs.Lines.{IsFirstLine}
 use Rattle.qcrun_parts.specs.Printed.{outcome_text, line_of}
@@ -20,8 +18,8 @@ bad_line number = line_of (codes "bad line " ++ decimal number)
 
 -- the status at the end of the input, and behind a bad line
 abbrev pub status_of : Ending → ℕ
-status_of EndOfInput = 0
-status_of BadLine = 2
+status_of Ending.EndOfInput = 0
+status_of Ending.BadLine = 2
 
 -- The cache that stood, a line, whether it could be served, the cache that stands, and what is
 -- printed. An empty line asks for nothing. Another line is bad that is no command, or that asks for
@@ -32,9 +30,10 @@ pub data ServesLine {We B L : Type 0} (A : Type 0) (rules : Shard ℕ ℕ We B L
   is_empty : line ≡ [] → ServesLine A rules old line true old []
   serves : (command : Command) (outcome : Outcome A) (new : Option (Shard ℕ ℕ We B L))
       → IsLineOf line command → ServesCommand rules old command outcome new
-      → (outcome ≡ NoCache → ⊥) → ServesLine A rules old line true new (outcome_text outcome new)
+      → (outcome ≡ Outcome.NoCache → ⊥)
+      → ServesLine A rules old line true new (outcome_text outcome new)
   lacks_cache : (command : Command) (new : Option (Shard ℕ ℕ We B L)) → (line ≡ [] → ⊥)
-      → IsLineOf line command → ServesCommand {A = A} rules old command NoCache new
+      → IsLineOf line command → ServesCommand {A = A} rules old command Outcome.NoCache new
       → ServesLine A rules old line false new []
   is_no_command : (line ≡ [] → ⊥) → ((command : Command) → IsLineOf line command → ⊥)
       → ServesLine A rules old line false old []

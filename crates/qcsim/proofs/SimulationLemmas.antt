@@ -1,7 +1,6 @@
 -- Runs of the calls that a trace asks: a single key, and one run behind another.
-use Rattle.std.proofs.Common.{◌≡◌, ℕ, ◌+◌, Bool, List, [], ◌∷◌, ◌++◌, Some, None, refl, sym}
-use Rattle.std.proofs.Common.{subst, append_assoc, append-nil, arith, Option, is_some, option_copied}
-use Rattle.std.proofs.Common.{true, false, true≢false}
+use Rattle.std.proofs.Common.{◌≡◌, ℕ, ◌+◌, Bool, List, [], ◌∷◌, ◌++◌, Some, None, refl, sym, subst, append_assoc, append-nil, arith, Option}
+use Rattle.std.proofs.Common.{is_some, option_copied, true, false, true≢false}
 use denote.Ref.{Bor}
 use Rattle.quick_cache_model.specs.CacheState.{CacheState, UpToOrder}
 use Rattle.quick_cache_model.specs.Hooks.{Rules, HookCall}
@@ -9,9 +8,7 @@ use Rattle.quick_cache_model.specs.Lookups.{LooksUp}
 use Rattle.quick_cache_model.specs.Refusals.{IsProvided, needs_of_insert}
 use Rattle.quick_cache_model.specs.Writes.{Writes, Insert as insertion}
 use Rattle.quick_cache_model.specs.declared.calls.call.Call.{Call}
-use Rattle.quick_cache_model.specs.declared.calls.call.Call.TheVariants.{Insert, Get}
 use Rattle.quick_cache_model.specs.declared.calls.reply.Reply.{Reply}
-use Rattle.quick_cache_model.specs.declared.calls.reply.Reply.TheVariants.{Done, Value}
 use Rattle.quick_cache_model.specs.CacheRun.{CacheRun}
 use Rattle.quick_cache_model.specs.CacheStep.{CacheStep}
 use Rattle.quick_cache_model.specs.Shown.{IsItself}
@@ -46,8 +43,8 @@ module _ {K M : Type 0} where
   asks_append _ _ _ _ later others more count Asks.ends asks =
       subst (Asks later others more) (omega arith) asks
   asks_append _ _ _ _ later others more count (Asks.finds key keys calls replies hits on) asks =
-      subst (Asks (key ∷ keys ++ later) (Get key ∷ calls ++ others)
-      (Value (Some tt) ∷ replies ++ more)) (omega arith)
+      subst (Asks (key ∷ keys ++ later) (Call.Get key ∷ calls ++ others)
+      (Reply.Value (Some tt) ∷ replies ++ more)) (omega arith)
       (Asks.finds key (keys ++ later) (calls ++ others) (replies ++ more) (hits + count)
       (asks_append keys calls replies hits later others more count on asks))
   asks_append _ _ _ _ later others more count (Asks.puts_in key keys calls replies hits on) asks =
@@ -95,11 +92,11 @@ module _ {K : Type 0} (rules : Rules K (Unit {0})) (equal : K → K → Bool) wh
         → UpToOrder (LooksUp (equal key) old (λ item. item.value) (Some tt)) new
         → Simulates rules equal old (key ∷ []) 1 new
     found_one new looks = record {
-      calls = Get key ∷ [];
-      replies = Value (Some tt) ∷ [];
+      calls = Call.Get key ∷ [];
+      replies = Reply.Value (Some tt) ∷ [];
       hook_calls = [];
       asks = Asks.finds key [] [] [] 0 Asks.ends;
-      run = CacheRun.goes_on old new new (Get key) (Value (Some tt)) [] [] [] []
+      run = CacheRun.goes_on old new new (Call.Get key) (Reply.Value (Some tt)) [] [] [] []
           (CacheStep.gets key (Some tt) (Some tt) new looks refl) (CacheRun.ends new);
     }
 
@@ -111,16 +108,17 @@ module _ {K : Type 0} (rules : Rules K (Unit {0})) (equal : K → K → Bool) wh
         → UpToOrder (Writes rules (equal key) key insertion mid tt hook_calls None) new
         → Simulates rules equal old (key ∷ []) 0 new
     put_one mid hook_calls new looks provided writes = record {
-      calls = Get key ∷ Insert key tt ∷ [];
-      replies = Value None ∷ Done ∷ [];
+      calls = Call.Get key ∷ Call.Insert key tt ∷ [];
+      replies = Reply.Value None ∷ Reply.Done ∷ [];
       hook_calls = hook_calls;
       asks = Asks.puts_in key [] [] [] 0 Asks.ends;
-      run = CacheRun.goes_on old mid new (Get key) (Value None) (Insert key tt ∷ []) (Done ∷ []) []
+      run = CacheRun.goes_on old mid new (Call.Get key) (Reply.Value None) (Call.Insert key tt ∷ [])
+          (Reply.Done ∷ []) []
           hook_calls (CacheStep.gets key None None mid looks tt)
           (subst (λ (calls : List (HookCall K (Unit {0}))). CacheRun {M = Unit {0}} rules equal
-          IsItself IsItself asks_none mid (Insert key tt ∷ []) (Done ∷ []) calls new)
+          IsItself IsItself asks_none mid (Call.Insert key tt ∷ []) (Reply.Done ∷ []) calls new)
           (append-nil hook_calls)
-          (CacheRun.goes_on mid new new (Insert key tt) Done [] [] hook_calls []
+          (CacheRun.goes_on mid new new (Call.Insert key tt) Reply.Done [] [] hook_calls []
           (CacheStep.inserts key tt hook_calls new provided writes) (CacheRun.ends new)));
     }
 

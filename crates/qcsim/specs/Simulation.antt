@@ -1,14 +1,11 @@
 -- What a trace of keys asks of a cache, and how many of them it has.
-use Rattle.std.specs.Prelude.{◌≡◌, ℕ, ◌+◌, Bool, false, if◌then◌else◌, List, [], ◌∷◌, Some, None}
-use Rattle.std.specs.Prelude.{nat_eq}
+use Rattle.std.specs.Prelude.{◌≡◌, ℕ, ◌+◌, Bool, false, if◌then◌else◌, List, [], ◌∷◌, Some, None, nat_eq}
 use Rattle.quick_cache_model.specs.CacheState.{CacheState, empty_state}
 use Rattle.quick_cache_model.specs.Hooks.{Rules, HookCall}
 use Rattle.quick_cache_model.specs.Sizes.{hot_target_of, ghost_limit_of}
 use Rattle.quick_cache_options.specs.Options.{Settings}
 use Rattle.quick_cache_model.specs.declared.calls.call.Call.{Call}
-use Rattle.quick_cache_model.specs.declared.calls.call.Call.TheVariants.{Insert, Get}
 use Rattle.quick_cache_model.specs.declared.calls.reply.Reply.{Reply}
-use Rattle.quick_cache_model.specs.declared.calls.reply.Reply.TheVariants.{Done, Value}
 use Rattle.quick_cache_model.specs.CacheRun.{CacheRun}
 use Rattle.quick_cache_model.specs.Shown.{IsItself}
 
@@ -27,10 +24,11 @@ pub data Asks {K M : Type 0} : List K → List (Call K (Unit {0}) ⊥)
   ends : Asks [] [] [] 0
   finds : (key : K) (keys : List K) (calls : List (Call K (Unit {0}) ⊥))
       (replies : List (Reply K (Unit {0}) M)) (hits : ℕ) → Asks keys calls replies hits
-      → Asks (key ∷ keys) (Get key ∷ calls) (Value (Some tt) ∷ replies) (1 + hits)
+      → Asks (key ∷ keys) (Call.Get key ∷ calls) (Reply.Value (Some tt) ∷ replies) (1 + hits)
   puts_in : (key : K) (keys : List K) (calls : List (Call K (Unit {0}) ⊥))
       (replies : List (Reply K (Unit {0}) M)) (hits : ℕ) → Asks keys calls replies hits
-      → Asks (key ∷ keys) (Get key ∷ Insert key tt ∷ calls) (Value None ∷ Done ∷ replies) hits
+      → Asks (key ∷ keys) (Call.Get key ∷ Call.Insert key tt ∷ calls)
+      (Reply.Value None ∷ Reply.Done ∷ replies) hits
 
 -- From a state to another, a run of the calls that a trace asks, in which so many keys are found.
 pub record Simulates {K : Type 0} (rules : Rules K (Unit {0})) (equal : K → K → Bool)

@@ -1,6 +1,6 @@
 -- The keys of the kit's `LruCache`, as a list of keys.
-use Rattle.std.proofs.Common.{◌≡◌, ℕ, ◌-◌, Bool, true, false, List, [], ◌∷◌, take}
-use Rattle.std.proofs.Common.{Option, Some, None, is_some, nat_eq, zero, suc, refl, sym, ap, ◌∙◌}
+use Rattle.std.proofs.Common.{◌≡◌, ℕ, ◌-◌, Bool, true, false, List, [], ◌∷◌, take, Option, Some, None, is_some, nat_eq, zero, suc, refl}
+use Rattle.std.proofs.Common.{sym, ap, ◌∙◌}
 use Rattle.std.proofs.lemmas.Bool.{eqb-true}
 use Rattle.std.specs.Map.{keys_of, lookup, lookup_entry, remove_entry}
 use Rattle.lru.specs.LruCache.{LruCache, put_entries}

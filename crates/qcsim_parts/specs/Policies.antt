@@ -1,6 +1,5 @@
 -- Caches that go by a list of the keys that they hold, and how many keys of a trace they have.
-use Rattle.std.specs.Prelude.{ℕ, ◌+◌, ◌-◌, Bool, true, false, if◌then◌else◌, List, [], ◌∷◌, take}
-use Rattle.std.specs.Prelude.{nat_eq}
+use Rattle.std.specs.Prelude.{ℕ, ◌+◌, ◌-◌, Bool, true, false, if◌then◌else◌, List, [], ◌∷◌, take, nat_eq}
 
 -- whether the key is in the list
 abbrev pub holds : ℕ → List ℕ → Bool

@@ -25,7 +25,6 @@ pub use Rattle.quick_cache_runs.specs.Made
 pub use Rattle.quick_cache_unsync.specs.CacheDrain
 pub use Rattle.quick_cache_unsync.specs.Lent
 pub use Rattle.quick_cache_unsync.specs.LentGuards
-pub use Rattle.quick_cache_unsync.specs.LentReads
 pub use Rattle.quick_cache_unsync.specs.LentValues
 pub use Rattle.quick_cache_unsync.specs.Loads
 pub use Rattle.quick_cache_unsync.specs.References

@@ -1,5 +1,6 @@
 -- What places hold, counted, and a place that takes a pair.
-use Rattle.std.proofs.Common.{◌≡◌, ℕ, zero, suc, ◌+◌, ◌<◌, Bool, true, false, not, ◌&&◌, ◌||◌, eqb, ltb, List, [], ◌∷◌, length, map, replicate, set, Option, None, refl, sym, ap, ◌∙◌, inl, inr, arith, count_by}
+use Rattle.std.proofs.Common.{◌≡◌, ℕ, zero, suc, ◌+◌, ◌<◌, Bool, true, false, not, ◌&&◌, ◌||◌, eqb, ltb, List, [], ◌∷◌, length, map}
+use Rattle.std.proofs.Common.{replicate, set, Option, None, refl, sym, ap, ◌∙◌, inl, inr, arith, count_by}
 use Rattle.std.specs.List.{list_any, filter_map, cons_option}
 use Rattle.std.proofs.lemmas.Bool.{eqb-true, lt-ltb, eq-eqb}
 use Rattle.std.proofs.lemmas.List.{length-set}
@@ -7,7 +8,8 @@ use Rattle.std.proofs.lemmas.List.Sums.{sum_by-cons, sum_by-set}
 use Rattle.quick_cache_containers.specs.Places.{Place}
 use Rattle.quick_cache_containers.specs.Table.{is_pair}
 use Rattle.quick_cache_index.proofs.CountedTokens.{bit, bool_tells}
-use Rattle.quick_cache_containers.specs.TableGroups.{hash_at, is_free, place_pair, pairs_of, holds_pair, place_at, empty_place, HasOneMore, tokens_at}
+use Rattle.quick_cache_containers.specs.TableGroups.{hash_at, is_free, place_pair, pairs_of, holds_pair, place_at, empty_place, HasOneMore}
+use Rattle.quick_cache_containers.specs.TableGroups.{tokens_at}
 
 -- the sum of f over the positions of a list
 abbrev pub weigh : (ℕ → ℕ) → List ℕ → ℕ

@@ -1,11 +1,14 @@
 -- What the edits do to a slab, token by token.
-use Rattle.std.proofs.Common.{◌≡◌, ◌≢◌, ℕ, ◌+◌, ◌<◌, ◌≤◌, eqb, List, [], ◌∷◌, ◌++◌, length, map, Some, None, refl, sym, ap, subst, ◌∙◌, inl, inr, arith, append-nil}
+use Rattle.std.proofs.Common.{◌≡◌, ◌≢◌, ℕ, ◌+◌, ◌<◌, ◌≤◌, eqb, List, [], ◌∷◌, ◌++◌, length, map, Some, None, refl, sym, ap, subst, ◌∙◌, inl}
+use Rattle.std.proofs.Common.{inr, arith, append-nil}
 use Rattle.std.proofs.lemmas.Bool.{cases_Bool, eq-eqb}
 use Rattle.std.proofs.lemmas.List.{length-map, length_push}
-use Rattle.quick_cache_containers.specs.LinkedSlab.{LinkedSlab, at_token, with_token, times, without, joined, IsOccupied, ring_from, next_token, spare, placed, linked, unlinked, removed, IsParted}
+use Rattle.quick_cache_containers.specs.LinkedSlab.{LinkedSlab, at_token, with_token, times, without, joined, IsOccupied, ring_from}
+use Rattle.quick_cache_containers.specs.LinkedSlab.{next_token, spare, placed, linked, unlinked, removed, IsParted}
 use Rattle.quick_cache_containers.specs.SlabEdits.{LeavesRings, PlacesItem, RemovesItem, UnlinksToken, LinksToken}
 use Rattle.quick_cache_containers.proofs.TokenCounts.{times-here, times-append, without_none}
-use Rattle.quick_cache_containers.proofs.AtTokens.{length-with_token, at_token-with_same, at_token-with_other, at_token-past, at_token-map, at_token-push_same, at_token-push_other}
+use Rattle.quick_cache_containers.proofs.AtTokens.{length-with_token, at_token-with_same, at_token-with_other, at_token-past, at_token-map}
+use Rattle.quick_cache_containers.proofs.AtTokens.{at_token-push_same, at_token-push_other}
 use Rattle.quick_cache_containers.proofs.SlotRings.{taken_within}
 use Rattle.quick_cache_containers.proofs.PartedRings.{before_head_none}
 

@@ -1,12 +1,14 @@
 -- The list of free tokens: what each call makes of it, and how it is counted.
-use Rattle.std.proofs.Common.{◌≡◌, ◌≢◌, ℕ, ◌+◌, ◌<◌, ◌≤◌, true, false, true≢false, cond, eqb, List, [], ◌∷◌, ◌++◌, length, Option, Some, None, is_some, refl, sym, ap, subst, ◌∙◌, inl, inr, arith}
+use Rattle.std.proofs.Common.{◌≡◌, ◌≢◌, ℕ, ◌+◌, ◌<◌, ◌≤◌, true, false, true≢false, cond, eqb, List, [], ◌∷◌, ◌++◌, length, Option, Some}
+use Rattle.std.proofs.Common.{None, is_some, refl, sym, ap, subst, ◌∙◌, inl, inr, arith}
 use Rattle.std.proofs.lemmas.Bool.{cases_eq, eq-eqb, ne_eqb, lt-ltb, le-ltb}
 use Rattle.std.proofs.lemmas.List.{length_push}
 use Rattle.quick_cache_containers.specs.LinkedSlab.{with_token, first_or, times}
 use Rattle.quick_cache_containers.specs.Links.{LeadsFree, link_of, free_of, is_taken, AreFree, IsFreeRest}
 use Rattle.quick_cache_containers.proofs.TokenCounts.{zero_from_none, times-here, times-other, length_once}
 use Rattle.quick_cache_containers.proofs.OneRing.{walk_free_list}
-use Rattle.quick_cache_containers.proofs.AtTokens.{length-with_token, at_token-with_same, at_token-with_other, at_token-push_same, at_token-push_other}
+use Rattle.quick_cache_containers.proofs.AtTokens.{length-with_token, at_token-with_same, at_token-with_other, at_token-push_same}
+use Rattle.quick_cache_containers.proofs.AtTokens.{at_token-push_other}
 use Rattle.quick_cache_containers.proofs.SlotRings.{taken_within}
 
 LeadsFree-frame : (next next' : ℕ → ℕ) (xs : List ℕ) → ((t : ℕ) → 0 < times t xs → next' t ≡ next t)

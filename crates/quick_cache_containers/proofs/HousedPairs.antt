@@ -1,5 +1,6 @@
 -- Pairs that move, and a list of places that grows: each pair keeps its tag and its reach.
-use Rattle.std.proofs.Common.{◌≡◌, ◌≢◌, ℕ, ◌+◌, ◌-◌, ◌*◌, ◌^◌, ◌<◌, ◌≤◌, List, ◌++◌, length, replicate, get_or, set, refl, sym, ap, subst, ◌∙◌, inl, inr, arith}
+use Rattle.std.proofs.Common.{◌≡◌, ◌≢◌, ℕ, ◌+◌, ◌-◌, ◌*◌, ◌^◌, ◌<◌, ◌≤◌, List, ◌++◌, length, replicate, get_or, set, refl, sym, ap, subst}
+use Rattle.std.proofs.Common.{◌∙◌, inl, inr, arith}
 use Rattle.std.specs.Int.{IsPowerOfTwo}
 use Rattle.std.specs.Int.Bits.{bit_and}
 use Rattle.std.specs.List.{swap}
@@ -12,7 +13,8 @@ use Rattle.std.proofs.lemmas.List.Sums.{sum_by-append}
 use Rattle.quick_cache_containers.specs.Places.{Place}
 use Rattle.quick_cache_index.specs.Index.{tag_of, IsReached}
 use Rattle.quick_cache_index.specs.IndexGroups.{ReachesGrow}
-use Rattle.quick_cache_containers.specs.TableGroups.{hash_at, is_free, holds_pair, place_at, empty_place, IsHoused, IsHousedAt, IsBareBelow, HasSamePairs}
+use Rattle.quick_cache_containers.specs.TableGroups.{hash_at, is_free, holds_pair, place_at, empty_place, IsHoused, IsHousedAt, IsBareBelow}
+use Rattle.quick_cache_containers.specs.TableGroups.{HasSamePairs}
 use Rattle.quick_cache_model.proofs.PowersOfTwo.{IsPowerOfTwo-pos}
 use Rattle.quick_cache_index.proofs.CountedTokens.{bit, equal_or_not, tag_of-pos}
 use Rattle.quick_cache_containers.proofs.CountedPlaces.{length-pairs_of}

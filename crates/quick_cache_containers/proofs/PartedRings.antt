@@ -1,9 +1,11 @@
 -- What always holds of a slab: its rings part the occupied tokens.
-use Rattle.std.proofs.Common.{◌≡◌, ◌≢◌, ◌↔◌, ℕ, ◌+◌, ◌<◌, ◌≤◌, Bool, true, false, eqb, List, [], ◌∷◌, ◌++◌, length, map, Option, Some, None, is_some, IfSome, true≢false, refl, sym, ap, subst, ◌∙◌, inl, inr, arith, append-nil}
+use Rattle.std.proofs.Common.{◌≡◌, ◌≢◌, ◌↔◌, ℕ, ◌+◌, ◌<◌, ◌≤◌, Bool, true, false, eqb, List, [], ◌∷◌, ◌++◌, length, map, Option, Some, None}
+use Rattle.std.proofs.Common.{is_some, IfSome, true≢false, refl, sym, ap, subst, ◌∙◌, inl, inr, arith, append-nil}
 use Rattle.std.proofs.lemmas.Bool.{cases_Bool, eq-eqb}
 use Rattle.std.specs.Int.NonZero.{non_zero_u32_get}
 use Rattle.std.specs.declared.num.NonZeroU32.{NonZeroU32 as Token}
-use Rattle.quick_cache_containers.specs.LinkedSlab.{at_token, first_or, times, before_head, joined, without, ring_from, linked, unlinked, IsParted}
+use Rattle.quick_cache_containers.specs.LinkedSlab.{at_token, first_or, times, before_head, joined, without, ring_from, linked, unlinked}
+use Rattle.quick_cache_containers.specs.LinkedSlab.{IsParted}
 use Rattle.quick_cache_containers.specs.Links.{Leads, IsRing, link_of, is_taken, ring_at, rings_of, view_of, room_of, AreLinked, IsSound}
 use Rattle.quick_cache_containers.proofs.TokenCounts.{times-here, times-append}
 use Rattle.quick_cache_containers.proofs.AtTokens.{at_token-with_same, at_token-with_other, at_token-map}

@@ -1,12 +1,16 @@
 -- What an unlink, a link, an insert and a removal do to the slots and their links, seen as rings.
-use Rattle.std.proofs.Common.{◌≡◌, ◌≢◌, ℕ, ◌+◌, ◌<◌, ◌≤◌, true, false, true≢false, cond, eqb, List, [], ◌∷◌, ◌++◌, length, map, Option, Some, None, is_some, refl, sym, ap, subst, ◌∙◌, inl, inr, arith}
+use Rattle.std.proofs.Common.{◌≡◌, ◌≢◌, ℕ, ◌+◌, ◌<◌, ◌≤◌, true, false, true≢false, cond, eqb, List, [], ◌∷◌, ◌++◌, length, map, Option}
+use Rattle.std.proofs.Common.{Some, None, is_some, refl, sym, ap, subst, ◌∙◌, inl, inr, arith}
 use Rattle.std.proofs.lemmas.Bool.{cases_eq, cases_Bool, eq-eqb, ne_eqb}
 use Rattle.std.proofs.lemmas.List.{length-map, length_push}
 use Rattle.quick_cache_containers.specs.LinkedSlab.{at_token, with_token, joined, without}
 use Rattle.quick_cache_containers.specs.Links.{link_of, is_taken, ring_at, rings_of, AreLinked, Links, Unlinks}
 use Rattle.quick_cache_containers.proofs.OneRing.{out_of_ring, IsRing-alone, IsRing-joined, IsRing-of_joined, IsRing-without}
-use Rattle.quick_cache_containers.proofs.AllRings.{before, only_itself, IsLinkedIn, AreRings-linked, IsPlaced, IsRing-placed, AreRings-placed, IsVacated, IsRing-vacated, AreRings-vacated, held-next, IsUnlinked, AreRings-unlinked}
-use Rattle.quick_cache_containers.proofs.AtTokens.{length-with_token, at_token-with_same, at_token-with_other, at_token-map, at_token-push_same, at_token-push_other, at_token-past}
+use Rattle.quick_cache_containers.proofs.AllRings.{before, only_itself, IsLinkedIn, AreRings-linked, IsPlaced, IsRing-placed}
+use Rattle.quick_cache_containers.proofs.AllRings.{AreRings-placed, IsVacated, IsRing-vacated, AreRings-vacated, held-next, IsUnlinked}
+use Rattle.quick_cache_containers.proofs.AllRings.{AreRings-unlinked}
+use Rattle.quick_cache_containers.proofs.AtTokens.{length-with_token, at_token-with_same, at_token-with_other, at_token-map}
+use Rattle.quick_cache_containers.proofs.AtTokens.{at_token-push_same, at_token-push_other, at_token-past}
 use Rattle.quick_cache_containers.proofs.SlotRings.{taken_within, ring_at-is, ring_at-free, length-rings_of, at_token-rings_of, rings_of-is}
 
 module _ {T : Type 0} where

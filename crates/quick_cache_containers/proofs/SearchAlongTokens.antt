@@ -1,11 +1,13 @@
 -- A search along tokens, a call at a time.
-use Rattle.std.proofs.Common.{◌≡◌, ℕ, ◌<◌, Bool, true, false, eqb, List, [], ◌∷◌, Option, Some, None, refl, sym, ap, ◌∙◌, subst, inl, inr, arith, count_by}
+use Rattle.std.proofs.Common.{◌≡◌, ℕ, ◌<◌, Bool, true, false, eqb, List, [], ◌∷◌, Option, Some, None, refl, sym, ap, ◌∙◌, subst, inl, inr}
+use Rattle.std.proofs.Common.{arith, count_by}
 use Rattle.std.specs.declared.num.NonZeroU32.{NonZeroU32}
 use Rattle.std.specs.Int.NonZero.{non_zero_u32_get}
 use Rattle.std.proofs.lemmas.Bool.{eq-eqb}
 use Rattle.std.proofs.lemmas.Bool.Decides.{eqb_tells}
 use Rattle.std.proofs.lemmas.List.Sums.{sum_by-cons}
-use Rattle.quick_cache_containers.specs.Table.{Table, HasPair, has_pair, SearchesAlong, CallsKeep, AnswersSo, FindsByAnswer, ComputesTest, SearchesHash, FindsPassing}
+use Rattle.quick_cache_containers.specs.Table.{Table, HasPair, has_pair, SearchesAlong, CallsKeep, AnswersSo, FindsByAnswer, ComputesTest}
+use Rattle.quick_cache_containers.specs.Table.{SearchesHash, FindsPassing}
 use Rattle.quick_cache_index.proofs.CountedTokens.{bool_tells, bit}
 
 some-injective : (x y : NonZeroU32) → Some x ≡ Some y → x ≡ y

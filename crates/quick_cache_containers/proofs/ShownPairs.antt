@@ -1,15 +1,19 @@
 -- What a table shows, from what its places hold.
-use Rattle.std.proofs.Common.{◌≡◌, ℕ, ◌+◌, ◌-◌, ◌<◌, ◌≤◌, true, ltb, List, [], ◌∷◌, length, replicate, refl, sym, ap, subst, ◌∙◌, inl, inr, arith, count_by}
+use Rattle.std.proofs.Common.{◌≡◌, ℕ, ◌+◌, ◌-◌, ◌<◌, ◌≤◌, true, ltb, List, [], ◌∷◌, length, replicate, refl, sym, ap, subst, ◌∙◌, inl, inr}
+use Rattle.std.proofs.Common.{arith, count_by}
 use Rattle.std.specs.List.{filter_map, list_any}
 use Rattle.std.proofs.lemmas.Bool.{lt-ltb}
 use Rattle.std.proofs.lemmas.Bool.Decides.{leb_tells}
 use Rattle.quick_cache_containers.specs.Places.{Place}
-use Rattle.quick_cache_containers.specs.Table.{Table, in_order, is_pair, has_pair, pair_count, HasPair, AddsPair, RemovesPair, SameOtherPairs, IsTokensOf}
+use Rattle.quick_cache_containers.specs.Table.{Table, in_order, is_pair, has_pair, pair_count, HasPair, AddsPair, RemovesPair}
+use Rattle.quick_cache_containers.specs.Table.{SameOtherPairs, IsTokensOf}
 use Rattle.quick_cache_index.specs.IndexGroups.{capacity_of}
-use Rattle.quick_cache_containers.specs.TableGroups.{hash_at, is_free, place_pair, pairs_of, place_at, holds_pair, empty_place, IsWhole, IsSound, HasOneMore, HasSamePairs, AreTokensOf}
+use Rattle.quick_cache_containers.specs.TableGroups.{hash_at, is_free, place_pair, pairs_of, place_at, holds_pair, empty_place, IsWhole}
+use Rattle.quick_cache_containers.specs.TableGroups.{IsSound, HasOneMore, HasSamePairs, AreTokensOf}
 use Rattle.quick_cache_containers.proofs.PairOrder.{list_any-in_order, length-in_order, in_order-same}
 use Rattle.quick_cache_index.proofs.CountedTokens.{bool_tells, bit}
-use Rattle.quick_cache_containers.proofs.CountedPlaces.{length-pairs_of, holds_pair-hash, pairs_of-map, filter_map-none, map-replicate, is_pair-equal, is_pair-refl, is_pair-other, list_any-pairs_of, count_by-pairs_of}
+use Rattle.quick_cache_containers.proofs.CountedPlaces.{length-pairs_of, holds_pair-hash, pairs_of-map, filter_map-none, map-replicate}
+use Rattle.quick_cache_containers.proofs.CountedPlaces.{is_pair-equal, is_pair-refl, is_pair-other, list_any-pairs_of, count_by-pairs_of}
 
 -- how many pairs a table has, by its places
 pub pair_count-of : (table : Table) (places : List Place) → table.pairs ≡ in_order (pairs_of places)

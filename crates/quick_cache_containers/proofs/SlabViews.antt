@@ -1,11 +1,14 @@
 -- The model of a slab, from its slots and links: before and after each edit.
-use Rattle.std.proofs.Common.{◌≡◌, ◌≢◌, ◌⊎◌, ◌↔◌, ℕ, zero, suc, ◌+◌, ◌<◌, ◌≤◌, Bool, true, false, cond, eqb, List, [], ◌∷◌, ◌++◌, length, map, Option, Some, None, is_some, IfSome, MatchOption, true≢false, refl, sym, ap, subst, ◌∙◌, inl, inr, arith}
+use Rattle.std.proofs.Common.{◌≡◌, ◌≢◌, ◌⊎◌, ◌↔◌, ℕ, zero, suc, ◌+◌, ◌<◌, ◌≤◌, Bool, true, false, cond, eqb, List, [], ◌∷◌, ◌++◌, length}
+use Rattle.std.proofs.Common.{map, Option, Some, None, is_some, IfSome, MatchOption, true≢false, refl, sym, ap, subst, ◌∙◌, inl, inr, arith}
 use Rattle.std.proofs.lemmas.Bool.{cases_eq, eq-eqb, ne_eqb}
 use Rattle.std.proofs.lemmas.List.{set-set, length_push}
 use Rattle.std.specs.Int.NonZero.{non_zero_u32_get}
 use Rattle.std.specs.declared.num.NonZeroU32.{NonZeroU32 as Token}
-use Rattle.quick_cache_containers.specs.LinkedSlab.{at_token, with_token, first_or, times, without, joined, placed, linked, unlinked, removed, with_item, next_token, IsFull, successor, ring_from, IsNextOf}
-use Rattle.quick_cache_containers.specs.Links.{link_of, free_of, is_taken, rings_of, view_of, AreRings, AreLinked, AreFree, IsSound, Unlinks, Links}
+use Rattle.quick_cache_containers.specs.LinkedSlab.{at_token, with_token, first_or, times, without, joined, placed, linked, unlinked}
+use Rattle.quick_cache_containers.specs.LinkedSlab.{removed, with_item, next_token, IsFull, successor, ring_from, IsNextOf}
+use Rattle.quick_cache_containers.specs.Links.{link_of, free_of, is_taken, rings_of, view_of, AreRings, AreLinked, AreFree, IsSound}
+use Rattle.quick_cache_containers.specs.Links.{Unlinks, Links}
 use Rattle.quick_cache_containers.proofs.TokenCounts.{times-here}
 use Rattle.quick_cache_containers.proofs.AllRings.{held-next}
 use Rattle.quick_cache_containers.proofs.OneRing.{IsRing-frame}

@@ -1,5 +1,6 @@
 -- What a walk over the groups of a hash meets: each pair of that hash, once.
-use Rattle.std.proofs.Common.{◌≡◌, ◌≢◌, ℕ, suc, ◌+◌, ◌-◌, ◌*◌, ◌/◌, ◌^◌, ◌<◌, ◌≤◌, true, false, cond, not, ◌&&◌, eqb, List, [], ◌∷◌, ◌++◌, length, map, get_or, Option, Some, None, sym, ap, subst, ◌∙◌, inl, inr, arith, count_by, bit_and, bit_xor}
+use Rattle.std.proofs.Common.{◌≡◌, ◌≢◌, ℕ, suc, ◌+◌, ◌-◌, ◌*◌, ◌/◌, ◌^◌, ◌<◌, ◌≤◌, true, false, cond, not, ◌&&◌, eqb, List, [], ◌∷◌, ◌++◌}
+use Rattle.std.proofs.Common.{length, map, get_or, Option, Some, None, sym, ap, subst, ◌∙◌, inl, inr, arith, count_by, bit_and, bit_xor}
 use Rattle.std.specs.Int.Bits.{xor_zero_r}
 use Rattle.std.specs.Int.{trailing_zeros, w64}
 use Rattle.std.specs.List.{cons_option, filter_map}
@@ -14,10 +15,12 @@ use Rattle.quick_cache_containers.specs.Places.{Place}
 use Rattle.quick_cache_containers.specs.declared.table.walk.Walk.{Walk}
 use Rattle.quick_cache_index.specs.Index.{tag_of, home_of}
 use Rattle.quick_cache_index.specs.IndexGroups.{group_positions, lane_positions, positions_along}
-use Rattle.quick_cache_containers.specs.TableGroups.{hash_at, is_free, holds_pair, place_at, empty_place, IsHousedAt, IsWhole, token_of, tokens_at, reach_of, positions_left, tokens_left, IsWalk, AreTokensOf}
+use Rattle.quick_cache_containers.specs.TableGroups.{hash_at, is_free, holds_pair, place_at, empty_place, IsHousedAt, IsWhole, token_of}
+use Rattle.quick_cache_containers.specs.TableGroups.{tokens_at, reach_of, positions_left, tokens_left, IsWalk, AreTokensOf}
 use Rattle.quick_cache_index.proofs.CountedTokens.{bool_tells, equal_or_not, bit}
 use Rattle.quick_cache_containers.proofs.CountedPlaces.{weigh, count_by-tokens_at, holds_pair-hash, and_right}
-use Rattle.quick_cache_index.proofs.GroupLanes.{lane_positions-first, lane_positions-none, lanes-few, lit-tag, given-lanes, trailing_zeros-lt, trailing_zeros-IsLowestBit, bit_at-rest, some_none}
+use Rattle.quick_cache_index.proofs.GroupLanes.{lane_positions-first, lane_positions-none, lanes-few, lit-tag, given-lanes}
+use Rattle.quick_cache_index.proofs.GroupLanes.{trailing_zeros-lt, trailing_zeros-IsLowestBit, bit_at-rest, some_none}
 use Rattle.quick_cache_index.proofs.Distances.{xor-back}
 use Rattle.quick_cache_containers.proofs.GroupCounts.{total, total-more, total-xor, total-groups, total-along, weigh-none, count_by-total}
 

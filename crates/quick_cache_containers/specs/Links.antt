@@ -1,5 +1,6 @@
 -- How a `LinkedSlab` lays out its slots. No public clause cites this module.
-use Rattle.std.specs.Prelude.{◌≡◌, ℕ, zero, suc, ◌+◌, ◌-◌, ◌<◌, ◌≤◌, min, Bool, true, false, cond, eqb, ltb, List, [], ◌∷◌, length, map, Option, None, is_some}
+use Rattle.std.specs.Prelude.{◌≡◌, ℕ, zero, suc, ◌+◌, ◌-◌, ◌<◌, ◌≤◌, min, Bool, true, false, cond, eqb, ltb, List, [], ◌∷◌, length, map}
+use Rattle.std.specs.Prelude.{Option, None, is_some}
 use Rattle.std.specs.List.{range_with_len}
 use Rattle.quick_cache_containers.specs.LinkedSlab.{LinkedSlab, IsSlotCopy, at_token, with_token, first_or, times, without, joined}
 use Rattle.quick_cache_containers.specs.Nodes.{item_of, next_link, prev_link}

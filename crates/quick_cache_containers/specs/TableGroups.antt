@@ -1,6 +1,7 @@
 -- How a `Table` lays out its pairs: places in groups of sixteen, each with a tag. No public clause
 -- cites this module.
-use Rattle.std.specs.Prelude.{◌≡◌, ℕ, ◌+◌, ◌-◌, ◌*◌, ◌^◌, ◌<◌, ◌≤◌, Bool, ◌&&◌, not, ◌==◌, if◌then◌else◌, List, length, count_by, filter_map, ◌++◌, Option, Some, None, bit_xor, slice_index, slice_index_or}
+use Rattle.std.specs.Prelude.{◌≡◌, ℕ, ◌+◌, ◌-◌, ◌*◌, ◌^◌, ◌<◌, ◌≤◌, Bool, ◌&&◌, not, ◌==◌, if◌then◌else◌, List, length, count_by}
+use Rattle.std.specs.Prelude.{filter_map, ◌++◌, Option, Some, None, bit_xor, slice_index, slice_index_or}
 use Rattle.std.specs.Int.{IsPowerOfTwo, bit_at}
 use Rattle.quick_cache_index.specs.Index.{tag_of, home_of, IsReached}
 use Rattle.quick_cache_index.specs.IndexGroups.{capacity_of, lane_positions, positions_along}

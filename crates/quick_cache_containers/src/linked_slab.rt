@@ -1,7 +1,10 @@
 //! A slab: items in slots that tokens name, the occupied ones in rings, the free ones in a list.
-ghost use Rattle.std.specs.Prelude.{◌≡◌, ◌≢◌, ◌⊎◌, ◌↔◌, ◌+◌, ◌-◌, ◌<◌, ◌≤◌, min, [], ◌∷◌, ◌++◌, length, count_by, is_some, IsOk, IsNone, IfOk, IfErr, OnOk, OnErr, IfSome, OnSome, IfNone, MatchOption, Some, vec_len, vec_capacity};
+ghost use Rattle.std.specs.Prelude.{◌≡◌, ◌≢◌, ◌⊎◌, ◌↔◌, ◌+◌, ◌-◌, ◌<◌, ◌≤◌, min, [], ◌∷◌, ◌++◌, length, count_by, is_some, IsOk, IsNone};
+ghost use Rattle.std.specs.Prelude.{IfOk, IfErr, OnOk, OnErr, IfSome, OnSome, IfNone, MatchOption, Some, vec_len, vec_capacity};
 ghost use Rattle.std.specs.Int.NonZero.{non_zero_u32_get as number};
-ghost use Rattle.quick_cache_containers.specs.LinkedSlab.{item_at, IsOccupied, ring_from, successor, next_token, spare, left, IsFull, placed, linked, unlinked, removed, IsNextOf, IsAlone, IsAloneIf, JoinsEnd, IsParted, items, entries_after, emptied, times};
+ghost use Rattle.quick_cache_containers.specs.LinkedSlab.{item_at, IsOccupied, ring_from, successor, next_token, spare, left, IsFull};
+ghost use Rattle.quick_cache_containers.specs.LinkedSlab.{placed, linked, unlinked, removed, IsNextOf, IsAlone, IsAloneIf, JoinsEnd};
+ghost use Rattle.quick_cache_containers.specs.LinkedSlab.{IsParted, items, entries_after, emptied, times};
 ghost use Rattle.quick_cache_containers.specs.SlabEdits.{PlacesItem, LinksToken, UnlinksToken, RemovesItem};
 
 mod copies;

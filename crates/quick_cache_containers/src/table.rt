@@ -2,7 +2,8 @@
 ghost use Rattle.std.specs.Prelude.{◌≡◌, ℕ, Bool, ◌+◌, ◌-◌, ◌^◌, ◌<◌, ◌≤◌, ◌↔◌, [], min, IsTrue, IsOk, IfOk, IfErr, OnOk, OnErr, IfSome};
 ghost use Rattle.std.specs.Bool.{OnTrue, OnFalse};
 ghost use Rattle.std.specs.Int.NonZero.{non_zero_u32_get};
-ghost use Rattle.quick_cache_containers.specs.Table.{HasPair, pair_count, AddsPair, RemovesPair, IsTokensOf, SearchesHash, CallsKeep, FindsByAnswer, ComputesTest, FindsPassing, wanted_room};
+ghost use Rattle.quick_cache_containers.specs.Table.{HasPair, pair_count, AddsPair, RemovesPair, IsTokensOf, SearchesHash, CallsKeep};
+ghost use Rattle.quick_cache_containers.specs.Table.{FindsByAnswer, ComputesTest, FindsPassing, wanted_room};
 
 pub(crate) mod groups;
 pub(crate) mod places;

@@ -18,7 +18,8 @@ use Rattle.quick_cache_expiring.specs.declared.lasting.Lasting.{Lasting}
 use Rattle.quick_cache_expiring.specs.declared.by_value.ByValue.{ByValue}
 use Rattle.quick_cache_expiring.specs.Lastings.{lasting_of}
 use Rattle.quick_cache_expiring.specs.Lives.{lives}
-use Rattle.quick_cache_expiring.specs.Entries.{Entries, KeepsRest, HasNoneOver, HasOver, Shows, DropsOver, LooksUpAt, Drops, Expires, Gets, Renews}
+use Rattle.quick_cache_expiring.specs.Entries.{Entries, KeepsRest, HasNoneOver, HasOver, Shows, DropsOver, LooksUpAt, Drops, Expires, Gets}
+use Rattle.quick_cache_expiring.specs.Entries.{Renews}
 
 -- a query stands for one key at most of a state in which no two keys are equal
 pub keys_by-one : {K V : Type 0} (test : K → Bool) (equal : K → K → Bool)

@@ -1,15 +1,14 @@
 -- What a look at an entry chooses.
 use Rattle.std.specs.Prelude.{⊤}
 use Rattle.quick_cache_model.specs.declared.calls.entry.EntryAction.{EntryAction}
-use Rattle.quick_cache_model.specs.declared.calls.entry.EntryAction.TheVariants as action
 
 module _ {T : Type 0} where
   -- where the entry stays, this is true of what is told
   abbrev pub IfRetain : EntryAction T → (T → Type 0) → Type 0
-  IfRetain (action.Retain told) P = P told
+  IfRetain (EntryAction.Retain told) P = P told
   IfRetain _ P = ⊤
 
   -- the entry stays
   abbrev pub Stays : EntryAction T → Type 0
-  Stays (action.Retain told) = ⊤
+  Stays (EntryAction.Retain told) = ⊤
   Stays _ = ⊥

@@ -1,7 +1,6 @@
 //! A value that was loaded, with its moment, and whether it may be answered at another.
 ghost use Rattle.std.specs.Bool.{OnTrue, OnFalse};
 ghost use Rattle.std.specs.Prelude.{◌≡◌, ◌↔◌, IsTrue, IfOk, IfErr};
-ghost use Rattle.quick_cache_model.specs.declared.refusal.Refusal.TheVariants.{Memory};
 ghost use Rattle.quick_cache_expiring.specs.Looks.{IfRetain, Stays};
 ghost use Rattle.quick_cache_expiring.specs.Moments.{IsDue, IsWithin, IsYoung, Serves};
 
@@ -104,7 +103,8 @@ impl<V> Loaded<V> {
         V: Clone,
         ensures serves { Stays result ↔ Serves life self.now.moment now }
         ensures told { IfRetain result (λ told. IfOk told (V.is_clone self.now.value)) }
-        ensures refused { IfRetain result (λ told. IfErr told (λ refusal. refusal ≡ Memory)) }
+        ensures refused { IfRetain result
+            (λ told. IfErr told (λ refusal. refusal ≡ Refusal.Memory)) }
     {
         if self.serves(life, now) {
             match self.value.clone() {

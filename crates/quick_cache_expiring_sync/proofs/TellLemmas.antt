@@ -4,7 +4,6 @@ use denote.Ref.{Bor, MutBor}
 use denote.Param.Members.{Once}
 use Rattle.quick_cache_model.specs.declared.refusal.Refusal.{Refusal}
 use Rattle.quick_cache_model.specs.declared.calls.entry.EntryAction.{EntryAction}
-use Rattle.quick_cache_model.specs.declared.calls.entry.EntryAction.TheVariants.{Retain as retain}
 use Rattle.quick_cache_guard.specs.Acts.{LeavesOnce, MayTell}
 use Rattle.quick_cache_locked.specs.Fitting.{ClonesFit}
 use Rattle.quick_cache_expiring.specs.declared.lasting.Lasting.{Lasting}
@@ -20,7 +19,8 @@ pub HasLived-told : {F K V : Type 0}
     (EntryAction Bool × (MutBor (Lasting V) × Unit {0})))
     (fits : K → Lasting V → Type 0) (test : K → Bool) (callback : F) (now until : ℕ)
     (renewed : Bool) (told : MayTell (LeavesOnce calls callback) fits test renewed)
-    → ChoosesByEnd now until told.called.shown.now (retain renewed) told.called.left_by.now
+    → ChoosesByEnd now until told.called.shown.now (EntryAction.Retain renewed)
+    told.called.left_by.now
     → IsTrue renewed → HasLived fits test now
 HasLived-told calls fits test callback now until true told chosen so = record {
   was = told.value;
@@ -37,11 +37,13 @@ pub FitsAt-told : {F K V : Type 0}
     (fits : K → Lasting V → Type 0) (test : K → Bool) (callback : F) (now : ℕ)
     (is_clone : V → V → Type 0) → ClonesFit fits (ClonesLasting is_clone)
     → (answer : Result V Refusal) (told : MayTell (LeavesOnce calls callback) fits test answer) (value : V)
-    → ChoosesToLoad is_clone now told.called.shown.now (retain answer) → answer ≡ Ok value
+    → ChoosesToLoad is_clone now told.called.shown.now (EntryAction.Retain answer)
+    → answer ≡ Ok value
     → FitsAt fits test now value
 FitsAt-told calls fits test callback now is_clone clones (Ok given) told value chosen is =
-    let chosen_of : ChoosesToLoad is_clone now told.value (retain (Ok given)) = subst
-    (λ lasting. ChoosesToLoad is_clone now lasting (retain (Ok given))) told.called.shows.1 chosen in
+    let chosen_of : ChoosesToLoad is_clone now told.value (EntryAction.Retain (Ok given)) = subst
+    (λ lasting. ChoosesToLoad is_clone now lasting (EntryAction.Retain (Ok given)))
+    told.called.shows.1 chosen in
     let same : given ≡ value = cc in
     subst (FitsAt fits test now) same
     (record {

@@ -1,9 +1,7 @@
 -- Loads of entries that end, beside other threads.
 use Rattle.std.specs.Prelude.{◌≡◌, ℕ, ◌⊎◌, Bool, true, false, Result, Ok, Err}
 use Rattle.quick_cache_model.specs.declared.refusal.Refusal.{Refusal}
-use Rattle.quick_cache_model.specs.declared.refusal.Refusal.TheVariants.{Memory}
 use Rattle.quick_cache_model.specs.declared.calls.entry.EntryAction.{EntryAction}
-use Rattle.quick_cache_model.specs.declared.calls.entry.EntryAction.TheVariants.{Retain as retain, Remove as remove, ReplaceWithGuard as replace}
 use Rattle.quick_cache_expiring.specs.declared.lasting.Lasting.{Lasting}
 use Rattle.quick_cache_expiring.specs.Lives.{lives}
 use Rattle.quick_cache_expiring_sync.specs.Looks.{FitsAt}
@@ -17,8 +15,8 @@ GivesAt fits stands_for given now value = FitsAt fits stands_for now value ⊎ g
 -- over gives its place to a load.
 abbrev pub ChoosesToLoad : {V : Type 0} → (is_clone : V → V → Type 0) → (now : ℕ) → Lasting V
     → EntryAction (Result V Refusal) → Type 0
-ChoosesToLoad is_clone now old (retain (Ok value)) =
+ChoosesToLoad is_clone now old (EntryAction.Retain (Ok value)) =
     (lives old.until now ≡ true) × is_clone old.value value
-ChoosesToLoad is_clone now old (retain (Err refusal)) = refusal ≡ Memory
-ChoosesToLoad is_clone now old remove = ⊥
-ChoosesToLoad is_clone now old replace = lives old.until now ≡ false
+ChoosesToLoad is_clone now old (EntryAction.Retain (Err refusal)) = refusal ≡ Refusal.Memory
+ChoosesToLoad is_clone now old EntryAction.Remove = ⊥
+ChoosesToLoad is_clone now old EntryAction.ReplaceWithGuard = lives old.until now ≡ false

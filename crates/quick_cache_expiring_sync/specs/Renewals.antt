@@ -1,7 +1,6 @@
 -- Entries that are given a new end, beside other threads.
 use Rattle.std.specs.Prelude.{◌≡◌, ℕ, Bool, true, false}
 use Rattle.quick_cache_model.specs.declared.calls.entry.EntryAction.{EntryAction}
-use Rattle.quick_cache_model.specs.declared.calls.entry.EntryAction.TheVariants.{Retain as retain, Remove as remove, ReplaceWithGuard as replace}
 use Rattle.quick_cache_locked.specs.Fitting.{FitsQuery}
 use Rattle.quick_cache_expiring.specs.declared.lasting.Lasting.{Lasting}
 use Rattle.quick_cache_expiring.specs.Lastings.{lasting_of}
@@ -22,8 +21,9 @@ module _ {K V : Type 0} (fits : K → Lasting V → Type 0) where
 -- a value that lives stays with the new end, and that is told; one that is over stays as it is
 abbrev pub ChoosesByEnd : {V : Type 0} → (now until : ℕ) → Lasting V → EntryAction Bool → Lasting V
     → Type 0
-ChoosesByEnd now until old (retain true) new =
+ChoosesByEnd now until old (EntryAction.Retain true) new =
     (lives old.until now ≡ true) × (new ≡ lasting_of old.value until)
-ChoosesByEnd now until old (retain false) new = (lives old.until now ≡ false) × (new ≡ old)
-ChoosesByEnd now until old remove new = ⊥
-ChoosesByEnd now until old replace new = ⊥
+ChoosesByEnd now until old (EntryAction.Retain false) new = (lives old.until now ≡ false)
+    × (new ≡ old)
+ChoosesByEnd now until old EntryAction.Remove new = ⊥
+ChoosesByEnd now until old EntryAction.ReplaceWithGuard new = ⊥

@@ -1,11 +1,10 @@
 //! A cache that threads share, whose entries end.
 ghost use Rattle.std.specs.Prelude.{◌≡◌, ◌≤◌, IfOk, IfErr};
-ghost use Rattle.quick_cache_model.specs.declared.refusal.Refusal.TheVariants.{Memory};
 ghost use Rattle.quick_cache_model.specs.Sizes.{IsShardCount};
 ghost use Rattle.quick_cache_options.specs.Options.{default_shards};
 ghost use Rattle.quick_cache_shard.specs.Shard.{Shard};
 ghost use Rattle.quick_cache_locked.specs.Counts.{Shows};
-ghost use Rattle.quick_cache_locked.specs.declared.count.Count.TheVariants.{Items};
+ghost use Rattle.quick_cache_locked.specs.declared.count.Count.{Count};
 ghost use Rattle.quick_cache_sync.specs.Sums.{AddsUp};
 ghost use Rattle.quick_cache_expiring.specs.declared.lasting.Lasting.{Lasting};
 ghost use Rattle.quick_cache_expiring.specs.declared.by_value.ByValue.{ByValue};
@@ -75,7 +74,7 @@ impl<K: Eq + Hash + Drop, V: Drop, A: Allocator> SharedExpiring<
     where
         A: Clone,
         ensures shards { IfOk result (λ made. IsShardCount default_shards items made.shards) }
-        ensures refused { IfErr result (λ refusal. refusal ≡ Memory) }
+        ensures refused { IfErr result (λ refusal. refusal ≡ Refusal.Memory) }
     {
         SharedExpiring::with(
             alloc,
@@ -118,7 +117,7 @@ impl<
         L: Clone + Drop,
         ensures shards { IfOk result (λ made. IsShardCount default_shards items made.shards) }
         ensures builder { IfOk result (λ made. made.builder ≡ builder) }
-        ensures refused { IfErr result (λ refusal. refusal ≡ Memory) }
+        ensures refused { IfErr result (λ refusal. refusal ≡ Refusal.Memory) }
     {
         let weigher = ByValue { weigher };
         let cache = Cache::with(alloc, items, weight, weigher, builder, lifecycle)?;
@@ -142,7 +141,7 @@ impl<
     pub fn len<R: Wait>(&self, rt: &R) -> usize
         ensures answers { AddsUp L.Lifecycle K.eq
             (λ (shard : Shard K (Lasting V) (ByValue We) B L) shown.
-            Shows Items shard.state shown) self.now.shards result }
+            Shows Count.Items shard.state shown) self.now.shards result }
     {
         self.cache.len(rt)
     }

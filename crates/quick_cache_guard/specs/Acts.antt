@@ -4,9 +4,7 @@ use denote.Ref.{Bor, MutBor}
 use denote.Param.Members.{Once}
 use Rattle.quick_cache_model.specs.declared.refusal.Refusal.{Refusal}
 use Rattle.quick_cache_model.specs.declared.calls.entry.EntryAction.{EntryAction}
-use Rattle.quick_cache_model.specs.declared.calls.entry.EntryAction.TheVariants.{Retain as retain, Remove as remove, ReplaceWithGuard as replace}
 use Rattle.quick_cache_model.specs.declared.calls.entry.EntryOrPlaceholder.{EntryOrPlaceholder}
-use Rattle.quick_cache_model.specs.declared.calls.entry.EntryOrPlaceholder.TheVariants.{Kept as kept, Removed as removed, Replaced as replaced, ExistingPlaceholder as existing, NewPlaceholder as new_one}
 
 module _ {F K V T : Type 0}
     (calls : Once F (Bor K × (MutBor V × Unit {0})) (EntryAction T × (MutBor V × Unit {0}))) where
@@ -50,7 +48,7 @@ module _ {K V T : Type 0} (leaves : K → V → EntryAction T → V → Type 0) 
       pub key : K
       pub value : V
       pub left : V
-      pub called : leaves key value (retain told) left
+      pub called : leaves key value (EntryAction.Retain told) left
       pub stands : stands_for key ≡ true
       pub fits_key : fits key value
 
@@ -66,43 +64,46 @@ module _ {K V T : Type 0} (leaves : K → V → EntryAction T → V → Type 0) 
     pub record KeepsReplaced : Type 0 where
       pub key : K
       pub left : V
-      pub chosen : Chooses replace key left
+      pub chosen : Chooses EntryAction.ReplaceWithGuard key left
 
     -- What comes of an entry call on a shard is what the callback chose, by its one call. Where a
     -- placeholder was met or made for a key that was absent it was not called.
     abbrev pub DoesAsChosen : {W : Type 0} → (uncalled : Type 0)
         → Result (EntryOrPlaceholder K V W T) Refusal → Type 0
-    DoesAsChosen uncalled (Ok (kept told)) = (key : K) × (left : V) × Chooses (retain told) key left
-    DoesAsChosen uncalled (Ok (removed key value)) = Chooses remove key value
-    DoesAsChosen uncalled (Ok (replaced placeholder value)) = (key : K) × Chooses replace key value
-    DoesAsChosen uncalled (Ok (existing placeholder)) = uncalled
-    DoesAsChosen uncalled (Ok (new_one placeholder)) = uncalled
+    DoesAsChosen uncalled (Ok (EntryOrPlaceholder.Kept told)) = (key : K) × (left : V)
+        × Chooses (EntryAction.Retain told) key left
+    DoesAsChosen uncalled (Ok (EntryOrPlaceholder.Removed key value)) =
+        Chooses EntryAction.Remove key value
+    DoesAsChosen uncalled (Ok (EntryOrPlaceholder.Replaced placeholder value)) = (key : K)
+        × Chooses EntryAction.ReplaceWithGuard key value
+    DoesAsChosen uncalled (Ok (EntryOrPlaceholder.ExistingPlaceholder placeholder)) = uncalled
+    DoesAsChosen uncalled (Ok (EntryOrPlaceholder.NewPlaceholder placeholder)) = uncalled
     DoesAsChosen uncalled (Err refusal) = uncalled ⊎ KeepsReplaced
 
 module _ {K V W T : Type 0} where
   -- of a value that is given back this is true
   abbrev pub IfGone : Result (EntryOrPlaceholder K V W T) Refusal → (V → Type 0) → Type 0
-  IfGone (Ok (kept told)) P = ⊤
-  IfGone (Ok (removed key value)) P = P value
-  IfGone (Ok (replaced placeholder value)) P = P value
-  IfGone (Ok (existing placeholder)) P = ⊤
-  IfGone (Ok (new_one placeholder)) P = ⊤
+  IfGone (Ok (EntryOrPlaceholder.Kept told)) P = ⊤
+  IfGone (Ok (EntryOrPlaceholder.Removed key value)) P = P value
+  IfGone (Ok (EntryOrPlaceholder.Replaced placeholder value)) P = P value
+  IfGone (Ok (EntryOrPlaceholder.ExistingPlaceholder placeholder)) P = ⊤
+  IfGone (Ok (EntryOrPlaceholder.NewPlaceholder placeholder)) P = ⊤
   IfGone (Err refusal) P = ⊤
 
   -- of what is told this is true
   abbrev pub IfKept : Result (EntryOrPlaceholder K V W T) Refusal → (T → Type 0) → Type 0
-  IfKept (Ok (kept told)) P = P told
-  IfKept (Ok (removed key value)) P = ⊤
-  IfKept (Ok (replaced placeholder value)) P = ⊤
-  IfKept (Ok (existing placeholder)) P = ⊤
-  IfKept (Ok (new_one placeholder)) P = ⊤
+  IfKept (Ok (EntryOrPlaceholder.Kept told)) P = P told
+  IfKept (Ok (EntryOrPlaceholder.Removed key value)) P = ⊤
+  IfKept (Ok (EntryOrPlaceholder.Replaced placeholder value)) P = ⊤
+  IfKept (Ok (EntryOrPlaceholder.ExistingPlaceholder placeholder)) P = ⊤
+  IfKept (Ok (EntryOrPlaceholder.NewPlaceholder placeholder)) P = ⊤
   IfKept (Err refusal) P = ⊤
 
   -- where a placeholder is the answer, and no item gave its place to it, this is true
   abbrev pub IfAbsent : Result (EntryOrPlaceholder K V W T) Refusal → Type 0 → Type 0
-  IfAbsent (Ok (kept told)) P = ⊤
-  IfAbsent (Ok (removed key value)) P = ⊤
-  IfAbsent (Ok (replaced placeholder value)) P = ⊤
-  IfAbsent (Ok (existing placeholder)) P = P
-  IfAbsent (Ok (new_one placeholder)) P = P
+  IfAbsent (Ok (EntryOrPlaceholder.Kept told)) P = ⊤
+  IfAbsent (Ok (EntryOrPlaceholder.Removed key value)) P = ⊤
+  IfAbsent (Ok (EntryOrPlaceholder.Replaced placeholder value)) P = ⊤
+  IfAbsent (Ok (EntryOrPlaceholder.ExistingPlaceholder placeholder)) P = P
+  IfAbsent (Ok (EntryOrPlaceholder.NewPlaceholder placeholder)) P = P
   IfAbsent (Err refusal) P = ⊤

@@ -3,35 +3,33 @@ use Rattle.std.specs.Prelude.{⊤, Bool, true, false, Option, Some, None, Result
 use Rattle.quick_cache_model.specs.declared.refusal.Refusal.{Refusal}
 pub use Rattle.quick_cache_loading.specs.Waiters.{IsLoadRefusal}
 use Rattle.quick_cache_loading.specs.declared.waiting.waited.Waited.{Waited}
-use Rattle.quick_cache_loading.specs.declared.waiting.waited.Waited.TheVariants as waited
 use Rattle.quick_cache_guard.specs.declared.results.GuardResult.{GuardResult}
-use Rattle.quick_cache_guard.specs.declared.results.GuardResult.TheVariants as guard_result
 
 -- where the answer is a value, this is true of it
 abbrev pub IfValue : {V G : Type 0} → GuardResult V G → (V → Type 0) → Type 0
-IfValue (guard_result.Value value) P = P value
+IfValue (GuardResult.Value value) P = P value
 IfValue _ P = ⊤
 
 -- where it is a guard, which is seen as its key, this is true of it
 abbrev pub IfGuard : {V G : Type 0} → GuardResult V G → (G → Type 0) → Type 0
-IfGuard (guard_result.Guard guard) P = P guard
+IfGuard (GuardResult.Guard guard) P = P guard
 IfGuard _ P = ⊤
 
 -- what one answers who has a copy of the key and is told this; nothing where it has to look again
 abbrev pub answer_of : {K V : Type 0} → K → Waited V → Option (GuardResult V K)
-answer_of key (waited.Value value) = Some (guard_result.Value value)
-answer_of key (waited.Guard share) = Some (guard_result.Guard key)
-answer_of key (waited.Refused refusal) = Some (guard_result.Refused refusal)
-answer_of key waited.Timeout = Some guard_result.Timeout
-answer_of key waited.Again = None
+answer_of key (Waited.Value value) = Some (GuardResult.Value value)
+answer_of key (Waited.Guard share) = Some (GuardResult.Guard key)
+answer_of key (Waited.Refused refusal) = Some (GuardResult.Refused refusal)
+answer_of key Waited.Timeout = Some GuardResult.Timeout
+answer_of key Waited.Again = None
 
 -- what a future that waits with no limit gives, unless it has to look again
 abbrev pub output_of : {V G : Type 0} → Option (GuardResult V G)
     → Option (Result (Result V G) Refusal)
-output_of (Some (guard_result.Value value)) = Some (Ok (Ok value))
-output_of (Some (guard_result.Guard guard)) = Some (Ok (Err guard))
-output_of (Some (guard_result.Refused refusal)) = Some (Err refusal)
-output_of (Some guard_result.Timeout) = None
+output_of (Some (GuardResult.Value value)) = Some (Ok (Ok value))
+output_of (Some (GuardResult.Guard guard)) = Some (Ok (Err guard))
+output_of (Some (GuardResult.Refused refusal)) = Some (Err refusal)
+output_of (Some GuardResult.Timeout) = None
 output_of None = None
 
 -- where a future gives a value, the one is true of it; where it gives a guard, the other
@@ -43,20 +41,20 @@ IfGiven P R (Err refusal) = ⊤
 
 -- it is refused only for what a load may be refused for
 abbrev pub RefusesAsLoad : {V G : Type 0} → GuardResult V G → Type 0
-RefusesAsLoad (guard_result.Refused refusal) = IsLoadRefusal refusal
+RefusesAsLoad (GuardResult.Refused refusal) = IsLoadRefusal refusal
 RefusesAsLoad _ = ⊤
 
 -- One who asks for a value is answered one of which the first is true, a guard, which is seen as its
 -- key, of which the second is, or a refusal only for what a load may be refused for.
 abbrev pub IsAnswered : {V G : Type 0} → (V → Type 0) → (G → Type 0) → GuardResult V G → Type 0
-IsAnswered P R (guard_result.Value value) = P value
-IsAnswered P R (guard_result.Guard guard) = R guard
-IsAnswered P R (guard_result.Refused refusal) = IsLoadRefusal refusal
-IsAnswered P R guard_result.Timeout = ⊤
+IsAnswered P R (GuardResult.Value value) = P value
+IsAnswered P R (GuardResult.Guard guard) = R guard
+IsAnswered P R (GuardResult.Refused refusal) = IsLoadRefusal refusal
+IsAnswered P R GuardResult.Timeout = ⊤
 
 -- the time was over
 abbrev pub is_timeout : {V G : Type 0} → GuardResult V G → Bool
-is_timeout guard_result.Timeout = true
+is_timeout GuardResult.Timeout = true
 is_timeout _ = false
 
 -- a future is refused only for what a load may be refused for

@@ -6,7 +6,6 @@ use Rattle.quick_cache_loading.specs.Fitting.{FitsQuery}
 use Rattle.quick_cache_model.specs.declared.calls.entry.EntryAction.{EntryAction}
 use Rattle.quick_cache_guard.specs.Acts.{LeavesHeld, MayTell}
 use Rattle.quick_cache_guard.specs.declared.results.EntryResult.{EntryResult}
-use Rattle.quick_cache_guard.specs.declared.results.EntryResult.TheVariants as entry_result
 
 -- its query, once it waits the source by which the placeholder of another's load wakes it, its
 -- callback until that is called, and whether it has answered
@@ -21,12 +20,12 @@ pub record EntryState (Q F : Type 0) : Type 0 where
 -- too late.
 abbrev pub IfActed : {T K V G : Type 0} → (V → Type 0) → (T → Type 0) → (G → Type 0)
     → EntryResult T K V G → Type 0
-IfActed IsBack IsTold IsGuard (entry_result.Retained told) = IsTold told
-IfActed IsBack IsTold IsGuard (entry_result.Removed key value) = IsBack value
-IfActed IsBack IsTold IsGuard (entry_result.Replaced guard value) = IsGuard guard × IsBack value
-IfActed IsBack IsTold IsGuard (entry_result.Vacant guard) = IsGuard guard
-IfActed IsBack IsTold IsGuard entry_result.Timeout = ⊥
-IfActed IsBack IsTold IsGuard (entry_result.Refused refusal) = ⊤
+IfActed IsBack IsTold IsGuard (EntryResult.Retained told) = IsTold told
+IfActed IsBack IsTold IsGuard (EntryResult.Removed key value) = IsBack value
+IfActed IsBack IsTold IsGuard (EntryResult.Replaced guard value) = IsGuard guard × IsBack value
+IfActed IsBack IsTold IsGuard (EntryResult.Vacant guard) = IsGuard guard
+IfActed IsBack IsTold IsGuard EntryResult.Timeout = ⊥
+IfActed IsBack IsTold IsGuard (EntryResult.Refused refusal) = ⊤
 
 -- A value that is given back fits a key that the query stands for, what is told the callback that is
 -- held told of such a value, and a guard is for a key that the query becomes.

@@ -3,13 +3,11 @@ use Rattle.std.specs.Prelude.{◌≡◌, ◌⊎◌, ⊤, ℕ, Bool, true, false,
 use Rattle.futures.specs.Poll.{IfReady, OnPending}
 use Rattle.futures.specs.Task.{Covers, Keeps}
 use Rattle.futures.specs.declared.task.Poll.{Poll}
-use Rattle.futures.specs.declared.task.Poll.TheVariants as poll
 use Rattle.futures.specs.declared.task.context.Context.{Context}
 use Rattle.quick_cache_loading.specs.Fitting.{FitsIfClonesDo}
 use Rattle.quick_cache_model.specs.declared.refusal.Refusal.{Refusal}
 use Rattle.quick_cache_guard.specs.Answers.{IfGiven}
 use Rattle.quick_cache_guard.specs.declared.stage.Stage.{Stage}
-use Rattle.quick_cache_guard.specs.declared.stage.Stage.TheVariants as stage
 
 -- its query, once it waits the source by which its placeholder wakes it, and whether it has answered
 pub record Joining (Q : Type 0) : Type 0 where
@@ -20,21 +18,21 @@ pub record Joining (Q : Type 0) : Type 0 where
 module _ {W : Type 0} where
   -- by which source it is woken, where it waits
   abbrev pub source_of : Stage W → (W → Option ℕ) → Option ℕ
-  source_of stage.Looks source = None
-  source_of (stage.Waits waits) source = source waits
-  source_of stage.Finished source = None
+  source_of Stage.Looks source = None
+  source_of (Stage.Waits waits) source = source waits
+  source_of Stage.Finished source = None
 
   -- of what it waits by this is true
   abbrev pub IfWaits : Stage W → (W → Type 0) → Type 0
-  IfWaits stage.Looks P = ⊤
-  IfWaits (stage.Waits waits) P = P waits
-  IfWaits stage.Finished P = ⊤
+  IfWaits Stage.Looks P = ⊤
+  IfWaits (Stage.Waits waits) P = P waits
+  IfWaits Stage.Finished P = ⊤
 
   -- it has answered
   abbrev pub has_answered : Stage W → Bool
-  has_answered stage.Looks = false
-  has_answered (stage.Waits waits) = false
-  has_answered stage.Finished = true
+  has_answered Stage.Looks = false
+  has_answered (Stage.Waits waits) = false
+  has_answered Stage.Finished = true
 
 -- this is the source by which it is woken
 abbrev pub IsSource : Option ℕ → ℕ → Type 0
@@ -45,7 +43,7 @@ IsSource source s = IsSomeAnd source (λ own. s ≡ own)
 pub record AnswersOnce {O : Type 0} (IsRefusedAsLoad : O → Type 0) (finished : O) (before : Bool)
     (polled : Poll O) (after : Bool) : Type 0 where
   pub first : before ≡ false → IfReady polled IsRefusedAsLoad
-  pub again : before ≡ true → polled ≡ poll.Ready finished
+  pub again : before ≡ true → polled ≡ Poll.Ready finished
   pub ends : IfReady polled (λ _. after ≡ true)
   pub goes_on : OnPending polled (after ≡ before)
 

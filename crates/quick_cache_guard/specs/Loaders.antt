@@ -3,7 +3,6 @@ use Rattle.std.specs.Prelude.{◌≡◌, ◌⊎◌, ⊤, Bool, true, false, ℕ,
 use Rattle.quick_cache_model.specs.declared.refusal.Refusal.{Refusal}
 use Rattle.quick_cache_guard.specs.Futures.{IsSource, Joining}
 use Rattle.quick_cache_guard.specs.declared.tasks.get_or_insert.Loading.{Loading}
-use Rattle.quick_cache_guard.specs.declared.tasks.get_or_insert.Loading.TheVariants as loading
 
 -- its query, the source that it waits for before it has the guard, the loader's future, and whether
 -- it has the guard, and whether it has answered
@@ -17,33 +16,33 @@ pub record LoadState (Q F : Type 0) : Type 0 where
 module _ {J G : Type 0} where
   -- of what it asks by this is true
   abbrev pub IfAsks : Loading J G → (J → Type 0) → Type 0
-  IfAsks (loading.Asks joining) P = P joining
-  IfAsks (loading.Loads guard) P = ⊤
-  IfAsks loading.Finished P = ⊤
+  IfAsks (Loading.Asks joining) P = P joining
+  IfAsks (Loading.Loads guard) P = ⊤
+  IfAsks Loading.Finished P = ⊤
 
   -- of its guard this is true
   abbrev pub IfLoads : Loading J G → (G → Type 0) → Type 0
-  IfLoads (loading.Asks joining) P = ⊤
-  IfLoads (loading.Loads guard) P = P guard
-  IfLoads loading.Finished P = ⊤
+  IfLoads (Loading.Asks joining) P = ⊤
+  IfLoads (Loading.Loads guard) P = P guard
+  IfLoads Loading.Finished P = ⊤
 
   -- it has the guard
   abbrev pub has_guard : Loading J G → Bool
-  has_guard (loading.Asks joining) = false
-  has_guard (loading.Loads guard) = true
-  has_guard loading.Finished = false
+  has_guard (Loading.Asks joining) = false
+  has_guard (Loading.Loads guard) = true
+  has_guard Loading.Finished = false
 
   -- it has answered
   abbrev pub has_answered : Loading J G → Bool
-  has_answered (loading.Asks joining) = false
-  has_answered (loading.Loads guard) = false
-  has_answered loading.Finished = true
+  has_answered (Loading.Asks joining) = false
+  has_answered (Loading.Loads guard) = false
+  has_answered Loading.Finished = true
 
 -- the source by which it is woken before it has the guard
 abbrev pub asked_source : {Q G : Type 0} → Loading (Joining Q) G → Option ℕ
-asked_source (loading.Asks joining) = joining.source
-asked_source (loading.Loads guard) = None
-asked_source loading.Finished = None
+asked_source (Loading.Asks joining) = joining.source
+asked_source (Loading.Loads guard) = None
+asked_source Loading.Finished = None
 
 -- what it waits for: the placeholder's source, or what the loader's future waits for
 abbrev pub NeedsOf : {F : Type 0} → (F → ℕ → Type 0) → (has_guard : Bool) → Option ℕ → F → ℕ

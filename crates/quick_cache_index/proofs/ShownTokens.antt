@@ -1,12 +1,16 @@
 -- What an index shows, from what its places hold.
-use Rattle.std.proofs.Common.{◌≡◌, ◌≢◌, ℕ, ◌+◌, ◌-◌, ◌/◌, ◌<◌, ◌≤◌, Bool, true, false, not, ◌&&◌, ltb, List, length, get_or, set, sym, ap, subst, ◌∙◌, inl, inr, arith, count_by}
+use Rattle.std.proofs.Common.{◌≡◌, ◌≢◌, ℕ, ◌+◌, ◌-◌, ◌/◌, ◌<◌, ◌≤◌, Bool, true, false, not, ◌&&◌, ltb, List, length, get_or, set, sym, ap}
+use Rattle.std.proofs.Common.{subst, ◌∙◌, inl, inr, arith, count_by}
 use Rattle.std.specs.Int.Bits.{bit_xor, xor_self}
 use Rattle.std.proofs.lemmas.Bool.{lt-ltb, eq-eqb, ne_eqb}
 use Rattle.std.proofs.lemmas.Bool.Decides.{leb_tells}
 use Rattle.std.proofs.lemmas.List.{length-set, get_or-set_same, get_or-set_other, set-get_or}
-use Rattle.quick_cache_index.specs.Index.{Index, tag_of, home_of, distance, told, holds, is_free, has_token, HasToken, token_count, HasNone, Leads, KeepsOtherLeads, KeepsAllLeads, LosesToken}
+use Rattle.quick_cache_index.specs.Index.{Index, tag_of, home_of, distance, told, holds, is_free, has_token, HasToken, token_count, HasNone}
+use Rattle.quick_cache_index.specs.Index.{Leads, KeepsOtherLeads, KeepsAllLeads, LosesToken}
 use Rattle.quick_cache_index.specs.IndexGroups.{taken_count, IsGrouped, IsSound, KeepsReached, TakesPlace, capacity_of}
-use Rattle.quick_cache_index.proofs.CountedTokens.{equal_or_not, bit, inside-some, taken_count-free, holds-itself, holds-other, place_of, count_by-place, count_by-take, taken_count-take, count_by-leave, taken_count-leave, tag_of-pos}
+use Rattle.quick_cache_index.proofs.CountedTokens.{equal_or_not, bit, inside-some, taken_count-free, holds-itself, holds-other, place_of}
+use Rattle.quick_cache_index.proofs.CountedTokens.{count_by-place, count_by-take, taken_count-take, count_by-leave, taken_count-leave}
+use Rattle.quick_cache_index.proofs.CountedTokens.{tag_of-pos}
 
 -- ---- a token comes
 

@@ -1,5 +1,6 @@
 -- What a walk over the groups of a hash meets: each token whose place has its tag.
-use Rattle.std.proofs.Common.{◌≡◌, ℕ, zero, suc, ◌+◌, ◌-◌, ◌*◌, ◌/◌, ◌%◌, ◌^◌, ◌<◌, ◌≤◌, cond, eqb, List, ◌∷◌, ◌++◌, length, map, get_or, Option, Some, None, refl, sym, ap, subst, ◌∙◌, inl, inr, arith, count_by, bit_and, bit_xor}
+use Rattle.std.proofs.Common.{◌≡◌, ℕ, zero, suc, ◌+◌, ◌-◌, ◌*◌, ◌/◌, ◌%◌, ◌^◌, ◌<◌, ◌≤◌, cond, eqb, List, ◌∷◌, ◌++◌, length, map, get_or}
+use Rattle.std.proofs.Common.{Option, Some, None, refl, sym, ap, subst, ◌∙◌, inl, inr, arith, count_by, bit_and, bit_xor}
 use Rattle.std.specs.Int.Bits.{xor_zero_r}
 use Rattle.std.specs.Int.{trailing_zeros, w64}
 use Rattle.std.specs.List.{cons_option, filter_map}
@@ -10,9 +11,11 @@ use Rattle.std.proofs.lemmas.List.Elements.{filter_map-append}
 use Rattle.std.proofs.lemmas.List.Sums.{sum_by-cons, sum_by-append}
 use Rattle.quick_cache_index.specs.declared.index.walk.Walk.{Walk}
 use Rattle.quick_cache_index.specs.Index.{tag_of, home_of}
-use Rattle.quick_cache_index.specs.IndexGroups.{IsGrouped, IsMatched, positions_from, group_positions, lane_positions, positions_along, reach_of, tagged_token, candidates_left, IsWalk, CoversTagged}
+use Rattle.quick_cache_index.specs.IndexGroups.{IsGrouped, IsMatched, positions_from, group_positions, lane_positions, positions_along}
+use Rattle.quick_cache_index.specs.IndexGroups.{reach_of, tagged_token, candidates_left, IsWalk, CoversTagged}
 use Rattle.quick_cache_index.proofs.CountedTokens.{bool_tells, equal_or_not, bit}
-use Rattle.quick_cache_index.proofs.GroupLanes.{lane_positions-first, lane_positions-none, lanes-few, lit-tag, given-lanes, trailing_zeros-lt, trailing_zeros-IsLowestBit, bit_at-rest}
+use Rattle.quick_cache_index.proofs.GroupLanes.{lane_positions-first, lane_positions-none, lanes-few, lit-tag, given-lanes}
+use Rattle.quick_cache_index.proofs.GroupLanes.{trailing_zeros-lt, trailing_zeros-IsLowestBit, bit_at-rest}
 use Rattle.quick_cache_index.proofs.Distances.{xor-back}
 
 -- how often a number is there

@@ -1,9 +1,9 @@
 -- What a contract sees of an `Index`: tokens at places, found by a tag and by how far a search
 -- goes.
-use Rattle.std.specs.Prelude.{◌≡◌, ℕ, ◌-◌, ◌/◌, ◌^◌, ◌<◌, ◌≤◌, min, max, Bool, false, ◌&&◌, ◌||◌, not, ◌==◌, nat_lt, IsTrue, List, [], ◌∷◌, count_by, bit_and, bit_xor, slice_index, refl}
+use Rattle.std.specs.Prelude.{◌≡◌, ℕ, ◌-◌, ◌/◌, ◌^◌, ◌<◌, ◌≤◌, min, max, Bool, false, ◌&&◌, ◌||◌, not, ◌==◌, nat_lt, IsTrue, List, [], ◌∷◌}
+use Rattle.std.specs.Prelude.{count_by, bit_and, bit_xor, slice_index, refl}
 use Rattle.std.specs.Int.NonZero.{non_zero_u32_get as number}
 use Rattle.quick_cache_index.specs.declared.index.candidates.Look.{Look}
-use Rattle.quick_cache_index.specs.declared.index.candidates.Look.TheVariants.{At as at, Nothing as nothing, Beyond as beyond}
 use Rattle.std.specs.Coded.{Coded, code_by, coded×, coded_ℕ, coded_list}
 
 -- what a look-up reads: the tag and the token of each place, or 0 where it is free, how far from
@@ -123,6 +123,6 @@ pub record AreCandidates (index : Index) (hash : ℕ) (tokens : List ℕ) : Type
 
 -- a look at these candidates tells this: the first of them, or that there are none, or nothing
 abbrev pub IsSeen : List ℕ → Look → Type 0
-IsSeen tokens (at first) = (rest : List ℕ) × (tokens ≡ number first ∷ rest)
-IsSeen tokens nothing = tokens ≡ []
-IsSeen tokens beyond = Unit {0}
+IsSeen tokens (Look.At first) = (rest : List ℕ) × (tokens ≡ number first ∷ rest)
+IsSeen tokens Look.Nothing = tokens ≡ []
+IsSeen tokens Look.Beyond = Unit {0}

@@ -1,6 +1,7 @@
 -- How an `Index` lays out its tokens: places in groups of sixteen, each with a tag. No clause of
 -- `Index` cites this module.
-use Rattle.std.specs.Prelude.{◌≡◌, ℕ, ◌+◌, ◌-◌, ◌*◌, ◌^◌, ◌<◌, ◌≤◌, not, ◌==◌, min, if◌then◌else◌, List, [], ◌∷◌, zero, suc, length, count_by, filter, filter_map, ◌++◌, Option, Some, None, bit_xor, slice_index, slice_set}
+use Rattle.std.specs.Prelude.{◌≡◌, ℕ, ◌+◌, ◌-◌, ◌*◌, ◌^◌, ◌<◌, ◌≤◌, not, ◌==◌, min, if◌then◌else◌, List, [], ◌∷◌, zero, suc, length}
+use Rattle.std.specs.Prelude.{count_by, filter, filter_map, ◌++◌, Option, Some, None, bit_xor, slice_index, slice_set}
 use Rattle.std.specs.Int.{IsPowerOfTwo, bit_at}
 use Rattle.quick_cache_index.specs.Index.{tag_of, home_of, distance, told, IsReached, is_free, holds}
 use Rattle.quick_cache_index.specs.declared.index.walk.Walk.{Walk}

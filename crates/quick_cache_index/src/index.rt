@@ -1,7 +1,8 @@
 //! Tokens by hash: tokens in groups of sixteen places, found by tags of their hashes.
 ghost use Rattle.std.specs.Prelude.{◌≡◌, ◌+◌, ◌-◌, ◌*◌, ◌^◌, ◌<◌, ◌≤◌, ◌↔◌, min, max, IsTrue, IsOk, IfOk, IfErr, OnOk, OnErr};
 ghost use Rattle.std.specs.Int.NonZero.{non_zero_u32_get};
-ghost use Rattle.quick_cache_index.specs.Index.{HasToken, HasNone, GainsToken, LosesToken, Leads, KeepsOtherLeads, KeepsAllLeads, AreCandidates, token_count, wanted_room};
+ghost use Rattle.quick_cache_index.specs.Index.{HasToken, HasNone, GainsToken, LosesToken, Leads, KeepsOtherLeads, KeepsAllLeads};
+ghost use Rattle.quick_cache_index.specs.Index.{AreCandidates, token_count, wanted_room};
 
 pub(crate) mod candidates;
 pub mod groups;

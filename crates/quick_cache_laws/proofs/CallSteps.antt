@@ -1,6 +1,5 @@
 -- A call is a list of steps of the definitions.
-use Rattle.std.proofs.Common.{ℕ, Bool, true, false, List, ◌++◌, Option, Some, None, subst}
-use Rattle.std.proofs.Common.{sym}
+use Rattle.std.proofs.Common.{ℕ, Bool, true, false, List, ◌++◌, Option, Some, None, subst, sym, map, refl}
 use Rattle.std.specs.Cmp.{IsEquivalence}
 use Rattle.quick_cache_model.specs.CacheState.{CacheState, UpToOrder}
 use Rattle.quick_cache_model.specs.Capacity.{SetsCapacity}
@@ -19,7 +18,6 @@ use Rattle.quick_cache_model.specs.Loads.{TakesPlaceholder, Loads, LoadsNothing,
 use Rattle.quick_cache_model.specs.References.{WritesItem}
 use Rattle.quick_cache_model.proofs.TakenKeys.{stands_for}
 use Rattle.std.proofs.lemmas.List.Sorted.{IsPermutation-refl}
-use Rattle.std.proofs.Common.{map, refl}
 
 module _ {K V : Type 0} (equal : K → K → Bool) (laws : IsEquivalence equal)
     (rules : Rules K V) where

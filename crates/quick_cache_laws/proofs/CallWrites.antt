@@ -1,13 +1,11 @@
 -- What a fill by a call can count on.
-use Rattle.std.proofs.Common.{◌≡◌, ℕ, ◌<◌, ◌≤◌, Bool, true, false, List, None}
-use Rattle.std.proofs.Common.{refl, sym, ap, subst, ◌∙◌}
+use Rattle.std.proofs.Common.{◌≡◌, ℕ, ◌<◌, ◌≤◌, Bool, true, false, List, None, refl, sym, ap, subst, ◌∙◌}
 use Rattle.std.specs.Cmp.{IsEquivalence}
 use Rattle.std.specs.List.{AllByRecursion}
 use Rattle.quick_cache_model.specs.Admission.{PassesCheck}
 use Rattle.quick_cache_model.specs.CacheState.{CacheState, LoadingEntry, IsValid, UpToOrder}
 use Rattle.quick_cache_model.specs.Hooks.{Rules, HookCall}
-use Rattle.quick_cache_model.specs.Placeholders.{MakesPlaceholder, MeetsPlaceholder}
-use Rattle.quick_cache_model.specs.Placeholders.{FillsPlaceholder, IsLoadingTicket}
+use Rattle.quick_cache_model.specs.Placeholders.{MakesPlaceholder, MeetsPlaceholder, FillsPlaceholder, IsLoadingTicket}
 use Rattle.quick_cache_model.proofs.EachElement.{all-middle}
 use Rattle.quick_cache_laws.specs.Admitted.{unpinned_weight}
 use Rattle.quick_cache_laws.specs.Steps.{Steps}

@@ -1,7 +1,6 @@
 -- For callers: what a run of `run` keeps, by the calls that it was handed. Where there was no room
 -- for all replies, the calls that were made are a scan too.
-use Rattle.std.proofs.Common.{◌≡◌, ℕ, Bool, true, List, [], ◌∷◌, ◌++◌, Result, Ok, Err, Vec}
-use Rattle.std.proofs.Common.{subst, ap}
+use Rattle.std.proofs.Common.{◌≡◌, ℕ, Bool, true, List, [], ◌∷◌, ◌++◌, Result, Ok, Err, Vec, subst, ap}
 use Rattle.std.specs.List.{AllByRecursion}
 use Rattle.quick_cache_model.specs.CacheState.{CacheState}
 use Rattle.quick_cache_model.specs.Hooks.{Rules, Hooks}

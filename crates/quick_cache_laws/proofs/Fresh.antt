@@ -1,7 +1,6 @@
 -- A list of calls with fresh hashes is a scan in each run of it, since no call brings a hash but an
 -- insert its own.
-use Rattle.std.proofs.Common.{◌≡◌, ◌≢◌, ℕ, ◌+◌, ◌≤◌, ◌==◌, Bool, true, false, List, ◌∷◌, refl, sym}
-use Rattle.std.proofs.Common.{subst}
+use Rattle.std.proofs.Common.{◌≡◌, ◌≢◌, ℕ, ◌+◌, ◌≤◌, ◌==◌, Bool, true, false, List, ◌∷◌, refl, sym, subst}
 use Rattle.std.specs.List.{AllByRecursion}
 use Rattle.std.proofs.lemmas.Bool.{eqb-false}
 use Rattle.quick_cache_model.specs.CacheState.{CacheState, Item}
@@ -9,16 +8,13 @@ use Rattle.quick_cache_model.specs.Finding.{HasNothing}
 use Rattle.quick_cache_model.specs.Hooks.{Rules, HookCall}
 use Rattle.quick_cache_model.proofs.EachElement.{all-weaker}
 use Rattle.quick_cache_model.specs.declared.calls.call.Call.{Call}
-use Rattle.quick_cache_model.specs.declared.calls.call.Call.TheVariants.{Insert, Get}
 use Rattle.quick_cache_model.specs.declared.calls.reply.Reply.{Reply}
 use Rattle.quick_cache_model.specs.CacheRun.{CacheRun}
 use Rattle.quick_cache_model.specs.CacheStep.{CacheStep}
-use Rattle.quick_cache_laws.specs.Scans.{AtEachTurn, IsReadyForScan, IsScanCall, HasNoHash}
-use Rattle.quick_cache_laws.specs.Scans.{IsApart, AreFresh}
+use Rattle.quick_cache_laws.specs.Scans.{AtEachTurn, IsReadyForScan, IsScanCall, HasNoHash, IsApart, AreFresh}
 use Rattle.quick_cache_laws.proofs.ScanParts.{GetStep, InsertStep, get_of, insert_of}
 use Rattle.quick_cache_laws.proofs.Turns.{written, front_of, turn}
-use Rattle.quick_cache_laws.proofs.Hashes.{Fails, BringsNo, brings_both}
-use Rattle.quick_cache_laws.proofs.Hashes.{brings_in_order, brings_inserted, brings_looked}
+use Rattle.quick_cache_laws.proofs.Hashes.{Fails, BringsNo, brings_both, brings_in_order, brings_inserted, brings_looked}
 
 module _ {K V : Type 0} (rules : Rules K V) where
   -- what is fresh stays so, where no hash comes
@@ -37,12 +33,12 @@ module _ {K V : Type 0} (rules : Rules K V) where
       (subst (λ n. old.hot_target + rules.weight key value ≤ n) (sym brings.capacity) fits))
       apart (fresh_after_get old new brings calls fresh)
 
-  apart_get : {F : Type 0} (hash : ℕ) (key : K) → IsApart rules {F = F} hash (Get key)
+  apart_get : {F : Type 0} (hash : ℕ) (key : K) → IsApart rules {F = F} hash (Call.Get key)
       → rules.hash key ≢ hash
   apart_get hash key (IsApart.gets _ apart) = apart
 
   apart_insert : {F : Type 0} (hash : ℕ) (key : K) (value : V)
-      → IsApart rules {F = F} hash (Insert key value) → rules.hash key ≢ hash
+      → IsApart rules {F = F} hash (Call.Insert key value) → rules.hash key ≢ hash
   apart_insert hash key value (IsApart.inserts _ _ apart) = apart
 
   -- and where a hash comes that it is apart from
@@ -118,7 +114,7 @@ module _ {K V F M : Type 0} (rules : Rules K V) (equal : K → K → Bool)
           new step),
     )
       where
-        is_call : IsScanCall rules {F = F} equal old (Get key)
+        is_call : IsScanCall rules {F = F} equal old (Call.Get key)
         is_call = IsScanCall.gets key (all-weaker (λ item. rules.hash item.key ≢ rules.hash key)
             (λ item. equal key item.key ≡ false)
             (λ item apart. unequal rules equal same_hash key item.key apart) old.cold absent)
@@ -141,7 +137,7 @@ module _ {K V F M : Type 0} (rules : Rules K V) (equal : K → K → Bool)
         found : HasNothing (equal key) (rules.hash key) old
         found = nothing_found rules equal same_hash key old nothing
 
-        is_call : IsScanCall rules {F = F} equal old (Insert key value)
+        is_call : IsScanCall rules {F = F} equal old (Call.Insert key value)
         is_call = IsScanCall.inserts key value found unpinned light fits
 
         go : (reply : Reply K V M) (new : CacheState K V)

@@ -1,17 +1,13 @@
 -- Room is made by a front of the cold ring, where none of its items is marked or pinned and no
 -- reader leaves touches.
-use Rattle.std.proofs.Common.{◌≡◌, ◌≢◌, ℕ, ◌+◌, ◌-◌, take, drop, ◌<◌, ◌≤◌, ◌⊎◌, inl, inr, true}
-use Rattle.std.proofs.Common.{false, true≢false}
-use Rattle.std.proofs.Common.{List, [], ◌∷◌, ◌++◌, length, refl, sym, ap, subst, ◌∙◌, arith}
-use Rattle.std.proofs.Common.{append-nil, length-append}
+use Rattle.std.proofs.Common.{◌≡◌, ◌≢◌, ℕ, ◌+◌, ◌-◌, take, drop, ◌<◌, ◌≤◌, ◌⊎◌, inl, inr, true, false, true≢false, List, [], ◌∷◌, ◌++◌}
+use Rattle.std.proofs.Common.{length, refl, sym, ap, subst, ◌∙◌, arith, append-nil, length-append}
 use Rattle.std.specs.List.{AllByRecursion}
-use Rattle.quick_cache_model.specs.declared.queue.Queue.TheVariants.{Cold}
-use Rattle.quick_cache_model.specs.CacheState.{CacheState, Item, weight_of, hot_weight}
-use Rattle.quick_cache_model.specs.CacheState.{total_weight, restarted_behind}
+use Rattle.quick_cache_model.specs.declared.queue.Queue.{Queue}
+use Rattle.quick_cache_model.specs.CacheState.{CacheState, Item, weight_of, hot_weight, total_weight, restarted_behind}
 use Rattle.quick_cache_model.specs.Eviction.{EvictsVictim, AdvancesCold, EvictsToCapacity, IsPassed}
 use Rattle.quick_cache_model.specs.Hooks.{Rules, HookCall}
-use Rattle.quick_cache_model.proofs.EachElement.{all-left, all-right, all-middle}
-use Rattle.quick_cache_model.proofs.EachElement.{all-push}
+use Rattle.quick_cache_model.proofs.EachElement.{all-left, all-right, all-middle, all-push}
 use Rattle.std.proofs.lemmas.List.{take-append-drop}
 use Rattle.quick_cache_model.proofs.EvictionKeeps.{AdvancesCold-beside}
 use Rattle.quick_cache_model.proofs.TouchLaws.{RaisesMarks-none}
@@ -33,7 +29,7 @@ module _ {K V : Type 0} (rules : Rules K V) where
 
   -- the fate of a cold victim leaves the rings as they are
   victim_rings : (old : CacheState K V) (item : Item K V) (calls : List (HookCall K V))
-      (new : CacheState K V) → EvictsVictim rules Cold old item calls new
+      (new : CacheState K V) → EvictsVictim rules Queue.Cold old item calls new
       → (new.hot ≡ old.hot) × (new.cold ≡ old.cold)
   victim_rings old item _ _ (EvictsVictim.stays left light) = (refl, refl)
   victim_rings old item _ _ (EvictsVictim.leaves left heavy) = (refl, refl)
@@ -41,7 +37,7 @@ module _ {K V : Type 0} (rules : Rules K V) where
   -- it brings no hash but the item's to the ghosts
   victim_ghosts : (P : ℕ → Type 0) (old : CacheState K V) (item : Item K V)
       (calls : List (HookCall K V)) (new : CacheState K V)
-      → EvictsVictim rules Cold old item calls new → AllByRecursion P old.ghosts
+      → EvictsVictim rules Queue.Cold old item calls new → AllByRecursion P old.ghosts
       → P (rules.hash item.key) → AllByRecursion P new.ghosts
   victim_ghosts P old item _ _ (EvictsVictim.stays left light) all is = all
   victim_ghosts P old item _ _ (EvictsVictim.leaves left heavy) all is =

@@ -1,16 +1,13 @@
 -- Which hashes come to a state: an insert brings that of its key, a look-up and an eviction none.
-use Rattle.std.proofs.Common.{◌≡◌, ◌≢◌, ℕ, ◌==◌, Bool, true, false, List, [], ◌∷◌, ◌++◌, Option}
-use Rattle.std.proofs.Common.{refl, sym, ap, subst, ◌∙◌}
+use Rattle.std.proofs.Common.{◌≡◌, ◌≢◌, ℕ, ◌==◌, Bool, true, false, List, [], ◌∷◌, ◌++◌, Option, refl, sym, ap, subst, ◌∙◌}
 use Rattle.std.specs.List.{AllByRecursion}
 use Rattle.std.proofs.lemmas.Bool.{eqb-true, eqb-false}
-use Rattle.quick_cache_model.specs.declared.queue.Queue.TheVariants.{Cold}
-use Rattle.quick_cache_model.specs.CacheState.{CacheState, Item, Place, InHot, InCold, InStill}
-use Rattle.quick_cache_model.specs.CacheState.{SameButOrder, entered, place_of_item}
+use Rattle.quick_cache_model.specs.declared.queue.Queue.{Queue}
+use Rattle.quick_cache_model.specs.CacheState.{CacheState, Item, Place, InHot, InCold, InStill, SameButOrder, entered, place_of_item}
 use Rattle.quick_cache_model.specs.Hooks.{Rules}
 use Rattle.quick_cache_model.specs.Lookups.{LooksUp, looked_up}
 use Rattle.quick_cache_model.specs.Writes.{new_item, queue_for}
-use Rattle.quick_cache_model.proofs.EachElement.{all-right, all-middle, all-instead, all-push}
-use Rattle.quick_cache_model.proofs.EachElement.{all-weaker, all-permutation}
+use Rattle.quick_cache_model.proofs.EachElement.{all-right, all-middle, all-instead, all-push, all-weaker, all-permutation}
 use Rattle.quick_cache_model.proofs.Eviction.Keys.{EvictsToCapacity-none}
 use Rattle.quick_cache_model.proofs.EvictionKeeps.{EvictsToCapacity-beside}
 use Rattle.quick_cache_model.proofs.Valid.Places.{put}
@@ -152,7 +149,7 @@ module _ {K V : Type 0} (rules : Rules K V) where
     brings_inserted new is takes =
         let need = rules.weight key value in
         let beside = EvictsToCapacity-beside rules need old is.mid is.calls is.evicts in
-        let item = new_item rules key value (queue_for rules old key value Cold) 0 in
+        let item = new_item rules key value (queue_for rules old key value Queue.Cold) 0 in
         let others : ℕ → Type 0 = λ hash. hash ≢ rules.hash key in
         let made : BringsNo others old is.mid = record {
           target = beside.hot_target;

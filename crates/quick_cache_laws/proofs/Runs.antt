@@ -1,13 +1,11 @@
 -- Runs that are scans, turn by turn.
-use Rattle.std.proofs.Common.{◌≡◌, ℕ, Bool, List, [], ◌++◌, map, sym, ap, ◌∙◌, append_assoc}
-use Rattle.std.proofs.Common.{append-nil}
+use Rattle.std.proofs.Common.{◌≡◌, ℕ, Bool, List, [], ◌++◌, map, sym, ap, ◌∙◌, append_assoc, append-nil}
 use Rattle.quick_cache_model.specs.CacheState.{CacheState}
 use Rattle.quick_cache_model.specs.Hooks.{Rules, HookCall}
 use Rattle.quick_cache_model.specs.declared.calls.call.Call.{Call}
 use Rattle.quick_cache_model.specs.declared.calls.reply.Reply.{Reply}
 use Rattle.quick_cache_model.specs.CacheRun.{CacheRun}
-use Rattle.quick_cache_laws.specs.Scans.{AtEachTurn, IsReadyForScan, IsScanCall, unused}
-use Rattle.quick_cache_laws.specs.Scans.{KeepsHot, ScansRings}
+use Rattle.quick_cache_laws.specs.Scans.{AtEachTurn, IsReadyForScan, IsScanCall, unused, KeepsHot, ScansRings}
 use Rattle.quick_cache_laws.proofs.Turns.{turn, turn_keeps_hot}
 
 module _ {K V : Type 0} where

@@ -5,10 +5,8 @@ use Rattle.quick_cache_model.specs.CacheState.{CacheState, UpToOrder}
 use Rattle.quick_cache_model.specs.Hooks.{Rules, HookCall}
 use Rattle.quick_cache_model.specs.Lookups.{LooksUp}
 use Rattle.quick_cache_model.specs.Writes.{Writes, Insert as insertion}
-use Rattle.quick_cache_model.specs.declared.calls.call.Call.TheVariants.{Insert, Get}
+use Rattle.quick_cache_model.specs.declared.calls.call.Call.{Call}
 use Rattle.quick_cache_model.specs.declared.calls.reply.Reply.{Reply}
-use Rattle.quick_cache_model.specs.declared.calls.reply.Reply.TheVariants.{Done, RefusedPair, Value}
-use Rattle.quick_cache_model.specs.declared.calls.reply.Reply.TheVariants.{Refused}
 use Rattle.quick_cache_model.specs.CacheStep.{CacheStep}
 
 module _ {K V M : Type 0} (equal : K → K → Bool) where
@@ -16,8 +14,8 @@ module _ {K V M : Type 0} (equal : K → K → Bool) where
   pub data GetStep (key : K) (old : CacheState K V) : Reply K V M → CacheState K V → Type 0 where
     looked : (found shown : Option V) (new : CacheState K V)
         → UpToOrder (LooksUp (equal key) old (λ item. item.value) found) new
-        → GetStep key old (Value shown) new
-    is_refused : (refusal : Refusal) → GetStep key old (Refused refusal) old
+        → GetStep key old (Reply.Value shown) new
+    is_refused : (refusal : Refusal) → GetStep key old (Reply.Refused refusal) old
 
 module _ {K V M : Type 0} (rules : Rules K V) (equal : K → K → Bool) where
   -- an insert, or one that is refused
@@ -25,14 +23,15 @@ module _ {K V M : Type 0} (rules : Rules K V) (equal : K → K → Bool) where
       : Reply K V M → CacheState K V → Type 0 where
     wrote : (calls : List (HookCall K V)) (new : CacheState K V)
         → UpToOrder (Writes rules (equal key) key insertion old value calls None) new
-        → InsertStep key value old Done new
-    is_refused : (refusal : Refusal) → InsertStep key value old (RefusedPair key value refusal) old
+        → InsertStep key value old Reply.Done new
+    is_refused : (refusal : Refusal)
+        → InsertStep key value old (Reply.RefusedPair key value refusal) old
 
 module _ {K V F M : Type 0} (rules : Rules K V) (equal : K → K → Bool)
     (shows_key : K → K → Type 0) (shows : V → V → Type 0) (answers : F → K → V → Bool) where
   pub get_of : (key : K) (old : CacheState K V) (reply : Reply K V M) (calls : List (HookCall K V))
       (new : CacheState K V)
-      → CacheStep rules equal shows_key shows answers old (Get key) reply calls new
+      → CacheStep rules equal shows_key shows answers old (Call.Get key) reply calls new
       → GetStep equal key old reply new
   get_of key old _ _ _ (CacheStep.gets _ found shown new looks shows) =
       GetStep.looked found shown new looks
@@ -47,7 +46,7 @@ module _ {K V F M : Type 0} (rules : Rules K V) (equal : K → K → Bool)
 
   pub insert_of : (key : K) (value : V) (old : CacheState K V) (reply : Reply K V M)
       (calls : List (HookCall K V)) (new : CacheState K V)
-      → CacheStep rules equal shows_key shows answers old (Insert key value) reply calls new
+      → CacheStep rules equal shows_key shows answers old (Call.Insert key value) reply calls new
       → InsertStep rules equal key value old reply new
   insert_of key value old _ _ _ (CacheStep.inserts _ _ calls new provided writes) =
       InsertStep.wrote calls new writes

@@ -1,17 +1,13 @@
 -- What a step of a call tells, call by call.
 use Rattle.std.proofs.Common.{◌≡◌, Bool, List, [], Option, None, refl}
 use Rattle.quick_cache_model.specs.declared.refusal.Refusal.{Refusal}
-use Rattle.quick_cache_model.specs.declared.refusal.Refusal.TheVariants.{Memory}
 use Rattle.quick_cache_model.specs.CacheState.{CacheState, UpToOrder}
 use Rattle.quick_cache_model.specs.Hooks.{Rules, HookCall}
 use Rattle.quick_cache_model.specs.Refusals.{MayRefuse, needs_of_clone}
 use Rattle.quick_cache_model.specs.Removal.{Removes, Retains}
 use Rattle.quick_cache_model.specs.Writes.{Strategy, Writes, Insert as insertion}
 use Rattle.quick_cache_model.specs.declared.calls.call.Call.{Call}
-use Rattle.quick_cache_model.specs.declared.calls.call.Call.TheVariants.{Insert, Remove, Retain}
 use Rattle.quick_cache_model.specs.declared.calls.reply.Reply.{Reply}
-use Rattle.quick_cache_model.specs.declared.calls.reply.Reply.TheVariants.{Done, RefusedPair, Pair}
-use Rattle.quick_cache_model.specs.declared.calls.reply.Reply.TheVariants.{Refused}
 use Rattle.quick_cache_model.specs.CacheStep.{CacheStep}
 use Rattle.quick_cache_model.specs.Kinds.{replacement}
 use Rattle.quick_cache_model.specs.Loads.{Loads}
@@ -20,7 +16,7 @@ use Rattle.quick_cache_laws.specs.CallLaws.{IsWrite, IsFill, IsRefusable}
 module _ {K V : Type 0} (state : CacheState K V) where
   -- a clone is refused for want of memory alone
   pub clone_refused : (refusal : Refusal) → MayRefuse needs_of_clone state refusal
-      → refusal ≡ Memory
+      → refusal ≡ Refusal.Memory
   clone_refused _ (MayRefuse.tickets_spent needs spent) = absurd needs
   clone_refused _ (MayRefuse.slots_full tickets needs full) = absurd needs
   clone_refused _ (MayRefuse.memory_refused provided needs) = refl
@@ -34,7 +30,7 @@ module _ {K V F M : Type 0} (rules : Rules K V) (equal : K → K → Bool)
 
   -- a write that was done, by some strategy
   pub write_of : (key : K) (value : V) (call : Call K V F) (calls : List (HookCall K V))
-      (new : CacheState K V) → IsWrite key value call → Step call Done calls new
+      (new : CacheState K V) → IsWrite key value call → Step call Reply.Done calls new
       → (strategy : Strategy)
       × UpToOrder (Writes rules (equal key) key strategy old value calls None) new
   write_of key value _ _ _ IsWrite.insert
@@ -43,7 +39,7 @@ module _ {K V F M : Type 0} (rules : Rules K V) (equal : K → K → Bool)
       (CacheStep.replaces _ _ _ calls new writes) = (replacement soft, writes)
 
   pub insert_of : (key : K) (value : V) (calls : List (HookCall K V)) (new : CacheState K V)
-      → Step (Insert key value) Done calls new
+      → Step (Call.Insert key value) Reply.Done calls new
       → UpToOrder (Writes rules (equal key) key insertion old value calls None) new
   insert_of key value _ _ (CacheStep.inserts _ _ calls new provided writes) = writes
 
@@ -59,8 +55,8 @@ module _ {K V F M : Type 0} (rules : Rules K V) (equal : K → K → Bool)
 
   -- a removal
   pub remove_of : (key : K) (reply : Reply K V M) (calls : List (HookCall K V))
-      (new : CacheState K V) → Step (Remove key) reply calls new
-      → (answer : Option (K × V)) × (reply ≡ Pair answer)
+      (new : CacheState K V) → Step (Call.Remove key) reply calls new
+      → (answer : Option (K × V)) × (reply ≡ Reply.Pair answer)
       × UpToOrder (Removes (equal key) old (rules.hash key) answer) new
   remove_of key _ _ _ (CacheStep.removes _ answer new removes) = (answer, refl, removes)
   remove_of key _ _ _ (CacheStep.refuses_look _ _ refusal place before item after look _ _) =
@@ -74,7 +70,7 @@ module _ {K V F M : Type 0} (rules : Rules K V) (equal : K → K → Bool)
 
   -- a retain
   pub retain_of : (keep : F) (reply : Reply K V M) (calls : List (HookCall K V))
-      (new : CacheState K V) → Step (Retain keep) reply calls new
+      (new : CacheState K V) → Step (Call.Retain keep) reply calls new
       → UpToOrder (Retains (answers keep) old) new
   retain_of keep _ _ _ (CacheStep.retains _ new retains) = retains
   retain_of keep _ _ _ (CacheStep.refuses_look _ key refusal place before item after look _ _) =
@@ -89,7 +85,7 @@ module _ {K V F M : Type 0} (rules : Rules K V) (equal : K → K → Bool)
 
   -- a refusal
   pub refusal_of : (call : Call K V F) (refusal : Refusal) (calls : List (HookCall K V))
-      (new : CacheState K V) → Step call (Refused refusal) calls new
+      (new : CacheState K V) → Step call (Reply.Refused refusal) calls new
       → IsRefusable refusal call × (new ≡ old) × (calls ≡ [])
   refusal_of _ _ _ _ (CacheStep.refuses_look call key refusal place before item after look there
       cause) = (IsRefusable.look call key look (clone_refused old refusal cause), refl, refl)
@@ -102,7 +98,7 @@ module _ {K V F M : Type 0} (rules : Rules K V) (equal : K → K → Bool)
 
   pub refused_insert_of : (call : Call K V F) (key : K) (value : V) (refusal : Refusal)
       (calls : List (HookCall K V)) (new : CacheState K V)
-      → Step call (RefusedPair key value refusal) calls new
-      → (call ≡ Insert key value) × (new ≡ old) × (calls ≡ [])
+      → Step call (Reply.RefusedPair key value refusal) calls new
+      → (call ≡ Call.Insert key value) × (new ≡ old) × (calls ≡ [])
   refused_insert_of _ _ _ _ _ _ (CacheStep.refuses_insert key value refusal cause) =
       (refl, refl, refl)

@@ -1,31 +1,26 @@
 -- What a call of a scan does, from a state that is ready for one.
-use Rattle.std.proofs.Common.{◌≡◌, ℕ, ◌+◌, ◌≤◌, Bool, true, false, true≢false, ◌==◌, nat_le}
-use Rattle.std.proofs.Common.{if◌then◌else◌, List, [], ◌∷◌, ◌++◌, map, Option, None, refl, sym, ap}
-use Rattle.std.proofs.Common.{subst, ◌∙◌, arith, append-nil}
+use Rattle.std.proofs.Common.{◌≡◌, ℕ, ◌+◌, ◌≤◌, Bool, true, false, true≢false, ◌==◌, nat_le, if◌then◌else◌, List, [], ◌∷◌, ◌++◌, map}
+use Rattle.std.proofs.Common.{Option, None, refl, sym, ap, subst, ◌∙◌, arith, append-nil}
 use Rattle.std.specs.List.{AllByRecursion}
 use Rattle.std.proofs.lemmas.Bool.{leb-true}
 use Rattle.std.proofs.lemmas.List.{map-append}
 use Rattle.std.proofs.lemmas.List.Sums.{sum_by-append, sum_by-cons}
-use Rattle.quick_cache_model.specs.declared.queue.Queue.TheVariants.{Hot, Cold}
+use Rattle.quick_cache_model.specs.declared.queue.Queue.{Queue}
 use Rattle.quick_cache_model.specs.Admission.{ChecksAdmission, Admitted, TooHeavy}
-use Rattle.quick_cache_model.specs.CacheState.{CacheState, Item, Place, InHot, InCold, InStill}
-use Rattle.quick_cache_model.specs.CacheState.{entered, weight_of, hot_weight, place_of_item}
-use Rattle.quick_cache_model.specs.CacheState.{ring_place, SameButOrder}
+use Rattle.quick_cache_model.specs.CacheState.{CacheState, Item, Place, InHot, InCold, InStill, entered, weight_of, hot_weight}
+use Rattle.quick_cache_model.specs.CacheState.{place_of_item, ring_place, SameButOrder}
 use Rattle.quick_cache_model.specs.Eviction.{EvictsToCapacity}
 use Rattle.quick_cache_model.specs.Finding.{IsItemAt, HasNoItem, HasNothing}
 use Rattle.quick_cache_model.specs.Hooks.{Rules, HookCall}
 use Rattle.quick_cache_model.specs.Lookups.{LooksUp, looked_up}
-use Rattle.quick_cache_model.specs.Writes.{Writes, WritesAdmitted, new_item, queue_for}
-use Rattle.quick_cache_model.specs.Writes.{Insert as insertion}
+use Rattle.quick_cache_model.specs.Writes.{Writes, WritesAdmitted, new_item, queue_for, Insert as insertion}
 use Rattle.quick_cache_model.proofs.EachElement.{all-right, all-middle, all-push}
 use Rattle.quick_cache_model.proofs.EvictionKeeps.{EvictsToCapacity-beside}
 use Rattle.quick_cache_model.proofs.Valid.Places.{put}
 use Rattle.quick_cache_model.specs.declared.calls.call.Call.{Call}
-use Rattle.quick_cache_model.specs.declared.calls.call.Call.TheVariants.{Insert, Get}
 use Rattle.quick_cache_model.specs.declared.calls.reply.Reply.{Reply}
 use Rattle.quick_cache_model.specs.CacheStep.{CacheStep}
-use Rattle.quick_cache_laws.specs.Scans.{IsEvictable, IsReadyForScan, IsScanCall, unused}
-use Rattle.quick_cache_laws.specs.Scans.{KeepsHot, TakesShortestFront, ScansRings}
+use Rattle.quick_cache_laws.specs.Scans.{IsEvictable, IsReadyForScan, IsScanCall, unused, KeepsHot, TakesShortestFront, ScansRings}
 use Rattle.quick_cache_laws.proofs.Fronts.{TakesFront, front_leaves}
 use Rattle.quick_cache_laws.proofs.ScanParts.{GetStep, InsertStep, get_of, insert_of}
 
@@ -145,7 +140,7 @@ module _ {K V : Type 0} (rules : Rules K V) where
   ready_entered : (key : K) (value : V) (old mid : CacheState K V) → IsReadyForScan rules mid
       → mid.hot ≡ old.hot → mid.hot_target ≡ old.hot_target → rules.pinned key value ≡ false
       → IsReadyForScan rules
-      (entered (new_item rules key value (queue_for rules old key value Cold) 0) mid)
+      (entered (new_item rules key value (queue_for rules old key value Queue.Cold) 0) mid)
   ready_entered key value old mid ready hot target unpinned =
       go (rules.weight key value == 0)
       (nat_le (hot_weight old + rules.weight key value) old.hot_target) refl
@@ -153,14 +148,14 @@ module _ {K V : Type 0} (rules : Rules K V) where
       go : (light fits : Bool)
           → nat_le (hot_weight old + rules.weight key value) old.hot_target ≡ fits
           → IsReadyForScan rules
-          (put (if light then InStill else ring_place (if fits then Hot else Cold))
-          (new_item rules key value (if fits then Hot else Cold) 0) mid)
+          (put (if light then InStill else ring_place (if fits then Queue.Hot else Queue.Cold))
+          (new_item rules key value (if fits then Queue.Hot else Queue.Cold) 0) mid)
       go true fits is = record { within_target = ready.within_target; cold = ready.cold }
       go false true is = record {
         within_target = omega (
           arith,
           leb-true (hot_weight old + rules.weight key value) old.hot_target is,
-          weight_of-push mid.hot (new_item rules key value Hot 0),
+          weight_of-push mid.hot (new_item rules key value Queue.Hot 0),
           ap (λ items. weight_of items) hot,
           target,
         );
@@ -168,7 +163,8 @@ module _ {K V : Type 0} (rules : Rules K V) where
       }
       go false false is = record {
         within_target = ready.within_target;
-        cold = all-push (IsEvictable rules) mid.cold (new_item rules key value Cold 0) ready.cold
+        cold = all-push (IsEvictable rules) mid.cold (new_item rules key value Queue.Cold 0)
+            ready.cold
             (refl, unpinned);
       }
 
@@ -178,7 +174,8 @@ module _ {K V : Type 0} (rules : Rules K V) where
       pub mid : CacheState K V
       pub calls : List (HookCall K V)
       pub evicts : EvictsToCapacity rules (rules.weight key value) old calls mid
-      pub same : new ≡ entered (new_item rules key value (queue_for rules old key value Cold) 0) mid
+      pub same : new ≡ entered
+          (new_item rules key value (queue_for rules old key value Queue.Cold) 0) mid
 
     inserted : (calls : List (HookCall K V)) (new : CacheState K V)
         → WritesAdmitted rules equal_to key insertion old value calls None new
@@ -238,7 +235,7 @@ module _ {K V : Type 0} (rules : Rules K V) where
         → old.hot_target + rules.weight key value ≤ old.capacity
         → TakesShortestFront rules key value old new × IsReadyForScan rules new
     inserted_behind new no_touch is ready unpinned fits =
-        let item = new_item rules key value (queue_for rules old key value Cold) 0 in
+        let item = new_item rules key value (queue_for rules old key value Queue.Cold) 0 in
         let takes = front_of new no_touch is ready fits in
         let beside = EvictsToCapacity-beside rules (rules.weight key value) old is.mid is.calls
         is.evicts in
@@ -270,7 +267,7 @@ module _ {K V : Type 0} (rules : Rules K V) where
   front_keeps_hot : (key : K) (value : V) (old new : CacheState K V)
       → TakesShortestFront rules key value old new → KeepsHot old new
   front_keeps_hot key value old new takes =
-      let kept = entered_hot (new_item rules key value (queue_for rules old key value Cold) 0)
+      let kept = entered_hot (new_item rules key value (queue_for rules old key value Queue.Cold) 0)
       (record old { cold = takes.rest }) in
       record { others = kept.others; kept = ap (map unused) takes.hot ∙ kept.kept }
 
@@ -284,14 +281,14 @@ module _ {K V F M : Type 0} (rules : Rules K V) (equal : K → K → Bool)
 
   -- a look-up
   get_turn : (key : K) (old : CacheState K V) (reply : Reply K V M) (calls : List (HookCall K V))
-      (new : CacheState K V) → Step old (Get key) reply calls new
+      (new : CacheState K V) → Step old (Call.Get key) reply calls new
       → AllByRecursion (λ item. equal key item.key ≡ false) old.cold → IsReadyForScan rules old
-      → ScansRings rules {F = F} old (Get key) reply new × IsReadyForScan rules new
+      → ScansRings rules {F = F} old (Call.Get key) reply new × IsReadyForScan rules new
   get_turn key old reply calls new step absent ready =
       go reply new (get_of rules equal shows_key shows answers key old reply calls new step)
     where
       go : (reply : Reply K V M) (new : CacheState K V) → GetStep equal key old reply new
-          → ScansRings rules {F = F} old (Get key) reply new × IsReadyForScan rules new
+          → ScansRings rules {F = F} old (Call.Get key) reply new × IsReadyForScan rules new
       go _ _ (GetStep.looked found shown new looks) =
           let used = looked (equal key) old found looks.ordered looks.holds absent in (
             ScansRings.gets key _ new
@@ -305,18 +302,19 @@ module _ {K V F M : Type 0} (rules : Rules K V) (equal : K → K → Bool)
   -- an insert
   insert_turn : (key : K) (value : V) (old : CacheState K V) (reply : Reply K V M)
       (calls : List (HookCall K V)) (new : CacheState K V)
-      → Step old (Insert key value) reply calls new
+      → Step old (Call.Insert key value) reply calls new
       → HasNothing (equal key) (rules.hash key) old → rules.pinned key value ≡ false
       → rules.weight key value ≤ old.hot_target
       → old.hot_target + rules.weight key value ≤ old.capacity → IsReadyForScan rules old
-      → ScansRings rules {F = F} old (Insert key value) reply new × IsReadyForScan rules new
+      → ScansRings rules {F = F} old (Call.Insert key value) reply new × IsReadyForScan rules new
   insert_turn key value old reply calls new step nothing unpinned light fits ready =
       go reply new
       (insert_of rules equal shows_key shows answers key value old reply calls new step)
     where
       go : (reply : Reply K V M) (new : CacheState K V)
           → InsertStep rules equal key value old reply new
-          → ScansRings rules {F = F} old (Insert key value) reply new × IsReadyForScan rules new
+          → ScansRings rules {F = F} old (Call.Insert key value) reply new
+          × IsReadyForScan rules new
       go _ _ (InsertStep.wrote calls new writes) =
           let is = written rules (equal key) key value old calls writes.ordered writes.holds nothing
           light in

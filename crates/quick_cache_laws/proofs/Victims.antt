@@ -2,17 +2,14 @@
 use Rattle.std.proofs.Common.{◌≡◌, ℕ, Bool, true, false, List, [], ◌∷◌, ◌++◌, Option, Some, None}
 use Rattle.std.specs.List.{AllByRecursion}
 use Rattle.quick_cache_model.specs.declared.queue.Queue.{Queue}
-use Rattle.quick_cache_model.specs.declared.queue.Queue.TheVariants.{Hot, Cold}
 use Rattle.quick_cache_model.specs.Admission.{Admission, ChecksAdmission, Admitted, TooHeavy}
 use Rattle.quick_cache_model.specs.CacheState.{CacheState, Item}
 use Rattle.quick_cache_model.specs.Capacity.{SetsCapacity, resized}
-use Rattle.quick_cache_model.specs.Eviction.{pinned, EvictsVictim, AdvancesHot, EvictsToTarget}
-use Rattle.quick_cache_model.specs.Eviction.{AdvancesCold, EvictsToCapacity, lowered}
+use Rattle.quick_cache_model.specs.Eviction.{pinned, EvictsVictim, AdvancesHot, EvictsToTarget, AdvancesCold, EvictsToCapacity, lowered}
 use Rattle.quick_cache_model.specs.Eviction.{promoted}
 use Rattle.quick_cache_model.specs.Hooks.{Rules, HookCall, EvictCold, evicted}
 use Rattle.quick_cache_model.specs.Placeholders.{FillsPlaceholder, MakesRoomFor}
-use Rattle.quick_cache_model.specs.Writes.{Strategy, Writes, WritesAdmitted, RejectsTooHeavy}
-use Rattle.quick_cache_model.specs.Writes.{TakesOutItem}
+use Rattle.quick_cache_model.specs.Writes.{Strategy, Writes, WritesAdmitted, RejectsTooHeavy, TakesOutItem}
 use Rattle.quick_cache_model.proofs.EachElement.{all-append}
 use Rattle.quick_cache_model.specs.declared.calls.call.Call.{Call}
 use Rattle.quick_cache_model.specs.declared.calls.reply.Reply.{Reply}
@@ -32,8 +29,8 @@ module _ {K V : Type 0} (rules : Rules K V) where
 
   -- what is told of a pair that leaves asks for nothing
   told : (queue : Queue) (key : K) (value : V) → IsOfUnpinned rules (evicted queue key value)
-  told Hot key value = tt
-  told Cold key value = tt
+  told Queue.Hot key value = tt
+  told Queue.Cold key value = tt
 
   victim : (queue : Queue) (old : CacheState K V) (item : Item K V) (calls : List (HookCall K V))
       (new : CacheState K V) → pinned rules item ≡ false
@@ -46,7 +43,7 @@ module _ {K V : Type 0} (rules : Rules K V) where
       (new : CacheState K V) → AdvancesHot rules old answer calls new → AreOfUnpinned calls
   hot_advance old _ _ _ (AdvancesHot.all_pinned hot raised all) = tt
   hot_advance old _ _ _ (AdvancesHot.evicts hot before item after calls new raised split first
-      evicts) = victim Hot _ (lowered item.mark item) calls new first.unpinned evicts
+      evicts) = victim Queue.Hot _ (lowered item.mark item) calls new first.unpinned evicts
 
   to_target : (old : CacheState K V) (calls : List (HookCall K V)) (new : CacheState K V)
       → EvictsToTarget rules old calls new → AreOfUnpinned calls
@@ -61,7 +58,7 @@ module _ {K V : Type 0} (rules : Rules K V) where
   cold_advance old _ _ _ (AdvancesCold.promotes cold before item after calls new raised split
       passed marked goes) = to_target (promoted rules before item after old) calls new goes
   cold_advance old _ _ _ (AdvancesCold.evicts cold before item after calls new raised split passed
-      unmarked unpinned evicts) = victim Cold _ item calls new unpinned evicts
+      unmarked unpinned evicts) = victim Queue.Cold _ item calls new unpinned evicts
   cold_advance old _ _ _ (AdvancesCold.passes_all cold answer calls new raised passed advances) =
       hot_advance (record old { cold = cold }) answer calls new advances
 

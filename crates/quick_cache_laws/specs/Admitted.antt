@@ -1,8 +1,6 @@
 -- What a pair that passed its admission check can count on: laws on writes and on fills.
-use Rattle.std.specs.Prelude.{◌≡◌, ℕ, ◌+◌, ◌<◌, ◌≤◌, Bool, List, ◌∷◌, ◌++◌, Option, None, sum_by}
-use Rattle.std.specs.Prelude.{if◌then◌else◌}
-use Rattle.quick_cache_model.specs.CacheState.{CacheState, Item, LoadingEntry, Place, items_at}
-use Rattle.quick_cache_model.specs.CacheState.{IsValid, UpToOrder}
+use Rattle.std.specs.Prelude.{◌≡◌, ℕ, ◌+◌, ◌<◌, ◌≤◌, Bool, List, ◌∷◌, ◌++◌, Option, None, sum_by, if◌then◌else◌}
+use Rattle.quick_cache_model.specs.CacheState.{CacheState, Item, LoadingEntry, Place, items_at, IsValid, UpToOrder}
 use Rattle.quick_cache_model.specs.Hooks.{Rules, HookCall}
 use Rattle.quick_cache_model.specs.Finding.{HasNothing}
 use Rattle.quick_cache_model.specs.Eviction.{pinned}

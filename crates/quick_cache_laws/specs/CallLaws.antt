@@ -1,7 +1,6 @@
 -- Laws of the calls of a cache for one thread.
 use Rattle.std.specs.Prelude.{◌≡◌, ℕ, ◌<◌, ◌≤◌, Bool, true, List, [], Option, Some, None}
 use Rattle.quick_cache_model.specs.declared.refusal.Refusal.{Refusal}
-use Rattle.quick_cache_model.specs.declared.refusal.Refusal.TheVariants.{Memory}
 use Rattle.quick_cache_model.specs.Admission.{PassesCheck}
 use Rattle.quick_cache_model.specs.CacheState.{CacheState, IsValid, SameButOrder}
 use Rattle.quick_cache_model.specs.Finding.{HasNothing}
@@ -10,33 +9,29 @@ use Rattle.quick_cache_model.specs.Sizes.{IsSized}
 use Rattle.quick_cache_laws.specs.Admitted.{unpinned_weight, HoldsPair}
 use Rattle.quick_cache_laws.specs.Steps.{Steps}
 use Rattle.quick_cache_model.specs.declared.calls.call.Call.{Call}
-use Rattle.quick_cache_model.specs.declared.calls.call.Call.TheVariants.{Insert, Replace, Remove, Retain}
-use Rattle.quick_cache_model.specs.declared.calls.call.Call.TheVariants.{Load, Guarded, GuardedMut}
 use Rattle.quick_cache_model.specs.declared.calls.reply.Reply.{Reply}
-use Rattle.quick_cache_model.specs.declared.calls.reply.Reply.TheVariants.{Done, RefusedPair, Pair}
-use Rattle.quick_cache_model.specs.declared.calls.reply.Reply.TheVariants.{Loaded, Filled, Refused}
 use Rattle.quick_cache_model.specs.CacheRun.{CacheRun}
 use Rattle.quick_cache_model.specs.CacheStep.{CacheStep}
 use Rattle.quick_cache_model.specs.Kinds.{IsLook, IsLoad, MakesRoom}
 
 -- a call that writes this pair
 pub data IsWrite {K V F : Type 0} (key : K) (value : V) : Call K V F → Type 0 where
-  insert : IsWrite key value (Insert key value)
-  replace : (soft : Bool) → IsWrite key value (Replace key value soft)
+  insert : IsWrite key value (Call.Insert key value)
+  replace : (soft : Bool) → IsWrite key value (Call.Replace key value soft)
 
 -- A call under this key whose loader or guard gave this value to a fill, with its reply. A value
 -- that is then written through a reference may weigh anything, so a call that writes one is none.
 pub data IsFill {K V F M : Type 0} (key : K) (value : V) : Call K V F → Reply K V M → Type 0 where
-  loaded : (there : Bool) → IsFill key value (Load key (Some value)) (Loaded there)
-  filled : IsFill key value (Guarded key (Some value)) Filled
-  filled_mut : (left : V) → IsFill key value (GuardedMut key (Some value) left) Filled
+  loaded : (there : Bool) → IsFill key value (Call.Load key (Some value)) (Reply.Loaded there)
+  filled : IsFill key value (Call.Guarded key (Some value)) Reply.Filled
+  filled_mut : (left : V) → IsFill key value (Call.GuardedMut key (Some value) left) Reply.Filled
 
 -- A call that may be refused, and why: a look, for its clone; a call that makes room, for that; and
 -- a call that loads, for anything.
 pub data IsRefusable {K V F : Type 0} (refusal : Refusal) : Call K V F → Type 0 where
-  look : (call : Call K V F) (key : K) → IsLook key call → refusal ≡ Memory
+  look : (call : Call K V F) (key : K) → IsLook key call → refusal ≡ Refusal.Memory
       → IsRefusable refusal call
-  room : (call : Call K V F) → MakesRoom call → refusal ≡ Memory → IsRefusable refusal call
+  room : (call : Call K V F) → MakesRoom call → refusal ≡ Refusal.Memory → IsRefusable refusal call
   load : (call : Call K V F) (key : K) (given left : Option V) → IsLoad key given left call
       → IsRefusable refusal call
 
@@ -62,7 +57,7 @@ module _ (K V F M : Type 0) (equal : K → K → Bool) (shows_key : K → K → 
   abbrev pub DoneWritesStayWithinCapacity : Type 0
   DoneWritesStayWithinCapacity = WhateverCalls (λ rules answers. (old new : CacheState K V)
       (call : Call K V F) (key : K) (value left : V) (calls : List (HookCall K V))
-      → IsWrite key value call → IsStep rules answers old call Done calls new
+      → IsWrite key value call → IsStep rules answers old call Reply.Done calls new
       → PassesCheck rules old.hot_target key value calls left → old.hot_target ≤ old.capacity
       → unpinned_weight rules new ≤ new.capacity)
 
@@ -83,36 +78,36 @@ module _ (K V F M : Type 0) (equal : K → K → Bool) (shows_key : K → K → 
   DoneInsertsAreResident = WhateverCalls (λ rules answers. (old new : CacheState K V)
       (key : K) (value left : V) (calls : List (HookCall K V))
       → HasNothing (equal key) (rules.hash key) old
-      → IsStep rules answers old (Insert key value) Done calls new
+      → IsStep rules answers old (Call.Insert key value) Reply.Done calls new
       → PassesCheck rules old.hot_target key value calls left → HoldsPair key left new)
 
   -- a key that was removed is not there to be removed again
   abbrev pub SecondRemovesGiveNothing : Type 0
   SecondRemovesGiveNothing = WhateverCalls (λ rules answers. (old mid new : CacheState K V)
       (key : K) (first second : Reply K V M) (calls more : List (HookCall K V))
-      → IsValid equal old → IsStep rules answers old (Remove key) first calls mid
-      → IsStep rules answers mid (Remove key) second more new → second ≡ Pair None)
+      → IsValid equal old → IsStep rules answers old (Call.Remove key) first calls mid
+      → IsStep rules answers mid (Call.Remove key) second more new → second ≡ Reply.Pair None)
 
   -- a second retain by the same predicate removes nothing
   abbrev pub SecondRetainsRemoveNothing : Type 0
   SecondRetainsRemoveNothing = WhateverCalls (λ rules answers. (old mid new : CacheState K V)
       (keep : F) (first second : Reply K V M) (calls more : List (HookCall K V))
-      → IsStep rules answers old (Retain keep) first calls mid
-      → IsStep rules answers mid (Retain keep) second more new → SameButOrder mid new)
+      → IsStep rules answers old (Call.Retain keep) first calls mid
+      → IsStep rules answers mid (Call.Retain keep) second more new → SameButOrder mid new)
 
   -- a call that is refused changes nothing and calls no hook, and only some calls ever are
   abbrev pub RefusedCallsChangeNothing : Type 0
   RefusedCallsChangeNothing = WhateverCalls (λ rules answers. (old new : CacheState K V)
       (call : Call K V F) (refusal : Refusal) (calls : List (HookCall K V))
-      → IsStep rules answers old call (Refused refusal) calls new
+      → IsStep rules answers old call (Reply.Refused refusal) calls new
       → IsRefusable refusal call × (new ≡ old) × (calls ≡ []))
 
   -- so does an insert whose pair comes back: it is the pair that was handed in
   abbrev pub RefusedInsertsChangeNothing : Type 0
   RefusedInsertsChangeNothing = WhateverCalls (λ rules answers. (old new : CacheState K V)
       (call : Call K V F) (key : K) (value : V) (refusal : Refusal) (calls : List (HookCall K V))
-      → IsStep rules answers old call (RefusedPair key value refusal) calls new
-      → (call ≡ Insert key value) × (new ≡ old) × (calls ≡ []))
+      → IsStep rules answers old call (Reply.RefusedPair key value refusal) calls new
+      → (call ≡ Call.Insert key value) × (new ≡ old) × (calls ≡ []))
 
   -- a run of calls is a list of steps
   abbrev pub RunsAreSteps : Type 0

@@ -1,22 +1,18 @@
 -- Laws of the definitions, and the words in which they are stated.
-use Rattle.std.specs.Prelude.{◌≡◌, ℕ, ◌+◌, ◌*◌, ◌<◌, ◌≤◌, ◌⊎◌, Bool, true, List}
-use Rattle.std.specs.Prelude.{[], ◌++◌, Option, None, length, count_by}
+use Rattle.std.specs.Prelude.{◌≡◌, ℕ, ◌+◌, ◌*◌, ◌<◌, ◌≤◌, ◌⊎◌, Bool, true, List, [], ◌++◌, Option, None, length, count_by}
 use Rattle.std.specs.List.{AllByRecursion}
-use Rattle.quick_cache_model.specs.CacheState.{CacheState, Item, Place, empty_state, keys_by}
-use Rattle.quick_cache_model.specs.CacheState.{total_weight, IsValid, SameButOrder, UpToOrder}
+use Rattle.quick_cache_model.specs.CacheState.{CacheState, Item, Place, empty_state, keys_by, total_weight, IsValid, SameButOrder}
+use Rattle.quick_cache_model.specs.CacheState.{UpToOrder}
 use Rattle.quick_cache_model.specs.Hooks.{Rules, HookCall, BeforeEvict, EvictHot, EvictCold, Hooks}
 use Rattle.quick_cache_model.specs.Finding.{Found, IsItemAt, HasNoItem, Finds}
 use Rattle.quick_cache_model.specs.Eviction.{AdvancesCold, EvictsToCapacity}
 use Rattle.quick_cache_model.specs.Writes.{Strategy, Writes}
-use Rattle.quick_cache_model.specs.Placeholders.{MakesPlaceholder, MeetsPlaceholder}
-use Rattle.quick_cache_model.specs.Placeholders.{FillsPlaceholder, GivesUpPlaceholder}
+use Rattle.quick_cache_model.specs.Placeholders.{MakesPlaceholder, MeetsPlaceholder, FillsPlaceholder, GivesUpPlaceholder}
 use Rattle.quick_cache_model.specs.Lookups.{Sees, LooksUp}
 use Rattle.quick_cache_model.specs.Removal.{Removes, RemovesIf, Retains, cleared}
-use Rattle.quick_cache_model.specs.Entries.{EntryChoice, ReplaceWithGuard, ActsOnEntry}
-use Rattle.quick_cache_model.specs.Entries.{EntryOutcome, Refused, outcome_of}
+use Rattle.quick_cache_model.specs.Entries.{EntryChoice, ReplaceWithGuard, ActsOnEntry, EntryOutcome, Refused, outcome_of}
 use Rattle.quick_cache_model.specs.Refusals.{HasTicket, last_ticket}
 use Rattle.quick_cache_model.specs.declared.refusal.Refusal.{Refusal}
-use Rattle.quick_cache_model.specs.declared.refusal.Refusal.TheVariants.{Memory, TicketsSpent}
 use Rattle.quick_cache_model.specs.Capacity.{SetsCapacity}
 use Rattle.quick_cache_model.specs.Sizes.{IsSized}
 
@@ -237,7 +233,7 @@ module _ (K V : Type 0) where
       (stands_for : K → Bool) (old : CacheState K V) (item : Item K V)
       (left : V) (choice : EntryChoice) (refusal : Refusal) (new : CacheState K V)
       → ActsOnEntry rules stands_for old item left choice (Refused refusal) new → HasTicket old
-      → refusal ≡ Memory)
+      → refusal ≡ Refusal.Memory)
 
   -- once the tickets are spent, no entry call replaces
   abbrev pub EntriesAreRefusedForTickets : (ℕ → Type 0) → Type 0
@@ -246,7 +242,7 @@ module _ (K V : Type 0) where
       (stands_for : K → Bool) (old : CacheState K V) (item : Item K V)
       (left : V) (outcome : EntryOutcome) (new : CacheState K V)
       → ActsOnEntry rules stands_for old item left ReplaceWithGuard outcome new
-      → last_ticket ≤ old.next_ticket → outcome ≡ Refused TicketsSpent)
+      → last_ticket ≤ old.next_ticket → outcome ≡ Refused Refusal.TicketsSpent)
 
   -- the capacity can be set in every state
   abbrev pub CapacitiesCanBeSet : (ℕ → Type 0) → Type 0

@@ -5,8 +5,7 @@ use Rattle.quick_cache_model.specs.Hooks.{Rules, HookCall}
 use Rattle.quick_cache_model.specs.declared.calls.call.Call.{Call}
 use Rattle.quick_cache_model.specs.declared.calls.reply.Reply.{Reply}
 use Rattle.quick_cache_model.specs.CacheRun.{CacheRun}
-use Rattle.quick_cache_laws.specs.Scans.{AtEachTurn, IsReadyForScan, IsScanCall, KeepsHot}
-use Rattle.quick_cache_laws.specs.Scans.{ScansRings, AreFresh}
+use Rattle.quick_cache_laws.specs.Scans.{AtEachTurn, IsReadyForScan, IsScanCall, KeepsHot, ScansRings, AreFresh}
 
 module _ (K V F M : Type 0) (equal : K → K → Bool) (shows_key : K → K → Type 0)
     (shows : V → V → Type 0) where

@@ -1,9 +1,8 @@
 -- Scans: calls that ask for keys once, as a walk through a long table does. What such a call is,
 -- and what it does to the rings.
-use Rattle.std.specs.Prelude.{◌≡◌, ◌≢◌, ◌==◌, ℕ, ◌+◌, ◌<◌, ◌≤◌, Bool, false, List, [], ◌∷◌, ◌++◌}
-use Rattle.std.specs.Prelude.{map}
+use Rattle.std.specs.Prelude.{◌≡◌, ◌≢◌, ◌==◌, ℕ, ◌+◌, ◌<◌, ◌≤◌, Bool, false, List, [], ◌∷◌, ◌++◌, map}
 use Rattle.std.specs.List.{AllByRecursion}
-use Rattle.quick_cache_model.specs.declared.queue.Queue.TheVariants.{Cold}
+use Rattle.quick_cache_model.specs.declared.queue.Queue.{Queue}
 use Rattle.quick_cache_model.specs.declared.refusal.Refusal.{Refusal}
 use Rattle.quick_cache_model.specs.CacheState.{CacheState, Item, entered, hot_weight, total_weight}
 use Rattle.quick_cache_model.specs.Eviction.{pinned}
@@ -11,9 +10,7 @@ use Rattle.quick_cache_model.specs.Finding.{HasNothing}
 use Rattle.quick_cache_model.specs.Hooks.{Rules, HookCall}
 use Rattle.quick_cache_model.specs.Writes.{new_item, queue_for}
 use Rattle.quick_cache_model.specs.declared.calls.call.Call.{Call}
-use Rattle.quick_cache_model.specs.declared.calls.call.Call.TheVariants.{Insert, Get}
 use Rattle.quick_cache_model.specs.declared.calls.reply.Reply.{Reply}
-use Rattle.quick_cache_model.specs.declared.calls.reply.Reply.TheVariants.{Done, RefusedPair}
 use Rattle.quick_cache_model.specs.CacheRun.{CacheRun}
 
 module _ {K V F M : Type 0} (rules : Rules K V) (equal : K → K → Bool)
@@ -45,12 +42,12 @@ module _ {K V : Type 0} (rules : Rules K V) where
   pub data IsScanCall {F : Type 0} (equal : K → K → Bool) (state : CacheState K V)
       : Call K V F → Type 0 where
     gets : (key : K) → AllByRecursion (λ item. equal key item.key ≡ false) state.cold
-        → IsScanCall equal state (Get key)
+        → IsScanCall equal state (Call.Get key)
     inserts : (key : K) (value : V) → HasNothing (equal key) (rules.hash key) state
         → rules.pinned key value ≡ false
         → rules.weight key value ≤ state.hot_target
         → state.hot_target + rules.weight key value ≤ state.capacity
-        → IsScanCall equal state (Insert key value)
+        → IsScanCall equal state (Call.Insert key value)
 
 module _ {K V : Type 0} where
   -- the item, but for how often it was used
@@ -78,7 +75,7 @@ module _ {K V : Type 0} (rules : Rules K V) where
   -- has room within the target, and unmarked
   abbrev pub joined_behind : K → V → CacheState K V → (rest : List (Item K V)) → CacheState K V
   joined_behind key value old rest =
-      entered (new_item rules key value (queue_for rules old key value Cold) 0)
+      entered (new_item rules key value (queue_for rules old key value Queue.Cold) 0)
       (record old { cold = rest })
 
   -- The shortest front that makes room for the pair left the cold ring, and then the pair was put
@@ -96,11 +93,12 @@ module _ {K V : Type 0} (rules : Rules K V) where
       → CacheState K V → Type 0 where
     gets : (key : K) (reply : Reply K V M) (new : CacheState K V)
         → map unused new.hot ≡ map unused old.hot → new.cold ≡ old.cold
-        → ScansRings old (Get key) reply new
+        → ScansRings old (Call.Get key) reply new
     inserts : (key : K) (value : V) (new : CacheState K V)
-        → TakesShortestFront key value old new → ScansRings old (Insert key value) Done new
+        → TakesShortestFront key value old new
+        → ScansRings old (Call.Insert key value) Reply.Done new
     refuses : (key : K) (value : V) (refusal : Refusal)
-        → ScansRings old (Insert key value) (RefusedPair key value refusal) old
+        → ScansRings old (Call.Insert key value) (Reply.RefusedPair key value refusal) old
 
 module _ {K V : Type 0} (rules : Rules K V) where
   -- nothing in the state has the hash: no item, no placeholder and no ghost
@@ -109,8 +107,8 @@ module _ {K V : Type 0} (rules : Rules K V) where
 
   -- a look-up or an insert of a key that has another hash
   pub data IsApart {F : Type 0} (hash : ℕ) : Call K V F → Type 0 where
-    gets : (key : K) → rules.hash key ≢ hash → IsApart hash (Get key)
-    inserts : (key : K) (value : V) → rules.hash key ≢ hash → IsApart hash (Insert key value)
+    gets : (key : K) → rules.hash key ≢ hash → IsApart hash (Call.Get key)
+    inserts : (key : K) (value : V) → rules.hash key ≢ hash → IsApart hash (Call.Insert key value)
 
   -- What makes a list of calls a scan, by the state that it begins with alone: look-ups of keys
   -- whose hashes no item of the cold ring has, and inserts of keys whose hashes nothing has, each
@@ -119,10 +117,10 @@ module _ {K V : Type 0} (rules : Rules K V) where
     none : AreFresh state []
     gets : (key : K) (calls : List (Call K V F))
         → AllByRecursion (λ item. rules.hash item.key ≢ rules.hash key) state.cold
-        → AreFresh state calls → AreFresh state (Get key ∷ calls)
+        → AreFresh state calls → AreFresh state (Call.Get key ∷ calls)
     inserts : (key : K) (value : V) (calls : List (Call K V F))
         → HasNoHash (rules.hash key) state → rules.pinned key value ≡ false
         → rules.weight key value ≤ state.hot_target
         → state.hot_target + rules.weight key value ≤ state.capacity
         → AllByRecursion (IsApart (rules.hash key)) calls
-        → AreFresh state calls → AreFresh state (Insert key value ∷ calls)
+        → AreFresh state calls → AreFresh state (Call.Insert key value ∷ calls)

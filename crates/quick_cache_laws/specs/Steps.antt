@@ -1,13 +1,11 @@
 -- A step of a cache is one call of any kind. What holds over any list of steps.
 use Rattle.std.specs.Prelude.{◌≡◌, ℕ, Bool, List, Option}
-use Rattle.quick_cache_model.specs.CacheState.{CacheState, Item, LoadingEntry, Place, IsValid}
-use Rattle.quick_cache_model.specs.CacheState.{empty_state, SameButOrder}
+use Rattle.quick_cache_model.specs.CacheState.{CacheState, Item, LoadingEntry, Place, IsValid, empty_state, SameButOrder}
 use Rattle.quick_cache_model.specs.Hooks.{Rules, HookCall}
 use Rattle.quick_cache_model.specs.Finding.{IsItemAt}
 use Rattle.quick_cache_model.specs.Writes.{Strategy, Writes}
-use Rattle.quick_cache_model.specs.Placeholders.{MakesPlaceholder, MeetsPlaceholder}
-use Rattle.quick_cache_model.specs.Placeholders.{FillsPlaceholder, GivesUpPlaceholder}
-use Rattle.quick_cache_model.specs.Placeholders.{IsLoadingTicket, HasNoTicket}
+use Rattle.quick_cache_model.specs.Placeholders.{MakesPlaceholder, MeetsPlaceholder, FillsPlaceholder, GivesUpPlaceholder, IsLoadingTicket}
+use Rattle.quick_cache_model.specs.Placeholders.{HasNoTicket}
 use Rattle.quick_cache_model.specs.Lookups.{LooksUp}
 use Rattle.quick_cache_model.specs.Removal.{Removes, RemovesIf, Retains, Drains, reweighed}
 use Rattle.quick_cache_model.specs.Entries.{EntryChoice, EntryOutcome, ActsOnEntry}

@@ -1,14 +1,8 @@
 //! Laws of calls: each function does nothing, and its contract is a theorem about words of
 //! `specs/`.
-ghost use Rattle.quick_cache_laws.specs.CallLaws.{DoneFillsStayWithinCapacity};
-ghost use Rattle.quick_cache_laws.specs.CallLaws.{DoneInsertsAreResident};
-ghost use Rattle.quick_cache_laws.specs.CallLaws.{DoneWritesStayWithinCapacity};
-ghost use Rattle.quick_cache_laws.specs.CallLaws.{RefusedCallsChangeNothing};
-ghost use Rattle.quick_cache_laws.specs.CallLaws.{RefusedInsertsChangeNothing};
-ghost use Rattle.quick_cache_laws.specs.CallLaws.{RunsAreSteps, RunsStayValid};
-ghost use Rattle.quick_cache_laws.specs.CallLaws.{RunsStaySized};
-ghost use Rattle.quick_cache_laws.specs.CallLaws.{SecondRemovesGiveNothing};
-ghost use Rattle.quick_cache_laws.specs.CallLaws.{SecondRetainsRemoveNothing};
+ghost use Rattle.quick_cache_laws.specs.CallLaws.{DoneFillsStayWithinCapacity, DoneInsertsAreResident, DoneWritesStayWithinCapacity};
+ghost use Rattle.quick_cache_laws.specs.CallLaws.{RefusedCallsChangeNothing, RefusedInsertsChangeNothing, RunsAreSteps, RunsStayValid};
+ghost use Rattle.quick_cache_laws.specs.CallLaws.{RunsStaySized, SecondRemovesGiveNothing, SecondRetainsRemoveNothing};
 ghost use Rattle.quick_cache_laws.specs.Victims.{PinnedPairsAreNoVictims};
 
 use crate::laws::{fill_law, removal_law, size_law, valid_law, write_law};

@@ -1,33 +1,20 @@
 //! Laws of the definitions: each function does nothing, and its contract is a theorem about words
 //! of `specs/`. What a count of touches may be is the type parameter's, so that a law speaks of
 //! the very rules of a contract.
-ghost use Rattle.quick_cache_laws.specs.Admitted.{FillsStayWithinCapacity, InsertedPairsAreKept};
-ghost use Rattle.quick_cache_laws.specs.Admitted.{WritesStayWithinCapacity};
-ghost use Rattle.quick_cache_laws.specs.Steps.{NewCachesAreSized, NewWeightsStayValid};
-ghost use Rattle.quick_cache_laws.specs.Steps.{StepsStaySized, StepsStayValid};
-ghost use Rattle.quick_cache_laws.specs.Steps.{TicketsNeverReturn};
+ghost use Rattle.quick_cache_laws.specs.Admitted.{FillsStayWithinCapacity, InsertedPairsAreKept, WritesStayWithinCapacity};
+ghost use Rattle.quick_cache_laws.specs.Steps.{NewCachesAreSized, NewWeightsStayValid, StepsStaySized, StepsStayValid, TicketsNeverReturn};
 ghost use Rattle.quick_cache_laws.specs.Steps.{StepsKeepTheCut};
-ghost use Rattle.quick_cache_laws.specs.Laws.{AdvancesLowerTheMeasure, CapacitiesCanBeSet};
-ghost use Rattle.quick_cache_laws.specs.Laws.{CapacitiesStayValid, EmptiedCachesAreValid};
-ghost use Rattle.quick_cache_laws.specs.Laws.{EntriesAreRefusedForMemory};
-ghost use Rattle.quick_cache_laws.specs.Laws.{EntriesAreRefusedForTickets};
-ghost use Rattle.quick_cache_laws.specs.Laws.{EntriesCanBeActedOn, EntriesStayValid};
-ghost use Rattle.quick_cache_laws.specs.Laws.{EvictionBringsNoKey, EvictionEnds};
-ghost use Rattle.quick_cache_laws.specs.Laws.{EvictionIsDetermined, EvictionMakesRoom};
-ghost use Rattle.quick_cache_laws.specs.Laws.{FillsStayValid, GiveUpsStayValid};
-ghost use Rattle.quick_cache_laws.specs.Laws.{LoneCapacitiesAreShared, LoneFillsAreShared};
-ghost use Rattle.quick_cache_laws.specs.Laws.{LoneWritesAreShared, LooksShowTheSame};
-ghost use Rattle.quick_cache_laws.specs.Laws.{LookupsCanBeMade, LookupsStayValid};
-ghost use Rattle.quick_cache_laws.specs.Laws.{MeetingsStayValid, NewCachesAreValid};
-ghost use Rattle.quick_cache_laws.specs.Laws.{OtherOrdersAreValid, PinnedPairsStay};
-ghost use Rattle.quick_cache_laws.specs.Laws.{PlaceholdersCanBeFilled, PlaceholdersCanBeTaken};
-ghost use Rattle.quick_cache_laws.specs.Laws.{PlaceholdersStayValid, PresentCapacityChangesNothing};
-ghost use Rattle.quick_cache_laws.specs.Laws.{PresentCapacityKeepsSizes, QueriesFindSomething};
-ghost use Rattle.quick_cache_laws.specs.Laws.{QueriesHaveOneEntry, RemovalsByTestStayValid};
-ghost use Rattle.quick_cache_laws.specs.Laws.{RemovalsCanBeMade, RemovalsStayValid};
-ghost use Rattle.quick_cache_laws.specs.Laws.{RetainsStayValid, SecondRemovalsFindNothing};
-ghost use Rattle.quick_cache_laws.specs.Laws.{SecondRetainsRemoveNothing, WeightlessItemsStay};
-ghost use Rattle.quick_cache_laws.specs.Laws.{WritesCanBeMade, WritesStayValid};
+ghost use Rattle.quick_cache_laws.specs.Laws.{AdvancesLowerTheMeasure, CapacitiesCanBeSet, CapacitiesStayValid, EmptiedCachesAreValid};
+ghost use Rattle.quick_cache_laws.specs.Laws.{EntriesAreRefusedForMemory, EntriesAreRefusedForTickets, EntriesCanBeActedOn};
+ghost use Rattle.quick_cache_laws.specs.Laws.{EntriesStayValid, EvictionBringsNoKey, EvictionEnds, EvictionIsDetermined, EvictionMakesRoom};
+ghost use Rattle.quick_cache_laws.specs.Laws.{FillsStayValid, GiveUpsStayValid, LoneCapacitiesAreShared, LoneFillsAreShared};
+ghost use Rattle.quick_cache_laws.specs.Laws.{LoneWritesAreShared, LooksShowTheSame, LookupsCanBeMade, LookupsStayValid, MeetingsStayValid};
+ghost use Rattle.quick_cache_laws.specs.Laws.{NewCachesAreValid, OtherOrdersAreValid, PinnedPairsStay, PlaceholdersCanBeFilled};
+ghost use Rattle.quick_cache_laws.specs.Laws.{PlaceholdersCanBeTaken, PlaceholdersStayValid, PresentCapacityChangesNothing};
+ghost use Rattle.quick_cache_laws.specs.Laws.{PresentCapacityKeepsSizes, QueriesFindSomething, QueriesHaveOneEntry};
+ghost use Rattle.quick_cache_laws.specs.Laws.{RemovalsByTestStayValid, RemovalsCanBeMade, RemovalsStayValid, RetainsStayValid};
+ghost use Rattle.quick_cache_laws.specs.Laws.{SecondRemovalsFindNothing, SecondRetainsRemoveNothing, WeightlessItemsStay, WritesCanBeMade};
+ghost use Rattle.quick_cache_laws.specs.Laws.{WritesStayValid};
 
 use quick_cache_model::Touches;
 

@@ -1,6 +1,5 @@
 //! Laws of scans: the function does nothing, and its contract is a theorem about words of `specs/`.
-ghost use Rattle.quick_cache_laws.specs.ScanLaws.{FreshCallsAreScans, ScansKeepHot};
-ghost use Rattle.quick_cache_laws.specs.ScanLaws.{ScansStayReady, ScansTakeFronts};
+ghost use Rattle.quick_cache_laws.specs.ScanLaws.{FreshCallsAreScans, ScansKeepHot, ScansStayReady, ScansTakeFronts};
 
 use std::alloc::Allocator;
 

@@ -1,14 +1,11 @@
 -- What the hooks of victims and of writes tell.
 use Rattle.std.proofs.Common.{◌≡◌, ℕ, Bool, List, [], ◌∷◌, ◌++◌, refl, ap}
 use Rattle.quick_cache_model.specs.declared.queue.Queue.{Queue}
-use Rattle.quick_cache_model.specs.declared.queue.Queue.TheVariants.{Hot, Cold}
 use Rattle.quick_cache_model.specs.CacheState.{CacheState, Item}
 use Rattle.quick_cache_model.specs.Hooks.{Rules, HookCall, BeforeEvict, evicted}
-use Rattle.quick_cache_model.specs.Eviction.{EvictsVictim, AdvancesHot, EvictsToTarget}
-use Rattle.quick_cache_model.specs.Eviction.{AdvancesCold, EvictsToCapacity}
+use Rattle.quick_cache_model.specs.Eviction.{EvictsVictim, AdvancesHot, EvictsToTarget, AdvancesCold, EvictsToCapacity}
 use Rattle.quick_cache_listeners.specs.declared.causes.cause.Stage.{Stage}
-use Rattle.quick_cache_listeners.specs.declared.causes.cause.Stage.TheVariants.{Armed, Told}
-use Rattle.quick_cache_listeners.specs.declared.causes.cause.Cause.TheVariants.{EvictedHot, EvictedCold}
+use Rattle.quick_cache_listeners.specs.declared.causes.cause.Cause.{Cause}
 use Rattle.quick_cache_listeners.specs.Causes.{told, evictions}
 
 -- the calls of victims, one after another
@@ -26,22 +23,22 @@ module _ {K V : Type 0} where
   AreEvictions-append _ rest AreEvictions.none then = then
   AreEvictions-append _ rest (AreEvictions.stays key value left more are) then =
       AreEvictions.stays key value left (more ++ rest) (AreEvictions-append more rest are then)
-  AreEvictions-append _ rest (AreEvictions.leaves Hot key value left more are) then =
-      AreEvictions.leaves Hot key value left (more ++ rest)
+  AreEvictions-append _ rest (AreEvictions.leaves Queue.Hot key value left more are) then =
+      AreEvictions.leaves Queue.Hot key value left (more ++ rest)
       (AreEvictions-append more rest are then)
-  AreEvictions-append _ rest (AreEvictions.leaves Cold key value left more are) then =
-      AreEvictions.leaves Cold key value left (more ++ rest)
+  AreEvictions-append _ rest (AreEvictions.leaves Queue.Cold key value left more are) then =
+      AreEvictions.leaves Queue.Cold key value left (more ++ rest)
       (AreEvictions-append more rest are then)
 
   pub AreEvictions-told : (stage : Stage) (calls : List (HookCall K V)) → AreEvictions calls
       → told stage calls ≡ evictions calls
   AreEvictions-told stage _ AreEvictions.none = refl
   AreEvictions-told stage _ (AreEvictions.stays key value left rest are) =
-      AreEvictions-told Armed rest are
-  AreEvictions-told stage _ (AreEvictions.leaves Hot key value left rest are) =
-      ap (λ more. (key, left, EvictedHot) ∷ more) (AreEvictions-told Told rest are)
-  AreEvictions-told stage _ (AreEvictions.leaves Cold key value left rest are) =
-      ap (λ more. (key, left, EvictedCold) ∷ more) (AreEvictions-told Told rest are)
+      AreEvictions-told Stage.Armed rest are
+  AreEvictions-told stage _ (AreEvictions.leaves Queue.Hot key value left rest are) =
+      ap (λ more. (key, left, Cause.EvictedHot) ∷ more) (AreEvictions-told Stage.Told rest are)
+  AreEvictions-told stage _ (AreEvictions.leaves Queue.Cold key value left rest are) =
+      ap (λ more. (key, left, Cause.EvictedCold) ∷ more) (AreEvictions-told Stage.Told rest are)
 
 module _ {K V : Type 0} (rules : Rules K V) where
   EvictsVictim-evictions : (queue : Queue) (old new : CacheState K V) (item : Item K V)
@@ -56,7 +53,7 @@ module _ {K V : Type 0} (rules : Rules K V) where
       → AdvancesHot rules old answer calls new → AreEvictions calls
   AdvancesHot-evictions old _ _ _ (AdvancesHot.all_pinned hot raised pinned) = AreEvictions.none
   AdvancesHot-evictions old _ _ _ (AdvancesHot.evicts hot before item after calls new raised split
-      first evicts) = EvictsVictim-evictions Hot _ new _ calls evicts
+      first evicts) = EvictsVictim-evictions Queue.Hot _ new _ calls evicts
 
   EvictsToTarget-evictions : (old new : CacheState K V) (calls : List (HookCall K V))
       → EvictsToTarget rules old calls new → AreEvictions calls
@@ -73,7 +70,7 @@ module _ {K V : Type 0} (rules : Rules K V) where
   AdvancesCold-evictions old _ _ _ (AdvancesCold.promotes cold before item after calls new raised
       split passed marked goes) = EvictsToTarget-evictions _ new calls goes
   AdvancesCold-evictions old _ _ _ (AdvancesCold.evicts cold before item after calls new raised split
-      passed unmarked unpinned evicts) = EvictsVictim-evictions Cold _ new _ calls evicts
+      passed unmarked unpinned evicts) = EvictsVictim-evictions Queue.Cold _ new _ calls evicts
   AdvancesCold-evictions old _ _ _ (AdvancesCold.passes_all cold answer calls new raised passed
       advances) = AdvancesHot-evictions _ new answer calls advances
 

@@ -1,14 +1,13 @@
 -- Laws of the causes.
 use Rattle.std.specs.Prelude.{◌≡◌, ℕ, ◌≤◌, ◌⊎◌, Bool, true, List, Option}
 use Rattle.std.specs.List.{AllZip, FoldsTo}
-use Rattle.quick_cache_model.specs.declared.queue.Queue.TheVariants.{Hot, Cold}
+use Rattle.quick_cache_model.specs.declared.queue.Queue.{Queue}
 use Rattle.quick_cache_model.specs.CacheState.{CacheState}
 use Rattle.quick_cache_model.specs.Hooks.{Rules, HookCall, Hooks, RunsHooks}
 use Rattle.quick_cache_model.specs.Eviction.{EvictsToCapacity}
 use Rattle.quick_cache_model.specs.Writes.{Strategy, Writes}
 use Rattle.quick_cache_listeners.specs.declared.causes.cause.Cause.{Cause}
 use Rattle.quick_cache_listeners.specs.declared.causes.cause.Stage.{Stage}
-use Rattle.quick_cache_listeners.specs.declared.causes.cause.Stage.TheVariants.{Fresh}
 use Rattle.quick_cache_listeners.specs.declared.causes.listener.Request.{Request}
 use Rattle.quick_cache_listeners.specs.Causes.{told, evictions, truth_of, MayMean}
 use Rattle.quick_cache_listeners.specs.Requests.{Arms, TellsWhy}
@@ -36,7 +35,7 @@ module _ (K V : Type 0) (may_count : ℕ → Type 0) where
       (writes : Writes (rules_of may_count hash weight pinned) equal_to key strategy old value calls
       answer new)
       → (weight key value ≤ old.hot_target) ⊎ (pinned key value ≡ true)
-      → told Fresh calls
+      → told Stage.Fresh calls
       ≡ truth_of (rules_of may_count hash weight pinned) equal_to key strategy old value calls answer
       new writes
 
@@ -48,7 +47,7 @@ module _ (K V : Type 0) (may_count : ℕ → Type 0) where
       (new : CacheState K V)
       (writes : Writes (rules_of may_count hash weight pinned) equal_to key strategy old value calls
       answer new)
-      → AllZip MayMean (told Fresh calls)
+      → AllZip MayMean (told Stage.Fresh calls)
       (truth_of (rules_of may_count hash weight pinned) equal_to key strategy old value calls answer
       new writes)
 
@@ -56,8 +55,8 @@ module _ (K V : Type 0) (may_count : ℕ → Type 0) where
 abbrev pub hooks_why : {K V S : Type 0} → (S → K → V → Cause → S → Type 0) → Hooks K V (Request S)
 hooks_why tells = record {
   before_evict = λ old _ value new left. Arms old value new left;
-  evict_hot = TellsWhy tells Hot;
-  evict_cold = TellsWhy tells Cold;
+  evict_hot = TellsWhy tells Queue.Hot;
+  evict_cold = TellsWhy tells Queue.Cold;
 }
 
 -- the listener is told what the calls tell

@@ -1,6 +1,5 @@
 -- What a listener keeps of the pairs that leave.
-use Rattle.std.specs.Prelude.{◌≡◌, ℕ, ◌-◌, List, [], ◌∷◌, ◌++◌, Option, Some, None, Vec, vec_len}
-use Rattle.std.specs.Prelude.{vec_capacity}
+use Rattle.std.specs.Prelude.{◌≡◌, ℕ, ◌-◌, List, [], ◌∷◌, ◌++◌, Option, Some, None, Vec, vec_len, vec_capacity}
 use Rattle.quick_cache_model.specs.Touches.{counted_up}
 
 -- The pairs in the order in which they left, if there is a list for them; for how many more the list

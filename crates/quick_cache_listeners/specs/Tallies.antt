@@ -3,9 +3,7 @@ use Rattle.std.specs.Prelude.{◌≡◌, ℕ}
 use Rattle.quick_cache_model.specs.declared.queue.Queue.{Queue}
 use Rattle.quick_cache_model.specs.Touches.{counted_up}
 use Rattle.quick_cache_listeners.specs.declared.causes.cause.Cause.{Cause}
-use Rattle.quick_cache_listeners.specs.declared.causes.cause.Cause.TheVariants.{EvictedHot, EvictedCold}
-use Rattle.quick_cache_listeners.specs.declared.causes.cause.Cause.TheVariants.{Replaced, TurnedAway}
-use Rattle.quick_cache_listeners.specs.declared.causes.cause.Stage.TheVariants.{Armed, Told}
+use Rattle.quick_cache_listeners.specs.declared.causes.cause.Stage.{Stage}
 use Rattle.quick_cache_listeners.specs.declared.causes.counted.Counts.{Counts}
 use Rattle.quick_cache_listeners.specs.declared.causes.listener.Request.{Request}
 use Rattle.quick_cache_listeners.specs.declared.causes.tallies.Tallies.{Tallies}
@@ -14,10 +12,10 @@ use Rattle.quick_cache_listeners.specs.Causes.{cause_at}
 
 -- what left for a cause
 abbrev pub tally_of : Cause → Tallies → Tally
-tally_of EvictedHot tallies = tallies.evicted_hot
-tally_of EvictedCold tallies = tallies.evicted_cold
-tally_of Replaced tallies = tallies.replaced
-tally_of TurnedAway tallies = tallies.turned_away
+tally_of Cause.EvictedHot tallies = tallies.evicted_hot
+tally_of Cause.EvictedCold tallies = tallies.evicted_cold
+tally_of Cause.Replaced tallies = tallies.replaced
+tally_of Cause.TurnedAway tallies = tallies.turned_away
 
 -- one pair more, of that weight
 abbrev pub with_pair : (weight : ℕ) → Tally → Tally
@@ -28,12 +26,13 @@ with_pair weight tally = record {
 
 -- it left for that cause
 abbrev pub counted : Cause → (weight : ℕ) → Tallies → Tallies
-counted EvictedHot weight tallies =
+counted Cause.EvictedHot weight tallies =
     record tallies { evicted_hot = with_pair weight tallies.evicted_hot }
-counted EvictedCold weight tallies =
+counted Cause.EvictedCold weight tallies =
     record tallies { evicted_cold = with_pair weight tallies.evicted_cold }
-counted Replaced weight tallies = record tallies { replaced = with_pair weight tallies.replaced }
-counted TurnedAway weight tallies =
+counted Cause.Replaced weight tallies =
+    record tallies { replaced = with_pair weight tallies.replaced }
+counted Cause.TurnedAway weight tallies =
     record tallies { turned_away = with_pair weight tallies.turned_away }
 
 module _ {K V S : Type 0} where
@@ -41,7 +40,7 @@ module _ {K V S : Type 0} where
   abbrev pub ArmsCount : (S → K → V → S → V → Type 0) → Request (Counts S) → K → V
       → Request (Counts S) → V → Type 0
   ArmsCount inner old key value new left =
-      inner old.state.state key value new.state.state left × (new.stage ≡ Armed)
+      inner old.state.state key value new.state.state left × (new.stage ≡ Stage.Armed)
       × (new.state.tallies ≡ old.state.tallies)
 
   -- a pair of that weight left from that ring: it is counted by its cause, and the inner hook is
@@ -49,6 +48,6 @@ module _ {K V S : Type 0} where
   abbrev pub CountsPair : (S → K → V → S → Type 0) → (K → V → ℕ) → Queue → Request (Counts S) → K
       → V → Request (Counts S) → Type 0
   CountsPair inner weight_of queue old key value new =
-      inner old.state.state key value new.state.state × (new.stage ≡ Told)
+      inner old.state.state key value new.state.state × (new.stage ≡ Stage.Told)
       × (new.state.tallies
       ≡ counted (cause_at old.stage queue) (weight_of key value) old.state.tallies)

@@ -4,16 +4,17 @@ use Rattle.std.proofs.lemmas.Bool.Decides.{nat_tests}
 use Rattle.quick_cache_loading.proofs.BoolLemmas.{match_bool, neither}
 use Rattle.quick_cache_loading.specs.Waiting.{has, without_waiter}
 use Rattle.quick_cache_loading.specs.Core.{Life, Loading, Filled, GivenUp, CoreState, core_state, new_core, is_handed_to}
-use Rattle.quick_cache_loading.specs.LoadingStep.{LoadingStep, NotNowOf, Shows, Creates, Adds, Joins, Fills, PassesOn, Abandons, Receives, Remains, Takes, Withdraws, TimesOut, Cancels, Leaves}
+use Rattle.quick_cache_loading.specs.LoadingStep.{LoadingStep, NotNowOf, Shows, Creates, Adds, Joins, Fills, PassesOn, Abandons, Receives}
+use Rattle.quick_cache_loading.specs.LoadingStep.{Remains, Takes, Withdraws, TimesOut, Cancels, Leaves}
 use Rattle.quick_cache_loading.proofs.WhenRowsApply.{applies, NoRowApplies-from}
-use Rattle.quick_cache_loading.specs.LoadingRow.{LoadingRow, ActingRow, AsksForValue, by_joining, by_taking, by_timing_out, acts, no_row_applies, creates, joins, lacks_room, shows_the_value, lacks_a_clone, fills, hands_on, gives_up, receives, waits_on, withdraws, cancels_in_vain, leaves, Releases, abandoning, cancelling, Collects, taking, timing_out, Retires, by_time, by_cancel}
-use Rattle.quick_cache_model.specs.declared.refusal.Refusal.TheVariants.{Memory}
+use Rattle.quick_cache_loading.specs.LoadingRow.{LoadingRow, ActingRow, AsksForValue, by_joining, by_taking, by_timing_out, acts}
+use Rattle.quick_cache_loading.specs.LoadingRow.{no_row_applies, creates, joins, lacks_room, shows_the_value, lacks_a_clone, fills}
+use Rattle.quick_cache_loading.specs.LoadingRow.{hands_on, gives_up, receives, waits_on, withdraws, cancels_in_vain, leaves, Releases}
+use Rattle.quick_cache_loading.specs.LoadingRow.{abandoning, cancelling, Collects, taking, timing_out, Retires, by_time, by_cancel}
+use Rattle.quick_cache_model.specs.declared.refusal.Refusal.{Refusal}
 use Rattle.quick_cache_loading.specs.declared.protocol.life.Holder.{Holder}
-use Rattle.quick_cache_loading.specs.declared.protocol.life.Holder.TheVariants.{Held, HandedTo}
 use Rattle.quick_cache_loading.specs.declared.protocol.events.Event.{Event}
-use Rattle.quick_cache_loading.specs.declared.protocol.events.Event.TheVariants.{Create, Join, Fill, Abandon, Take, TimeOut, Cancel, Leave}
 use Rattle.quick_cache_loading.specs.declared.protocol.events.Answer.{Answer}
-use Rattle.quick_cache_loading.specs.declared.protocol.events.Answer.TheVariants as answer
 
 -- what the test of a joining waiter says
 may_join : (a b c : Bool) → (a && not (b || c)) ≡ true → (a ≡ true) × (b ≡ false) × (c ≡ false)
@@ -38,95 +39,102 @@ module _ {V : Type 0} (shows : V → V → Type 0) where
       → AsksForValue e old → old.life ≡ Filled v
       → Shows shows v old a new → LoadingRow shows e old a new
   shown e v old a new can is (inl p, q) =
-      named (answer.Value p.0) old (shows_the_value e old v p.0 is can p.1) (p.2, q)
+      named (Answer.Value p.0) old (shows_the_value e old v p.0 is can p.1) (p.2, q)
   shown e v old a new can is (inr p, q) =
-      named (answer.Refused Memory) old (lacks_a_clone e old v is can) (p, q)
+      named (Answer.Refused Refusal.Memory) old (lacks_a_clone e old v is can) (p, q)
 
   of_create : (l : Life V) (old : CoreState V) (a : Answer V) (new : CoreState V) → old.life ≡ l
-      → Creates l old a new → LoadingRow shows Create old a new
-  of_create (Loading h ws) old a new is step = idle Create old a new (rw is) step
-  of_create (Filled v) old a new is step = idle Create old a new (rw is) step
+      → Creates l old a new → LoadingRow shows Event.Create old a new
+  of_create (Loading h ws) old a new is step = idle Event.Create old a new (rw is) step
+  of_create (Filled v) old a new is step = idle Event.Create old a new (rw is) step
   of_create GivenUp old a new is step =
-      named answer.Created (core_state (Loading Held []) true) (creates old is) step
+      named Answer.Created (core_state (Loading Holder.Held []) true) (creates old is) step
 
   adds : (h : Holder) (ws : List ℕ) (n : ℕ) (old : CoreState V) (a : Answer V) (new : CoreState V)
       → old.life ≡ Loading h ws
       → (old.in_shard ≡ true) × (is_handed_to h n ≡ false) × (has n ws ≡ false)
-      → Adds h ws n old a new → LoadingRow shows (Join n) old a new
+      → Adds h ws n old a new → LoadingRow shows (Event.Join n) old a new
   adds h ws n old a new is free (inl p) =
-      named answer.Joined (core_state (Loading h (ws ++ n ∷ [])) old.in_shard)
+      named Answer.Joined (core_state (Loading h (ws ++ n ∷ [])) old.in_shard)
       (joins old h ws n is free.0 free.1 free.2) p
   adds h ws n old a new is free (inr p) =
-      named (answer.Refused Memory) old (lacks_room old h ws n is free.0 free.1 free.2) p
+      named (Answer.Refused Refusal.Memory) old (lacks_room old h ws n is free.0 free.1 free.2) p
 
   of_join : (l : Life V) (n : ℕ) (old : CoreState V) (a : Answer V) (new : CoreState V)
-      → old.life ≡ l → Joins shows l n old a new → LoadingRow shows (Join n) old a new
+      → old.life ≡ l → Joins shows l n old a new → LoadingRow shows (Event.Join n) old a new
   of_join (Loading h ws) n old a new is step =
       match_bool _
       (λ b. adds h ws n old a new is (may_join old.in_shard (is_handed_to h n) (has n ws) b))
-      (λ b. idle (Join n) old a new (rw is b)) step
+      (λ b. idle (Event.Join n) old a new (rw is b)) step
   of_join (Filled v) n old a new is step =
-      match_bool old.in_shard (λ b. shown (Join n) v old a new (by_joining n old b) is)
-      (λ b. idle (Join n) old a new (rw (is, b))) step
+      match_bool old.in_shard (λ b. shown (Event.Join n) v old a new (by_joining n old b) is)
+      (λ b. idle (Event.Join n) old a new (rw (is, b))) step
   of_join GivenUp n old a new is step =
-      idle (Join n) old a new (rw is (never old.in_shard)) step where
+      idle (Event.Join n) old a new (rw is (never old.in_shard)) step where
         never : (b : Bool) → (b && false) ≡ false
         never true = refl
         never false = refl
 
   of_fill : (l : Life V) (v : V) (old : CoreState V) (a : Answer V) (new : CoreState V)
-      → old.life ≡ l → Fills l v old a new → LoadingRow shows (Fill v) old a new
-  of_fill (Loading Held ws) v old a new is step =
-      named answer.Done (core_state (Filled v) old.in_shard) (fills old ws v is) step
-  of_fill (Loading (HandedTo m) ws) v old a new is step = idle (Fill v) old a new (rw is) step
-  of_fill (Filled w) v old a new is step = idle (Fill v) old a new (rw is) step
-  of_fill GivenUp v old a new is step = idle (Fill v) old a new (rw is) step
+      → old.life ≡ l → Fills l v old a new → LoadingRow shows (Event.Fill v) old a new
+  of_fill (Loading Holder.Held ws) v old a new is step =
+      named Answer.Done (core_state (Filled v) old.in_shard) (fills old ws v is) step
+  of_fill (Loading (Holder.HandedTo m) ws) v old a new is step =
+      idle (Event.Fill v) old a new (rw is) step
+  of_fill (Filled w) v old a new is step = idle (Event.Fill v) old a new (rw is) step
+  of_fill GivenUp v old a new is step = idle (Event.Fill v) old a new (rw is) step
 
   passed : (e : Event V) (h : Holder) (ws : List ℕ) (old : CoreState V) (a : Answer V)
       (new : CoreState V) → Releases e h → old.life ≡ Loading h ws
       → PassesOn ws old a new → LoadingRow shows e old a new
   passed e h ws old a new by is (inl p) =
-      named answer.GivenUp new_core (gives_up e old h by (is ∙ ap (Loading h) p.0)) (p.1, p.2)
+      named Answer.GivenUp new_core (gives_up e old h by (is ∙ ap (Loading h) p.0)) (p.1, p.2)
   passed e h ws old a new by is (inr p) =
-      named (answer.HandedTo p.1) (core_state (Loading (HandedTo p.1) p.0) old.in_shard)
+      named (Answer.HandedTo p.1) (core_state (Loading (Holder.HandedTo p.1) p.0) old.in_shard)
       (hands_on e old h p.0 p.1 by (is ∙ ap (Loading h) p.2)) (p.3, p.4)
 
   of_abandon : (l : Life V) (old : CoreState V) (a : Answer V) (new : CoreState V) → old.life ≡ l
-      → Abandons l old a new → LoadingRow shows Abandon old a new
-  of_abandon (Loading Held ws) old a new is step =
-      passed Abandon Held ws old a new abandoning is step
-  of_abandon (Loading (HandedTo m) ws) old a new is step = idle Abandon old a new (rw is) step
-  of_abandon (Filled v) old a new is step = idle Abandon old a new (rw is) step
-  of_abandon GivenUp old a new is step = idle Abandon old a new (rw is) step
+      → Abandons l old a new → LoadingRow shows Event.Abandon old a new
+  of_abandon (Loading Holder.Held ws) old a new is step =
+      passed Event.Abandon Holder.Held ws old a new abandoning is step
+  of_abandon (Loading (Holder.HandedTo m) ws) old a new is step =
+      idle Event.Abandon old a new (rw is) step
+  of_abandon (Filled v) old a new is step = idle Event.Abandon old a new (rw is) step
+  of_abandon GivenUp old a new is step = idle Event.Abandon old a new (rw is) step
 
   -- the guard is on its way to the one that the event names
   handed : (m n : ℕ) (ws : List ℕ) (old : CoreState V) → (m == n) ≡ true
-      → old.life ≡ Loading (HandedTo m) ws → old.life ≡ Loading (HandedTo n) ws
+      → old.life ≡ Loading (Holder.HandedTo m) ws → old.life ≡ Loading (Holder.HandedTo n) ws
   handed m n ws old same is = let eq : m ≡ n = grind (arith, nat_tests) in rw (← eq) is
 
   received : (e : Event V) (n : ℕ) (ws : List ℕ) (old : CoreState V) (a : Answer V)
       (new : CoreState V) → Collects e n
-      → old.life ≡ Loading (HandedTo n) ws → Receives ws old a new → LoadingRow shows e old a new
+      → old.life ≡ Loading (Holder.HandedTo n) ws → Receives ws old a new
+      → LoadingRow shows e old a new
   received e n ws old a new by is step =
-      named answer.Guard (core_state (Loading Held ws) old.in_shard) (receives e old n ws by is)
+      named Answer.Guard (core_state (Loading Holder.Held ws) old.in_shard)
+      (receives e old n ws by is)
       step
 
   remained : (h : Holder) (ws : List ℕ) (n : ℕ) (old : CoreState V) (a : Answer V)
       (new : CoreState V) → old.life ≡ Loading h ws
-      → is_handed_to h n ≡ false → Remains ws n old a new → LoadingRow shows (Take n) old a new
+      → is_handed_to h n ≡ false → Remains ws n old a new
+      → LoadingRow shows (Event.Take n) old a new
   remained h ws n old a new is other step =
-      match_bool (has n ws) (λ b. named answer.Waiting old (waits_on old h ws n is other b))
-      (λ b. idle (Take n) old a new (rw is (neither _ _ other b))) step
+      match_bool (has n ws) (λ b. named Answer.Waiting old (waits_on old h ws n is other b))
+      (λ b. idle (Event.Take n) old a new (rw is (neither _ _ other b))) step
 
   of_take : (l : Life V) (n : ℕ) (old : CoreState V) (a : Answer V) (new : CoreState V)
-      → old.life ≡ l → Takes shows l n old a new → LoadingRow shows (Take n) old a new
-  of_take (Loading Held ws) n old a new is step = remained Held ws n old a new is refl step
-  of_take (Loading (HandedTo m) ws) n old a new is step =
+      → old.life ≡ l → Takes shows l n old a new → LoadingRow shows (Event.Take n) old a new
+  of_take (Loading Holder.Held ws) n old a new is step =
+      remained Holder.Held ws n old a new is refl step
+  of_take (Loading (Holder.HandedTo m) ws) n old a new is step =
       match_bool (m == n)
-      (λ b. received (Take n) n ws old a new (taking n) (handed m n ws old b is))
-      (λ b. remained (HandedTo m) ws n old a new is b) step
-  of_take (Filled v) n old a new is step = shown (Take n) v old a new (by_taking n old) is step
-  of_take GivenUp n old a new is step = idle (Take n) old a new (rw is) step
+      (λ b. received (Event.Take n) n ws old a new (taking n) (handed m n ws old b is))
+      (λ b. remained (Holder.HandedTo m) ws n old a new is b) step
+  of_take (Filled v) n old a new is step =
+      shown (Event.Take n) v old a new (by_taking n old) is step
+  of_take GivenUp n old a new is step = idle (Event.Take n) old a new (rw is) step
 
   withdrawn : (e : Event V) (given : Answer V) (h : Holder) (ws : List ℕ) (n : ℕ)
       (old : CoreState V) (a : Answer V) (new : CoreState V)
@@ -140,46 +148,49 @@ module _ {V : Type 0} (shows : V → V → Type 0) where
       (λ b. idle e old a new (none b)) step
 
   of_time_out : (l : Life V) (n : ℕ) (old : CoreState V) (a : Answer V) (new : CoreState V)
-      → old.life ≡ l → TimesOut shows l n old a new → LoadingRow shows (TimeOut n) old a new
-  of_time_out (Loading Held ws) n old a new is step =
-      withdrawn (TimeOut n) answer.TimedOut Held ws n old a new (by_time n) is refl
+      → old.life ≡ l → TimesOut shows l n old a new → LoadingRow shows (Event.TimeOut n) old a new
+  of_time_out (Loading Holder.Held ws) n old a new is step =
+      withdrawn (Event.TimeOut n) Answer.TimedOut Holder.Held ws n old a new (by_time n) is refl
       (λ b. rw is (neither _ _ refl b)) step
-  of_time_out (Loading (HandedTo m) ws) n old a new is step =
+  of_time_out (Loading (Holder.HandedTo m) ws) n old a new is step =
       match_bool (m == n)
-      (λ b. received (TimeOut n) n ws old a new (timing_out n) (handed m n ws old b is))
-      (λ other. withdrawn (TimeOut n) answer.TimedOut (HandedTo m) ws n old a new (by_time n) is
+      (λ b. received (Event.TimeOut n) n ws old a new (timing_out n) (handed m n ws old b is))
+      (λ other. withdrawn (Event.TimeOut n) Answer.TimedOut (Holder.HandedTo m) ws n old a new
+      (by_time n) is
       other (λ b. rw is (neither _ _ other b))) step
   of_time_out (Filled v) n old a new is step =
-      shown (TimeOut n) v old a new (by_timing_out n old) is step
-  of_time_out GivenUp n old a new is step = idle (TimeOut n) old a new (rw is) step
+      shown (Event.TimeOut n) v old a new (by_timing_out n old) is step
+  of_time_out GivenUp n old a new is step = idle (Event.TimeOut n) old a new (rw is) step
 
   of_cancel : (l : Life V) (n : ℕ) (old : CoreState V) (a : Answer V) (new : CoreState V)
-      → old.life ≡ l → Cancels l n old a new → LoadingRow shows (Cancel n) old a new
-  of_cancel (Loading Held ws) n old a new is step =
-      withdrawn (Cancel n) answer.Done Held ws n old a new (by_cancel n) is refl
+      → old.life ≡ l → Cancels l n old a new → LoadingRow shows (Event.Cancel n) old a new
+  of_cancel (Loading Holder.Held ws) n old a new is step =
+      withdrawn (Event.Cancel n) Answer.Done Holder.Held ws n old a new (by_cancel n) is refl
       (λ b. rw is (neither _ _ refl b)) step
-  of_cancel (Loading (HandedTo m) ws) n old a new is step =
+  of_cancel (Loading (Holder.HandedTo m) ws) n old a new is step =
       match_bool (m == n)
-      (λ b. passed (Cancel n) (HandedTo n) ws old a new (cancelling n) (handed m n ws old b is))
-      (λ other. withdrawn (Cancel n) answer.Done (HandedTo m) ws n old a new (by_cancel n) is other
+      (λ b. passed (Event.Cancel n) (Holder.HandedTo n) ws old a new (cancelling n)
+      (handed m n ws old b is))
+      (λ other. withdrawn (Event.Cancel n) Answer.Done (Holder.HandedTo m) ws n old a new
+      (by_cancel n) is other
       (λ b. rw is (neither _ _ other b))) step
-  of_cancel (Filled v) n old a new is step = named answer.Done old (cancels_in_vain old v n is) step
-  of_cancel GivenUp n old a new is step = idle (Cancel n) old a new (rw is) step
+  of_cancel (Filled v) n old a new is step = named Answer.Done old (cancels_in_vain old v n is) step
+  of_cancel GivenUp n old a new is step = idle (Event.Cancel n) old a new (rw is) step
 
   of_leave : (old : CoreState V) (a : Answer V) (new : CoreState V) → Leaves old a new
-      → LoadingRow shows Leave old a new
+      → LoadingRow shows Event.Leave old a new
   of_leave old a new step =
-      match_bool old.in_shard (λ b. named answer.Done (core_state old.life false) (leaves old b))
-      (λ b. idle Leave old a new b) step
+      match_bool old.in_shard (λ b. named Answer.Done (core_state old.life false) (leaves old b))
+      (λ b. idle Event.Leave old a new b) step
 
   -- a step is a row of the table
   pub row_of_step : (e : Event V) (old : CoreState V) (a : Answer V) (new : CoreState V)
       → LoadingStep shows old e a new → LoadingRow shows e old a new
-  row_of_step Create old a new step = of_create old.life old a new refl step
-  row_of_step (Join n) old a new step = of_join old.life n old a new refl step
-  row_of_step (Fill v) old a new step = of_fill old.life v old a new refl step
-  row_of_step Abandon old a new step = of_abandon old.life old a new refl step
-  row_of_step (Take n) old a new step = of_take old.life n old a new refl step
-  row_of_step (TimeOut n) old a new step = of_time_out old.life n old a new refl step
-  row_of_step (Cancel n) old a new step = of_cancel old.life n old a new refl step
-  row_of_step Leave old a new step = of_leave old a new step
+  row_of_step Event.Create old a new step = of_create old.life old a new refl step
+  row_of_step (Event.Join n) old a new step = of_join old.life n old a new refl step
+  row_of_step (Event.Fill v) old a new step = of_fill old.life v old a new refl step
+  row_of_step Event.Abandon old a new step = of_abandon old.life old a new refl step
+  row_of_step (Event.Take n) old a new step = of_take old.life n old a new refl step
+  row_of_step (Event.TimeOut n) old a new step = of_time_out old.life n old a new refl step
+  row_of_step (Event.Cancel n) old a new step = of_cancel old.life n old a new refl step
+  row_of_step Event.Leave old a new step = of_leave old a new step

@@ -1,20 +1,22 @@
 -- What each row of the table keeps: guards, values, ends of lives, and waiters.
-use Rattle.std.proofs.Common.{◌≡◌, ℕ, ◌+◌, ◌≤◌, Bool, true, false, ◌==◌, ◌||◌, ◌↔◌, ◌++◌, ◌∷◌, [], min, arith, refl, sym, ◌∙◌, ap, not, ◌&&◌, Option, IfSome, lit≤, if◌then◌else◌}
+use Rattle.std.proofs.Common.{◌≡◌, ℕ, ◌+◌, ◌≤◌, Bool, true, false, ◌==◌, ◌||◌, ◌↔◌, ◌++◌, ◌∷◌, [], min, arith, refl, sym, ◌∙◌, ap, not}
+use Rattle.std.proofs.Common.{◌&&◌, Option, IfSome, lit≤, if◌then◌else◌}
 use Rattle.quick_cache_loading.proofs.BoolLemmas.{both, not-true, not-false}
-use Rattle.quick_cache_loading.specs.Core.{Life, Loading, Filled, GivenUp, CoreState, new_core, held_by, held_in, held_count, handed_by, handed_in, handed_count, value_of, is_given_up, is_loading, waits, waiters_of, concerns}
-use Rattle.quick_cache_loading.specs.LoadingLaws.{is_not_now, only_tells, given_by, taken_by, most_given, most_taken, done_by, shown_by, MayShow, value_after, given_up_after, lets_go, joins_as, waits_after}
-use Rattle.quick_cache_loading.specs.LoadingRow.{LoadingRow, ActingRow, NoRowApplies, AsksForValue, by_joining, by_taking, by_timing_out, acts, no_row_applies, creates, joins, lacks_room, shows_the_value, lacks_a_clone, fills, hands_on, gives_up, receives, waits_on, withdraws, cancels_in_vain, leaves, abandoning, cancelling, taking, timing_out, by_time, by_cancel}
+use Rattle.quick_cache_loading.specs.Core.{Life, Loading, Filled, GivenUp, CoreState, new_core, held_by, held_in, held_count, handed_by}
+use Rattle.quick_cache_loading.specs.Core.{handed_in, handed_count, value_of, is_given_up, is_loading, waits, waiters_of, concerns}
+use Rattle.quick_cache_loading.specs.LoadingLaws.{is_not_now, only_tells, given_by, taken_by, most_given, most_taken, done_by, shown_by}
+use Rattle.quick_cache_loading.specs.LoadingLaws.{MayShow, value_after, given_up_after, lets_go, joins_as, waits_after}
+use Rattle.quick_cache_loading.specs.LoadingRow.{LoadingRow, ActingRow, NoRowApplies, AsksForValue, by_joining, by_taking, by_timing_out}
+use Rattle.quick_cache_loading.specs.LoadingRow.{acts, no_row_applies, creates, joins, lacks_room, shows_the_value, lacks_a_clone, fills}
+use Rattle.quick_cache_loading.specs.LoadingRow.{hands_on, gives_up, receives, waits_on, withdraws, cancels_in_vain, leaves, abandoning}
+use Rattle.quick_cache_loading.specs.LoadingRow.{cancelling, taking, timing_out, by_time, by_cancel}
 use Rattle.std.proofs.lemmas.Bool.Decides.{nat_tests}
 use Rattle.quick_cache_loading.proofs.WhenRowsApply.{applies, can_join, acting-applies, NoRowApplies-from, applies-from_none}
 use Rattle.quick_cache_loading.proofs.WaiterLists.{has-handed, has-left, has-joined, has-added}
 use Rattle.quick_cache_model.specs.declared.refusal.Refusal.{Refusal}
-use Rattle.quick_cache_model.specs.declared.refusal.Refusal.TheVariants.{Memory}
 use Rattle.quick_cache_loading.specs.declared.protocol.life.Holder.{Holder}
-use Rattle.quick_cache_loading.specs.declared.protocol.life.Holder.TheVariants.{Held, HandedTo}
 use Rattle.quick_cache_loading.specs.declared.protocol.events.Event.{Event}
-use Rattle.quick_cache_loading.specs.declared.protocol.events.Event.TheVariants.{Create, Join, Fill, Abandon, Take, TimeOut, Cancel, Leave}
 use Rattle.quick_cache_loading.specs.declared.protocol.events.Answer.{Answer}
-use Rattle.quick_cache_loading.specs.declared.protocol.events.Answer.TheVariants as answer
 
 module _ {V : Type 0} where
   -- a core's guard is held or on its way while its life is loading, and there is none else
@@ -22,8 +24,8 @@ module _ {V : Type 0} where
       → held_count core + handed_count core ≡ (if is_loading core.life then 1 else 0)
   one_guard core = by_life core.life where
     by_holder : (h : Holder) → held_by h + handed_by h ≡ 1
-    by_holder Held = refl
-    by_holder (HandedTo m) = refl
+    by_holder Holder.Held = refl
+    by_holder (Holder.HandedTo m) = refl
 
     by_life : (l : Life V) → held_in l + handed_in l ≡ (if is_loading l then 1 else 0)
     by_life (Loading h ws) = by_holder h
@@ -33,22 +35,22 @@ module _ {V : Type 0} where
   pub at_most_one : (core : CoreState V) → held_count core ≤ 1
   at_most_one core = by_life core.life where
     by_life : (l : Life V) → held_in l ≤ 1
-    by_life (Loading Held ws) = lit≤ tt
-    by_life (Loading (HandedTo m) ws) = lit≤ tt
+    by_life (Loading Holder.Held ws) = lit≤ tt
+    by_life (Loading (Holder.HandedTo m) ws) = lit≤ tt
     by_life (Filled v) = lit≤ tt
     by_life GivenUp = lit≤ tt
 
   -- where no case applies no guard comes or goes, and no value
   none-guards : (e : Event V) (old : CoreState V)
-      → held_count old + taken_by e answer.NotNow ≡ held_count old + 0
-  none-guards Create old = refl
-  none-guards (Join n) old = refl
-  none-guards (Fill v) old = refl
-  none-guards Abandon old = refl
-  none-guards (Take n) old = refl
-  none-guards (TimeOut n) old = refl
-  none-guards (Cancel n) old = refl
-  none-guards Leave old = refl
+      → held_count old + taken_by e Answer.NotNow ≡ held_count old + 0
+  none-guards Event.Create old = refl
+  none-guards (Event.Join n) old = refl
+  none-guards (Event.Fill v) old = refl
+  none-guards Event.Abandon old = refl
+  none-guards (Event.Take n) old = refl
+  none-guards (Event.TimeOut n) old = refl
+  none-guards (Event.Cancel n) old = refl
+  none-guards Event.Leave old = refl
 
   -- an event that is shown the value takes no guard back
   shown-guards : {e : Event V} {old : CoreState V} (a : Answer V) → AsksForValue e old
@@ -65,8 +67,9 @@ module _ {V : Type 0} where
   row-guards (acts (creates old is)) = rw is
   row-guards (acts (joins old h ws n is inside other absent)) = rw is
   row-guards (acts (lacks_room old h ws n is inside other absent)) = refl
-  row-guards (acts (shows_the_value e old v w is asks same)) = shown-guards (answer.Value w) asks
-  row-guards (acts (lacks_a_clone e old v is asks)) = shown-guards (answer.Refused Memory) asks
+  row-guards (acts (shows_the_value e old v w is asks same)) = shown-guards (Answer.Value w) asks
+  row-guards (acts (lacks_a_clone e old v is asks)) =
+      shown-guards (Answer.Refused Refusal.Memory) asks
   row-guards (acts (fills old ws v is)) = rw is
   row-guards (acts (hands_on _ old _ others m abandoning is)) = rw is
   row-guards (acts (hands_on _ old _ others m (cancelling n) is)) = rw is
@@ -82,14 +85,14 @@ module _ {V : Type 0} where
 
   -- the answers to Join, Fill, Abandon, Cancel and Leave give no guard
   some-given : (e : Event V) → 0 ≤ most_given e
-  some-given Create = lit≤ tt
-  some-given (Join n) = lit≤ tt
-  some-given (Fill v) = lit≤ tt
-  some-given Abandon = lit≤ tt
-  some-given (Take n) = lit≤ tt
-  some-given (TimeOut n) = lit≤ tt
-  some-given (Cancel n) = lit≤ tt
-  some-given Leave = lit≤ tt
+  some-given Event.Create = lit≤ tt
+  some-given (Event.Join n) = lit≤ tt
+  some-given (Event.Fill v) = lit≤ tt
+  some-given Event.Abandon = lit≤ tt
+  some-given (Event.Take n) = lit≤ tt
+  some-given (Event.TimeOut n) = lit≤ tt
+  some-given (Event.Cancel n) = lit≤ tt
+  some-given Event.Leave = lit≤ tt
 
   pub row-most_given : {shows : V → V → Type 0} {e : Event V} {old : CoreState V} {a : Answer V}
       {new : CoreState V} → LoadingRow shows e old a new → given_by a ≤ most_given e
@@ -125,28 +128,28 @@ module _ {V : Type 0} where
   row-applies {shows} (no_row_applies e old none) = applies-from_none shows e old none
   row-applies (acts row) = acting-applies row ∙ sym (ap not (acting-answers row))
 
-  only-not_now : (x : Answer V) → not (is_not_now x) ≡ false → x ≡ answer.NotNow
-  only-not_now answer.NotNow t = refl
+  only-not_now : (x : Answer V) → not (is_not_now x) ≡ false → x ≡ Answer.NotNow
+  only-not_now Answer.NotNow t = refl
   only-not_now _ t = absurd (cc)
 
   -- and exactly where no row applies
   pub row-not_now : {shows : V → V → Type 0} {e : Event V} {old : CoreState V} {a : Answer V}
       {new : CoreState V} → LoadingRow shows e old a new
-      → (a ≡ answer.NotNow) ↔ NoRowApplies shows e old
+      → (a ≡ Answer.NotNow) ↔ NoRowApplies shows e old
   row-not_now {shows} {e} {old} {a} row = (
     λ is. NoRowApplies-from shows e old (row-applies row ∙ ap (λ x. not (is_not_now x)) is),
     λ none. only-not_now a (sym (row-applies row) ∙ applies-from_none shows e old none),
   )
 
   done-by_test : (a : Answer V) → done_by a ≡ (if not (is_not_now a) then 1 else 0)
-  done-by_test answer.NotNow = refl
+  done-by_test Answer.NotNow = refl
   done-by_test _ = refl
 
   held-by_test : (core : CoreState V) → held_count core ≡ (if held_count core == 1 then 1 else 0)
   held-by_test core = by_life core.life where
     by_life : (l : Life V) → held_in l ≡ (if held_in l == 1 then 1 else 0)
-    by_life (Loading Held ws) = refl
-    by_life (Loading (HandedTo m) ws) = refl
+    by_life (Loading Holder.Held ws) = refl
+    by_life (Loading (Holder.HandedTo m) ws) = refl
     by_life (Filled v) = refl
     by_life GivenUp = refl
 
@@ -165,29 +168,29 @@ module _ {V : Type 0} where
   row-taken {shows} {e} {old} {a} row = by_event e (row-applies row) where
     by_event : (d : Event V) → applies d old ≡ not (is_not_now a)
         → taken_by d a ≡ min (most_taken d) (held_count old)
-    by_event (Fill v) told = done-held old a told
-    by_event Abandon told = done-held old a told
-    by_event Create told = omega arith
-    by_event (Join n) told = omega arith
-    by_event (Take n) told = omega arith
-    by_event (TimeOut n) told = omega arith
-    by_event (Cancel n) told = omega arith
-    by_event Leave told = omega arith
+    by_event (Event.Fill v) told = done-held old a told
+    by_event Event.Abandon told = done-held old a told
+    by_event Event.Create told = omega arith
+    by_event (Event.Join n) told = omega arith
+    by_event (Event.Take n) told = omega arith
+    by_event (Event.TimeOut n) told = omega arith
+    by_event (Event.Cancel n) told = omega arith
+    by_event Event.Leave told = omega arith
 
   -- an abandon is `NotNow` where no guard is held
   pub row-abandon : {shows : V → V → Type 0} {old : CoreState V} {a : Answer V} {new : CoreState V}
-      → LoadingRow shows Abandon old a new
+      → LoadingRow shows Event.Abandon old a new
       → is_not_now a ≡ (held_count old == 0)
   row-abandon {shows} {old} {a} row = by_life old.life (row-applies row) where
     by_life : (l : Life V) → (held_in l == 1) ≡ not (is_not_now a) → is_not_now a ≡ (held_in l == 0)
-    by_life (Loading Held ws) told = not-true (is_not_now a) (sym told)
-    by_life (Loading (HandedTo m) ws) told = not-false (is_not_now a) (sym told)
+    by_life (Loading Holder.Held ws) told = not-true (is_not_now a) (sym told)
+    by_life (Loading (Holder.HandedTo m) ws) told = not-false (is_not_now a) (sym told)
     by_life (Filled v) told = not-false (is_not_now a) (sym told)
     by_life GivenUp told = not-false (is_not_now a) (sym told)
 
   -- a cancel is `NotNow` where the life does not concern the waiter
   pub row-cancel : {shows : V → V → Type 0} {n : ℕ} {old : CoreState V} {a : Answer V}
-      {new : CoreState V} → LoadingRow shows (Cancel n) old a new
+      {new : CoreState V} → LoadingRow shows (Event.Cancel n) old a new
       → is_not_now a ≡ not (concerns n old.life)
   row-cancel {shows} {n} {old} {a} row =
       turned (concerns n old.life) (is_not_now a) (row-applies row) where
@@ -211,7 +214,7 @@ module _ {V : Type 0} where
   -- only memory is refused
   pub row-refused : {shows : V → V → Type 0} {e : Event V} {old : CoreState V} {a : Answer V}
       {new : CoreState V} → LoadingRow shows e old a new
-      → (why : Refusal) → a ≡ answer.Refused why → why ≡ Memory
+      → (why : Refusal) → a ≡ Answer.Refused why → why ≡ Refusal.Memory
   row-refused (acts (lacks_room old h ws n is inside other absent)) why eq = cc
   row-refused (acts (lacks_a_clone e old v is asks)) why eq = cc
   row-refused (acts (withdraws _ old h ws _ _ (by_time n) is other waiting)) why eq = cc
@@ -227,24 +230,24 @@ module _ {V : Type 0} where
   row-shown (acts (withdraws _ old h ws _ _ (by_cancel n) is other waiting)) = tt
   row-shown _ = tt
 
-  none-value : (e : Event V) (known : Option V) → known ≡ value_after known e answer.NotNow
-  none-value Create known = refl
-  none-value (Join n) known = refl
-  none-value (Fill v) known = refl
-  none-value Abandon known = refl
-  none-value (Take n) known = refl
-  none-value (TimeOut n) known = refl
-  none-value (Cancel n) known = refl
-  none-value Leave known = refl
+  none-value : (e : Event V) (known : Option V) → known ≡ value_after known e Answer.NotNow
+  none-value Event.Create known = refl
+  none-value (Event.Join n) known = refl
+  none-value (Event.Fill v) known = refl
+  none-value Event.Abandon known = refl
+  none-value (Event.Take n) known = refl
+  none-value (Event.TimeOut n) known = refl
+  none-value (Event.Cancel n) known = refl
+  none-value Event.Leave known = refl
 
   shown-value : {e : Event V} {old : CoreState V} (known : Option V) (v : V) → AsksForValue e old
-      → known ≡ value_after known e (answer.Value v)
+      → known ≡ value_after known e (Answer.Value v)
   shown-value known v (by_joining n old inside) = refl
   shown-value known v (by_taking n old) = refl
   shown-value known v (by_timing_out n old) = refl
 
   refused-value : {e : Event V} {old : CoreState V} (known : Option V) → AsksForValue e old
-      → known ≡ value_after known e (answer.Refused Memory)
+      → known ≡ value_after known e (Answer.Refused Refusal.Memory)
   refused-value known (by_joining n old inside) = refl
   refused-value known (by_taking n old) = refl
   refused-value known (by_timing_out n old) = refl
@@ -295,7 +298,7 @@ module _ {V : Type 0} where
   -- a life is given up only where nobody waits, and the core is then as a new one
   pub row-alone : {shows : V → V → Type 0} {e : Event V} {old : CoreState V} {a : Answer V}
       {new : CoreState V} → LoadingRow shows e old a new
-      → a ≡ answer.GivenUp → waiters_of old.life ≡ []
+      → a ≡ Answer.GivenUp → waiters_of old.life ≡ []
   row-alone (acts (gives_up e old h by is)) eq = rw is
   row-alone (acts (withdraws _ old h ws _ _ (by_time n) is other waiting)) eq = absurd (cc)
   row-alone (acts (withdraws _ old h ws _ _ (by_cancel n) is other waiting)) eq = absurd (cc)
@@ -303,7 +306,7 @@ module _ {V : Type 0} where
 
   pub row-new_core : {shows : V → V → Type 0} {e : Event V} {old : CoreState V} {a : Answer V}
       {new : CoreState V} → LoadingRow shows e old a new
-      → a ≡ answer.GivenUp → new ≡ new_core
+      → a ≡ Answer.GivenUp → new ≡ new_core
   row-new_core (acts (gives_up e old h by is)) eq = refl
   row-new_core (acts (withdraws _ old h ws _ _ (by_time n) is other waiting)) eq = absurd (cc)
   row-new_core (acts (withdraws _ old h ws _ _ (by_cancel n) is other waiting)) eq = absurd (cc)
@@ -312,7 +315,7 @@ module _ {V : Type 0} where
   -- a waiter joins a loading life alone
   pub row-joined : {shows : V → V → Type 0} {e : Event V} {old : CoreState V} {a : Answer V}
       {new : CoreState V} → LoadingRow shows e old a new
-      → a ≡ answer.Joined → is_given_up old.life ≡ false
+      → a ≡ Answer.Joined → is_given_up old.life ≡ false
   row-joined (acts (joins old h ws n is inside other absent)) eq = rw is
   row-joined (acts (withdraws _ old h ws _ _ (by_time n) is other waiting)) eq = absurd (cc)
   row-joined (acts (withdraws _ old h ws _ _ (by_cancel n) is other waiting)) eq = absurd (cc)
@@ -349,7 +352,7 @@ module _ {V : Type 0} where
   -- the guard goes to the waiter that was added last
   pub row-last : {shows : V → V → Type 0} {e : Event V} {old : CoreState V} {a : Answer V}
       {new : CoreState V} → LoadingRow shows e old a new
-      → (m : ℕ) → a ≡ answer.HandedTo m → waiters_of old.life ≡ waiters_of new.life ++ m ∷ []
+      → (m : ℕ) → a ≡ Answer.HandedTo m → waiters_of old.life ≡ waiters_of new.life ++ m ∷ []
   row-last (acts (hands_on e old h others k by is)) m eq =
       let same : k ≡ m = cc in rw (is, same) refl
   row-last (acts (withdraws _ old h ws _ _ (by_time n) is other waiting)) m eq = absurd (cc)
@@ -359,7 +362,7 @@ module _ {V : Type 0} where
   -- who joins waits afterwards
   pub row-joins : {shows : V → V → Type 0} {e : Event V} {old : CoreState V} {a : Answer V}
       {new : CoreState V} → LoadingRow shows e old a new
-      → (n : ℕ) → e ≡ Join n → a ≡ answer.Joined → waits n new ≡ true
+      → (n : ℕ) → e ≡ Event.Join n → a ≡ Answer.Joined → waits n new ≡ true
   row-joins (acts (joins old h ws m is inside other absent)) n at eq =
       let same : m ≡ n = cc in rw same (has-added n ws)
   row-joins (acts (withdraws _ old h ws _ _ (by_time m) is other waiting)) n at eq = absurd (cc)
@@ -368,10 +371,10 @@ module _ {V : Type 0} where
 
   -- an event by which the waiter joins
   joins_as-parts : (n : ℕ) (e : Event V) (a : Answer V) → joins_as n e a ≡ true
-      → (e ≡ Join n) × (a ≡ answer.Joined)
-  joins_as-parts n (Join m) answer.Joined t =
+      → (e ≡ Event.Join n) × (a ≡ Answer.Joined)
+  joins_as-parts n (Event.Join m) Answer.Joined t =
       let same : m ≡ n = grind (arith, nat_tests) in (rw same refl, refl)
-  joins_as-parts n (Join m) _ t = absurd (cc)
+  joins_as-parts n (Event.Join m) _ t = absurd (cc)
   joins_as-parts n _ a t = absurd (cc)
 
   -- who waits after an event, by what it did before, the event and its answer, does wait
@@ -390,9 +393,9 @@ module _ {V : Type 0} where
   -- who would join a life that was given up is answered `NotNow`
   pub row-none_joins : {shows : V → V → Type 0} {e : Event V} {old : CoreState V} {a : Answer V}
       {new : CoreState V} → LoadingRow shows e old a new
-      → (n : ℕ) → e ≡ Join n → is_given_up old.life ≡ true → a ≡ answer.NotNow
+      → (n : ℕ) → e ≡ Event.Join n → is_given_up old.life ≡ true → a ≡ Answer.NotNow
   row-none_joins {shows} {e} {old} {a} row n is ended =
-      let cannot : applies (Join n) old ≡ false = closed old.life ended old.in_shard in
+      let cannot : applies (Event.Join n) old ≡ false = closed old.life ended old.in_shard in
       let told : not (is_not_now a) ≡ false =
       sym (row-applies row) ∙ ap (λ d. applies d old) is ∙ cannot in
       only-not_now a told where

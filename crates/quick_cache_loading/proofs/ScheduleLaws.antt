@@ -3,7 +3,8 @@ use Rattle.std.proofs.Common.{◌≡◌, ℕ, ◌+◌, Bool, true, false, List, 
 use Rattle.quick_cache_loading.specs.Core.{CoreState, held_count, value_of, is_given_up, waits, waiters_of}
 use Rattle.quick_cache_loading.specs.LoadingStep.{LoadingStep}
 use Rattle.quick_cache_loading.specs.LoadingLaws.{waits_after}
-use Rattle.quick_cache_loading.specs.LoadingRun.{LoadingRun, guards_given, guards_taken, ShowsTheFill, NoneJoinsGivenUp, NoGiveUpWhileWaiting, waits_at_end}
+use Rattle.quick_cache_loading.specs.LoadingRun.{LoadingRun, guards_given, guards_taken, ShowsTheFill, NoneJoinsGivenUp}
+use Rattle.quick_cache_loading.specs.LoadingRun.{NoGiveUpWhileWaiting, waits_at_end}
 use Rattle.quick_cache_loading.proofs.CasesToRows.{row_of_step}
 use Rattle.quick_cache_loading.proofs.RowLaws.{row-guards, row-shown, row-value, row-given_up, row-joined, row-alone, row-waits}
 use Rattle.quick_cache_loading.specs.declared.protocol.events.Event.{Event}

@@ -1,14 +1,13 @@
 -- Lists of distinct waiters, through the changes that the core makes to them.
-use Rattle.std.proofs.Common.{◌≡◌, ℕ, ◌==◌, Bool, true, false, not, ◌&&◌, ◌||◌, List, [], ◌∷◌, ◌++◌, ◌⊎◌, inl, inr, refl, sym, ◌∙◌, ap, cond, arith}
+use Rattle.std.proofs.Common.{◌≡◌, ℕ, ◌==◌, Bool, true, false, not, ◌&&◌, ◌||◌, List, [], ◌∷◌, ◌++◌, ◌⊎◌, inl, inr, refl, sym, ◌∙◌, ap}
+use Rattle.std.proofs.Common.{cond, arith}
 use Rattle.std.proofs.lemmas.Bool.Decides.{nat_tests}
 use Rattle.quick_cache_loading.proofs.BoolLemmas.{both, not-true, same-number, same-test}
 use Rattle.quick_cache_loading.specs.Waiting.{has, without_waiter, is_distinct}
 use Rattle.quick_cache_loading.specs.Core.{is_handed_to, is_apart, is_loading, is_sound}
 use Rattle.quick_cache_loading.specs.Stage.{life_of}
 use Rattle.quick_cache_loading.specs.declared.protocol.life.Holder.{Holder}
-use Rattle.quick_cache_loading.specs.declared.protocol.life.Holder.TheVariants.{Held, HandedTo}
 use Rattle.quick_cache_loading.specs.declared.protocol.life.Stage.{Stage}
-use Rattle.quick_cache_loading.specs.declared.protocol.life.Stage.TheVariants.{Loading, Filled, GivenUp}
 
 -- one more waiter at the end
 pub has-push : (n : ℕ) (ws : List ℕ) (m : ℕ) → has n (ws ++ m ∷ []) ≡ (has n ws || (m == n))
@@ -59,15 +58,15 @@ is_distinct-without n (w ∷ ws) distinct =
       by_cases false false e h rest = rest h
 
 distinct_of : (h : Holder) (ws : List ℕ) → is_apart h ws ≡ true → is_distinct ws ≡ true
-distinct_of Held ws apart = apart
-distinct_of (HandedTo m) ws apart = (both (not (has m ws)) (is_distinct ws) apart).1
+distinct_of Holder.Held ws apart = apart
+distinct_of (Holder.HandedTo m) ws apart = (both (not (has m ws)) (is_distinct ws) apart).1
 
 -- a new waiter leaves holder and waiters apart
 pub is_apart-push : (h : Holder) (ws : List ℕ) (n : ℕ) → is_apart h ws ≡ true
     → is_handed_to h n ≡ false → has n ws ≡ false
     → is_apart h (ws ++ n ∷ []) ≡ true
-is_apart-push Held ws n apart other absent = rw (is_distinct-push ws n, absent) apart
-is_apart-push (HandedTo m) ws n apart other absent =
+is_apart-push Holder.Held ws n apart other absent = rw (is_distinct-push ws n, absent) apart
+is_apart-push (Holder.HandedTo m) ws n apart other absent =
     let parts = both (not (has m ws)) (is_distinct ws) apart in
     rw (
       has-push m ws n,
@@ -81,14 +80,14 @@ is_apart-push (HandedTo m) ws n apart other absent =
 -- a waiter that leaves does too
 pub is_apart-without : (h : Holder) (ws : List ℕ) (n : ℕ) → is_apart h ws ≡ true
     → is_apart h (without_waiter n ws) ≡ true
-is_apart-without Held ws n apart = is_distinct-without n ws apart
-is_apart-without (HandedTo m) ws n apart =
+is_apart-without Holder.Held ws n apart = is_distinct-without n ws apart
+is_apart-without (Holder.HandedTo m) ws n apart =
     let parts = both (not (has m ws)) (is_distinct ws) apart in
     rw (has-without m n ws (not-true (has m ws) parts.0)) (is_distinct-without n ws parts.1)
 
 -- and so does one that is taken from the end and handed the guard
 is_apart-pop : (h : Holder) (ws rest : List ℕ) (m : ℕ) → is_apart h ws ≡ true → ws ≡ rest ++ m ∷ []
-    → is_apart (HandedTo m) rest ≡ true
+    → is_apart (Holder.HandedTo m) rest ≡ true
 is_apart-pop h ws rest m apart is =
     sym (is_distinct-push rest m) ∙ rw is at (distinct_of h ws apart)
 
@@ -96,10 +95,10 @@ module _ {V : Type 0} where
   -- the same of what is stored, while it is loading
   pub pass_on_sound : (s : Stage V) (ws rest : List ℕ) (m : ℕ) → is_sound (life_of s ws) ≡ true
       → is_loading (life_of s ws) ≡ true
-      → ws ≡ rest ++ m ∷ [] → is_apart (HandedTo m) rest ≡ true
-  pass_on_sound (Loading h) ws rest m sound loading is = is_apart-pop h ws rest m sound is
-  pass_on_sound (Filled v) ws rest m sound loading is = absurd (cc)
-  pass_on_sound GivenUp ws rest m sound loading is = absurd (cc)
+      → ws ≡ rest ++ m ∷ [] → is_apart (Holder.HandedTo m) rest ≡ true
+  pass_on_sound (Stage.Loading h) ws rest m sound loading is = is_apart-pop h ws rest m sound is
+  pass_on_sound (Stage.Filled v) ws rest m sound loading is = absurd (cc)
+  pass_on_sound Stage.GivenUp ws rest m sound loading is = absurd (cc)
 
 -- a list is empty, or has a last one
 pub last-waiter : (ws : List ℕ)

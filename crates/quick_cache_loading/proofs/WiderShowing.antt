@@ -3,7 +3,9 @@
 use Rattle.std.proofs.Common.{List, [], ◌∷◌}
 use Rattle.quick_cache_loading.specs.Core.{CoreState}
 use Rattle.quick_cache_loading.specs.LoadingStep.{LoadingStep}
-use Rattle.quick_cache_loading.specs.LoadingRow.{LoadingRow, ActingRow, acts, no_row_applies, creates, joins, lacks_room, shows_the_value, lacks_a_clone, fills, hands_on, gives_up, receives, waits_on, withdraws, cancels_in_vain, leaves}
+use Rattle.quick_cache_loading.specs.LoadingRow.{LoadingRow, ActingRow, acts, no_row_applies, creates, joins, lacks_room, shows_the_value}
+use Rattle.quick_cache_loading.specs.LoadingRow.{lacks_a_clone, fills, hands_on, gives_up, receives, waits_on, withdraws, cancels_in_vain}
+use Rattle.quick_cache_loading.specs.LoadingRow.{leaves}
 use Rattle.quick_cache_loading.specs.LoadingRun.{LoadingRun}
 use Rattle.quick_cache_loading.proofs.WhenRowsApply.{NoRowApplies-from, applies-from_none}
 use Rattle.quick_cache_loading.proofs.RowsToCases.{tables_agree}

@@ -2,7 +2,6 @@
 use Rattle.std.specs.Prelude.{ℕ, ◌==◌, Bool, true, false, not, ◌&&◌, ◌||◌, List, [], ◌∷◌, Option, Some, None}
 use Rattle.quick_cache_loading.specs.Waiting.{has, is_distinct}
 use Rattle.quick_cache_loading.specs.declared.protocol.life.Holder.{Holder}
-use Rattle.quick_cache_loading.specs.declared.protocol.life.Holder.TheVariants.{Held, HandedTo}
 
 -- A life is loading, with a holder of the guard and a list of those who wait; or filled with a
 -- value; or given up.
@@ -26,13 +25,13 @@ new_core = core_state GivenUp false
 
 -- the guard is on its way to the waiter
 abbrev pub is_handed_to : Holder → ℕ → Bool
-is_handed_to Held n = false
-is_handed_to (HandedTo m) n = m == n
+is_handed_to Holder.Held n = false
+is_handed_to (Holder.HandedTo m) n = m == n
 
 -- the waiters are distinct, and the one that the guard is on its way to is not among them
 abbrev pub is_apart : Holder → List ℕ → Bool
-is_apart Held waiters = is_distinct waiters
-is_apart (HandedTo m) waiters = not (has m waiters) && is_distinct waiters
+is_apart Holder.Held waiters = is_distinct waiters
+is_apart (Holder.HandedTo m) waiters = not (has m waiters) && is_distinct waiters
 
 -- a life that can be: while it loads, holder and waiters are apart
 abbrev pub is_sound : {V : Type 0} → Life V → Bool
@@ -48,8 +47,8 @@ waiters_of GivenUp = []
 
 -- all numbers that a life has: of the one to whom the guard was handed, and of those who wait
 abbrev pub numbers_in : {V : Type 0} → Life V → List ℕ
-numbers_in (Loading Held waiters) = waiters
-numbers_in (Loading (HandedTo m) waiters) = m ∷ waiters
+numbers_in (Loading Holder.Held waiters) = waiters
+numbers_in (Loading (Holder.HandedTo m) waiters) = m ∷ waiters
 numbers_in (Filled v) = []
 numbers_in GivenUp = []
 
@@ -90,8 +89,8 @@ concerns n GivenUp = false
 
 -- 1 for a held guard, 0 for one on its way
 abbrev pub held_by : Holder → ℕ
-held_by Held = 1
-held_by (HandedTo n) = 0
+held_by Holder.Held = 1
+held_by (Holder.HandedTo n) = 0
 
 -- the same of a life: a guard is held only while it loads
 abbrev pub held_in : {V : Type 0} → Life V → ℕ
@@ -105,8 +104,8 @@ held_count core = held_in core.life
 
 -- 0 for a held guard, 1 for one on its way
 abbrev pub handed_by : Holder → ℕ
-handed_by Held = 0
-handed_by (HandedTo n) = 1
+handed_by Holder.Held = 0
+handed_by (Holder.HandedTo n) = 1
 
 -- the same of a life
 abbrev pub handed_in : {V : Type 0} → Life V → ℕ

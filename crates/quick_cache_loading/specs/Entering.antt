@@ -1,61 +1,59 @@
 -- Those who come to a placeholder.
 use Rattle.std.specs.Prelude.{◌≡◌, ℕ, Bool, true, false, Some, Result, Ok, Err}
-use Rattle.quick_cache_model.specs.declared.refusal.Refusal.TheVariants.{Memory, TicketsSpent}
+use Rattle.quick_cache_model.specs.declared.refusal.Refusal.{Refusal}
 use Rattle.quick_cache_loading.specs.LoadingStep.{LoadingStep}
 use Rattle.quick_cache_loading.specs.Core.{CoreState}
-use Rattle.quick_cache_loading.specs.declared.protocol.events.Event.TheVariants.{Create, Join, TimeOut}
+use Rattle.quick_cache_loading.specs.declared.protocol.events.Event.{Event}
 use Rattle.quick_cache_loading.specs.declared.protocol.events.Answer.{Answer}
-use Rattle.quick_cache_loading.specs.declared.protocol.events.Answer.TheVariants as answer
 use Rattle.quick_cache_loading.specs.declared.waiting.waited.Waited.{Waited}
-use Rattle.quick_cache_loading.specs.declared.waiting.waited.Waited.TheVariants as waited
 use Rattle.quick_cache_loading.specs.Waiters.{IsGuard, value_or_again}
 
 -- What one who came to wait is told of the core's answer: its number, or the value; and where
 -- neither is of use that it looks in the shard again.
 abbrev pub TellsNewcomer : {V : Type 0} → Bool → ℕ → Answer V → Result ℕ (Waited V) → Type 0
-TellsNewcomer stands n answer.Joined told = told ≡ Ok n
-TellsNewcomer stands n (answer.Value v) told = told ≡ Err (value_or_again stands v)
-TellsNewcomer stands n (answer.Refused why) told = told ≡ Err (waited.Refused Memory)
-TellsNewcomer stands n _ told = told ≡ Err waited.Again
+TellsNewcomer stands n Answer.Joined told = told ≡ Ok n
+TellsNewcomer stands n (Answer.Value v) told = told ≡ Err (value_or_again stands v)
+TellsNewcomer stands n (Answer.Refused why) told = told ≡ Err (Waited.Refused Refusal.Memory)
+TellsNewcomer stands n _ told = told ≡ Err Waited.Again
 
 -- what one whose time is over is told of a value: it, or that its time is over exactly where the
 -- query does not stand for the key
 abbrev pub value_or_timeout : {V : Type 0} → Bool → V → Waited V
-value_or_timeout true value = waited.Value value
-value_or_timeout false value = waited.Timeout
+value_or_timeout true value = Waited.Value value
+value_or_timeout false value = Waited.Timeout
 
 -- What one who came when its time was over is told of the core's answer: the value, or that its
 -- time is over. A guard that is on its way to its number would be its own.
 abbrev pub TellsOnce : {V : Type 0} → Bool → Answer V → Waited V → Type 0
-TellsOnce stands (answer.Value v) told = told ≡ value_or_timeout stands v
-TellsOnce stands answer.Created told = IsGuard (Some told)
-TellsOnce stands answer.Guard told = IsGuard (Some told)
-TellsOnce stands (answer.Refused why) told = told ≡ waited.Refused Memory
-TellsOnce stands _ told = told ≡ waited.Timeout
+TellsOnce stands (Answer.Value v) told = told ≡ value_or_timeout stands v
+TellsOnce stands Answer.Created told = IsGuard (Some told)
+TellsOnce stands Answer.Guard told = IsGuard (Some told)
+TellsOnce stands (Answer.Refused why) told = told ≡ Waited.Refused Refusal.Memory
+TellsOnce stands _ told = told ≡ Waited.Timeout
 
 module _ {V : Type 0} (shows : V → V → Type 0) (stands : Bool) where
   -- it looks once, by this number, and is told so
   pub record LooksOnce (old : CoreState V) (n : ℕ) (told : Waited V) (new : CoreState V)
       : Type 0 where
     pub answer : Answer V
-    pub step : LoadingStep shows old (TimeOut n) answer new
+    pub step : LoadingStep shows old (Event.TimeOut n) answer new
     pub tells : TellsOnce stands answer told
 
   -- One comes. A life begins, and it gets the share. Else the life goes on, and it joins by this
   -- number, or looks once where its time is over; or there is no room for its slot, or no number.
   pub data Enters (n : ℕ) (is_over : Bool) (old : CoreState V) : Result ℕ (Waited V)
       → CoreState V → Type 0 where
-    begins : (share : ℕ) (new : CoreState V) → LoadingStep shows old Create answer.Created new
-        → Enters n is_over old (Err (waited.Guard share)) new
+    begins : (share : ℕ) (new : CoreState V) → LoadingStep shows old Event.Create Answer.Created new
+        → Enters n is_over old (Err (Waited.Guard share)) new
     joins : (a : Answer V) (told : Result ℕ (Waited V)) (new : CoreState V)
-        → is_over ≡ false → LoadingStep shows old Create answer.NotNow old
-        → LoadingStep shows old (Join n) a new → TellsNewcomer stands n a told
+        → is_over ≡ false → LoadingStep shows old Event.Create Answer.NotNow old
+        → LoadingStep shows old (Event.Join n) a new → TellsNewcomer stands n a told
         → Enters n is_over old told new
     looks_once : (told : Waited V) (new : CoreState V) → is_over ≡ true
-        → LoadingStep shows old Create answer.NotNow old → LooksOnce old n told new
+        → LoadingStep shows old Event.Create Answer.NotNow old → LooksOnce old n told new
         → Enters n is_over old (Err told) new
-    lacks_room : is_over ≡ false → LoadingStep shows old Create answer.NotNow old
-        → Enters n is_over old (Err (waited.Refused Memory)) old
+    lacks_room : is_over ≡ false → LoadingStep shows old Event.Create Answer.NotNow old
+        → Enters n is_over old (Err (Waited.Refused Refusal.Memory)) old
     all_spent : n ≡ 18446744073709551615 → is_over ≡ false
-        → LoadingStep shows old Create answer.NotNow old
-        → Enters n is_over old (Err (waited.Refused TicketsSpent)) old
+        → LoadingStep shows old Event.Create Answer.NotNow old
+        → Enters n is_over old (Err (Waited.Refused Refusal.TicketsSpent)) old

@@ -2,57 +2,54 @@
 -- lets go.
 use Rattle.std.specs.Prelude.{ℕ, ◌==◌, Bool, true, false, not, ◌&&◌, ◌||◌, Option, Some, None}
 use Rattle.quick_cache_loading.specs.declared.protocol.events.Event.{Event}
-use Rattle.quick_cache_loading.specs.declared.protocol.events.Event.TheVariants.{Create, Join, Fill, Abandon, Take, TimeOut, Cancel}
 use Rattle.quick_cache_loading.specs.declared.protocol.events.Answer.{Answer}
-use Rattle.quick_cache_loading.specs.declared.protocol.events.Answer.TheVariants as answer
-use Rattle.quick_cache_loading.specs.declared.protocol.events.Answer.TheVariants.{Created, Value, Guard, Waiting, TimedOut, Done, Refused, NotNow}
 
 -- the answer is `NotNow`
 abbrev pub is_not_now : {V : Type 0} → Answer V → Bool
-is_not_now NotNow = true
+is_not_now Answer.NotNow = true
 is_not_now _ = false
 
 -- the answer only tells, and changes nothing
 abbrev pub only_tells : {V : Type 0} → Answer V → Bool
-only_tells (Value v) = true
-only_tells Waiting = true
-only_tells (Refused why) = true
-only_tells NotNow = true
+only_tells (Answer.Value v) = true
+only_tells Answer.Waiting = true
+only_tells (Answer.Refused why) = true
+only_tells Answer.NotNow = true
 only_tells _ = false
 
 -- the guards that an answer gives
 abbrev pub given_by : {V : Type 0} → Answer V → ℕ
-given_by Created = 1
-given_by Guard = 1
+given_by Answer.Created = 1
+given_by Answer.Guard = 1
 given_by _ = 0
 
 -- the most guards that the answers to an event give: none for Join, Fill, Abandon, Cancel and Leave
 abbrev pub most_given : {V : Type 0} → Event V → ℕ
-most_given Create = 1
-most_given (Take n) = 1
-most_given (TimeOut n) = 1
+most_given Event.Create = 1
+most_given (Event.Take n) = 1
+most_given (Event.TimeOut n) = 1
 most_given _ = 0
 
 -- 1 for an answer other than `NotNow`
 abbrev pub done_by : {V : Type 0} → Answer V → ℕ
-done_by NotNow = 0
+done_by Answer.NotNow = 0
 done_by _ = 1
 
 -- the most guards that an event takes back: none but by Fill and Abandon
 abbrev pub most_taken : {V : Type 0} → Event V → ℕ
-most_taken (Fill v) = 1
-most_taken Abandon = 1
+most_taken (Event.Fill v) = 1
+most_taken Event.Abandon = 1
 most_taken _ = 0
 
 -- the guards that an event takes back: one by a Fill or an Abandon that was not answered `NotNow`
 abbrev pub taken_by : {V : Type 0} → Event V → Answer V → ℕ
-taken_by (Fill v) a = done_by a
-taken_by Abandon a = done_by a
+taken_by (Event.Fill v) a = done_by a
+taken_by Event.Abandon a = done_by a
 taken_by _ a = 0
 
 -- the value that an answer shows
 abbrev pub shown_by : {V : Type 0} → Answer V → Option V
-shown_by (Value v) = Some v
+shown_by (Answer.Value v) = Some v
 shown_by _ = None
 
 -- a value is known, and this one may be shown for it
@@ -67,29 +64,29 @@ ShowsNothing value shown = ⊥
 -- the value of the life after an event: a fill gives it, a new life has none, and nothing else
 -- changes it
 abbrev pub value_after : {V : Type 0} → Option V → Event V → Answer V → Option V
-value_after known (Fill v) Done = Some v
-value_after known Create Created = None
+value_after known (Event.Fill v) Answer.Done = Some v
+value_after known Event.Create Answer.Created = None
 value_after known e a = known
 
 -- whether the life is given up after an answer: it ends by `GivenUp`, begins by `Created`, and else
 -- stays as it was
 abbrev pub given_up_after : {V : Type 0} → Bool → Answer V → Bool
-given_up_after before answer.GivenUp = true
-given_up_after before Created = false
+given_up_after before Answer.GivenUp = true
+given_up_after before Answer.Created = false
 given_up_after before _ = before
 
 -- the waiter is let go: it is handed the guard, times out or cancels, or the fill comes
 abbrev pub lets_go : {V : Type 0} → ℕ → Event V → Answer V → Bool
-lets_go n Abandon (answer.HandedTo m) = m == n
-lets_go n (Cancel k) (answer.HandedTo m) = m == n
-lets_go n (TimeOut m) TimedOut = m == n
-lets_go n (Cancel m) Done = m == n
-lets_go n (Fill v) Done = true
+lets_go n Event.Abandon (Answer.HandedTo m) = m == n
+lets_go n (Event.Cancel k) (Answer.HandedTo m) = m == n
+lets_go n (Event.TimeOut m) Answer.TimedOut = m == n
+lets_go n (Event.Cancel m) Answer.Done = m == n
+lets_go n (Event.Fill v) Answer.Done = true
 lets_go n e a = false
 
 -- the waiter is answered that it joined
 abbrev pub joins_as : {V : Type 0} → ℕ → Event V → Answer V → Bool
-joins_as n (Join m) answer.Joined = m == n
+joins_as n (Event.Join m) Answer.Joined = m == n
 joins_as n e a = false
 
 -- whether the waiter waits after an event, by what it did before: it does once it has joined, and

@@ -5,7 +5,6 @@ use Rattle.quick_cache_loading.specs.LoadingStep.{LoadingStep}
 use Rattle.quick_cache_loading.specs.LoadingLaws.{given_by, taken_by, shown_by, MayShow, value_after, given_up_after, waits_after}
 use Rattle.quick_cache_loading.specs.declared.protocol.events.Event.{Event}
 use Rattle.quick_cache_loading.specs.declared.protocol.events.Answer.{Answer}
-use Rattle.quick_cache_loading.specs.declared.protocol.events.Answer.TheVariants.{Joined, GivenUp}
 
 -- A schedule: each event is a step, and has its own answer.
 abbrev pub LoadingRun : {V : Type 0} → (V → V → Type 0)
@@ -41,7 +40,7 @@ ShowsTheFill shows known _ _ = Unit {0}
 abbrev pub NoneJoinsGivenUp : {V : Type 0} → Bool → List (Answer V) → Type 0
 NoneJoinsGivenUp given_up [] = Unit {0}
 NoneJoinsGivenUp given_up (a ∷ answers) =
-    (given_up ≡ true → a ≡ Joined → ⊥) × NoneJoinsGivenUp (given_up_after given_up a) answers
+    (given_up ≡ true → a ≡ Answer.Joined → ⊥) × NoneJoinsGivenUp (given_up_after given_up a) answers
 
 -- whether the waiter waits when the schedule ends: it waited at its start or joined in it, and was
 -- not let go since
@@ -54,6 +53,6 @@ waits_at_end n before _ _ = before
 abbrev pub NoGiveUpWhileWaiting : {V : Type 0}
     → ℕ → Bool → List (Event V) → List (Answer V) → Type 0
 NoGiveUpWhileWaiting n before (e ∷ events) (a ∷ answers) =
-    (a ≡ GivenUp → before ≡ false)
+    (a ≡ Answer.GivenUp → before ≡ false)
     × NoGiveUpWhileWaiting n (waits_after n before e a) events answers
 NoGiveUpWhileWaiting n before _ _ = Unit {0}

@@ -4,7 +4,6 @@ use Rattle.std.specs.List.{filter}
 use Rattle.futures.specs.Task.{Wakes}
 use Rattle.futures.specs.declared.task.context.Context.{Context}
 use Rattle.quick_cache_loading.specs.declared.protocol.events.Answer.{Answer}
-use Rattle.quick_cache_loading.specs.declared.protocol.events.Answer.TheVariants.{HandedTo}
 use Rattle.quick_cache_loading.specs.declared.waiting.tasks.Slot.{Slot}
 use Rattle.quick_cache_loading.specs.Waiting.{has}
 
@@ -19,7 +18,7 @@ slots_of_others waiter slots = filter (λ slot. not (slot.waiter == waiter)) slo
 
 -- the slots after an answer: one to whom the guard is handed is woken, and nobody else
 abbrev pub slots_after : {V : Type 0} → Answer V → List Slot → List Slot
-slots_after (HandedTo waiter) slots = slots_of_others waiter slots
+slots_after (Answer.HandedTo waiter) slots = slots_of_others waiter slots
 slots_after _ slots = slots
 
 -- the slots after a fill: all are woken by it, and none where it was refused

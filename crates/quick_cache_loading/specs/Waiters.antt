@@ -1,16 +1,11 @@
 -- What is seen of a placeholder's locked state.
 use Rattle.std.specs.Prelude.{◌≡◌, ℕ, ◌<◌, All, ⊤, Bool, true, false, List, Option, Some, None, Result, Ok, Err}
 use Rattle.quick_cache_model.specs.declared.refusal.Refusal.{Refusal}
-use Rattle.quick_cache_model.specs.declared.refusal.Refusal.TheVariants as refusal
-use Rattle.quick_cache_model.specs.declared.refusal.Refusal.TheVariants.{Memory}
 use Rattle.quick_cache_loading.specs.LoadingStep.{LoadingStep}
 use Rattle.quick_cache_loading.specs.declared.protocol.events.Event.{Event}
-use Rattle.quick_cache_loading.specs.declared.protocol.events.Event.TheVariants as event
 use Rattle.quick_cache_loading.specs.Core.{CoreState, Life, numbers_in, waiters_of}
 use Rattle.quick_cache_loading.specs.declared.protocol.events.Answer.{Answer}
-use Rattle.quick_cache_loading.specs.declared.protocol.events.Answer.TheVariants as answer
 use Rattle.quick_cache_loading.specs.declared.waiting.waited.Waited.{Waited}
-use Rattle.quick_cache_loading.specs.declared.waiting.waited.Waited.TheVariants as waited
 use Rattle.quick_cache_loading.specs.declared.waiting.tasks.Slot.{Slot}
 use Rattle.quick_cache_loading.specs.declared.waiting.place.Place.{Place}
 use Rattle.quick_cache_loading.specs.Tasks.{numbers_of}
@@ -32,45 +27,45 @@ pub record HaveSlots {V : Type 0} (slots : List Slot) (next : ℕ) (life : Life 
 
 -- the life is given up by this answer, so that its placeholder is to leave the shard
 abbrev pub ends_life : {V : Type 0} → Answer V → Bool
-ends_life answer.GivenUp = true
+ends_life Answer.GivenUp = true
 ends_life _ = false
 
 -- one joined, and waits from now on
 abbrev pub has_joined : {V : Type 0} → Answer V → Bool
-has_joined answer.Joined = true
+has_joined Answer.Joined = true
 has_joined _ = false
 
 -- one goes on waiting
 abbrev pub waits_on : {V : Type 0} → Answer V → Bool
-waits_on answer.Waiting = true
+waits_on Answer.Waiting = true
 waits_on _ = false
 
 -- what a waiter that looks does: it takes what has come, for the last time or not
 abbrev pub look_event : {V : Type 0} → ℕ → Bool → Event V
-look_event waiter true = event.TimeOut waiter
-look_event waiter false = event.Take waiter
+look_event waiter true = Event.TimeOut waiter
+look_event waiter false = Event.Take waiter
 
 -- it is told that it has the guard
 abbrev pub IsGuard : {V : Type 0} → Option (Waited V) → Type 0
-IsGuard (Some (waited.Guard share)) = ⊤
+IsGuard (Some (Waited.Guard share)) = ⊤
 IsGuard _ = ⊥
 
 -- what one is told of a value: it, or that one looks again exactly where the query does not stand
 -- for the key
 abbrev pub value_or_again : {V : Type 0} → Bool → V → Waited V
-value_or_again true value = waited.Value value
-value_or_again false value = waited.Again
+value_or_again true value = Waited.Value value
+value_or_again false value = Waited.Again
 
 -- What one who waits is told of the core's answer: the value, or that it looks again where that is
 -- of another key; and nothing while it goes on waiting. The core refuses for want of memory alone.
 abbrev pub Tells : {V : Type 0} → Bool → Answer V → Option (Waited V) → Type 0
-Tells stands (answer.Value v) told = told ≡ Some (value_or_again stands v)
-Tells stands answer.Created told = IsGuard told
-Tells stands answer.Guard told = IsGuard told
-Tells stands answer.Waiting told = told ≡ None
-Tells stands answer.TimedOut told = told ≡ Some waited.Timeout
-Tells stands (answer.Refused why) told = told ≡ Some (waited.Refused Memory)
-Tells stands _ told = told ≡ Some waited.Again
+Tells stands (Answer.Value v) told = told ≡ Some (value_or_again stands v)
+Tells stands Answer.Created told = IsGuard told
+Tells stands Answer.Guard told = IsGuard told
+Tells stands Answer.Waiting told = told ≡ None
+Tells stands Answer.TimedOut told = told ≡ Some Waited.Timeout
+Tells stands (Answer.Refused why) told = told ≡ Some (Waited.Refused Refusal.Memory)
+Tells stands _ told = told ≡ Some Waited.Again
 
 -- it looks: the core makes the event, and it is told so
 pub record Looks {V : Type 0} (shows : V → V → Type 0) (stands : Bool) (old : CoreState V)
@@ -81,28 +76,28 @@ pub record Looks {V : Type 0} (shows : V → V → Type 0) (stands : Bool) (old 
 
 -- what loading may be refused for: memory, a slot or a ticket
 abbrev pub IsLoadRefusal : Refusal → Type 0
-IsLoadRefusal refusal.Memory = ⊤
-IsLoadRefusal refusal.SlotsFull = ⊤
-IsLoadRefusal refusal.TicketsSpent = ⊤
-IsLoadRefusal refusal.Finished = ⊥
+IsLoadRefusal Refusal.Memory = ⊤
+IsLoadRefusal Refusal.SlotsFull = ⊤
+IsLoadRefusal Refusal.TicketsSpent = ⊤
+IsLoadRefusal Refusal.Finished = ⊥
 
 -- One is told a value of which this is true, a share of this ticket, or a refusal only where loading
 -- may be refused so.
 abbrev pub IsTold : {V : Type 0} → ℕ → (V → Type 0) → Waited V → Type 0
-IsTold ticket P (waited.Value value) = P value
-IsTold ticket P (waited.Guard share) = share ≡ ticket
-IsTold ticket P (waited.Refused why) = IsLoadRefusal why
-IsTold ticket P waited.Timeout = ⊤
-IsTold ticket P waited.Again = ⊤
+IsTold ticket P (Waited.Value value) = P value
+IsTold ticket P (Waited.Guard share) = share ≡ ticket
+IsTold ticket P (Waited.Refused why) = IsLoadRefusal why
+IsTold ticket P Waited.Timeout = ⊤
+IsTold ticket P Waited.Again = ⊤
 
 -- one is told that its time is over
 abbrev pub is_timeout : {V : Type 0} → Waited V → Bool
-is_timeout waited.Timeout = true
+is_timeout Waited.Timeout = true
 is_timeout _ = false
 
 -- the core answers that a waiter's time is over
 abbrev pub is_timed_out : {V : Type 0} → Answer V → Bool
-is_timed_out answer.TimedOut = true
+is_timed_out Answer.TimedOut = true
 is_timed_out _ = false
 
 -- what one is told, and nothing where it keeps its place

@@ -1,11 +1,15 @@
 //! Loading as a pure machine: the life of a placeholder, one event at a time.
-ghost use Rattle.std.specs.Prelude.{◌≡◌, ℕ, ◌+◌, ◌≤◌, ◌↔◌, ◌==◌, min, [], ◌∷◌, ◌++◌, true, false, not, if◌then◌else◌, IfSome, IsOk, IfOk, IfErr, OnErr, vec_len};
+ghost use Rattle.std.specs.Prelude.{◌≡◌, ℕ, ◌+◌, ◌≤◌, ◌↔◌, ◌==◌, min, [], ◌∷◌, ◌++◌, true, false, not, if◌then◌else◌, IfSome, IsOk, IfOk};
+ghost use Rattle.std.specs.Prelude.{IfErr, OnErr, vec_len};
 ghost use Rattle.std.specs.Vec.{vec_allocator};
-ghost use Rattle.quick_cache_loading.specs.Core.{new_core, held_count, handed_count, is_loading, is_given_up, value_of, waiters_of, waits, concerns};
+ghost use Rattle.quick_cache_loading.specs.Core.{new_core, held_count, handed_count, is_loading, is_given_up, value_of, waiters_of, waits};
+ghost use Rattle.quick_cache_loading.specs.Core.{concerns};
 ghost use Rattle.quick_cache_loading.specs.LoadingStep.{LoadingStep};
 ghost use Rattle.quick_cache_loading.specs.LoadingRow.{LoadingRow, NoRowApplies};
-ghost use Rattle.quick_cache_loading.specs.LoadingLaws.{is_not_now, only_tells, given_by, most_given, most_taken, taken_by, done_by, shown_by, MayShow, ShowsNothing, value_after, given_up_after, lets_go};
-ghost use Rattle.quick_cache_loading.specs.LoadingRun.{LoadingRun, guards_given, guards_taken, ShowsTheFill, NoneJoinsGivenUp, NoGiveUpWhileWaiting, waits_at_end};
+ghost use Rattle.quick_cache_loading.specs.LoadingLaws.{is_not_now, only_tells, given_by, most_given, most_taken, taken_by, done_by};
+ghost use Rattle.quick_cache_loading.specs.LoadingLaws.{shown_by, MayShow, ShowsNothing, value_after, given_up_after, lets_go};
+ghost use Rattle.quick_cache_loading.specs.LoadingRun.{LoadingRun, guards_given, guards_taken, ShowsTheFill, NoneJoinsGivenUp};
+ghost use Rattle.quick_cache_loading.specs.LoadingRun.{NoGiveUpWhileWaiting, waits_at_end};
 
 mod events;
 mod laws;

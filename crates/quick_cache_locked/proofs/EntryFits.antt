@@ -9,9 +9,7 @@ use Rattle.quick_cache_model.specs.Hooks.{Rules}
 use Rattle.quick_cache_model.specs.Lookups.{looked_up}
 use Rattle.quick_cache_model.specs.Removal.{weighed, reweighed}
 use Rattle.quick_cache_model.specs.declared.calls.entry.EntryAction.{EntryAction}
-use Rattle.quick_cache_model.specs.declared.calls.entry.EntryAction.TheVariants.{Remove as remove, ReplaceWithGuard as replace}
 use Rattle.quick_cache_model.specs.declared.calls.entry.EntryOrPlaceholder.{EntryOrPlaceholder}
-use Rattle.quick_cache_model.specs.declared.calls.entry.EntryOrPlaceholder.TheVariants.{Kept as kept, Removed as removed, Replaced as replaced, ExistingPlaceholder as existing, NewPlaceholder as new_one}
 use Rattle.quick_cache_model.specs.Callbacks.{ActsAsChosen, choice_of}
 use Rattle.quick_cache_policy.specs.Entering.{AnswersEntry}
 use Rattle.quick_cache_guard.specs.Acts.{Chooses, DoesAsChosen, IfAbsent, IfGone, IfKept, LeavesFit, MayTell}
@@ -106,16 +104,16 @@ module _ {F K V T : Type 0} (fits : K → V → Type 0)
         (new : CacheState K V)
         → AnswersEntry calls rules stands_for callback old own_ticket given hash answer next new
         → AllFit fits old → AllFit fits new
-    AnswersEntry-fits (Ok (kept told)) next new acts fit =
+    AnswersEntry-fits (Ok (EntryOrPlaceholder.Kept told)) next new acts fit =
         chosen_fits _ _ _ next new acts fit
-    AnswersEntry-fits (Ok (removed key value)) next new acts fit =
+    AnswersEntry-fits (Ok (EntryOrPlaceholder.Removed key value)) next new acts fit =
         chosen_fits _ _ _ next new acts fit
-    AnswersEntry-fits (Ok (replaced placeholder value)) next new acts fit =
+    AnswersEntry-fits (Ok (EntryOrPlaceholder.Replaced placeholder value)) next new acts fit =
         chosen_fits _ _ _ next new acts fit
-    AnswersEntry-fits (Ok (existing placeholder)) next new meets fit =
+    AnswersEntry-fits (Ok (EntryOrPlaceholder.ExistingPlaceholder placeholder)) next new meets fit =
         SameButOrder-fits fits meets.1.ordered new meets.1.same
         (MeetsPlaceholder-fits fits stands_for old _ meets.1.ordered meets.1.holds fit)
-    AnswersEntry-fits (Ok (new_one placeholder)) next new makes fit =
+    AnswersEntry-fits (Ok (EntryOrPlaceholder.NewPlaceholder placeholder)) next new makes fit =
         SameButOrder-fits fits makes.1.step.ordered new makes.1.step.same
         (MakesPlaceholder-fits fits stands_for old hash makes.1.key makes.1.step.ordered
         makes.1.step.holds fit)
@@ -128,21 +126,22 @@ module _ {F K V T : Type 0} (fits : K → V → Type 0)
         (new : CacheState K V)
         → AnswersEntry calls rules stands_for callback old own_ticket given hash answer next new
         → AllFit fits old → IfGone answer (λ value. FitsQuery fits stands_for value)
-    AnswersEntry-gives (Ok (kept told)) next new acts fit = tt
-    AnswersEntry-gives (Ok (removed key value)) next new acts fit =
+    AnswersEntry-gives (Ok (EntryOrPlaceholder.Kept told)) next new acts fit = tt
+    AnswersEntry-gives (Ok (EntryOrPlaceholder.Removed key value)) next new acts fit =
         let left = chosen_left _ _ _ next new acts fit in record {
           key = acts.item.key;
           stands = left.0;
           fits_key = subst (λ v. fits acts.item.key v) (sym acts.given.1) left.1;
         }
-    AnswersEntry-gives (Ok (replaced placeholder value)) next new acts fit =
+    AnswersEntry-gives (Ok (EntryOrPlaceholder.Replaced placeholder value)) next new acts fit =
         let left = chosen_left _ _ _ next new acts fit in record {
           key = acts.item.key;
           stands = left.0;
           fits_key = subst (λ v. fits acts.item.key v) (sym acts.given.1) left.1;
         }
-    AnswersEntry-gives (Ok (existing placeholder)) next new meets fit = tt
-    AnswersEntry-gives (Ok (new_one placeholder)) next new makes fit = tt
+    AnswersEntry-gives (Ok (EntryOrPlaceholder.ExistingPlaceholder placeholder)) next new meets
+        fit = tt
+    AnswersEntry-gives (Ok (EntryOrPlaceholder.NewPlaceholder placeholder)) next new makes fit = tt
     AnswersEntry-gives (Err refusal) next new none fit = tt
 
 module _ {F K V T W : Type 0}
@@ -155,7 +154,7 @@ module _ {F K V T W : Type 0}
       → AnswersEntry calls rules stands_for callback old own_ticket given hash answer next new
       → AllFit fits old
       → IfKept answer (λ told. MayTell (LeavesNow calls callback) fits stands_for told)
-  AnswersEntry-tells fits (Ok (kept told)) next new acts fit = record {
+  AnswersEntry-tells fits (Ok (EntryOrPlaceholder.Kept told)) next new acts fit = record {
     key = acts.item.key;
     value = acts.item.value;
     left = acts.left;
@@ -165,10 +164,13 @@ module _ {F K V T W : Type 0}
     fits_key = (ActsOnEntry-item fits rules stands_for old acts.item acts.left _ _
         acts.step.ordered acts.step.holds fit).1;
   }
-  AnswersEntry-tells fits (Ok (removed key value)) next new acts fit = tt
-  AnswersEntry-tells fits (Ok (replaced placeholder value)) next new acts fit = tt
-  AnswersEntry-tells fits (Ok (existing placeholder)) next new meets fit = tt
-  AnswersEntry-tells fits (Ok (new_one placeholder)) next new makes fit = tt
+  AnswersEntry-tells fits (Ok (EntryOrPlaceholder.Removed key value)) next new acts fit = tt
+  AnswersEntry-tells fits (Ok (EntryOrPlaceholder.Replaced placeholder value)) next new acts fit =
+      tt
+  AnswersEntry-tells fits (Ok (EntryOrPlaceholder.ExistingPlaceholder placeholder)) next new meets
+      fit = tt
+  AnswersEntry-tells fits (Ok (EntryOrPlaceholder.NewPlaceholder placeholder)) next new makes fit =
+      tt
   AnswersEntry-tells fits (Err refusal) next new none fit = tt
 
   -- where there is no item the callback is not called
@@ -176,11 +178,13 @@ module _ {F K V T W : Type 0}
       (new : CacheState K V)
       → AnswersEntry calls rules stands_for callback old own_ticket given hash answer next new
       → IfAbsent answer (next ≡ callback)
-  AnswersEntry-uncalled (Ok (kept told)) next new acts = tt
-  AnswersEntry-uncalled (Ok (removed key value)) next new acts = tt
-  AnswersEntry-uncalled (Ok (replaced placeholder value)) next new acts = tt
-  AnswersEntry-uncalled (Ok (existing placeholder)) next new meets = meets.0
-  AnswersEntry-uncalled (Ok (new_one placeholder)) next new makes = makes.0
+  AnswersEntry-uncalled (Ok (EntryOrPlaceholder.Kept told)) next new acts = tt
+  AnswersEntry-uncalled (Ok (EntryOrPlaceholder.Removed key value)) next new acts = tt
+  AnswersEntry-uncalled (Ok (EntryOrPlaceholder.Replaced placeholder value)) next new acts = tt
+  AnswersEntry-uncalled (Ok (EntryOrPlaceholder.ExistingPlaceholder placeholder)) next new meets =
+      meets.0
+  AnswersEntry-uncalled (Ok (EntryOrPlaceholder.NewPlaceholder placeholder)) next new makes =
+      makes.0
   AnswersEntry-uncalled (Err refusal) next new none = tt
 
   module _ (fits : K → V → Type 0) (fit : AllFit fits old) where
@@ -203,20 +207,24 @@ module _ {F K V T W : Type 0}
         (new : CacheState K V)
         → AnswersEntry calls rules stands_for callback old own_ticket given hash answer next new
         → DoesAsChosen (LeavesNow calls callback) fits stands_for (next ≡ callback) answer
-    AnswersEntry-chosen (Ok (kept told)) next new acts =
+    AnswersEntry-chosen (Ok (EntryOrPlaceholder.Kept told)) next new acts =
         (acts.item.key, acts.left, was_chosen _ _ _ next new acts)
-    AnswersEntry-chosen (Ok (removed key value)) next new acts =
-        subst (λ k. Chooses (LeavesNow calls callback) fits stands_for remove k value)
+    AnswersEntry-chosen (Ok (EntryOrPlaceholder.Removed key value)) next new acts =
+        subst (λ k. Chooses (LeavesNow calls callback) fits stands_for EntryAction.Remove k value)
         (sym acts.given.0)
-        (subst (λ v. Chooses (LeavesNow calls callback) fits stands_for remove acts.item.key v)
+        (subst (λ v. Chooses (LeavesNow calls callback) fits stands_for EntryAction.Remove
+        acts.item.key v)
         (sym acts.given.1) (was_chosen _ _ _ next new acts))
-    AnswersEntry-chosen (Ok (replaced placeholder value)) next new acts = (
+    AnswersEntry-chosen (Ok (EntryOrPlaceholder.Replaced placeholder value)) next new acts = (
       acts.item.key,
-      subst (λ v. Chooses (LeavesNow calls callback) fits stands_for replace acts.item.key v)
+      subst (λ v. Chooses (LeavesNow calls callback) fits stands_for EntryAction.ReplaceWithGuard
+          acts.item.key v)
           (sym acts.given.1) (was_chosen _ _ _ next new acts),
     )
-    AnswersEntry-chosen (Ok (existing placeholder)) next new meets = meets.0
-    AnswersEntry-chosen (Ok (new_one placeholder)) next new makes = makes.0
+    AnswersEntry-chosen (Ok (EntryOrPlaceholder.ExistingPlaceholder placeholder)) next new meets =
+        meets.0
+    AnswersEntry-chosen (Ok (EntryOrPlaceholder.NewPlaceholder placeholder)) next new makes =
+        makes.0
     AnswersEntry-chosen (Err refusal) next new (inl acts) =
         inr record {
           key = acts.item.key;

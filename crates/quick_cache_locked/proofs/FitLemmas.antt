@@ -1,9 +1,8 @@
 -- Items that come, go or change their place keep every value fitting its key.
-use Rattle.std.proofs.Common.{◌≡◌, ◌==◌, Bool, true, false, if◌then◌else◌, List, [], ◌∷◌, ◌++◌}
-use Rattle.std.proofs.Common.{sym, subst}
+use Rattle.std.proofs.Common.{◌≡◌, ◌==◌, Bool, true, false, if◌then◌else◌, List, [], ◌∷◌, ◌++◌, sym, subst}
 use Rattle.std.specs.List.{AllByRecursion}
-use Rattle.quick_cache_model.specs.CacheState.{CacheState, Item, Place, InHot, InCold, InStill}
-use Rattle.quick_cache_model.specs.CacheState.{items_at, with_items, place_of_item, entered, restarted_behind, rewritten, SameButOrder}
+use Rattle.quick_cache_model.specs.CacheState.{CacheState, Item, Place, InHot, InCold, InStill, items_at, with_items, place_of_item}
+use Rattle.quick_cache_model.specs.CacheState.{entered, restarted_behind, rewritten, SameButOrder}
 use Rattle.quick_cache_model.proofs.EachElement.{all-restarted, all-push, all-without, all-instead, all-permutation}
 use Rattle.quick_cache_locked.specs.Fitting.{FitsIn, AllFit}
 

@@ -1,6 +1,5 @@
 -- Removals, and a new capacity, keep every value fitting its key.
-use Rattle.std.proofs.Common.{◌≡◌, ℕ, Bool, List, ◌++◌, Option}
-use Rattle.std.proofs.Common.{sym, subst, IfSome}
+use Rattle.std.proofs.Common.{◌≡◌, ℕ, Bool, List, ◌++◌, Option, sym, subst, IfSome}
 use Rattle.std.specs.List.{AllByRecursion}
 use Rattle.quick_cache_model.specs.declared.terms.lifecycle.Lifecycle as lifecycle
 use Rattle.quick_cache_model.specs.CacheState.{CacheState, Item, Place, UpToOrder, with_items}

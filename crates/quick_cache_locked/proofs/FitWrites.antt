@@ -1,6 +1,5 @@
 -- Writes keep every value fitting its key, whatever is pinned.
-use Rattle.std.proofs.Common.{ℕ, min, Bool, List, Option, Some, None, Result, Ok, Err}
-use Rattle.std.proofs.Common.{sym, subst}
+use Rattle.std.proofs.Common.{ℕ, min, Bool, List, Option, Some, None, Result, Ok, Err, IfErr, sym, subst}
 use Rattle.std.specs.List.{AllByRecursion}
 use Rattle.quick_cache_model.specs.declared.terms.lifecycle.Lifecycle as lifecycle
 use Rattle.quick_cache_model.specs.declared.queue.Queue.{Queue}
@@ -8,11 +7,14 @@ use Rattle.quick_cache_model.specs.declared.refusal.Refusal.{Refusal}
 use Rattle.quick_cache_model.specs.CacheState.{CacheState, Item, Place}
 use Rattle.quick_cache_model.specs.Hooks.{Rules, Hooks}
 use Rattle.quick_cache_model.specs.Finding.{IsItemAt}
-use Rattle.quick_cache_model.specs.Writes.{Strategy, new_item}
+use Rattle.quick_cache_model.specs.Writes.{Strategy, Insert, new_item}
 use Rattle.quick_cache_model.proofs.EachElement.{all-middle}
 use Rattle.quick_cache_shard.specs.Lifecycles.{hooks_by}
 use Rattle.quick_cache_shard.specs.Steps.{AnswersRestore}
-use Rattle.quick_cache_shard.specs.Shard.{Wrote, GivesBack, AnswersWrite}
+use Rattle.quick_cache_shard.specs.Shard.{Wrote}
+use Rattle.quick_cache_shard.specs.Inserts.{Inserts}
+use Rattle.quick_cache_shard.specs.Replaces.{Replaces}
+use Rattle.quick_cache_model.specs.Kinds.{replacement}
 use Rattle.quick_cache_locked.specs.Fitting.{FitsIn, AllFit}
 use Rattle.quick_cache_model.proofs.Fitting.{RunsHooks-fits, TellsBeside-fits, TellsBeside-gives}
 use Rattle.quick_cache_locked.proofs.FitLemmas.{AllFit-at, SameButOrder-fits, entered-fits}
@@ -43,58 +45,48 @@ module _ {K V : Type 0} (fits : K → V → Type 0) where
         wrote.step.holds.2 is fit
 
     -- the pair that it gave back, if it did
-    pub GivesBack-gives : (back_key : K) (back_value : V) (refusal : Option Refusal)
-        → GivesBack steady hooks rules equal strategy old first key value back_key back_value
-        refusal new last
-        → fits back_key back_value
-    GivesBack-gives back_key back_value None wrote =
-        TellsBeside-gives fits key value old new wrote.step.calls (Some (back_key, back_value))
+    pub Wrote-gives : (back : K × V)
+        → Wrote steady hooks rules equal strategy old first key value (Some back) new last
+        → fits back.0 back.1
+    Wrote-gives back wrote =
+        TellsBeside-gives fits key value old new wrote.step.calls (Some back)
         (RunsHooks-fits fits hooks keeps wrote.step.calls first last wrote.step.runs)
         wrote.step.holds.2 is fit
-    GivesBack-gives back_key back_value (Some refusal) refuses =
-        subst (λ (k : K). fits k back_value) (sym refuses.key_back)
-        (subst (λ (v : V). fits key v) (sym refuses.value_back) is)
 
-    -- a write that gave a pair back
-    pub GivesBack-fits : (back_key : K) (back_value : V) (refusal : Option Refusal)
-        → GivesBack steady hooks rules equal strategy old first key value back_key back_value
-        refusal new last
-        → AllFit fits new
-    GivesBack-fits back_key back_value None wrote = Wrote-fits (Some (back_key, back_value)) wrote
-    GivesBack-fits back_key back_value (Some refusal) refuses =
-        subst (λ (s : CacheState K V). AllFit fits s) (sym refuses.unchanged) fit
-
--- behind a lock, a write of a pair that fits leaves values that fit
-pub AllFit-written : {K V L S : Type 0} (life : lifecycle.Ghosts L K V S)
-    → ((l : L) (was : S) (k : K) (v : V) (now : S) (left : V)
+module _ {K V L S : Type 0} (life : lifecycle.Ghosts L K V S)
+    (keeps : (l : L) (was : S) (k : K) (v : V) (now : S) (left : V)
     → life.before_evict_gives l was k v now left → life.fits k v → life.fits k left)
-    → (l : L) (old new : CacheState K V) (rules : Rules K V) (equal : K → K → Bool)
-    (strategy : Strategy) (first : S) (key : K) (value : V)
-    (answer : Result (Unit {0}) (K × V × Option Refusal)) (last : S)
-    → AnswersWrite (life.steady l) (hooks_by life l) rules equal strategy old first key value answer
-    new last
-    → life.fits key value → AllFit life.fits old → AllFit life.fits new
-AllFit-written life keeps l old new rules equal strategy first key value (Ok done) last wrote is fit =
-    Wrote-fits life.fits (life.steady l) (hooks_by life l) (keeps l) rules equal strategy old first
-    key value new last is fit None wrote
-AllFit-written life keeps l old new rules equal strategy first key value (Err back) last gives is fit =
-    GivesBack-fits life.fits (life.steady l) (hooks_by life l) (keeps l) rules equal strategy old
-    first key value new last is fit back.0 back.1 back.2 gives
+    (l : L) (old new : CacheState K V) (rules : Rules K V) (equal : K → K → Bool) (first : S)
+    (key : K) (value : V) (last : S) (is : life.fits key value) (fit : AllFit life.fits old) where
+  -- behind a lock, an insert of a pair that fits leaves values that fit
+  pub AllFit-inserted : (answer : Result (Unit {0}) (K × V × Refusal))
+      → Inserts (life.steady l) (hooks_by life l) rules equal old first key value answer new last
+      → AllFit life.fits new
+  AllFit-inserted (Ok done) wrote =
+      Wrote-fits life.fits (life.steady l) (hooks_by life l) (keeps l) rules equal Insert old first
+      key value new last is fit None wrote
+  AllFit-inserted (Err back) refuses =
+      subst (λ (s : CacheState K V). AllFit life.fits s) (sym refuses.unchanged) fit
 
--- and a pair that it gives back fits
-pub written-gives : {K V L S : Type 0} (life : lifecycle.Ghosts L K V S)
-    → ((l : L) (was : S) (k : K) (v : V) (now : S) (left : V)
-    → life.before_evict_gives l was k v now left → life.fits k v → life.fits k left)
-    → (l : L) (old new : CacheState K V) (rules : Rules K V) (equal : K → K → Bool)
-    (strategy : Strategy) (first : S) (key : K) (value : V) (back_key : K) (back_value : V)
-    (refusal : Option Refusal) (last : S)
-    → GivesBack (life.steady l) (hooks_by life l) rules equal strategy old first key value back_key
-    back_value refusal new last
-    → life.fits key value → AllFit life.fits old → life.fits back_key back_value
-written-gives life keeps l old new rules equal strategy first key value back_key back_value refusal
-    last gives is fit =
-    GivesBack-gives life.fits (life.steady l) (hooks_by life l) (keeps l) rules equal strategy old
-    first key value new last is fit back_key back_value refusal gives
+  -- and so does a replace
+  pub AllFit-replaced : (soft : Bool) (answer : Result (Unit {0}) (K × V))
+      → Replaces (life.steady l) (hooks_by life l) rules equal old soft first key value answer new
+      last → AllFit life.fits new
+  AllFit-replaced soft (Ok done) wrote =
+      Wrote-fits life.fits (life.steady l) (hooks_by life l) (keeps l) rules equal
+      (replacement soft) old first key value new last is fit None wrote
+  AllFit-replaced soft (Err back) wrote =
+      Wrote-fits life.fits (life.steady l) (hooks_by life l) (keeps l) rules equal
+      (replacement soft) old first key value new last is fit (Some back) wrote
+
+  -- and a pair that it gives back fits
+  pub replaced-gives : (soft : Bool) (answer : Result (Unit {0}) (K × V))
+      → Replaces (life.steady l) (hooks_by life l) rules equal old soft first key value answer new
+      last → IfErr answer (λ back. life.fits back.0 back.1)
+  replaced-gives soft (Ok done) wrote = tt
+  replaced-gives soft (Err back) wrote =
+      Wrote-gives life.fits (life.steady l) (hooks_by life l) (keeps l) rules equal
+      (replacement soft) old first key value new last is fit back wrote
 
 -- a pair that comes back leaves values that fit
 pub AllFit-restored : {K V : Type 0} (fits : K → V → Type 0) (rules : Rules K V)

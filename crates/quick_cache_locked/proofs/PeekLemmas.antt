@@ -3,7 +3,6 @@ use Rattle.std.proofs.Common.{◌≡◌, Bool, false, true≢false, List, ◌∙
 use Rattle.std.specs.List.{AllByRecursion}
 use Rattle.std.specs.Prelude.{IsSome, IfSome, IfOk, IfErr}
 use Rattle.quick_cache_model.specs.declared.refusal.Refusal.{Refusal}
-use Rattle.quick_cache_model.specs.declared.refusal.Refusal.TheVariants.{Memory}
 use Rattle.quick_cache_model.specs.CacheState.{CacheState, Item, Place, InHot, InCold, InStill, items_at}
 use Rattle.quick_cache_model.proofs.EachElement.{all-middle}
 use Rattle.quick_cache_model.specs.Finding.{HasNoItem, IsItemAt}
@@ -35,7 +34,7 @@ module _ {K V : Type 0} (stands_for : K → Bool) (is_clone : V → V → Type 0
     (old : CacheState K V) where
   -- the clone of what was seen failed
   pub Peeks-refused : (seen : Option V) → Sees stands_for old (λ item. item.value) seen
-      → IsSome seen → Peeks stands_for is_clone old (Err Memory)
+      → IsSome seen → Peeks stands_for is_clone old (Err Refusal.Memory)
   Peeks-refused _ (Sees.is_there place before item after there) is_some =
       Peeks.refuses place before item after there
   Peeks-refused _ (Sees.is_absent none) is_some = absurd (true≢false (sym is_some))
@@ -43,7 +42,7 @@ module _ {K V : Type 0} (stands_for : K → Bool) (is_clone : V → V → Type 0
   -- a look-up beside other readers answers as a look does
   pub Peeks-cloned : (answer : Result (Option V) Refusal)
       → IfOk answer (ShowsClone stands_for is_clone old)
-      → IfErr answer (λ refusal. refusal ≡ Memory)
+      → IfErr answer (λ refusal. refusal ≡ Refusal.Memory)
       → IfErr answer (λ _. HasItem stands_for old)
       → Peeks stands_for is_clone old answer
   Peeks-cloned (Ok None) none refused there = Peeks.peeks None None (Sees.is_absent none) tt

@@ -6,7 +6,6 @@ use Rattle.quick_cache_model.specs.Touches.{ShowsCount}
 use Rattle.quick_cache_options.specs.Options.{Settings}
 use Rattle.quick_cache_locked.specs.Touches.{any_touches}
 use Rattle.quick_cache_locked.specs.declared.count.Count.{Count}
-use Rattle.quick_cache_locked.specs.declared.count.Count.TheVariants.{Items, Weight, Capacity, Hits, Misses}
 
 -- the state of an empty shard for so many items of that weight, by these options
 abbrev pub empty_of : {K V : Type 0} → Settings → (items weight : ℕ) → CacheState K V
@@ -16,8 +15,8 @@ empty_of options items weight =
 
 -- what a shard answers of itself
 abbrev pub Shows : {K V : Type 0} → Count → CacheState K V → ℕ → Type 0
-Shows Items state shown = shown ≡ item_count state
-Shows Weight state shown = shown ≡ min (total_weight state) (2 ^ 64 - 1)
-Shows Capacity state shown = shown ≡ state.capacity
-Shows Hits state shown = ShowsCount any_touches state.hits shown
-Shows Misses state shown = ShowsCount any_touches state.misses shown
+Shows Count.Items state shown = shown ≡ item_count state
+Shows Count.Weight state shown = shown ≡ min (total_weight state) (2 ^ 64 - 1)
+Shows Count.Capacity state shown = shown ≡ state.capacity
+Shows Count.Hits state shown = ShowsCount any_touches state.hits shown
+Shows Count.Misses state shown = ShowsCount any_touches state.misses shown

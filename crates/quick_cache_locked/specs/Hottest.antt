@@ -4,21 +4,20 @@ use Rattle.std.specs.Borrow.{Bor}
 use Rattle.std.specs.List.{filter}
 use Rattle.quick_cache_model.specs.CacheState.{CacheState, Item}
 use Rattle.quick_cache_model.specs.declared.queue.Queue.{Queue}
-use Rattle.quick_cache_model.specs.declared.queue.Queue.TheVariants.{Hot, Cold}
 use Rattle.quick_cache_shard.specs.Shard.{shown}
 use Rattle.quick_cache_locked.specs.declared.heated.Heated.{Heated}
 
 -- how cool an item of that ring with that mark is: the hot ring before the cold one, then by falling
 -- marks, of which none is above 3
 abbrev pub cool_by : Queue → ℕ → ℕ
-cool_by Hot mark = 3 - mark
-cool_by Cold mark = 7 - mark
+cool_by Queue.Hot mark = 3 - mark
+cool_by Queue.Cold mark = 7 - mark
 
 module _ {K V : Type 0} where
   -- the items of a ring, the next to be visited first
   abbrev pub ring_of : CacheState K V → Queue → List (Item K V)
-  ring_of state Hot = state.hot
-  ring_of state Cold = state.cold
+  ring_of state Queue.Hot = state.hot
+  ring_of state Queue.Cold = state.cold
 
   -- the pair of an item of that ring, with its mark
   abbrev pub heated : Queue → K × V × ℕ → Heated K V
@@ -35,7 +34,8 @@ module _ {K V : Type 0} where
 
   -- the pairs of both rings, the hottest first
   abbrev pub by_heat : CacheState K V → List (Heated K V)
-  by_heat state = by_mark Hot (map shown state.hot) ++ by_mark Cold (map shown state.cold)
+  by_heat state = by_mark Queue.Hot (map shown state.hot)
+      ++ by_mark Queue.Cold (map shown state.cold)
 
   -- how cool the pair is
   abbrev pub coolness : Heated K V → ℕ

@@ -8,7 +8,6 @@ use Rattle.quick_cache_shard.specs.Copies.{IsCopyFound, IsNotCopied}
 use Rattle.quick_cache_shard.specs.Filling.{AnswersFill, AwaitsKey}
 use Rattle.quick_cache_shard.specs.Loading.{IsMadeOrMet, MakesNone}
 use Rattle.quick_cache_loading.specs.declared.sharing.shard.Begun.{Begun}
-use Rattle.quick_cache_loading.specs.declared.sharing.shard.Begun.TheVariants.{Found, Loading}
 use Rattle.quick_cache_shard.specs.Shard.{Shard}
 use Rattle.quick_cache_shard.specs.Steps.{Goes, steady_in, hooks_in, rules_in}
 use Rattle.quick_cache_locked.specs.Locked.{FromSome}
@@ -24,12 +23,12 @@ module _ {K V P : Type 0} (own_ticket : P → ℕ) (stands_for : K → Bool) (gi
   -- was made, and nothing changed.
   pub data BeginsLoad : Result (Begun V P) Refusal → CacheState K V → Type 0 where
     finds : (copy : V) (new : CacheState K V) → IsCopyFound stands_for is_clone old copy new
-        → BeginsLoad (Ok (Found copy)) new
+        → BeginsLoad (Ok (Begun.Found copy)) new
     lacks_a_clone : (refusal : Refusal) (new : CacheState K V)
         → IsNotCopied stands_for is_clone old refusal new → BeginsLoad (Err refusal) new
     makes_or_meets : (made : Bool) (placeholder : P) (new : CacheState K V)
         → IsMadeOrMet stands_for gives hash old made (own_ticket placeholder) new
-        → BeginsLoad (Ok (Loading placeholder)) new
+        → BeginsLoad (Ok (Begun.Loading placeholder)) new
     makes_none : (refusal : Refusal) (new : CacheState K V)
         → MakesNone stands_for gives hash old refusal new → BeginsLoad (Err refusal) new
 

@@ -1,7 +1,6 @@
 -- Looks that clone what they find.
 use Rattle.std.specs.Prelude.{Bool, List, Option, Result, Ok, Err, IfOk, IfSome}
 use Rattle.quick_cache_model.specs.declared.refusal.Refusal.{Refusal}
-use Rattle.quick_cache_model.specs.declared.refusal.Refusal.TheVariants.{Memory}
 use Rattle.quick_cache_model.specs.CacheState.{CacheState, Item, Place}
 use Rattle.quick_cache_model.specs.Finding.{IsItemAt}
 use Rattle.quick_cache_model.specs.Lookups.{Sees}
@@ -18,7 +17,7 @@ module _ {K V : Type 0} (stands_for : K → Bool) (is_clone : V → V → Type 0
         → IsShown is_clone found shown → Peeks (Ok shown)
     refuses : (place : Place) (before : List (Item K V)) (item : Item K V)
         (after : List (Item K V))
-        → IsItemAt stands_for old place before item after → Peeks (Err Memory)
+        → IsItemAt stands_for old place before item after → Peeks (Err Refusal.Memory)
 
 -- where clones fit as their values do, a clone that is shown fits a key that the query stands for
 abbrev pub ShowsFitting : {K V E : Type 0} → (fits : K → V → Type 0) → (stands_for : K → Bool)

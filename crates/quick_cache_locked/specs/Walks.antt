@@ -4,7 +4,6 @@ use Rattle.std.specs.List.{Contains}
 use Rattle.std.specs.Int.NonZero.{non_zero_u32_get}
 use Rattle.std.specs.declared.num.NonZeroU32.{NonZeroU32 as Token}
 use Rattle.quick_cache_model.specs.declared.refusal.Refusal.{Refusal}
-use Rattle.quick_cache_model.specs.declared.refusal.Refusal.TheVariants.{Memory}
 use Rattle.quick_cache_model.specs.CacheState.{Item}
 use Rattle.quick_cache_shard.specs.PlaceWalks.{IsNextPlace, EndsAt}
 use Rattle.quick_cache_shard.specs.Shard.{Shard, LeavesPlace, residents}
@@ -23,7 +22,7 @@ module _ {K V We B L : Type 0} (shard : Shard K V We B L) (after : ℕ) where
     abbrev pub ShowsNext : Result (Option (Token × K × V)) Refusal → Type 0
     ShowsNext (Ok None) = EndsAt shard.places after
     ShowsNext (Ok (Some shown)) = ClonesNext shown
-    ShowsNext (Err refusal) = refusal ≡ Memory
+    ShowsNext (Err refusal) = refusal ≡ Refusal.Memory
 
   -- the next item was taken out, or none was left and nothing changed
   abbrev pub TakesNext : Option (Token × K × V) → Shard K V We B L → Type 0

@@ -1,6 +1,5 @@
 //! A shard as its lock keeps it: each call is one step of it, and moves no item that stays.
 ghost use Rattle.std.specs.Prelude.{◌≡◌, IfOk, IfErr, IsOk};
-ghost use Rattle.quick_cache_model.specs.declared.refusal.Refusal.TheVariants.{Memory};
 ghost use Rattle.quick_cache_shard.specs.Shard.{made_with};
 ghost use Rattle.quick_cache_locked.specs.Counts.{empty_of};
 ghost use Rattle.quick_cache_locked.specs.Locked.{IsKept};
@@ -106,7 +105,7 @@ impl<
         ensures makes { IfOk result (λ locked. locked ≡ made_with
             (empty_of options.now sizes.items sizes.weight) weigher builder lifecycle) }
         ensures succeeds { A.is_infallible alloc → IsOk result }
-        ensures refused { IfErr result (λ refusal. refusal ≡ Memory) }
+        ensures refused { IfErr result (λ refusal. refusal ≡ Refusal.Memory) }
     {
         let own: Result<_, _> = alloc.clone();
         let Ok(own) = own else {

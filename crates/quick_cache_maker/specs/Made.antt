@@ -3,10 +3,9 @@ use Rattle.std.specs.Prelude.{◌≡◌, ℕ, List, Some, None}
 use Rattle.quick_cache_model.specs.CacheState.{CacheState, empty_state}
 use Rattle.quick_cache_model.specs.RefusalTexts.{refusal_text}
 use Rattle.quick_cache_model.specs.Sizes.{hot_target_of, ghost_limit_of}
-use Rattle.quick_cache_model.specs.declared.refusal.Refusal.TheVariants.{Memory}
+use Rattle.quick_cache_model.specs.declared.refusal.Refusal.{Refusal}
 use Rattle.quick_cache_options.specs.Options.{Choices, Settings, first_error}
 use Rattle.quick_cache_maker.specs.declared.error.MakeError.{MakeError}
-use Rattle.quick_cache_maker.specs.declared.error.MakeError.TheVariants.{Options, Refused}
 
 -- the empty state of a cache of these settings
 abbrev pub made_state : {K V : Type 0} → Settings → CacheState K V
@@ -18,10 +17,11 @@ made_state settings = record
 
 -- the choices have that fault first, or they have none and there was no memory
 abbrev pub IsMakeError : Choices → MakeError → Type 0
-IsMakeError choices (Options error) = first_error choices ≡ Some error
-IsMakeError choices (Refused refusal) = (first_error choices ≡ None) × (refusal ≡ Memory)
+IsMakeError choices (MakeError.Options error) = first_error choices ≡ Some error
+IsMakeError choices (MakeError.Refused refusal) = (first_error choices ≡ None)
+    × (refusal ≡ Refusal.Memory)
 
 -- how it reads
 abbrev pub make_error_text : MakeError → List ℕ
-make_error_text (Options error) = error
-make_error_text (Refused refusal) = refusal_text refusal
+make_error_text (MakeError.Options error) = error
+make_error_text (MakeError.Refused refusal) = refusal_text refusal

@@ -1,13 +1,10 @@
 -- What eviction keeps: all but the items and the ghosts, and the ghosts stay within their limit.
-use Rattle.std.proofs.Common.{◌≡◌, ℕ, ◌-◌, ◌≤◌, Bool, true, false, List, [], ◌∷◌, ◌++◌, map}
-use Rattle.std.proofs.Common.{length, refl, sym, ap, ◌∙◌, arith, length-drop, append_assoc}
-use Rattle.std.proofs.Common.{append-nil}
+use Rattle.std.proofs.Common.{◌≡◌, ℕ, ◌-◌, ◌≤◌, Bool, true, false, List, [], ◌∷◌, ◌++◌, map, length, refl, sym, ap, ◌∙◌, arith, length-drop}
+use Rattle.std.proofs.Common.{append_assoc, append-nil}
 use Rattle.quick_cache_model.specs.declared.queue.Queue.{Queue}
-use Rattle.quick_cache_model.specs.declared.queue.Queue.TheVariants.{Hot, Cold}
 use Rattle.quick_cache_model.specs.CacheState.{CacheState, Item}
 use Rattle.quick_cache_model.specs.Hooks.{Rules, HookCall}
-use Rattle.quick_cache_model.specs.Eviction.{newest, lowered, EvictsVictim, AdvancesHot}
-use Rattle.quick_cache_model.specs.Eviction.{EvictsToTarget, AdvancesCold, EvictsToCapacity}
+use Rattle.quick_cache_model.specs.Eviction.{newest, lowered, EvictsVictim, AdvancesHot, EvictsToTarget, AdvancesCold, EvictsToCapacity}
 
 -- the newest ghosts are within the limit
 pub newest-within : (n : ℕ) (ghosts : List ℕ) → length (newest n ghosts) ≤ n
@@ -96,8 +93,9 @@ module _ {K V : Type 0} (rules : Rules K V) where
     still = (record item { value = left; weight = 0 } ∷ [], refl);
     ghosts_within = λ within. within;
   }
-  EvictsVictim-beside Hot old _ item _ (EvictsVictim.leaves left heavy) = IsSameBeside-refl old
-  EvictsVictim-beside Cold old _ item _ (EvictsVictim.leaves left heavy) = record {
+  EvictsVictim-beside Queue.Hot old _ item _ (EvictsVictim.leaves left heavy) =
+      IsSameBeside-refl old
+  EvictsVictim-beside Queue.Cold old _ item _ (EvictsVictim.leaves left heavy) = record {
     loading = refl;
     next_ticket = refl;
     capacity = refl;
@@ -119,7 +117,7 @@ module _ {K V : Type 0} (rules : Rules K V) where
   AdvancesHot-beside old _ _ _ (AdvancesHot.evicts hot before item after calls new raised split
       first evicts) =
       IsSameBeside-trans old _ new (IsSameBeside-rings old _ old.cold)
-      (EvictsVictim-beside Hot _ new (lowered item.mark item) calls evicts)
+      (EvictsVictim-beside Queue.Hot _ new (lowered item.mark item) calls evicts)
 
   -- so does eviction down to the target
   pub EvictsToTarget-beside : (old new : CacheState K V) (calls : List (HookCall K V))
@@ -141,7 +139,7 @@ module _ {K V : Type 0} (rules : Rules K V) where
   AdvancesCold-beside old _ _ _ (AdvancesCold.evicts cold before item after calls new raised split
       passed unmarked unpinned evicts) =
       IsSameBeside-trans old _ new (IsSameBeside-rings old old.hot _)
-      (EvictsVictim-beside Cold _ new item calls evicts)
+      (EvictsVictim-beside Queue.Cold _ new item calls evicts)
   AdvancesCold-beside old _ _ _ (AdvancesCold.passes_all cold answer calls new raised passed
       advances) =
       IsSameBeside-trans old _ new (IsSameBeside-rings old old.hot cold)

@@ -1,23 +1,20 @@
 -- The sizes of a cache through its calls: each keeps them but the setting of the capacity, which
 -- leaves a cache sized. For each call the lemma of a caller who keeps `IsSized` as an invariant.
-use Rattle.std.proofs.Common.{◌≡◌, ℕ, ◌-◌, ◌*◌, ◌/◌, ◌^◌, ◌<◌, ◌≤◌, ◌==◌, min, Bool, true}
-use Rattle.std.proofs.Common.{false, if◌then◌else◌, List, ◌∷◌, ◌++◌, Option, refl, ap, ◌∙◌, arith}
-use Rattle.quick_cache_model.specs.CacheState.{CacheState, Item, Place, InHot, InCold}
-use Rattle.quick_cache_model.specs.CacheState.{InStill, with_items, entered, rewritten, empty_state}
+use Rattle.std.proofs.Common.{◌≡◌, ℕ, ◌-◌, ◌*◌, ◌/◌, ◌^◌, ◌<◌, ◌≤◌, ◌==◌, min, Bool, true, false, if◌then◌else◌, List, ◌∷◌, ◌++◌, Option}
+use Rattle.std.proofs.Common.{refl, ap, ◌∙◌, arith}
+use Rattle.quick_cache_model.specs.CacheState.{CacheState, Item, Place, InHot, InCold, InStill, with_items, entered, rewritten, empty_state}
 use Rattle.quick_cache_model.specs.CacheState.{place_of_item, restarted_behind, SameButOrder}
-use Rattle.quick_cache_model.specs.declared.queue.Queue.TheVariants.{Hot, Cold}
+use Rattle.quick_cache_model.specs.declared.queue.Queue.{Queue}
 use Rattle.quick_cache_model.specs.Hooks.{Rules, HookCall}
 use Rattle.quick_cache_model.specs.Touches.{first_mark}
 use Rattle.quick_cache_model.specs.Eviction.{EvictsToCapacity}
-use Rattle.quick_cache_model.specs.Writes.{Strategy, WritesAdmitted, TakesOutItem, RejectsTooHeavy}
-use Rattle.quick_cache_model.specs.Writes.{new_item, queue_for, Writes}
-use Rattle.quick_cache_model.specs.Placeholders.{MakesPlaceholder, MeetsPlaceholder, MakesRoomFor}
-use Rattle.quick_cache_model.specs.Placeholders.{FillsPlaceholder, GivesUpPlaceholder}
+use Rattle.quick_cache_model.specs.Writes.{Strategy, WritesAdmitted, TakesOutItem, RejectsTooHeavy, new_item, queue_for, Writes}
+use Rattle.quick_cache_model.specs.Placeholders.{MakesPlaceholder, MeetsPlaceholder, MakesRoomFor, FillsPlaceholder, GivesUpPlaceholder}
 use Rattle.quick_cache_model.specs.Lookups.{looked_up, LooksUp}
 use Rattle.quick_cache_model.specs.Removal.{Removes, RemovesIf, Retains, Drains, weighed, reweighed}
 use Rattle.quick_cache_model.specs.Entries.{EntryChoice, EntryOutcome, ActsOnEntry}
-use Rattle.quick_cache_model.specs.Sizes.{default_hot_share, clamped_target, hot_target_of}
-use Rattle.quick_cache_model.specs.Sizes.{ghost_limit_of, rescaled_target, rescaled_limit, IsSized}
+use Rattle.quick_cache_model.specs.Sizes.{default_hot_share, clamped_target, hot_target_of, ghost_limit_of, rescaled_target, rescaled_limit}
+use Rattle.quick_cache_model.specs.Sizes.{IsSized}
 use Rattle.quick_cache_model.specs.Capacity.{resized, SetsCapacity}
 use Rattle.quick_cache_model.proofs.EvictionKeeps.{EvictsToCapacity-beside}
 
@@ -307,7 +304,8 @@ module _ {K V : Type 0} where
           → HasSameSizes old new
       WritesAdmitted-sizes strategy old value _ _ _
           (WritesAdmitted.inserts_new mid calls inserts nothing evicts) =
-          entered-sizes (new_item rules key value (queue_for rules old key value Cold) 0) old mid
+          entered-sizes (new_item rules key value (queue_for rules old key value Queue.Cold) 0) old
+          mid
           (EvictsToCapacity-sizes (rules.weight key value) old old mid calls evicts
           (HasSameSizes-refl old))
       WritesAdmitted-sizes strategy old value _ _ _
@@ -316,7 +314,7 @@ module _ {K V : Type 0} where
       WritesAdmitted-sizes strategy old value _ _ _
           (WritesAdmitted.inserts_over_ghost before after calls new inserts there evicts) =
           EvictsToCapacity-sizes 0 old _ new calls evicts
-          (entered-sizes (new_item rules key value Hot 0) old
+          (entered-sizes (new_item rules key value Queue.Hot 0) old
           (record old { ghosts = before ++ after })
           (record { capacity = refl; hot_target = refl; ghost_limit = refl }))
       WritesAdmitted-sizes strategy old value _ _ _

@@ -1,8 +1,7 @@
 -- Pairs that fates lead to other pairs: where fates follow fates, and beside other pairs.
 use Rattle.std.proofs.Common.{List, [], ◌∷◌, ◌++◌, map, IsPermutation, sym, subst}
 use Rattle.std.proofs.lemmas.List.{append-nil, map-append}
-use Rattle.std.proofs.lemmas.List.Sorted.{IsPermutation-refl, IsPermutation-trans}
-use Rattle.std.proofs.lemmas.List.Sorted.{IsPermutation-cons, IsPermutation-middle}
+use Rattle.std.proofs.lemmas.List.Sorted.{IsPermutation-refl, IsPermutation-trans, IsPermutation-cons, IsPermutation-middle}
 use Rattle.quick_cache_model.specs.Hooks.{HookCall}
 use Rattle.quick_cache_model.specs.Fates.{Fate, Comes, Changes, Leaves, leaving, fate_of}
 use Rattle.quick_cache_model.specs.Leads.{Leads, Tells}

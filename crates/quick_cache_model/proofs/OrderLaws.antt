@@ -1,21 +1,16 @@
 -- Laws of states that are the same but for the order of what has none: they stay so in turn, and
 -- eviction does not look at that order, so from either it leads to the same but for the order.
-use Rattle.std.proofs.Common.{◌≡◌, ℕ, ◌+◌, ◌<◌, ◌≤◌, Bool, true, false, cond}
-use Rattle.std.proofs.Common.{List, [], ◌∷◌, ◌++◌, map, IsPermutation, refl, ap, subst, ◌∙◌, arith}
+use Rattle.std.proofs.Common.{◌≡◌, ℕ, ◌+◌, ◌<◌, ◌≤◌, Bool, true, false, cond, List, [], ◌∷◌, ◌++◌, map, IsPermutation, refl, ap, subst, ◌∙◌}
+use Rattle.std.proofs.Common.{arith}
 use Rattle.std.specs.List.{count_by}
-use Rattle.std.proofs.lemmas.List.Sorted.{IsPermutation-refl}
-use Rattle.std.proofs.lemmas.List.Sorted.{IsPermutation-trans, IsPermutation-append_left}
-use Rattle.std.proofs.lemmas.List.Sorted.{sum_by-IsPermutation}
+use Rattle.std.proofs.lemmas.List.Sorted.{IsPermutation-refl, IsPermutation-trans, IsPermutation-append_left, sum_by-IsPermutation}
 use Rattle.quick_cache_model.specs.declared.queue.Queue.{Queue}
-use Rattle.quick_cache_model.specs.declared.queue.Queue.TheVariants.{Hot, Cold}
-use Rattle.quick_cache_model.specs.CacheState.{CacheState, Item, LoadingEntry, Place, InHot, InCold}
-use Rattle.quick_cache_model.specs.CacheState.{InStill, ring_place, with_items, items_at, entered}
-use Rattle.quick_cache_model.specs.CacheState.{place_of_item, restarted_behind, keys_by}
-use Rattle.quick_cache_model.specs.CacheState.{hot_weight, total_weight, SameButOrder, UpToOrder}
+use Rattle.quick_cache_model.specs.CacheState.{CacheState, Item, LoadingEntry, Place, InHot, InCold, InStill, ring_place, with_items}
+use Rattle.quick_cache_model.specs.CacheState.{items_at, entered, place_of_item, restarted_behind, keys_by, hot_weight, total_weight}
+use Rattle.quick_cache_model.specs.CacheState.{SameButOrder, UpToOrder}
 use Rattle.quick_cache_model.specs.Hooks.{Rules, HookCall}
 use Rattle.quick_cache_model.specs.Touches.{RaisesMarks}
-use Rattle.quick_cache_model.specs.Eviction.{lowered, ghosts_with, promoted, EvictsVictim}
-use Rattle.quick_cache_model.specs.Eviction.{AdvancesHot, EvictsToTarget, AdvancesCold}
+use Rattle.quick_cache_model.specs.Eviction.{lowered, ghosts_with, promoted, EvictsVictim, AdvancesHot, EvictsToTarget, AdvancesCold}
 use Rattle.quick_cache_model.specs.Eviction.{EvictsToCapacity}
 
 module _ {K V : Type 0} where
@@ -93,12 +88,12 @@ module _ {K V : Type 0} where
       → SameButOrder old other
       → SameButOrder (with_items (ring_place queue) items old)
       (with_items (ring_place queue) items other)
-  with_items-reordered Hot items old other order = record {
+  with_items-reordered Queue.Hot items old other order = record {
     still = order.still;
     loading = order.loading;
     same = ap (λ (s : CacheState K V). record s { hot = items }) order.same;
   }
-  with_items-reordered Cold items old other order = record {
+  with_items-reordered Queue.Cold items old other order = record {
     still = order.still;
     loading = order.loading;
     same = ap (λ (s : CacheState K V). record s { cold = items }) order.same;
@@ -141,11 +136,11 @@ module _ {K V : Type 0} (rules : Rules K V) where
   pub ghosts_with-reordered : (queue : Queue) (item : Item K V) (old other : CacheState K V)
       → SameButOrder old other
       → SameButOrder (ghosts_with rules queue item old) (ghosts_with rules queue item other)
-  ghosts_with-reordered Hot item old other order = order
-  ghosts_with-reordered Cold item old other order = record {
+  ghosts_with-reordered Queue.Hot item old other order = order
+  ghosts_with-reordered Queue.Cold item old other order = record {
     still = order.still;
     loading = order.loading;
-    same = ap (λ (s : CacheState K V). ghosts_with rules Cold item s) order.same;
+    same = ap (λ (s : CacheState K V). ghosts_with rules Queue.Cold item s) order.same;
   }
 
   -- the fate of a victim
@@ -174,7 +169,7 @@ module _ {K V : Type 0} (rules : Rules K V) where
     holds = AdvancesHot.all_pinned hot
         (subst (λ (s : CacheState K V). RaisesMarks s.mark_cut rules.may_count s.hot hot)
         order.same raised) pinned;
-    same = with_items-reordered Hot (map (lowered 1) hot) old other order;
+    same = with_items-reordered Queue.Hot (map (lowered 1) hot) old other order;
   }
   AdvancesHot-reordered old other _ _ _ order (AdvancesHot.evicts hot before item after calls new
       raised split first evicts) =
@@ -182,8 +177,8 @@ module _ {K V : Type 0} (rules : Rules K V) where
       (λ state. AdvancesHot.evicts hot before item after calls state
       (subst (λ (s : CacheState K V). RaisesMarks s.mark_cut rules.may_count s.hot hot)
       order.same raised) split first)
-      (EvictsVictim-reordered Hot _ _ new (lowered item.mark item) calls
-      (with_items-reordered Hot
+      (EvictsVictim-reordered Queue.Hot _ _ new (lowered item.mark item) calls
+      (with_items-reordered Queue.Hot
       (restarted_behind (map (lowered (item.mark + 1)) before) (map (lowered item.mark) after))
       old other order) evicts)
 
@@ -253,8 +248,8 @@ module _ {K V : Type 0} (rules : Rules K V) where
       (λ state. AdvancesCold.evicts cold before item after calls state
       (subst (λ (s : CacheState K V). RaisesMarks s.mark_cut rules.may_count s.cold cold)
       order.same raised) split passed unmarked unpinned)
-      (EvictsVictim-reordered Cold _ _ new item calls
-      (with_items-reordered Cold (restarted_behind before after) old other order) evicts)
+      (EvictsVictim-reordered Queue.Cold _ _ new item calls
+      (with_items-reordered Queue.Cold (restarted_behind before after) old other order) evicts)
   AdvancesCold-reordered old other _ _ _ order (AdvancesCold.passes_all cold answer calls new
       raised passed advances) =
       UpToOrder-map _ _ new
@@ -262,7 +257,7 @@ module _ {K V : Type 0} (rules : Rules K V) where
       (subst (λ (s : CacheState K V). RaisesMarks s.mark_cut rules.may_count s.cold cold)
       order.same raised) passed)
       (AdvancesHot-reordered _ _ new answer calls
-      (with_items-reordered Cold cold old other order) advances)
+      (with_items-reordered Queue.Cold cold old other order) advances)
 
   module _ (need : ℕ) where
     -- no eviction, where there is room for what is needed

@@ -1,9 +1,8 @@
 -- For the crates above: the placeholder that a call takes has a key that is equal to the call's.
-use Rattle.std.proofs.Common.{◌≡◌, ℕ, ◌≤◌, ◌<◌, ◌==◌, Bool, true, List, [], ◌∷◌, ◌++◌, refl, sym, ap}
-use Rattle.std.proofs.Common.{subst, arith}
+use Rattle.std.proofs.Common.{◌≡◌, ℕ, ◌≤◌, ◌<◌, ◌==◌, Bool, true, List, [], ◌∷◌, ◌++◌, refl, sym, ap, subst, arith}
 use Rattle.std.specs.List.{AllByRecursion}
 use Rattle.std.proofs.lemmas.Bool.{eq-eqb}
-use Rattle.quick_cache_model.specs.declared.queue.Queue.TheVariants.{Hot, Cold}
+use Rattle.quick_cache_model.specs.declared.queue.Queue.{Queue}
 use Rattle.quick_cache_model.specs.CacheState.{CacheState, LoadingEntry, IsValid, UpToOrder}
 use Rattle.quick_cache_model.specs.Placeholders.{MakesPlaceholder, MeetsPlaceholder}
 use Rattle.quick_cache_model.proofs.EachElement.{all-append, all-permutation, all-weaker}
@@ -50,12 +49,12 @@ module _ {K V : Type 0} (equal : K → K → Bool) (key : K) (hash : ℕ) (old :
         → AllByRecursion (IsTicketOf (equal key) old.next_ticket) new.loading
     made_key own _ (MakesPlaceholder.on_nothing stands nothing) =
         all-append (IsTicketOf (equal key) old.next_ticket) old.loading
-        (record { key = own; queue = Cold; ticket = old.next_ticket } ∷ [])
+        (record { key = own; queue = Queue.Cold; ticket = old.next_ticket } ∷ [])
         (new_ticket (equal key) old.next_ticket old.loading valid.tickets_given)
         (λ same. stands, tt)
     made_key own _ (MakesPlaceholder.on_ghost before after stands there) =
         all-append (IsTicketOf (equal key) old.next_ticket) old.loading
-        (record { key = own; queue = Hot; ticket = old.next_ticket } ∷ [])
+        (record { key = own; queue = Queue.Hot; ticket = old.next_ticket } ∷ [])
         (new_ticket (equal key) old.next_ticket old.loading valid.tickets_given)
         (λ same. stands, tt)
 

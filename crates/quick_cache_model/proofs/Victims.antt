@@ -2,7 +2,6 @@
 use Rattle.std.proofs.Common.{◌≡◌, ℕ, List, [], ◌∷◌, IsPermutation, refl, sym, subst}
 use Rattle.std.proofs.lemmas.List.Sorted.{IsPermutation-sym}
 use Rattle.quick_cache_model.specs.declared.queue.Queue.{Queue}
-use Rattle.quick_cache_model.specs.declared.queue.Queue.TheVariants.{Hot, Cold}
 use Rattle.quick_cache_model.specs.CacheState.{CacheState, Item, entered}
 use Rattle.quick_cache_model.specs.Hooks.{Rules, HookCall, evicted}
 use Rattle.quick_cache_model.specs.Eviction.{EvictsVictim, ghosts_with}
@@ -16,15 +15,15 @@ module _ {K V : Type 0} where
   -- the call of the queue's hook takes the pair
   pub evicted-tells : (queue : Queue) (key : K) (value : V) (pairs : List (K × V))
       → Tells ((key, value) ∷ pairs) (evicted queue key value ∷ []) pairs
-  evicted-tells Hot key value pairs = Leads-leaves (key, value) (Leads-same pairs)
-  evicted-tells Cold key value pairs = Leads-leaves (key, value) (Leads-same pairs)
+  evicted-tells Queue.Hot key value pairs = Leads-leaves (key, value) (Leads-same pairs)
+  evicted-tells Queue.Cold key value pairs = Leads-leaves (key, value) (Leads-same pairs)
 
 module _ {K V : Type 0} (rules : Rules K V) where
   -- a new ghost is no pair
   ghosts-same : (queue : Queue) (item : Item K V) (state : CacheState K V)
       → residents (ghosts_with rules queue item state) ≡ residents state
-  ghosts-same Hot item state = refl
-  ghosts-same Cold item state = refl
+  ghosts-same Queue.Hot item state = refl
+  ghosts-same Queue.Cold item state = refl
 
   -- a victim is told to `before_evict`, and if it leaves, to the hook of its queue
   pub EvictsVictim-tells : (queue : Queue) (old : CacheState K V) (item : Item K V)

@@ -1,9 +1,7 @@
 -- Replies that answer their call.
 use Rattle.std.specs.Prelude.{◌≡◌, Bool, true, false, List, ◌∷◌, Result, Ok, Err, Vec}
 use Rattle.quick_cache_model.specs.declared.calls.call.Call.{Call}
-use Rattle.quick_cache_model.specs.declared.calls.call.Call.TheVariants.{Get, Peek}
 use Rattle.quick_cache_model.specs.declared.calls.reply.Reply.{Reply}
-use Rattle.quick_cache_model.specs.declared.calls.reply.Reply.TheVariants.{Refused}
 
 -- no clone of a value fails
 abbrev pub AlwaysClones : {V : Type 0} → (V → Type 0) → Type 0
@@ -11,14 +9,14 @@ AlwaysClones {V} is_infallible = (value : V) → is_infallible value
 
 -- whether a reply says that the call was not made, and no more
 abbrev pub is_refusal : {K V M : Type 0} → Reply K V M → Bool
-is_refusal (Refused refusal) = true
+is_refusal (Reply.Refused refusal) = true
 is_refusal _ = false
 
 module _ {K V F M : Type 0} where
   -- a look-up and a peek were not refused for want of the clone that the reply is to show
   abbrev pub IsAnswered : Call K V F → Reply K V M → Type 0
-  IsAnswered (Get key) reply = is_refusal reply ≡ false
-  IsAnswered (Peek key) reply = is_refusal reply ≡ false
+  IsAnswered (Call.Get key) reply = is_refusal reply ≡ false
+  IsAnswered (Call.Peek key) reply = is_refusal reply ≡ false
   IsAnswered _ reply = Unit {0}
 
   -- so for each of the calls that have a reply

@@ -1,6 +1,5 @@
 -- Runs: lists of calls, each a step from the state that the one before it left.
-use Rattle.std.specs.Prelude.{◌≡◌, ◌≤◌, Bool, List, [], ◌∷◌, ◌++◌, Result, Ok, Err, Vec, vec_len}
-use Rattle.std.specs.Prelude.{vec_capacity}
+use Rattle.std.specs.Prelude.{◌≡◌, ◌≤◌, Bool, List, [], ◌∷◌, ◌++◌, Result, Ok, Err, Vec, vec_len, vec_capacity}
 use Rattle.quick_cache_model.specs.CacheState.{CacheState}
 use Rattle.quick_cache_model.specs.Hooks.{Rules, Hooks, HookCall, RunsHooks}
 use Rattle.quick_cache_model.specs.declared.calls.call.Call.{Call}

@@ -1,11 +1,9 @@
 -- What a cache holds: items in two rings and outside of them, keys that are being loaded, and
 -- ghosts.
-use Rattle.std.specs.Prelude.{◌≡◌, ℕ, ◌+◌, ◌<◌, ◌≤◌, Bool, List, [], ◌∷◌, ◌++◌, length, sum_by}
-use Rattle.std.specs.Prelude.{count_by, if◌then◌else◌, ◌==◌}
+use Rattle.std.specs.Prelude.{◌≡◌, ℕ, ◌+◌, ◌<◌, ◌≤◌, Bool, List, [], ◌∷◌, ◌++◌, length, sum_by, count_by, if◌then◌else◌, ◌==◌}
 use Rattle.std.specs.List.{AllByRecursion}
 use Rattle.std.specs.List.Sorted.{IsPermutation}
 use Rattle.quick_cache_model.specs.declared.queue.Queue.{Queue}
-use Rattle.quick_cache_model.specs.declared.queue.Queue.TheVariants.{Hot, Cold}
 
 -- An entry that can be found: its pair, the weight that it counts for, how often it was used lately
 -- (its mark), how often it was read, and the ring that it is of.
@@ -88,8 +86,8 @@ pub data Place : Type 0 where
 
 -- the place of a ring
 abbrev pub ring_place : Queue → Place
-ring_place Hot = InHot
-ring_place Cold = InCold
+ring_place Queue.Hot = InHot
+ring_place Queue.Cold = InCold
 
 module _ {K V : Type 0} where
   -- the items of a place
@@ -160,8 +158,8 @@ module _ {K V : Type 0} where
     pub one_entry_a_ticket : (n : ℕ) → count_by (λ entry. entry.ticket == n) state.loading ≤ 1
     pub tickets_given : AllByRecursion (λ entry. entry.ticket < state.next_ticket) state.loading
     pub ghosts_within : length state.ghosts ≤ state.ghost_limit
-    pub in_hot : AllByRecursion (IsRingItem state.mark_cut Hot) state.hot
-    pub in_cold : AllByRecursion (IsRingItem state.mark_cut Cold) state.cold
+    pub in_hot : AllByRecursion (IsRingItem state.mark_cut Queue.Hot) state.hot
+    pub in_cold : AllByRecursion (IsRingItem state.mark_cut Queue.Cold) state.cold
     pub in_still : AllByRecursion (IsStillItem state.mark_cut) state.still
 
   -- the same state, but for the order of what has none

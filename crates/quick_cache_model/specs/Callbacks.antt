@@ -3,7 +3,6 @@ use Rattle.std.specs.Prelude.{◌≡◌, Bool}
 use denote.Ref.{Bor, MutBor}
 use denote.Param.Members.{Called, Mut}
 use Rattle.quick_cache_model.specs.declared.calls.entry.EntryAction.{EntryAction}
-use Rattle.quick_cache_model.specs.declared.calls.entry.EntryAction.TheVariants.{Retain as retain, Remove as remove, ReplaceWithGuard as replace}
 use Rattle.quick_cache_model.specs.CacheState.{CacheState, Item, UpToOrder}
 use Rattle.quick_cache_model.specs.Entries.{EntryChoice, Retain, Remove, ReplaceWithGuard, EntryOutcome, ActsOnEntry}
 use Rattle.quick_cache_model.specs.Hooks.{Rules}
@@ -22,9 +21,9 @@ module _ {F K V R : Type 0}
 
 -- what the callback chose, without what it told
 abbrev pub choice_of : {T : Type 0} → EntryAction T → EntryChoice
-choice_of (retain told) = Retain
-choice_of remove = Remove
-choice_of replace = ReplaceWithGuard
+choice_of (EntryAction.Retain told) = Retain
+choice_of EntryAction.Remove = Remove
+choice_of EntryAction.ReplaceWithGuard = ReplaceWithGuard
 
 module _ {F K V T : Type 0}
     (calls : Mut F (Bor K × (MutBor V × Unit {0})) (EntryAction T × (MutBor V × Unit {0})))

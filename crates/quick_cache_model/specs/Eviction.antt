@@ -1,11 +1,8 @@
 -- How room is made: victims, promotions, and the calls of the hooks.
-use Rattle.std.specs.Prelude.{◌≡◌, ℕ, ◌+◌, ◌-◌, ◌<◌, ◌≤◌, Bool, true, false, List, [], ◌∷◌, ◌++◌}
-use Rattle.std.specs.Prelude.{length, drop, map}
+use Rattle.std.specs.Prelude.{◌≡◌, ℕ, ◌+◌, ◌-◌, ◌<◌, ◌≤◌, Bool, true, false, List, [], ◌∷◌, ◌++◌, length, drop, map}
 use Rattle.std.specs.List.{AllByRecursion}
 use Rattle.quick_cache_model.specs.declared.queue.Queue.{Queue}
-use Rattle.quick_cache_model.specs.declared.queue.Queue.TheVariants.{Hot, Cold}
-use Rattle.quick_cache_model.specs.CacheState.{CacheState, Item, entered, restarted_behind}
-use Rattle.quick_cache_model.specs.CacheState.{hot_weight, total_weight}
+use Rattle.quick_cache_model.specs.CacheState.{CacheState, Item, entered, restarted_behind, hot_weight, total_weight}
 use Rattle.quick_cache_model.specs.Hooks.{Rules, HookCall, BeforeEvict, evicted}
 use Rattle.quick_cache_model.specs.Touches.{RaisesMarks}
 
@@ -24,8 +21,8 @@ module _ {K V : Type 0} (rules : Rules K V) where
 
   -- the ghosts once an item of this queue has left: the hash of a cold one becomes the newest ghost
   abbrev pub ghosts_with : Queue → Item K V → CacheState K V → CacheState K V
-  ghosts_with Hot item state = state
-  ghosts_with Cold item state = record state {
+  ghosts_with Queue.Hot item state = state
+  ghosts_with Queue.Cold item state = record state {
     ghosts = newest state.ghost_limit (state.ghosts ++ rules.hash item.key ∷ []);
   }
 
@@ -60,7 +57,7 @@ module _ {K V : Type 0} (rules : Rules K V) where
         (calls : List (HookCall K V)) (new : CacheState K V)
         → RaisesMarks old.mark_cut rules.may_count old.hot hot → hot ≡ before ++ item ∷ after
         → IsFirstVictim before item after
-        → EvictsVictim Hot
+        → EvictsVictim Queue.Hot
         (record old {
           hot = restarted_behind (map (lowered (item.mark + 1)) before)
               (map (lowered item.mark) after);
@@ -88,7 +85,7 @@ module _ {K V : Type 0} (rules : Rules K V) where
       → CacheState K V → CacheState K V
   promoted before item after state = record state {
     cold = restarted_behind before after;
-    hot = state.hot ++ record item { mark = item.mark - 1; queue = Hot } ∷ [];
+    hot = state.hot ++ record item { mark = item.mark - 1; queue = Queue.Hot } ∷ [];
   }
 
   -- A cold advance, with its answer. The first item that is marked or unpinned is taken out, and
@@ -107,7 +104,8 @@ module _ {K V : Type 0} (rules : Rules K V) where
         → RaisesMarks old.mark_cut rules.may_count old.cold cold → cold ≡ before ++ item ∷ after
         → AllByRecursion IsPassed before
         → item.mark ≡ 0 → pinned item ≡ false
-        → EvictsVictim Cold (record old { cold = restarted_behind before after }) item calls new
+        → EvictsVictim Queue.Cold (record old { cold = restarted_behind before after }) item calls
+        new
         → AdvancesCold old true calls new
     passes_all : (cold : List (Item K V)) (answer : Bool) (calls : List (HookCall K V))
         (new : CacheState K V)

@@ -1,7 +1,6 @@
 -- What a cache knows of its keys and values, and the hooks that it calls.
 use Rattle.std.specs.Prelude.{◌≡◌, ℕ, Bool, List, [], ◌∷◌}
 use Rattle.quick_cache_model.specs.declared.queue.Queue.{Queue}
-use Rattle.quick_cache_model.specs.declared.queue.Queue.TheVariants.{Hot, Cold}
 
 -- What a cache goes by: the hash of a key, the weight of a pair, whether a pair is pinned, and what
 -- a count of touches that readers left may be: 0 where a cache has one thread, anything where
@@ -21,8 +20,8 @@ pub data HookCall (K V : Type 0) : Type 0 where
 
 -- a pair that leaves is told to the hook of its queue
 abbrev pub evicted : {K V : Type 0} → Queue → K → V → HookCall K V
-evicted Hot key value = EvictHot key value
-evicted Cold key value = EvictCold key value
+evicted Queue.Hot key value = EvictHot key value
+evicted Queue.Cold key value = EvictCold key value
 
 -- what each hook may do to the request state, and to a value
 pub record Hooks (K V S : Type 0) : Type 1 where

@@ -3,8 +3,7 @@
 use Rattle.std.specs.Prelude.{◌≡◌, ℕ, Bool, false, List, Option, Some, None}
 use Rattle.quick_cache_model.specs.CacheState.{CacheState, UpToOrder}
 use Rattle.quick_cache_model.specs.Hooks.{Rules, HookCall}
-use Rattle.quick_cache_model.specs.Placeholders.{MakesPlaceholder, MeetsPlaceholder}
-use Rattle.quick_cache_model.specs.Placeholders.{FillsPlaceholder, GivesUpPlaceholder}
+use Rattle.quick_cache_model.specs.Placeholders.{MakesPlaceholder, MeetsPlaceholder, FillsPlaceholder, GivesUpPlaceholder}
 use Rattle.quick_cache_model.specs.Refusals.{IsProvided, needs_of_placeholder}
 use Rattle.quick_cache_model.specs.References.{WritesItem}
 

@@ -1,9 +1,7 @@
 -- Placeholders: keys that are being loaded, and what becomes of them.
-use Rattle.std.specs.Prelude.{◌≡◌, ◌≢◌, ℕ, ◌+◌, ◌<◌, Bool, true, List, [], ◌∷◌, ◌++◌, Option, Some}
-use Rattle.std.specs.Prelude.{None, if◌then◌else◌}
+use Rattle.std.specs.Prelude.{◌≡◌, ◌≢◌, ℕ, ◌+◌, ◌<◌, Bool, true, List, [], ◌∷◌, ◌++◌, Option, Some, None, if◌then◌else◌}
 use Rattle.std.specs.List.{AllByRecursion}
 use Rattle.quick_cache_model.specs.declared.queue.Queue.{Queue}
-use Rattle.quick_cache_model.specs.declared.queue.Queue.TheVariants.{Hot, Cold}
 use Rattle.quick_cache_model.specs.CacheState.{CacheState, LoadingEntry, entered}
 use Rattle.quick_cache_model.specs.Hooks.{Rules, HookCall, EvictCold}
 use Rattle.quick_cache_model.specs.Touches.{first_mark}
@@ -26,11 +24,11 @@ module _ {K V : Type 0} (stands_for : K → Bool) (old : CacheState K V) where
   -- where nothing is found, and a hot one where a ghost is, which goes.
   pub data MakesPlaceholder (hash : ℕ) (key : K) : CacheState K V → Type 0 where
     on_nothing : stands_for key ≡ true → HasNothing stands_for hash old
-        → MakesPlaceholder hash key (with_placeholder key Cold (after_miss old))
+        → MakesPlaceholder hash key (with_placeholder key Queue.Cold (after_miss old))
     on_ghost : (before after : List ℕ) → stands_for key ≡ true
         → IsGhostAt stands_for hash old before after
         → MakesPlaceholder hash key
-        (with_placeholder key Hot (after_miss (record old { ghosts = before ++ after })))
+        (with_placeholder key Queue.Hot (after_miss (record old { ghosts = before ++ after })))
 
   -- one that is there already is met, by its ticket, and a hit is counted
   pub data MeetsPlaceholder : (ticket : ℕ) → CacheState K V → Type 0 where

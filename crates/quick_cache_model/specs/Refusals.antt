@@ -2,8 +2,6 @@
 -- handed.
 use Rattle.std.specs.Prelude.{ℕ, ◌+◌, ◌-◌, ◌^◌, ◌<◌, ◌≤◌, Bool, length}
 use Rattle.quick_cache_model.specs.declared.refusal.Refusal.{Refusal}
-use Rattle.quick_cache_model.specs.declared.refusal.Refusal.TheVariants.{Memory, SlotsFull}
-use Rattle.quick_cache_model.specs.declared.refusal.Refusal.TheVariants.{TicketsSpent}
 use Rattle.quick_cache_model.specs.CacheState.{CacheState, item_count}
 use Rattle.quick_cache_model.specs.Finding.{HasNoKey, HasNothing}
 
@@ -43,10 +41,10 @@ pub record IsProvided {K V : Type 0} (needs : Needs) (state : CacheState K V) : 
 -- it asks for some.
 pub data MayRefuse {K V : Type 0} (needs : Needs) (state : CacheState K V) : Refusal → Type 0 where
   tickets_spent : needs.ticket → last_ticket ≤ state.next_ticket
-      → MayRefuse needs state TicketsSpent
+      → MayRefuse needs state Refusal.TicketsSpent
   slots_full : (needs.ticket → HasTicket state) → needs.slot → slot_count ≤ slots_taken state
-      → MayRefuse needs state SlotsFull
-  memory_refused : IsProvided needs state → needs.memory → MayRefuse needs state Memory
+      → MayRefuse needs state Refusal.SlotsFull
+  memory_refused : IsProvided needs state → needs.memory → MayRefuse needs state Refusal.Memory
 
 module _ {K V : Type 0} (stands_for : K → Bool) (hash : ℕ) (state : CacheState K V) where
   -- an insert takes a slot, and asks for memory, only where nothing is found under its key

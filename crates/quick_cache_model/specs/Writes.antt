@@ -1,10 +1,7 @@
 -- Writes: what an insert and a replace do to what stands under the key.
-use Rattle.std.specs.Prelude.{◌≡◌, ℕ, ◌+◌, Bool, List, [], ◌∷◌, ◌++◌, Option, Some, None, nat_le}
-use Rattle.std.specs.Prelude.{if◌then◌else◌}
+use Rattle.std.specs.Prelude.{◌≡◌, ℕ, ◌+◌, Bool, List, [], ◌∷◌, ◌++◌, Option, Some, None, nat_le, if◌then◌else◌}
 use Rattle.quick_cache_model.specs.declared.queue.Queue.{Queue}
-use Rattle.quick_cache_model.specs.declared.queue.Queue.TheVariants.{Hot, Cold}
-use Rattle.quick_cache_model.specs.CacheState.{CacheState, Item, LoadingEntry, Place, hot_weight}
-use Rattle.quick_cache_model.specs.CacheState.{entered, rewritten, with_items}
+use Rattle.quick_cache_model.specs.CacheState.{CacheState, Item, LoadingEntry, Place, hot_weight, entered, rewritten, with_items}
 use Rattle.quick_cache_model.specs.Hooks.{Rules, HookCall, EvictCold, evicted}
 use Rattle.quick_cache_model.specs.Touches.{TakesTouches, raised_by, first_mark}
 use Rattle.quick_cache_model.specs.Finding.{IsItemAt, IsLoadingAt, IsGhostAt, HasNoItem, HasNothing}
@@ -68,7 +65,8 @@ module _ {K V : Type 0} (rules : Rules K V) where
   -- else the given one
   abbrev pub queue_for : CacheState K V → K → V → Queue → Queue
   queue_for state key value otherwise =
-      if nat_le (hot_weight state + rules.weight key value) state.hot_target then Hot else otherwise
+      if nat_le (hot_weight state + rules.weight key value) state.hot_target then Queue.Hot else
+      otherwise
 
   -- The key is known by the keys that it is equal to.
   module _ (equal_to : K → Bool) (key : K) where
@@ -83,7 +81,7 @@ module _ {K V : Type 0} (rules : Rules K V) where
           → HasNothing equal_to (rules.hash key) old
           → EvictsToCapacity rules (rules.weight key value) old calls mid
           → WritesAdmitted strategy old value calls None
-          (entered (new_item key value (queue_for old key value Cold) 0) mid)
+          (entered (new_item key value (queue_for old key value Queue.Cold) 0) mid)
       overwrites : (place : Place) (before : List (Item K V)) (item touched : Item K V)
           (after : List (Item K V))
           (calls : List (HookCall K V)) (new : CacheState K V)
@@ -99,7 +97,8 @@ module _ {K V : Type 0} (rules : Rules K V) where
           (new : CacheState K V)
           → strategy ≡ Insert → IsGhostAt equal_to (rules.hash key) old before after
           → EvictsToCapacity rules 0
-          (entered (new_item key value Hot 0) (record old { ghosts = before ++ after })) calls new
+          (entered (new_item key value Queue.Hot 0) (record old { ghosts = before ++ after })) calls
+          new
           → WritesAdmitted strategy old value calls None new
       inserts_over_loading : (before : List (LoadingEntry K)) (entry : LoadingEntry K)
           (after : List (LoadingEntry K))

@@ -1,7 +1,6 @@
 //! What stands at a key that is being loaded.
 ghost use Rattle.std.specs.Prelude.{◌≡◌, ℕ, IfOk, IfErr, IsOk, ◌==◌};
 ghost use Rattle.std.specs.Int.NonZero.{non_zero_u32_get};
-ghost use Rattle.quick_cache_model.specs.declared.refusal.Refusal.TheVariants.{Memory};
 
 pub use crate::Touches;
 use crate::{Refusal, ToKey, Token};
@@ -75,5 +74,5 @@ pub trait MakesPlaceholders<K: Eq + Hash, P: SharedPlaceholder<K>> {
         ensures idx { IfOk result (λ made. P.idx_of made ≡ non_zero_u32_get idx) }
         ensures ticket { IfOk result (λ made. P.own_ticket made ≡ ticket) }
         ensures succeeds { is_infallible self.now → Q.to_key_is_infallible query.now → IsOk result }
-        ensures refused { IfErr result (λ refusal. refusal ≡ Memory) };
+        ensures refused { IfErr result (λ refusal. refusal ≡ Refusal.Memory) };
 }

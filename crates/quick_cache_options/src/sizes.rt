@@ -1,7 +1,8 @@
 //! The sizes of a cache: its hot target and ghost limit, how a new capacity rescales them, and its
 //! shards. Products are taken in 128 bits, and nothing here allocates.
 ghost use Rattle.std.specs.Prelude.{◌≡◌, ℕ, ◌+◌, ◌*◌, ◌/◌, ◌^◌, ◌<◌, ◌≤◌, min, max};
-ghost use Rattle.quick_cache_model.specs.Sizes.{clamped_target, hot_target_of, ghost_limit_of, rescaled_target, rescaled_limit, shard_part, default_hot_share, IsShardCount};
+ghost use Rattle.quick_cache_model.specs.Sizes.{clamped_target, hot_target_of, ghost_limit_of, rescaled_target, rescaled_limit, shard_part};
+ghost use Rattle.quick_cache_model.specs.Sizes.{default_hot_share, IsShardCount};
 
 use crate::options::{DEFAULT_HOT_ALLOCATION, Options, WHOLE_ALLOCATION};
 

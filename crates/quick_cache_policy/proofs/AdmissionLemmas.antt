@@ -12,9 +12,7 @@ use Rattle.quick_cache_store.specs.Lists.{HeldItem, FindsItem, IsEntry, AreApart
 use Rattle.quick_cache_store.specs.Views.{items_of}
 use Rattle.quick_cache_store.specs.declared.slots.entry.Entry.{Entry}
 use Rattle.quick_cache_store.specs.declared.slots.entry.Awaited.{Awaited}
-use Rattle.quick_cache_store.specs.declared.slots.entry.Entry.TheVariants.{Item as item_variant, Loading as loading_variant, Ghost as ghost_variant}
 use Rattle.quick_cache_store.specs.declared.lists.found.Found.{Found}
-use Rattle.quick_cache_store.specs.declared.lists.found.Found.TheVariants.{Item as found_item, Loading as found_loading, Ghost as found_ghost, Nothing as found_nothing}
 use Rattle.quick_cache_store.proofs.lists.CallerLemmas.{items_of-around, without-hot, without-cold, without-still}
 use Rattle.quick_cache_store.proofs.lists.StandingLemmas.{not-loading, not-ghost, entry-is_item}
 use Rattle.quick_cache_policy.specs.Contents.{AreHashed, IsSound, state_of}
@@ -112,7 +110,7 @@ module _ {K V P W A T : Type 0} (ticket_of : P → ℕ) (stands_for : K → Bool
 
     -- what a call gives of the token is the item that was found
     pub FindsItem-item : {U : Type 0} (taken_hash : ℕ) (entry : Entry K V P U) (item : Item K V)
-        → IsEntry old.lists token taken_hash entry → entry ≡ item_variant item
+        → IsEntry old.lists token taken_hash entry → entry ≡ Entry.Item item
         → item ≡ finds.item
     FindsItem-item taken_hash entry item is item_is =
         ap (λ (h : HeldItem K V). h.item)
@@ -121,14 +119,14 @@ module _ {K V P W A T : Type 0} (ticket_of : P → ℕ) (stands_for : K → Bool
     -- it is no placeholder
     pub FindsItem-loading : {U : Type 0} (taken_hash : ℕ) (entry : Entry K V P U)
         (awaited : Awaited K P) → IsEntry old.lists token taken_hash entry
-        → entry ≡ loading_variant awaited → ⊥
+        → entry ≡ Entry.Loading awaited → ⊥
     FindsItem-loading taken_hash entry awaited is loading_is =
         not-loading old.lists apart token taken_hash entry is held finds.stands refl awaited
         loading_is
 
     -- and no ghost
     pub FindsItem-ghost : {U : Type 0} (taken_hash : ℕ) (entry : Entry K V P U)
-        → IsEntry old.lists token taken_hash entry → entry ≡ ghost_variant → ⊥
+        → IsEntry old.lists token taken_hash entry → entry ≡ Entry.Ghost → ⊥
     FindsItem-ghost taken_hash entry is ghost_is =
         not-ghost old.lists apart token taken_hash entry is held finds.stands refl ghost_is
 
@@ -138,17 +136,17 @@ module _ {K V P W A T : Type 0} (ticket_of : P → ℕ) (equal : K → K → Boo
   pub Finds-no_item : IsValid equal (state_of ticket_of old)
       → AreUnder (equal key) hash old.lists
       → (found : Found) → Finds (equal key) hash old.lists found
-      → ((token : _) → found ≡ found_item token → ⊥)
+      → ((token : _) → found ≡ Found.Item token → ⊥)
       → HasNoItem (equal key) (state_of ticket_of old)
-  Finds-no_item valid under (found_item token) finds other = absurd (other token refl)
-  Finds-no_item valid under (found_loading token) finds other =
+  Finds-no_item valid under (Found.Item token) finds other = absurd (other token refl)
+  Finds-no_item valid under (Found.Loading token) finds other =
       let at = finds.stands in
       HasNoItem-loading (equal key) (state_of ticket_of old) _ _ _ (valid.one_entry_a_key key)
       (IsLoadingAt-stands ticket_of (equal key) hash old at.before finds.waiting at.after at.split
       finds.passes)
-  Finds-no_item valid under (found_ghost token) finds other =
+  Finds-no_item valid under (Found.Ghost token) finds other =
       (HasNoKey-state ticket_of (equal key) hash old under finds.0).items
-  Finds-no_item valid under found_nothing finds other =
+  Finds-no_item valid under Found.Nothing finds other =
       (HasNothing-state ticket_of (equal key) hash old under finds).keys.items
 
   -- an item that was found was taken out

@@ -1,18 +1,16 @@
 -- A whole hot advance, round after round, and that it is the one of the definitions.
-use Rattle.std.proofs.Common.{◌≡◌, ℕ, ◌+◌, ◌*◌, ◌≤◌, Bool, true, false, true≢false, List, [], ◌∷◌, length, map}
-use Rattle.std.proofs.Common.{refl, sym, subst, ◌∙◌, arith}
-use Rattle.quick_cache_model.specs.declared.queue.Queue.TheVariants.{Hot}
+use Rattle.std.proofs.Common.{◌≡◌, ℕ, ◌+◌, ◌*◌, ◌≤◌, Bool, true, false, true≢false, List, [], ◌∷◌, length, map, refl, sym, subst, ◌∙◌}
+use Rattle.std.proofs.Common.{arith}
+use Rattle.quick_cache_model.specs.declared.queue.Queue.{Queue}
 use Rattle.quick_cache_model.specs.CacheState.{CacheState, Item, restarted_behind}
 use Rattle.quick_cache_model.specs.Hooks.{Rules, HookCall}
 use Rattle.quick_cache_model.specs.Touches.{RaisesMarks}
 use Rattle.quick_cache_model.specs.Eviction.{lowered, IsFirstVictim, EvictsVictim, AdvancesHot}
 use Rattle.quick_cache_model.proofs.TouchLaws.{RaisesMarks-same}
-use Rattle.quick_cache_policy.specs.Rounds.{HaveAtMost, MayRaise, AfterTouches, Rounds}
-use Rattle.quick_cache_policy.specs.Rounds.{EndsAllPinned, EndsSomeUnpinned, EndsAtVictim}
+use Rattle.quick_cache_policy.specs.Rounds.{HaveAtMost, MayRaise, AfterTouches, Rounds, EndsAllPinned, EndsSomeUnpinned, EndsAtVictim}
 use Rattle.quick_cache_policy.specs.Rounds.{Advancing, MeetsVictim, GivesUp, IsMet, NoneUnpinned}
 use Rattle.quick_cache_policy.proofs.MarkLemmas.{HaveAtMost-raised, RaisesMarks-length}
-use Rattle.quick_cache_policy.proofs.RoundLemmas.{rounds-begin, rounds-go_on, rounds-give_up}
-use Rattle.quick_cache_policy.proofs.RoundLemmas.{rounds-lower, rounds-reach, rounds-stop}
+use Rattle.quick_cache_policy.proofs.RoundLemmas.{rounds-begin, rounds-go_on, rounds-give_up, rounds-lower, rounds-reach, rounds-stop}
 use Rattle.quick_cache_policy.proofs.RoundLemmas.{visits-within, stopped-within}
 
 module _ {K V : Type 0} (steady : Type 0) (pinned : K → V → Bool) (cut : ℕ)
@@ -151,17 +149,18 @@ module _ {K V : Type 0} (rules : Rules K V) where
       (taken : Item K V) (visits : ℕ) (calls : List (HookCall K V)) (new : CacheState K V)
       → RaisesMarks old.mark_cut rules.may_count old.hot mid
       → IsMet rules.pinned mid left visits → left ≡ taken ∷ rest
-      → EvictsVictim rules Hot (record old { hot = rest }) taken calls new
+      → EvictsVictim rules Queue.Hot (record old { hot = rest }) taken calls new
       → AdvancesHot rules old true calls new
   AdvancesHot-met old mid left rest taken visits calls new raised met is evicts =
       let t = IsMet-taken mid left rest taken visits met is in
       AdvancesHot.evicts mid met.before met.item met.after calls new raised met.split
       (IsMet-victim mid left visits met)
-      (subst (λ i. EvictsVictim rules Hot (record old {
+      (subst (λ i. EvictsVictim rules Queue.Hot (record old {
         hot = restarted_behind (map (lowered (met.item.mark + 1)) met.before)
             (map (lowered met.item.mark) met.after);
       }) i calls new) t.0
-      (subst (λ l. EvictsVictim rules Hot (record old { hot = l }) taken calls new) t.1 evicts))
+      (subst (λ l. EvictsVictim rules Queue.Hot (record old { hot = l }) taken calls new) t.1
+      evicts))
 
   -- an advance that found each item pinned
   pub AdvancesHot-none : (old : CacheState K V) (mid left : List (Item K V)) (visits : ℕ)

@@ -1,19 +1,22 @@
 -- Room for a write, the calls of one, and its answer.
-use Rattle.std.proofs.Common.{◌≡◌, ℕ, ◌+◌, ◌*◌, ◌^◌, arith, ◌<◌, ◌≤◌, Bool, true, false, true≢false, List, [], ◌∷◌, ◌++◌, Option, Some, None, refl, sym, ap, subst, inl, inr}
+use Rattle.std.proofs.Common.{◌≡◌, ℕ, ◌+◌, ◌*◌, ◌^◌, arith, ◌<◌, ◌≤◌, Bool, true, false, List, [], ◌∷◌, ◌++◌, Option, Some}
+use Rattle.std.proofs.Common.{None, Ok, Err, refl, sym, ap, subst, inl, inr}
 use Rattle.quick_cache_model.specs.declared.refusal.Refusal.{Refusal}
-use Rattle.quick_cache_model.specs.declared.refusal.Refusal.TheVariants.{Memory, SlotsFull, TicketsSpent, Finished}
 use Rattle.quick_cache_model.specs.CacheState.{CacheState}
 use Rattle.quick_cache_model.specs.Finding.{HasNothing, HasNoItem}
 use Rattle.quick_cache_model.specs.Hooks.{Rules, Hooks, HookCall, EvictCold, Calls}
-use Rattle.quick_cache_model.specs.Refusals.{IsProvided, MayRefuse, memory_refused, slots_full, slots_taken}
-use Rattle.quick_cache_model.specs.Writes.{Strategy, Insert, Replace, SoftReplace, IsReplace, Writes, WritesAdmitted, RejectsTooHeavy, TakesOutItem}
+use Rattle.quick_cache_model.specs.Refusals.{IsProvided, MayRefuse, memory_refused, slots_full, slots_taken, needs_of_insert}
+use Rattle.quick_cache_model.specs.Kinds.{replacement}
+use Rattle.quick_cache_model.specs.Writes.{Strategy, Insert, IsReplace, Writes, WritesAdmitted, RejectsTooHeavy}
+use Rattle.quick_cache_model.specs.Writes.{TakesOutItem}
 use Rattle.quick_cache_model.proofs.OrderLaws.{UpToOrder-exact, UpToOrder-map}
-use Rattle.quick_cache_policy.specs.declared.writing.admission.Admission.TheVariants.{Admitted as code_admitted, TooHeavy as code_too_heavy}
+use Rattle.quick_cache_policy.specs.declared.writing.admission.Admission.{Admission}
 use Rattle.std.proofs.lemmas.List.{length-map}
-use Rattle.quick_cache_store.specs.Lists.{HeldItem, HeldGhost, entry_count}
+use Rattle.quick_cache_store.specs.Lists.{HeldItem, HeldGhost, Finds, entry_count}
 use Rattle.quick_cache_store.specs.Views.{loading_entry}
 use Rattle.quick_cache_policy.specs.declared.contents.Contents.{Contents}
-use Rattle.quick_cache_policy.specs.declared.writing.plan.Plan.{Plan}
+use Rattle.quick_cache_policy.specs.declared.strategy.InsertStrategy.{InsertStrategy}
+use Rattle.quick_cache_store.specs.declared.lists.found.Found.{Found}
 use Rattle.quick_cache_policy.specs.Contents.{state_of}
 use Rattle.quick_cache_policy.specs.Work.{Work, WorksWithin}
 use Rattle.quick_cache_policy.proofs.HotLemmas.{counted_up-zero}
@@ -21,31 +24,20 @@ use Rattle.quick_cache_model.specs.Fates.{residents}
 use Rattle.quick_cache_model.specs.Leads.{TellsBeside}
 use Rattle.quick_cache_model.proofs.Leads.{Leads-same, Leads-changes, Leads-leaves, Leads-beside, Tells-append}
 use Rattle.quick_cache_policy.specs.Advances.{AreEvictions}
-use Rattle.quick_cache_policy.specs.Finding.{IsPlanned, TakesSlot, Provides}
-use Rattle.quick_cache_policy.specs.Writing.{is_insert, needs_of_write, IsReplacement, AreAdmittedCalls, AreWriteCalls, Writing, WritingAdmitted, Rejecting, Checks, Wrote}
-use Rattle.quick_cache_policy.proofs.PlanLemmas.{IsPlanned-takes}
+use Rattle.quick_cache_policy.specs.Finding.{AreUnder, TakesSlot, Provides}
+use Rattle.quick_cache_policy.proofs.FindLemmas.{Finds-nothing, HasNothing-state}
+use Rattle.quick_cache_policy.specs.Writing.{strategy_of, needs_of_write, IsReplacement, AreAdmittedCalls, AreWriteCalls, Writing}
+use Rattle.quick_cache_policy.specs.Writing.{WritingAdmitted, Rejecting, Checks}
 use Rattle.quick_cache_policy.proofs.TellLemmas.{Checks-tells, TakesOutItem-tells}
 
--- what makes items is an insert
-pub insert-of : (strategy : Strategy) → is_insert strategy ≡ true → strategy ≡ Insert
-insert-of Insert e = refl
-insert-of Replace e = absurd (true≢false (sym e))
-insert-of SoftReplace e = absurd (true≢false (sym e))
-
--- and what does not is a replace
-pub replace-of : (strategy : Strategy) → is_insert strategy ≡ false → IsReplace strategy
-replace-of Insert e = absurd (true≢false e)
-replace-of Replace e = tt
-replace-of SoftReplace e = tt
-
-module _ {K V : Type 0} (equal_to : K → Bool) (key : K) (strategy : Strategy)
-    (old new : CacheState K V) (left : V) (calls : List (HookCall K V))
-    (takes : TakesOutItem equal_to old calls new) (replaced : IsReplacement calls) where
+module _ {K V : Type 0} (equal_to : K → Bool) (key : K) (old new : CacheState K V) (left : V)
+    (calls : List (HookCall K V)) (takes : TakesOutItem equal_to old calls new)
+    (replaced : IsReplacement calls) where
   -- an insert of a pair that is too heavy tells it to the cold hook
-  pub Rejecting-reports : is_insert strategy ≡ true
-      → Rejecting equal_to key strategy old left None new (calls ++ EvictCold key left ∷ [])
-  Rejecting-reports is = (
-    RejectsTooHeavy.reports calls new (insert-of strategy is) takes,
+  pub Rejecting-reports : Rejecting equal_to key Insert old left None new
+      (calls ++ EvictCold key left ∷ [])
+  Rejecting-reports = (
+    RejectsTooHeavy.reports calls new refl takes,
     λ value. AreWriteCalls.rejects left calls replaced,
     Tells-append calls (EvictCold key left ∷ [])
         (Leads-beside (key, left) (TakesOutItem-tells equal_to old new calls takes))
@@ -53,10 +45,10 @@ module _ {K V : Type 0} (equal_to : K → Bool) (key : K) (strategy : Strategy)
   )
 
   -- a replace gives it back
-  pub Rejecting-gives_back : is_insert strategy ≡ false
+  pub Rejecting-gives_back : (strategy : Strategy) → IsReplace strategy
       → Rejecting equal_to key strategy old left (Some (key, left)) new calls
-  Rejecting-gives_back is = (
-    RejectsTooHeavy.gives_back calls new (replace-of strategy is) takes,
+  Rejecting-gives_back strategy is = (
+    RejectsTooHeavy.gives_back calls new is takes,
     λ value. AreWriteCalls.gives_back left calls replaced,
     Leads-beside (key, left) (TakesOutItem-tells equal_to old new calls takes),
   )
@@ -64,7 +56,7 @@ module _ {K V : Type 0} (equal_to : K → Bool) (key : K) (strategy : Strategy)
 -- a replace that finds no item gives the pair back, and calls nothing
 pub WritingAdmitted-gives_back : {K V S : Type 0} (hooks : Hooks K V S) (steady : Type 0)
     (rules : Rules K V) (equal_to : K → Bool) (key : K) (value : V) (strategy : Strategy)
-    (old : CacheState K V) (first : S) → is_insert strategy ≡ false → HasNoItem equal_to old
+    (old : CacheState K V) (first : S) → IsReplace strategy → HasNoItem equal_to old
     → Calls hooks (WritingAdmitted steady rules equal_to key strategy old value
     (Some (key, value)) old) first first
 WritingAdmitted-gives_back hooks steady rules equal_to key value strategy old first is none = record {
@@ -72,7 +64,7 @@ WritingAdmitted-gives_back hooks steady rules equal_to key value strategy old fi
   holds = (
     λ _. UpToOrder-exact (WritesAdmitted rules equal_to key strategy old value []
         (Some (key, value))) old
-        (WritesAdmitted.gives_back (replace-of strategy is) none),
+        (WritesAdmitted.gives_back is none),
     AreAdmittedCalls.writes [] [] IsReplacement.none AreEvictions.none,
     Leads-same ((key, value) ∷ residents old),
   );
@@ -84,7 +76,7 @@ module _ {K V : Type 0} (steady : Type 0) (rules : Rules K V) (equal_to : K → 
     (new : CacheState K V) where
   -- a pair that was admitted is written
   pub Writing-admitted : (admitted : _) (first rest : List (HookCall K V))
-      → Checks steady rules old.hot_target key value (code_admitted admitted) first
+      → Checks steady rules old.hot_target key value (Admission.Admitted admitted) first
       → WritingAdmitted steady rules equal_to key strategy old admitted.value answer new rest
       → Writing steady rules equal_to key strategy old value answer new (first ++ rest)
   Writing-admitted admitted first rest checks writes = (
@@ -106,7 +98,7 @@ module _ {K V : Type 0} (steady : Type 0) (rules : Rules K V) (equal_to : K → 
 
   -- and one that is too heavy is turned away
   pub Writing-too_heavy : (left : V) (first rest : List (HookCall K V))
-      → Checks steady rules old.hot_target key value (code_too_heavy left) first
+      → Checks steady rules old.hot_target key value (Admission.TooHeavy left) first
       → Rejecting equal_to key strategy old left answer new rest
       → Writing steady rules equal_to key strategy old value answer new (first ++ rest)
   Writing-too_heavy left first rest checks rejects = (
@@ -116,34 +108,6 @@ module _ {K V : Type 0} (steady : Type 0) (rules : Rules K V) (equal_to : K → 
     subst (λ l. TellsBeside key value old (l ++ rest) answer new) (sym checks.1)
         (Leads-changes key value left rejects.2),
   )
-
-module _ {K V : Type 0} (stands_for : K → Bool) (hash : ℕ) (state : CacheState K V) (plan : Plan)
-    (strategy : Strategy) (room : ℕ) where
-  -- there was room for what the write needs
-  pub Provides-provided : (strategy ≡ Insert → HasNothing stands_for hash state → TakesSlot plan)
-      → Provides plan (slots_taken state) room None
-      → IsProvided (needs_of_write stands_for hash state strategy) state
-  Provides-provided some p = go strategy refl
-    where
-      go : (s : Strategy) → strategy ≡ s → IsProvided (needs_of_write stands_for hash state s) state
-      go Insert is = record { ticket = λ e. absurd e; slot = λ none. p.0 (some is none) }
-      go Replace is = record { ticket = λ e. absurd e; slot = λ e. absurd e }
-      go SoftReplace is = record { ticket = λ e. absurd e; slot = λ e. absurd e }
-
-  -- there was none
-  pub Provides-refused : (TakesSlot plan → (strategy ≡ Insert) × HasNothing stands_for hash state)
-      → (refusal : Refusal) → Provides plan (slots_taken state) room (Some refusal)
-      → MayRefuse (needs_of_write stands_for hash state strategy) state refusal
-  Provides-refused none Memory p =
-      let made = none p.0 in
-      subst (λ s. MayRefuse (needs_of_write stands_for hash state s) state Memory) (sym made.0)
-      (memory_refused (record { ticket = λ e. absurd e; slot = λ _. p.1 }) made.1)
-  Provides-refused none SlotsFull p =
-      let made = none p.0 in
-      subst (λ s. MayRefuse (needs_of_write stands_for hash state s) state SlotsFull) (sym made.0)
-      (slots_full (λ e. absurd e) made.1 p.1)
-  Provides-refused none TicketsSpent p = absurd p
-  Provides-refused none Finished p = absurd p
 
 -- no work is within each bound
 pub WorksWithin-none : (cut n : ℕ) (work : Work) → work.advances < 2 ^ 64 → work.visits < 2 ^ 64
@@ -174,25 +138,68 @@ entry_count-taken {K = K} {V = V} {P = P} ticket_of contents = omega (
   length-map contents.lists.ghosts (λ (shade : HeldGhost). shade.hash),
 )
 
-module _ {K V P W A T S : Type 0} (steady : Type 0) (hooks : Hooks K V S) (rules : Rules K V)
-    (equal : K → K → Bool) (ticket_of : P → ℕ) (strategy : Strategy)
-    (old ready : Contents K V W A T P) (first last : S) (key : K) (value : V) (plan : Plan)
-    (answer : Option (K × V)) (new : CacheState K V) where
-  -- a pair was written after room was made where it needed some: the state does not look at room
-  pub Wrote-provided : IsPlanned (equal key) (rules.hash key) old.lists strategy plan
-      → Provides plan (entry_count old.lists) ready.lists.room None
-      → ready ≡ record old { lists = record old.lists { room = ready.lists.room } }
-      → Calls hooks (Writing steady rules (equal key) key strategy (state_of ticket_of ready) value
-      answer new) first last
-      → Wrote steady hooks rules equal strategy (state_of ticket_of old) first key value answer new
-      last
-  Wrote-provided planned provides same writes = record {
-    provided = Provides-provided (equal key) (rules.hash key) (state_of ticket_of old) plan strategy
-        ready.lists.room
-        (IsPlanned-takes ticket_of (equal key) (rules.hash key) old strategy plan planned)
-        (subst (λ (n : ℕ). Provides plan n ready.lists.room None) (entry_count-taken ticket_of old)
-        provides);
-    step = subst (λ (state : CacheState K V). Calls hooks
-        (Writing steady rules (equal key) key strategy state value answer new) first last)
-        (ap (state_of ticket_of) same) writes;
+module _ {K V P W A T : Type 0} (ticket_of : P → ℕ) (stands_for : K → Bool) (hash : ℕ)
+    (old : Contents K V W A T P) (room : ℕ) where
+  -- there was a slot where nothing was found
+  pub Provides-provided : (found : Found) → Finds stands_for hash old.lists found
+      → Provides found (entry_count old.lists) room (Ok tt)
+      → IsProvided (needs_of_insert stands_for hash (state_of ticket_of old)) (state_of ticket_of old)
+  Provides-provided found finds p = record {
+    ticket = λ e. absurd e;
+    slot = λ none. omega (
+      arith,
+      p.0 (subst TakesSlot (sym (Finds-nothing ticket_of stands_for hash old found finds none)) tt),
+      entry_count-taken ticket_of old,
+    );
   }
+
+  -- there was none, or no memory
+  pub Provides-refused : AreUnder stands_for hash old.lists → (found : Found)
+      → Finds stands_for hash old.lists found → (refusal : Refusal)
+      → Provides found (entry_count old.lists) room (Err refusal)
+      → HasNothing stands_for hash (state_of ticket_of old)
+      × MayRefuse (needs_of_insert stands_for hash (state_of ticket_of old)) (state_of ticket_of old)
+      refusal
+  Provides-refused under Found.Nothing finds Refusal.Memory p =
+      let none = HasNothing-state ticket_of stands_for hash old under finds in (
+        none,
+        memory_refused (record {
+          ticket = λ e. absurd e;
+          slot = λ _. omega (arith, p.1, entry_count-taken ticket_of old);
+        }) none,
+      )
+  Provides-refused under Found.Nothing finds Refusal.SlotsFull p =
+      let none = HasNothing-state ticket_of stands_for hash old under finds in (
+        none,
+        slots_full (λ e. absurd e) none (omega (arith, p.1, entry_count-taken ticket_of old)),
+      )
+  Provides-refused under Found.Nothing finds Refusal.TicketsSpent p = absurd p
+  Provides-refused under Found.Nothing finds Refusal.Finished p = absurd p
+  Provides-refused under (Found.Ghost token) finds Refusal.Memory p = absurd p.0
+  Provides-refused under (Found.Ghost token) finds Refusal.SlotsFull p = absurd p.0
+  Provides-refused under (Found.Ghost token) finds Refusal.TicketsSpent p = absurd p
+  Provides-refused under (Found.Ghost token) finds Refusal.Finished p = absurd p
+  Provides-refused under (Found.Loading token) finds Refusal.Memory p = absurd p.0
+  Provides-refused under (Found.Loading token) finds Refusal.SlotsFull p = absurd p.0
+  Provides-refused under (Found.Loading token) finds Refusal.TicketsSpent p = absurd p
+  Provides-refused under (Found.Loading token) finds Refusal.Finished p = absurd p
+  Provides-refused under (Found.Item token) finds Refusal.Memory p = absurd p.0
+  Provides-refused under (Found.Item token) finds Refusal.SlotsFull p = absurd p.0
+  Provides-refused under (Found.Item token) finds Refusal.TicketsSpent p = absurd p
+  Provides-refused under (Found.Item token) finds Refusal.Finished p = absurd p
+
+-- a replace needs nothing that may run out
+pub provided-replace : {K V : Type 0} (stands_for : K → Bool) (hash : ℕ) (state : CacheState K V)
+    (soft : Bool) → IsProvided (needs_of_write stands_for hash state (replacement soft)) state
+provided-replace stands_for hash state true = record { ticket = λ e. absurd e; slot = λ e. absurd e }
+provided-replace stands_for hash state false = record { ticket = λ e. absurd e; slot = λ e. absurd e }
+
+-- it is a replace, and what the code calls so
+pub replacement-is : (soft : Bool) → IsReplace (replacement soft)
+replacement-is true = tt
+replacement-is false = tt
+
+pub strategy_of-replace : (soft : Bool)
+    → strategy_of (InsertStrategy.Replace soft) ≡ replacement soft
+strategy_of-replace true = refl
+strategy_of-replace false = refl

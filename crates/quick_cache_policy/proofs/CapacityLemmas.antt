@@ -5,8 +5,7 @@ use Rattle.quick_cache_model.specs.Capacity.{resized}
 use Rattle.quick_cache_model.specs.Eviction.{newest}
 use Rattle.quick_cache_model.specs.Hooks.{Rules}
 use Rattle.quick_cache_model.specs.Sizes.{rescaled_target, rescaled_limit}
-use Rattle.quick_cache_model.proofs.KeptSizes.{rescaled_target-le, rescaled_target-pos}
-use Rattle.quick_cache_model.proofs.KeptSizes.{rescaled_limit-counts}
+use Rattle.quick_cache_model.proofs.KeptSizes.{rescaled_target-le, rescaled_target-pos, rescaled_limit-counts}
 use Rattle.quick_cache_store.specs.Lists.{HeldGhost}
 use Rattle.quick_cache_store.specs.Views.{hashes_of}
 use Rattle.quick_cache_policy.specs.declared.contents.Contents.{Contents}

@@ -2,10 +2,9 @@
 use Rattle.std.proofs.Common.{◌≡◌, ◌-◌, Bool, true, List, [], ◌∷◌, ◌++◌, IsPermutation, sym, ap, subst, ◌∙◌}
 use Rattle.std.specs.List.{AllByRecursion}
 use Rattle.std.proofs.lemmas.List.Sorted.{IsPermutation-trans}
-use Rattle.quick_cache_model.specs.declared.queue.Queue.TheVariants.{Hot, Cold}
+use Rattle.quick_cache_model.specs.declared.queue.Queue.{Queue}
 use Rattle.quick_cache_model.specs.CacheState.{CacheState, Item, InCold}
-use Rattle.quick_cache_model.specs.Eviction.{AdvancesHot, AdvancesCold, EvictsToTarget, EvictsVictim}
-use Rattle.quick_cache_model.specs.Eviction.{IsPassed, promoted}
+use Rattle.quick_cache_model.specs.Eviction.{AdvancesHot, AdvancesCold, EvictsToTarget, EvictsVictim, IsPassed, promoted}
 use Rattle.quick_cache_model.specs.Hooks.{Rules, HookCall}
 use Rattle.quick_cache_model.proofs.EachElement.{all-weaker}
 use Rattle.quick_cache_model.proofs.OrderLaws.{UpToOrder-map}
@@ -13,9 +12,7 @@ use Rattle.quick_cache_model.specs.Fates.{residents}
 use Rattle.quick_cache_model.proofs.Leads.{Leads-from}
 use Rattle.quick_cache_model.proofs.Residents.{residents-reordered}
 use Rattle.quick_cache_policy.specs.declared.evicting.cold.Search.{Search}
-use Rattle.quick_cache_policy.specs.declared.evicting.cold.Search.TheVariants.{Marked, Victim, AllPassed}
-use Rattle.quick_cache_policy.specs.Advances.{IsPassedBy, Searches, Evicting, AreEvictions}
-use Rattle.quick_cache_policy.specs.Advances.{FirstIsPromoted, FirstIsEvicted}
+use Rattle.quick_cache_policy.specs.Advances.{IsPassedBy, Searches, Evicting, AreEvictions, FirstIsPromoted, FirstIsEvicted}
 use Rattle.quick_cache_policy.proofs.TellLemmas.{FirstIsEvicted-tells, FirstIsPromoted-order, Searches-order}
 
 module _ {K V : Type 0} (rules : Rules K V) (steady : Type 0) (old : CacheState K V)
@@ -37,7 +34,7 @@ module _ {K V : Type 0} (rules : Rules K V) (steady : Type 0) (old : CacheState 
 
   -- a marked item was found, and promoted, and the hot ring brought to its target
   pub AdvancesCold-promoted : (mid new : CacheState K V) (calls : List (HookCall K V))
-      → Searches steady rules.pinned old.mark_cut rules.may_count old.cold Marked cold
+      → Searches steady rules.pinned old.mark_cut rules.may_count old.cold Search.Marked cold
       → FirstIsPromoted (record old { cold = cold }) mid
       → Evicting steady (EvictsToTarget rules) mid new calls
       → Evicting steady (λ state. AdvancesCold rules state true) old new calls
@@ -51,11 +48,11 @@ module _ {K V : Type 0} (rules : Rules K V) (steady : Type 0) (old : CacheState 
       first.promoted
       ∙ ap (λ (i : Item K V). record old {
         cold = first.rest;
-        hot = old.hot ++ record i { mark = i.mark - 1; queue = Hot } ∷ [];
+        hot = old.hot ++ record i { mark = i.mark - 1; queue = Queue.Hot } ∷ [];
       }) same
       ∙ ap (λ (xs : List (Item K V)). record old {
         cold = xs;
-        hot = old.hot ++ record e.item { mark = e.item.mark - 1; queue = Hot } ∷ [];
+        hot = old.hot ++ record e.item { mark = e.item.mark - 1; queue = Queue.Hot } ∷ [];
       }) rest in (
         λ steadily. UpToOrder-map (EvictsToTarget rules mid calls)
             (AdvancesCold rules old true calls) new
@@ -66,14 +63,14 @@ module _ {K V : Type 0} (rules : Rules K V) (steady : Type 0) (old : CacheState 
         evicts.1,
         Leads-from (residents old) (residents mid)
             (IsPermutation-trans (residents old) (residents (record old { cold = cold }))
-            (residents mid) (searched-order Marked finds)
+            (residents mid) (searched-order Search.Marked finds)
             (FirstIsPromoted-order (record old { cold = cold }) mid first)) evicts.2,
       )
 
   -- an item was found that is neither marked nor pinned, and it left
   pub AdvancesCold-evicted : (new : CacheState K V) (calls : List (HookCall K V))
-      → Searches steady rules.pinned old.mark_cut rules.may_count old.cold Victim cold
-      → FirstIsEvicted rules Cold (record old { cold = cold }) calls new × AreEvictions calls
+      → Searches steady rules.pinned old.mark_cut rules.may_count old.cold Search.Victim cold
+      → FirstIsEvicted rules Queue.Cold (record old { cold = cold }) calls new × AreEvictions calls
       → Evicting steady (λ state. AdvancesCold rules state true) old new calls
   AdvancesCold-evicted new calls finds evicts =
       let e = finds.ends in
@@ -83,24 +80,26 @@ module _ {K V : Type 0} (rules : Rules K V) (steady : Type 0) (old : CacheState 
       let same : first.item ≡ e.item = cc in
       let rest : first.rest ≡ e.after ++ e.before = cc in (
         λ steadily. UpToOrder-map
-            (EvictsVictim rules Cold (record old { cold = first.rest }) first.item calls)
+            (EvictsVictim rules Queue.Cold (record old { cold = first.rest }) first.item calls)
             (AdvancesCold rules old true calls) new
             (λ state goes. AdvancesCold.evicts finds.cold e.before e.item e.after calls state
             finds.raised e.split (passed_by steadily e.before e.passed) e.meets.0 (e.meets.1 steadily)
-            (subst (λ (xs : List (Item K V)). EvictsVictim rules Cold (record old { cold = xs })
+            (subst (λ (xs : List (Item K V)). EvictsVictim rules Queue.Cold
+            (record old { cold = xs })
             e.item calls state) rest
-            (subst (λ (i : Item K V). EvictsVictim rules Cold (record old { cold = first.rest }) i
+            (subst (λ (i : Item K V). EvictsVictim rules Queue.Cold
+            (record old { cold = first.rest }) i
             calls state) same goes)))
             first.evicts,
         evicts.1,
         Leads-from (residents old) (residents (record old { cold = cold }))
-            (searched-order Victim finds)
-            (FirstIsEvicted-tells rules Cold (record old { cold = cold }) new calls first),
+            (searched-order Search.Victim finds)
+            (FirstIsEvicted-tells rules Queue.Cold (record old { cold = cold }) new calls first),
       )
 
   -- all were passed by, and a hot advance was made
   pub AdvancesCold-passed : (answer : Bool) (new : CacheState K V) (calls : List (HookCall K V))
-      → Searches steady rules.pinned old.mark_cut rules.may_count old.cold AllPassed cold
+      → Searches steady rules.pinned old.mark_cut rules.may_count old.cold Search.AllPassed cold
       → Evicting steady (λ state. AdvancesHot rules state answer) (record old { cold = cold }) new
       calls
       → Evicting steady (λ state. AdvancesCold rules state answer) old new calls
@@ -114,5 +113,5 @@ module _ {K V : Type 0} (rules : Rules K V) (steady : Type 0) (old : CacheState 
         (advances.0 steadily),
     advances.1,
     Leads-from (residents old) (residents (record old { cold = cold }))
-        (searched-order AllPassed finds) advances.2,
+        (searched-order Search.AllPassed finds) advances.2,
   )

@@ -1,5 +1,6 @@
 -- The search of the cold ring, item by item.
-use Rattle.std.proofs.Common.{◌≡◌, ℕ, ◌+◌, ◌<◌, Bool, List, [], ◌∷◌, ◌++◌, length, refl, sym, ap, subst, ◌∙◌, arith, append_assoc, length-append}
+use Rattle.std.proofs.Common.{◌≡◌, ℕ, ◌+◌, ◌<◌, Bool, List, [], ◌∷◌, ◌++◌, length, refl, sym, ap, subst, ◌∙◌, arith, append_assoc}
+use Rattle.std.proofs.Common.{length-append}
 use Rattle.std.specs.List.{AllByRecursion}
 use Rattle.std.proofs.lemmas.List.{append-nil}
 use Rattle.quick_cache_model.specs.CacheState.{Item}
@@ -8,7 +9,6 @@ use Rattle.quick_cache_model.proofs.EachElement.{all-push}
 use Rattle.quick_cache_model.proofs.TouchLaws.{RaisesMarks-same}
 use Rattle.quick_cache_store.specs.Lists.{turned}
 use Rattle.quick_cache_policy.specs.declared.evicting.cold.Search.{Search}
-use Rattle.quick_cache_policy.specs.declared.evicting.cold.Search.TheVariants.{Marked, Victim, AllPassed}
 use Rattle.quick_cache_policy.proofs.MarkLemmas.{RaisesMarks-append}
 use Rattle.quick_cache_policy.specs.Advances.{IsPassedBy, IsFound, LooksAt, StopsAt, Searches}
 
@@ -77,7 +77,8 @@ module _ {K V : Type 0} (steady : Type 0) (pinned : K → V → Bool) (cut : ℕ
 
     -- one more was passed by, and the ring turned
     pub HasPassed-more : (new : List (Item K V)) → passed < length old
-        → LooksAt steady pinned cut may_count now AllPassed new → HasPassed (passed + 1) (turned new)
+        → LooksAt steady pinned cut may_count now Search.AllPassed new
+        → HasPassed (passed + 1) (turned new)
     HasPassed-more new more looks =
         let n = next looks.item looks.rest looks.split more in record {
           olds = has.olds ++ looks.item ∷ [];
@@ -121,24 +122,27 @@ module _ {K V : Type 0} (steady : Type 0) (pinned : K → V → Bool) (cut : ℕ
 
     -- the search stops at a marked item
     pub HasPassed-marked : (new : List (Item K V)) → may_count 0 → passed < length old
-        → LooksAt steady pinned cut may_count now Marked new
-        → Searches steady pinned cut may_count old Marked new
+        → LooksAt steady pinned cut may_count now Search.Marked new
+        → Searches steady pinned cut may_count old Search.Marked new
     HasPassed-marked new none more looks =
-        let s = stopped (λ item. IsFound steady pinned item Marked) Marked new none more looks
+        let s = stopped (λ item. IsFound steady pinned item Search.Marked) Search.Marked new none
+        more looks
         looks.finds in record { cold = s.0; raised = s.1; ends = s.2 }
 
     -- or at one that is neither marked nor pinned
     pub HasPassed-victim : (new : List (Item K V)) → may_count 0 → passed < length old
-        → LooksAt steady pinned cut may_count now Victim new
-        → Searches steady pinned cut may_count old Victim new
+        → LooksAt steady pinned cut may_count now Search.Victim new
+        → Searches steady pinned cut may_count old Search.Victim new
     HasPassed-victim new none more looks =
-        let s = stopped (λ item. IsFound steady pinned item Victim) Victim new none more looks
+        let s = stopped (λ item. IsFound steady pinned item Search.Victim) Search.Victim new none
+        more looks
         looks.finds in record { cold = s.0; raised = s.1; ends = s.2 }
 
     -- in each case the search has ended
-    pub HasPassed-found : (answer : Search) (new : List (Item K V)) → (answer ≡ AllPassed → ⊥)
+    pub HasPassed-found : (answer : Search) (new : List (Item K V))
+        → (answer ≡ Search.AllPassed → ⊥)
         → may_count 0 → passed < length old → LooksAt steady pinned cut may_count now answer new
         → Searches steady pinned cut may_count old answer new
-    HasPassed-found Marked new found none more looks = HasPassed-marked new none more looks
-    HasPassed-found Victim new found none more looks = HasPassed-victim new none more looks
-    HasPassed-found AllPassed new found none more looks = absurd (found refl)
+    HasPassed-found Search.Marked new found none more looks = HasPassed-marked new none more looks
+    HasPassed-found Search.Victim new found none more looks = HasPassed-victim new none more looks
+    HasPassed-found Search.AllPassed new found none more looks = absurd (found refl)

@@ -1,15 +1,13 @@
 -- What stays sound: the contents of a cache whose cold ring was turned, or an item of it touched.
-use Rattle.std.proofs.Common.{◌≡◌, ℕ, ◌≤◌, Bool, List, [], ◌∷◌, length, refl, sym, ap, subst}
-use Rattle.std.proofs.Common.{◌∙◌, arith, length-append}
+use Rattle.std.proofs.Common.{◌≡◌, ℕ, ◌≤◌, Bool, List, [], ◌∷◌, length, refl, sym, ap, subst, ◌∙◌, arith, length-append}
 use Rattle.std.specs.List.{AllByRecursion}
 use Rattle.std.proofs.lemmas.List.{length-map}
-use Rattle.quick_cache_model.specs.declared.queue.Queue.TheVariants.{Cold}
+use Rattle.quick_cache_model.specs.declared.queue.Queue.{Queue}
 use Rattle.quick_cache_model.specs.CacheState.{Item, IsRingItem}
 use Rattle.quick_cache_model.specs.Touches.{TakesTouches}
 use Rattle.quick_cache_model.proofs.EachElement.{all-push}
 use Rattle.quick_cache_model.proofs.KeyCounts.{one, keys, keys-cons, keys-append}
-use Rattle.quick_cache_model.proofs.TouchLaws.{with_touches-key, with_touches-weight}
-use Rattle.quick_cache_model.proofs.TouchLaws.{with_touches-queue, with_touches-mark}
+use Rattle.quick_cache_model.proofs.TouchLaws.{with_touches-key, with_touches-weight, with_touches-queue, with_touches-mark}
 use Rattle.quick_cache_model.proofs.Valid.States.{IsValid-cold}
 use Rattle.quick_cache_store.specs.Lists.{HeldItem, turned}
 use Rattle.quick_cache_store.specs.Views.{items_of}
@@ -49,9 +47,9 @@ module _ {K V : Type 0} where
   -- touches take no item out of its ring
   pub TakesTouches-ring : (cut : ℕ) (may_count : ℕ → Type 0) (old new : Item K V)
       → TakesTouches cut may_count old new
-      → IsRingItem cut Cold old → IsRingItem cut Cold new
+      → IsRingItem cut Queue.Cold old → IsRingItem cut Queue.Cold new
   TakesTouches-ring cut may_count old new takes ring =
-      subst (IsRingItem cut Cold) (sym takes.2) (record {
+      subst (IsRingItem cut Queue.Cold) (sym takes.2) (record {
         weighs = omega (arith, ring.weighs, with_touches-weight cut takes.0 old);
         of_queue = with_touches-queue cut takes.0 old ∙ ring.of_queue;
         marked = with_touches-mark cut takes.0 old ring.marked;
@@ -69,7 +67,7 @@ module _ {K V P W A T : Type 0} (ticket_of : P → ℕ) (equal : K → K → Boo
   pub IsSound-cold : (cold : List (HeldItem K V))
       → ((test : K → Bool) → keys test (items_of cold)
       ≤ keys test (items_of contents.lists.cold))
-      → AllByRecursion (IsRingItem contents.mark_cut Cold) (items_of cold)
+      → AllByRecursion (IsRingItem contents.mark_cut Queue.Cold) (items_of cold)
       → AllByRecursion (λ held. held.hash ≡ hash held.item.key) cold
       → IsSound ticket_of equal hash
       (record contents { lists = record contents.lists { cold = cold } })
@@ -94,9 +92,9 @@ module _ {K V P W A T : Type 0} (ticket_of : P → ℕ) (equal : K → K → Boo
         keys-turned test (items_of contents.lists.cold),
         ap (keys test) (items_of-turned contents.lists.cold),
       ))
-      (subst (AllByRecursion (IsRingItem contents.mark_cut Cold))
+      (subst (AllByRecursion (IsRingItem contents.mark_cut Queue.Cold))
       (sym (items_of-turned contents.lists.cold))
-      (all-turned (IsRingItem contents.mark_cut Cold) (items_of contents.lists.cold)
+      (all-turned (IsRingItem contents.mark_cut Queue.Cold) (items_of contents.lists.cold)
       sound.valid.in_cold))
       (all-turned (λ (held : HeldItem K V). held.hash ≡ hash held.item.key) contents.lists.cold
       sound.hashed.cold)
@@ -111,8 +109,8 @@ module _ {K V P W A T : Type 0} (ticket_of : P → ℕ) (equal : K → K → Boo
       })
   IsSound-cold_touched may_count held rest touched split takes =
       let key = TakesTouches-key contents.mark_cut may_count held.item touched takes in
-      let ring : AllByRecursion (IsRingItem contents.mark_cut Cold) (items_of (held ∷ rest)) =
-      subst (λ xs. AllByRecursion (IsRingItem contents.mark_cut Cold) (items_of xs)) split
+      let ring : AllByRecursion (IsRingItem contents.mark_cut Queue.Cold) (items_of (held ∷ rest)) =
+      subst (λ xs. AllByRecursion (IsRingItem contents.mark_cut Queue.Cold) (items_of xs)) split
       sound.valid.in_cold in
       let hashes : AllByRecursion (λ (h : HeldItem K V). h.hash ≡ hash h.item.key) (held ∷ rest) =
       subst (AllByRecursion (λ (h : HeldItem K V). h.hash ≡ hash h.item.key)) split

@@ -4,7 +4,6 @@ use Rattle.std.specs.Cmp.{IsEquivalence}
 use Rattle.std.specs.List.{AllByRecursion, AllZip, count_by}
 use Rattle.std.proofs.lemmas.List.Sums.{sum_by-cons}
 use Rattle.quick_cache_model.specs.declared.queue.Queue.{Queue}
-use Rattle.quick_cache_model.specs.declared.queue.Queue.TheVariants.{Hot, Cold}
 use Rattle.quick_cache_model.specs.CacheState.{CacheState, Item, LoadingEntry, IsRingItem, IsStillItem, IsValid}
 use Rattle.quick_cache_model.proofs.EqualKeys.{one-equal}
 use Rattle.quick_cache_model.proofs.KeyCounts.{keys, keys-cons, loading_keys, loading_keys-cons}
@@ -137,8 +136,9 @@ module _ {K V : Type 0} (clones_key : K → K → Type 0) (clones_value : V → 
           })
           valid.ghosts_within
           (record {
-            in_hot = ring-copied state.mark_cut Hot state.hot copy.hot is.hot valid.in_hot;
-            in_cold = ring-copied state.mark_cut Cold state.cold copy.cold is.cold valid.in_cold;
+            in_hot = ring-copied state.mark_cut Queue.Hot state.hot copy.hot is.hot valid.in_hot;
+            in_cold = ring-copied state.mark_cut Queue.Cold state.cold copy.cold is.cold
+                valid.in_cold;
             in_still = still-copied state.mark_cut state.still copy.still is.still valid.in_still;
           }))
 

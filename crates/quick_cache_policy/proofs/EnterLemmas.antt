@@ -1,12 +1,11 @@
 -- What the lists are as a state, once an entry went, an item came or one stands in for another; and
 -- that each key stays under its hash.
-use Rattle.std.proofs.Common.{length, length-append, ◌≤◌, arith, ◌≡◌, ℕ, ◌+◌, ◌==◌, Bool, true, false, if◌then◌else◌, List, [], ◌∷◌, ◌++◌, refl, ap, subst, ◌∙◌}
+use Rattle.std.proofs.Common.{length, length-append, ◌≤◌, arith, ◌≡◌, ℕ, ◌+◌, ◌==◌, Bool, true, false, if◌then◌else◌, List, [], ◌∷◌, ◌++◌}
+use Rattle.std.proofs.Common.{refl, ap, subst, ◌∙◌}
 use Rattle.std.specs.List.{AllByRecursion}
 use Rattle.std.proofs.lemmas.List.{map-append}
-use Rattle.quick_cache_model.specs.CacheState.{CacheState, Item, Place, InHot, InCold, InStill}
-use Rattle.quick_cache_model.specs.CacheState.{place_of_item}
-use Rattle.quick_cache_model.specs.CacheState.{items_at as model_items_at, with_items as model_with_items}
-use Rattle.quick_cache_model.specs.CacheState.{entered as model_entered, rewritten}
+use Rattle.quick_cache_model.specs.CacheState.{CacheState, Item, Place, InHot, InCold, InStill, place_of_item, items_at as model_items_at}
+use Rattle.quick_cache_model.specs.CacheState.{with_items as model_with_items, entered as model_entered, rewritten}
 use Rattle.quick_cache_model.proofs.EachElement.{all-push, all-without, all-instead, all-restarted, all-middle}
 use Rattle.quick_cache_store.specs.Lists.{HeldItem, Lists, Rewrites, items_at, with_items, entered, held_rewritten}
 use Rattle.quick_cache_store.specs.Views.{items_of}

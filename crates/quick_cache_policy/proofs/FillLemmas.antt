@@ -1,12 +1,12 @@
 -- A placeholder that leaves, and the pair that comes in its place.
-use Rattle.std.proofs.Common.{◌≡◌, ◌≢◌, ℕ, ◌+◌, ◌≤◌, ◌<◌, ◌==◌, if◌then◌else◌, Bool, true, false, List, [], ◌∷◌, ◌++◌, length, None, IsPermutation, refl, sym, ap, subst, ◌∙◌, inl, inr, arith}
+use Rattle.std.proofs.Common.{◌≡◌, ◌≢◌, ℕ, ◌+◌, ◌≤◌, ◌<◌, ◌==◌, if◌then◌else◌, Bool, true, false, List, [], ◌∷◌, ◌++◌, length, None}
+use Rattle.std.proofs.Common.{IsPermutation, refl, sym, ap, subst, ◌∙◌, inl, inr, arith}
 use Rattle.std.specs.Cmp.{IsEquivalence}
 use Rattle.std.specs.List.{AllByRecursion}
 use Rattle.std.proofs.lemmas.Bool.{eqb-true, eqb-false, eq-eqb}
 use Rattle.std.proofs.lemmas.List.{map-append}
 use Rattle.std.proofs.lemmas.List.Sorted.{IsPermutation-sym}
-use Rattle.quick_cache_model.specs.CacheState.{CacheState, Item, LoadingEntry, SameButOrder, UpToOrder, keys_by}
-use Rattle.quick_cache_model.specs.CacheState.{entered as model_entered}
+use Rattle.quick_cache_model.specs.CacheState.{CacheState, Item, LoadingEntry, SameButOrder, UpToOrder, keys_by, entered as model_entered}
 use Rattle.quick_cache_model.specs.declared.queue.Queue.{Queue}
 use Rattle.quick_cache_model.specs.Eviction.{EvictsToCapacity}
 use Rattle.quick_cache_model.specs.Hooks.{Rules, HookCall, EvictCold}
@@ -14,7 +14,7 @@ use Rattle.quick_cache_model.specs.Placeholders.{IsLoadingTicket, HasNoTicket, G
 use Rattle.quick_cache_model.specs.Touches.{first_mark}
 use Rattle.quick_cache_model.specs.Writes.{new_item, queue_for}
 use Rattle.quick_cache_model.proofs.EachElement.{all-middle}
-use Rattle.quick_cache_model.proofs.OrderLaws.{UpToOrder-map, UpToOrder-exact}
+use Rattle.quick_cache_model.proofs.OrderLaws.{SameButOrder-trans, UpToOrder-map, UpToOrder-exact}
 use Rattle.quick_cache_model.proofs.Valid.Edits.{entered-valid, keys_by-unloaded, keys_by-taken}
 use Rattle.quick_cache_model.proofs.Valid.Orders.{SameButOrder-valid}
 use Rattle.quick_cache_model.specs.Fates.{residents}
@@ -23,17 +23,16 @@ use Rattle.quick_cache_model.proofs.Leads.{Leads-same, Leads-from, Leads-changes
 use Rattle.quick_cache_model.proofs.Residents.{residents-entered, residents-ordered}
 use Rattle.quick_cache_store.specs.declared.slots.entry.Awaited.{Awaited}
 use Rattle.quick_cache_store.specs.declared.slots.entry.Entry.{Entry}
-use Rattle.quick_cache_store.specs.declared.slots.entry.Entry.TheVariants.{Loading as loading_variant}
 use Rattle.quick_cache_store.specs.Lists.{HeldItem, HeldLoading, Lists, AreApart, StandsIn, IsEntry, PutsItem, entered, without_entry}
 use Rattle.quick_cache_store.specs.Fills.{FillsToken, filled}
 use Rattle.quick_cache_store.specs.Placeholders.{HasNoPlaceholder}
 use Rattle.quick_cache_store.specs.Views.{loading_entry, loading_entries}
 use Rattle.quick_cache_store.proofs.lists.StandingLemmas.{Standing, standing_of, known_standing, StandsIn-loading}
-use Rattle.quick_cache_policy.specs.declared.writing.admission.Admission.TheVariants.{Admitted as code_admitted, TooHeavy as code_too_heavy}
+use Rattle.quick_cache_policy.specs.declared.writing.admission.Admission.{Admission}
 use Rattle.quick_cache_policy.specs.declared.contents.Contents.{Contents}
 use Rattle.quick_cache_policy.specs.Advances.{Evicting}
 use Rattle.quick_cache_policy.specs.Contents.{AreHashed, IsSound, state_of}
-use Rattle.quick_cache_policy.specs.Filling.{AreFillCalls, AwaitsKey, Fills}
+use Rattle.quick_cache_policy.specs.Filling.{AreFillCalls, AwaitsKey, Fills, MakesRoomBehind}
 use Rattle.quick_cache_policy.specs.Writing.{Checks}
 use Rattle.quick_cache_policy.proofs.EnterLemmas.{state_with, entered-state, AreHashed-entered, AreHashed-room, entered-count}
 use Rattle.quick_cache_policy.proofs.FindLemmas.{each-image}
@@ -46,7 +45,7 @@ use Rattle.quick_cache_policy.proofs.SoundLemmas.{state_of-reordered, AreHashed-
 pub entry-is_loading : {K V P T : Type 0} (lists : Lists K V P) → AreApart lists
     → (token hash : ℕ) (entry : Entry K V P T) → IsEntry lists token hash entry
     → (waiting : HeldLoading K P) → StandsIn lists.loading waiting → waiting.token ≡ token
-    → (awaited : Awaited K P) → entry ≡ loading_variant awaited
+    → (awaited : Awaited K P) → entry ≡ Entry.Loading awaited
     → record {
       token = token;
       hash = hash;
@@ -91,7 +90,7 @@ pub awaited-is_loading : {K V P : Type 0} (lists : Lists K V P) → AreApart lis
       placeholder = awaited.placeholder;
     } ≡ waiting
 awaited-is_loading {P = P} lists apart token hash awaited is waiting stands named =
-    entry-is_loading {T = P} lists apart token hash (loading_variant awaited) is waiting stands
+    entry-is_loading {T = P} lists apart token hash (Entry.Loading awaited) is waiting stands
     named awaited refl
 
 -- two tickets are equal where the test says so
@@ -202,6 +201,24 @@ module _ {K V P W A X : Type 0} (ticket_of : P → ℕ) (contents : Contents K V
   left-count = ap (λ (l : Lists K V P). length l.hot + length l.cold)
       (without_loading ticket_of contents apart (λ _. true) 0 token waiting stands named)
 
+-- ---- room behind a pair
+
+module _ {K V : Type 0} (rules : Rules K V) (weight : ℕ) (mid state : CacheState K V)
+    (order : SameButOrder mid state) where
+  -- it leads where it leads from the same state in another order
+  makes-from : (calls : List (HookCall K V)) (ordered : CacheState K V)
+      → MakesRoomBehind rules weight state calls ordered → (last : CacheState K V)
+      → SameButOrder ordered last → UpToOrder (MakesRoomBehind rules weight mid calls) last
+  makes-from _ _ (MakesRoomFor.takes_none light) last same = record {
+    ordered = mid;
+    holds = MakesRoomFor.takes_none light;
+    same = SameButOrder-trans mid state last order same;
+  }
+  makes-from _ _ (MakesRoomFor.takes_some calls ordered heavy evicts) last same =
+      UpToOrder-map _ _ last (λ now e. MakesRoomFor.takes_some calls now heavy e)
+      (evicts-from rules mid state last calls order
+      (record { ordered = ordered; holds = evicts; same = same }))
+
 -- ---- a pair that is put in
 
 module _ {K V P W A X : Type 0} (ticket_of : P → ℕ) (contents : Contents K V W A X P)
@@ -241,29 +258,18 @@ module _ {K V P W A X : Type 0} (ticket_of : P → ℕ) (contents : Contents K V
     entered-count held contents.lists,
   )
 
-  -- room is made where it weighs something
-  put-evicts : (rules : Rules K V) (weight : ℕ) → 0 < weight → (pair : Item K V) → item ≡ pair
+  -- room is made behind it
+  put-makes : (rules : Rules K V) (weight : ℕ) (pair : Item K V) → item ≡ pair
       → (last : CacheState K V) (calls : List (HookCall K V))
-      → UpToOrder (EvictsToCapacity rules 0 (state_with ticket_of contents new) calls) last
-      → UpToOrder (MakesRoomFor 0 (state_of ticket_of contents) rules weight
-      (model_entered pair (state_of ticket_of contents)) calls) last
-  put-evicts rules weight heavy pair is last calls evicts =
-      UpToOrder-map _ _ last (λ state e. MakesRoomFor.takes_some calls state heavy e)
-      (evicts-from rules (model_entered pair (state_of ticket_of contents))
-      (state_with ticket_of contents new) last calls
+      → UpToOrder (MakesRoomBehind rules weight (state_with ticket_of contents new) calls) last
+      → UpToOrder (MakesRoomBehind rules weight (model_entered pair (state_of ticket_of contents))
+      calls) last
+  put-makes rules weight pair is last calls makes =
+      makes-from rules weight (model_entered pair (state_of ticket_of contents))
+      (state_with ticket_of contents new)
       (subst (λ (i : Item K V). SameButOrder (model_entered i (state_of ticket_of contents))
-      (state_with ticket_of contents new)) is put-same) evicts)
-
-  -- and none where it does not
-  put-stays : (rules : Rules K V) (weight : ℕ) → weight ≡ 0 → (pair : Item K V) → item ≡ pair
-      → UpToOrder (MakesRoomFor 0 (state_of ticket_of contents) rules weight
-      (model_entered pair (state_of ticket_of contents)) []) (state_with ticket_of contents new)
-  put-stays rules weight none pair is = record {
-    ordered = model_entered pair (state_of ticket_of contents);
-    holds = MakesRoomFor.takes_none none;
-    same = subst (λ (i : Item K V). SameButOrder (model_entered i (state_of ticket_of contents))
-        (state_with ticket_of contents new)) is put-same;
-  }
+      (state_with ticket_of contents new)) is put-same) calls makes.ordered makes.holds last
+      makes.same
 
 -- ---- a pair that is put in where the placeholder stands
 
@@ -307,25 +313,16 @@ module _ {K V P W A X : Type 0} (ticket_of : P → ℕ) (contents : Contents K V
     left-count ticket_of contents apart token waiting stands named,
   )
 
-  -- room is made where it weighs something
-  pub filled-evicts : (rules : Rules K V) → 0 < weight → (pair : Item K V)
+  -- room is made behind it
+  pub filled-makes : (rules : Rules K V) (pair : Item K V)
       → filled queue mark weight value waiting.key ≡ pair
       → (last : CacheState K V) (calls : List (HookCall K V))
-      → UpToOrder (EvictsToCapacity rules 0 (state_with ticket_of contents new) calls) last
-      → UpToOrder (MakesRoomFor 0 (state_of ticket_of without) rules weight
-      (model_entered pair (state_of ticket_of without)) calls) last
-  filled-evicts rules heavy pair is last calls evicts =
-      put-evicts ticket_of without token waiting.hash (filled queue mark weight value waiting.key)
-      new filled-puts rules weight heavy pair is last calls evicts
-
-  -- and none where it does not
-  pub filled-stays : (rules : Rules K V) → weight ≡ 0 → (pair : Item K V)
-      → filled queue mark weight value waiting.key ≡ pair
-      → UpToOrder (MakesRoomFor 0 (state_of ticket_of without) rules weight
-      (model_entered pair (state_of ticket_of without)) []) (state_with ticket_of contents new)
-  filled-stays rules none pair is =
-      put-stays ticket_of without token waiting.hash (filled queue mark weight value waiting.key)
-      new filled-puts rules weight none pair is
+      → UpToOrder (MakesRoomBehind rules weight (state_with ticket_of contents new) calls) last
+      → UpToOrder (MakesRoomBehind rules weight (model_entered pair (state_of ticket_of without))
+      calls) last
+  filled-makes rules pair is last calls makes =
+      put-makes ticket_of without token waiting.hash (filled queue mark weight value waiting.key)
+      new filled-puts rules weight pair is last calls makes
 
   -- what is told from there is told from where the definition puts the pair
   pub filled-tells : (pair : Item K V) → filled queue mark weight value waiting.key ≡ pair
@@ -346,12 +343,11 @@ module _ {K V P W A X : Type 0} (ticket_of : P → ℕ) (contents : Contents K V
 
 module _ {K V : Type 0} (rules : Rules K V) (weight : ℕ) (mid : CacheState K V) where
   -- whose placeholder it is does not matter to the room
-  makes-room : (ticket other : ℕ) (state old : CacheState K V) (calls : List (HookCall K V))
-      (new : CacheState K V) → MakesRoomFor ticket state rules weight mid calls new
-      → MakesRoomFor other old rules weight mid calls new
-  makes-room ticket other state old _ _ (MakesRoomFor.takes_none light) =
-      MakesRoomFor.takes_none light
-  makes-room ticket other state old _ _ (MakesRoomFor.takes_some calls new heavy evicts) =
+  makes-room : (ticket : ℕ) (old : CacheState K V) (calls : List (HookCall K V))
+      (new : CacheState K V) → MakesRoomBehind rules weight mid calls new
+      → MakesRoomFor ticket old rules weight mid calls new
+  makes-room ticket old _ _ (MakesRoomFor.takes_none light) = MakesRoomFor.takes_none light
+  makes-room ticket old _ _ (MakesRoomFor.takes_some calls new heavy evicts) =
       MakesRoomFor.takes_some calls new heavy evicts
 
 module _ {K V : Type 0} (steady : Type 0) (ticket : ℕ) (old : CacheState K V) (rules : Rules K V)
@@ -360,8 +356,8 @@ module _ {K V : Type 0} (steady : Type 0) (ticket : ℕ) (old : CacheState K V) 
     (mid : CacheState K V) (is : mid ≡ record old { loading = before ++ after }) where
   -- a pair that was admitted
   pub Fills-admitted : (new : CacheState K V) (weighed : _) (first rest : List (HookCall K V))
-      → Checks steady rules old.hot_target entry.key value (code_admitted weighed) first
-      → Evicting steady (MakesRoomFor 0 mid rules weighed.weight)
+      → Checks steady rules old.hot_target entry.key value (Admission.Admitted weighed) first
+      → Evicting steady (MakesRoomBehind rules weighed.weight)
       (model_entered (new_item rules entry.key weighed.value
       (queue_for rules mid entry.key weighed.value entry.queue)
       (if marked then first_mark old.mark_cut else 0)) mid)
@@ -392,11 +388,11 @@ module _ {K V : Type 0} (steady : Type 0) (ticket : ℕ) (old : CacheState K V) 
         (λ now room. FillsPlaceholder.fills before entry after weighed.value first rest now there
         (checks.0 s) room)
         (UpToOrder-map _ _ new
-        (λ now room. makes-room rules (rules.weight entry.key weighed.value) _ 0 ticket mid old rest
-        now room)
-        (subst (λ (n : ℕ). UpToOrder (MakesRoomFor 0 mid rules n (entered_in
+        (λ now room. makes-room rules (rules.weight entry.key weighed.value) _ ticket old rest now
+        room)
+        (subst (λ (n : ℕ). UpToOrder (MakesRoomBehind rules n (entered_in
         (record old { loading = before ++ after })) rest) new) checks.1
-        (subst (λ (m : CacheState K V). UpToOrder (MakesRoomFor 0 mid rules weighed.weight
+        (subst (λ (m : CacheState K V). UpToOrder (MakesRoomBehind rules weighed.weight
         (entered_in m) rest) new) is (makes.0 s))));
   }
     where
@@ -407,7 +403,7 @@ module _ {K V : Type 0} (steady : Type 0) (ticket : ℕ) (old : CacheState K V) 
 
   -- one that is too heavy
   pub Fills-too_heavy : (heavy : V) (first : List (HookCall K V))
-      → Checks steady rules old.hot_target entry.key value (code_too_heavy heavy) first
+      → Checks steady rules old.hot_target entry.key value (Admission.TooHeavy heavy) first
       → Fills steady ticket old rules marked value mid (first ++ EvictCold entry.key heavy ∷ [])
   Fills-too_heavy heavy first checks = record {
     before = before;

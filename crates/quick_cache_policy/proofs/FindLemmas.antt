@@ -1,24 +1,23 @@
 -- What a query finds in the lists is what it finds in the state: the lists look at the entries of
 -- its hash, and the keys that it stands for are under that hash.
-use Rattle.std.proofs.Common.{◌≡◌, ◌≢◌, ℕ, ◌≤◌, Bool, true, false, true≢false, List, [], ◌∷◌, ◌++◌, map, Option, Some, None, MatchOption, refl, sym, ap, subst, ◌∙◌, arith}
+use Rattle.std.proofs.Common.{◌≡◌, ◌≢◌, ℕ, ◌≤◌, Bool, true, false, true≢false, List, [], ◌∷◌, ◌++◌, map, Option, Some, None, MatchOption}
+use Rattle.std.proofs.Common.{refl, sym, ap, subst, ◌∙◌, arith}
 use Rattle.std.specs.List.{AllByRecursion}
 use Rattle.std.proofs.lemmas.List.{map-append}
 use Rattle.std.specs.Int.NonZero.{non_zero_u32_get}
 use Rattle.std.specs.declared.num.NonZeroU32.{NonZeroU32 as Token}
 use Rattle.quick_cache_model.specs.CacheState.{CacheState, LoadingEntry, Place, InHot, InCold, InStill, keys_by}
 use Rattle.quick_cache_model.specs.Finding.{IsItemAt, IsLoadingAt, IsGhostAt, HasNoItem, HasNoKey as HasNoKeyOf, HasNothing as HasNothingOf}
-use Rattle.quick_cache_model.proofs.EachElement.{all-middle}
+use Rattle.quick_cache_model.proofs.EachElement.{all-middle, all-weaker}
 use Rattle.quick_cache_model.proofs.KeyCounts.{one_if, none-from_keys, loading_keys-split}
-use Rattle.quick_cache_store.specs.Lists.{Lists, HeldItem, HeldLoading, HeldGhost, StandsIn, HasItem, HasNoKey, HasNothing, FindsItem, FindsItemOfAnyHash, FindsLoading, Finds, FindsByKey, items_at}
-use Rattle.quick_cache_store.specs.Lists.{HasNoItem as HasNoItemUnder}
+use Rattle.quick_cache_store.specs.Lists.{Lists, HeldItem, HeldLoading, HeldGhost, StandsIn, HasItem, HasNoKey, HasNothing, FindsItem}
+use Rattle.quick_cache_store.specs.Lists.{FindsItemOfAnyHash, FindsLoading, Finds, FindsByKey, items_at, HasNoItem as HasNoItemUnder}
 use Rattle.quick_cache_store.specs.Views.{items_of, hashes_of, loading_entry, loading_entries}
 use Rattle.quick_cache_store.specs.declared.lists.found.Found.{Found}
-use Rattle.quick_cache_store.specs.declared.lists.found.Found.TheVariants.{Item as found_item, Loading as found_loading, Ghost as found_ghost, Nothing as found_nothing}
 use Rattle.quick_cache_store.proofs.lists.CallerLemmas.{items_of-split}
 use Rattle.quick_cache_policy.specs.Contents.{AreHashed, state_of}
 use Rattle.quick_cache_policy.specs.Finding.{AreUnder}
 use Rattle.quick_cache_policy.specs.declared.contents.Contents.{Contents}
-use Rattle.quick_cache_model.proofs.EachElement.{all-weaker}
 
 -- what holds of an answer that is none
 pub none-found : {X P : Type 0} (Q : X → Type 0) (answer : Option X)
@@ -110,10 +109,10 @@ module _ {K V P : Type 0} (stands_for : K → Bool) (hash : ℕ) (lists : Lists 
   -- what the lists found by keys alone is what they would have found by the hash too
   pub Finds-under : AreUnder stands_for hash lists → (found : Found)
       → FindsByKey stands_for hash lists found → Finds stands_for hash lists found
-  Finds-under under (found_item token) finds = FindsItem-under under _ finds
-  Finds-under under (found_loading token) finds = FindsLoading-under under _ finds.0 finds.1
-  Finds-under under (found_ghost token) finds = finds
-  Finds-under under found_nothing finds = finds
+  Finds-under under (Found.Item token) finds = FindsItem-under under _ finds
+  Finds-under under (Found.Loading token) finds = FindsLoading-under under _ finds.0 finds.1
+  Finds-under under (Found.Ghost token) finds = finds
+  Finds-under under Found.Nothing finds = finds
 
 module _ {K V P W A T : Type 0} (ticket_of : P → ℕ) (stands_for : K → Bool) (hash : ℕ)
     (contents : Contents K V W A T P) where
@@ -236,20 +235,20 @@ module _ {K V P : Type 0} (stands_for : K → Bool) (hash : ℕ) (lists : Lists 
   -- with other room, the same is found
   pub Finds-room : (found : Found) → Finds stands_for hash lists found
       → Finds stands_for hash (record lists { room = room }) found
-  Finds-room (found_item token) finds = record {
+  Finds-room (Found.Item token) finds = record {
     item = finds.item;
     stands = HasItem-room _ finds.stands.place finds.stands.stands;
     passes = finds.passes;
   }
-  Finds-room (found_loading token) finds = record {
+  Finds-room (Found.Loading token) finds = record {
     waiting = finds.waiting;
     named = finds.named;
     hashed = finds.hashed;
     stands = finds.stands;
     passes = finds.passes;
   }
-  Finds-room (found_ghost token) finds = (HasNoKey-room finds.0, finds.1)
-  Finds-room found_nothing finds = record {
+  Finds-room (Found.Ghost token) finds = (HasNoKey-room finds.0, finds.1)
+  Finds-room Found.Nothing finds = record {
     keys = HasNoKey-room finds.keys;
     ghosts = finds.ghosts;
   }
@@ -303,10 +302,10 @@ module _ {K V P W A T : Type 0} (ticket_of : P → ℕ) (stands_for : K → Bool
 
   -- where the state has nothing, nothing was found in the lists
   pub Finds-nothing : (found : Found) → Finds stands_for hash contents.lists found
-      → HasNothingOf stands_for hash (state_of ticket_of contents) → found ≡ found_nothing
-  Finds-nothing (found_item token) finds none =
+      → HasNothingOf stands_for hash (state_of ticket_of contents) → found ≡ Found.Nothing
+  Finds-nothing (Found.Item token) finds none =
       absurd (FindsItem-some _ finds none.keys.items)
-  Finds-nothing (found_loading token) finds none =
+  Finds-nothing (Found.Loading token) finds none =
       let at = finds.stands in
       absurd (true≢false (sym finds.passes
       ∙ all-middle (λ entry. stands_for entry.key ≡ false)
@@ -315,7 +314,7 @@ module _ {K V P W A T : Type 0} (ticket_of : P → ℕ) (stands_for : K → Bool
       (subst (AllByRecursion (λ entry. stands_for entry.key ≡ false))
       (IsLoadingAt-stands ticket_of stands_for hash contents at.before finds.waiting at.after
       at.split finds.passes).split none.keys.loading)))
-  Finds-nothing (found_ghost token) finds none =
+  Finds-nothing (Found.Ghost token) finds none =
       let at = finds.1 in
       absurd (all-middle (λ ghost_hash. ghost_hash ≢ hash) (hashes_of at.before) hash
       (hashes_of at.after)
@@ -323,4 +322,4 @@ module _ {K V P W A T : Type 0} (ticket_of : P → ℕ) (stands_for : K → Bool
       (ap hashes_of at.split
       ∙ map-append (λ (shade : HeldGhost). shade.hash) at.before
       (record { token = _; hash = hash } ∷ at.after)) none.ghosts) refl)
-  Finds-nothing found_nothing finds none = refl
+  Finds-nothing Found.Nothing finds none = refl

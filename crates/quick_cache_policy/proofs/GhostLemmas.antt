@@ -1,15 +1,12 @@
 -- Eviction with the ghosts cut before it: the same steps, and the same ghosts once they are cut.
-use Rattle.std.proofs.Common.{◌≡◌, ℕ, ◌+◌, ◌-◌, ◌<◌, ◌≤◌, Bool, true, false, List, [], ◌∷◌, ◌++◌}
-use Rattle.std.proofs.Common.{length, drop, map, refl, sym, ap, subst, ◌∙◌, arith}
+use Rattle.std.proofs.Common.{◌≡◌, ℕ, ◌+◌, ◌-◌, ◌<◌, ◌≤◌, Bool, true, false, List, [], ◌∷◌, ◌++◌, length, drop, map, refl, sym, ap, subst}
+use Rattle.std.proofs.Common.{◌∙◌, arith}
 use Rattle.std.proofs.lemmas.List.{drop-append-le, drop-drop, length-append, length-drop}
 use Rattle.quick_cache_model.specs.declared.queue.Queue.{Queue}
-use Rattle.quick_cache_model.specs.declared.queue.Queue.TheVariants.{Hot, Cold}
-use Rattle.quick_cache_model.specs.CacheState.{CacheState, Item, entered, restarted_behind}
-use Rattle.quick_cache_model.specs.CacheState.{hot_weight, total_weight}
+use Rattle.quick_cache_model.specs.CacheState.{CacheState, Item, entered, restarted_behind, hot_weight, total_weight}
 use Rattle.quick_cache_model.specs.Capacity.{resized, SetsCapacity}
 use Rattle.quick_cache_model.specs.Hooks.{Rules, HookCall}
-use Rattle.quick_cache_model.specs.Eviction.{newest, lowered, ghosts_with, promoted}
-use Rattle.quick_cache_model.specs.Eviction.{EvictsVictim, AdvancesHot, EvictsToTarget}
+use Rattle.quick_cache_model.specs.Eviction.{newest, lowered, ghosts_with, promoted, EvictsVictim, AdvancesHot, EvictsToTarget}
 use Rattle.quick_cache_model.specs.Eviction.{AdvancesCold, EvictsToCapacity}
 
 module _ {K V : Type 0} where
@@ -47,10 +44,10 @@ module _ {K V : Type 0} (rules : Rules K V) where
       → CutBehind (EvictsVictim rules queue old item calls) new
   EvictsVictim-cut queue old item _ _ (EvictsVictim.stays left light) =
       (entered (record item { value = left; weight = 0 }) old, EvictsVictim.stays left light, refl)
-  EvictsVictim-cut Hot old item _ _ (EvictsVictim.leaves left heavy) =
+  EvictsVictim-cut Queue.Hot old item _ _ (EvictsVictim.leaves left heavy) =
       (old, EvictsVictim.leaves left heavy, refl)
-  EvictsVictim-cut Cold old item _ _ (EvictsVictim.leaves left heavy) = (
-    ghosts_with rules Cold item old,
+  EvictsVictim-cut Queue.Cold old item _ _ (EvictsVictim.leaves left heavy) = (
+    ghosts_with rules Queue.Cold item old,
     EvictsVictim.leaves left heavy,
     ap (λ (ghosts : List ℕ). record old { ghosts = ghosts })
         (newest-push old.ghost_limit old.ghosts (rules.hash item.key)),
@@ -64,7 +61,7 @@ module _ {K V : Type 0} (rules : Rules K V) where
       (record old { hot = map (lowered 1) hot }, AdvancesHot.all_pinned hot raised pinned, refl)
   AdvancesHot-cut old _ _ _
       (AdvancesHot.evicts hot before item after calls new raised split first evicts) =
-      let whole = EvictsVictim-cut Hot (record old {
+      let whole = EvictsVictim-cut Queue.Hot (record old {
         hot = restarted_behind (map (lowered (item.mark + 1)) before)
             (map (lowered item.mark) after);
       }) (lowered item.mark item) calls new evicts in (
@@ -116,7 +113,8 @@ module _ {K V : Type 0} (rules : Rules K V) where
       )
   AdvancesCold-cut old _ _ _ (AdvancesCold.evicts cold before item after calls new raised split
       passed unmarked unpinned evicts) =
-      let whole = EvictsVictim-cut Cold (record old { cold = restarted_behind before after }) item
+      let whole = EvictsVictim-cut Queue.Cold (record old { cold = restarted_behind before after })
+      item
       calls new evicts in (
         whole.0,
         AdvancesCold.evicts cold before item after calls whole.0 raised split passed unmarked

@@ -1,9 +1,8 @@
 -- A hot advance over the contents of a cache: what its visits and its eviction come to.
-use Rattle.std.proofs.Common.{◌≡◌, ℕ, ◌+◌, ◌*◌, ◌≤◌, Bool, true, false, [], length}
-use Rattle.std.proofs.Common.{IsPermutation, refl, sym, ap, subst, arith}
+use Rattle.std.proofs.Common.{◌≡◌, ℕ, ◌+◌, ◌*◌, ◌≤◌, Bool, true, false, [], length, IsPermutation, refl, sym, ap, subst, arith}
 use Rattle.std.proofs.Math.Nat.{mul-le-mul_left}
 use Rattle.std.proofs.lemmas.List.{length-map}
-use Rattle.quick_cache_model.specs.declared.queue.Queue.TheVariants.{Hot}
+use Rattle.quick_cache_model.specs.declared.queue.Queue.{Queue}
 use Rattle.quick_cache_model.specs.CacheState.{CacheState, InHot, with_items}
 use Rattle.quick_cache_model.specs.Eviction.{AdvancesHot, EvictsVictim}
 use Rattle.quick_cache_model.specs.Hooks.{Rules, Hooks, Calls}
@@ -94,7 +93,7 @@ module _ {K V P W A T S : Type 0} (ticket_of : P → ℕ) (steady : Type 0) (rul
 
   -- where there was one, it is the first item and is evicted
   pub AdvancesHot-evicts : met ≡ true → (new : Contents K V W A T P) (first last : S)
-      → Calls hooks (λ calls. FirstIsEvicted rules Hot (state_of ticket_of now) calls
+      → Calls hooks (λ calls. FirstIsEvicted rules Queue.Hot (state_of ticket_of now) calls
       (state_of ticket_of new) × AreEvictions calls) first last
       → Calls hooks (Evicting steady (λ state. AdvancesHot rules state true)
       (state_of ticket_of old) (state_of ticket_of new)) first last
@@ -110,7 +109,7 @@ module _ {K V P W A T S : Type 0} (ticket_of : P → ℕ) (steady : Type 0) (rul
         holds = (
           λ (is_steady : steady).
               UpToOrder-map
-              (EvictsVictim rules Hot (with_items InHot gone.rest (state_of ticket_of now))
+              (EvictsVictim rules Queue.Hot (with_items InHot gone.rest (state_of ticket_of now))
               gone.item
               evicts.calls)
               (AdvancesHot rules (state_of ticket_of old) true evicts.calls)
@@ -118,12 +117,13 @@ module _ {K V P W A T S : Type 0} (ticket_of : P → ℕ) (steady : Type 0) (rul
               (λ state goes. AdvancesHot-met rules (state_of ticket_of old) ends.mid
               (items_of now.lists.hot) gone.rest gone.item seeks.visits evicts.calls state
               ends.raises (ends.holds.is_met is_steady) gone.stands
-              (subst (λ s. EvictsVictim rules Hot s gone.item evicts.calls state) left goes))
+              (subst (λ s. EvictsVictim rules Queue.Hot s gone.item evicts.calls state) left goes))
               gone.evicts,
           evicts.holds.1,
           Leads-from (residents (state_of ticket_of old)) (residents (state_of ticket_of now))
               visited-order
-              (FirstIsEvicted-tells rules Hot (state_of ticket_of now) (state_of ticket_of new)
+              (FirstIsEvicted-tells rules Queue.Hot (state_of ticket_of now)
+              (state_of ticket_of new)
               evicts.calls gone),
         );
         runs = evicts.runs;

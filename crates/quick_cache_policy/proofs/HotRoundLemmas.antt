@@ -1,9 +1,8 @@
 -- What rounds of a hot advance do to the contents of a cache.
-use Rattle.std.proofs.Common.{◌≡◌, ℕ, ◌+◌, ◌^◌, ◌<◌, Bool, true, false, List, [], ◌∷◌, ◌++◌, length}
-use Rattle.std.proofs.Common.{refl, sym, ap, subst, ◌∙◌, arith}
+use Rattle.std.proofs.Common.{◌≡◌, ℕ, ◌+◌, ◌^◌, ◌<◌, Bool, true, false, List, [], ◌∷◌, ◌++◌, length, refl, sym, ap, subst, ◌∙◌, arith}
 use Rattle.std.specs.List.{AllByRecursion}
 use Rattle.std.proofs.lemmas.List.{length-map}
-use Rattle.quick_cache_model.specs.declared.queue.Queue.TheVariants.{Hot}
+use Rattle.quick_cache_model.specs.declared.queue.Queue.{Queue}
 use Rattle.quick_cache_model.specs.CacheState.{Item}
 use Rattle.quick_cache_model.specs.Eviction.{lowered}
 use Rattle.quick_cache_model.specs.Touches.{counted_up}
@@ -13,9 +12,7 @@ use Rattle.quick_cache_store.specs.Views.{items_of}
 use Rattle.quick_cache_store.proofs.lists.CallerLemmas.{items_of-split}
 use Rattle.quick_cache_policy.specs.declared.contents.Contents.{Contents}
 use Rattle.quick_cache_policy.specs.declared.evicting.hot.Round.{Round}
-use Rattle.quick_cache_policy.specs.declared.evicting.hot.Round.TheVariants.{AllPinned as round_all_pinned, SomeUnpinned as round_some_unpinned, Victim as round_victim}
 use Rattle.quick_cache_policy.specs.declared.evicting.hot.Visit.{Visit}
-use Rattle.quick_cache_policy.specs.declared.evicting.hot.Visit.TheVariants.{Pinned, Marked, Victim}
 use Rattle.quick_cache_policy.specs.Contents.{IsSound}
 use Rattle.quick_cache_policy.specs.HotRounds.{VisitsHot, VisitsFirst, RoundEnds}
 use Rattle.quick_cache_policy.specs.Rounds.{MayTake, Going, KeepsItems}
@@ -24,7 +21,8 @@ use Rattle.quick_cache_policy.proofs.PlaceLemmas.{LosesOnly-same, LosesOnly-ring
 use Rattle.quick_cache_policy.proofs.HotLemmas.{counted_up-zero, counted_up-twice}
 use Rattle.quick_cache_model.proofs.EachElement.{all-append}
 use Rattle.quick_cache_policy.proofs.KeptLemmas.{EndsAllPinned-keeps, EndsSomeUnpinned-keeps, EndsAtVictim-keeps}
-use Rattle.quick_cache_policy.proofs.RoundLemmas.{round-begins, Going-length, round-passes_pinned, round-passes_marked, round-stops, round-over_pinned, round-over_unpinned}
+use Rattle.quick_cache_policy.proofs.RoundLemmas.{round-begins, Going-length, round-passes_pinned, round-passes_marked, round-stops}
+use Rattle.quick_cache_policy.proofs.RoundLemmas.{round-over_pinned, round-over_unpinned}
 
 module _ {K V P W A T : Type 0} (hash : K → ℕ) where
   -- The items of the hot ring stand under their hashes, so many visits were counted, and nothing
@@ -85,7 +83,7 @@ module _ {K V P W A T : Type 0} (hash : K → ℕ) where
           one_entry_a_ticket = sound.valid.one_entry_a_ticket;
           tickets_given = sound.valid.tickets_given;
           ghosts_within = sound.valid.ghosts_within;
-          in_hot = keeps.ring Hot sound.valid.in_hot;
+          in_hot = keeps.ring Queue.Hot sound.valid.in_hot;
           in_cold = sound.valid.in_cold;
           in_still = sound.valid.in_still;
         };
@@ -148,7 +146,7 @@ module _ {K V P W A T : Type 0} (hash : K → ℕ) (steady : Type 0) (pinned : K
   pub VisitsFirst-turned : (old mid : Contents K V W A T P) (lists : Lists K V P) (met : Visit)
       → AllByRecursion (λ held. held.hash ≡ hash held.item.key) old.lists.hot
       → (v : VisitsFirst steady pinned takes_touches may_count old met mid)
-      → lists ≡ ring_turned Hot mid.lists
+      → lists ≡ ring_turned Queue.Hot mid.lists
       → FirstPasses old (record mid { lists = lists }) v.rest
       (record v.held { item = lowered 1 v.item })
   VisitsFirst-turned old mid lists met hashed v turns =
@@ -224,11 +222,11 @@ module _ {K V P W A T : Type 0} (hash : K → ℕ) (steady : Type 0) (pinned : K
       (old now mid : Contents K V W A T P) (lists : Lists K V P) → next ≡ unpinned
       → GoesRound visited unpinned old now
       → visited < length old.lists.hot
-      → VisitsFirst steady pinned takes_touches may_count now Pinned mid
-      → lists ≡ ring_turned Hot mid.lists
+      → VisitsFirst steady pinned takes_touches may_count now Visit.Pinned mid
+      → lists ≡ ring_turned Queue.Hot mid.lists
       → GoesRound (visited + 1) next old (record mid { lists = lists })
   GoesRound-passes_pinned visited unpinned next old now mid lists is goes lt v turns =
-      let p = VisitsFirst-turned now mid lists Pinned goes.changes.hashed v turns in
+      let p = VisitsFirst-turned now mid lists Visit.Pinned goes.changes.hashed v turns in
       let made : HeldItem K V = record v.held { item = lowered 1 v.item } in
       let short : visited < length (items_of old.lists.hot) =
       omega (arith, lt, length_items old.lists.hot) in
@@ -252,11 +250,11 @@ module _ {K V P W A T : Type 0} (hash : K → ℕ) (steady : Type 0) (pinned : K
       (old now mid : Contents K V W A T P) (lists : Lists K V P) → next ≡ true
       → GoesRound visited unpinned old now
       → visited < length old.lists.hot
-      → VisitsFirst steady pinned takes_touches may_count now Marked mid
-      → lists ≡ ring_turned Hot mid.lists
+      → VisitsFirst steady pinned takes_touches may_count now Visit.Marked mid
+      → lists ≡ ring_turned Queue.Hot mid.lists
       → GoesRound (visited + 1) next old (record mid { lists = lists })
   GoesRound-passes_marked visited unpinned next old now mid lists is goes lt v turns =
-      let p = VisitsFirst-turned now mid lists Marked goes.changes.hashed v turns in
+      let p = VisitsFirst-turned now mid lists Visit.Marked goes.changes.hashed v turns in
       let made : HeldItem K V = record v.held { item = lowered 1 v.item } in
       let short : visited < length (items_of old.lists.hot) =
       omega (arith, lt, length_items old.lists.hot) in
@@ -296,10 +294,10 @@ module _ {K V P W A T : Type 0} (hash : K → ℕ) (steady : Type 0) (pinned : K
   pub GoesRound-stops : (ticket_of : P → ℕ) (equal : K → K → Bool) (visited : ℕ) (unpinned : Bool)
       (old now new : Contents K V W A T P) → may_count 0 → IsSound ticket_of equal hash old
       → GoesRound visited unpinned old now → visited < length old.lists.hot
-      → VisitsFirst steady pinned takes_touches may_count now Victim new
-      → RoundDone ticket_of equal round_victim old new
+      → VisitsFirst steady pinned takes_touches may_count now Visit.Victim new
+      → RoundDone ticket_of equal Round.Victim old new
   GoesRound-stops ticket_of equal visited unpinned old now new none_counted sound goes lt v =
-      let first = VisitsFirst-changes now new Victim goes.changes.hashed v in
+      let first = VisitsFirst-changes now new Visit.Victim goes.changes.hashed v in
       let short : visited < length (items_of old.lists.hot) =
       omega (arith, lt, length_items old.lists.hot) in
       let unmarked : lowered 1 v.item ≡ v.item = ap (λ n. record v.item { mark = n })
@@ -307,16 +305,16 @@ module _ {K V P W A T : Type 0} (hash : K → ℕ) (steady : Type 0) (pinned : K
       let there : items_of new.lists.hot ≡ v.item ∷ items_of v.rest =
       ap (λ (c : Contents K V W A T P). items_of c.lists.hot) v.same
       ∙ ap (λ (x : Item K V). x ∷ items_of v.rest) unmarked in
-      let ends : RoundEnds steady pinned takes_touches old.mark_cut may_count round_victim
+      let ends : RoundEnds steady pinned takes_touches old.mark_cut may_count Round.Victim
       (items_of old.lists.hot) (items_of new.lists.hot) (visited + 1) =
-      subst (λ xs. RoundEnds steady pinned takes_touches old.mark_cut may_count round_victim
+      subst (λ xs. RoundEnds steady pinned takes_touches old.mark_cut may_count Round.Victim
       (items_of old.lists.hot) xs (visited + 1)) (sym there)
       (round-stops steady pinned takes_touches old.mark_cut may_count
       (items_of old.lists.hot) visited unpinned (items_of now.lists.hot) v.held.item v.item
       (items_of v.rest) none_counted goes.going short (ap items_of v.stands)
       (subst (λ n. MayTake takes_touches n may_count v.held.item v.item)
       (ChangesHot-cut hash visited old now goes.changes) v.takes) v.meets.0 v.meets.1) in
-      RoundDone-by ticket_of equal round_victim (visited + 1) old new ends
+      RoundDone-by ticket_of equal Round.Victim (visited + 1) old new ends
       (EndsAtVictim-keeps old.mark_cut steady pinned takes_touches may_count
       (items_of old.lists.hot) (items_of new.lists.hot) (visited + 1) ends)
       (ChangesHot-then hash visited 1 old now new goes.changes first) sound
@@ -326,17 +324,17 @@ module _ {K V P W A T : Type 0} (hash : K → ℕ) (steady : Type 0) (pinned : K
       (unpinned : Bool) (old now : Contents K V W A T P) → unpinned ≡ false
       → IsSound ticket_of equal hash old → GoesRound visited unpinned old now
       → visited ≡ length old.lists.hot
-      → RoundDone ticket_of equal round_all_pinned old now
+      → RoundDone ticket_of equal Round.AllPinned old now
   GoesRound-over_pinned ticket_of equal visited unpinned old now is sound goes all =
       let going = subst (λ b. Going steady pinned takes_touches old.mark_cut may_count
       (items_of old.lists.hot) visited b (items_of now.lists.hot)) is goes.going in
       let whole : visited ≡ length (items_of old.lists.hot) =
       all ∙ sym (length_items old.lists.hot) in
-      let ends : RoundEnds steady pinned takes_touches old.mark_cut may_count round_all_pinned
+      let ends : RoundEnds steady pinned takes_touches old.mark_cut may_count Round.AllPinned
       (items_of old.lists.hot) (items_of now.lists.hot) visited =
       round-over_pinned steady pinned takes_touches old.mark_cut may_count
       (items_of old.lists.hot) visited (items_of now.lists.hot) going whole in
-      RoundDone-by ticket_of equal round_all_pinned visited old now ends
+      RoundDone-by ticket_of equal Round.AllPinned visited old now ends
       (EndsAllPinned-keeps old.mark_cut steady pinned takes_touches may_count
       (items_of old.lists.hot) (items_of now.lists.hot) visited ends) goes.changes sound
 
@@ -345,16 +343,16 @@ module _ {K V P W A T : Type 0} (hash : K → ℕ) (steady : Type 0) (pinned : K
       (unpinned : Bool) (old now : Contents K V W A T P) → unpinned ≡ true
       → IsSound ticket_of equal hash old → GoesRound visited unpinned old now
       → visited ≡ length old.lists.hot
-      → RoundDone ticket_of equal round_some_unpinned old now
+      → RoundDone ticket_of equal Round.SomeUnpinned old now
   GoesRound-over_unpinned ticket_of equal visited unpinned old now is sound goes all =
       let going = subst (λ b. Going steady pinned takes_touches old.mark_cut may_count
       (items_of old.lists.hot) visited b (items_of now.lists.hot)) is goes.going in
       let whole : visited ≡ length (items_of old.lists.hot) =
       all ∙ sym (length_items old.lists.hot) in
-      let ends : RoundEnds steady pinned takes_touches old.mark_cut may_count round_some_unpinned
+      let ends : RoundEnds steady pinned takes_touches old.mark_cut may_count Round.SomeUnpinned
       (items_of old.lists.hot) (items_of now.lists.hot) visited =
       round-over_unpinned steady pinned takes_touches old.mark_cut may_count
       (items_of old.lists.hot) visited (items_of now.lists.hot) going whole in
-      RoundDone-by ticket_of equal round_some_unpinned visited old now ends
+      RoundDone-by ticket_of equal Round.SomeUnpinned visited old now ends
       (EndsSomeUnpinned-keeps old.mark_cut steady pinned takes_touches may_count
       (items_of old.lists.hot) (items_of now.lists.hot) visited ends) goes.changes sound

@@ -1,11 +1,9 @@
 -- Round after round of a hot advance, up to a victim, over the contents of a cache.
-use Rattle.std.proofs.Common.{◌≡◌, ℕ, ◌+◌, ◌^◌, ◌<◌, Bool, true, false, length}
-use Rattle.std.proofs.Common.{refl, ◌∙◌, subst}
-use Rattle.quick_cache_model.specs.declared.queue.Queue.TheVariants.{Hot}
+use Rattle.std.proofs.Common.{◌≡◌, ℕ, ◌+◌, ◌^◌, ◌<◌, Bool, true, false, length, refl, ◌∙◌, subst}
+use Rattle.quick_cache_model.specs.declared.queue.Queue.{Queue}
 use Rattle.quick_cache_store.specs.Views.{items_of}
 use Rattle.quick_cache_policy.specs.declared.contents.Contents.{Contents}
 use Rattle.quick_cache_policy.specs.declared.evicting.hot.Round.{Round}
-use Rattle.quick_cache_policy.specs.declared.evicting.hot.Round.TheVariants.{AllPinned as round_all_pinned, SomeUnpinned as round_some_unpinned, Victim as round_victim}
 use Rattle.quick_cache_policy.specs.Contents.{IsSound}
 use Rattle.quick_cache_policy.specs.HotRounds.{VisitsHot, RoundEnds, SeekEnds}
 use Rattle.quick_cache_policy.specs.Places.{places_in, LosesOnly}
@@ -52,7 +50,7 @@ module _ {K V P W A T : Type 0} (ticket_of : P → ℕ) (equal : K → K → Boo
   -- the marks of sound contents are at most the greatest
   HaveAtMost-sound : (old : Contents K V W A T P) → IsSound ticket_of equal hash old
       → HaveAtMost old.mark_cut (items_of old.lists.hot)
-  HaveAtMost-sound old sound = HaveAtMost-ring old.mark_cut Hot (items_of old.lists.hot)
+  HaveAtMost-sound old sound = HaveAtMost-ring old.mark_cut Queue.Hot (items_of old.lists.hot)
       sound.valid.in_hot
 
   -- what a round did, as a change
@@ -80,7 +78,7 @@ module _ {K V P W A T : Type 0} (ticket_of : P → ℕ) (equal : K → K → Boo
   -- a round that met a marked item was not the last
   pub SeeksVictim-goes_on : (takes_touches : Bool) (old now new : Contents K V W A T P)
       → IsSound ticket_of equal hash old → SeeksVictim takes_touches old now
-      → RoundDone hash steady pinned takes_touches may_count ticket_of equal round_some_unpinned
+      → RoundDone hash steady pinned takes_touches may_count ticket_of equal Round.SomeUnpinned
       now new
       → SeeksVictim false old new
   SeeksVictim-goes_on takes_touches old now new sound seeks done = record {
@@ -88,9 +86,9 @@ module _ {K V P W A T : Type 0} (ticket_of : P → ℕ) (equal : K → K → Boo
     advancing = advance-goes_on steady pinned old.mark_cut may_count takes_touches
         (items_of old.lists.hot) (items_of now.lists.hot) (items_of new.lists.hot) seeks.visits
         done.ends.visits (HaveAtMost-sound old sound) seeks.advancing
-        (ends-by takes_touches round_some_unpinned seeks.visits old now new seeks.changes done);
+        (ends-by takes_touches Round.SomeUnpinned seeks.visits old now new seeks.changes done);
     changes = ChangesHot-then hash seeks.visits done.ends.visits old now new seeks.changes
-        (ChangesHot-round takes_touches round_some_unpinned now new done);
+        (ChangesHot-round takes_touches Round.SomeUnpinned now new done);
     sound = done.sound;
     count = done.count ∙ seeks.count;
   }
@@ -98,7 +96,7 @@ module _ {K V P W A T : Type 0} (ticket_of : P → ℕ) (equal : K → K → Boo
   -- and there are not many such rounds
   pub advance_measure-seeks : (takes_touches : Bool) (old now new : Contents K V W A T P)
       → SeeksVictim takes_touches old now
-      → RoundDone hash steady pinned takes_touches may_count ticket_of equal round_some_unpinned
+      → RoundDone hash steady pinned takes_touches may_count ticket_of equal Round.SomeUnpinned
       now new
       → advance_measure false new.mark_cut (items_of new.lists.hot)
       < advance_measure takes_touches now.mark_cut (items_of now.lists.hot)
@@ -110,18 +108,18 @@ module _ {K V P W A T : Type 0} (ticket_of : P → ℕ) (equal : K → K → Boo
   -- a round that met a victim was the last
   pub SeeksVictim-stops : (takes_touches : Bool) (old now new : Contents K V W A T P)
       → SeeksVictim takes_touches old now
-      → RoundDone hash steady pinned takes_touches may_count ticket_of equal round_victim now new
+      → RoundDone hash steady pinned takes_touches may_count ticket_of equal Round.Victim now new
       → SeekDone true old new
   SeeksVictim-stops takes_touches old now new seeks done =
       let changes = ChangesHot-then hash seeks.visits done.ends.visits old now new seeks.changes
-      (ChangesHot-round takes_touches round_victim now new done) in
+      (ChangesHot-round takes_touches Round.Victim now new done) in
       record {
         ends = record {
           visits = seeks.visits + done.ends.visits;
           ends = advance-stops steady pinned old.mark_cut may_count takes_touches
               (items_of old.lists.hot) (items_of now.lists.hot) (items_of new.lists.hot)
               seeks.visits done.ends.visits seeks.advancing
-              (ends-by takes_touches round_victim seeks.visits old now new seeks.changes done);
+              (ends-by takes_touches Round.Victim seeks.visits old now new seeks.changes done);
           counted = changes.counted;
         };
         sound = done.sound;
@@ -133,19 +131,19 @@ module _ {K V P W A T : Type 0} (ticket_of : P → ℕ) (equal : K → K → Boo
   -- and so was one that found all pinned
   pub SeeksVictim-gives_up : (takes_touches : Bool) (old now new : Contents K V W A T P)
       → SeeksVictim takes_touches old now
-      → RoundDone hash steady pinned takes_touches may_count ticket_of equal round_all_pinned
+      → RoundDone hash steady pinned takes_touches may_count ticket_of equal Round.AllPinned
       now new
       → SeekDone false old new
   SeeksVictim-gives_up takes_touches old now new seeks done =
       let changes = ChangesHot-then hash seeks.visits done.ends.visits old now new seeks.changes
-      (ChangesHot-round takes_touches round_all_pinned now new done) in
+      (ChangesHot-round takes_touches Round.AllPinned now new done) in
       record {
         ends = record {
           visits = seeks.visits + done.ends.visits;
           ends = advance-gives_up steady pinned old.mark_cut may_count takes_touches
               (items_of old.lists.hot) (items_of now.lists.hot) (items_of new.lists.hot)
               seeks.visits done.ends.visits seeks.advancing
-              (ends-by takes_touches round_all_pinned seeks.visits old now new seeks.changes done);
+              (ends-by takes_touches Round.AllPinned seeks.visits old now new seeks.changes done);
           counted = changes.counted;
         };
         sound = done.sound;

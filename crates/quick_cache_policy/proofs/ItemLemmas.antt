@@ -2,8 +2,7 @@
 use Rattle.std.proofs.Common.{◌≡◌, ◌≢◌, ℕ, ◌==◌, Bool, true, false, if◌then◌else◌, List, [], ◌∷◌, ◌++◌, refl, sym, ap, subst, ◌∙◌}
 use Rattle.quick_cache_model.specs.CacheState.{Item, Place, InHot, InCold, InStill}
 use Rattle.quick_cache_model.specs.Touches.{with_touches, raised_by, counted_up}
-use Rattle.quick_cache_store.specs.Lists.{HeldItem, Lists, StandsIn, HasItem, IsItemOf, AreApart}
-use Rattle.quick_cache_store.specs.Lists.{items_at, with_change, with_counts}
+use Rattle.quick_cache_store.specs.Lists.{HeldItem, Lists, StandsIn, HasItem, IsItemOf, AreApart, items_at, with_change, with_counts}
 use Rattle.quick_cache_store.proofs.lists.CallerLemmas.{change-hot, change-cold, change-still}
 use Rattle.std.proofs.lemmas.Bool.{eqb-true}
 

@@ -1,6 +1,6 @@
 -- What a hot advance keeps: each item in its ring, how many there are, their pairs and weights.
-use Rattle.std.proofs.Common.{◌≡◌, ℕ, ◌+◌, ◌≤◌, Bool, true, false, cond, List, [], ◌∷◌, ◌++◌, length, map, sum_by, IsPermutation}
-use Rattle.std.proofs.Common.{refl, sym, ap, subst, ◌∙◌, arith, length-append}
+use Rattle.std.proofs.Common.{◌≡◌, ℕ, ◌+◌, ◌≤◌, Bool, true, false, cond, List, [], ◌∷◌, ◌++◌, length, map, sum_by, IsPermutation, refl, sym}
+use Rattle.std.proofs.Common.{ap, subst, ◌∙◌, arith, length-append}
 use Rattle.std.specs.List.{AllByRecursion}
 use Rattle.std.proofs.lemmas.List.{length-map, map-append}
 use Rattle.std.proofs.lemmas.List.Sorted.{IsPermutation-refl, IsPermutation-trans, IsPermutation-append_comm}
@@ -9,15 +9,12 @@ use Rattle.quick_cache_model.specs.declared.queue.Queue.{Queue}
 use Rattle.quick_cache_model.specs.CacheState.{Item, IsRingItem, weight_of}
 use Rattle.quick_cache_model.specs.Touches.{with_touches, RaisesMarks}
 use Rattle.quick_cache_model.specs.Eviction.{lowered}
-use Rattle.quick_cache_model.proofs.TouchLaws.{with_touches-key, with_touches-weight}
-use Rattle.quick_cache_model.proofs.TouchLaws.{with_touches-queue, with_touches-mark}
+use Rattle.quick_cache_model.proofs.TouchLaws.{with_touches-key, with_touches-weight, with_touches-queue, with_touches-mark}
 use Rattle.quick_cache_model.specs.Removal.{pair_of}
 use Rattle.quick_cache_model.proofs.KeyCounts.{keys}
 use Rattle.quick_cache_model.proofs.Residents.{pairs-raised, pairs-lowered}
-use Rattle.quick_cache_policy.specs.Rounds.{HaveAtMost, MayRaise, HasVictimFirst, IsLowered, Going}
-use Rattle.quick_cache_policy.specs.Rounds.{Stopped, Passed, AfterTouches, EndsAllPinned}
-use Rattle.quick_cache_policy.specs.Rounds.{EndsSomeUnpinned, EndsAtVictim, MeetsVictim, GivesUp}
-use Rattle.quick_cache_policy.specs.Rounds.{KeepsItems}
+use Rattle.quick_cache_policy.specs.Rounds.{HaveAtMost, MayRaise, HasVictimFirst, IsLowered, Going, Stopped, Passed, AfterTouches}
+use Rattle.quick_cache_policy.specs.Rounds.{EndsAllPinned, EndsSomeUnpinned, EndsAtVictim, MeetsVictim, GivesUp, KeepsItems}
 use Rattle.quick_cache_policy.proofs.MarkLemmas.{MayRaise-length}
 use Rattle.quick_cache_model.proofs.EachElement.{all-append, all-left, all-right, all-weaker}
 use Rattle.quick_cache_policy.proofs.MappedLemmas.{each-mapped}

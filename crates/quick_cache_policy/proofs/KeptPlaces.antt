@@ -6,9 +6,10 @@ use Rattle.std.proofs.lemmas.List.{map-append}
 use Rattle.std.proofs.lemmas.List.Elements.{Contains-append_cases}
 use Rattle.quick_cache_model.specs.CacheState.{Item}
 use Rattle.quick_cache_store.specs.declared.slots.entry.Awaited.{Awaited}
-use Rattle.quick_cache_store.specs.declared.slots.entry.Entry.TheVariants.{Loading as loading_variant}
+use Rattle.quick_cache_store.specs.declared.slots.entry.Entry.{Entry}
 use Rattle.quick_cache_store.specs.Fills.{FillsToken}
-use Rattle.quick_cache_store.specs.Lists.{HeldItem, HeldLoading, HeldGhost, Lists, AreApart, StandsIn, PutsItem, PutsLast, Reweighs, behind, ahead_of, restarted, without_entry, with_weight}
+use Rattle.quick_cache_store.specs.Lists.{HeldItem, HeldLoading, HeldGhost, Lists, AreApart, StandsIn, PutsItem, PutsLast, Reweighs, behind}
+use Rattle.quick_cache_store.specs.Lists.{ahead_of, restarted, without_entry, with_weight}
 use Rattle.quick_cache_store.proofs.lists.CallerLemmas.{without-ghost}
 use Rattle.quick_cache_policy.specs.declared.contents.Contents.{Contents}
 use Rattle.quick_cache_policy.specs.Contents.{IsSound}
@@ -17,7 +18,9 @@ use Rattle.quick_cache_policy.proofs.FillLemmas.{awaited-is_loading, left-nowher
 use Rattle.quick_cache_policy.proofs.LookupLemmas.{without_loading}
 use Rattle.quick_cache_policy.proofs.PlaceLemmas.{LosesOnly-lists}
 use Rattle.quick_cache_policy.proofs.RetainLemmas.{Sifted, IsSifting}
-use Rattle.quick_cache_policy.proofs.WrittenPlaces.{Contains-later, keyed, keyed-some, keyed-state, one-place, entered-places, reordered-places, kept-places, dropped-places, without-places, rewritten-places, HasItem-place}
+use Rattle.quick_cache_policy.proofs.WrittenPlaces.{Contains-later, keyed, keyed-some, keyed-state, one-place, entered-places}
+use Rattle.quick_cache_policy.proofs.WrittenPlaces.{reordered-places, kept-places, dropped-places, without-places, rewritten-places}
+use Rattle.quick_cache_policy.proofs.WrittenPlaces.{HasItem-place}
 
 module _ {K V : Type 0} where
   -- the first is gone, or more
@@ -125,7 +128,7 @@ module _ {K V P : Type 0} where
   module _ {T : Type 0} where
     -- a placeholder was put last
     pub awaited-places : (old new : Lists K V P) (token hash : ℕ) (awaited : Awaited K P)
-        → PutsLast {T = T} old token hash (loading_variant awaited) new
+        → PutsLast {T = T} old token hash (Entry.Loading awaited) new
         → places_of new ≡ places_of old
     awaited-places old new token hash awaited puts = λ i.
         places_in (ap (λ (l : Lists K V P). l.hot) puts.put.same i)
@@ -136,7 +139,7 @@ module _ {K V P : Type 0} where
     pub haunted-places : (old new : Lists K V P) → AreApart old → (shade : HeldGhost)
         → StandsIn old.ghosts shade → (hash : ℕ) (awaited : Awaited K P)
         → PutsLast {T = T} (without_entry false shade.token old) shade.token hash
-        (loading_variant awaited) new
+        (Entry.Loading awaited) new
         → places_of new ≡ places_of old
     haunted-places old new apart shade stands hash awaited puts =
         awaited-places (without_entry false shade.token old) new shade.token hash awaited puts

@@ -1,8 +1,6 @@
 -- What makes room brings no key, step by step: whether pinning is steady does not matter for this.
-use Rattle.std.proofs.Common.{◌≡◌, ℕ, ◌-◌, ◌≤◌, Bool, true, false, List, [], ◌∷◌, ◌++◌}
-use Rattle.std.proofs.Common.{ap, arith}
+use Rattle.std.proofs.Common.{◌≡◌, ℕ, ◌-◌, ◌≤◌, Bool, true, false, List, [], ◌∷◌, ◌++◌, ap, arith}
 use Rattle.quick_cache_model.specs.declared.queue.Queue.{Queue}
-use Rattle.quick_cache_model.specs.declared.queue.Queue.TheVariants.{Hot, Cold}
 use Rattle.quick_cache_model.specs.CacheState.{CacheState, Item, keys_by}
 use Rattle.quick_cache_model.specs.Hooks.{Rules, HookCall}
 use Rattle.quick_cache_model.proofs.Eviction.Keys.{EvictsVictim-keys}
@@ -11,7 +9,6 @@ use Rattle.quick_cache_model.proofs.OrderLaws.{SameButOrder-keys}
 use Rattle.quick_cache_store.specs.Views.{items_of}
 use Rattle.quick_cache_policy.specs.declared.contents.Contents.{Contents}
 use Rattle.quick_cache_policy.specs.declared.evicting.cold.Search.{Search}
-use Rattle.quick_cache_policy.specs.declared.evicting.cold.Search.TheVariants.{Marked as found_marked, Victim as found_victim, AllPassed as found_none}
 use Rattle.quick_cache_policy.specs.Advances.{FirstIsEvicted, FirstIsPromoted, StopsAt, SearchEnds, Searches}
 use Rattle.quick_cache_policy.specs.Contents.{state_of}
 use Rattle.quick_cache_policy.specs.HotRounds.{SeekEnds}
@@ -22,20 +19,20 @@ module _ {K V : Type 0} (test : K → Bool) where
   pub FirstIsEvicted-keys : (rules : Rules K V) (queue : Queue) (old new : CacheState K V)
       (calls : List (HookCall K V)) → FirstIsEvicted rules queue old calls new
       → keys_by test new ≤ keys_by test old
-  FirstIsEvicted-keys rules Hot old new calls first =
+  FirstIsEvicted-keys rules Queue.Hot old new calls first =
       omega (
         arith,
         SameButOrder-keys test first.evicts.ordered new first.evicts.same,
-        EvictsVictim-keys rules test Hot (record old { hot = first.rest })
+        EvictsVictim-keys rules test Queue.Hot (record old { hot = first.rest })
             first.evicts.ordered first.item calls first.evicts.holds,
         ap (keys test) first.stands,
         keys-cons test first.item first.rest,
       )
-  FirstIsEvicted-keys rules Cold old new calls first =
+  FirstIsEvicted-keys rules Queue.Cold old new calls first =
       omega (
         arith,
         SameButOrder-keys test first.evicts.ordered new first.evicts.same,
-        EvictsVictim-keys rules test Cold (record old { cold = first.rest })
+        EvictsVictim-keys rules test Queue.Cold (record old { cold = first.rest })
             first.evicts.ordered first.item calls first.evicts.holds,
         ap (keys test) first.stands,
         keys-cons test first.item first.rest,
@@ -45,7 +42,7 @@ module _ {K V : Type 0} (test : K → Bool) where
   pub FirstIsPromoted-keys : (old new : CacheState K V) → FirstIsPromoted old new
       → keys_by test new ≤ keys_by test old
   FirstIsPromoted-keys old new first =
-      let moved : Item K V = record first.item { mark = first.item.mark - 1; queue = Hot } in
+      let moved : Item K V = record first.item { mark = first.item.mark - 1; queue = Queue.Hot } in
       omega (
         arith,
         ap (keys_by test) first.promoted,
@@ -81,9 +78,9 @@ module _ {K V : Type 0} (test : K → Bool) where
       where
         ends : (b : Search) → SearchEnds steady pinned searches.cold b new
             → keys test new ≡ keys test searches.cold
-        ends found_marked stops = StopsAt-keys _ searches.cold new stops
-        ends found_victim stops = StopsAt-keys _ searches.cold new stops
-        ends found_none passed = ap (keys test) passed.1
+        ends Search.Marked stops = StopsAt-keys _ searches.cold new stops
+        ends Search.Victim stops = StopsAt-keys _ searches.cold new stops
+        ends Search.AllPassed passed = ap (keys test) passed.1
 
     -- round after round of the hot ring
     pub SeekEnds-keys : (cut : ℕ) (may_count : ℕ → Type 0) (met : Bool) (old new : List (Item K V))

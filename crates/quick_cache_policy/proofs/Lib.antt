@@ -16,7 +16,6 @@ mod SoundLemmas
 mod KeyLemmas
 pub mod FindLemmas
 mod AdmissionLemmas
-mod PlanLemmas
 pub mod AnswerLemmas
 mod EnterLemmas
 pub mod LookupLemmas

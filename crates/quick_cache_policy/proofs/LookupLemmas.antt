@@ -10,15 +10,18 @@ use Rattle.quick_cache_model.specs.Touches.{counted_up}
 use Rattle.quick_cache_model.proofs.EachElement.{all-without}
 use Rattle.quick_cache_model.proofs.OrderLaws.{UpToOrder-exact}
 use Rattle.quick_cache_model.proofs.Valid.Lookups.{LooksUp-valid, Removes-valid}
-use Rattle.quick_cache_store.specs.Lists.{HeldItem, HeldLoading, HeldGhost, Lists, AreApart, StandsIn, HasItem, HasNoKey, IsItemOf, FindsItem, items_at, with_items, with_change, without_entry}
+use Rattle.quick_cache_store.specs.Lists.{HeldItem, HeldLoading, HeldGhost, Lists, AreApart, StandsIn, HasItem, HasNoKey, IsItemOf}
+use Rattle.quick_cache_store.specs.Lists.{FindsItem, items_at, with_items, with_change, without_entry}
 use Rattle.quick_cache_store.specs.Views.{items_of, hashes_of, loading_entry, loading_entries}
-use Rattle.quick_cache_store.proofs.lists.CallerLemmas.{change-hot, change-cold, change-still, without-hot, without-cold, without-still, without-loading, without-ghost}
+use Rattle.quick_cache_store.proofs.lists.CallerLemmas.{change-hot, change-cold, change-still, without-hot, without-cold, without-still}
+use Rattle.quick_cache_store.proofs.lists.CallerLemmas.{without-loading, without-ghost}
 use Rattle.quick_cache_policy.specs.declared.contents.Contents.{Contents}
 use Rattle.quick_cache_policy.specs.Contents.{AreHashed, IsSound, state_of}
 use Rattle.quick_cache_policy.specs.Entering.{CountsHit}
 use Rattle.quick_cache_policy.specs.Finding.{AreUnder}
 use Rattle.quick_cache_policy.proofs.FindLemmas.{HasNoKey-state}
-use Rattle.quick_cache_policy.proofs.EnterLemmas.{state_with, with_items-state, split-state, AreHashed-without, AreHashed-instead, AreHashed-room, held-under}
+use Rattle.quick_cache_policy.proofs.EnterLemmas.{state_with, with_items-state, split-state, AreHashed-without, AreHashed-instead}
+use Rattle.quick_cache_policy.proofs.EnterLemmas.{AreHashed-room, held-under}
 
 module _ {K V P : Type 0} (lists : Lists K V P) (apart : AreApart lists) where
   -- an item that is changed in its place
@@ -56,52 +59,47 @@ items_at-with InStill items lists = refl
 
 -- ---- an item that was looked up
 
--- the contents once the item of a token was changed so, and a hit was counted
+-- two changes that do the same to the item of a token do the same to the lists
+pub with_change-same : {K V P : Type 0} (lists : Lists K V P) → AreApart lists → (token hash : ℕ)
+    (item : Item K V) (first second : Item K V → Item K V) → first item ≡ second item
+    → HasItem lists (record { token = token; hash = hash; item = item })
+    → with_change token first lists ≡ with_change token second lists
+with_change-same {K} {V} lists apart token hash item first second same has =
+    change-at lists apart first has.place has.stands.before has.stands.after
+    (record { token = token; hash = hash; item = item }) has.stands.split
+    ∙ ap (λ (i : Item K V). with_items has.place (has.stands.before
+    ++ record { token = token; hash = hash; item = i } ∷ has.stands.after) lists) same
+    ∙ sym (change-at lists apart second has.place has.stands.before has.stands.after
+    (record { token = token; hash = hash; item = item }) has.stands.split)
+
+-- the contents once the item of a token was looked up, and a hit was counted
 abbrev pub counted : {K V P W A T : Type 0} → Contents K V W A T P → (token : ℕ)
-    → (change : Item K V → Item K V) → Contents K V W A T P
-counted contents token change = record contents {
-  lists = with_change token change contents.lists;
+    → Contents K V W A T P
+counted contents token = record contents {
+  lists = with_change token (looked_up contents.mark_cut) contents.lists;
   hits = counted_up 1 contents.hits;
 }
 
--- an item of that token was changed as a look-up changes it, and a hit was counted
-pub record IsCounted {K V P W A T : Type 0} (contents : Contents K V W A T P) (token : ℕ)
-    (item : Item K V) (new : Contents K V W A T P) : Type 0 where
-  pub change : Item K V → Item K V
-  pub counts : change item ≡ looked_up contents.mark_cut item
-  pub keeps : (i : Item K V) → (change i).key ≡ i.key
-  pub is : new ≡ counted contents token change
-
--- the lists were changed so, and then the hits
-pub counted-is : {K V P W A T : Type 0} (contents now : Contents K V W A T P) (token : ℕ)
-    (change : Item K V → Item K V) (lists : Lists K V P) (hits : ℕ)
-    → now ≡ record contents { lists = lists } → lists ≡ with_change token change contents.lists
-    → hits ≡ counted_up 1 now.hits
-    → record now { hits = hits } ≡ counted contents token change
-counted-is contents now token change lists hits now_is lists_are hits_are =
-    ap (λ (c : Contents _ _ _ _ _ _). record c { hits = hits }) now_is
-    ∙ (λ i. record contents {
-      lists = lists_are i;
-      hits = (hits_are ∙ ap (λ (c : Contents _ _ _ _ _ _). counted_up 1 c.hits) now_is) i;
-    })
+pub counted-is : {K V P W A T : Type 0} (contents now : Contents K V W A T P) (token hits : ℕ)
+    → now ≡ record contents { lists = with_change token (looked_up contents.mark_cut) contents.lists }
+    → hits ≡ counted_up 1 now.hits → record now { hits = hits } ≡ counted contents token
+counted-is contents now token hits now_is hits_are = λ i. record (now_is i) {
+  hits = (hits_are ∙ ap (λ (c : Contents _ _ _ _ _ _). counted_up 1 c.hits) now_is) i;
+}
 
 module _ {K V P W A T : Type 0} (ticket_of : P → ℕ) (contents : Contents K V W A T P)
-    (apart : AreApart contents.lists) (token hash : ℕ) (item : Item K V)
-    (change : Item K V → Item K V) where
-  module _ (counts : change item ≡ looked_up contents.mark_cut item)
-      (has : HasItem contents.lists (record { token = token; hash = hash; item = item })) where
-    changed : with_change token change contents.lists
+    (apart : AreApart contents.lists) (token hash : ℕ) (item : Item K V) where
+  module _ (has : HasItem contents.lists (record { token = token; hash = hash; item = item })) where
+    changed : with_change token (looked_up contents.mark_cut) contents.lists
         ≡ with_items has.place (has.stands.before
         ++ record { token = token; hash = hash; item = looked_up contents.mark_cut item }
         ∷ has.stands.after) contents.lists
-    changed =
-        change-at contents.lists apart change has.place has.stands.before
-        has.stands.after (record { token = token; hash = hash; item = item }) has.stands.split
-        ∙ ap (λ (i : Item K V). with_items has.place (has.stands.before
-        ++ record { token = token; hash = hash; item = i } ∷ has.stands.after) contents.lists) counts
+    changed = change-at contents.lists apart (looked_up contents.mark_cut) has.place
+        has.stands.before has.stands.after
+        (record { token = token; hash = hash; item = item }) has.stands.split
 
     -- the item is the one that was looked up
-    pub counted-item : IsItemOf (counted contents token change).lists token (looked_up contents.mark_cut item)
+    pub counted-item : IsItemOf (counted contents token).lists token (looked_up contents.mark_cut item)
     counted-item = (
       hash,
       record {
@@ -115,7 +113,7 @@ module _ {K V P W A T : Type 0} (ticket_of : P → ℕ) (contents : Contents K V
     )
 
     -- the state is that of a hit
-    pub counted-state : state_of ticket_of (counted contents token change)
+    pub counted-state : state_of ticket_of (counted contents token)
         ≡ model_with_items has.place (items_of has.stands.before
         ++ looked_up contents.mark_cut item ∷ items_of has.stands.after)
         (after_hit (state_of ticket_of contents))
@@ -134,7 +132,7 @@ module _ {K V P W A T : Type 0} (ticket_of : P → ℕ) (contents : Contents K V
     pub looks_up-hit : (stands_for : K → Bool) → stands_for item.key ≡ true → {X : Type 0}
         → (of : Item K V → X)
         → UpToOrder (LooksUp stands_for (state_of ticket_of contents) of (Some (of item)))
-        (state_of ticket_of (counted contents token change))
+        (state_of ticket_of (counted contents token))
     looks_up-hit stands_for passes of = UpToOrder-exact _ _
         (subst (λ (s : CacheState K V). LooksUp stands_for (state_of ticket_of contents) of
         (Some (of item)) s) (sym counted-state)
@@ -149,7 +147,7 @@ module _ {K V P W A T : Type 0} (ticket_of : P → ℕ) (contents : Contents K V
     -- a hit was counted at it
     pub counted-hit : (stands_for : K → Bool) → stands_for item.key ≡ true
         → CountsHit stands_for (state_of ticket_of contents)
-        (state_of ticket_of (counted contents token change))
+        (state_of ticket_of (counted contents token))
     counted-hit stands_for passes = record {
       place = has.place;
       before = items_of has.stands.before;
@@ -166,10 +164,10 @@ module _ {K V P W A T : Type 0} (ticket_of : P → ℕ) (contents : Contents K V
 
     -- and a query still finds it
     pub counted-found : (stands_for : K → Bool) → stands_for item.key ≡ true → (known : ℕ)
-        → hash ≡ known → FindsItem stands_for known (counted contents token change).lists token
+        → hash ≡ known → FindsItem stands_for known (counted contents token).lists token
     unfolding counted-item
     counted-found stands_for passes known is =
-        subst (λ (h : ℕ). FindsItem stands_for h (counted contents token change).lists token) is
+        subst (λ (h : ℕ). FindsItem stands_for h (counted contents token).lists token) is
         (record {
           item = looked_up contents.mark_cut item;
           stands = counted-item.1;
@@ -178,7 +176,7 @@ module _ {K V P W A T : Type 0} (ticket_of : P → ℕ) (contents : Contents K V
 
     -- each key stays under its hash
     pub counted-hashed : (hashed : K → ℕ) → AreHashed hashed contents.lists
-        → AreHashed hashed (counted contents token change).lists
+        → AreHashed hashed (counted contents token).lists
     counted-hashed hashed are =
         subst (λ (l : Lists K V P). AreHashed hashed l) (sym changed)
         (AreHashed-instead hashed has.place has.stands.before
@@ -197,7 +195,7 @@ module _ {K V P W A T : Type 0} (ticket_of : P → ℕ) (contents : Contents K V
     -- what was sound is
     pub counted-sound : (equal : K → K → Bool) (hashed : K → ℕ) (stands_for : K → Bool)
         → stands_for item.key ≡ true → IsSound ticket_of equal hashed contents
-        → IsSound ticket_of equal hashed (counted contents token change)
+        → IsSound ticket_of equal hashed (counted contents token)
     counted-sound equal hashed stands_for passes sound = record {
       valid = subst (λ (s : CacheState K V). IsValid equal s)
           (sym counted-state)

@@ -1,6 +1,5 @@
 -- Advances one after another, and the hook calls that they make.
-use Rattle.std.proofs.Common.{List, [], ◌++◌, sym, subst, refl}
-use Rattle.std.proofs.Common.{append_assoc}
+use Rattle.std.proofs.Common.{List, [], ◌++◌, sym, subst, refl, append_assoc}
 use Rattle.std.proofs.lemmas.List.{append-nil}
 use Rattle.quick_cache_model.specs.CacheState.{CacheState, UpToOrder}
 use Rattle.quick_cache_model.specs.Hooks.{HookCall, Hooks, Calls}

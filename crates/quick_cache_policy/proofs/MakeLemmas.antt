@@ -1,20 +1,21 @@
 -- A placeholder that was made: the state that it leads to, and why none is made.
-use Rattle.std.proofs.Common.{◌≡◌, ◌≢◌, ℕ, ◌+◌, ◌≤◌, ◌<◌, Bool, true, false, true≢false, [], ◌∷◌, ◌++◌, Result, Ok, Err, IsErr, IsErrAnd, refl, sym, ap, subst, ◌∙◌, arith}
+use Rattle.std.proofs.Common.{◌≡◌, ◌≢◌, ℕ, ◌+◌, ◌≤◌, ◌<◌, Bool, true, false, true≢false, [], ◌∷◌, ◌++◌, Result, Ok, Err, IsErr, IsErrAnd}
+use Rattle.std.proofs.Common.{refl, sym, ap, subst, ◌∙◌, arith}
 use Rattle.std.specs.Cmp.{IsEquivalence}
 use Rattle.std.proofs.lemmas.List.{map-append}
 use Rattle.quick_cache_model.specs.declared.refusal.Refusal.{Refusal}
-use Rattle.quick_cache_model.specs.declared.refusal.Refusal.TheVariants.{Memory, SlotsFull, TicketsSpent}
 use Rattle.quick_cache_model.specs.CacheState.{CacheState, LoadingEntry, SameButOrder, keys_by}
 use Rattle.quick_cache_model.specs.Finding.{HasNoKey, HasNothing}
 use Rattle.quick_cache_model.specs.Lookups.{after_miss}
 use Rattle.quick_cache_model.specs.Placeholders.{with_placeholder}
-use Rattle.quick_cache_model.specs.Refusals.{IsProvided, needs_of_placeholder, tickets_spent, slots_full, memory_refused, slots_taken, slot_count}
+use Rattle.quick_cache_model.specs.Refusals.{IsProvided, needs_of_placeholder, tickets_spent, slots_full, memory_refused, slots_taken}
+use Rattle.quick_cache_model.specs.Refusals.{slot_count}
 use Rattle.quick_cache_model.specs.Touches.{counted_up}
 use Rattle.quick_cache_model.proofs.EachElement.{all-push}
 use Rattle.quick_cache_model.proofs.Valid.Edits.{after_miss-valid, with_placeholder-valid}
 use Rattle.quick_cache_model.proofs.Valid.Orders.{SameButOrder-valid}
 use Rattle.quick_cache_store.specs.declared.slots.entry.Awaited.{Awaited}
-use Rattle.quick_cache_store.specs.declared.slots.entry.Entry.TheVariants.{Loading as loading_variant}
+use Rattle.quick_cache_store.specs.declared.slots.entry.Entry.{Entry}
 use Rattle.quick_cache_store.specs.Lists.{HeldLoading, Lists, PutsLast, slots_left}
 use Rattle.quick_cache_store.specs.Views.{loading_entry, loading_entries}
 use Rattle.quick_cache_policy.specs.declared.contents.Contents.{Contents}
@@ -46,7 +47,7 @@ module _ {K V : Type 0} (stands_for : K → Bool) (gives : K → Type 0) (hash :
     (state : CacheState K V) where
   -- tickets are spent
   pub none-tickets : HasNoKey stands_for state → state.next_ticket ≡ 18446744073709551615
-      → MakesNone stands_for gives hash state TicketsSpent state
+      → MakesNone stands_for gives hash state Refusal.TicketsSpent state
   none-tickets none spent = record {
     cause = tickets_spent none (omega (arith, spent));
     unchanged = refl;
@@ -72,7 +73,7 @@ module _ {K V : Type 0} (stands_for : K → Bool) (gives : K → Type 0) (hash :
   -- slots are full
   pub none-slots : HasNothing stands_for hash state → state.next_ticket < 18446744073709551615
       → slot_count ≤ slots_taken state
-      → MakesNone stands_for gives hash state SlotsFull state
+      → MakesNone stands_for gives hash state Refusal.SlotsFull state
   none-slots none ticket full = record {
     cause = slots_full (λ _. omega (arith, ticket)) none full;
     unchanged = refl;
@@ -81,7 +82,7 @@ module _ {K V : Type 0} (stands_for : K → Bool) (gives : K → Type 0) (hash :
   -- memory was refused
   pub none-memory : HasNoKey stands_for state
       → IsProvided (needs_of_placeholder stands_for hash state) state
-      → MakesNone stands_for gives hash state Memory state
+      → MakesNone stands_for gives hash state Refusal.Memory state
   none-memory none provided = record {
     cause = memory_refused provided none;
     unchanged = refl;
@@ -112,7 +113,7 @@ free-slot ticket_of contents some = omega (arith, some, entry_count-taken ticket
 
 module _ {K V P W A T X : Type 0} (ticket_of : P → ℕ) (contents : Contents K V W A X P)
     (mid new : Lists K V P) (token hash : ℕ) (awaited : Awaited K P)
-    (puts : PutsLast {T = T} mid token hash (loading_variant awaited) new) (misses next : ℕ)
+    (puts : PutsLast {T = T} mid token hash (Entry.Loading awaited) new) (misses next : ℕ)
     (misses_are : misses ≡ counted_up 1 contents.misses)
     (next_is : next ≡ contents.next_ticket + 1)
     (ticket_is : ticket_of awaited.placeholder ≡ contents.next_ticket) where

@@ -1,14 +1,14 @@
 -- Marks of a list of items: lowered, raised, and their sum.
-use Rattle.std.proofs.Common.{◌≡◌, ℕ, ◌+◌, ◌-◌, ◌*◌, ◌<◌, ◌≤◌, Bool, true, false, List, [], ◌∷◌, ◌++◌, length, map}
-use Rattle.std.proofs.Common.{refl, sym, ap, ap₂, subst, arith, inl, inr}
+use Rattle.std.proofs.Common.{◌≡◌, ℕ, ◌+◌, ◌-◌, ◌*◌, ◌<◌, ◌≤◌, Bool, true, false, List, [], ◌∷◌, ◌++◌, length, map, refl, sym, ap, ap₂}
+use Rattle.std.proofs.Common.{subst, arith, inl, inr}
 use Rattle.std.proofs.lemmas.Bool.{cases_lt}
 use Rattle.std.proofs.lemmas.List.Sums.{sum_by-cons}
 use Rattle.quick_cache_model.specs.CacheState.{Item}
 use Rattle.quick_cache_model.specs.Eviction.{lowered}
 use Rattle.quick_cache_model.specs.Touches.{RaisesMarks}
 use Rattle.quick_cache_model.proofs.TouchLaws.{with_touches-mark, RaisesMarks-same}
-use Rattle.quick_cache_policy.specs.Rounds.{MayTake, MayRaise, AreUnmarked, HaveAtMost}
-use Rattle.quick_cache_policy.specs.Rounds.{AfterTouches, EndsSomeUnpinned, marks_of, advance_measure}
+use Rattle.quick_cache_policy.specs.Rounds.{MayTake, MayRaise, AreUnmarked, HaveAtMost, AfterTouches, EndsSomeUnpinned, marks_of}
+use Rattle.quick_cache_policy.specs.Rounds.{advance_measure}
 use Rattle.quick_cache_policy.proofs.MappedLemmas.{each-mapped}
 
 module _ {K V : Type 0} where

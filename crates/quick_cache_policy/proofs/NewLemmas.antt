@@ -2,12 +2,9 @@
 -- is nowhere then, and in the queue that was chosen before.
 use Rattle.std.proofs.Common.{◌≡◌, ℕ, ◌+◌, ◌≤◌, ◌<◌, Bool, List, ◌∷◌, None, refl, sym, ap, subst, arith}
 use Rattle.std.specs.Cmp.{IsEquivalence}
-use Rattle.std.proofs.lemmas.Bool.{le-leb, lt-leb}
 use Rattle.std.proofs.lemmas.List.Sorted.{IsPermutation-sym, IsPermutation-trans}
 use Rattle.quick_cache_model.specs.declared.queue.Queue.{Queue}
-use Rattle.quick_cache_model.specs.declared.queue.Queue.TheVariants.{Hot, Cold}
-use Rattle.quick_cache_model.specs.CacheState.{CacheState, Item, SameButOrder, UpToOrder, keys_by, hot_weight}
-use Rattle.quick_cache_model.specs.CacheState.{entered as model_entered}
+use Rattle.quick_cache_model.specs.CacheState.{CacheState, Item, SameButOrder, UpToOrder, keys_by, entered as model_entered}
 use Rattle.quick_cache_model.specs.Finding.{HasNothing}
 use Rattle.quick_cache_model.specs.Hooks.{Rules, HookCall}
 use Rattle.quick_cache_model.specs.Eviction.{EvictsToCapacity}
@@ -21,28 +18,12 @@ use Rattle.quick_cache_model.specs.Fates.{residents}
 use Rattle.quick_cache_model.specs.Leads.{Tells, TellsResidents, TellsBeside}
 use Rattle.quick_cache_model.proofs.Leads.{Leads-to, Leads-beside}
 use Rattle.quick_cache_model.proofs.Residents.{residents-entered, residents-ordered}
-use Rattle.quick_cache_store.specs.declared.slots.entry.Entry.TheVariants.{Item as item_variant}
+use Rattle.quick_cache_store.specs.declared.slots.entry.Entry.{Entry}
 use Rattle.quick_cache_store.specs.Lists.{HeldItem, Lists, PutsLast, entered}
 use Rattle.quick_cache_policy.specs.declared.contents.Contents.{Contents}
 use Rattle.quick_cache_policy.specs.Contents.{IsSound, state_of}
 use Rattle.quick_cache_policy.proofs.SoundLemmas.{state_of-reordered, AreHashed-reordered}
 use Rattle.quick_cache_policy.proofs.EnterLemmas.{state_with, entered-state, AreHashed-entered, AreHashed-room}
-
--- ---- the queue
-
-module _ {K V : Type 0} (rules : Rules K V) (state : CacheState K V) (key : K) (value : V)
-    (otherwise : Queue) where
-  -- the pair fits the target beside what is hot
-  pub queue_for-hot : hot_weight state + rules.weight key value ≤ state.hot_target
-      → queue_for rules state key value otherwise ≡ Hot
-  queue_for-hot fits =
-      rw (le-leb (hot_weight state + rules.weight key value) state.hot_target fits) refl
-
-  -- it does not fit
-  pub queue_for-otherwise : state.hot_target < hot_weight state + rules.weight key value
-      → queue_for rules state key value otherwise ≡ otherwise
-  queue_for-otherwise above =
-      rw (lt-leb (hot_weight state + rules.weight key value) state.hot_target above) refl
 
 -- ---- the item, put last once room was made
 
@@ -52,7 +33,7 @@ module _ {K V P W A T X : Type 0} (ticket_of : P → ℕ) (old made : Contents K
     (keys : (test : K → Bool) → keys_by test (state_of ticket_of made)
     ≤ keys_by test (state_of ticket_of old))
     (token : ℕ) (item : Item K V) (new : Lists K V P)
-    (puts : PutsLast {T = T} made.lists token (rules.hash key) (item_variant item) new) where
+    (puts : PutsLast {T = T} made.lists token (rules.hash key) (Entry.Item item) new) where
   held : HeldItem K V
   held = record { token = token; hash = rules.hash key; item = item }
 
@@ -65,7 +46,7 @@ module _ {K V P W A T X : Type 0} (ticket_of : P → ℕ) (old made : Contents K
 
   -- the write
   pub new-writes : item ≡ new_item rules key value
-      (queue_for rules (state_of ticket_of old) key value Cold) 0
+      (queue_for rules (state_of ticket_of old) key value Queue.Cold) 0
       → (calls : List (HookCall K V))
       → UpToOrder (EvictsToCapacity rules (rules.weight key value) (state_of ticket_of old) calls)
       (state_of ticket_of made)
@@ -73,7 +54,7 @@ module _ {K V P W A T X : Type 0} (ticket_of : P → ℕ) (old made : Contents K
       None) (state_with ticket_of made new)
   new-writes is calls evicts =
       let pair = new_item rules key value
-      (queue_for rules (state_of ticket_of old) key value Cold) 0 in
+      (queue_for rules (state_of ticket_of old) key value Queue.Cold) 0 in
       record {
         ordered = model_entered pair evicts.ordered;
         holds = WritesAdmitted.inserts_new evicts.ordered calls refl nothing evicts.holds;

@@ -5,10 +5,8 @@ use Rattle.std.specs.Cmp.{IsEquivalence}
 use Rattle.std.specs.Int.NonZero.{non_zero_u32_get}
 use Rattle.std.specs.declared.num.NonZeroU32.{NonZeroU32 as Token}
 use Rattle.std.proofs.lemmas.List.{map-append}
-use Rattle.quick_cache_model.specs.CacheState.{CacheState, Item, LoadingEntry, SameButOrder, UpToOrder, keys_by}
+use Rattle.quick_cache_model.specs.CacheState.{CacheState, Item, LoadingEntry, SameButOrder, UpToOrder, keys_by, entered as model_entered}
 use Rattle.quick_cache_model.specs.declared.queue.Queue.{Queue}
-use Rattle.quick_cache_model.specs.declared.queue.Queue.TheVariants.{Hot}
-use Rattle.quick_cache_model.specs.CacheState.{entered as model_entered}
 use Rattle.quick_cache_model.specs.Finding.{IsLoadingAt, IsGhostAt, HasNoItem}
 use Rattle.quick_cache_model.specs.Hooks.{Rules, HookCall}
 use Rattle.quick_cache_model.specs.Eviction.{EvictsToCapacity}
@@ -24,8 +22,8 @@ use Rattle.quick_cache_model.specs.Removal.{pair_of}
 use Rattle.quick_cache_model.specs.Fates.{residents}
 use Rattle.quick_cache_model.specs.Leads.{Tells, TellsResidents, TellsBeside}
 use Rattle.quick_cache_store.specs.declared.slots.entry.Entry.{Entry}
-use Rattle.quick_cache_store.specs.declared.slots.entry.Entry.TheVariants.{Item as item_variant}
-use Rattle.quick_cache_store.specs.Lists.{HeldItem, HeldLoading, HeldGhost, Lists, AreApart, StandsIn, Replaces, PutsLast, HasNoKey, FindsLoading, entered, without_entry}
+use Rattle.quick_cache_store.specs.Lists.{HeldItem, HeldLoading, HeldGhost, Lists, AreApart, StandsIn, Replaces, PutsLast, HasNoKey}
+use Rattle.quick_cache_store.specs.Lists.{FindsLoading, entered, without_entry}
 use Rattle.quick_cache_store.specs.Views.{hashes_of, loading_entry, loading_entries}
 use Rattle.quick_cache_store.proofs.lists.StandingLemmas.{ghost-hash, loading-hash}
 use Rattle.quick_cache_policy.specs.declared.contents.Contents.{Contents}
@@ -51,7 +49,7 @@ module _ {K V : Type 0} (rules : Rules K V) (mid state new : CacheState K V)
 
 module _ {K V P W A T X : Type 0} (ticket_of : P → ℕ) (contents : Contents K V W A X P)
     (token : ℕ) (item : Item K V) (was : Entry K V P T) (new : Lists K V P)
-    (replaces : Replaces contents.lists token false (item_variant item) was new)
+    (replaces : Replaces contents.lists token false (Entry.Item item) was new)
     (others : Lists K V P) (next room : ℕ)
     (gone : without_entry false token contents.lists
     ≡ record others { next = next; room = room }) where
@@ -60,7 +58,7 @@ module _ {K V P W A T X : Type 0} (ticket_of : P → ℕ) (contents : Contents K
       (state_with ticket_of contents new)
   replaced-state =
       let put = subst (λ (l : Lists K V P). PutsLast {T = T} l token replaces.hash
-      (item_variant item) new) gone replaces.last in
+      (Entry.Item item) new) gone replaces.last in
       subst (λ (s : CacheState K V). SameButOrder s (state_with ticket_of contents new))
       (entered-state ticket_of contents
       (record { token = token; hash = replaces.hash; item = item })
@@ -72,7 +70,7 @@ module _ {K V P W A T X : Type 0} (ticket_of : P → ℕ) (contents : Contents K
       ≤ length others.hot + length others.cold + 1
   replaced-count =
       let put = subst (λ (l : Lists K V P). PutsLast {T = T} l token replaces.hash
-      (item_variant item) new) gone replaces.last in
+      (Entry.Item item) new) gone replaces.last in
       let held : HeldItem K V = record { token = token; hash = replaces.hash; item = item } in
       omega (
         arith,
@@ -85,7 +83,7 @@ module _ {K V P W A T X : Type 0} (ticket_of : P → ℕ) (contents : Contents K
       → AreHashed hash new
   replaced-hashed hash under hashed =
       let put = subst (λ (l : Lists K V P). PutsLast {T = T} l token replaces.hash
-      (item_variant item) new) gone replaces.last in
+      (Entry.Item item) new) gone replaces.last in
       let held : HeldItem K V = record { token = token; hash = replaces.hash; item = item } in
       AreHashed-reordered hash _ new put.put
       (AreHashed-room hash new.next new.room (entered held
@@ -118,7 +116,7 @@ module _ {K V P W A T X : Type 0} (ticket_of : P → ℕ) (contents : Contents K
     (none : HasNoKey (equal key) (rules.hash key) contents.lists)
     (stands : StandsIn contents.lists.ghosts (record { token = token; hash = rules.hash key }))
     (item : Item K V) (was : Entry K V P T) (new : Lists K V P)
-    (replaces : Replaces contents.lists token false (item_variant item) was new) where
+    (replaces : Replaces contents.lists token false (Entry.Item item) was new) where
   there : IsGhostAt (equal key) (rules.hash key) (state_of ticket_of contents)
       (hashes_of stands.before) (hashes_of stands.after)
   there = IsGhostAt-stands ticket_of (equal key) (rules.hash key) contents under none stands.before
@@ -136,7 +134,7 @@ module _ {K V P W A T X : Type 0} (ticket_of : P → ℕ) (contents : Contents K
       (without_ghost ticket_of contents apart (equal key) (rules.hash key) token stands))
 
   -- the write over the ghost
-  over_ghost-writes : item ≡ new_item rules key value Hot 0 → (last : CacheState K V)
+  over_ghost-writes : item ≡ new_item rules key value Queue.Hot 0 → (last : CacheState K V)
       (calls : List (HookCall K V))
       → UpToOrder (EvictsToCapacity rules 0 (state_with ticket_of contents new) calls) last
       → UpToOrder (WritesAdmitted rules (equal key) key Insert (state_of ticket_of contents) value
@@ -202,7 +200,7 @@ module _ {K V P W A T X : Type 0} (ticket_of : P → ℕ) (contents : Contents K
 
   -- so much for the ghost
   over_ghost-enters : IsSound ticket_of equal rules.hash contents
-      → item ≡ new_item rules key value Hot 0
+      → item ≡ new_item rules key value Queue.Hot 0
       → Entered ticket_of contents equal rules key value new
   over_ghost-enters sound is = record {
     absent = (HasNoKey-state ticket_of (equal key) (rules.hash key) contents under none).items;
@@ -220,7 +218,7 @@ module _ {K V P W A T X : Type 0} (ticket_of : P → ℕ) (contents : Contents K
     (rules : Rules K V) (key : K) (value : V) (token : ℕ)
     (found : FindsLoading (equal key) (rules.hash key) contents.lists token)
     (item : Item K V) (was : Entry K V P T) (new : Lists K V P)
-    (replaces : Replaces contents.lists token false (item_variant item) was new) where
+    (replaces : Replaces contents.lists token false (Entry.Item item) was new) where
   waits : IsLoadingAt (equal key) (state_of ticket_of contents)
       (loading_entries ticket_of found.stands.before) (loading_entry ticket_of found.waiting)
       (loading_entries ticket_of found.stands.after)
@@ -351,7 +349,7 @@ pub EntersAt-enters : {K V P W A T X : Type 0} (ticket_of : P → ℕ) (contents
     → AreUnder (equal key) (rules.hash key) contents.lists
     → EntersAt (equal key) (rules.hash key) contents.lists token queue mark
     → (item : Item K V) (was : Entry K V P T) (new : Lists K V P)
-    → Replaces contents.lists (non_zero_u32_get token) false (item_variant item) was new
+    → Replaces contents.lists (non_zero_u32_get token) false (Entry.Item item) was new
     → IsSound ticket_of equal rules.hash contents → item ≡ new_item rules key value queue mark
     → Entered ticket_of contents equal rules key value new
 EntersAt-enters ticket_of contents apart equal laws rules key value token queue mark under

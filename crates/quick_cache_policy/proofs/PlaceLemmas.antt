@@ -6,7 +6,6 @@ use Rattle.std.proofs.lemmas.List.{map-append}
 use Rattle.std.proofs.lemmas.List.Elements.{Contains-append_left, Contains-append_right, Contains-append_cases}
 use Rattle.std.proofs.lemmas.List.Sorted.{Contains-permutation, IsPermutation-sym, IsPermutation-map}
 use Rattle.quick_cache_model.specs.declared.queue.Queue.{Queue}
-use Rattle.quick_cache_model.specs.declared.queue.Queue.TheVariants.{Hot, Cold}
 use Rattle.quick_cache_model.specs.CacheState.{Item, ring_place}
 use Rattle.quick_cache_store.specs.Lists.{HeldItem, Lists, SameButOrder, items_at, with_items, entered, turned, changed_held, with_change}
 use Rattle.quick_cache_policy.specs.Places.{place_at, places_in, places_of, LosesOnly}
@@ -106,13 +105,13 @@ module _ {K V P : Type 0} where
       → items_at (ring_place queue) lists ≡ held ∷ rest
       → new ≡ record (with_items (ring_place queue) rest lists) { next = next; room = room }
       → LosesOnly (places_of lists) (places_of new)
-  LosesOnly-gone Hot held rest lists new next room split is =
+  LosesOnly-gone Queue.Hot held rest lists new next room split is =
       subst (λ (l : Lists K V P). LosesOnly (places_of lists) (places_of l)) (sym is)
       (LosesOnly-lists lists (record lists { hot = rest; next = next; room = room })
       (λ place there. LosesOnly-same _ _ (sym (ap (λ (l : List (HeldItem K V)). places_in l) split))
       place (LosesOnly-rest (held.token, held.item.key) (places_in rest) place there))
       (λ place there. there) (λ place there. there))
-  LosesOnly-gone Cold held rest lists new next room split is =
+  LosesOnly-gone Queue.Cold held rest lists new next room split is =
       subst (λ (l : Lists K V P). LosesOnly (places_of lists) (places_of l)) (sym is)
       (LosesOnly-lists lists (record lists { cold = rest; next = next; room = room })
       (λ place there. there)
@@ -129,11 +128,13 @@ module _ {K V P : Type 0} where
         item = record held.item { value = left; weight = 0 };
       }) (with_items (ring_place queue) rest lists)) { next = next; room = room }) new
       → LosesOnly (places_of lists) (places_of new)
-  LosesOnly-stays Hot held rest lists new next room token hash left split named order place there =
+  LosesOnly-stays Queue.Hot held rest lists new next room token hash left split named order place
+      there =
       elim (Contains-append_cases (places_in new.hot ++ places_in new.cold) (places_in new.still)
       place there) [
         | inl of_rings ↦
-            LosesOnly-gone Hot held rest lists (record lists { hot = rest }) lists.next lists.room
+            LosesOnly-gone Queue.Hot held rest lists (record lists { hot = rest }) lists.next
+            lists.room
             split refl place
             (Contains-append_left (places_in rest ++ places_in lists.cold) (places_in lists.still)
             place (subst (λ (l : Lists K V P). Contains (places_in l.hot ++ places_in l.cold) place)
@@ -153,11 +154,13 @@ module _ {K V P : Type 0} where
                   (subst (λ (t : ℕ). Contains ((t, held.item.key) ∷ []) place) named made))))
             ]
       ]
-  LosesOnly-stays Cold held rest lists new next room token hash left split named order place there =
+  LosesOnly-stays Queue.Cold held rest lists new next room token hash left split named order place
+      there =
       elim (Contains-append_cases (places_in new.hot ++ places_in new.cold) (places_in new.still)
       place there) [
         | inl of_rings ↦
-            LosesOnly-gone Cold held rest lists (record lists { cold = rest }) lists.next lists.room
+            LosesOnly-gone Queue.Cold held rest lists (record lists { cold = rest }) lists.next
+            lists.room
             split refl place
             (Contains-append_left (places_in lists.hot ++ places_in rest) (places_in lists.still)
             place (subst (λ (l : Lists K V P). Contains (places_in l.hot ++ places_in l.cold) place)

@@ -1,12 +1,13 @@
 -- Values that are written where they stand, and items that are weighed anew.
-use Rattle.std.proofs.Common.{◌≡◌, ℕ, ◌<◌, ◌≤◌, Bool, true, false, cond, Option, Some, None, MatchOption, List, [], ◌∷◌, ◌++◌, map, refl, sym, ap, subst, ◌∙◌, arith}
+use Rattle.std.proofs.Common.{◌≡◌, ℕ, ◌<◌, ◌≤◌, Bool, true, false, cond, Option, Some, None, MatchOption, List, [], ◌∷◌, ◌++◌, map, refl}
+use Rattle.std.proofs.Common.{sym, ap, subst, ◌∙◌, arith}
 use Rattle.std.specs.Prelude.{IfNone, IfSome, IsSome}
 use Rattle.std.specs.Cmp.{IsEquivalence}
 use Rattle.std.specs.List.{AllByRecursion, count_by}
 use Rattle.std.proofs.lemmas.List.{map-append}
 use Rattle.std.proofs.lemmas.List.Sorted.{sum_by-IsPermutation}
-use Rattle.quick_cache_model.specs.CacheState.{CacheState, Item, LoadingEntry, Place, InHot, InCold, InStill, SameButOrder, IsValid, keys_by, rewritten}
-use Rattle.quick_cache_model.specs.CacheState.{items_at as model_items_at, with_items as model_with_items}
+use Rattle.quick_cache_model.specs.CacheState.{CacheState, Item, LoadingEntry, Place, InHot, InCold, InStill, SameButOrder, IsValid}
+use Rattle.quick_cache_model.specs.CacheState.{keys_by, rewritten, items_at as model_items_at, with_items as model_with_items}
 use Rattle.quick_cache_model.specs.Finding.{IsItemAt, HasNoItem}
 use Rattle.quick_cache_model.specs.Hooks.{Rules}
 use Rattle.quick_cache_model.proofs.KeyCounts.{one_if, one, keys, keys-split, keys-none, keys_by-fewer, none-from_keys}
@@ -14,7 +15,8 @@ use Rattle.quick_cache_model.proofs.OrderLaws.{SameButOrder-keys}
 use Rattle.quick_cache_model.proofs.Valid.Edits.{instead-valid}
 use Rattle.quick_cache_model.proofs.Valid.Places.{keys_by-rewritten, rewritten-same, IsInPlace-marked}
 use Rattle.quick_cache_model.proofs.Valid.States.{IsValid-in_place}
-use Rattle.quick_cache_store.specs.Lists.{HeldItem, Lists, AreApart, HasItem, FindsItem, IsItemOf, Rewrites, Reweighs, with_items, with_change, with_value, with_weight}
+use Rattle.quick_cache_store.specs.Lists.{HeldItem, Lists, AreApart, HasItem, FindsItem, IsItemOf, Rewrites, Reweighs, with_items}
+use Rattle.quick_cache_store.specs.Lists.{with_change, with_value, with_weight}
 use Rattle.quick_cache_store.specs.Views.{items_of}
 use Rattle.quick_cache_store.proofs.lists.StandingLemmas.{found-same}
 use Rattle.quick_cache_policy.specs.declared.contents.Contents.{Contents}

@@ -6,7 +6,8 @@ use Rattle.std.specs.declared.num.NonZeroU32.{NonZeroU32 as Token}
 use Rattle.std.proofs.lemmas.Bool.{cases_eq, cases_lt, eq-eqb, ne_eqb}
 use Rattle.quick_cache_model.specs.CacheState.{CacheState, Item, Place, InHot, InCold, InStill}
 use Rattle.quick_cache_model.specs.Removal.{Retains, retained}
-use Rattle.quick_cache_store.specs.Lists.{HeldItem, Lists, AreApart, StandsIn, HasItem, HasItemToken, IsItemOf, items_at, dropped, without_entry}
+use Rattle.quick_cache_store.specs.Lists.{HeldItem, Lists, AreApart, StandsIn, HasItem, HasItemToken, IsItemOf, items_at, dropped}
+use Rattle.quick_cache_store.specs.Lists.{without_entry}
 use Rattle.quick_cache_store.specs.Views.{items_of}
 use Rattle.quick_cache_store.proofs.lists.StandingLemmas.{found-same}
 use Rattle.quick_cache_policy.specs.Contents.{state_of}

@@ -1,6 +1,7 @@
 -- A pair over an item: it takes the item's place, and the lists are the state that the write leads
 -- to before room is made, but for the order of what has none, and stay sound.
-use Rattle.std.proofs.Common.{◌≡◌, ℕ, ◌+◌, ◌≤◌, ◌==◌, Bool, true, false, if◌then◌else◌, List, ◌∷◌, ◌++◌, length, length-append, None, refl, sym, ap, subst, ◌∙◌, arith}
+use Rattle.std.proofs.Common.{◌≡◌, ℕ, ◌+◌, ◌≤◌, ◌==◌, Bool, true, false, if◌then◌else◌, List, ◌∷◌, ◌++◌, length, length-append, None, refl}
+use Rattle.std.proofs.Common.{sym, ap, subst, ◌∙◌, arith}
 use Rattle.std.proofs.lemmas.Bool.{eqb-true}
 use Rattle.std.specs.Cmp.{IsEquivalence}
 use Rattle.quick_cache_model.specs.CacheState.{CacheState, Item, Place, InHot, InCold, InStill, SameButOrder, UpToOrder, rewritten}
@@ -17,7 +18,8 @@ use Rattle.quick_cache_model.proofs.Valid.States.{IsValid-in_place}
 use Rattle.quick_cache_model.specs.Removal.{pair_of}
 use Rattle.quick_cache_model.specs.Fates.{residents}
 use Rattle.quick_cache_model.specs.Leads.{Tells, TellsResidents, TellsBeside}
-use Rattle.quick_cache_store.specs.Lists.{HeldItem, Lists, AreApart, FindsItem, IsItemOf, Rewrites, items_at, with_items, entered, held_rewritten}
+use Rattle.quick_cache_store.specs.Lists.{HeldItem, Lists, AreApart, FindsItem, IsItemOf, Rewrites, items_at, with_items, entered}
+use Rattle.quick_cache_store.specs.Lists.{held_rewritten}
 use Rattle.quick_cache_store.specs.Views.{items_of}
 use Rattle.quick_cache_store.proofs.lists.StandingLemmas.{found-same}
 use Rattle.quick_cache_policy.specs.declared.contents.Contents.{Contents}

@@ -1,21 +1,18 @@
 -- One round of a hot advance: how it begins, passes by items and ends; and round after round.
-use Rattle.std.proofs.Common.{◌≡◌, ℕ, ◌+◌, ◌-◌, ◌*◌, ◌<◌, ◌≤◌, Bool, true, false, List, [], ◌∷◌, ◌++◌, length, map}
-use Rattle.std.proofs.Common.{refl, sym, ap, subst, ◌∙◌, arith, inl, inr, length-append, append_assoc, append-nil}
+use Rattle.std.proofs.Common.{◌≡◌, ℕ, ◌+◌, ◌-◌, ◌*◌, ◌<◌, ◌≤◌, Bool, true, false, List, [], ◌∷◌, ◌++◌, length, map, refl, sym, ap, subst}
+use Rattle.std.proofs.Common.{◌∙◌, arith, inl, inr, length-append, append_assoc, append-nil}
 use Rattle.std.proofs.lemmas.Bool.{cases_lt}
 use Rattle.std.proofs.lemmas.List.{length-map, map-append}
 use Rattle.std.proofs.Math.Nat.{mul-le-mul_left}
 use Rattle.quick_cache_model.specs.CacheState.{Item}
 use Rattle.quick_cache_model.specs.Eviction.{lowered}
-use Rattle.quick_cache_policy.specs.Rounds.{IsUnpinned, HaveMarks, AreAllPinned, AreUnmarked}
-use Rattle.quick_cache_policy.specs.Rounds.{HaveAtMost, MayTake, MayRaise, AfterTouches, Passed}
-use Rattle.quick_cache_policy.specs.Rounds.{Stopped, EndsAllPinned, EndsSomeUnpinned, EndsAtVictim}
-use Rattle.quick_cache_policy.specs.Rounds.{Seen, Going, Rounds, IsMet, NoneUnpinned}
-use Rattle.quick_cache_policy.specs.Rounds.{HasVictimFirst, IsLowered}
+use Rattle.quick_cache_policy.specs.Rounds.{IsUnpinned, HaveMarks, AreAllPinned, AreUnmarked, HaveAtMost, MayTake, MayRaise, AfterTouches}
+use Rattle.quick_cache_policy.specs.Rounds.{Passed, Stopped, EndsAllPinned, EndsSomeUnpinned, EndsAtVictim, Seen, Going, Rounds, IsMet}
+use Rattle.quick_cache_policy.specs.Rounds.{NoneUnpinned, HasVictimFirst, IsLowered}
 use Rattle.quick_cache_model.proofs.EachElement.{all-right, all-weaker}
 use Rattle.quick_cache_policy.proofs.MappedLemmas.{each-mapped, each-unmapped, map-split}
 use Rattle.quick_cache_policy.proofs.SeenLemmas.{seen-begins, seen-pinned, seen-marked}
-use Rattle.quick_cache_policy.proofs.MarkLemmas.{lowered-none, lowered-twice, lowered-all}
-use Rattle.quick_cache_policy.proofs.MarkLemmas.{MayRaise-append, MayRaise-length, MayRaise-same}
+use Rattle.quick_cache_policy.proofs.MarkLemmas.{lowered-none, lowered-twice, lowered-all, MayRaise-append, MayRaise-length, MayRaise-same}
 use Rattle.quick_cache_policy.proofs.MarkLemmas.{MayRaise-none, MayRaise-one}
 
 -- the first item of a list with something behind it

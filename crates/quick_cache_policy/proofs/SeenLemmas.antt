@@ -1,6 +1,5 @@
 -- What a round saw of the items that it passed.
-use Rattle.std.proofs.Common.{◌≡◌, ◌<◌, ◌≤◌, Bool, true, false, true≢false, List, [], ◌∷◌, ◌++◌}
-use Rattle.std.proofs.Common.{sym, ◌∙◌, arith}
+use Rattle.std.proofs.Common.{◌≡◌, ◌<◌, ◌≤◌, Bool, true, false, true≢false, List, [], ◌∷◌, ◌++◌, sym, ◌∙◌, arith}
 use Rattle.quick_cache_model.specs.CacheState.{Item}
 use Rattle.quick_cache_policy.specs.Rounds.{IsUnpinned, Seen}
 use Rattle.quick_cache_model.proofs.EachElement.{all-append, all-left, all-right}

@@ -1,14 +1,11 @@
 -- What the leaving of a victim makes of the state, and what keeps it sound.
-use Rattle.std.proofs.Common.{◌≡◌, ℕ, ◌+◌, ◌-◌, ◌<◌, ◌≤◌, Bool}
-use Rattle.std.proofs.Common.{List, [], ◌∷◌, ◌++◌, length}
-use Rattle.std.proofs.Common.{refl, sym, ap, subst, ◌∙◌, arith}
+use Rattle.std.proofs.Common.{◌≡◌, ℕ, ◌+◌, ◌-◌, ◌<◌, ◌≤◌, Bool, List, [], ◌∷◌, ◌++◌, length, refl, sym, ap, subst, ◌∙◌, arith}
 use Rattle.std.specs.List.{AllByRecursion}
 use Rattle.std.proofs.lemmas.List.{map-append, length-map}
 use Rattle.std.proofs.lemmas.List.Sorted.{IsPermutation-map}
 use Rattle.quick_cache_model.specs.declared.queue.Queue.{Queue}
-use Rattle.quick_cache_model.specs.declared.queue.Queue.TheVariants.{Hot, Cold}
-use Rattle.quick_cache_model.specs.CacheState.{CacheState, Item, IsValid, ring_place, with_items, items_at}
-use Rattle.quick_cache_model.specs.CacheState.{entered, SameButOrder, IsRingItem}
+use Rattle.quick_cache_model.specs.CacheState.{CacheState, Item, IsValid, ring_place, with_items, items_at, entered, SameButOrder}
+use Rattle.quick_cache_model.specs.CacheState.{IsRingItem}
 use Rattle.quick_cache_model.proofs.KeyCounts.{keys, keys-cons, keys-append}
 use Rattle.quick_cache_model.specs.Hooks.{Rules, HookCall, BeforeEvict, EvictHot, EvictCold}
 use Rattle.quick_cache_model.specs.Eviction.{EvictsVictim, newest}
@@ -18,8 +15,7 @@ use Rattle.quick_cache_model.proofs.Valid.Places.{keys_by-without, IsInPlace-mar
 use Rattle.quick_cache_model.proofs.Valid.States.{EvictsVictim-valid, IsValid-in_place, IsValid-items}
 use Rattle.quick_cache_model.proofs.Valid.Edits.{without-valid}
 use Rattle.quick_cache_model.proofs.Valid.Orders.{SameButOrder-valid}
-use Rattle.quick_cache_store.specs.Lists.{HeldItem, HeldLoading, HeldGhost, Lists}
-use Rattle.quick_cache_store.specs.Lists.{items_at as held_at, with_items as with_held}
+use Rattle.quick_cache_store.specs.Lists.{HeldItem, HeldLoading, HeldGhost, Lists, items_at as held_at, with_items as with_held}
 use Rattle.quick_cache_store.specs.Lists.{entered as held_entered, SameButOrder as HeldSame}
 use Rattle.quick_cache_store.specs.Views.{items_of, hashes_of, loading_entry}
 use Rattle.quick_cache_policy.specs.declared.contents.Contents.{Contents}
@@ -35,14 +31,14 @@ module _ {K V P : Type 0} (hash : K → ℕ) where
       → AreHashed hash lists
       → AreHashed hash (record (with_held (ring_place queue) rest lists)
       { next = next; room = room })
-  AreHashed-rest Hot held rest next room lists split hashed = record {
+  AreHashed-rest Queue.Hot held rest next room lists split hashed = record {
     hot = (subst (λ (l : List (HeldItem K V)). AllByRecursion (λ h. h.hash ≡ hash h.item.key) l)
         split hashed.hot).1;
     cold = hashed.cold;
     still = hashed.still;
     loading = hashed.loading;
   }
-  AreHashed-rest Cold held rest next room lists split hashed = record {
+  AreHashed-rest Queue.Cold held rest next room lists split hashed = record {
     hot = hashed.hot;
     cold = (subst (λ (l : List (HeldItem K V)). AllByRecursion (λ h. h.hash ≡ hash h.item.key) l)
         split hashed.cold).1;
@@ -64,10 +60,10 @@ module _ {K V P : Type 0} (hash : K → ℕ) where
   pub AreHashed-first : (queue : Queue) (held : HeldItem K V) (rest : List (HeldItem K V))
       (lists : Lists K V P) → held_at (ring_place queue) lists ≡ held ∷ rest
       → AreHashed hash lists → held.hash ≡ hash held.item.key
-  AreHashed-first Hot held rest lists split hashed =
+  AreHashed-first Queue.Hot held rest lists split hashed =
       (subst (λ (l : List (HeldItem K V)). AllByRecursion (λ h. h.hash ≡ hash h.item.key) l)
       split hashed.hot).0
-  AreHashed-first Cold held rest lists split hashed =
+  AreHashed-first Queue.Cold held rest lists split hashed =
       (subst (λ (l : List (HeldItem K V)). AllByRecursion (λ h. h.hash ≡ hash h.item.key) l)
       split hashed.cold).0
 
@@ -140,11 +136,11 @@ module _ {K V : Type 0} (rules : Rules K V) (equal : K → K → Bool) where
       cut : (queue : Queue) (rest : List (Item K V)) (item : Item K V)
           → items_at (ring_place queue) old ≡ item ∷ rest
           → item.mark ≤ (with_items (ring_place queue) rest old).mark_cut
-      cut Hot rest item stands =
-          IsInPlace-marked (ring_place Hot) [] item rest old stands
+      cut Queue.Hot rest item stands =
+          IsInPlace-marked (ring_place Queue.Hot) [] item rest old stands
           (IsValid-in_place equal old valid)
-      cut Cold rest item stands =
-          IsInPlace-marked (ring_place Cold) [] item rest old stands
+      cut Queue.Cold rest item stands =
+          IsInPlace-marked (ring_place Queue.Cold) [] item rest old stands
           (IsValid-in_place equal old valid)
 
 module _ {K V : Type 0} (rules : Rules K V) where
@@ -153,41 +149,41 @@ module _ {K V : Type 0} (rules : Rules K V) where
       (calls : List (HookCall K V)) → EvictsVictim rules queue old item calls new
       → (new.hot ≡ old.hot) × (new.cold ≡ old.cold)
   EvictsVictim-rings queue old _ item _ (EvictsVictim.stays left light) = (refl, refl)
-  EvictsVictim-rings Hot old _ item _ (EvictsVictim.leaves left heavy) = (refl, refl)
-  EvictsVictim-rings Cold old _ item _ (EvictsVictim.leaves left heavy) = (refl, refl)
+  EvictsVictim-rings Queue.Hot old _ item _ (EvictsVictim.leaves left heavy) = (refl, refl)
+  EvictsVictim-rings Queue.Cold old _ item _ (EvictsVictim.leaves left heavy) = (refl, refl)
 
   -- the ring that a victim leaves has one item fewer
   pub FirstIsEvicted-falls : (queue : Queue) (old new : CacheState K V)
       (calls : List (HookCall K V)) → FirstIsEvicted rules queue old calls new
       → length (items_at (ring_place queue) new) + 1 ≡ length (items_at (ring_place queue) old)
-  FirstIsEvicted-falls Hot old new calls first =
+  FirstIsEvicted-falls Queue.Hot old new calls first =
       omega (
         arith,
         ap (λ (s : CacheState K V). length s.hot) first.evicts.same.same,
-        ap length (EvictsVictim-rings Hot _ _ first.item calls first.evicts.holds).0,
+        ap length (EvictsVictim-rings Queue.Hot _ _ first.item calls first.evicts.holds).0,
         ap length first.stands,
       )
-  FirstIsEvicted-falls Cold old new calls first =
+  FirstIsEvicted-falls Queue.Cold old new calls first =
       omega (
         arith,
         ap (λ (s : CacheState K V). length s.cold) first.evicts.same.same,
-        ap length (EvictsVictim-rings Cold _ _ first.item calls first.evicts.holds).1,
+        ap length (EvictsVictim-rings Queue.Cold _ _ first.item calls first.evicts.holds).1,
         ap length first.stands,
       )
 
   -- and the other ring stays
   pub FirstIsEvicted-cold_stays : (old new : CacheState K V) (calls : List (HookCall K V))
-      → FirstIsEvicted rules Hot old calls new → new.cold ≡ old.cold
+      → FirstIsEvicted rules Queue.Hot old calls new → new.cold ≡ old.cold
   FirstIsEvicted-cold_stays old new calls first =
       ap (λ (s : CacheState K V). s.cold) first.evicts.same.same
-      ∙ (EvictsVictim-rings Hot _ _ first.item calls first.evicts.holds).1
+      ∙ (EvictsVictim-rings Queue.Hot _ _ first.item calls first.evicts.holds).1
 
   -- that of a cold victim is the hot one
   pub FirstIsEvicted-hot_stays : (old new : CacheState K V) (calls : List (HookCall K V))
-      → FirstIsEvicted rules Cold old calls new → new.hot ≡ old.hot
+      → FirstIsEvicted rules Queue.Cold old calls new → new.hot ≡ old.hot
   FirstIsEvicted-hot_stays old new calls first =
       ap (λ (s : CacheState K V). s.hot) first.evicts.same.same
-      ∙ (EvictsVictim-rings Cold _ _ first.item calls first.evicts.holds).0
+      ∙ (EvictsVictim-rings Queue.Cold _ _ first.item calls first.evicts.holds).0
 
 module _ {K V : Type 0} (equal : K → K → Bool) where
   -- from a valid state the promotion of the first cold item leads to a valid one
@@ -195,8 +191,9 @@ module _ {K V : Type 0} (equal : K → K → Bool) where
       → IsValid equal old → IsValid equal new
   FirstIsPromoted-valid old new first valid =
       let item = first.item in
-      let hot : Item K V = record item { mark = item.mark - 1; queue = Hot } in
-      let cold = subst (λ (l : List (Item K V)). AllByRecursion (IsRingItem old.mark_cut Cold) l)
+      let hot : Item K V = record item { mark = item.mark - 1; queue = Queue.Hot } in
+      let cold = subst (λ (l : List (Item K V)). AllByRecursion (IsRingItem old.mark_cut Queue.Cold)
+      l)
       first.stands valid.in_cold in
       subst (λ (s : CacheState K V). IsValid equal s) (sym first.promoted)
       (IsValid-items equal old (record old { cold = first.rest; hot = old.hot ++ hot ∷ [] }) refl
@@ -211,7 +208,7 @@ module _ {K V : Type 0} (equal : K → K → Bool) where
         keys-cons (equal k) hot [],
       ))
       (record {
-        in_hot = all-push (IsRingItem old.mark_cut Hot) old.hot hot valid.in_hot (record {
+        in_hot = all-push (IsRingItem old.mark_cut Queue.Hot) old.hot hot valid.in_hot (record {
           weighs = cold.0.weighs;
           of_queue = refl;
           marked = omega (arith, cold.0.marked);
@@ -246,31 +243,33 @@ module _ {K V P W A T : Type 0} (ticket_of : P → ℕ) (contents : Contents K V
         → FirstIsEvicted rules queue (state_of ticket_of contents)
         (BeforeEvict held.item.key held.item.value left ∷ [])
         (state_of ticket_of (record contents { lists = new }))
-    FirstIsEvicted-stays Hot t hash next room left new split light order = record {
+    FirstIsEvicted-stays Queue.Hot t hash next room left new split light order = record {
       item = held.item;
       rest = items_of rest;
       stands = ap items_of split;
       evicts = record {
         ordered = entered (record held.item { value = left; weight = 0 })
-            (with_items (ring_place Hot) (items_of rest) (state_of ticket_of contents));
+            (with_items (ring_place Queue.Hot) (items_of rest) (state_of ticket_of contents));
         holds = EvictsVictim.stays left light;
         same = subst (λ (l : List (Item K V)). SameButOrder
-            (record (with_items (ring_place Hot) (items_of rest) (state_of ticket_of contents))
+            (record (with_items (ring_place Queue.Hot) (items_of rest)
+            (state_of ticket_of contents))
             { still = l }) (state_of ticket_of (record contents { lists = new })))
             (map-append (λ (h : HeldItem K V). h.item) contents.lists.still _)
             (state_of-reordered _ new order);
       };
     }
-    FirstIsEvicted-stays Cold t hash next room left new split light order = record {
+    FirstIsEvicted-stays Queue.Cold t hash next room left new split light order = record {
       item = held.item;
       rest = items_of rest;
       stands = ap items_of split;
       evicts = record {
         ordered = entered (record held.item { value = left; weight = 0 })
-            (with_items (ring_place Cold) (items_of rest) (state_of ticket_of contents));
+            (with_items (ring_place Queue.Cold) (items_of rest) (state_of ticket_of contents));
         holds = EvictsVictim.stays left light;
         same = subst (λ (l : List (Item K V)). SameButOrder
-            (record (with_items (ring_place Cold) (items_of rest) (state_of ticket_of contents))
+            (record (with_items (ring_place Queue.Cold) (items_of rest)
+            (state_of ticket_of contents))
             { still = l }) (state_of ticket_of (record contents { lists = new })))
             (map-append (λ (h : HeldItem K V). h.item) contents.lists.still _)
             (state_of-reordered _ new order);
@@ -281,7 +280,7 @@ module _ {K V P W A T : Type 0} (ticket_of : P → ℕ) (contents : Contents K V
     pub FirstIsEvicted-hot : (next room : ℕ) (left : V) (new : Lists K V P)
         → contents.lists.hot ≡ held ∷ rest → 0 < rules.weight held.item.key left
         → new ≡ record contents.lists { hot = rest; next = next; room = room }
-        → FirstIsEvicted rules Hot (state_of ticket_of contents)
+        → FirstIsEvicted rules Queue.Hot (state_of ticket_of contents)
         (BeforeEvict held.item.key held.item.value left ∷ EvictHot held.item.key left ∷ [])
         (state_of ticket_of (record contents { lists = new }))
     FirstIsEvicted-hot next room left new split heavy is = record {
@@ -289,8 +288,9 @@ module _ {K V P W A T : Type 0} (ticket_of : P → ℕ) (contents : Contents K V
       rest = items_of rest;
       stands = ap items_of split;
       evicts = UpToOrder-exact _ _
-          (subst (λ (l : Lists K V P). EvictsVictim rules Hot
-          (with_items (ring_place Hot) (items_of rest) (state_of ticket_of contents)) held.item
+          (subst (λ (l : Lists K V P). EvictsVictim rules Queue.Hot
+          (with_items (ring_place Queue.Hot) (items_of rest) (state_of ticket_of contents))
+          held.item
           (BeforeEvict held.item.key held.item.value left ∷ EvictHot held.item.key left ∷ [])
           (state_of ticket_of (record contents { lists = l }))) (sym is)
           (EvictsVictim.leaves left heavy));
@@ -308,7 +308,7 @@ module _ {K V P W A T : Type 0} (ticket_of : P → ℕ) (contents : Contents K V
         }
         → hashes_of ghosts ≡ newest contents.ghost_limit
         (hashes_of contents.lists.ghosts ++ rules.hash held.item.key ∷ [])
-        → FirstIsEvicted rules Cold (state_of ticket_of contents)
+        → FirstIsEvicted rules Queue.Cold (state_of ticket_of contents)
         (BeforeEvict held.item.key held.item.value left ∷ EvictCold held.item.key left ∷ [])
         (state_of ticket_of (record contents { lists = new }))
     FirstIsEvicted-cold ghosts next room left new split heavy is newer = record {
@@ -316,12 +316,13 @@ module _ {K V P W A T : Type 0} (ticket_of : P → ℕ) (contents : Contents K V
       rest = items_of rest;
       stands = ap items_of split;
       evicts = UpToOrder-exact _ _
-          (subst (λ (s : CacheState K V). EvictsVictim rules Cold
-          (with_items (ring_place Cold) (items_of rest) (state_of ticket_of contents)) held.item
+          (subst (λ (s : CacheState K V). EvictsVictim rules Queue.Cold
+          (with_items (ring_place Queue.Cold) (items_of rest) (state_of ticket_of contents))
+          held.item
           (BeforeEvict held.item.key held.item.value left ∷ EvictCold held.item.key left ∷ []) s)
           (sym (ap (λ (l : Lists K V P). state_of ticket_of (record contents { lists = l })) is
           ∙ ap (λ (g : List ℕ). record
-          (with_items (ring_place Cold) (items_of rest) (state_of ticket_of contents))
+          (with_items (ring_place Queue.Cold) (items_of rest) (state_of ticket_of contents))
           { ghosts = g }) newer))
           (EvictsVictim.leaves left heavy));
     }
@@ -371,24 +372,24 @@ module _ {K V P W A T : Type 0} (ticket_of : P → ℕ) (contents : Contents K V
         → FirstIsEvicted rules queue (state_of ticket_of contents) calls
         (state_of ticket_of (record contents { lists = new }))
         → ring_count queue (record contents { lists = new }) + 1 ≡ ring_count queue contents
-    ring_count-falls Hot calls new first =
+    ring_count-falls Queue.Hot calls new first =
         omega (
           arith,
-          FirstIsEvicted-falls rules Hot _ _ calls first,
+          FirstIsEvicted-falls rules Queue.Hot _ _ calls first,
           length-map new.hot (λ (h : HeldItem K V). h.item),
           length-map contents.lists.hot (λ (h : HeldItem K V). h.item),
         )
-    ring_count-falls Cold calls new first =
+    ring_count-falls Queue.Cold calls new first =
         omega (
           arith,
-          FirstIsEvicted-falls rules Cold _ _ calls first,
+          FirstIsEvicted-falls rules Queue.Cold _ _ calls first,
           length-map new.cold (λ (h : HeldItem K V). h.item),
           length-map contents.lists.cold (λ (h : HeldItem K V). h.item),
         )
 
     -- and the other ring has as many
     pub cold_count-stays : (calls : List (HookCall K V)) (new : Lists K V P)
-        → FirstIsEvicted rules Hot (state_of ticket_of contents) calls
+        → FirstIsEvicted rules Queue.Hot (state_of ticket_of contents) calls
         (state_of ticket_of (record contents { lists = new }))
         → length new.cold ≡ length contents.lists.cold
     cold_count-stays calls new first =
@@ -401,7 +402,7 @@ module _ {K V P W A T : Type 0} (ticket_of : P → ℕ) (contents : Contents K V
 
     -- that of a cold victim is the hot one
     pub hot_count-stays : (calls : List (HookCall K V)) (new : Lists K V P)
-        → FirstIsEvicted rules Cold (state_of ticket_of contents) calls
+        → FirstIsEvicted rules Queue.Cold (state_of ticket_of contents) calls
         (state_of ticket_of (record contents { lists = new }))
         → length new.hot ≡ length contents.lists.hot
     hot_count-stays calls new first =
@@ -418,7 +419,7 @@ module _ {K V P W A T : Type 0} (ticket_of : P → ℕ) (contents : Contents K V
         → new ≡ record contents.lists {
           cold = rest;
           hot = contents.lists.hot ++ record held {
-            item = record held.item { mark = held.item.mark - 1; queue = Hot };
+            item = record held.item { mark = held.item.mark - 1; queue = Queue.Hot };
           } ∷ [];
         }
         → FirstIsPromoted (state_of ticket_of contents)
@@ -440,7 +441,7 @@ module _ {K V P W A T : Type 0} (ticket_of : P → ℕ) (contents : Contents K V
         → new ≡ record contents.lists {
           cold = rest;
           hot = contents.lists.hot ++ record held {
-            item = record held.item { mark = held.item.mark - 1; queue = Hot };
+            item = record held.item { mark = held.item.mark - 1; queue = Queue.Hot };
           } ∷ [];
         }
         → IsSound ticket_of equal hash contents
@@ -466,5 +467,5 @@ module _ {K V P W A T : Type 0} (ticket_of : P → ℕ) (contents : Contents K V
         → contents.lists.cold ≡ held ∷ rest → IsSound ticket_of equal hash contents
         → 0 < held.item.weight
     first_cold-weighs equal hash split sound =
-        (subst (λ (l : List (Item K V)). AllByRecursion (IsRingItem contents.mark_cut Cold) l)
+        (subst (λ (l : List (Item K V)). AllByRecursion (IsRingItem contents.mark_cut Queue.Cold) l)
         (ap items_of split) sound.valid.in_cold).0.weighs

@@ -1,6 +1,6 @@
 -- What calls leave, one after another.
 use Rattle.std.proofs.Common.{◌≡◌, ℕ, ◌+◌, ◌^◌, ◌<◌, Bool, refl, sym, ap, ◌∙◌, arith}
-use Rattle.quick_cache_model.specs.declared.queue.Queue.TheVariants.{Hot, Cold}
+use Rattle.quick_cache_model.specs.declared.queue.Queue.{Queue}
 use Rattle.quick_cache_store.specs.Lists.{Lists}
 use Rattle.quick_cache_policy.specs.declared.contents.Contents.{Contents}
 use Rattle.quick_cache_policy.specs.Contents.{IsSound, KeepsNumbers, ring_count, work_of}
@@ -28,7 +28,8 @@ module _ {K V P W A T : Type 0} (ticket_of : P → ℕ) (equal : K → K → Boo
     keys = λ test. omega arith;
     places = λ place there. there;
     room = omega arith;
-    work = PaysFor-none old.mark_cut (ring_count Hot old) (ring_count Cold old) (work_of old) few
+    work = PaysFor-none old.mark_cut (ring_count Queue.Hot old) (ring_count Queue.Cold old)
+        (work_of old) few
         less;
     same = refl;
   }
@@ -42,9 +43,10 @@ module _ {K V P W A T : Type 0} (ticket_of : P → ℕ) (equal : K → K → Boo
     keys = λ test. omega (arith, first.keys test, then.keys test);
     places = λ place there. first.places place (then.places place there);
     room = omega (arith, first.room, then.room);
-    work = PaysFor-then old.mark_cut mid.mark_cut 0 unpaid (ring_count Hot old)
-        (ring_count Cold old) (ring_count Hot mid) (ring_count Cold mid) (ring_count Hot new)
-        (ring_count Cold new) (work_of old) (work_of mid) (work_of new)
+    work = PaysFor-then old.mark_cut mid.mark_cut 0 unpaid (ring_count Queue.Hot old)
+        (ring_count Queue.Cold old) (ring_count Queue.Hot mid) (ring_count Queue.Cold mid)
+        (ring_count Queue.Hot new)
+        (ring_count Queue.Cold new) (work_of old) (work_of mid) (work_of new)
         (ap (λ (r : Contents K V W A T P). r.mark_cut) first.same) first.work then.work;
     same = then.same ∙ ap (λ (r : Contents K V W A T P). record r {
       lists = new.lists;

@@ -2,21 +2,22 @@
 -- this.
 use Rattle.std.proofs.Common.{◌≡◌, ℕ, ◌-◌, Bool, true, false, List, [], ◌∷◌, ◌++◌, map, IsPermutation, sym, subst, inl, inr}
 use Rattle.std.proofs.lemmas.List.{map-append}
-use Rattle.std.proofs.lemmas.List.Sorted.{IsPermutation-refl, IsPermutation-sym, IsPermutation-trans, IsPermutation-append_comm, IsPermutation-cons}
+use Rattle.std.proofs.lemmas.List.Sorted.{IsPermutation-refl, IsPermutation-sym, IsPermutation-trans, IsPermutation-append_comm}
+use Rattle.std.proofs.lemmas.List.Sorted.{IsPermutation-cons}
 use Rattle.quick_cache_model.specs.declared.queue.Queue.{Queue}
-use Rattle.quick_cache_model.specs.declared.queue.Queue.TheVariants.{Hot}
-use Rattle.quick_cache_model.specs.CacheState.{CacheState, Item, Place, InHot, InCold, SameButOrder, ring_place, items_at, with_items, entered, rewritten}
+use Rattle.quick_cache_model.specs.CacheState.{CacheState, Item, Place, InHot, InCold, SameButOrder, ring_place, items_at, with_items}
+use Rattle.quick_cache_model.specs.CacheState.{entered, rewritten}
 use Rattle.quick_cache_model.specs.Hooks.{Rules, HookCall, evicted}
 use Rattle.quick_cache_model.specs.Removal.{pair_of}
 use Rattle.quick_cache_model.specs.Writes.{TakesOutItem}
 use Rattle.quick_cache_model.specs.Fates.{residents}
 use Rattle.quick_cache_model.specs.Leads.{Tells, TellsResidents}
 use Rattle.quick_cache_model.proofs.Leads.{Leads-same, Leads-from, Leads-to, Leads-changes, Tells-append, swapped}
-use Rattle.quick_cache_model.proofs.Residents.{residents-split, residents-put, residents-entered, residents-rewritten, residents-ordered, pairs-raised}
+use Rattle.quick_cache_model.proofs.Residents.{residents-split, residents-put, residents-entered, residents-rewritten, residents-ordered}
+use Rattle.quick_cache_model.proofs.Residents.{pairs-raised}
 use Rattle.quick_cache_model.proofs.Victims.{evicted-tells, EvictsVictim-tells}
-use Rattle.quick_cache_policy.specs.declared.writing.admission.Admission.TheVariants.{Admitted as code_admitted}
+use Rattle.quick_cache_policy.specs.declared.writing.admission.Admission.{Admission}
 use Rattle.quick_cache_policy.specs.declared.evicting.cold.Search.{Search}
-use Rattle.quick_cache_policy.specs.declared.evicting.cold.Search.TheVariants.{Marked as found_marked, Victim as found_victim, AllPassed as found_none}
 use Rattle.quick_cache_policy.specs.Advances.{FirstIsEvicted, FirstIsPromoted, StopsAt, SearchEnds, Searches}
 use Rattle.quick_cache_policy.specs.HotRounds.{SeekEnds}
 use Rattle.quick_cache_policy.specs.Writing.{Checks}
@@ -41,7 +42,7 @@ module _ {K V : Type 0} where
       → IsPermutation (residents old) (residents new)
   FirstIsPromoted-order old new first =
       let taken = with_items InCold first.rest old in
-      let moved : Item K V = record first.item { mark = first.item.mark - 1; queue = Hot } in
+      let moved : Item K V = record first.item { mark = first.item.mark - 1; queue = Queue.Hot } in
       subst (λ (s : CacheState K V). IsPermutation (residents old) (residents s))
       (sym first.promoted)
       (IsPermutation-trans (residents old) (pair_of first.item ∷ residents taken) _
@@ -75,9 +76,9 @@ module _ {K V : Type 0} where
       where
         ends : (b : Search) → SearchEnds steady pinned searches.cold b new
             → IsPermutation (map pair_of searches.cold) (map pair_of new)
-        ends found_marked stops = StopsAt-order _ searches.cold new stops
-        ends found_victim stops = StopsAt-order _ searches.cold new stops
-        ends found_none passed =
+        ends Search.Marked stops = StopsAt-order _ searches.cold new stops
+        ends Search.Victim stops = StopsAt-order _ searches.cold new stops
+        ends Search.AllPassed passed =
             subst (λ xs. IsPermutation (map pair_of searches.cold) (map pair_of xs))
             (sym passed.1) (IsPermutation-refl (map pair_of searches.cold))
 
@@ -99,7 +100,7 @@ module _ {K V : Type 0} where
   -- a check of a pair tells of its value, where it changes
   pub Checks-tells : (steady : Type 0) (rules : Rules K V) (hot_target : ℕ) (key : K) (value : V)
       (admitted : _) (calls : List (HookCall K V)) (pairs : List (K × V))
-      → Checks steady rules hot_target key value (code_admitted admitted) calls
+      → Checks steady rules hot_target key value (Admission.Admitted admitted) calls
       → Tells ((key, value) ∷ pairs) calls ((key, admitted.value) ∷ pairs)
   Checks-tells steady rules hot_target key value admitted calls pairs checks =
       elim checks.2 [

@@ -1,11 +1,13 @@
 -- What an item that is taken out by its token leaves.
-use Rattle.std.proofs.Common.{◌≡◌, ℕ, ◌<◌, length, inl, inr, arith, [], Bool, true, false, true≢false, List, ◌∷◌, ◌++◌, Option, Some, None, MatchOption, refl, sym, ap, subst, ◌∙◌}
+use Rattle.std.proofs.Common.{◌≡◌, ℕ, ◌<◌, length, inl, inr, arith, [], Bool, true, false, true≢false, List, ◌∷◌, ◌++◌, Option, Some, None}
+use Rattle.std.proofs.Common.{MatchOption, refl, sym, ap, subst, ◌∙◌}
 use Rattle.std.specs.Option.{is_some}
 use Rattle.std.specs.Int.NonZero.{non_zero_u32_get as number}
 use Rattle.std.specs.declared.num.NonZeroU32.{NonZeroU32 as Token}
 use Rattle.std.proofs.lemmas.Bool.{cases_eq}
 use Rattle.quick_cache_model.specs.CacheState.{CacheState, Item, Place, InHot, InCold, InStill, item_count}
-use Rattle.quick_cache_store.specs.Lists.{HeldItem, Lists, AreApart, StandsIn, HasItem, HasItemToken, IsItemOf, IsFirstAbove, items_at, without_entry}
+use Rattle.quick_cache_store.specs.Lists.{HeldItem, Lists, AreApart, StandsIn, HasItem, HasItemToken, IsItemOf, IsFirstAbove, items_at}
+use Rattle.quick_cache_store.specs.Lists.{without_entry}
 use Rattle.quick_cache_store.specs.Views.{items_of}
 use Rattle.quick_cache_model.specs.Removal.{RemovesIf, pair_of}
 use Rattle.quick_cache_policy.specs.Contents.{state_of}

@@ -1,20 +1,17 @@
 -- What the lists are once the first item of a ring left it: it stays without weight, or a ghost
 -- stands for it, or it is put among the hot ones.
-use Rattle.std.proofs.Common.{◌≡◌, ℕ, ◌+◌, ◌-◌, ◌<◌, ◌≤◌, Bool, false, if◌then◌else◌, List, [], ◌∷◌, ◌++◌, length, drop, refl, sym, ap, subst, ◌∙◌, arith}
+use Rattle.std.proofs.Common.{◌≡◌, ℕ, ◌+◌, ◌-◌, ◌<◌, ◌≤◌, Bool, false, if◌then◌else◌, List, [], ◌∷◌, ◌++◌, length, drop, refl, sym, ap}
+use Rattle.std.proofs.Common.{subst, ◌∙◌, arith}
 use Rattle.std.proofs.lemmas.Bool.{ne_eqb}
 use Rattle.std.proofs.lemmas.List.{map-append, length-map, length-append}
 use Rattle.quick_cache_model.specs.declared.queue.Queue.{Queue}
-use Rattle.quick_cache_model.specs.declared.queue.Queue.TheVariants.{Hot, Cold}
 use Rattle.quick_cache_model.specs.CacheState.{Item, Place, InStill, ring_place}
 use Rattle.quick_cache_model.specs.Eviction.{newest}
 use Rattle.quick_cache_store.specs.declared.slots.entry.Entry.{Entry}
-use Rattle.quick_cache_store.specs.declared.slots.entry.Entry.TheVariants.{Item as item_variant, Ghost as ghost_variant}
-use Rattle.quick_cache_store.specs.Lists.{HeldItem, HeldGhost, Lists, HasItem, AreApart, Replaces}
-use Rattle.quick_cache_store.specs.Lists.{PutsLast, SameButOrder, items_at, with_items, entered}
-use Rattle.quick_cache_store.specs.Lists.{without_entry, Requeues, requeued}
+use Rattle.quick_cache_store.specs.Lists.{HeldItem, HeldGhost, Lists, HasItem, AreApart, Replaces, PutsLast, SameButOrder, items_at}
+use Rattle.quick_cache_store.specs.Lists.{with_items, entered, without_entry, Requeues, requeued}
 use Rattle.quick_cache_store.specs.Views.{hashes_of}
-use Rattle.quick_cache_store.proofs.lists.OneEntryLemmas.{first-item, without-first, last_ghost-hash}
-use Rattle.quick_cache_store.proofs.lists.OneEntryLemmas.{without-last_ghost}
+use Rattle.quick_cache_store.proofs.lists.OneEntryLemmas.{first-item, without-first, last_ghost-hash, without-last_ghost}
 
 -- the hashes of all but the oldest ghost
 pub hashes_of-drop : (n : ℕ) (ghosts rest : List HeldGhost) (shade : HeldGhost)
@@ -41,7 +38,7 @@ module _ {K V P T : Type 0} where
   pub PutsLast-stays : (mid ring new : Lists K V P) (next room t hash : ℕ) (item kept : Item K V)
       (left : V) → mid ≡ record ring { next = next; room = room }
       → kept ≡ record item { value = left; weight = 0 }
-      → PutsLast {T = T} mid t hash (item_variant kept) new
+      → PutsLast {T = T} mid t hash (Entry.Item kept) new
       → SameButOrder (record (entered (record {
         token = t;
         hash = hash;
@@ -49,15 +46,15 @@ module _ {K V P T : Type 0} where
       }) ring) { next = new.next; room = new.room }) new
   PutsLast-stays mid ring new next room t hash item kept left left_ring is puts =
       (subst (λ (l : Lists K V P). PutsLast {T = T} l t hash
-      (item_variant (record item { value = left; weight = 0 })) new) left_ring
-      (subst (λ (i : Item K V). PutsLast {T = T} mid t hash (item_variant i) new) is puts)).put
+      (Entry.Item (record item { value = left; weight = 0 })) new) left_ring
+      (subst (λ (i : Item K V). PutsLast {T = T} mid t hash (Entry.Item i) new) is puts)).put
 
 -- ---- the first cold item, replaced by a ghost
 
 module _ {K V P T : Type 0} (lists : Lists K V P) (apart : AreApart lists) where
   -- the lists once it left a ghost
   pub Replaces-ghost : (held : HeldItem K V) (rest : List (HeldItem K V)) (t : ℕ)
-      (was : Entry K V P T) (new : Lists K V P) (replaced : Replaces lists t false ghost_variant was
+      (was : Entry K V P T) (new : Lists K V P) (replaced : Replaces lists t false Entry.Ghost was
       new) → lists.cold ≡ held ∷ rest → held.token ≡ t
       → new ≡ record lists {
         cold = rest;
@@ -69,7 +66,7 @@ module _ {K V P T : Type 0} (lists : Lists K V P) (apart : AreApart lists) where
         ghosts = l.ghosts ++ record { token = t; hash = replaced.hash } ∷ [];
         next = new.next;
         room = new.room;
-      }) (without-first lists apart held rest Cold t split is)
+      }) (without-first lists apart held rest Queue.Cold t split is)
       ∙ (λ i. record lists {
         cold = rest;
         ghosts = lists.ghosts ++ record { token = t; hash = replaced.hash } ∷ [];
@@ -86,7 +83,7 @@ module _ {K V P T : Type 0} (lists mid : Lists K V P) (apart : AreApart mid) whe
         ghosts = lists.ghosts ++ record { token = t; hash = hash } ∷ [];
       }
       → kept ≡ record item { value = left; weight = 0 }
-      → Replaces {T = T} mid t false (item_variant kept) was new
+      → Replaces {T = T} mid t false (Entry.Item kept) was new
       → SameButOrder (record (entered (record {
         token = t;
         hash = hash;
@@ -143,7 +140,7 @@ ghosts-one_more limit old new last split within =
 
 module _ {K V P : Type 0} where
   -- an item that weighs something and is hot enters the hot ring
-  pub entered-hot : (held : HeldItem K V) (lists : Lists K V P) → held.item.queue ≡ Hot
+  pub entered-hot : (held : HeldItem K V) (lists : Lists K V P) → held.item.queue ≡ Queue.Hot
       → 0 < held.item.weight → entered held lists ≡ record lists { hot = lists.hot ++ held ∷ [] }
   entered-hot held lists hot weighs =
       ap (λ (p : Place). with_items p (items_at p lists ++ held ∷ []) lists)
@@ -155,24 +152,24 @@ module _ {K V P : Type 0} where
   pub Requeues-promotes : (lists new : Lists K V P) (apart : AreApart lists) (held : HeldItem K V)
       (rest : List (HeldItem K V)) (t mark weight : ℕ) → lists.cold ≡ held ∷ rest → held.token ≡ t
       → 0 < held.item.weight → weight ≡ held.item.weight → mark ≡ held.item.mark - 1
-      → Requeues lists t false (requeued Hot mark weight) new
+      → Requeues lists t false (requeued Queue.Hot mark weight) new
       → new ≡ record lists {
         cold = rest;
         hot = lists.hot ++ record held {
-          item = record held.item { mark = held.item.mark - 1; queue = Hot };
+          item = record held.item { mark = held.item.mark - 1; queue = Queue.Hot };
         } ∷ [];
       }
   Requeues-promotes lists new apart held rest t mark weight split is weighs weight_is mark_is
       requeues =
-      let found = first-item lists apart held rest Cold
+      let found = first-item lists apart held rest Queue.Cold
       (record { token = t; hash = requeues.hash; item = requeues.item }) split requeues.taken
       (sym is)
       in
-      let item : requeued Hot mark weight requeues.item
-      ≡ record held.item { mark = held.item.mark - 1; queue = Hot } =
-      λ i. record (found i).item { queue = Hot; mark = mark_is i; weight = weight_is i } in
+      let item : requeued Queue.Hot mark weight requeues.item
+      ≡ record held.item { mark = held.item.mark - 1; queue = Queue.Hot } =
+      λ i. record (found i).item { queue = Queue.Hot; mark = mark_is i; weight = weight_is i } in
       let put : new ≡ record (entered (record held {
-        item = record held.item { mark = held.item.mark - 1; queue = Hot };
+        item = record held.item { mark = held.item.mark - 1; queue = Queue.Hot };
       }) (record lists { cold = rest; next = t; room = lists.room + 1 })) {
         next = new.next;
         room = new.room;
@@ -182,19 +179,19 @@ module _ {K V P : Type 0} where
         token = (found i).token;
         hash = (found i).hash;
         item = item i;
-      }) (without-first lists apart held rest Cold t split is i)) {
+      }) (without-first lists apart held rest Queue.Cold t split is i)) {
         next = new.next;
         room = new.room;
       }) in
       put
       ∙ ap (λ (l : Lists K V P). record l { next = new.next; room = new.room })
       (entered-hot (record held {
-        item = record held.item { mark = held.item.mark - 1; queue = Hot };
+        item = record held.item { mark = held.item.mark - 1; queue = Queue.Hot };
       }) (record lists { cold = rest; next = t; room = lists.room + 1 }) refl weighs)
       ∙ (λ i. record lists {
         cold = rest;
         hot = lists.hot ++ record held {
-          item = record held.item { mark = held.item.mark - 1; queue = Hot };
+          item = record held.item { mark = held.item.mark - 1; queue = Queue.Hot };
         } ∷ [];
         next = requeues.next i;
         room = requeues.room i;

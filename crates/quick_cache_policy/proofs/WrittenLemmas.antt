@@ -15,15 +15,17 @@ use Rattle.quick_cache_model.proofs.OrderLaws.{UpToOrder-exact}
 use Rattle.quick_cache_model.proofs.Valid.Lookups.{ActsOnEntry-valid}
 use Rattle.quick_cache_model.proofs.Valid.Orders.{SameButOrder-valid}
 use Rattle.quick_cache_store.specs.declared.slots.entry.Awaited.{Awaited}
-use Rattle.quick_cache_store.specs.declared.slots.entry.Entry.TheVariants.{Loading as loading_variant}
-use Rattle.quick_cache_store.specs.Lists.{HeldItem, HeldLoading, Lists, AreApart, FindsItem, HasItem, PutsLast, items_at, with_items, with_value, without_entry}
+use Rattle.quick_cache_store.specs.declared.slots.entry.Entry.{Entry}
+use Rattle.quick_cache_store.specs.Lists.{HeldItem, HeldLoading, Lists, AreApart, FindsItem, HasItem, PutsLast, items_at, with_items}
+use Rattle.quick_cache_store.specs.Lists.{with_value, without_entry}
 use Rattle.quick_cache_store.specs.Views.{items_of, joined_around, loading_entry, loading_entries}
 use Rattle.quick_cache_store.proofs.lists.CallerLemmas.{without-hot, without-cold, without-still, items_of-around}
 use Rattle.quick_cache_store.proofs.lists.StandingLemmas.{found-same}
 use Rattle.quick_cache_policy.specs.declared.contents.Contents.{Contents}
 use Rattle.quick_cache_policy.specs.Contents.{AreHashed, IsSound, state_of}
 use Rattle.quick_cache_policy.specs.Entering.{RemovesWritten, TakesWeighed}
-use Rattle.quick_cache_policy.proofs.EnterLemmas.{state_with, split-state, held-under, AreHashed-without, AreHashed-restarted, AreHashed-room}
+use Rattle.quick_cache_policy.proofs.EnterLemmas.{state_with, split-state, held-under, AreHashed-without, AreHashed-restarted}
+use Rattle.quick_cache_policy.proofs.EnterLemmas.{AreHashed-room}
 use Rattle.quick_cache_policy.proofs.EntryLemmas.{left_from, removed-acts, replaced-acts}
 use Rattle.quick_cache_policy.proofs.SoundLemmas.{state_of-reordered, AreHashed-reordered}
 
@@ -169,7 +171,7 @@ module _ {K V P W A T : Type 0} (ticket_of : P → ℕ) (old new : Contents K V 
   -- ---- a placeholder in its slot
 
   module _ {X : Type 0} (lists : Lists K V P) (at_token : ℕ) (awaited : Awaited K P)
-      (puts : PutsLast {T = X} new.lists at_token hash (loading_variant awaited) lists) (next : ℕ)
+      (puts : PutsLast {T = X} new.lists at_token hash (Entry.Loading awaited) lists) (next : ℕ)
       (next_is : next ≡ old.next_ticket + 1)
       (key_is : awaited.key ≡ takes.item.key) (queue_is : awaited.queue ≡ takes.item.queue)
       (ticket_is : ticket_of awaited.placeholder ≡ old.next_ticket) where

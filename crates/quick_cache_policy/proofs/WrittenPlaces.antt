@@ -1,16 +1,18 @@
 -- Where a pair stands that was written, and that nothing else moved.
-use Rattle.std.proofs.Common.{◌≡◌, ◌⊎◌, inl, inr, ℕ, ◌+◌, ◌<◌, ◌≤◌, ◌==◌, if◌then◌else◌, Bool, true, false, cond, eqb, List, [], ◌∷◌, ◌++◌, refl, sym, ap, subst, ◌∙◌, arith}
+use Rattle.std.proofs.Common.{◌≡◌, ◌⊎◌, inl, inr, ℕ, ◌+◌, ◌<◌, ◌≤◌, ◌==◌, if◌then◌else◌, Bool, true, false, cond, eqb, List, [], ◌∷◌, ◌++◌}
+use Rattle.std.proofs.Common.{refl, sym, ap, subst, ◌∙◌, arith}
 use Rattle.std.specs.Cmp.{IsEquivalence}
 use Rattle.std.specs.List.{Contains, AllByRecursion, count_by}
 use Rattle.std.proofs.lemmas.List.{map-append}
 use Rattle.std.proofs.lemmas.List.Sums.{sum_by-cons, sum_by-append}
-use Rattle.std.proofs.lemmas.List.Elements.{Contains-append_left, Contains-append_right, Contains-append_cases, Contains-push, Contains-push_cases}
+use Rattle.std.proofs.lemmas.List.Elements.{Contains-append_left, Contains-append_right, Contains-append_cases, Contains-push}
+use Rattle.std.proofs.lemmas.List.Elements.{Contains-push_cases}
 use Rattle.std.proofs.lemmas.List.Sorted.{Contains-permutation, IsPermutation-sym, IsPermutation-map}
 use Rattle.quick_cache_model.specs.CacheState.{Item, Place, InHot, InCold, InStill, IsValid, keys_by, place_of_item}
 use Rattle.quick_cache_model.specs.Finding.{HasNoItem}
 use Rattle.quick_cache_store.specs.declared.slots.entry.Entry.{Entry}
-use Rattle.quick_cache_store.specs.declared.slots.entry.Entry.TheVariants.{Item as item_variant}
-use Rattle.quick_cache_store.specs.Lists.{HeldItem, Lists, HasItem, SameButOrder, PutsLast, Replaces, Rewrites, items_at, with_items, entered, held_rewritten, dropped, without_entry}
+use Rattle.quick_cache_store.specs.Lists.{HeldItem, Lists, HasItem, SameButOrder, PutsLast, Replaces, Rewrites, items_at, with_items}
+use Rattle.quick_cache_store.specs.Lists.{entered, held_rewritten, dropped, without_entry}
 use Rattle.quick_cache_store.specs.Views.{items_of}
 use Rattle.quick_cache_policy.specs.declared.contents.Contents.{Contents}
 use Rattle.quick_cache_policy.specs.Contents.{state_of}
@@ -322,7 +324,7 @@ module _ {K V P : Type 0} where
   module _ {T : Type 0} where
     -- an item was put last
     pub put-places : (old new : Lists K V P) (token hash : ℕ) (item : Item K V)
-        → PutsLast {T = T} old token hash (item_variant item) new → (p : ℕ × K)
+        → PutsLast {T = T} old token hash (Entry.Item item) new → (p : ℕ × K)
         → Contains (places_of new) p → Contains (places_of old) p ⊎ (p ≡ (token, item.key))
     put-places old new token hash item puts p there =
         entered-places (record { token = token; hash = hash; item = item }) old p
@@ -330,7 +332,7 @@ module _ {K V P : Type 0} where
 
     -- in the place of another entry
     pub replaced-places : (old new : Lists K V P) (token : ℕ) (item : Item K V)
-        (was : Entry K V P T) → Replaces old token false (item_variant item) was new → (p : ℕ × K)
+        (was : Entry K V P T) → Replaces old token false (Entry.Item item) was new → (p : ℕ × K)
         → Contains (places_of new) p → Contains (places_of old) p ⊎ (p ≡ (token, item.key))
     replaced-places old new token item was replaces p there =
         elim (put-places (without_entry false token old) new token replaces.hash item replaces.last

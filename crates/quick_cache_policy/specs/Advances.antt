@@ -2,7 +2,6 @@
 use Rattle.std.specs.Prelude.{◌≡◌, ℕ, ◌-◌, ◌<◌, Bool, true, false, List, [], ◌∷◌, ◌++◌}
 use Rattle.std.specs.List.{AllByRecursion}
 use Rattle.quick_cache_model.specs.declared.queue.Queue.{Queue}
-use Rattle.quick_cache_model.specs.declared.queue.Queue.TheVariants.{Hot}
 use Rattle.quick_cache_model.specs.CacheState.{CacheState, Item, UpToOrder, ring_place, items_at, with_items}
 use Rattle.quick_cache_model.specs.Eviction.{EvictsVictim}
 use Rattle.quick_cache_model.specs.Hooks.{Rules, Hooks, HookCall, BeforeEvict, evicted}
@@ -11,11 +10,8 @@ use Rattle.quick_cache_model.specs.Leads.{TellsResidents}
 use Rattle.quick_cache_store.specs.Lists.{IsItemOf, with_change, with_counts, with_mark}
 use Rattle.quick_cache_policy.specs.declared.contents.Contents.{Contents}
 use Rattle.quick_cache_policy.specs.declared.evicting.hot.Visit.{Visit}
-use Rattle.quick_cache_policy.specs.declared.evicting.hot.Visit.TheVariants.{Pinned, Marked, Victim}
 use Rattle.quick_cache_policy.specs.declared.evicting.victim.Fate.{Fate}
-use Rattle.quick_cache_policy.specs.declared.evicting.victim.Fate.TheVariants.{Stays as fate_stays, Leaves as fate_leaves}
 use Rattle.quick_cache_policy.specs.declared.evicting.cold.Search.{Search}
-use Rattle.quick_cache_policy.specs.declared.evicting.cold.Search.TheVariants.{Marked as found_marked, Victim as found_victim, AllPassed as found_none}
 
 -- Each victim is told to `before_evict`, and then, unless it stays because it weighs nothing any
 -- more, to the hook of its queue.
@@ -53,16 +49,16 @@ module _ {K V : Type 0} where
     pub stands : old.cold ≡ item ∷ rest
     pub promoted : new ≡ record old {
       cold = rest;
-      hot = old.hot ++ record item { mark = item.mark - 1; queue = Hot } ∷ [];
+      hot = old.hot ++ record item { mark = item.mark - 1; queue = Queue.Hot } ∷ [];
     }
 
   -- what a visit to an item met: its mark is known, and where pinning is steady, whether it is
   -- pinned
   abbrev pub Meets : (steady : Type 0) → (pinned : K → V → Bool) → Item K V → Visit → Type 0
-  Meets steady pinned item Pinned = steady → pinned item.key item.value ≡ true
-  Meets steady pinned item Marked =
+  Meets steady pinned item Visit.Pinned = steady → pinned item.key item.value ≡ true
+  Meets steady pinned item Visit.Marked =
       (0 < item.mark) × (steady → pinned item.key item.value ≡ false)
-  Meets steady pinned item Victim =
+  Meets steady pinned item Visit.Victim =
       (item.mark ≡ 0) × (steady → pinned item.key item.value ≡ false)
 
   -- an item that a search of the cold ring passes by
@@ -72,10 +68,10 @@ module _ {K V : Type 0} where
 
   -- what is found at an item of the cold ring: its mark is looked at before its pin
   abbrev pub IsFound : (steady : Type 0) → (pinned : K → V → Bool) → Item K V → Search → Type 0
-  IsFound steady pinned item found_marked = 0 < item.mark
-  IsFound steady pinned item found_victim =
+  IsFound steady pinned item Search.Marked = 0 < item.mark
+  IsFound steady pinned item Search.Victim =
       (item.mark ≡ 0) × (steady → pinned item.key item.value ≡ false)
-  IsFound steady pinned item found_none = IsPassedBy steady pinned item
+  IsFound steady pinned item Search.AllPassed = IsPassedBy steady pinned item
 
   -- the first item took its touches, and then it was looked at
   pub record LooksAt (steady : Type 0) (pinned : K → V → Bool) (cut : ℕ) (may_count : ℕ → Type 0)
@@ -103,11 +99,11 @@ module _ {K V : Type 0} where
   -- nowhere, and then the ring is as it was
   abbrev pub SearchEnds : (steady : Type 0) → (pinned : K → V → Bool) → List (Item K V) → Search
       → List (Item K V) → Type 0
-  SearchEnds steady pinned old found_marked new =
-      StopsAt steady pinned (λ item. IsFound steady pinned item found_marked) old new
-  SearchEnds steady pinned old found_victim new =
-      StopsAt steady pinned (λ item. IsFound steady pinned item found_victim) old new
-  SearchEnds steady pinned old found_none new =
+  SearchEnds steady pinned old Search.Marked new =
+      StopsAt steady pinned (λ item. IsFound steady pinned item Search.Marked) old new
+  SearchEnds steady pinned old Search.Victim new =
+      StopsAt steady pinned (λ item. IsFound steady pinned item Search.Victim) old new
+  SearchEnds steady pinned old Search.AllPassed new =
       AllByRecursion (IsPassedBy steady pinned) old × (new ≡ old)
 
   -- a search of the cold ring, in which each item that was looked at took its touches first
@@ -122,10 +118,10 @@ module _ {K V T S : Type 0} (weight_of : K → V → ℕ) (hooks : Hooks K V S) 
   -- `before_evict` was told of the item and left a value, which was weighed: the item stays with
   -- it where it weighs nothing, and else the pair leaves
   abbrev pub Decides : Fate K V T → S → Type 0
-  Decides (fate_stays kept) last = hooks.before_evict first item.key item.value last kept.value
+  Decides (Fate.Stays kept) last = hooks.before_evict first item.key item.value last kept.value
       × (weight_of item.key kept.value ≡ 0)
       × (kept ≡ record item { value = kept.value; weight = 0 })
-  Decides (fate_leaves key left) last = hooks.before_evict first item.key item.value last left
+  Decides (Fate.Leaves key left) last = hooks.before_evict first item.key item.value last left
       × (0 < weight_of item.key left) × (key ≡ item.key)
 
 module _ {K V P W A T : Type 0} where

@@ -2,7 +2,6 @@
 use Rattle.std.specs.Prelude.{◌≡◌, ℕ, Bool, true, Option, Some, None, Result, Ok, Err}
 use Rattle.std.specs.List.{AllZip}
 use Rattle.quick_cache_model.specs.declared.refusal.Refusal.{Refusal}
-use Rattle.quick_cache_model.specs.declared.refusal.Refusal.TheVariants.{Memory}
 use Rattle.quick_cache_model.specs.CacheState.{CacheState, LoadingEntry, UpToOrder}
 use Rattle.quick_cache_model.specs.Finding.{HasNoItem}
 use Rattle.quick_cache_model.specs.Lookups.{LooksUp, Sees}
@@ -48,7 +47,7 @@ module _ {K V : Type 0} (stands_for : K → Bool) (is_clone : V → V → Type 0
   pub record IsNotCopied (refusal : Refusal) (new : CacheState K V) : Type 0 where
     pub value : V
     pub seen : Sees stands_for old (λ item. item.value) (Some value)
-    pub memory : refusal ≡ Memory
+    pub memory : refusal ≡ Refusal.Memory
     pub unchanged : new ≡ old
 
   -- A look-up that answers a clone. Where there is no item nothing is counted, and nothing changed;

@@ -6,7 +6,8 @@ use Rattle.quick_cache_model.specs.declared.queue.Queue.{Queue}
 use Rattle.quick_cache_model.specs.declared.refusal.Refusal.{Refusal}
 pub use Rattle.quick_cache_model.specs.Callbacks.{Leaves, choice_of, ActsAsChosen}
 use Rattle.quick_cache_model.specs.CacheState.{CacheState, Item, Place, UpToOrder, with_items}
-use Rattle.quick_cache_model.specs.Entries.{EntryChoice, Remove, ReplaceWithGuard, EntryOutcome, Kept, Removed, Replaced, Refused, ActsOnEntry}
+use Rattle.quick_cache_model.specs.Entries.{EntryChoice, Remove, ReplaceWithGuard, EntryOutcome, Kept, Removed, Replaced, Refused}
+use Rattle.quick_cache_model.specs.Entries.{ActsOnEntry}
 use Rattle.quick_cache_model.specs.Finding.{IsItemAt}
 use Rattle.quick_cache_model.specs.Hooks.{Rules}
 use Rattle.quick_cache_model.specs.Lookups.{looked_up, after_hit}
@@ -16,9 +17,7 @@ use Rattle.quick_cache_store.specs.Lists.{IsItemOf, with_value, without_entry}
 pub use Rattle.quick_cache_store.specs.Shown.{MayBeShown}
 use Rattle.quick_cache_policy.specs.declared.contents.Contents.{Contents}
 use Rattle.quick_cache_model.specs.declared.calls.entry.EntryAction.{EntryAction}
-use Rattle.quick_cache_model.specs.declared.calls.entry.EntryAction.TheVariants.{Retain as retain, Remove as remove, ReplaceWithGuard as replace}
 use Rattle.quick_cache_model.specs.declared.calls.entry.EntryOrPlaceholder.{EntryOrPlaceholder}
-use Rattle.quick_cache_model.specs.declared.calls.entry.EntryOrPlaceholder.TheVariants.{Kept as kept, Removed as removed, Replaced as replaced, ExistingPlaceholder as existing, NewPlaceholder as new_one}
 use Rattle.quick_cache_policy.specs.Loading.{IsMade, MakesNone}
 
 module _ {F K V R : Type 0}
@@ -84,11 +83,13 @@ pub record TakesWeighed {K V P W A T : Type 0} (weight_of : K → V → ℕ) (ol
 -- a placeholder that was made has this hash
 abbrev pub IsNewUnder : {K V W T : Type 0} (hash_of : W → ℕ) (hash : ℕ)
     → Result (EntryOrPlaceholder K V W T) Refusal → Type 0
-IsNewUnder hash_of hash (Ok (kept told)) = Unit {0}
-IsNewUnder hash_of hash (Ok (removed key value)) = Unit {0}
-IsNewUnder hash_of hash (Ok (replaced placeholder value)) = hash_of placeholder ≡ hash
-IsNewUnder hash_of hash (Ok (existing placeholder)) = Unit {0}
-IsNewUnder hash_of hash (Ok (new_one placeholder)) = hash_of placeholder ≡ hash
+IsNewUnder hash_of hash (Ok (EntryOrPlaceholder.Kept told)) = Unit {0}
+IsNewUnder hash_of hash (Ok (EntryOrPlaceholder.Removed key value)) = Unit {0}
+IsNewUnder hash_of hash (Ok (EntryOrPlaceholder.Replaced placeholder value)) =
+    hash_of placeholder ≡ hash
+IsNewUnder hash_of hash (Ok (EntryOrPlaceholder.ExistingPlaceholder placeholder)) = Unit {0}
+IsNewUnder hash_of hash (Ok (EntryOrPlaceholder.NewPlaceholder placeholder)) =
+    hash_of placeholder ≡ hash
 IsNewUnder hash_of hash (Err refusal) = Unit {0}
 
 module _ {F K V T : Type 0}
@@ -98,31 +99,36 @@ module _ {F K V T : Type 0}
     -- what is answered where an item was found
     abbrev pub AnswersItem : Result (EntryOrPlaceholder K V W T) Refusal → F → CacheState K V
         → Type 0
-    AnswersItem (Ok (kept told)) next new =
-        ActsAsChosen calls rules stands_for callback old (retain told) Kept (λ item left. Unit {0}) next new
-    AnswersItem (Ok (removed key value)) next new =
-        ActsAsChosen calls rules stands_for callback old remove Removed (λ item left. (key ≡ item.key) × (value ≡ left)) next new
-    AnswersItem (Ok (replaced placeholder value)) next new =
-        ActsAsChosen calls rules stands_for callback old replace Replaced
+    AnswersItem (Ok (EntryOrPlaceholder.Kept told)) next new =
+        ActsAsChosen calls rules stands_for callback old (EntryAction.Retain told) Kept
+        (λ item left. Unit {0}) next new
+    AnswersItem (Ok (EntryOrPlaceholder.Removed key value)) next new =
+        ActsAsChosen calls rules stands_for callback old EntryAction.Remove Removed
+        (λ item left. (key ≡ item.key) × (value ≡ left)) next new
+    AnswersItem (Ok (EntryOrPlaceholder.Replaced placeholder value)) next new =
+        ActsAsChosen calls rules stands_for callback old EntryAction.ReplaceWithGuard Replaced
         (λ item left. (own_ticket placeholder ≡ old.next_ticket) × (value ≡ left)) next new
-    AnswersItem (Ok (existing placeholder)) next new = ⊥
-    AnswersItem (Ok (new_one placeholder)) next new = ⊥
+    AnswersItem (Ok (EntryOrPlaceholder.ExistingPlaceholder placeholder)) next new = ⊥
+    AnswersItem (Ok (EntryOrPlaceholder.NewPlaceholder placeholder)) next new = ⊥
     AnswersItem (Err refusal) next new =
-        ActsAsChosen calls rules stands_for callback old replace (Refused refusal) (λ item left. Unit {0}) next new
+        ActsAsChosen calls rules stands_for callback old EntryAction.ReplaceWithGuard
+        (Refused refusal) (λ item left. Unit {0}) next new
 
     module _ (gives : K → Type 0) (hash : ℕ) where
       -- What is answered: what the callback chose where an item is found, and else what a look-up
       -- that makes a placeholder answers, with no call of the callback.
       abbrev pub AnswersEntry : Result (EntryOrPlaceholder K V W T) Refusal → F → CacheState K V
           → Type 0
-      AnswersEntry (Ok (kept told)) next new = AnswersItem (Ok (kept told)) next new
-      AnswersEntry (Ok (removed key value)) next new = AnswersItem (Ok (removed key value)) next new
-      AnswersEntry (Ok (replaced placeholder value)) next new =
-          AnswersItem (Ok (replaced placeholder value)) next new
-      AnswersEntry (Ok (existing placeholder)) next new =
+      AnswersEntry (Ok (EntryOrPlaceholder.Kept told)) next new =
+          AnswersItem (Ok (EntryOrPlaceholder.Kept told)) next new
+      AnswersEntry (Ok (EntryOrPlaceholder.Removed key value)) next new =
+          AnswersItem (Ok (EntryOrPlaceholder.Removed key value)) next new
+      AnswersEntry (Ok (EntryOrPlaceholder.Replaced placeholder value)) next new =
+          AnswersItem (Ok (EntryOrPlaceholder.Replaced placeholder value)) next new
+      AnswersEntry (Ok (EntryOrPlaceholder.ExistingPlaceholder placeholder)) next new =
           (next ≡ callback)
           × UpToOrder (MeetsPlaceholder stands_for old (own_ticket placeholder)) new
-      AnswersEntry (Ok (new_one placeholder)) next new =
+      AnswersEntry (Ok (EntryOrPlaceholder.NewPlaceholder placeholder)) next new =
           (next ≡ callback) × IsMade stands_for gives hash old (own_ticket placeholder) new
       AnswersEntry (Err refusal) next new =
           AnswersItem (Err refusal) next new

@@ -2,7 +2,7 @@
 use Rattle.std.specs.Prelude.{◌≡◌, ℕ, Bool, List, [], ◌∷◌, Result, Ok, Err, None}
 use Rattle.quick_cache_model.specs.CacheState.{CacheState, LoadingEntry, UpToOrder}
 use Rattle.quick_cache_model.specs.Hooks.{Rules, HookCall, BeforeEvict, EvictCold}
-use Rattle.quick_cache_model.specs.Placeholders.{IsLoadingTicket, HasNoTicket, FillsPlaceholder}
+use Rattle.quick_cache_model.specs.Placeholders.{IsLoadingTicket, HasNoTicket, FillsPlaceholder, MakesRoomFor}
 use Rattle.quick_cache_model.specs.Leads.{TellsBeside}
 use Rattle.quick_cache_policy.specs.Advances.{AreEvictions}
 
@@ -14,6 +14,11 @@ pub data AreFillCalls {K V : Type 0} (key : K) (value : V) : List (HookCall K V)
       → AreFillCalls key value (BeforeEvict key value left ∷ rest)
   turns_away : (left : V)
       → AreFillCalls key value (BeforeEvict key value left ∷ EvictCold key left ∷ [])
+
+-- room was made behind a pair of that weight, whosever placeholder it came in for
+abbrev pub MakesRoomBehind : {K V : Type 0} → Rules K V → (weight : ℕ) → CacheState K V
+    → List (HookCall K V) → CacheState K V → Type 0
+MakesRoomBehind rules weight mid = MakesRoomFor 0 mid rules weight mid
 
 module _ {K V : Type 0} (steady : Type 0) (ticket : ℕ) (old : CacheState K V) (rules : Rules K V)
     (marked : Bool) (value : V) where

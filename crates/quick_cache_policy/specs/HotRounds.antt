@@ -7,7 +7,6 @@ use Rattle.quick_cache_store.specs.Lists.{HeldItem}
 use Rattle.quick_cache_store.specs.Views.{items_of}
 use Rattle.quick_cache_policy.specs.declared.contents.Contents.{Contents}
 use Rattle.quick_cache_policy.specs.declared.evicting.hot.Round.{Round}
-use Rattle.quick_cache_policy.specs.declared.evicting.hot.Round.TheVariants.{AllPinned as round_all_pinned, SomeUnpinned as round_some_unpinned, Victim as round_victim}
 use Rattle.quick_cache_policy.specs.declared.evicting.hot.Visit.{Visit}
 use Rattle.quick_cache_policy.specs.Advances.{Meets}
 use Rattle.quick_cache_policy.specs.Rounds.{MayTake, AfterTouches, EndsAllPinned, EndsSomeUnpinned, EndsAtVictim, MeetsVictim, GivesUp}
@@ -15,9 +14,9 @@ use Rattle.quick_cache_policy.specs.Rounds.{MayTake, AfterTouches, EndsAllPinned
 module _ {K V : Type 0} (steady : Type 0) (pinned : K → V → Bool) where
   -- how a round of a ring ended, told of the ring as touches left it
   abbrev pub EndsAs : Round → (old new : List (Item K V)) (visits : ℕ) → Type 0
-  EndsAs round_all_pinned old new visits = EndsAllPinned steady pinned old new visits
-  EndsAs round_some_unpinned old new visits = EndsSomeUnpinned steady pinned old new visits
-  EndsAs round_victim old new visits = EndsAtVictim steady pinned old new visits
+  EndsAs Round.AllPinned old new visits = EndsAllPinned steady pinned old new visits
+  EndsAs Round.SomeUnpinned old new visits = EndsSomeUnpinned steady pinned old new visits
+  EndsAs Round.Victim old new visits = EndsAtVictim steady pinned old new visits
 
   -- a round with its end; each item that it visited took its touches first, where it was to
   abbrev pub RoundEnds : (takes_touches : Bool) (cut : ℕ) → (ℕ → Type 0) → Round

@@ -6,6 +6,8 @@ pub mod Rounds
 pub mod Advances
 pub mod HotRounds
 pub mod Writing
+pub mod Inserts
+pub mod Replaces
 pub mod Finding
 pub mod References
 pub mod Restoring

@@ -2,8 +2,7 @@
 -- has its mark lowered by one, and goes to the end. So a round turns the ring, and what it leaves
 -- is told of the ring that it began with. Of marks these words speak at once, of pins only where
 -- pinning is steady. No public clause cites this module.
-use Rattle.std.specs.Prelude.{◌≡◌, ℕ, ◌+◌, ◌*◌, ◌≤◌, Bool, true, false, List, ◌∷◌, ◌++◌, length, map, sum_by}
-use Rattle.std.specs.Prelude.{count_by}
+use Rattle.std.specs.Prelude.{◌≡◌, ℕ, ◌+◌, ◌*◌, ◌≤◌, Bool, true, false, List, ◌∷◌, ◌++◌, length, map, sum_by, count_by}
 use Rattle.std.specs.List.{AllByRecursion}
 use Rattle.std.specs.List.Sorted.{IsPermutation}
 use Rattle.quick_cache_model.specs.declared.queue.Queue.{Queue}

@@ -1,6 +1,6 @@
 -- What a call leaves beside its step.
 use Rattle.std.specs.Prelude.{◌≡◌, ℕ, ◌+◌, ◌≤◌, Bool, List}
-use Rattle.quick_cache_model.specs.declared.queue.Queue.TheVariants.{Hot, Cold}
+use Rattle.quick_cache_model.specs.declared.queue.Queue.{Queue}
 use Rattle.quick_cache_model.specs.CacheState.{keys_by}
 use Rattle.quick_cache_policy.specs.declared.contents.Contents.{Contents}
 use Rattle.quick_cache_policy.specs.Contents.{IsSound, KeepsNumbers, ring_count, state_of, work_of}
@@ -36,8 +36,8 @@ module _ {K V P W A T : Type 0} (ticket_of : P → ℕ) (equal : K → K → Boo
           ≤ keys_by test (state_of ticket_of old)
       pub places : LosesOnly (places_of old.lists) (places_of new.lists)
       pub room : old.lists.room ≤ new.lists.room
-      pub work : PaysFor old.mark_cut unpaid (ring_count Hot old) (ring_count Cold old)
-          (ring_count Hot new) (ring_count Cold new) (work_of old) (work_of new)
+      pub work : PaysFor old.mark_cut unpaid (ring_count Queue.Hot old) (ring_count Queue.Cold old)
+          (ring_count Queue.Hot new) (ring_count Queue.Cold new) (work_of old) (work_of new)
       pub same : KeepsNumbers old new
 
     -- A pair was written, or not: that took room for so many entries at most, items moved so, and
@@ -47,6 +47,6 @@ module _ {K V P W A T : Type 0} (ticket_of : P → ℕ) (equal : K → K → Boo
       pub sound : IsSound ticket_of equal hash new
       pub places : Moves (places_of old.lists) (places_of new.lists)
       pub room : old.lists.room ≤ new.lists.room + taken
-      pub work : WorksWithin old.mark_cut (ring_count Hot old + ring_count Cold old + 1)
+      pub work : WorksWithin old.mark_cut (ring_count Queue.Hot old + ring_count Queue.Cold old + 1)
           (work_of old) (work_of new)
       pub same : KeepsNumbers old new

@@ -1,24 +1,22 @@
 -- Writes: their answers, and the hook calls that they make.
-use Rattle.std.specs.Prelude.{◌≡◌, ℕ, ◌⊎◌, Bool, true, false, List, [], ◌∷◌, ◌++◌, Option, Some, None, Result, Ok, Err}
+use Rattle.std.specs.Prelude.{◌≡◌, ℕ, ◌+◌, ◌⊎◌, Bool, true, false, List, [], ◌∷◌, ◌++◌, Option, Some, None, Result, Ok, Err, nat_le, if◌then◌else◌}
 use Rattle.quick_cache_model.specs.declared.queue.Queue.{Queue}
 use Rattle.quick_cache_model.specs.declared.refusal.Refusal.{Refusal}
-use Rattle.quick_cache_model.specs.CacheState.{CacheState, UpToOrder}
+use Rattle.quick_cache_model.specs.CacheState.{CacheState, UpToOrder, hot_weight}
 use Rattle.quick_cache_model.specs.Admission.{Admitted, TooHeavy, ChecksAdmission}
 use Rattle.quick_cache_model.specs.Hooks.{Rules, Hooks, HookCall, Calls, BeforeEvict, EvictCold, evicted}
 use Rattle.quick_cache_model.specs.Refusals.{Needs, IsProvided, MayRefuse, needs_of_insert}
 use Rattle.quick_cache_model.specs.Writes.{Strategy, Insert, Replace, SoftReplace, Writes, WritesAdmitted, RejectsTooHeavy}
 use Rattle.quick_cache_model.specs.Leads.{TellsBeside}
 use Rattle.quick_cache_policy.specs.declared.writing.admission.Admission.{Admission}
-use Rattle.quick_cache_policy.specs.declared.writing.admission.Admission.TheVariants.{Admitted as code_admitted, TooHeavy as code_too_heavy}
 use Rattle.quick_cache_policy.specs.declared.strategy.InsertStrategy.{InsertStrategy}
-use Rattle.quick_cache_policy.specs.declared.strategy.InsertStrategy.TheVariants.{Insert as insert_variant, Replace as replace_variant}
 use Rattle.quick_cache_policy.specs.Advances.{AreEvictions}
 
 -- what the code calls a strategy
 abbrev pub strategy_of : InsertStrategy → Strategy
-strategy_of insert_variant = Insert
-strategy_of (replace_variant true) = SoftReplace
-strategy_of (replace_variant false) = Replace
+strategy_of InsertStrategy.Insert = Insert
+strategy_of (InsertStrategy.Replace true) = SoftReplace
+strategy_of (InsertStrategy.Replace false) = Replace
 
 -- whether a write makes an item where none is
 abbrev pub is_insert : Strategy → Bool
@@ -32,6 +30,11 @@ abbrev pub needs_of_write : {K V : Type 0} (stands_for : K → Bool) (hash : ℕ
 needs_of_write stands_for hash state Insert = needs_of_insert stands_for hash state
 needs_of_write stands_for hash state Replace = record { ticket = ⊥; slot = ⊥; memory = ⊥ }
 needs_of_write stands_for hash state SoftReplace = record { ticket = ⊥; slot = ⊥; memory = ⊥ }
+
+-- the queue of a pair of that weight that comes in: hot if it fits the target beside what is hot
+abbrev pub queue_by : {K V : Type 0} → CacheState K V → (weight : ℕ) → (otherwise : Queue) → Queue
+queue_by state weight otherwise =
+    if nat_le (hot_weight state + weight) state.hot_target then Queue.Hot else otherwise
 
 -- the pair that leaves for another one is told to a hook, if there is one
 pub data IsReplacement {K V : Type 0} : List (HookCall K V) → Type 0 where
@@ -86,12 +89,12 @@ module _ {K V : Type 0} (steady : Type 0) (rules : Rules K V) (hot_target : ℕ)
   -- What a check of a pair answered. The value that was left is weighed; and only a pair that was
   -- handed to `before_evict` is too heavy.
   abbrev pub Checks : Admission V → List (HookCall K V) → Type 0
-  Checks (code_admitted admitted) calls =
+  Checks (Admission.Admitted admitted) calls =
       (steady → ChecksAdmission rules hot_target key value calls (Admitted admitted.value))
       × (admitted.weight ≡ rules.weight key admitted.value)
       × (((calls ≡ []) × (admitted.value ≡ value))
       ⊎ (calls ≡ BeforeEvict key value admitted.value ∷ []))
-  Checks (code_too_heavy left) calls =
+  Checks (Admission.TooHeavy left) calls =
       (steady → ChecksAdmission rules hot_target key value calls (TooHeavy left))
       × (calls ≡ BeforeEvict key value left ∷ [])
 
@@ -116,14 +119,3 @@ module _ {K V S : Type 0} (steady : Type 0) (hooks : Hooks K V S) (rules : Rules
     pub unchanged : new ≡ old
     pub no_hook : last ≡ first
     pub cause : MayRefuse needs old refusal
-
-  -- the answer of a write that gave a pair back: it was not admitted, or refused
-  abbrev pub GivesBack : K → V → Option Refusal → CacheState K V → S → Type 0
-  GivesBack back_key back_value None new last = Wrote (Some (back_key, back_value)) new last
-  GivesBack back_key back_value (Some refusal) new last =
-      RefusesWrite back_key back_value refusal new last
-
-  -- the answer of a write
-  abbrev pub AnswersWrite : Result (Unit {0}) (K × V × Option Refusal) → CacheState K V → S → Type 0
-  AnswersWrite (Ok done) new last = Wrote None new last
-  AnswersWrite (Err back) new last = GivesBack back.0 back.1 back.2 new last

@@ -3,7 +3,6 @@ ghost use Rattle.std.specs.Prelude.{◌≡◌, ℕ, IfOk, IfErr, IsOk, OnOk, ◌
 ghost use Rattle.quick_cache_store.specs.Room.{most_room};
 ghost use Rattle.quick_cache_model.specs.CacheState.{empty_state};
 ghost use Rattle.quick_cache_model.specs.Refusals.{slot_count, slots_taken};
-ghost use Rattle.quick_cache_model.specs.declared.refusal.Refusal.TheVariants.{Memory};
 ghost use Rattle.quick_cache_policy.specs.Contents.{AreSizes, IsSound, state_of, work_of};
 ghost use Rattle.quick_cache_policy.specs.Work.{no_work};
 
@@ -57,7 +56,7 @@ impl<K: Eq + Hash, V, P: SharedPlaceholder<K>, A: Allocator> Contents<K, V, P, A
         ensures room { IfOk result (λ made. made.lists.room ≡ 0) }
         ensures work { IfOk result (λ made. work_of made ≡ no_work) }
         ensures succeeds { A.is_infallible alloc → IsOk result }
-        ensures refused { IfErr result (λ refusal. refusal ≡ Memory) }
+        ensures refused { IfErr result (λ refusal. refusal ≡ Refusal.Memory) }
     {
         Ok(Contents {
             lists: Lists::new(alloc)?,
@@ -97,7 +96,7 @@ impl<K: Eq + Hash, V, P: SharedPlaceholder<K>, A: Allocator> Contents<K, V, P, A
         ensures succeeds { min (additional + min additional self.old.ghost_limit)
             (slot_count - slots_taken (state_of P.ticket_of self.old)) ≤ self.old.lists.room
             → IsOk result }
-        ensures refused { IfErr result (λ refusal. refusal ≡ Memory) }
+        ensures refused { IfErr result (λ refusal. refusal ≡ Refusal.Memory) }
         ensures same { self.new ≡ record self.old {
           lists = record self.old.lists {
             room = self.new.lists.room;

@@ -1,7 +1,6 @@
 //! A copy of a cache's contents.
 ghost use Rattle.std.specs.Prelude.{◌≡◌, ℕ, IfOk, IfErr};
 ghost use Rattle.quick_cache_model.specs.Hashing.{hash_of};
-ghost use Rattle.quick_cache_model.specs.declared.refusal.Refusal.TheVariants.{Memory};
 ghost use Rattle.quick_cache_policy.specs.Contents.{IsSound, state_of, work_of};
 ghost use Rattle.quick_cache_policy.specs.Copies.{ClonesAreEqual, IsCopyOf, IsKeptAgain};
 ghost use Rattle.quick_cache_policy.specs.Work.{no_work};
@@ -54,7 +53,7 @@ impl<
             → IfOk result (IsSound P.ticket_of K.eq
             (λ key. hash_of B.BuildHasher B.Hasher.Hasher builder.now (K.hash_input key))) }
         ensures work { IfOk result (λ copy. work_of copy ≡ no_work) }
-        ensures refused { IfErr result (λ refusal. refusal ≡ Memory) }
+        ensures refused { IfErr result (λ refusal. refusal ≡ Refusal.Memory) }
     {
         let alloc: Result<_, _> = self.lists.allocator().clone();
         let Ok(alloc) = alloc else {

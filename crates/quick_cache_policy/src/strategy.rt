@@ -1,7 +1,7 @@
 //! What a write does where nothing stands under its key, and how it counts where something does.
 ghost use Rattle.std.specs.Prelude.{◌≡◌};
 ghost use Rattle.quick_cache_model.specs.Writes.{mark_after};
-ghost use Rattle.quick_cache_policy.specs.Writing.{strategy_of, is_insert};
+ghost use Rattle.quick_cache_policy.specs.Writing.{strategy_of};
 
 /// What a write does where nothing stands under its key, and how it counts where something does.
 #[derive(Debug, Clone, Copy, PartialEq, Eq)]
@@ -21,16 +21,6 @@ impl InsertStrategy {
             InsertStrategy::Insert => mark.saturating_add(1).min(cut),
             InsertStrategy::Replace { soft: false } => mark.saturating_add(1).min(cut),
             InsertStrategy::Replace { soft: true } => mark,
-        }
-    }
-
-    /// Whether a pair is written where no item stands under its key.
-    pub(crate) fn makes_items(self) -> bool
-        ensures { result ≡ is_insert (strategy_of self) }
-    {
-        match self {
-            InsertStrategy::Insert => true,
-            InsertStrategy::Replace { soft: _ } => false,
         }
     }
 }

@@ -3,6 +3,6 @@
 pub mod admission;
 pub mod insert;
 pub mod overwrite;
-pub mod plan;
 pub mod reference;
+pub mod replace;
 pub mod restore;

@@ -3,9 +3,7 @@ use Rattle.std.proofs.Common.{◌≡◌, ◌≤◌, ℕ, Bool, true, false, [], 
 use Rattle.std.specs.Prelude.{IsSome, min, ◌^◌, ◌-◌}
 use Rattle.std.specs.Bool.{OnTrue, OnFalse}
 use Rattle.quick_cache_model.specs.declared.refusal.Refusal.{Refusal}
-use Rattle.quick_cache_model.specs.declared.refusal.Refusal.TheVariants.{Memory}
-use Rattle.quick_cache_model.specs.CacheState.{CacheState, Item, UpToOrder, keys_by}
-use Rattle.quick_cache_model.specs.CacheState.{item_count, total_weight}
+use Rattle.quick_cache_model.specs.CacheState.{CacheState, Item, UpToOrder, keys_by, item_count, total_weight}
 use Rattle.quick_cache_model.specs.Removal.{cleared}
 use Rattle.quick_cache_model.specs.Finding.{HasNoItem}
 use Rattle.quick_cache_model.specs.Hooks.{Rules, Hooks}
@@ -19,12 +17,7 @@ use denote.Ref.{Bor}
 use denote.Param.Members.{Shared}
 use Rattle.quick_cache_shard.specs.Predicates.{Answers, IsAnsweredAs}
 use Rattle.quick_cache_model.specs.declared.calls.call.Call.{Call}
-use Rattle.quick_cache_model.specs.declared.calls.call.Call.TheVariants.{Insert, Replace, GetMut}
-use Rattle.quick_cache_model.specs.declared.calls.call.Call.TheVariants.{Counts, Reserve, Clear}
 use Rattle.quick_cache_model.specs.declared.calls.reply.Reply.{Reply}
-use Rattle.quick_cache_model.specs.declared.calls.reply.Reply.TheVariants.{Done, RefusedPair, NotAdmitted}
-use Rattle.quick_cache_model.specs.declared.calls.reply.Reply.TheVariants.{Flag, Refused}
-use Rattle.quick_cache_model.specs.declared.calls.reply.Reply.TheVariants.{Counts as Numbers}
 use Rattle.quick_cache_model.specs.CacheStep.{CacheStep}
 use Rattle.quick_cache_model.specs.Kinds.{IsLook, MakesRoom, replacement}
 use Rattle.quick_cache_model.specs.References.{TellsItem}
@@ -51,7 +44,7 @@ tested calls keep keeps as_test key shown value answer same says =
 
 module _ {K V : Type 0} (old : CacheState K V) where
   -- memory for a clone may be refused
-  pub clone_refused : MayRefuse needs_of_clone old Memory
+  pub clone_refused : MayRefuse needs_of_clone old Refusal.Memory
   clone_refused = MayRefuse.memory_refused
       (record { ticket = λ h. absurd h; slot = λ h. absurd h }) tt
 
@@ -68,59 +61,67 @@ module _ {K V F M : Type 0} (rules : Rules K V) (equal : K → K → Bool)
   pub refused_look : {X : Type 0} (of : Item K V → X) (call : Call K V F) (key : K)
       → IsLook key call → {answer : Option X}
       → Sees (equal key) old of answer → IsSome answer
-      → CacheStep {M = M} rules equal shows_key shows answers old call (Refused Memory) [] old
+      → CacheStep {M = M} rules equal shows_key shows answers old call
+      (Reply.Refused Refusal.Memory) [] old
   refused_look of call key look (Sees.is_there place before item after there) is_some =
-      CacheStep.refuses_look call key Memory place before item after look there (clone_refused old)
+      CacheStep.refuses_look call key Refusal.Memory place before item after look there
+      (clone_refused old)
   refused_look of call key look (Sees.is_absent none) is_some = absurd cc
 
   -- where the value of an item that is there was not cloned, the look is refused
   pub refused_copy : (call : Call K V F) (key : K) → IsLook key call
       → (refusal : Refusal) (new : CacheState K V)
       → IsNotCopied (equal key) shows old refusal new
-      → CacheStep {M = M} rules equal shows_key shows answers old call (Refused refusal) [] new
+      → CacheStep {M = M} rules equal shows_key shows answers old call (Reply.Refused refusal) []
+      new
   refused_copy call key look refusal new is =
       subst (λ (x : Refusal × CacheState K V). CacheStep {M = M} rules equal shows_key shows answers
-      old call (Refused x.0) [] x.1) (λ i. (sym is.memory i, sym is.unchanged i))
+      old call (Reply.Refused x.0) [] x.1) (λ i. (sym is.memory i, sym is.unchanged i))
       (refused_look (λ item. item.value) call key look is.seen refl)
 
   -- room may be refused
   pub refused_room : (call : Call K V F) → MakesRoom call
-      → CacheStep {M = M} rules equal shows_key shows answers old call (Refused Memory) [] old
+      → CacheStep {M = M} rules equal shows_key shows answers old call
+      (Reply.Refused Refusal.Memory) [] old
   refused_room call makes_room =
-      CacheStep.refuses_room call Memory makes_room (clone_refused old)
+      CacheStep.refuses_room call Refusal.Memory makes_room (clone_refused old)
 
   -- room was made, or refused, and the state is as it was
   pub reserved : (count : ℕ) (new : CacheState K V) → new ≡ old
-      → CacheStep {M = M} rules equal shows_key shows answers old (Reserve count) Done [] new
+      → CacheStep {M = M} rules equal shows_key shows answers old (Call.Reserve count) Reply.Done []
+      new
   reserved count new same =
-      subst (λ state. CacheStep {M = M} rules equal shows_key shows answers old (Reserve count) Done
+      subst (λ state. CacheStep {M = M} rules equal shows_key shows answers old (Call.Reserve count)
+      Reply.Done
       [] state) (sym same) (CacheStep.reserves count)
 
   pub refused_reserve : (count : ℕ) (refusal : Refusal) (new : CacheState K V)
-      → refusal ≡ Memory → new ≡ old
-      → CacheStep {M = M} rules equal shows_key shows answers old (Reserve count) (Refused refusal)
+      → refusal ≡ Refusal.Memory → new ≡ old
+      → CacheStep {M = M} rules equal shows_key shows answers old (Call.Reserve count)
+      (Reply.Refused refusal)
       [] new
   refused_reserve count refusal new memory same =
       subst (λ (x : Refusal × CacheState K V). CacheStep {M = M} rules equal shows_key shows answers
-      old (Reserve count) (Refused x.0) [] x.1) (λ i. (sym memory i, sym same i))
-      (refused_room (Reserve count) (MakesRoom.reserve count))
+      old (Call.Reserve count) (Reply.Refused x.0) [] x.1) (λ i. (sym memory i, sym same i))
+      (refused_room (Call.Reserve count) (MakesRoom.reserve count))
 
   -- all was cleared
   pub clears_all : (new : CacheState K V) → new ≡ cleared old
-      → CacheStep {M = M} rules equal shows_key shows answers old Clear Done [] new
+      → CacheStep {M = M} rules equal shows_key shows answers old Call.Clear Reply.Done [] new
   clears_all new clears =
-      subst (λ state. CacheStep {M = M} rules equal shows_key shows answers old Clear Done [] state)
+      subst (λ state. CacheStep {M = M} rules equal shows_key shows answers old Call.Clear
+      Reply.Done [] state)
       (sym clears) CacheStep.clears
 
   -- the numbers of the cache were told
   pub counted : (len weight capacity hits misses : ℕ) → len ≡ item_count old
       → weight ≡ min (total_weight old) (2 ^ 64 - 1) → capacity ≡ old.capacity → hits ≡ old.hits
       → misses ≡ old.misses
-      → CacheStep {M = M} rules equal shows_key shows answers old Counts
-      (Numbers len weight capacity hits misses) [] old
+      → CacheStep {M = M} rules equal shows_key shows answers old Call.Counts
+      (Reply.Counts len weight capacity hits misses) [] old
   counted len weight capacity hits misses is_len is_weight is_capacity is_hits is_misses =
       subst (λ (n : ℕ × ℕ × ℕ × ℕ × ℕ). CacheStep {M = M} rules equal shows_key shows answers old
-      Counts (Numbers n.0 n.1 n.2 n.3 n.4) [] old)
+      Call.Counts (Reply.Counts n.0 n.1 n.2 n.3 n.4) [] old)
       (λ i. (
         sym is_len i,
         sym is_weight i,
@@ -130,16 +131,18 @@ module _ {K V F M : Type 0} (rules : Rules K V) (equal : K → K → Bool)
       )) CacheStep.counts
 
   pub refused_as_room : (call : Call K V F) → MakesRoom call → (refusal : Refusal)
-      → refusal ≡ Memory
-      → CacheStep {M = M} rules equal shows_key shows answers old call (Refused refusal) [] old
+      → refusal ≡ Refusal.Memory
+      → CacheStep {M = M} rules equal shows_key shows answers old call (Reply.Refused refusal) []
+      old
   refused_as_room call makes_room refusal memory =
       subst (λ cause. CacheStep {M = M} rules equal shows_key shows answers old call
-      (Refused cause) [] old) (sym memory) (refused_room call makes_room)
+      (Reply.Refused cause) [] old) (sym memory) (refused_room call makes_room)
 
   -- a value that was written through `get_mut`
   pub set : (key : K) (value : V) (there : Bool) (new : CacheState K V)
       → Sets (equal key) rules old value there new
-      → CacheStep {M = M} rules equal shows_key shows answers old (GetMut key value) (Flag there) []
+      → CacheStep {M = M} rules equal shows_key shows answers old (Call.GetMut key value)
+      (Reply.Flag there) []
       new
   set key value there new sets =
       CacheStep.gets_mut key value sets.found there sets.mid new sets.looks sets.writes
@@ -155,8 +158,9 @@ module _ {K V F M : Type 0} (rules : Rules K V) (equal : K → K → Bool)
       -- an insert that was made
       pub inserted : (first : S) (key : K) (value : V) (new : CacheState K V) (last : S)
           → Wrote steady hooks rules equal insertion old first key value None new last
-          → IsMade {M = M} rules equal shows_key shows answers hooks old first (Insert key value)
-          Done new last
+          → IsMade {M = M} rules equal shows_key shows answers hooks old first
+          (Call.Insert key value)
+          Reply.Done new last
       inserted first key value new last wrote = record {
         calls = wrote.step.calls;
         step = CacheStep.inserts key value wrote.step.calls new wrote.provided
@@ -169,12 +173,13 @@ module _ {K V F M : Type 0} (rules : Rules K V) (equal : K → K → Bool)
           (refusal : Refusal) (new : CacheState K V) (last : S)
           → RefusesWrite steady hooks rules equal insertion old first key value back_key back_value
           refusal new last
-          → IsMade {M = M} rules equal shows_key shows answers hooks old first (Insert key value)
-          (RefusedPair back_key back_value refusal) new last
+          → IsMade {M = M} rules equal shows_key shows answers hooks old first
+          (Call.Insert key value)
+          (Reply.RefusedPair back_key back_value refusal) new last
       refused_insert first key value back_key back_value refusal new last refuses = record {
         calls = [];
         step = subst (λ (x : K × V × CacheState K V). CacheStep {M = M} rules equal shows_key shows
-            answers old (Insert key value) (RefusedPair x.0 x.1 refusal) [] x.2)
+            answers old (Call.Insert key value) (Reply.RefusedPair x.0 x.1 refusal) [] x.2)
             (λ i. (sym refuses.key_back i, sym refuses.value_back i, sym refuses.unchanged i))
             (CacheStep.refuses_insert key value refusal refuses.cause);
         runs = refuses.no_hook;
@@ -185,7 +190,7 @@ module _ {K V F M : Type 0} (rules : Rules K V) (equal : K → K → Bool)
           (last : S)
           → Wrote steady hooks rules equal (replacement soft) old first key value None new last
           → IsMade {M = M} rules equal shows_key shows answers hooks old first
-          (Replace key value soft) Done new last
+          (Call.Replace key value soft) Reply.Done new last
       replaced first key value soft new last wrote = record {
         calls = wrote.step.calls;
         step = CacheStep.replaces key value soft wrote.step.calls new
@@ -199,7 +204,7 @@ module _ {K V F M : Type 0} (rules : Rules K V) (equal : K → K → Bool)
           → Wrote steady hooks rules equal (replacement soft) old first key value (Some back) new
           last
           → IsMade {M = M} rules equal shows_key shows answers hooks old first
-          (Replace key value soft) (NotAdmitted back.0 back.1) new last
+          (Call.Replace key value soft) (Reply.NotAdmitted back.0 back.1) new last
       gave_back first key value soft back new last wrote = record {
         calls = wrote.step.calls;
         step = CacheStep.gives_back key value soft back wrote.step.calls new

@@ -7,12 +7,6 @@ use Rattle.std.proofs.lemmas.List.Elements.{All-nil, All-cons, All-head, All-tai
 use Rattle.quick_cache_model.specs.CacheState.{CacheState}
 use Rattle.quick_cache_model.specs.Hooks.{Rules, Hooks}
 use Rattle.quick_cache_model.specs.declared.calls.call.Call.{Call}
-use Rattle.quick_cache_model.specs.declared.calls.call.Call.TheVariants.{Insert, Replace, Get, Peek}
-use Rattle.quick_cache_model.specs.declared.calls.call.Call.TheVariants.{GetMut, PeekMut, Contains}
-use Rattle.quick_cache_model.specs.declared.calls.call.Call.TheVariants.{Stats, Remove, RemoveIf, Load}
-use Rattle.quick_cache_model.specs.declared.calls.call.Call.TheVariants.{LoadMut, Guarded, GuardedMut}
-use Rattle.quick_cache_model.specs.declared.calls.call.Call.TheVariants.{Iter, Drain, Counts, Retain}
-use Rattle.quick_cache_model.specs.declared.calls.call.Call.TheVariants.{SetCapacity, Reserve, Clear}
 use Rattle.quick_cache_model.specs.declared.calls.reply.Reply.{Reply}
 use Rattle.quick_cache_model.specs.CacheRun.{IsRun, RunsCalls}
 use Rattle.quick_cache_model.proofs.ShownLemmas.{CacheRun-wider}
@@ -32,27 +26,27 @@ asked_none P (Some asked) none = absurd none
 module _ {K V F : Type 0} where
   -- what holds anyhow holds of a call that loads
   load_meets : {P : Type 0} → P → (call : Call K V F) → IfLoads P call
-  load_meets is (Insert key value) = tt
-  load_meets is (Replace key value soft) = tt
-  load_meets is (Get key) = tt
-  load_meets is (Peek key) = tt
-  load_meets is (GetMut key value) = tt
-  load_meets is (PeekMut key value) = tt
-  load_meets is (Contains key) = tt
-  load_meets is (Stats key) = tt
-  load_meets is (Remove key) = tt
-  load_meets is (RemoveIf key wanted) = tt
-  load_meets is (Load key given) = is
-  load_meets is (LoadMut key given left) = is
-  load_meets is (Guarded key given) = is
-  load_meets is (GuardedMut key given left) = is
-  load_meets is Iter = tt
-  load_meets is Drain = tt
-  load_meets is Counts = tt
-  load_meets is (Retain keep) = tt
-  load_meets is (SetCapacity capacity) = tt
-  load_meets is (Reserve additional) = tt
-  load_meets is Clear = tt
+  load_meets is (Call.Insert key value) = tt
+  load_meets is (Call.Replace key value soft) = tt
+  load_meets is (Call.Get key) = tt
+  load_meets is (Call.Peek key) = tt
+  load_meets is (Call.GetMut key value) = tt
+  load_meets is (Call.PeekMut key value) = tt
+  load_meets is (Call.Contains key) = tt
+  load_meets is (Call.Stats key) = tt
+  load_meets is (Call.Remove key) = tt
+  load_meets is (Call.RemoveIf key wanted) = tt
+  load_meets is (Call.Load key given) = is
+  load_meets is (Call.LoadMut key given left) = is
+  load_meets is (Call.Guarded key given) = is
+  load_meets is (Call.GuardedMut key given left) = is
+  load_meets is Call.Iter = tt
+  load_meets is Call.Drain = tt
+  load_meets is Call.Counts = tt
+  load_meets is (Call.Retain keep) = tt
+  load_meets is (Call.SetCapacity capacity) = tt
+  load_meets is (Call.Reserve additional) = tt
+  load_meets is Call.Clear = tt
 
   -- where no predicate is asked, anything holds of those that are
   pub none_asked : (P : F → Type 0) (calls : List (Call K V F)) → All (IfAsks (λ asked. ⊥)) calls

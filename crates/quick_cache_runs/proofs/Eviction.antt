@@ -1,23 +1,17 @@
 -- Making room leads each pair that was resident to be so still, or to be told to a hook.
-use Rattle.std.proofs.Common.{◌≡◌, ℕ, ◌+◌, ◌-◌, Bool, true, false, List, ◌∷◌, ◌++◌, map}
-use Rattle.std.proofs.Common.{IsPermutation, sym, subst, ◌∙◌}
+use Rattle.std.proofs.Common.{◌≡◌, ℕ, ◌+◌, ◌-◌, Bool, true, false, List, ◌∷◌, ◌++◌, map, IsPermutation, sym, subst, ◌∙◌}
 use Rattle.std.proofs.lemmas.List.{map-append}
-use Rattle.std.proofs.lemmas.List.Sorted.{IsPermutation-refl, IsPermutation-sym}
-use Rattle.std.proofs.lemmas.List.Sorted.{IsPermutation-trans}
-use Rattle.quick_cache_model.specs.declared.queue.Queue.TheVariants.{Hot, Cold}
+use Rattle.std.proofs.lemmas.List.Sorted.{IsPermutation-refl, IsPermutation-sym, IsPermutation-trans}
+use Rattle.quick_cache_model.specs.declared.queue.Queue.{Queue}
 use Rattle.quick_cache_model.specs.CacheState.{CacheState, InHot, InCold, with_items}
 use Rattle.quick_cache_model.specs.Hooks.{Rules, HookCall}
-use Rattle.quick_cache_model.specs.Eviction.{lowered, promoted, AdvancesHot}
-use Rattle.quick_cache_model.specs.Eviction.{EvictsToTarget, AdvancesCold, EvictsToCapacity}
+use Rattle.quick_cache_model.specs.Eviction.{lowered, promoted, AdvancesHot, EvictsToTarget, AdvancesCold, EvictsToCapacity}
 use Rattle.quick_cache_model.specs.Removal.{pair_of}
 use Rattle.quick_cache_model.specs.Fates.{residents}
-use Rattle.quick_cache_model.specs.Leads.{Leads}
-use Rattle.quick_cache_model.proofs.Leads.{Leads-same, Leads-from}
-use Rattle.quick_cache_model.specs.Leads.{Tells}
-use Rattle.quick_cache_model.proofs.Leads.{Tells-append}
+use Rattle.quick_cache_model.specs.Leads.{Leads, Tells}
+use Rattle.quick_cache_model.proofs.Leads.{Leads-same, Leads-from, Tells-append}
 use Rattle.quick_cache_model.proofs.Victims.{EvictsVictim-tells}
-use Rattle.quick_cache_model.proofs.Residents.{residents-put, residents-same}
-use Rattle.quick_cache_model.proofs.Residents.{residents-found, residents-raised, pairs-lowered}
+use Rattle.quick_cache_model.proofs.Residents.{residents-put, residents-same, residents-found, residents-raised, pairs-lowered}
 
 module _ {K V : Type 0} (rules : Rules K V) where
   AdvancesHot-tells : (old : CacheState K V) (answer : Bool) (calls : List (HookCall K V))
@@ -42,7 +36,7 @@ module _ {K V : Type 0} (rules : Rules K V) where
       Leads-from (residents old) (pair_of least ∷ residents mid)
       (subst (λ ps. IsPermutation (residents old) (pair_of item ∷ ps)) lower
       (residents-found InHot old.mark_cut rules.may_count hot before item after old raised split))
-      (EvictsVictim-tells rules Hot mid least calls new evicts)
+      (EvictsVictim-tells rules Queue.Hot mid least calls new evicts)
 
   EvictsToTarget-tells : (old : CacheState K V) (calls : List (HookCall K V))
       (new : CacheState K V)
@@ -66,7 +60,7 @@ module _ {K V : Type 0} (rules : Rules K V) where
       (IsPermutation-trans (residents old) (pair_of item ∷ residents taken) (residents mid)
       (residents-found InCold old.mark_cut rules.may_count cold before item after old raised split)
       (IsPermutation-sym _ _ (residents-put InHot
-      (record item { mark = item.mark - 1; queue = Hot }) taken)))
+      (record item { mark = item.mark - 1; queue = Queue.Hot }) taken)))
       (EvictsToTarget-tells mid calls new goes)
   AdvancesCold-tells old _ _ _
       (AdvancesCold.evicts cold before item after calls new raised split passed unmarked
@@ -74,7 +68,7 @@ module _ {K V : Type 0} (rules : Rules K V) where
       let mid = with_items InCold (after ++ before) old in
       Leads-from (residents old) (pair_of item ∷ residents mid)
       (residents-found InCold old.mark_cut rules.may_count cold before item after old raised split)
-      (EvictsVictim-tells rules Cold mid item calls new evicts)
+      (EvictsVictim-tells rules Queue.Cold mid item calls new evicts)
   AdvancesCold-tells old _ _ _
       (AdvancesCold.passes_all cold answer calls new raised passed advances) =
       subst (λ ps. Tells ps calls (residents new))

@@ -1,8 +1,6 @@
 -- A call that loads: it takes a placeholder, which is filled with a pair of an equal key, or given
 -- up.
-use Rattle.std.proofs.Common.{◌≡◌, ℕ, Bool, true, false, List, []}
-use Rattle.std.proofs.Common.{◌∷◌, ◌++◌, map, None, IsPermutation, ap, subst}
-use Rattle.std.proofs.Common.{arith}
+use Rattle.std.proofs.Common.{◌≡◌, ℕ, Bool, true, false, List, [], ◌∷◌, ◌++◌, map, None, IsPermutation, ap, subst, arith}
 use Rattle.std.specs.Cmp.{IsEquivalence}
 use Rattle.std.specs.List.{AllByRecursion}
 use Rattle.std.specs.Prelude.{count_by}
@@ -10,28 +8,21 @@ use Rattle.std.proofs.lemmas.List.Sorted.{IsPermutation-refl, IsPermutation-sym}
 use Rattle.quick_cache_model.specs.CacheState.{CacheState, LoadingEntry, IsValid, UpToOrder, entered}
 use Rattle.quick_cache_model.specs.Hooks.{Rules, HookCall, EvictCold}
 use Rattle.quick_cache_model.specs.Admission.{Admission, Admitted, TooHeavy, ChecksAdmission}
-use Rattle.quick_cache_model.specs.Placeholders.{MakesPlaceholder, MeetsPlaceholder}
-use Rattle.quick_cache_model.specs.Placeholders.{GivesUpPlaceholder, FillsPlaceholder}
-use Rattle.quick_cache_model.specs.Placeholders.{MakesRoomFor}
+use Rattle.quick_cache_model.specs.Placeholders.{MakesPlaceholder, MeetsPlaceholder, GivesUpPlaceholder, FillsPlaceholder, MakesRoomFor}
 use Rattle.quick_cache_model.specs.Writes.{new_item, queue_for}
 use Rattle.quick_cache_model.proofs.EachElement.{all-middle}
 use Rattle.quick_cache_model.proofs.KeyCounts.{loading_keys-split}
-use Rattle.quick_cache_model.proofs.Valid.Placeholders.{MakesPlaceholder-valid}
-use Rattle.quick_cache_model.proofs.Valid.Placeholders.{MeetsPlaceholder-valid}
-use Rattle.quick_cache_model.proofs.Valid.Placeholders.{GivesUpPlaceholder-valid}
+use Rattle.quick_cache_model.proofs.Valid.Placeholders.{MakesPlaceholder-valid, MeetsPlaceholder-valid, GivesUpPlaceholder-valid}
 use Rattle.quick_cache_model.proofs.Valid.Placeholders.{FillsPlaceholder-valid}
 use Rattle.quick_cache_model.specs.Loads.{TakesPlaceholder, Loads, LoadsNothing}
 use Rattle.quick_cache_model.proofs.TakenKeys.{IsTicketOf, stands_for, taken_keys}
 use Rattle.quick_cache_model.specs.Fates.{Comes, fate_of, residents}
 use Rattle.quick_cache_runs.proofs.Eviction.{EvictsToCapacity-tells}
-use Rattle.quick_cache_model.specs.Leads.{Leads}
-use Rattle.quick_cache_model.proofs.Leads.{Leads-same, Leads-from, Leads-changes}
-use Rattle.quick_cache_model.specs.Leads.{Tells}
-use Rattle.quick_cache_model.proofs.Leads.{Leads-leaves, Tells-append}
+use Rattle.quick_cache_model.specs.Leads.{Leads, Tells}
+use Rattle.quick_cache_model.proofs.Leads.{Leads-same, Leads-from, Leads-changes, Leads-leaves, Tells-append}
 use Rattle.quick_cache_model.proofs.Residents.{residents-entered}
 use Rattle.quick_cache_runs.proofs.Residents.{counted-residents}
-use Rattle.quick_cache_runs.proofs.Told.{Told, Told-same, Told-append, Told-ordered}
-use Rattle.quick_cache_runs.proofs.Told.{Told-reordered}
+use Rattle.quick_cache_runs.proofs.Told.{Told, Told-same, Told-append, Told-ordered, Told-reordered}
 use Rattle.quick_cache_runs.proofs.Values.{comings-hooks, Leads-last}
 use Rattle.quick_cache_runs.proofs.Writes.{value_of}
 

@@ -2,7 +2,6 @@
 use Rattle.std.proofs.Common.{◌≡◌, ◌≤◌, ℕ, arith, Bool, true, false, List, [], Option, Some, None, refl, sym, subst}
 use Rattle.std.specs.Prelude.{IsSome}
 use Rattle.quick_cache_model.specs.declared.refusal.Refusal.{Refusal}
-use Rattle.quick_cache_model.specs.declared.refusal.Refusal.TheVariants.{Memory}
 use Rattle.quick_cache_model.specs.CacheState.{CacheState, UpToOrder, keys_by}
 use Rattle.quick_cache_model.specs.Finding.{HasNoItem}
 use Rattle.quick_cache_model.specs.Hooks.{Rules, Hooks, HookCall}
@@ -14,17 +13,13 @@ use Rattle.quick_cache_shard.specs.Copies.{IsNotCopied}
 use Rattle.quick_cache_shard.specs.Loading.{MakesNone}
 use Rattle.quick_cache_shard.specs.References.{NotesLookUp}
 use Rattle.quick_cache_model.specs.declared.calls.call.Call.{Call}
-use Rattle.quick_cache_model.specs.declared.calls.call.Call.TheVariants.{Load, LoadMut, Guarded, GuardedMut}
 use Rattle.quick_cache_model.specs.declared.calls.reply.Reply.{Reply}
-use Rattle.quick_cache_model.specs.declared.calls.reply.Reply.TheVariants.{Found, Filled, Dropped}
-use Rattle.quick_cache_model.specs.declared.calls.reply.Reply.TheVariants.{Loaded, LoadFailed, Refused}
 use Rattle.quick_cache_model.specs.CacheStep.{CacheStep}
 use Rattle.quick_cache_model.specs.Kinds.{IsLoad}
 use Rattle.quick_cache_model.specs.References.{TellsItem, WritesItem}
 use Rattle.quick_cache_model.specs.Shown.{IsShown}
 use Rattle.quick_cache_unsync.specs.Loads.{Takes, FillsIfThere}
-use Rattle.quick_cache_unsync.proofs.LoadLemmas.{Takes-takes, Takes-awaited, Takes-nothing}
-use Rattle.quick_cache_unsync.proofs.LoadLemmas.{Fills-awaited, counted-found}
+use Rattle.quick_cache_unsync.proofs.LoadLemmas.{Takes-takes, Takes-awaited, Takes-nothing, Fills-awaited, counted-found}
 use Rattle.quick_cache_runs.specs.Made.{IsMade}
 use Rattle.quick_cache_runs.proofs.CallSteps.{LooksUp-seen, clone_refused}
 
@@ -81,26 +76,28 @@ module _ {K V F M : Type 0} (rules : Rules K V) (equal : K → K → Bool)
     -- an item was seen and looked up
     pub guard-finds : (found shown : V) (new : CacheState K V)
         → UpToOrder (LooksUp (equal key) old (λ item. item.value) (Some found)) new
-        → shows found shown → Step (Guarded key given) (Found shown) [] new
+        → shows found shown → Step (Call.Guarded key given) (Reply.Found shown) [] new
     guard-finds found shown new looks is_shown =
-        CacheStep.finds (Guarded key given) key given None found shown new new
+        CacheStep.finds (Call.Guarded key given) key given None found shown new new
         (IsLoad.guarded given) looks is_shown refl
 
     -- its clone may be refused
     pub guard-refuses-clone : {answer : Option V}
         → Sees (equal key) old (λ item. item.value) answer → IsSome answer
-        → Step (Guarded key given) (Refused Memory) [] old
+        → Step (Call.Guarded key given) (Reply.Refused Refusal.Memory) [] old
     guard-refuses-clone (Sees.is_there place before item after there) is_some =
-        CacheStep.refuses_found (Guarded key given) key given None Memory place before item after
+        CacheStep.refuses_found (Call.Guarded key given) key given None Refusal.Memory place before
+        item after
         (IsLoad.guarded given) there (clone_refused old)
     guard-refuses-clone (Sees.is_absent none) is_some = absurd cc
 
     -- so it is where a look-up that copies was refused
     pub guard-refuses-copy : (refusal : Refusal) (new : CacheState K V)
         → IsNotCopied (equal key) shows old refusal new
-        → Step (Guarded key given) (Refused refusal) [] new
+        → Step (Call.Guarded key given) (Reply.Refused refusal) [] new
     guard-refuses-copy refusal new is =
-        subst (λ (x : Refusal × CacheState K V). Step (Guarded key given) (Refused x.0) [] x.1)
+        subst (λ (x : Refusal × CacheState K V). Step (Call.Guarded key given) (Reply.Refused x.0)
+        [] x.1)
         (λ i. (sym is.memory i, sym is.unchanged i)) (guard-refuses-clone is.seen refl)
 
     -- an item was seen and shown, and a value is written through the reference to it
@@ -109,27 +106,29 @@ module _ {K V F M : Type 0} (rules : Rules K V) (equal : K → K → Bool)
         → (looked : V) (mid new : CacheState K V)
         → UpToOrder (LooksUp (equal key) old (λ item. item.value) (Some looked)) mid
         → UpToOrder (WritesItem rules (equal key) mid left true) new
-        → Step (GuardedMut key given left) (Found shown) [] new
+        → Step (Call.GuardedMut key given left) (Reply.Found shown) [] new
     guard-writes left shown None single sees is_shown looked mid new looks writes = absurd is_shown
     guard-writes left shown (Some found) single sees is_shown looked mid new looks writes =
-        CacheStep.finds (GuardedMut key given left) key given (Some left) found shown mid new
+        CacheStep.finds (Call.GuardedMut key given left) key given (Some left) found shown mid new
         (IsLoad.guarded_mut given left)
         (LooksUp-seen (equal key) old (λ item. item.value) single sees looks) is_shown writes
 
     -- no placeholder was made
     pub guard-refuses : (gives : K → Type 0) (refusal : Refusal) (new : CacheState K V)
         → MakesNone (equal key) gives (rules.hash key) old refusal new
-        → Step (Guarded key given) (Refused refusal) [] new
+        → Step (Call.Guarded key given) (Reply.Refused refusal) [] new
     guard-refuses gives refusal new none =
-        subst (λ state. Step (Guarded key given) (Refused refusal) [] state) (sym none.unchanged)
-        (CacheStep.refuses_load (Guarded key given) key given None refusal (IsLoad.guarded given)
+        subst (λ state. Step (Call.Guarded key given) (Reply.Refused refusal) [] state)
+        (sym none.unchanged)
+        (CacheStep.refuses_load (Call.Guarded key given) key given None refusal
+        (IsLoad.guarded given)
         none.cause)
 
   module _ (key : K) (gives : K → Type 0) (ticket : ℕ) (mid : CacheState K V)
       (takes : Takes (equal key) gives (rules.hash key) old ticket mid) where
     -- a placeholder that was taken is given up
     pub guard-drops : (new : CacheState K V) → UpToOrder (GivesUpPlaceholder ticket mid) new
-        → Step (Guarded key None) Dropped [] new
+        → Step (Call.Guarded key None) Reply.Dropped [] new
     guard-drops new gone = CacheStep.drops key new
         (Takes-nothing (equal key) gives (rules.hash key) old rules ticket mid new takes gone)
 
@@ -138,7 +137,7 @@ module _ {K V F M : Type 0} (rules : Rules K V) (equal : K → K → Bool)
         (first : S) (new : CacheState K V) (last : S)
         → FillsIfThere steady hooks rules ticket mid value first new last
         → IsMade {M = M} rules equal shows_key shows answers hooks old first
-        (Guarded key (Some value)) Filled new last
+        (Call.Guarded key (Some value)) Reply.Filled new last
     guard-fills hooks steady is_steady value first new last fills =
         let filled = Fills-awaited steady hooks rules ticket false value mid new first last
         fills.answer (Takes-awaited (equal key) gives (rules.hash key) old ticket mid takes)
@@ -156,50 +155,52 @@ module _ {K V F M : Type 0} (rules : Rules K V) (equal : K → K → Bool)
 
   -- a guard that was filled is a load
   pub load-filled : (key : K) (given : Option V) (there : Bool) (calls : List (HookCall K V))
-      (new : CacheState K V) → Step (Guarded key given) Filled calls new
-      → TellsItem (equal key) new there → Step (Load key given) (Loaded there) calls new
+      (new : CacheState K V) → Step (Call.Guarded key given) Reply.Filled calls new
+      → TellsItem (equal key) new there → Step (Call.Load key given) (Reply.Loaded there) calls new
   load-filled key _ there _ _ (CacheStep.fills _ value calls new loads) tells =
       CacheStep.loads key value there calls new loads tells
 
   pub load_mut-filled : (key : K) (given : Option V) (left : V) (there : Bool)
       (calls : List (HookCall K V)) (mid new : CacheState K V)
-      → Step (Guarded key given) Filled calls mid
+      → Step (Call.Guarded key given) Reply.Filled calls mid
       → UpToOrder (WritesItem rules (equal key) mid left there) new
-      → Step (LoadMut key given left) (Loaded there) calls new
+      → Step (Call.LoadMut key given left) (Reply.Loaded there) calls new
   load_mut-filled key _ left there _ _ new (CacheStep.fills _ value calls mid loads) writes =
       CacheStep.loads_mut key value left there calls mid new loads writes
 
   -- one that was dropped is a load that failed
   pub load-dropped : (key : K) (given : Option V) (calls : List (HookCall K V))
-      (new : CacheState K V) → Step (Guarded key given) Dropped calls new
-      → Step (Load key given) LoadFailed calls new
+      (new : CacheState K V) → Step (Call.Guarded key given) Reply.Dropped calls new
+      → Step (Call.Load key given) Reply.LoadFailed calls new
   load-dropped key _ _ _ (CacheStep.drops _ new nothing) = CacheStep.fails key new nothing
 
   pub load_mut-dropped : (key : K) (given : Option V) (left : V) (calls : List (HookCall K V))
-      (new : CacheState K V) → Step (Guarded key given) Dropped calls new
-      → Step (LoadMut key given left) LoadFailed calls new
+      (new : CacheState K V) → Step (Call.Guarded key given) Reply.Dropped calls new
+      → Step (Call.LoadMut key given left) Reply.LoadFailed calls new
   load_mut-dropped key _ left _ _ (CacheStep.drops _ new nothing) =
       CacheStep.fails_mut key left new nothing
 
   -- where no guard was given, the key was found, or the call refused
   pub load-other : (key : K) (given : Option V) (reply : Reply K V M) (calls : List (HookCall K V))
-      (new : CacheState K V) → Step (Guarded key given) reply calls new → (reply ≡ Filled → ⊥)
-      → (reply ≡ Dropped → ⊥) → Step (Load key given) reply calls new
+      (new : CacheState K V) → Step (Call.Guarded key given) reply calls new
+      → (reply ≡ Reply.Filled → ⊥)
+      → (reply ≡ Reply.Dropped → ⊥) → Step (Call.Load key given) reply calls new
   load-other key _ _ _ _ (CacheStep.fills _ value _ new loads) unfilled undropped =
       absurd (unfilled refl)
   load-other key _ _ _ _ (CacheStep.drops _ new nothing) unfilled undropped =
       absurd (undropped refl)
   load-other key given _ _ _ (CacheStep.finds _ _ _ _ found shown mid new (IsLoad.guarded _) looks
       is_shown writes) unfilled undropped =
-      CacheStep.finds (Load key given) key given None found shown mid new (IsLoad.load given) looks
+      CacheStep.finds (Call.Load key given) key given None found shown mid new (IsLoad.load given)
+      looks
       is_shown writes
   load-other key given _ _ _ (CacheStep.refuses_found _ _ _ _ refusal place before item after
       (IsLoad.guarded _) there cause) unfilled undropped =
-      CacheStep.refuses_found (Load key given) key given None refusal place before item after
+      CacheStep.refuses_found (Call.Load key given) key given None refusal place before item after
       (IsLoad.load given) there cause
   load-other key given _ _ _ (CacheStep.refuses_load _ _ _ _ refusal (IsLoad.guarded _) cause)
       unfilled undropped =
-      CacheStep.refuses_load (Load key given) key given None refusal (IsLoad.load given) cause
+      CacheStep.refuses_load (Call.Load key given) key given None refusal (IsLoad.load given) cause
   load-other key given _ _ _ (CacheStep.refuses_look _ _ refusal place before item after look there
       cause) unfilled undropped = elim look [ ]
   load-other key given _ _ _ (CacheStep.refuses_room _ refusal makes_room cause) unfilled
@@ -209,9 +210,9 @@ module _ {K V F M : Type 0} (rules : Rules K V) (equal : K → K → Bool)
   module _ (key : K) (left : V) (call : Call K V F) where
     pub found-written : (given : Option V) → IsLoad key given (Some left) call → (shown : V)
         (there : Bool) (calls : List (HookCall K V)) (mid new : CacheState K V)
-        → Step (Guarded key given) (Found shown) calls mid
+        → Step (Call.Guarded key given) (Reply.Found shown) calls mid
         → UpToOrder (WritesItem rules (equal key) mid left there) new
-        → Step call (Found shown) calls new
+        → Step call (Reply.Found shown) calls new
     found-written given is_load _ there _ _ new (CacheStep.finds _ _ _ _ found shown first mid
         (IsLoad.guarded _) looks is_shown same) writes =
         let looked = subst (λ state. UpToOrder (LooksUp (equal key) old (λ item. item.value)
@@ -222,8 +223,10 @@ module _ {K V F M : Type 0} (rules : Rules K V) (equal : K → K → Bool)
   -- where no guard was given and nothing found, the call was refused
   pub load_mut-other : (key : K) (given : Option V) (left : V) (reply : Reply K V M)
       (calls : List (HookCall K V)) (new : CacheState K V)
-      → Step (Guarded key given) reply calls new → (reply ≡ Filled → ⊥) → (reply ≡ Dropped → ⊥)
-      → ((shown : V) → reply ≡ Found shown → ⊥) → Step (LoadMut key given left) reply calls new
+      → Step (Call.Guarded key given) reply calls new → (reply ≡ Reply.Filled → ⊥)
+      → (reply ≡ Reply.Dropped → ⊥)
+      → ((shown : V) → reply ≡ Reply.Found shown → ⊥)
+      → Step (Call.LoadMut key given left) reply calls new
   load_mut-other key _ left _ _ _ (CacheStep.fills _ value _ new loads) unfilled undropped unfound =
       absurd (unfilled refl)
   load_mut-other key _ left _ _ _ (CacheStep.drops _ new nothing) unfilled undropped unfound =
@@ -233,11 +236,12 @@ module _ {K V F M : Type 0} (rules : Rules K V) (equal : K → K → Bool)
       absurd (unfound shown refl)
   load_mut-other key given left _ _ _ (CacheStep.refuses_found _ _ _ _ refusal place before item
       after (IsLoad.guarded _) there cause) unfilled undropped unfound =
-      CacheStep.refuses_found (LoadMut key given left) key given (Some left) refusal place before
+      CacheStep.refuses_found (Call.LoadMut key given left) key given (Some left) refusal place
+      before
       item after (IsLoad.load_mut given left) there cause
   load_mut-other key given left _ _ _ (CacheStep.refuses_load _ _ _ _ refusal (IsLoad.guarded _)
       cause) unfilled undropped unfound =
-      CacheStep.refuses_load (LoadMut key given left) key given (Some left) refusal
+      CacheStep.refuses_load (Call.LoadMut key given left) key given (Some left) refusal
       (IsLoad.load_mut given left) cause
   load_mut-other key given left _ _ _ (CacheStep.refuses_look _ _ refusal place before item after
       look there cause) unfilled undropped unfound = elim look [ ]
@@ -247,8 +251,9 @@ module _ {K V F M : Type 0} (rules : Rules K V) (equal : K → K → Bool)
   -- where nothing was found, nothing is written over
   pub guarded_mut-other : (key : K) (given : Option V) (left : V) (reply : Reply K V M)
       (calls : List (HookCall K V)) (new : CacheState K V)
-      → Step (Guarded key given) reply calls new → ((shown : V) → reply ≡ Found shown → ⊥)
-      → Step (GuardedMut key given left) reply calls new
+      → Step (Call.Guarded key given) reply calls new
+      → ((shown : V) → reply ≡ Reply.Found shown → ⊥)
+      → Step (Call.GuardedMut key given left) reply calls new
   guarded_mut-other key _ left _ _ _ (CacheStep.fills _ value calls new loads) unfound =
       CacheStep.fills_mut key value left calls new loads
   guarded_mut-other key _ left _ _ _ (CacheStep.drops _ new nothing) unfound =
@@ -257,11 +262,12 @@ module _ {K V F M : Type 0} (rules : Rules K V) (equal : K → K → Bool)
       (IsLoad.guarded _) looks is_shown writes) unfound = absurd (unfound shown refl)
   guarded_mut-other key given left _ _ _ (CacheStep.refuses_found _ _ _ _ refusal place before item
       after (IsLoad.guarded _) there cause) unfound =
-      CacheStep.refuses_found (GuardedMut key given left) key given (Some left) refusal place before
+      CacheStep.refuses_found (Call.GuardedMut key given left) key given (Some left) refusal place
+      before
       item after (IsLoad.guarded_mut given left) there cause
   guarded_mut-other key given left _ _ _ (CacheStep.refuses_load _ _ _ _ refusal
       (IsLoad.guarded _) cause) unfound =
-      CacheStep.refuses_load (GuardedMut key given left) key given (Some left) refusal
+      CacheStep.refuses_load (Call.GuardedMut key given left) key given (Some left) refusal
       (IsLoad.guarded_mut given left) cause
   guarded_mut-other key given left _ _ _ (CacheStep.refuses_look _ _ refusal place before item after
       look there cause) unfound = elim look [ ]
@@ -271,9 +277,11 @@ module _ {K V F M : Type 0} (rules : Rules K V) (equal : K → K → Bool)
   -- so a guard that was made is made by this call too
   pub guarded_mut-made : {S : Type 0} (hooks : Hooks K V S) (key : K) (given : Option V) (left : V)
       (reply : Reply K V M) (first : S) (new : CacheState K V) (last : S)
-      → ((shown : V) → reply ≡ Found shown → ⊥)
-      → IsMade rules equal shows_key shows answers hooks old first (Guarded key given) reply new last
-      → IsMade rules equal shows_key shows answers hooks old first (GuardedMut key given left) reply
+      → ((shown : V) → reply ≡ Reply.Found shown → ⊥)
+      → IsMade rules equal shows_key shows answers hooks old first (Call.Guarded key given) reply
+      new last
+      → IsMade rules equal shows_key shows answers hooks old first (Call.GuardedMut key given left)
+      reply
       new last
   guarded_mut-made hooks key given left reply first new last unfound made = record {
     calls = made.calls;

@@ -1,39 +1,31 @@
 -- What is told of steps in which no pair comes: look-ups, references, removals, and what takes out
 -- many pairs at once.
-use Rattle.std.proofs.Common.{◌≡◌, ℕ, Bool, not, List, [], ◌∷◌, ◌++◌, map, Option}
-use Rattle.std.proofs.Common.{IsPermutation, refl, sym, ap, subst, ◌∙◌}
+use Rattle.std.proofs.Common.{◌≡◌, ℕ, Bool, not, List, [], ◌∷◌, ◌++◌, map, Option, IsPermutation, refl, sym, ap, subst, ◌∙◌}
 use Rattle.std.specs.Cmp.{IsEquivalence}
 use Rattle.std.specs.List.{filter}
 use Rattle.std.specs.Option.{option_to_list}
 use Rattle.std.proofs.lemmas.List.{append-nil, append_assoc, map-append}
 use Rattle.std.proofs.lemmas.List.Elements.{filter-append}
-use Rattle.std.proofs.lemmas.List.Sorted.{IsPermutation-refl, IsPermutation-sym}
-use Rattle.std.proofs.lemmas.List.Sorted.{IsPermutation-trans, IsPermutation-map}
+use Rattle.std.proofs.lemmas.List.Sorted.{IsPermutation-refl, IsPermutation-sym, IsPermutation-trans, IsPermutation-map}
 use Rattle.std.proofs.lemmas.List.Sorted.{IsPermutation-filter_both, IsPermutation-append_comm}
-use Rattle.quick_cache_model.specs.CacheState.{CacheState, Item, Place, InHot, InCold, InStill}
-use Rattle.quick_cache_model.specs.CacheState.{with_items, IsValid}
+use Rattle.quick_cache_model.specs.CacheState.{CacheState, Item, Place, InHot, InCold, InStill, with_items, IsValid}
 use Rattle.quick_cache_model.specs.Capacity.{SetsCapacity, resized}
 use Rattle.quick_cache_model.specs.Finding.{IsItemAt}
 use Rattle.quick_cache_model.specs.Hooks.{Rules, HookCall}
 use Rattle.quick_cache_model.specs.Lookups.{LooksUp, looked_up, after_hit}
-use Rattle.quick_cache_model.specs.Removal.{Removes, RemovesIf, Retains, Drains, cleared, pair_of}
-use Rattle.quick_cache_model.specs.Removal.{weighed, reweighed}
+use Rattle.quick_cache_model.specs.Removal.{Removes, RemovesIf, Retains, Drains, cleared, pair_of, weighed, reweighed}
 use Rattle.quick_cache_model.proofs.Valid.Edits.{cleared-valid}
-use Rattle.quick_cache_model.proofs.Valid.Lookups.{LooksUp-valid, Removes-valid, RemovesIf-valid}
-use Rattle.quick_cache_model.proofs.Valid.Lookups.{Retains-valid, Drains-valid, reweighed-valid}
+use Rattle.quick_cache_model.proofs.Valid.Lookups.{LooksUp-valid, Removes-valid, RemovesIf-valid, Retains-valid, Drains-valid}
+use Rattle.quick_cache_model.proofs.Valid.Lookups.{reweighed-valid}
 use Rattle.quick_cache_model.proofs.Valid.Places.{IsInPlace-marked}
 use Rattle.quick_cache_model.proofs.Valid.States.{IsValid-in_place, SetsCapacity-valid}
 use Rattle.quick_cache_model.specs.References.{WritesItem}
-use Rattle.quick_cache_model.specs.Fates.{Changes, Leaves, fate_of, leaving}
-use Rattle.quick_cache_runs.specs.Fates.{Rewrite}
-use Rattle.quick_cache_model.specs.Fates.{residents}
-use Rattle.quick_cache_runs.specs.Fates.{changing, IsRewrite}
+use Rattle.quick_cache_model.specs.Fates.{Changes, Leaves, fate_of, leaving, residents}
+use Rattle.quick_cache_runs.specs.Fates.{Rewrite, changing, IsRewrite}
 use Rattle.quick_cache_runs.proofs.Eviction.{EvictsToCapacity-tells}
 use Rattle.quick_cache_model.specs.Leads.{Leads}
-use Rattle.quick_cache_model.proofs.Leads.{Leads-same, Leads-from, Leads-changes}
-use Rattle.quick_cache_model.proofs.Leads.{Leads-leaves, Leads-all}
-use Rattle.quick_cache_model.proofs.Residents.{residents-between, residents-split}
-use Rattle.quick_cache_model.proofs.Residents.{residents-rewritten}
+use Rattle.quick_cache_model.proofs.Leads.{Leads-same, Leads-from, Leads-changes, Leads-leaves, Leads-all}
+use Rattle.quick_cache_model.proofs.Residents.{residents-between, residents-split, residents-rewritten}
 use Rattle.quick_cache_runs.proofs.Told.{Told, Told-quiet, Told-same, Told-nothing}
 use Rattle.quick_cache_runs.proofs.Values.{comings-hooks, comings-leaving}
 

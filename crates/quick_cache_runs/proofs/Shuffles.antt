@@ -1,11 +1,9 @@
 -- Orders of what a list is mapped to, and of the list.
-use Rattle.std.proofs.Common.{◌≡◌, ℕ, List, [], ◌∷◌, length, map, IsPermutation, refl, sym, ap}
-use Rattle.std.proofs.Common.{◌∙◌, arith, set, get_or}
+use Rattle.std.proofs.Common.{◌≡◌, ℕ, List, [], ◌∷◌, length, map, IsPermutation, refl, sym, ap, ◌∙◌, arith, set, get_or}
 use Rattle.std.specs.List.{swap}
 use Rattle.std.proofs.lemmas.List.{length-map, map-set}
 use Rattle.std.proofs.Math.ListN.{get_or-map}
-use Rattle.std.proofs.lemmas.List.Sorted.{IsPermutation-refl, IsPermutation-trans}
-use Rattle.std.proofs.lemmas.List.Sorted.{IsPermutation-swap, IsPermutation-keeps}
+use Rattle.std.proofs.lemmas.List.Sorted.{IsPermutation-refl, IsPermutation-trans, IsPermutation-swap, IsPermutation-keeps}
 
 module _ {P X : Type 0} (f : P → X) where
   -- an exchange, before and after the map

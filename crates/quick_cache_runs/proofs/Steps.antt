@@ -1,6 +1,5 @@
 -- What is told of each call.
-use Rattle.std.proofs.Common.{Bool, true, List, [], ◌∷◌, ◌++◌, map, Option, Some, None}
-use Rattle.std.proofs.Common.{refl, sym, subst}
+use Rattle.std.proofs.Common.{Bool, true, List, [], ◌∷◌, ◌++◌, map, Option, Some, None, refl, sym, subst}
 use Rattle.std.specs.Cmp.{IsEquivalence}
 use Rattle.std.specs.Option.{option_to_list}
 use Rattle.std.proofs.lemmas.List.{append-nil}
@@ -14,27 +13,19 @@ use Rattle.quick_cache_model.specs.Refusals.{MayRefuse, needs_of_insert}
 use Rattle.quick_cache_model.specs.Removal.{Removes, RemovesIf, Retains}
 use Rattle.quick_cache_model.specs.Writes.{Strategy, Writes, Insert as insertion}
 use Rattle.quick_cache_model.specs.declared.calls.call.Call.{Call}
-use Rattle.quick_cache_model.specs.declared.calls.call.Call.TheVariants.{Remove, RemoveIf, LoadMut}
-use Rattle.quick_cache_model.specs.declared.calls.call.Call.TheVariants.{GuardedMut, Load, Guarded}
 use Rattle.quick_cache_model.specs.declared.calls.reply.Reply.{Reply}
-use Rattle.quick_cache_model.specs.declared.calls.reply.Reply.TheVariants.{Pair, Found, Refused}
 use Rattle.quick_cache_model.specs.CacheStep.{CacheStep}
 use Rattle.quick_cache_model.specs.Kinds.{replacement, IsLook, IsLoad, MakesRoom}
 use Rattle.quick_cache_model.specs.Loads.{WritesIfGiven}
 use Rattle.quick_cache_model.specs.References.{WritesItem}
-use Rattle.quick_cache_model.specs.Fates.{Fate, Comes, Leaves}
-use Rattle.quick_cache_runs.specs.Fates.{Rewrite, Befalls, HandsIn}
-use Rattle.quick_cache_model.specs.Fates.{coming, leaving}
-use Rattle.quick_cache_runs.specs.Fates.{WritesThrough, pairs_out, changing}
-use Rattle.quick_cache_model.specs.Fates.{fate_of, residents}
+use Rattle.quick_cache_model.specs.Fates.{Fate, Comes, Leaves, coming, leaving, fate_of, residents}
+use Rattle.quick_cache_runs.specs.Fates.{Rewrite, Befalls, HandsIn, WritesThrough, pairs_out, changing}
 use Rattle.quick_cache_runs.proofs.Fills.{Loads-told, LoadsNothing-told}
 use Rattle.quick_cache_model.proofs.Leads.{Leads-same, Leads-leaves}
-use Rattle.quick_cache_runs.proofs.Quiet.{LooksUp-told, Removes-told, RemovesIf-told}
-use Rattle.quick_cache_runs.proofs.Quiet.{Retains-told, cleared-told, Drains-told}
+use Rattle.quick_cache_runs.proofs.Quiet.{LooksUp-told, Removes-told, RemovesIf-told, Retains-told, cleared-told, Drains-told}
 use Rattle.quick_cache_runs.proofs.Quiet.{SetsCapacity-told, IsRewritten, WritesItem-told}
 use Rattle.quick_cache_runs.proofs.Residents.{counted-absent}
-use Rattle.quick_cache_runs.proofs.Told.{Told, Told-nothing, Told-append, Told-ordered}
-use Rattle.quick_cache_runs.proofs.Told.{Told-reordered}
+use Rattle.quick_cache_runs.proofs.Told.{Told, Told-nothing, Told-append, Told-ordered, Told-reordered}
 use Rattle.quick_cache_runs.proofs.Writes.{Written, Written-told, Writes-told}
 
 module _ {K V : Type 0} (rules : Rules K V) (equal : K → K → Bool) (laws : IsEquivalence equal)
@@ -126,69 +117,81 @@ module _ {K V F M : Type 0} (rules : Rules K V) (equal : K → K → Bool)
     -- a removal, by what it gives out
     removed_booked : (key : K) (answer : Option (K × V)) (new : CacheState K V)
         → Told equal old (map leaving (option_to_list answer)) new
-        → IsBooked old (Remove key) (Pair answer) [] new
-    removed_booked key None new told = booked (Remove key) (Pair None) [] new [] [] refl refl told
+        → IsBooked old (Call.Remove key) (Reply.Pair answer) [] new
+    removed_booked key None new told =
+        booked (Call.Remove key) (Reply.Pair None) [] new [] [] refl refl told
     removed_booked key (Some pair) new told =
-        booked (Remove key) (Pair (Some pair)) [] new [] [] refl refl told
+        booked (Call.Remove key) (Reply.Pair (Some pair)) [] new [] [] refl refl told
 
     tested_booked : (key : K) (wanted : F) (answer : Option (K × V)) (new : CacheState K V)
         → Told equal old (map leaving (option_to_list answer)) new
-        → IsBooked old (RemoveIf key wanted) (Pair answer) [] new
+        → IsBooked old (Call.RemoveIf key wanted) (Reply.Pair answer) [] new
     tested_booked key wanted None new told =
-        booked (RemoveIf key wanted) (Pair None) [] new [] [] refl refl told
+        booked (Call.RemoveIf key wanted) (Reply.Pair None) [] new [] [] refl refl told
     tested_booked key wanted (Some pair) new told =
-        booked (RemoveIf key wanted) (Pair (Some pair)) [] new [] [] refl refl told
+        booked (Call.RemoveIf key wanted) (Reply.Pair (Some pair)) [] new [] [] refl refl told
 
   module _ (old : CacheState K V) (valid : IsValid equal old) where
     -- an item that is found: it is looked up, and written through the reference, where one is given
     found_booked : (key : K) (given : Option V) (call : Call K V F) (left : Option V) (found shown : V)
         (mid new : CacheState K V) → IsLoad key given left call
         → Told equal old [] mid → WritesIfGiven rules (equal key) mid left true new
-        → IsBooked old call (Found shown) [] new
+        → IsBooked old call (Reply.Found shown) [] new
     found_booked key given _ _ found shown mid new (IsLoad.load _) looks same =
-        booked old valid (Load key given) (Found shown) [] new [] [] refl refl
+        booked old valid (Call.Load key given) (Reply.Found shown) [] new [] [] refl refl
         (subst (λ state. Told equal old [] state) (sym same) looks)
     found_booked key given _ _ found shown mid new (IsLoad.guarded _) looks same =
-        booked old valid (Guarded key given) (Found shown) [] new [] [] refl refl
+        booked old valid (Call.Guarded key given) (Reply.Found shown) [] new [] [] refl refl
         (subst (λ state. Told equal old [] state) (sym same) looks)
     found_booked key given _ _ found shown mid new (IsLoad.load_mut _ left) looks writes =
         let h = rewritten_told rules equal laws mid looks.valid key left true new writes in
-        booked old valid (LoadMut key given left) (Found shown) [] new [] h.written refl h.is
+        booked old valid (Call.LoadMut key given left) (Reply.Found shown) [] new [] h.written refl
+        h.is
         (ended rules equal laws old valid (map changing h.written) new
         (Told-append equal old mid new [] (map changing h.written) looks h.told))
     found_booked key given _ _ found shown mid new (IsLoad.guarded_mut _ left) looks writes =
         let h = rewritten_told rules equal laws mid looks.valid key left true new writes in
-        booked old valid (GuardedMut key given left) (Found shown) [] new [] h.written refl h.is
+        booked old valid (Call.GuardedMut key given left) (Reply.Found shown) [] new [] h.written
+        refl h.is
         (ended rules equal laws old valid (map changing h.written) new
         (Told-append equal old mid new [] (map changing h.written) looks h.told))
 
     -- a call that is refused
     refused_look : (key : K) (call : Call K V F) (refusal : Refusal) → IsLook key call
-        → IsBooked old call (Refused refusal) [] old
+        → IsBooked old call (Reply.Refused refusal) [] old
     refused_look key _ refusal IsLook.get =
-        booked old valid _ (Refused refusal) [] old [] [] refl refl (Told-nothing equal old valid)
+        booked old valid _ (Reply.Refused refusal) [] old [] [] refl refl
+        (Told-nothing equal old valid)
     refused_look key _ refusal IsLook.peek =
-        booked old valid _ (Refused refusal) [] old [] [] refl refl (Told-nothing equal old valid)
+        booked old valid _ (Reply.Refused refusal) [] old [] [] refl refl
+        (Told-nothing equal old valid)
 
     refused_load : (key : K) (given : Option V) (call : Call K V F) (left : Option V) (refusal : Refusal)
-        → IsLoad key given left call → IsBooked old call (Refused refusal) [] old
+        → IsLoad key given left call → IsBooked old call (Reply.Refused refusal) [] old
     refused_load key given _ _ refusal (IsLoad.load _) =
-        booked old valid _ (Refused refusal) [] old [] [] refl refl (Told-nothing equal old valid)
+        booked old valid _ (Reply.Refused refusal) [] old [] [] refl refl
+        (Told-nothing equal old valid)
     refused_load key given _ _ refusal (IsLoad.load_mut _ left) =
-        booked old valid _ (Refused refusal) [] old [] [] refl refl (Told-nothing equal old valid)
+        booked old valid _ (Reply.Refused refusal) [] old [] [] refl refl
+        (Told-nothing equal old valid)
     refused_load key given _ _ refusal (IsLoad.guarded _) =
-        booked old valid _ (Refused refusal) [] old [] [] refl refl (Told-nothing equal old valid)
+        booked old valid _ (Reply.Refused refusal) [] old [] [] refl refl
+        (Told-nothing equal old valid)
     refused_load key given _ _ refusal (IsLoad.guarded_mut _ left) =
-        booked old valid _ (Refused refusal) [] old [] [] refl refl (Told-nothing equal old valid)
+        booked old valid _ (Reply.Refused refusal) [] old [] [] refl refl
+        (Told-nothing equal old valid)
 
     refused_room : (call : Call K V F) (refusal : Refusal) → MakesRoom call
-        → IsBooked old call (Refused refusal) [] old
+        → IsBooked old call (Reply.Refused refusal) [] old
     refused_room _ refusal MakesRoom.iter =
-        booked old valid _ (Refused refusal) [] old [] [] refl refl (Told-nothing equal old valid)
+        booked old valid _ (Reply.Refused refusal) [] old [] [] refl refl
+        (Told-nothing equal old valid)
     refused_room _ refusal MakesRoom.drain =
-        booked old valid _ (Refused refusal) [] old [] [] refl refl (Told-nothing equal old valid)
+        booked old valid _ (Reply.Refused refusal) [] old [] [] refl refl
+        (Told-nothing equal old valid)
     refused_room _ refusal (MakesRoom.reserve count) =
-        booked old valid _ (Refused refusal) [] old [] [] refl refl (Told-nothing equal old valid)
+        booked old valid _ (Reply.Refused refusal) [] old [] [] refl refl
+        (Told-nothing equal old valid)
 
   -- each call
   pub CacheStep-booked : (old : CacheState K V) → IsValid equal old

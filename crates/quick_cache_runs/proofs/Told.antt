@@ -1,7 +1,6 @@
 -- What befalls pairs in a step from a valid state: it leads the residents to those of a valid state,
 -- and keys have their last values.
-use Rattle.std.proofs.Common.{◌≡◌, Bool, true, List, [], ◌++◌, Option, Some}
-use Rattle.std.proofs.Common.{IsPermutation, refl, sym, subst, arith}
+use Rattle.std.proofs.Common.{◌≡◌, Bool, true, List, [], ◌++◌, Option, Some, IsPermutation, refl, sym, subst, arith}
 use Rattle.std.proofs.lemmas.List.Sorted.{IsPermutation-refl}
 use Rattle.quick_cache_model.specs.CacheState.{CacheState, IsValid, SameButOrder, UpToOrder}
 use Rattle.quick_cache_model.proofs.EachElement.{all-permutation}

@@ -1,20 +1,17 @@
 -- A write leads its pair and the residents to be resident, to be told to a hook, or to be given
 -- back.
-use Rattle.std.proofs.Common.{◌≡◌, ℕ, ◌+◌, ◌≤◌, Bool, true, false, List, [], ◌∷◌, ◌++◌, map, Option}
-use Rattle.std.proofs.Common.{Some, IsPermutation, refl, sym, ap, subst, arith, ◌∙◌}
+use Rattle.std.proofs.Common.{◌≡◌, ℕ, ◌+◌, ◌≤◌, Bool, true, false, List, [], ◌∷◌, ◌++◌, map, Option, Some, IsPermutation, refl, sym, ap}
+use Rattle.std.proofs.Common.{subst, arith, ◌∙◌}
 use Rattle.std.specs.Cmp.{IsEquivalence}
 use Rattle.std.specs.Option.{option_to_list}
 use Rattle.std.specs.Prelude.{count_by}
 use Rattle.std.proofs.lemmas.List.{append-nil, append_assoc, map-append}
 use Rattle.std.proofs.lemmas.List.Sorted.{IsPermutation-sym}
 use Rattle.quick_cache_model.specs.declared.queue.Queue.{Queue}
-use Rattle.quick_cache_model.specs.declared.queue.Queue.TheVariants.{Hot, Cold}
-use Rattle.quick_cache_model.specs.CacheState.{CacheState, with_items, entered, rewritten}
-use Rattle.quick_cache_model.specs.CacheState.{IsValid}
+use Rattle.quick_cache_model.specs.CacheState.{CacheState, with_items, entered, rewritten, IsValid}
 use Rattle.quick_cache_model.specs.Hooks.{Rules, HookCall, evicted}
 use Rattle.quick_cache_model.specs.Admission.{Admission, Admitted, TooHeavy, ChecksAdmission}
-use Rattle.quick_cache_model.specs.Writes.{Strategy, new_item, queue_for, mark_after}
-use Rattle.quick_cache_model.specs.Writes.{WritesAdmitted, TakesOutItem, RejectsTooHeavy, Writes}
+use Rattle.quick_cache_model.specs.Writes.{Strategy, new_item, queue_for, mark_after, WritesAdmitted, TakesOutItem, RejectsTooHeavy, Writes}
 use Rattle.quick_cache_model.specs.Removal.{pair_of}
 use Rattle.quick_cache_model.specs.Touches.{first_mark}
 use Rattle.quick_cache_model.proofs.EachElement.{all-permutation}
@@ -25,16 +22,12 @@ use Rattle.quick_cache_runs.specs.Conservation.{IsLastOf}
 use Rattle.quick_cache_model.specs.Fates.{Fate, Comes, Changes, Leaves, leaving, fate_of, residents}
 use Rattle.quick_cache_runs.proofs.Eviction.{EvictsToCapacity-tells}
 use Rattle.quick_cache_model.specs.Leads.{Leads}
-use Rattle.quick_cache_model.proofs.Leads.{Leads-same, Leads-from, Leads-to, Leads-changes}
-use Rattle.quick_cache_model.proofs.Leads.{Leads-leaves, Leads-beside, Leads-between}
-use Rattle.quick_cache_model.proofs.Residents.{residents-split, residents-entered}
-use Rattle.quick_cache_model.proofs.Residents.{residents-rewritten}
-use Rattle.quick_cache_runs.proofs.Residents.{counted-residents}
-use Rattle.quick_cache_runs.proofs.Residents.{counted-absent}
+use Rattle.quick_cache_model.proofs.Leads.{Leads-same, Leads-from, Leads-to, Leads-changes, Leads-leaves, Leads-beside, Leads-between}
+use Rattle.quick_cache_model.proofs.Residents.{residents-split, residents-entered, residents-rewritten}
+use Rattle.quick_cache_runs.proofs.Residents.{counted-residents, counted-absent}
 use Rattle.quick_cache_runs.proofs.Told.{Told}
-use Rattle.quick_cache_runs.proofs.Values.{comings, comings-append, comings-hooks}
-use Rattle.quick_cache_runs.proofs.Values.{comings-leaving, counted, counted-cons}
-use Rattle.quick_cache_runs.proofs.Values.{counted-order, Leads-last, last_written-leaving}
+use Rattle.quick_cache_runs.proofs.Values.{comings, comings-append, comings-hooks, comings-leaving, counted, counted-cons, counted-order}
+use Rattle.quick_cache_runs.proofs.Values.{Leads-last, last_written-leaving}
 
 -- the value of an admission
 abbrev pub value_of : {V : Type 0} → Admission V → V
@@ -44,8 +37,8 @@ value_of (TooHeavy value) = value
 -- what the hook of a queue is told
 fate-evicted : {K V : Type 0} (queue : Queue) (key : K) (value : V)
     → fate_of (evicted queue key value) ≡ Leaves key value
-fate-evicted Hot key value = refl
-fate-evicted Cold key value = refl
+fate-evicted Queue.Hot key value = refl
+fate-evicted Queue.Cold key value = refl
 
 module _ {K V : Type 0} (equal : K → K → Bool) (laws : IsEquivalence equal) where
   -- tests that agree count alike
@@ -162,7 +155,7 @@ module _ {K V : Type 0} (equal : K → K → Bool) (laws : IsEquivalence equal) 
           → Written new value (fates_of calls answer)
       admitted-written strategy value _ _ _
           (WritesAdmitted.inserts_new mid calls inserts nothing evicts) =
-          let item = new_item rules key value (queue_for rules old key value Cold) 0 in
+          let item = new_item rules key value (queue_for rules old key value Queue.Cold) 0 in
           subst (λ fates. Written (entered item mid) value fates)
           (sym (append-nil (map fate_of calls)))
           (Written.beside value (map fate_of calls)
@@ -188,7 +181,7 @@ module _ {K V : Type 0} (equal : K → K → Bool) (laws : IsEquivalence equal) 
           (EvictsToCapacity-tells rules 0 mid calls new evicts)))
       admitted-written strategy value _ _ _
           (WritesAdmitted.inserts_over_ghost before after calls new inserts there evicts) =
-          let item = new_item rules key value Hot 0 in
+          let item = new_item rules key value Queue.Hot 0 in
           let mid : CacheState K V = record old { ghosts = before ++ after } in
           subst (λ fates. Written new value fates) (sym (append-nil (map fate_of calls)))
           (Written.beside value (map fate_of calls)

@@ -3,15 +3,13 @@ use Rattle.std.specs.Prelude.{Bool, Option, Some, None, IfSome}
 use denote.Ref.{Bor}
 use denote.Param.Members.{Shared}
 use Rattle.quick_cache_model.specs.declared.calls.call.Call.{Call}
-use Rattle.quick_cache_model.specs.declared.calls.call.Call.TheVariants.{RemoveIf, Retain, Load}
-use Rattle.quick_cache_model.specs.declared.calls.call.Call.TheVariants.{LoadMut, Guarded, GuardedMut}
 use Rattle.quick_cache_shard.specs.Predicates.{IsAnsweredAs}
 
 module _ {K V F : Type 0} where
   -- the predicate that a call asks, if it asks one
   abbrev pub predicate_of : Call K V F → Option F
-  predicate_of (RemoveIf key wanted) = Some wanted
-  predicate_of (Retain keep) = Some keep
+  predicate_of (Call.RemoveIf key wanted) = Some wanted
+  predicate_of (Call.Retain keep) = Some keep
   predicate_of _ = None
 
   -- P holds of it
@@ -25,8 +23,8 @@ module _ {K V F : Type 0} where
 
   -- P holds where the call loads what it does not find
   abbrev pub IfLoads : Type 0 → Call K V F → Type 0
-  IfLoads P (Load key given) = P
-  IfLoads P (LoadMut key given left) = P
-  IfLoads P (Guarded key given) = P
-  IfLoads P (GuardedMut key given left) = P
+  IfLoads P (Call.Load key given) = P
+  IfLoads P (Call.LoadMut key given left) = P
+  IfLoads P (Call.Guarded key given) = P
+  IfLoads P (Call.GuardedMut key given left) = P
   IfLoads P _ = Unit {0}

@@ -1,7 +1,6 @@
 -- Conservation: over every run of calls, no pair that a cache was handed is lost, made, or told of
 -- twice, and a key has the value that was last written for it, or none.
-use Rattle.std.specs.Prelude.{◌≡◌, ℕ, ◌+◌, length, Bool, true, List, [], ◌∷◌, ◌++◌, Option, Some}
-use Rattle.std.specs.Prelude.{Result, Vec}
+use Rattle.std.specs.Prelude.{◌≡◌, ℕ, ◌+◌, length, Bool, true, List, [], ◌∷◌, ◌++◌, Option, Some, Result, Vec}
 use Rattle.std.specs.List.{AllByRecursion}
 use Rattle.quick_cache_model.specs.CacheState.{CacheState, IsValid}
 use Rattle.quick_cache_model.specs.Hooks.{Rules, Hooks, HookCall, RunsHooks}
@@ -10,10 +9,8 @@ use Rattle.quick_cache_model.specs.declared.calls.reply.Reply.{Reply}
 use Rattle.quick_cache_model.specs.Answered.{replies_of}
 use Rattle.quick_cache_model.specs.CacheStep.{CacheStep}
 use Rattle.quick_cache_model.specs.CacheRun.{CacheRun}
-use Rattle.quick_cache_model.specs.Fates.{Fate, Comes, Changes, Leaves}
-use Rattle.quick_cache_runs.specs.Fates.{Befalls}
-use Rattle.quick_cache_model.specs.Fates.{residents}
-use Rattle.quick_cache_runs.specs.Fates.{last_written}
+use Rattle.quick_cache_model.specs.Fates.{Fate, Comes, Changes, Leaves, residents}
+use Rattle.quick_cache_runs.specs.Fates.{Befalls, last_written}
 use Rattle.quick_cache_runs.specs.Books.{Book, Follows, IsBookOf, IsBalanced}
 
 module _ {K V : Type 0} where

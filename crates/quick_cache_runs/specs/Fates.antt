@@ -1,19 +1,12 @@
 -- What becomes of the pairs that a cache is handed, call by call.
-use Rattle.std.specs.Prelude.{◌≡◌, Bool, true, false, not, List, [], ◌∷◌, ◌++◌, map, Option, Some}
-use Rattle.std.specs.Prelude.{None, if◌then◌else◌}
+use Rattle.std.specs.Prelude.{◌≡◌, Bool, true, false, not, List, [], ◌∷◌, ◌++◌, map, Option, Some, None, if◌then◌else◌}
 use Rattle.std.specs.List.{filter}
 use Rattle.quick_cache_model.specs.CacheState.{CacheState}
 use Rattle.quick_cache_model.specs.Hooks.{HookCall}
 use Rattle.quick_cache_model.specs.Removal.{pair_of}
 use Rattle.quick_cache_model.specs.Fates.{Fate, Comes, Changes, Leaves, coming, leaving, fate_of, residents}
 use Rattle.quick_cache_model.specs.declared.calls.call.Call.{Call}
-use Rattle.quick_cache_model.specs.declared.calls.call.Call.TheVariants.{Insert, Replace, GetMut, PeekMut}
-use Rattle.quick_cache_model.specs.declared.calls.call.Call.TheVariants.{Load, LoadMut, Guarded}
-use Rattle.quick_cache_model.specs.declared.calls.call.Call.TheVariants.{GuardedMut, Drain, Retain, Clear}
 use Rattle.quick_cache_model.specs.declared.calls.reply.Reply.{Reply}
-use Rattle.quick_cache_model.specs.declared.calls.reply.Reply.TheVariants.{RefusedPair, NotAdmitted, Flag}
-use Rattle.quick_cache_model.specs.declared.calls.reply.Reply.TheVariants.{Pair, Found, Loaded, Filled}
-use Rattle.quick_cache_model.specs.declared.calls.reply.Reply.TheVariants.{Pairs}
 
 -- a value that was written through a reference: the key of its item, and the value before and after
 pub record Rewrite (K V : Type 0) : Type 0 where
@@ -39,28 +32,28 @@ module _ {K V : Type 0} where
 
 -- whether a reply tells that a placeholder was filled
 abbrev pub tells_fill : {K V M : Type 0} → Reply K V M → Bool
-tells_fill (Loaded there) = true
-tells_fill Filled = true
+tells_fill (Reply.Loaded there) = true
+tells_fill Reply.Filled = true
 tells_fill _ = false
 
 -- whether a reply tells that a reference was given
 abbrev pub tells_reference : {K V M : Type 0} → Reply K V M → Bool
-tells_reference (Flag there) = there
-tells_reference (Found value) = true
-tells_reference (Loaded there) = there
+tells_reference (Reply.Flag there) = there
+tells_reference (Reply.Found value) = true
+tells_reference (Reply.Loaded there) = there
 tells_reference _ = false
 
 -- the pair that a reply gives out, be it a resident's or one that was not taken; what a look or a
 -- walk shows is a clone
 abbrev pub pair_back : {K V M : Type 0} → Reply K V M → List (K × V)
-pair_back (RefusedPair key value refusal) = (key, value) ∷ []
-pair_back (NotAdmitted key value) = (key, value) ∷ []
-pair_back (Pair (Some pair)) = pair ∷ []
+pair_back (Reply.RefusedPair key value refusal) = (key, value) ∷ []
+pair_back (Reply.NotAdmitted key value) = (key, value) ∷ []
+pair_back (Reply.Pair (Some pair)) = pair ∷ []
 pair_back _ = []
 
 -- the pairs of a drain
 abbrev pub pairs_drained : {K V M : Type 0} → Reply K V M → List (K × V)
-pairs_drained (Pairs pairs) = pairs.items
+pairs_drained (Reply.Pairs pairs) = pairs.items
 pairs_drained _ = []
 
 module _ {K V : Type 0} (equal : K → K → Bool) where
@@ -82,25 +75,26 @@ module _ {K V F M : Type 0} (equal : K → K → Bool) where
   -- The pairs that a call hands in: that of an insert or a replace, and that of a value which a
   -- loader or a guard gave to a fill.
   abbrev pub HandsIn : Call K V F → Reply K V M → List (K × V) → Type 0
-  HandsIn (Insert key value) reply begun = begun ≡ (key, value) ∷ []
-  HandsIn (Replace key value soft) reply begun = begun ≡ (key, value) ∷ []
-  HandsIn (Load key given) reply begun = IsPairOfFill equal key (tells_fill reply) given begun
-  HandsIn (LoadMut key given left) reply begun =
+  HandsIn (Call.Insert key value) reply begun = begun ≡ (key, value) ∷ []
+  HandsIn (Call.Replace key value soft) reply begun = begun ≡ (key, value) ∷ []
+  HandsIn (Call.Load key given) reply begun = IsPairOfFill equal key (tells_fill reply) given begun
+  HandsIn (Call.LoadMut key given left) reply begun =
       IsPairOfFill equal key (tells_fill reply) given begun
-  HandsIn (Guarded key given) reply begun = IsPairOfFill equal key (tells_fill reply) given begun
-  HandsIn (GuardedMut key given left) reply begun =
+  HandsIn (Call.Guarded key given) reply begun =
+      IsPairOfFill equal key (tells_fill reply) given begun
+  HandsIn (Call.GuardedMut key given left) reply begun =
       IsPairOfFill equal key (tells_fill reply) given begun
   HandsIn _ reply begun = begun ≡ []
 
   -- the values that a call writes through a reference
   abbrev pub WritesThrough : Call K V F → Reply K V M → List (Rewrite K V) → Type 0
-  WritesThrough (GetMut key left) reply written =
+  WritesThrough (Call.GetMut key left) reply written =
       IsRewrite equal key left (tells_reference reply) written
-  WritesThrough (PeekMut key left) reply written =
+  WritesThrough (Call.PeekMut key left) reply written =
       IsRewrite equal key left (tells_reference reply) written
-  WritesThrough (LoadMut key given left) reply written =
+  WritesThrough (Call.LoadMut key given left) reply written =
       IsRewrite equal key left (tells_reference reply) written
-  WritesThrough (GuardedMut key given left) reply written =
+  WritesThrough (Call.GuardedMut key given left) reply written =
       IsRewrite equal key left (tells_reference reply) written
   WritesThrough _ reply written = written ≡ []
 
@@ -108,10 +102,10 @@ module _ {K V F M : Type 0} (answers : F → K → V → Bool) (old : CacheState
   -- the pairs that leave by the call itself: what it gives out, and what a retain, a clear or a
   -- drain takes out
   abbrev pub pairs_out : Call K V F → Reply K V M → List (K × V)
-  pairs_out (Retain keep) reply = map pair_of
+  pairs_out (Call.Retain keep) reply = map pair_of
       (filter (λ item. not (answers keep item.key item.value)) (old.hot ++ (old.cold ++ old.still)))
-  pairs_out Clear reply = residents old
-  pairs_out Drain reply = pairs_drained reply
+  pairs_out Call.Clear reply = residents old
+  pairs_out Call.Drain reply = pairs_drained reply
   pairs_out _ reply = pair_back reply
 
 module _ {K V F M : Type 0} (equal : K → K → Bool) (answers : F → K → V → Bool) where

@@ -1,7 +1,6 @@
 //! The law of conservation. Its function does nothing, and its contract is a theorem about words of
 //! `specs/`.
-ghost use Rattle.quick_cache_runs.specs.Conservation.{BooksCanBeOpened, RunsConserve};
-ghost use Rattle.quick_cache_runs.specs.Conservation.{PairsAddUp, ValuesCanBeFound};
+ghost use Rattle.quick_cache_runs.specs.Conservation.{BooksCanBeOpened, RunsConserve, PairsAddUp, ValuesCanBeFound};
 
 use quick_cache_model::Touches;
 use std::alloc::Allocator;

@@ -1,9 +1,7 @@
 //! Lists of calls, made one after another.
-ghost use Rattle.std.specs.Prelude.{◌≡◌, ◌≤◌, ◌<◌, ◌+◌, ◌++◌, [], ◌∷◌};
-ghost use Rattle.std.specs.Prelude.{All, length, vec_len, vec_capacity};
+ghost use Rattle.std.specs.Prelude.{◌≡◌, ◌≤◌, ◌<◌, ◌+◌, ◌++◌, [], ◌∷◌, All, length, vec_len, vec_capacity};
 ghost use Rattle.quick_cache_model.specs.CacheState.{IsValid};
-ghost use Rattle.quick_cache_model.specs.Answered.{AlwaysClones, IsAnswered, AreAnswered};
-ghost use Rattle.quick_cache_model.specs.Answered.{replies_of};
+ghost use Rattle.quick_cache_model.specs.Answered.{AlwaysClones, IsAnswered, AreAnswered, replies_of};
 ghost use Rattle.quick_cache_runs.specs.Asked.{IfAsks, IfLoads};
 ghost use Rattle.quick_cache_runs.specs.Made.{MakesAsked, RunsAsked, RunsCallsBy, ConservesCallsBy};
 ghost use Rattle.quick_cache_runs.specs.Room.{AreInRoom, NeedsRoom, entry_refusal};

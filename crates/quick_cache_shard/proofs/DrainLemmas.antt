@@ -1,13 +1,14 @@
 -- What a drain gives, step by step.
 use Rattle.std.proofs.Common.{◌≡◌, ◌≤◌, List, [], ◌∷◌, ◌++◌, Some, refl, ap, subst, ◌∙◌, arith}
+use Rattle.std.specs.Borrow.{MutBor}
 use Rattle.std.specs.List.Sorted.{IsPermutation}
-use Rattle.std.proofs.lemmas.List.Sorted.{IsPermutation-refl, IsPermutation-trans, IsPermutation-cons, IsPermutation-map, IsPermutation-middle, IsPermutation-append_left, IsPermutation-append_right}
+use Rattle.std.proofs.lemmas.List.Sorted.{IsPermutation-refl, IsPermutation-trans, IsPermutation-cons, IsPermutation-map}
+use Rattle.std.proofs.lemmas.List.Sorted.{IsPermutation-middle, IsPermutation-append_left, IsPermutation-append_right}
 use Rattle.quick_cache_model.specs.CacheState.{CacheState, Item, Place, InHot, InCold, InStill, items_at, with_items}
 use Rattle.quick_cache_model.specs.Removal.{cleared, pair_of}
 use Rattle.quick_cache_policy.specs.Tokens.{TakesItem}
-use Rattle.quick_cache_shard.specs.Shard.{Shard, residents}
-use Rattle.quick_cache_shard.specs.ShardDrain.{GivesOne, KeepsBesideItems, pairs_in, DrainsAlong, DrainsInAll}
-use Rattle.quick_cache_shard.specs.declared.removing.drain.Drain.{Drain}
+use Rattle.quick_cache_shard.specs.Shard.{Shard, KeepsWork, residents}
+use Rattle.quick_cache_shard.specs.ShardDrain.{GivesOne, KeepsBesideItems, pairs_in, DrainSteps, DrainsAlong, DrainsInAll}
 
 module _ {K V : Type 0} where
   -- an item that goes from its place goes from all items, and nothing else does
@@ -62,8 +63,8 @@ module _ {K V We B L : Type 0} where
       takes.split takes.rest))
 
   pub TakesItem-keeps : (old new : Shard K V We B L) (pair : K × V)
-      → TakesItem old.state pair new.state → old.room ≤ new.room
-      → new ≡ record old { state = new.state; places = new.places; room = new.room } → KeepsBesideItems old new
+      → TakesItem old.state pair new.state → old.room ≤ new.room → KeepsWork old new
+      → KeepsBesideItems old new
   TakesItem-keeps old new pair takes room same = record {
     cleared = ap cleared takes.rest
         ∙ with_items-cleared takes.place (takes.before ++ takes.after) old.state;
@@ -71,21 +72,35 @@ module _ {K V We B L : Type 0} where
     same = same;
   }
 
--- calls of `next` drain along
-pub Drains_in_all : {K V We B L P A H T Kept : Type 0} (first : Drain K V We B L P A H T Kept)
-    → DrainsInAll first
-Drains_in_all first [] later run =
-    subst (DrainsAlong first []) run (record {
-      gives = IsPermutation-refl _;
-      keeps = record { lender = refl; shard = KeepsBesideItems-refl _ };
-    })
-Drains_in_all first (pair ∷ taken) later run =
-    let step = run.1.1 in
-    let rest = Drains_in_all run.0 taken later run.2 in
+module _ {D K V We B L : Type 0} (held : D → MutBor (Shard K V We B L)) where
+  -- an item is taken out
+  pub DrainSteps-takes : (old new : D) (pair : K × V)
+      → (held new).ghost_name ≡ (held old).ghost_name
+      → TakesItem (held old).now.state pair (held new).now.state
+      → (held old).now.room ≤ (held new).now.room → KeepsWork (held old).now (held new).now
+      → DrainSteps held old (Some pair) new
+  DrainSteps-takes old new pair lender takes room same = (
+    TakesItem-gives (held old).now (held new).now pair takes,
     record {
-      gives = IsPermutation-trans _ _ _ run.1.0 (IsPermutation-cons pair _ _ rest.gives);
-      keeps = record {
-        lender = rest.keeps.lender ∙ step.lender;
-        shard = KeepsBesideItems-trans _ _ _ step.shard rest.keeps.shard;
-      };
-    }
+      lender = lender;
+      shard = TakesItem-keeps (held old).now (held new).now pair takes room same;
+    },
+  )
+
+  -- calls of `next` drain along
+  pub Drains_in_all : (first : D) → DrainsInAll held first
+  Drains_in_all first [] later run =
+      subst (DrainsAlong held first []) run (record {
+        gives = IsPermutation-refl _;
+        keeps = record { lender = refl; shard = KeepsBesideItems-refl _ };
+      })
+  Drains_in_all first (pair ∷ taken) later run =
+      let step = run.1.1 in
+      let rest = Drains_in_all run.0 taken later run.2 in
+      record {
+        gives = IsPermutation-trans _ _ _ run.1.0 (IsPermutation-cons pair _ _ rest.gives);
+        keeps = record {
+          lender = rest.keeps.lender ∙ step.lender;
+          shard = KeepsBesideItems-trans _ _ _ step.shard rest.keeps.shard;
+        };
+      }

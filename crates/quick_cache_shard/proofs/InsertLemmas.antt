@@ -3,7 +3,7 @@ use Rattle.std.proofs.Common.{Bool, Err, refl}
 use Rattle.quick_cache_model.specs.declared.refusal.Refusal.{Refusal}
 use Rattle.quick_cache_model.specs.CacheState.{CacheState}
 use Rattle.quick_cache_model.specs.Hooks.{Rules, Hooks}
-use Rattle.quick_cache_shard.specs.Inserts.{Inserts}
+use Rattle.quick_cache_policy.specs.Inserts.{Inserts}
 
 -- it is the pair that was handed in
 pub Inserts-pair : {K V S : Type 0} (steady : Type 0) (hooks : Hooks K V S) (rules : Rules K V)

@@ -1,5 +1,6 @@
 -- What always holds of a shard.
-use Rattle.std.proofs.Common.{◌≡◌, ℕ, ◌≤◌, Bool, true, true≢false, Option, Some, None, MatchOption, Result, Ok, MatchResult, sym, subst, arith}
+use Rattle.std.proofs.Common.{◌≡◌, ℕ, ◌≤◌, Bool, true, true≢false, Option, Some, None, MatchOption, Result, Ok, MatchResult, sym, subst}
+use Rattle.std.proofs.Common.{arith}
 use Rattle.std.specs.Option.{is_some}
 use Rattle.std.specs.Cmp.{IsEquivalence}
 use Rattle.quick_cache_store.specs.Lists.{AreApart, entry_count}

@@ -3,7 +3,7 @@ use Rattle.std.proofs.Common.{◌≡◌, ℕ, Bool, true, false, sym, ap, ◌∙
 use Rattle.std.specs.List.{AllByRecursion}
 use Rattle.quick_cache_model.specs.CacheState.{LoadingEntry}
 use Rattle.quick_cache_store.specs.declared.slots.entry.Awaited.{Awaited}
-use Rattle.quick_cache_store.specs.declared.slots.entry.Entry.TheVariants.{Loading as loading_variant}
+use Rattle.quick_cache_store.specs.declared.slots.entry.Entry.{Entry}
 use Rattle.quick_cache_store.specs.Lists.{HeldLoading, Lists, AreApart, IsAwaitedOf}
 use Rattle.quick_cache_store.specs.Placeholders.{FindsPlaceholder, HasNoPlaceholder}
 use Rattle.quick_cache_store.specs.Views.{loading_entry, loading_entries}
@@ -29,7 +29,7 @@ module _ {K V P : Type 0} (ticket_of : P → ℕ) (means : P → Bool) (wanted :
   found-wanted apart token finds awaited is =
       ap (λ placeholder. wanted (ticket_of placeholder)) (same (known_standing {T = P} lists apart
       (Standing.OfLoading finds.waiting) (StandsIn-loading lists finds.waiting finds.stands) token
-      is.0 (loading_variant awaited) finds.named is.1))
+      is.0 (Entry.Loading awaited) finds.named is.1))
       ∙ sym (by_ticket finds.waiting.placeholder) ∙ finds.passes
     where
       same : ◌≡◌ {A = Standing K V P} (Standing.OfLoading (record {

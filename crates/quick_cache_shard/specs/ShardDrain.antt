@@ -1,6 +1,6 @@
--- What a contract sees of a `Drain`: the shard that it takes from, and the pairs to come.
+-- What a contract sees of a `Drain`: the reference that it holds, and the pairs to come.
 use Rattle.std.specs.Prelude.{◌≡◌, ◌+◌, ◌≤◌, List, [], ◌∷◌, ◌++◌, Option, Some, None, map}
-use Rattle.std.specs.Borrow.{GName}
+use Rattle.std.specs.Borrow.{MutBor}
 use Rattle.std.specs.Iterator.{Yields}
 use Rattle.std.specs.List.Sorted.{IsPermutation}
 use Rattle.quick_cache_model.specs.Refusals.{slots_taken}
@@ -32,37 +32,33 @@ pub record KeepsBesideItems {K V We B L : Type 0} (old new : Shard K V We B L) :
 abbrev pub pairs_in : {K V We B L : Type 0} → Shard K V We B L → List (K × V)
 pairs_in shard = map pair_of (residents shard.state)
 
-module _ {K V We B L P A H T Kept : Type 0} where
-  -- the shard, as it is once the pairs that were given are out of it
-  abbrev pub drained : Drain K V We B L P A H T Kept → Shard K V We B L
-  drained drain = drain.shard.now
-
+-- Of drains of any type, by the reference that they hold.
+module _ {D K V We B L : Type 0} (held : D → MutBor (Shard K V We B L)) where
   -- the pairs that are still to come, in some order
-  abbrev pub drain_rest : Drain K V We B L P A H T Kept → List (K × V)
-  drain_rest drain = pairs_in (drained drain)
-
-  -- the ghost name of the reference to the shard
-  abbrev pub drain_lender : Drain K V We B L P A H T Kept → GName
-  drain_lender drain = drain.shard.ghost_name
+  abbrev pub drain_rest : D → List (K × V)
+  drain_rest drain = pairs_in (held drain).now
 
   -- old and new borrow the same shard, and leave it alike but for its items
-  pub record DrainKeeps (old new : Drain K V We B L P A H T Kept) : Type 0 where
-    pub lender : drain_lender new ≡ drain_lender old
-    pub shard : KeepsBesideItems (drained old) (drained new)
+  pub record DrainKeeps (old new : D) : Type 0 where
+    pub lender : (held new).ghost_name ≡ (held old).ghost_name
+    pub shard : KeepsBesideItems (held old).now (held new).now
 
   -- `next` took old to new: it gave one of the pairs, or there was none
-  abbrev pub DrainSteps : Drain K V We B L P A H T Kept → Option (K × V)
-      → Drain K V We B L P A H T Kept → Type 0
+  abbrev pub DrainSteps : D → Option (K × V) → D → Type 0
   DrainSteps old pair new = GivesOne (drain_rest old) pair (drain_rest new) × DrainKeeps old new
 
   -- What calls of `next` give, and what is still to come behind them, are the pairs that were to
   -- come at first, each once. The shard stays alike but for its items.
-  pub record DrainsAlong (first : Drain K V We B L P A H T Kept) (taken : List (K × V))
-      (later : Drain K V We B L P A H T Kept) : Type 0 where
+  pub record DrainsAlong (first : D) (taken : List (K × V)) (later : D) : Type 0 where
     pub gives : IsPermutation (drain_rest first) (taken ++ drain_rest later)
     pub keeps : DrainKeeps first later
 
   -- so it is wherever calls of `next` lead
-  abbrev pub DrainsInAll : Drain K V We B L P A H T Kept → Type 0
-  DrainsInAll first = (taken : List (K × V)) (later : Drain K V We B L P A H T Kept)
+  abbrev pub DrainsInAll : D → Type 0
+  DrainsInAll first = (taken : List (K × V)) (later : D)
       → Yields DrainSteps first taken later → DrainsAlong first taken later
+
+-- the reference to the shard that a drain takes from
+abbrev pub held : {K V We B L P A H T Kept : Type 0} → Drain K V We B L P A H T Kept
+    → MutBor (Shard K V We B L)
+held drain = drain.shard

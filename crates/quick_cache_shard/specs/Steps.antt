@@ -1,21 +1,40 @@
 -- The steps of a shard's calls that weigh, pin or call hooks, as what it goes by says. The request
 -- state comes last, before and after.
-use Rattle.std.specs.Prelude.{ℕ, Bool, Option, Result}
+use Rattle.std.specs.Prelude.{ℕ, Bool, Option, Some, None, Result, Ok, Err}
 use Rattle.quick_cache_model.specs.declared.queue.Queue.{Queue}
 use Rattle.quick_cache_model.specs.declared.refusal.Refusal.{Refusal}
+use Rattle.quick_cache_model.specs.CacheState.{CacheState}
 use Rattle.quick_cache_model.specs.Hooks.{Rules, Hooks, Calls}
 use Rattle.quick_cache_model.specs.Writes.{Strategy}
 use Rattle.quick_cache_policy.specs.Filling.{AnswersFill}
 use Rattle.quick_cache_policy.specs.References.{ReweighsUnder}
 pub use Rattle.quick_cache_policy.specs.Restoring.{AnswersRestore}
-use Rattle.quick_cache_policy.specs.Writing.{AnswersWrite}
+use Rattle.quick_cache_policy.specs.Writing.{Wrote, RefusesWrite}
 use Rattle.quick_cache_policy.specs.Policies.{rules_by}
-use Rattle.quick_cache_shard.specs.Inserts.{Inserts}
-use Rattle.quick_cache_shard.specs.Replaces.{Replaces}
+use Rattle.quick_cache_policy.specs.Inserts.{Inserts}
+use Rattle.quick_cache_policy.specs.Replaces.{Replaces}
 use Rattle.quick_cache_shard.specs.SetsCapacity.{SetsCapacityTo}
 use Rattle.quick_cache_shard.specs.Shard.{Shard, terms_of}
 use Rattle.quick_cache_shard.specs.TokenValues.{ReweighsToken}
 pub use Rattle.quick_cache_shard.specs.Goes.{Goes, goes_by}
+
+module _ {K V S : Type 0} (steady : Type 0) (hooks : Hooks K V S) (rules : Rules K V)
+    (equal : K → K → Bool) (strategy : Strategy) (old : CacheState K V) (first : S) (key : K)
+    (value : V) where
+  -- the answer of a write that gave a pair back: it was not admitted, or refused
+  abbrev pub GivesBack : K → V → Option Refusal → CacheState K V → S → Type 0
+  GivesBack back_key back_value None new last =
+      Wrote steady hooks rules equal strategy old first key value (Some (back_key, back_value)) new
+      last
+  GivesBack back_key back_value (Some refusal) new last =
+      RefusesWrite steady hooks rules equal strategy old first key value back_key back_value refusal
+      new last
+
+  -- the answer of a write by a strategy
+  abbrev pub AnswersWrite : Result (Unit {0}) (K × V × Option Refusal) → CacheState K V → S → Type 0
+  AnswersWrite (Ok done) new last =
+      Wrote steady hooks rules equal strategy old first key value None new last
+  AnswersWrite (Err back) new last = GivesBack back.0 back.1 back.2 new last
 
 -- what it says of a shard: whether pinning is steady, the hooks that are called, and the rules
 module _ {K V We B L S : Type 0} (goes : Goes K V We B L S) where

@@ -1,5 +1,4 @@
 //! Calls that go by a token.
 
 pub mod token_mut;
-pub mod token_values;
 pub mod tokens;

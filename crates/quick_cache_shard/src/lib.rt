@@ -2,13 +2,11 @@
 #![tactic(auto)]
 
 mod by_token;
-mod parts;
 mod placeholders;
 mod readers;
 mod removing;
 mod shard;
 mod shared;
-mod stats;
 mod walking;
 mod words;
 mod writing;

@@ -5,7 +5,6 @@ ghost use Rattle.std.specs.Borrow.{sem};
 ghost use Rattle.std.specs.Option.{option_map};
 ghost use Rattle.std.specs.Map.Iter.{deref_pair};
 ghost use Rattle.quick_cache_store.specs.Room.{most_room};
-ghost use Rattle.quick_cache_model.specs.declared.refusal.Refusal.TheVariants.{Memory};
 ghost use Rattle.quick_cache_model.specs.CacheState.{empty_state};
 ghost use Rattle.quick_cache_model.specs.Finding.{HasNoItem};
 ghost use Rattle.quick_cache_model.specs.Hashing.{hash_of};
@@ -13,8 +12,9 @@ ghost use Rattle.quick_cache_model.specs.Lookups.{LooksUp, Sees};
 ghost use Rattle.quick_cache_model.specs.Removal.{pair_of};
 ghost use Rattle.quick_cache_model.specs.Sizes.{hot_target_of, ghost_limit_of};
 ghost use Rattle.quick_cache_policy.specs.Work.{no_work};
+ghost use Rattle.quick_cache_policy.specs.Contents.{IsSound, state_of};
 ghost use Rattle.quick_cache_policy.specs.Copies.{ClonesAreEqual, IsCopyOf, FindsCopy};
-ghost use Rattle.quick_cache_shard.specs.Shard.{UpToOrder, IsSoundShard, HasItem, made_with};
+ghost use Rattle.quick_cache_shard.specs.Shard.{UpToOrder, IsSoundShard, HasItem, made_with, terms_of};
 ghost use Rattle.quick_cache_model.specs.Refusals.{slots_taken, slot_count};
 
 use crate::words::{Going, Keyed, Rowed};
@@ -161,7 +161,7 @@ impl<K: Eq + Hash, V, We, B: BuildHasher, L, P: SharedPlaceholder<K>, A: Allocat
             (record (empty_state weight (hot_target_of weight hot)
             (ghost_limit_of items ghosts)) { mark_cut = mark_cut }) weigher builder lifecycle) }
         ensures succeeds { A.is_infallible alloc → IsOk result }
-        ensures refused { IfErr result (λ refusal. refusal ≡ Memory) }
+        ensures refused { IfErr result (λ refusal. refusal ≡ Refusal.Memory) }
     {
         let (hot_target, ghost_limit) = (hot_target(weight, hot), ghost_limit(items, ghosts));
         Ok(CacheShard {
@@ -172,6 +172,18 @@ impl<K: Eq + Hash, V, We, B: BuildHasher, L, P: SharedPlaceholder<K>, A: Allocat
                 lifecycle,
             },
         })
+    }
+
+    /// A shard of these contents that goes by these terms. [`CacheShard::new`] makes an empty one;
+    /// this is for a caller that has contents of its own, as a test whose tickets are nearly spent.
+    pub fn from_parts(contents: Contents<K, V, P, A>, terms: Terms<We, B, L>) -> Self
+        requires sound { IsSound P.ticket_of K.eq
+            (λ key. hash_of B.BuildHasher B.Hasher.Hasher terms.builder (K.hash_input key))
+            contents }
+        ensures state { result.state ≡ state_of P.ticket_of contents }
+        ensures terms { terms_of result ≡ terms }
+    {
+        CacheShard { contents, terms }
     }
 
     /// A cache of clones of the keys and values, with the same marks, order and counts, or
@@ -192,7 +204,7 @@ impl<K: Eq + Hash, V, We, B: BuildHasher, L, P: SharedPlaceholder<K>, A: Allocat
         ensures builder { IfOk result (λ copy. B.is_clone self.now.builder copy.builder) }
         ensures lifecycle { IfOk result (λ copy. L.is_clone self.now.lifecycle copy.lifecycle) }
         ensures work { IfOk result (λ copy. copy.work ≡ no_work) }
-        ensures refused { IfErr result (λ refusal. refusal ≡ Memory) }
+        ensures refused { IfErr result (λ refusal. refusal ≡ Refusal.Memory) }
     {
         let weigher: Result<_, _> = self.terms.weigher.clone();
         let builder: Result<_, _> = self.terms.builder.clone();
@@ -226,7 +238,7 @@ impl<K: Eq + Hash, V, We, B: BuildHasher, L, P: SharedPlaceholder<K>, A: Allocat
         // Where there is that room already it succeeds.
         ensures succeeds { min (additional + min additional self.old.state.ghost_limit)
             (slot_count - slots_taken self.old.state) ≤ self.old.room → IsOk result }
-        ensures refused { IfErr result (λ refusal. refusal ≡ Memory) }
+        ensures refused { IfErr result (λ refusal. refusal ≡ Refusal.Memory) }
         ensures same { self.new ≡ record self.old { room = self.new.room } }
     {
         self.contents.reserve(additional)

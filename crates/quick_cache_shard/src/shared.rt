@@ -1,6 +1,5 @@
 //! Look-ups beside other readers, which add to counts alone.
 ghost use Rattle.std.specs.Prelude.{◌≡◌, IsOk, IfOk, IfErr, option_copied};
-ghost use Rattle.quick_cache_model.specs.declared.refusal.Refusal.TheVariants.{Memory};
 ghost use Rattle.quick_cache_model.specs.Lookups.{Sees};
 ghost use Rattle.quick_cache_shard.specs.Shard.{IsSoundShard, HasItem};
 ghost use Rattle.quick_cache_shard.specs.Shared.{ShowsClone};
@@ -49,7 +48,7 @@ impl<K: Eq + Hash, V, We, B: BuildHasher, L, P: SharedPlaceholder<K>, A: Allocat
         requires hash_is { hash ≡ ⟦<Self as Keyed>⟧.hash self.now.builder (Q.hash_input query.now) }
         ensures shows { IfOk result
             (ShowsClone (Q.equivalent query.now) V.is_clone self.now.state) }
-        ensures refused { IfErr result (λ refusal. refusal ≡ Memory) }
+        ensures refused { IfErr result (λ refusal. refusal ≡ Refusal.Memory) }
         ensures there { IfErr result (λ _. HasItem (Q.equivalent query.now) self.now.state) }
         ensures succeeds { ((value : V) → V.is_infallible value) → IsOk result }
         ensures sound { IsSoundShard K.eq self.now }
@@ -79,7 +78,7 @@ impl<K: Eq + Hash, V, We, B: BuildHasher, L, P: SharedPlaceholder<K>, A: Allocat
         requires hash_is { hash ≡ ⟦<Self as Keyed>⟧.hash self.now.builder (Q.hash_input query.now) }
         ensures shows { IfOk result
             (ShowsClone (Q.equivalent query.now) V.is_clone self.now.state) }
-        ensures refused { IfErr result (λ refusal. refusal ≡ Memory) }
+        ensures refused { IfErr result (λ refusal. refusal ≡ Refusal.Memory) }
         ensures there { IfErr result (λ _. HasItem (Q.equivalent query.now) self.now.state) }
         ensures succeeds { ((value : V) → V.is_infallible value) → IsOk result }
         ensures sound { IsSoundShard K.eq self.now }

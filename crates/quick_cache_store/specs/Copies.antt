@@ -4,10 +4,8 @@ use Rattle.quick_cache_model.specs.CacheState.{Item}
 use Rattle.quick_cache_store.specs.declared.slots.beside.Beside.{Beside}
 use Rattle.quick_cache_store.specs.declared.slots.entry.Awaited.{Awaited}
 use Rattle.quick_cache_store.specs.declared.slots.entry.Entry.{Entry}
-use Rattle.quick_cache_store.specs.declared.slots.entry.Entry.TheVariants.{Item as item_variant, Loading as loading_variant, Ghost as ghost_variant}
 use Rattle.quick_cache_store.specs.declared.slots.entry.Slot.{Slot}
 use Rattle.quick_cache_store.specs.declared.slots.stored.StoredEntry.{StoredEntry}
-use Rattle.quick_cache_store.specs.declared.slots.stored.StoredEntry.TheVariants.{Item as stored_item, Loading as stored_loading, Ghost as stored_ghost}
 
 module _ {K V : Type 0} (clones_key : K → K → Type 0) (clones_value : V → V → Type 0) where
   -- the item, with clones for its key and its value
@@ -28,17 +26,17 @@ module _ {K V P : Type 0} (clones_key : K → K → Type 0) (clones_value : V �
   -- a copy of the entry, where these are the hashes under which the two stand
   abbrev pub IsEntryCopy : {T : Type 0} → (hash copy_hash : ℕ) → (entry copy : Entry K V P T)
       → Type 0
-  IsEntryCopy hash copy_hash (item_variant item) (item_variant copy) =
+  IsEntryCopy hash copy_hash (Entry.Item item) (Entry.Item copy) =
       (copy_hash ≡ hash_of copy.key) × IsItemCopy clones_key clones_value item copy
-  IsEntryCopy hash copy_hash (item_variant item) (loading_variant copy) = ⊥
-  IsEntryCopy hash copy_hash (item_variant item) ghost_variant = ⊥
-  IsEntryCopy hash copy_hash (loading_variant awaited) (item_variant copy) = ⊥
-  IsEntryCopy hash copy_hash (loading_variant awaited) (loading_variant copy) =
+  IsEntryCopy hash copy_hash (Entry.Item item) (Entry.Loading copy) = ⊥
+  IsEntryCopy hash copy_hash (Entry.Item item) Entry.Ghost = ⊥
+  IsEntryCopy hash copy_hash (Entry.Loading awaited) (Entry.Item copy) = ⊥
+  IsEntryCopy hash copy_hash (Entry.Loading awaited) (Entry.Loading copy) =
       (copy_hash ≡ hash_of copy.key) × IsAwaitedCopy clones_key shares awaited copy
-  IsEntryCopy hash copy_hash (loading_variant awaited) ghost_variant = ⊥
-  IsEntryCopy hash copy_hash ghost_variant (item_variant copy) = ⊥
-  IsEntryCopy hash copy_hash ghost_variant (loading_variant copy) = ⊥
-  IsEntryCopy hash copy_hash ghost_variant ghost_variant = copy_hash ≡ hash
+  IsEntryCopy hash copy_hash (Entry.Loading awaited) Entry.Ghost = ⊥
+  IsEntryCopy hash copy_hash Entry.Ghost (Entry.Item copy) = ⊥
+  IsEntryCopy hash copy_hash Entry.Ghost (Entry.Loading copy) = ⊥
+  IsEntryCopy hash copy_hash Entry.Ghost Entry.Ghost = copy_hash ≡ hash
 
   -- a copy of what stands in the slot
   abbrev pub IsSlotCopy : {T : Type 0} → (slot copy : Slot K V P T) → Type 0
@@ -50,26 +48,27 @@ module _ {K V P : Type 0} (clones_key : K → K → Type 0) (clones_value : V �
     (shares : P → P → Type 0) where
   -- a copy of what a slot stores
   abbrev pub IsStoredCopy : {T : Type 0} → (stored copy : StoredEntry K V P T) → Type 0
-  IsStoredCopy (stored_item head body) (stored_item copied copy) =
+  IsStoredCopy (StoredEntry.Item head body) (StoredEntry.Item copied copy) =
       (copied ≡ head) × clones_key body.key copy.key × clones_value body.value copy.value
-  IsStoredCopy (stored_item head body) (stored_loading queue key placeholder) = ⊥
-  IsStoredCopy (stored_item head body) (stored_ghost note) = ⊥
-  IsStoredCopy (stored_loading queue key placeholder) (stored_item head body) = ⊥
-  IsStoredCopy (stored_loading queue key placeholder) (stored_loading copied copy stand_in) =
+  IsStoredCopy (StoredEntry.Item head body) (StoredEntry.Loading queue key placeholder) = ⊥
+  IsStoredCopy (StoredEntry.Item head body) (StoredEntry.Ghost note) = ⊥
+  IsStoredCopy (StoredEntry.Loading queue key placeholder) (StoredEntry.Item head body) = ⊥
+  IsStoredCopy (StoredEntry.Loading queue key placeholder)
+      (StoredEntry.Loading copied copy stand_in) =
       (copied ≡ queue) × clones_key key copy × shares placeholder stand_in
-  IsStoredCopy (stored_loading queue key placeholder) (stored_ghost note) = ⊥
-  IsStoredCopy (stored_ghost note) (stored_item head body) = ⊥
-  IsStoredCopy (stored_ghost note) (stored_loading queue key placeholder) = ⊥
-  IsStoredCopy (stored_ghost note) (stored_ghost copied) = Unit {0}
+  IsStoredCopy (StoredEntry.Loading queue key placeholder) (StoredEntry.Ghost note) = ⊥
+  IsStoredCopy (StoredEntry.Ghost note) (StoredEntry.Item head body) = ⊥
+  IsStoredCopy (StoredEntry.Ghost note) (StoredEntry.Loading queue key placeholder) = ⊥
+  IsStoredCopy (StoredEntry.Ghost note) (StoredEntry.Ghost copied) = Unit {0}
 
 module _ {K V P T : Type 0} (hash_of : K → ℕ) where
   -- what stands beside the copy of an entry: the hash of its key, or that of a ghost
   abbrev pub aside_copy : (copy : StoredEntry K V P T) → Beside → Beside
-  aside_copy (stored_item head body) beside =
+  aside_copy (StoredEntry.Item head body) beside =
       record beside { aside = record beside.aside { hash = hash_of body.key } }
-  aside_copy (stored_loading queue key placeholder) beside =
+  aside_copy (StoredEntry.Loading queue key placeholder) beside =
       record beside { aside = record beside.aside { hash = hash_of key } }
-  aside_copy (stored_ghost note) aside = aside
+  aside_copy (StoredEntry.Ghost note) aside = aside
 
   -- what stands beside a slot of a copy
   abbrev pub aside_for : Option (StoredEntry K V P T) → Beside → Beside

@@ -5,11 +5,9 @@ use Rattle.std.specs.Borrow.{Fml, RattleType, MutBor, Lends}
 use Rattle.std.specs.declared.alloc.Allocator.{Ghosts}
 use Rattle.quick_cache_store.specs.Pool.{Pool}
 use Rattle.quick_cache_store.specs.declared.slots.entry.Entry.{Entry}
-use Rattle.quick_cache_store.specs.declared.slots.entry.Entry.TheVariants.{Item as item_variant, Loading as loading_variant, Ghost as ghost_variant}
 use Rattle.quick_cache_store.specs.declared.slots.entry.Slot.{Slot}
 use Rattle.quick_cache_store.specs.declared.slots.stored.Body.{Body}
 use Rattle.quick_cache_store.specs.declared.slots.stored.StoredEntry.{StoredEntry}
-use Rattle.quick_cache_store.specs.declared.slots.stored.StoredEntry.TheVariants.{Item as stored_item, Loading as stored_loading, Ghost as stored_ghost}
 use Rattle.quick_cache_store.specs.Items.{with_value}
 use Rattle.quick_cache_store.specs.Slots.{slot_changed}
 use Rattle.quick_cache_store.specs.Stored.{entry_with_value}
@@ -20,15 +18,15 @@ use Rattle.quick_cache_store.specs.contracts.slots.slots.Slots as slots
 
 -- the value is that of an item
 abbrev pub IsValueOf : {K V P T : Type 0} → Entry K V P T → V → Type 0
-IsValueOf (item_variant item) value = value ≡ item.value
-IsValueOf (loading_variant awaited) value = ⊥
-IsValueOf ghost_variant value = ⊥
+IsValueOf (Entry.Item item) value = value ≡ item.value
+IsValueOf (Entry.Loading awaited) value = ⊥
+IsValueOf Entry.Ghost value = ⊥
 
 -- the value is that of an item that is stored
 abbrev pub IsStoredValue : {K V P T : Type 0} → StoredEntry K V P T → V → Type 0
-IsStoredValue (stored_item head body) value = value ≡ body.value
-IsStoredValue (stored_loading queue key placeholder) value = ⊥
-IsStoredValue (stored_ghost note) value = ⊥
+IsStoredValue (StoredEntry.Item head body) value = value ≡ body.value
+IsStoredValue (StoredEntry.Loading queue key placeholder) value = ⊥
+IsStoredValue (StoredEntry.Ghost note) value = ⊥
 
 module _ (K V T : RattleType) where
   -- the item ends with the last value written

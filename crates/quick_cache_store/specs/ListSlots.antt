@@ -1,11 +1,12 @@
 -- What stands in a slot, as the lists see it. No public clause cites this module.
 use Rattle.std.specs.Prelude.{List, [], ◌∷◌, ℕ, Bool, false, Option, Some, None, if◌then◌else◌, ◌==◌}
 use Rattle.quick_cache_store.specs.declared.slots.entry.Entry.{Entry}
-use Rattle.quick_cache_store.specs.declared.slots.entry.Entry.TheVariants.{Item as item_variant, Loading as loading_variant, Ghost as ghost_variant}
 use Rattle.quick_cache_store.specs.declared.slots.entry.Slot.{Slot}
 pub use Rattle.quick_cache_store.specs.declared.slots.entry.Stand.{Stand}
 pub use Rattle.quick_cache_store.specs.declared.slots.entry.Stand.TheVariants.{AmongHot, AmongCold, AmongStill, AmongLoading, AmongGhosts}
-pub use Rattle.quick_cache_store.specs.Slots.{ring_stand, loading_in, stand_by, stand_of_item, stand_in, entry_under, is_under, has_item_under, is_item_under, entry_is_ghost, is_ghost, entry_is_item, is_item, weight_in, entry_changed, slot_changed, entry_filled, slot_filled, has_hash, entry_awaited, with_entry}
+pub use Rattle.quick_cache_store.specs.Slots.{ring_stand, loading_in, stand_by, stand_of_item, stand_in, entry_under, is_under}
+pub use Rattle.quick_cache_store.specs.Slots.{has_item_under, is_item_under, entry_is_ghost, is_ghost, entry_is_item, is_item, weight_in}
+pub use Rattle.quick_cache_store.specs.Slots.{entry_changed, slot_changed, entry_filled, slot_filled, has_hash, entry_awaited, with_entry}
 use Rattle.quick_cache_store.specs.Lists.{HeldItem, HeldLoading, HeldGhost}
 
 module _ {K V : Type 0} where
@@ -53,9 +54,9 @@ module _ {K V P T : Type 0} where
 
   -- what the lists show of a slot
   abbrev pub item_in : ℕ → ℕ → Entry K V P T → Option (HeldItem K V)
-  item_in token hash (item_variant item) = Some (record { token = token; hash = hash; item = item })
-  item_in token hash (loading_variant awaited) = None
-  item_in token hash ghost_variant = None
+  item_in token hash (Entry.Item item) = Some (record { token = token; hash = hash; item = item })
+  item_in token hash (Entry.Loading awaited) = None
+  item_in token hash Entry.Ghost = None
 
   abbrev pub item_of : ℕ → Option (Slot K V P T) → Option (HeldItem K V)
   item_of token None = None
@@ -65,8 +66,8 @@ module _ {K V P T : Type 0} where
   still_of token slot = if_still (item_of token slot)
 
   abbrev pub placeholder_in : ℕ → ℕ → Entry K V P T → Option (HeldLoading K P)
-  placeholder_in token hash (item_variant item) = None
-  placeholder_in token hash (loading_variant awaited) =
+  placeholder_in token hash (Entry.Item item) = None
+  placeholder_in token hash (Entry.Loading awaited) =
       Some (record {
         token = token;
         hash = hash;
@@ -74,16 +75,16 @@ module _ {K V P T : Type 0} where
         queue = awaited.queue;
         placeholder = awaited.placeholder;
       })
-  placeholder_in token hash ghost_variant = None
+  placeholder_in token hash Entry.Ghost = None
 
   abbrev pub loading_of : ℕ → Option (Slot K V P T) → Option (HeldLoading K P)
   loading_of token None = None
   loading_of token (Some slot) = placeholder_in token slot.hash slot.entry
 
   abbrev pub ghost_in : ℕ → ℕ → Entry K V P T → Option HeldGhost
-  ghost_in token hash (item_variant item) = None
-  ghost_in token hash (loading_variant awaited) = None
-  ghost_in token hash ghost_variant = Some (record { token = token; hash = hash })
+  ghost_in token hash (Entry.Item item) = None
+  ghost_in token hash (Entry.Loading awaited) = None
+  ghost_in token hash Entry.Ghost = Some (record { token = token; hash = hash })
 
   abbrev pub ghost_of : ℕ → Option (Slot K V P T) → Option HeldGhost
   ghost_of token None = None

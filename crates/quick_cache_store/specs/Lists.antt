@@ -1,5 +1,6 @@
 -- What a contract sees of `Lists`: plain lists, whose entries have tokens.
-use Rattle.std.specs.Prelude.{◌≡◌, ◌≢◌, ◌⊎◌, ℕ, ◌+◌, ◌-◌, Bool, true, false, cond, eqb, if◌then◌else◌, ◌==◌, List, [], ◌∷◌, ◌++◌, length, map, Option, Some, None, MatchOption, ◌<◌, ◌≤◌}
+use Rattle.std.specs.Prelude.{◌≡◌, ◌≢◌, ◌⊎◌, ℕ, ◌+◌, ◌-◌, Bool, true, false, cond, eqb, if◌then◌else◌, ◌==◌, List, [], ◌∷◌, ◌++◌, length}
+use Rattle.std.specs.Prelude.{map, Option, Some, None, MatchOption, ◌<◌, ◌≤◌}
 use Rattle.quick_cache_model.specs.Sequences.{times}
 pub use Rattle.quick_cache_model.specs.Sequences.{turned}
 use Rattle.std.specs.List.{AllByRecursion}
@@ -7,12 +8,9 @@ use Rattle.std.specs.List.Sorted.{IsPermutation}
 use Rattle.std.specs.Int.NonZero.{non_zero_u32_get}
 use Rattle.std.specs.declared.num.NonZeroU32.{NonZeroU32 as Token}
 use Rattle.quick_cache_model.specs.declared.queue.Queue.{Queue}
-use Rattle.quick_cache_model.specs.declared.queue.Queue.TheVariants.{Hot, Cold}
 use Rattle.quick_cache_store.specs.declared.slots.entry.Awaited.{Awaited}
 use Rattle.quick_cache_store.specs.declared.slots.entry.Entry.{Entry}
-use Rattle.quick_cache_store.specs.declared.slots.entry.Entry.TheVariants.{Item as item_variant, Loading as loading_variant, Ghost as ghost_variant}
 use Rattle.quick_cache_store.specs.declared.lists.found.Found.{Found}
-use Rattle.quick_cache_store.specs.declared.lists.found.Found.TheVariants.{Item as found_item, Loading as found_loading, Ghost as found_ghost, Nothing as found_nothing}
 pub use Rattle.quick_cache_store.specs.Items.{with_counts, with_mark, read_once, used, with_weight, with_value, requeued}
 pub use Rattle.quick_cache_store.specs.Slots.{is_placeholder}
 use Rattle.quick_cache_model.specs.CacheState.{Item, Place, InHot, InCold, InStill, place_of_item}
@@ -176,26 +174,26 @@ module _ {K V P : Type 0} where
 
   -- what a query finds
   abbrev pub Finds : (stands_for : K → Bool) (hash : ℕ) → Lists K V P → Found → Type 0
-  Finds stands_for hash lists (found_item token) =
+  Finds stands_for hash lists (Found.Item token) =
       FindsItem stands_for hash lists (non_zero_u32_get token)
-  Finds stands_for hash lists (found_loading token) =
+  Finds stands_for hash lists (Found.Loading token) =
       FindsLoading stands_for hash lists (non_zero_u32_get token)
-  Finds stands_for hash lists (found_ghost token) =
+  Finds stands_for hash lists (Found.Ghost token) =
       HasNoKey stands_for hash lists
       × StandsIn lists.ghosts (record { token = non_zero_u32_get token; hash = hash })
-  Finds stands_for hash lists found_nothing = HasNothing stands_for hash lists
+  Finds stands_for hash lists Found.Nothing = HasNothing stands_for hash lists
 
   -- What a query finds that compares keys alone: an item or a placeholder with such a key, under
   -- whatever hash it stands.
   abbrev pub FindsByKey : (stands_for : K → Bool) (hash : ℕ) → Lists K V P → Found → Type 0
-  FindsByKey stands_for hash lists (found_item token) =
+  FindsByKey stands_for hash lists (Found.Item token) =
       FindsItemOfAnyHash stands_for lists (non_zero_u32_get token)
-  FindsByKey stands_for hash lists (found_loading token) =
+  FindsByKey stands_for hash lists (Found.Loading token) =
       (of_key : ℕ) × FindsLoading stands_for of_key lists (non_zero_u32_get token)
-  FindsByKey stands_for hash lists (found_ghost token) =
+  FindsByKey stands_for hash lists (Found.Ghost token) =
       HasNoKey stands_for hash lists
       × StandsIn lists.ghosts (record { token = non_zero_u32_get token; hash = hash })
-  FindsByKey stands_for hash lists found_nothing = HasNothing stands_for hash lists
+  FindsByKey stands_for hash lists Found.Nothing = HasNothing stands_for hash lists
 
   -- an entry has the token
   abbrev pub HasEntry : Lists K V P → ℕ → Type 0
@@ -206,9 +204,9 @@ module _ {K V P : Type 0} where
 
   -- the entry of that token is this one, under that hash
   abbrev pub IsEntry : {T : Type 0} → Lists K V P → (token hash : ℕ) → Entry K V P T → Type 0
-  IsEntry lists token hash (item_variant item) =
+  IsEntry lists token hash (Entry.Item item) =
       HasItem lists (record { token = token; hash = hash; item = item })
-  IsEntry lists token hash (loading_variant awaited) =
+  IsEntry lists token hash (Entry.Loading awaited) =
       StandsIn lists.loading (record {
         token = token;
         hash = hash;
@@ -216,7 +214,7 @@ module _ {K V P : Type 0} where
         queue = awaited.queue;
         placeholder = awaited.placeholder;
       })
-  IsEntry lists token hash ghost_variant =
+  IsEntry lists token hash Entry.Ghost =
       StandsIn lists.ghosts (record { token = token; hash = hash })
 
   -- the lists without the entry of that token, whose ring keeps its order or begins behind it
@@ -233,9 +231,9 @@ module _ {K V P : Type 0} where
 
   -- the lists with the entry put last: in its ring, or among those that stand in none
   abbrev pub with_last : {T : Type 0} → (token hash : ℕ) → Entry K V P T → Lists K V P → Lists K V P
-  with_last token hash (item_variant item) lists =
+  with_last token hash (Entry.Item item) lists =
       entered (record { token = token; hash = hash; item = item }) lists
-  with_last token hash (loading_variant awaited) lists =
+  with_last token hash (Entry.Loading awaited) lists =
       record lists {
         loading = lists.loading ++ record {
           token = token;
@@ -245,20 +243,20 @@ module _ {K V P : Type 0} where
           placeholder = awaited.placeholder;
         } ∷ [];
       }
-  with_last token hash ghost_variant lists =
+  with_last token hash Entry.Ghost lists =
       record lists { ghosts = lists.ghosts ++ record { token = token; hash = hash } ∷ [] }
 
   -- the entry stands in a ring
   abbrev pub is_in_ring : {T : Type 0} → Entry K V P T → Bool
-  is_in_ring (item_variant item) = if item.weight == 0 then false else true
-  is_in_ring (loading_variant awaited) = false
-  is_in_ring ghost_variant = true
+  is_in_ring (Entry.Item item) = if item.weight == 0 then false else true
+  is_in_ring (Entry.Loading awaited) = false
+  is_in_ring Entry.Ghost = true
 
   -- the entry is an item that weighs nothing
   abbrev pub is_weightless : {T : Type 0} → Entry K V P T → Bool
-  is_weightless (item_variant item) = item.weight == 0
-  is_weightless (loading_variant awaited) = false
-  is_weightless ghost_variant = false
+  is_weightless (Entry.Item item) = item.weight == 0
+  is_weightless (Entry.Loading awaited) = false
+  is_weightless Entry.Ghost = false
 
   -- The entry was put last under that token. A placeholder may come to any place among the
   -- placeholders, and an item that weighs nothing to any place among the weightless: these may be
@@ -413,8 +411,8 @@ module _ {K V P : Type 0} where
 
   -- the lists once this ring begins one further on
   abbrev pub ring_turned : Queue → Lists K V P → Lists K V P
-  ring_turned Hot lists = record lists { hot = turned lists.hot }
-  ring_turned Cold lists = record lists { cold = turned lists.cold }
+  ring_turned Queue.Hot lists = record lists { hot = turned lists.hot }
+  ring_turned Queue.Cold lists = record lists { cold = turned lists.cold }
 
   -- the lists with the item of that token changed
   abbrev pub with_change : (token : ℕ) → (Item K V → Item K V) → Lists K V P → Lists K V P

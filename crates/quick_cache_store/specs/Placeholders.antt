@@ -2,7 +2,6 @@
 use Rattle.std.specs.Prelude.{◌≡◌, ℕ, Bool, true, false, List, ◌++◌}
 use Rattle.std.specs.List.{AllByRecursion}
 use Rattle.quick_cache_store.specs.declared.slots.entry.Entry.{Entry}
-use Rattle.quick_cache_store.specs.declared.slots.entry.Entry.TheVariants.{Item as item_variant, Loading as loading_variant, Ghost as ghost_variant}
 use Rattle.quick_cache_store.specs.declared.slots.entry.Slot.{Slot}
 use Rattle.quick_cache_store.specs.Lists.{HeldLoading, Lists, StandsIn}
 
@@ -25,9 +24,9 @@ module _ {K V P : Type 0} (means : P → Bool) where
 module _ {K V P T : Type 0} (means : P → Bool) where
   -- the entry is a placeholder that is meant
   abbrev pub entry_is_meant : Entry K V P T → Bool
-  entry_is_meant (item_variant item) = false
-  entry_is_meant (loading_variant awaited) = means awaited.placeholder
-  entry_is_meant ghost_variant = false
+  entry_is_meant (Entry.Item item) = false
+  entry_is_meant (Entry.Loading awaited) = means awaited.placeholder
+  entry_is_meant Entry.Ghost = false
 
   -- the slot has it
   abbrev pub is_meant : Slot K V P T → Bool

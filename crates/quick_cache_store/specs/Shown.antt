@@ -5,10 +5,9 @@ use denote.Param.Members.{Mut}
 use Rattle.quick_cache_model.specs.CacheState.{Item}
 use Rattle.quick_cache_model.specs.Callbacks.{Leaves}
 use Rattle.quick_cache_store.specs.Pool.{Pool, item_at}
-use Rattle.quick_cache_store.specs.declared.slots.entry.Entry.TheVariants.{Item as item_variant}
+use Rattle.quick_cache_store.specs.declared.slots.entry.Entry.{Entry}
 use Rattle.quick_cache_store.specs.declared.slots.entry.Slot.{Slot}
 use Rattle.quick_cache_store.specs.declared.slots.stored.StoredEntry.{StoredEntry}
-use Rattle.quick_cache_store.specs.declared.slots.stored.StoredEntry.TheVariants.{Item as stored_item, Loading as stored_loading, Ghost as stored_ghost}
 use Rattle.quick_cache_store.specs.Items.{with_value}
 use Rattle.quick_cache_store.specs.Slots.{slot_changed}
 use Rattle.quick_cache_store.specs.Stored.{entry_with_value}
@@ -16,9 +15,9 @@ use Rattle.quick_cache_store.specs.Writes.{Writes}
 
 -- an item is stored, of whose key and value this holds
 abbrev pub HoldsOfItem : {K V P T : Type 0} → StoredEntry K V P T → (K → V → Type 0) → Type 0
-HoldsOfItem (stored_item head body) Q = Q body.key body.value
-HoldsOfItem (stored_loading queue key placeholder) Q = ⊥
-HoldsOfItem (stored_ghost note) Q = ⊥
+HoldsOfItem (StoredEntry.Item head body) Q = Q body.key body.value
+HoldsOfItem (StoredEntry.Loading queue key placeholder) Q = ⊥
+HoldsOfItem (StoredEntry.Ghost note) Q = ⊥
 
 module _ {F K V R : Type 0}
     (calls : Mut F (Bor K × (MutBor V × Unit {0})) (R × (MutBor V × Unit {0}))) where
@@ -30,7 +29,7 @@ module _ {F K V R : Type 0}
   -- so it may at the item of the token
   abbrev pub MayBeShownSlot : {P T : Type 0} → F → Pool (Slot K V P T) → ℕ → Type 0
   MayBeShownSlot callback pool token = (hash : ℕ) (item : Item K V)
-      → item_at pool token ≡ Some (record { hash = hash; entry = item_variant item })
+      → item_at pool token ≡ Some (record { hash = hash; entry = Entry.Item item })
       → MayBeShown callback item.key item.value
 
   -- the item that is stored was shown, and has the value that was left
@@ -45,7 +44,7 @@ module _ {F K V R : Type 0}
       (answer : R) (next : F) (new : Pool (Slot K V P T)) : Type 0 where
     pub hash : ℕ
     pub item : Item K V
-    pub at : item_at old token ≡ Some (record { hash = hash; entry = item_variant item })
+    pub at : item_at old token ≡ Some (record { hash = hash; entry = Entry.Item item })
     pub left : V
     pub called : Leaves calls callback item.key item.value answer next left
     pub writes : Writes old new token (slot_changed (with_value left))

@@ -1,5 +1,6 @@
 -- The lists that the slots of a slab stand for. No public clause cites this module.
-use Rattle.std.specs.Prelude.{◌≡◌, ◌≢◌, ℕ, zero, suc, ◌+◌, ◌-◌, ◌<◌, ◌≤◌, min, Bool, IsTrue, List, [], ◌∷◌, ◌++◌, length, Option, Some, None, IfSome, is_some, true, false}
+use Rattle.std.specs.Prelude.{◌≡◌, ◌≢◌, ℕ, zero, suc, ◌+◌, ◌-◌, ◌<◌, ◌≤◌, min, Bool, IsTrue, List, [], ◌∷◌, ◌++◌, length, Option, Some}
+use Rattle.std.specs.Prelude.{None, IfSome, is_some, true, false}
 use Rattle.std.specs.Int.NonZero.{non_zero_u32_get}
 use Rattle.std.specs.declared.num.NonZeroU32.{NonZeroU32 as Token}
 use Rattle.quick_cache_model.specs.Sequences.{times}
@@ -8,7 +9,8 @@ use Rattle.quick_cache_index.specs.Index.{Index, HasToken, GainsToken, KeepsAllL
 use Rattle.quick_cache_store.specs.declared.slots.entry.Slot.{Slot}
 use Rattle.quick_cache_store.specs.Rings.{Ring, Rings}
 use Rattle.quick_cache_store.specs.Lists.{Lists, entry_count}
-use Rattle.quick_cache_store.specs.ListSlots.{is_under_at, is_item_under_at, is_ghost_at, weight_at, Stand, AmongHot, AmongCold, AmongStill, AmongLoading, AmongGhosts, stand_of, has_hash, item_of, still_of, loading_of, ghost_of}
+use Rattle.quick_cache_store.specs.ListSlots.{is_under_at, is_item_under_at, is_ghost_at, weight_at, Stand, AmongHot, AmongCold, AmongStill}
+use Rattle.quick_cache_store.specs.ListSlots.{AmongLoading, AmongGhosts, stand_of, has_hash, item_of, still_of, loading_of, ghost_of}
 
 -- before the rest, what there is
 abbrev pub put : {Y : Type 0} → Option Y → List Y → List Y

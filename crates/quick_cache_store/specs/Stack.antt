@@ -1,5 +1,6 @@
 -- How a `Pool` lays out its slots, and its free tokens as a stack. No public clause cites this module.
-use Rattle.std.specs.Prelude.{◌≡◌, ℕ, zero, suc, ◌+◌, ◌-◌, ◌<◌, ◌≤◌, min, List, [], ◌∷◌, length, Option, Some, None, slice_index_or, reverse}
+use Rattle.std.specs.Prelude.{◌≡◌, ℕ, zero, suc, ◌+◌, ◌-◌, ◌<◌, ◌≤◌, min, List, [], ◌∷◌, length, Option, Some, None, slice_index_or}
+use Rattle.std.specs.Prelude.{reverse}
 use Rattle.quick_cache_store.specs.Pool.{Pool, times}
 
 module _ {T : Type 0} where

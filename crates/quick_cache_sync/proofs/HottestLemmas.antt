@@ -3,7 +3,6 @@ use Rattle.std.proofs.Common.{◌≡◌, ℕ, Bool, true, List, [], ◌∷◌, �
 use Rattle.std.specs.List.{AllByRecursion, AllZip, filter}
 use Rattle.std.proofs.lemmas.List.{take-append-drop}
 use Rattle.quick_cache_model.specs.declared.queue.Queue.{Queue}
-use Rattle.quick_cache_model.specs.declared.queue.Queue.TheVariants.{Hot, Cold}
 use Rattle.quick_cache_model.specs.declared.terms.lifecycle.Lifecycle as lifecycle
 use Rattle.quick_cache_model.specs.CacheState.{CacheState, Item}
 use Rattle.quick_cache_model.proofs.EachElement.{all-append, all-left, all-filter, all-permutation}
@@ -56,9 +55,9 @@ module _ {K V L S : Type 0} (life : lifecycle.Ghosts L K V S) where
 
   by_heat-fits : (state : CacheState K V) → AllFit life.fits state
       → AllByRecursion (FitsHeated life) (by_heat state)
-  by_heat-fits state fit = all-append (FitsHeated life) (by_mark Hot (map shown state.hot))
-      (by_mark Cold (map shown state.cold)) (by_mark-fits Hot state.hot fit.hot)
-      (by_mark-fits Cold state.cold fit.cold)
+  by_heat-fits state fit = all-append (FitsHeated life) (by_mark Queue.Hot (map shown state.hot))
+      (by_mark Queue.Cold (map shown state.cold)) (by_mark-fits Queue.Hot state.hot fit.hot)
+      (by_mark-fits Queue.Cold state.cold fit.cold)
 
   module _ (equal : K → K → Bool) (key_clone : K → K → Type 0) (is_clone : V → V → Type 0)
       (same_fits : (first second : K) (value : V) → equal first second ≡ true

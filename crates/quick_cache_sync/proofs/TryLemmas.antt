@@ -8,7 +8,6 @@ use Rattle.quick_cache_sync.specs.Answers.{InsertsSo, InsertsAloneSo}
 use Rattle.quick_cache_locked.specs.Locked.{FromSome}
 use Rattle.quick_cache_sync.specs.Tries.{IsTriedWith, IfContended}
 use Rattle.quick_cache_sync.specs.declared.error.TryError.{TryError}
-use Rattle.quick_cache_sync.specs.declared.error.TryError.TheVariants.{Contended, Refused}
 
 module _ {K V We B L S : Type 0} (life : lifecycle.Ghosts L K V S) (equal : K → K → Bool)
     (hooks : Shard K V We B L → Hooks K V S) (rules : Shard K V We B L → Rules K V)
@@ -40,8 +39,8 @@ module _ {K V We B L S : Type 0} (life : lifecycle.Ghosts L K V S) (equal : K �
     pub IsTriedWith-alone : (result : Result (Unit {0}) (K × V × TryError))
         → IsTriedWith With result → IsTriedWith Alone result
     IsTriedWith-alone (Ok done) is = With-alone (Ok done) is
-    IsTriedWith-alone (Err (back_key, back_value, Contended contention)) is = is
-    IsTriedWith-alone (Err (back_key, back_value, Refused refusal)) is =
+    IsTriedWith-alone (Err (back_key, back_value, TryError.Contended contention)) is = is
+    IsTriedWith-alone (Err (back_key, back_value, TryError.Refused refusal)) is =
         With-alone (Err (back_key, back_value, refusal)) is
 
 -- the pair that came back with contention is this one, whatever else is known
@@ -50,6 +49,6 @@ pub IfContended-pair : {K V T : Type 0} (key : K) (value : V) (more : Type 0)
     → IfContended result (λ back_key back_value. (back_key ≡ key) × (back_value ≡ value) × more)
     → IfContended result (λ back_key back_value. (back_key ≡ key) × (back_value ≡ value))
 IfContended-pair key value more (Ok done) is = is
-IfContended-pair key value more (Err (back_key, back_value, Contended contention)) is =
+IfContended-pair key value more (Err (back_key, back_value, TryError.Contended contention)) is =
     (is.0, is.1)
-IfContended-pair key value more (Err (back_key, back_value, Refused refusal)) is = is
+IfContended-pair key value more (Err (back_key, back_value, TryError.Refused refusal)) is = is

@@ -2,17 +2,15 @@
 -- output.
 use Rattle.std.specs.Prelude.{ℕ, List, codes}
 use Rattle.std.specs.declared.io.ErrorKind.{ErrorKind}
-use Rattle.std.specs.declared.io.ErrorKind.TheVariants.{WouldBlock}
 use Rattle.quick_cache_model.specs.RefusalTexts.{refusal_text, refusal_kind}
 use Rattle.quick_cache_sync.specs.declared.error.TryError.{TryError}
-use Rattle.quick_cache_sync.specs.declared.error.TryError.TheVariants.{Contended, Refused}
 
 -- how it reads
 abbrev pub try_error_text : TryError → List ℕ
-try_error_text (Contended contention) = codes "Lock Contention"
-try_error_text (Refused refusal) = refusal_text refusal
+try_error_text (TryError.Contended contention) = codes "Lock Contention"
+try_error_text (TryError.Refused refusal) = refusal_text refusal
 
 -- which kind of error it is
 abbrev pub try_error_kind : TryError → ErrorKind
-try_error_kind (Contended contention) = WouldBlock
-try_error_kind (Refused refusal) = refusal_kind refusal
+try_error_kind (TryError.Contended contention) = ErrorKind.WouldBlock
+try_error_kind (TryError.Refused refusal) = refusal_kind refusal

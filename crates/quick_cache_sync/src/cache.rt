@@ -1,6 +1,5 @@
 //! The cache that threads share: shards, each behind a lock of its own.
 ghost use Rattle.std.specs.Prelude.{◌≡◌, IfOk, IfErr, Some, codes};
-ghost use Rattle.quick_cache_model.specs.declared.refusal.Refusal.TheVariants.{Memory};
 ghost use Rattle.quick_cache_model.specs.Sizes.{IsShardCount};
 ghost use Rattle.quick_cache_options.specs.Options.{default_shards};
 ghost use Rattle.quick_cache_sync.specs.Answers.{InsertsAloneBy, InsertsSoBy};
@@ -70,7 +69,7 @@ impl<K: Eq + Hash + Drop, V: Drop, A: Allocator> Cache<
     where
         A: Clone,
         ensures shards { IfOk result (λ cache. IsShardCount default_shards items cache.shards) }
-        ensures refused { IfErr result (λ refusal. refusal ≡ Memory) }
+        ensures refused { IfErr result (λ refusal. refusal ≡ Refusal.Memory) }
     {
         Cache::with_weighter(alloc, items, items as u64, UnitWeighter)
     }
@@ -96,7 +95,7 @@ impl<K: Eq + Hash + Drop, V: Drop, We, A: Allocator> Cache<
         A: Clone,
         We: Clone + Drop,
         ensures shards { IfOk result (λ cache. IsShardCount default_shards items cache.shards) }
-        ensures refused { IfErr result (λ refusal. refusal ≡ Memory) }
+        ensures refused { IfErr result (λ refusal. refusal ≡ Refusal.Memory) }
     {
         Cache::with(
             alloc,
@@ -139,7 +138,7 @@ impl<K: Eq + Hash + Drop, V: Drop, We, B: BuildHasher, L: Lifecycle<K, V>, A: Al
         L: Clone + Drop,
         ensures shards { IfOk result (λ cache. IsShardCount default_shards items cache.shards) }
         ensures builder { IfOk result (λ cache. cache.builder ≡ builder) }
-        ensures refused { IfErr result (λ refusal. refusal ≡ Memory) }
+        ensures refused { IfErr result (λ refusal. refusal ≡ Refusal.Memory) }
     {
         let mut options = OptionsBuilder::new();
         options
@@ -176,7 +175,7 @@ impl<K: Eq + Hash + Drop, V: Drop, We, B: BuildHasher, L: Lifecycle<K, V>, A: Al
         ensures shards { IfOk result (λ cache. IsShardCount options.shards
             options.estimated_items_capacity cache.shards) }
         ensures builder { IfOk result (λ cache. cache.builder ≡ builder) }
-        ensures refused { IfErr result (λ refusal. refusal ≡ Memory) }
+        ensures refused { IfErr result (λ refusal. refusal ≡ Refusal.Memory) }
     {
         let sizes = shard_sizes(&options);
         let own: Result<_, _> = alloc.clone();

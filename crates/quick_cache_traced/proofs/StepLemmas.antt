@@ -1,10 +1,8 @@
 -- Single calls, each a step that its entry shows.
-use Rattle.std.proofs.Common.{◌≡◌, ◌≤◌, ℕ, Bool, true, List, [], ◌∷◌, ◌++◌, Option, Some, None}
-use Rattle.std.proofs.Common.{refl, sym, ap, subst, arith}
+use Rattle.std.proofs.Common.{◌≡◌, ◌≤◌, ℕ, Bool, true, List, [], ◌∷◌, ◌++◌, Option, Some, None, refl, sym, ap, subst, arith}
 use Rattle.std.specs.List.{count_by}
 use Rattle.std.proofs.lemmas.List.Sums.{sum_by-append, sum_by-cons}
-use Rattle.quick_cache_model.specs.CacheState.{CacheState, Item, Place, InHot, InCold, InStill}
-use Rattle.quick_cache_model.specs.CacheState.{LoadingEntry, UpToOrder, keys_by}
+use Rattle.quick_cache_model.specs.CacheState.{CacheState, Item, Place, InHot, InCold, InStill, LoadingEntry, UpToOrder, keys_by}
 use Rattle.quick_cache_model.specs.Hooks.{Rules, Hooks}
 use Rattle.quick_cache_model.specs.Finding.{IsItemAt, IsLoadingAt}
 use Rattle.quick_cache_model.specs.Lookups.{Sees, LooksUp}
@@ -12,12 +10,12 @@ use Rattle.quick_cache_model.specs.Removal.{Removes, pair_of}
 use Rattle.quick_cache_model.specs.Writes.{Insert as insertion}
 use Rattle.quick_cache_model.proofs.LookupLaws.{Sees-LooksUp, same_everywhere, at_least, not_both}
 use Rattle.quick_cache_model.proofs.KeyCounts.{one_if}
-use Rattle.quick_cache_model.specs.declared.calls.call.Call.TheVariants as made
-use Rattle.quick_cache_model.specs.declared.calls.reply.Reply.TheVariants.{Done, Value, Pair}
+use Rattle.quick_cache_model.specs.declared.calls.call.Call.{Call}
+use Rattle.quick_cache_model.specs.declared.calls.reply.Reply.{Reply}
 use Rattle.quick_cache_model.specs.CacheStep.{CacheStep}
 use Rattle.quick_cache_model.specs.Shown.{IsShown}
 use Rattle.quick_cache_shard.specs.Shard.{Wrote}
-use Rattle.quick_cache_traced.specs.declared.call.TraceCall.TheVariants.{Insert, Get, Remove}
+use Rattle.quick_cache_traced.specs.declared.call.TraceCall.{TraceCall}
 use Rattle.quick_cache_traced.specs.Trace.{IsTraced, AreTold, ShowsCall}
 use Rattle.quick_cache_traced.specs.Recorded.{SeesPair, ShowsPair}
 
@@ -115,10 +113,11 @@ module _ {K V M S : Type 0} (rules : Rules K V) (equal : K → K → Bool)
   pub gets : (key kept : K) (found shown : Option V) → shows_key key kept
       → UpToOrder (LooksUp (equal key) old (λ item. item.value) found) new
       → IsShown shows found shown
-      → IsTraced {M = M} rules equal shows_key shows hooks is_default old (Get kept, Value shown)
+      → IsTraced {M = M} rules equal shows_key shows hooks is_default old
+      (TraceCall.Get kept, Reply.Value shown)
       new
   gets key kept found shown is_key looks is_shown = record {
-    call = made.Get key;
+    call = Call.Get key;
     calls = [];
     step = CacheStep.gets key found shown new looks is_shown;
     told = AreTold.none;
@@ -127,10 +126,11 @@ module _ {K V M S : Type 0} (rules : Rules K V) (equal : K → K → Bool)
 
   pub removes : (key kept : K) (pair : Option (K × V)) → shows_key key kept
       → UpToOrder (Removes (equal key) old (rules.hash key) pair) new
-      → IsTraced {M = M} rules equal shows_key shows hooks is_default old (Remove kept, Pair pair)
+      → IsTraced {M = M} rules equal shows_key shows hooks is_default old
+      (TraceCall.Remove kept, Reply.Pair pair)
       new
   removes key kept pair is_key step = record {
-    call = made.Remove key;
+    call = Call.Remove key;
     calls = [];
     step = CacheStep.removes key pair new step;
     told = AreTold.none;
@@ -140,10 +140,11 @@ module _ {K V M S : Type 0} (rules : Rules K V) (equal : K → K → Bool)
   pub inserts : (steady : Type 0) → steady → (key kept : K) (value copy : V) → shows_key key kept
       → shows value copy → (first last : S) → is_default first
       → Wrote steady hooks rules equal insertion old first key value None new last
-      → IsTraced {M = M} rules equal shows_key shows hooks is_default old (Insert kept copy, Done)
+      → IsTraced {M = M} rules equal shows_key shows hooks is_default old
+      (TraceCall.Insert kept copy, Reply.Done)
       new
   inserts steady is_steady key kept value copy is_key is_value first last begins wrote = record {
-    call = made.Insert key value;
+    call = Call.Insert key value;
     calls = wrote.step.calls;
     step = CacheStep.inserts key value wrote.step.calls new wrote.provided
         (wrote.step.holds.0 is_steady);

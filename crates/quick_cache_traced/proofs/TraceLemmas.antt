@@ -3,13 +3,11 @@ use Rattle.std.proofs.Common.{◌≡◌, Bool, List, [], ◌∷◌, ◌++◌, ma
 use Rattle.quick_cache_model.specs.CacheState.{CacheState}
 use Rattle.quick_cache_model.specs.Hooks.{Rules, Hooks}
 use Rattle.quick_cache_model.specs.declared.calls.call.Call.{Call}
-use Rattle.quick_cache_model.specs.declared.calls.call.Call.TheVariants as made
 use Rattle.quick_cache_model.specs.CacheRun.{CacheRun}
 use Rattle.quick_cache_model.proofs.RunLemmas.{CacheRun-append}
 use Rattle.quick_cache_traced.specs.declared.call.TraceCall.{TraceCall}
-use Rattle.quick_cache_traced.specs.Trace.{Entry, call_of, calls_in, replies_in, asks_none}
-use Rattle.quick_cache_traced.specs.Trace.{ShowsCall, AreShown, IsTraced, IsTrace, ShowsRun}
-use Rattle.quick_cache_traced.specs.Trace.{IsRunItself}
+use Rattle.quick_cache_traced.specs.Trace.{Entry, call_of, calls_in, replies_in, asks_none, ShowsCall, AreShown, IsTraced, IsTrace}
+use Rattle.quick_cache_traced.specs.Trace.{ShowsRun, IsRunItself}
 
 -- a list with one more at its end, item by item
 map-push : {X Y : Type 0} (f : X → Y) (xs : List X) (x : X)
@@ -34,11 +32,11 @@ module _ {K V F : Type 0} (shows_key : K → K → Type 0) (shows : V → V → 
     ShowsCall-exact : (call : Call K V F) (entry : TraceCall K V)
         → ShowsCall shows_key shows call entry → call ≡ call_of entry
     ShowsCall-exact call entry (ShowsCall.inserted key shown value copy is_key is_value) =
-        λ i. made.Insert (sym (exact_key key shown is_key) i) (sym (exact value copy is_value) i)
+        λ i. Call.Insert (sym (exact_key key shown is_key) i) (sym (exact value copy is_value) i)
     ShowsCall-exact call entry (ShowsCall.got key shown is_key) =
-        λ i. made.Get (sym (exact_key key shown is_key) i)
+        λ i. Call.Get (sym (exact_key key shown is_key) i)
     ShowsCall-exact call entry (ShowsCall.removed key shown is_key) =
-        λ i. made.Remove (sym (exact_key key shown is_key) i)
+        λ i. Call.Remove (sym (exact_key key shown is_key) i)
 
     AreShown-exact : (calls : List (Call K V F)) (entries : List (TraceCall K V))
         → AreShown shows_key shows calls entries → calls ≡ map call_of entries

@@ -1,11 +1,9 @@
 -- What a lock keeps: a cache, and the list of its calls and replies.
-use Rattle.std.specs.Prelude.{◌≡◌, ℕ, ◌+◌, ◌⊎◌, Bool, List, [], ◌∷◌, ◌++◌, length, Option}
-use Rattle.std.specs.Prelude.{Some, None}
+use Rattle.std.specs.Prelude.{◌≡◌, ℕ, ◌+◌, ◌⊎◌, Bool, List, [], ◌∷◌, ◌++◌, length, Option, Some, None}
 use Rattle.quick_cache_options.specs.Options.{Settings}
 use Rattle.quick_cache_model.specs.CacheState.{CacheState, empty_state}
 use Rattle.quick_cache_model.specs.Lookups.{Sees, LooksUp}
 use Rattle.quick_cache_model.specs.declared.refusal.Refusal.{Refusal}
-use Rattle.quick_cache_model.specs.declared.refusal.Refusal.TheVariants.{Memory}
 use Rattle.quick_cache_model.specs.Hooks.{Rules}
 use Rattle.quick_cache_model.specs.Refusals.{MayRefuse, needs_of_insert}
 use Rattle.quick_cache_model.specs.Removal.{Removes, pair_of}
@@ -14,8 +12,8 @@ use Rattle.quick_cache_model.specs.Shown.{IsShown}
 use Rattle.quick_cache_shard.specs.Shard.{Shard, UpToOrder, ClonesExactly}
 use Rattle.quick_cache_shard.specs.Steps.{Goes, steady_in, hooks_in, rules_in}
 use Rattle.quick_cache_unsync.specs.Touches.{no_touches}
-use Rattle.quick_cache_model.specs.declared.calls.reply.Reply.TheVariants.{Done, Value, Pair}
-use Rattle.quick_cache_traced.specs.declared.call.TraceCall.TheVariants.{Insert, Get, Remove}
+use Rattle.quick_cache_model.specs.declared.calls.reply.Reply.{Reply}
+use Rattle.quick_cache_traced.specs.declared.call.TraceCall.{TraceCall}
 use Rattle.quick_cache_traced.specs.Seats.{Place}
 use Rattle.quick_cache_traced.specs.Trace.{Entry, IsTrace, ShowsRun, IsRunItself}
 
@@ -69,7 +67,7 @@ pub record GetsTwice {K V We B L M : Type 0} (stands_for : K → Bool) (shows_ke
   pub answers : IsShown shows found answer
   pub records : IsShown shows found shown
   pub is_key : shows_key key kept
-  pub added : new.entries ≡ old.entries ++ (Get kept, Value shown) ∷ []
+  pub added : new.entries ≡ old.entries ++ (TraceCall.Get kept, Reply.Value shown) ∷ []
 
 -- an insert: clones of the key and the value are recorded
 pub record NotesInsert {K V We B L M : Type 0} (shows_key : K → K → Type 0) (shows : V → V → Type 0)
@@ -78,7 +76,7 @@ pub record NotesInsert {K V We B L M : Type 0} (shows_key : K → K → Type 0) 
   pub copy : V
   pub is_key : shows_key key kept
   pub is_value : shows value copy
-  pub added : new.entries ≡ old.entries ++ (Insert kept copy, Done) ∷ []
+  pub added : new.entries ≡ old.entries ++ (TraceCall.Insert kept copy, Reply.Done) ∷ []
 
 -- what is shown of a pair, if there is one: a clone of its key, and one of its value
 abbrev pub ShowsPair : {K V : Type 0} → (K → K → Type 0) → (V → V → Type 0) → Option (K × V)
@@ -105,12 +103,12 @@ pub record RemovesTwice {K V We B L M : Type 0} (stands_for : K → Bool) (hash 
   pub removes : UpToOrder (Removes stands_for old.cache.state hash pair) new.cache.state
   pub answers : ShowsPair shows_key shows pair answer
   pub is_key : shows_key key kept
-  pub added : new.entries ≡ old.entries ++ (Remove kept, Pair pair) ∷ []
+  pub added : new.entries ≡ old.entries ++ (TraceCall.Remove kept, Reply.Pair pair) ∷ []
 
 -- why an insert was refused: there was no memory for the entry, or the cache refused the pair
 abbrev pub MayRefuseInsert : {K V : Type 0} → Rules K V → (K → K → Bool) → K → CacheState K V
     → Refusal → Type 0
-MayRefuseInsert rules equal key state refusal = (refusal ≡ Memory)
+MayRefuseInsert rules equal key state refusal = (refusal ≡ Refusal.Memory)
     ⊎ MayRefuse (needs_of_insert (equal key) (rules.hash key) state) state refusal
 
 module _ {K V We B L S M : Type 0} (goes : Goes K V We B L S) (is_default : S → Type 0)

@@ -1,7 +1,6 @@
 //! Looks at a cache that count nothing, and what is cloned before a call acts.
 ghost use Rattle.std.specs.Prelude.{◌≡◌, IfOk, IfErr, option_map};
 ghost use Rattle.std.specs.Map.Iter.{deref_pair};
-ghost use Rattle.quick_cache_model.specs.declared.refusal.Refusal.TheVariants.{Memory};
 ghost use Rattle.quick_cache_model.specs.Lookups.{Sees};
 ghost use Rattle.quick_cache_model.specs.Removal.{pair_of};
 ghost use Rattle.quick_cache_shard.specs.Shard.{IsSoundShard};
@@ -21,7 +20,7 @@ pub(crate) fn look_twice<K: Eq + Hash, V: Clone + Drop, We, B: BuildHasher, L, A
 ) -> Result<(Option<V>, Option<V>), Refusal>
     ensures sees { IfOk result (λ pair. SeesTwice (K.eq key.now) V.is_clone cache.now.state pair.0
         pair.1) }
-    ensures refused { IfErr result (λ refusal. refusal ≡ Memory) }
+    ensures refused { IfErr result (λ refusal. refusal ≡ Refusal.Memory) }
     ensures sound { IsSoundShard K.eq cache.now }
 {
     let Some(value) = cache.peek(key) else {
@@ -65,7 +64,7 @@ pub(crate) fn look_at_pair<
 >(cache: &Cache<K, V, We, B, L, A>, key: &K) -> Result<Option<(K, V)>, Refusal>
     ensures sees { IfOk result
         (λ shown. SeesPair (K.eq key.now) K.is_clone V.is_clone cache.now.state shown) }
-    ensures refused { IfErr result (λ refusal. refusal ≡ Memory) }
+    ensures refused { IfErr result (λ refusal. refusal ≡ Refusal.Memory) }
     ensures sound { IsSoundShard K.eq cache.now }
 {
     let Some((key, value)) = pair_under(cache.shard(), key) else {
@@ -82,7 +81,7 @@ pub(crate) fn look_at_pair<
 /// The same options once more.
 pub(crate) fn copy_of(options: &Options) -> Result<Options, Refusal>
     ensures same { IfOk result (λ copy. copy ≡ options.now) }
-    ensures refused { IfErr result (λ refusal. refusal ≡ Memory) }
+    ensures refused { IfErr result (λ refusal. refusal ≡ Refusal.Memory) }
 {
     let copy: Result<_, _> = options.clone();
     match copy {

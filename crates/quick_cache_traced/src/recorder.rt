@@ -1,12 +1,9 @@
 //! The cache behind the lock, with the list of its calls and replies.
-ghost use Rattle.std.specs.Prelude.{◌≡◌, ◌+◌, ◌<◌, ◌++◌, ◌∷◌, [], IfOk, IfErr, OnOk, OnErr};
-ghost use Rattle.std.specs.Prelude.{vec_len, vec_capacity};
-ghost use Rattle.quick_cache_model.specs.declared.refusal.Refusal.TheVariants.{Memory};
+ghost use Rattle.std.specs.Prelude.{◌≡◌, ◌+◌, ◌<◌, ◌++◌, ◌∷◌, [], IfOk, IfErr, OnOk, OnErr, vec_len, vec_capacity};
 ghost use Rattle.quick_cache_model.specs.Hashing.{hash_of};
 ghost use Rattle.quick_cache_shard.specs.Shard.{KeepsTerms, KeepsWork, made_with};
 ghost use Rattle.quick_cache_unsync.specs.Touches.{no_touches};
-ghost use Rattle.quick_cache_traced.specs.Recorded.{GetsTwice, NotesInsert, RemovesTwice};
-ghost use Rattle.quick_cache_traced.specs.Recorded.{MayRefuseInsert, Adds, Unmade, IsKept, Shows};
+ghost use Rattle.quick_cache_traced.specs.Recorded.{GetsTwice, NotesInsert, RemovesTwice, MayRefuseInsert, Adds, Unmade, IsKept, Shows};
 ghost use Rattle.quick_cache_traced.specs.Recorded.{empty_of};
 ghost use Rattle.quick_cache_shard.specs.Alone.{IsDoneAlone};
 ghost use Rattle.quick_cache_shard.specs.Steps.{InsertsBy, rules_in};
@@ -125,7 +122,7 @@ impl<
           entries = [];
           calls = 0;
         }) }
-        ensures refused { IfErr result (λ refusal. refusal ≡ Memory) }
+        ensures refused { IfErr result (λ refusal. refusal ≡ Refusal.Memory) }
     {
         let own: Result<_, _> = alloc.clone();
         let Ok(own) = own else {
@@ -179,7 +176,7 @@ impl<
             key.now self.old self.new answer) }
         ensures counts { OnOk result (Adds self.old self.new seat.old seat.new) }
         ensures refused { OnErr result (Unmade self.old self.new × (seat.new ≡ seat.old)) }
-        ensures memory { IfErr result (λ refusal. refusal ≡ Memory) }
+        ensures memory { IfErr result (λ refusal. refusal ≡ Refusal.Memory) }
         ensures options { self.new.options ≡ self.old.options }
         ensures same { self.new.cache ≡ record self.old.cache { state = self.new.cache.state } }
     {
@@ -257,7 +254,7 @@ impl<
             K.is_clone V.is_clone key.now self.old self.new answer) }
         ensures counts { OnOk result (Adds self.old self.new seat.old seat.new) }
         ensures refused { OnErr result (Unmade self.old self.new × (seat.new ≡ seat.old)) }
-        ensures memory { IfErr result (λ refusal. refusal ≡ Memory) }
+        ensures memory { IfErr result (λ refusal. refusal ≡ Refusal.Memory) }
         ensures options { self.new.options ≡ self.old.options }
         ensures same { KeepsWork self.old.cache self.new.cache }
     {

@@ -1,10 +1,8 @@
 //! A cache that threads share behind one lock, with the list of its calls.
 ghost use Rattle.std.specs.Prelude.{◌≡◌, ◌≢◌, ◌+◌, IfOk, IfErr, OnOk, OnErr, vec_len};
-ghost use Rattle.quick_cache_model.specs.declared.refusal.Refusal.TheVariants.{Memory};
 ghost use Rattle.quick_cache_model.specs.Hashing.{hash_of};
 ghost use Rattle.quick_cache_unsync.specs.Touches.{no_touches};
-ghost use Rattle.quick_cache_traced.specs.Recorded.{FromSome, WasMade, GetsTwice, NotesInsert};
-ghost use Rattle.quick_cache_traced.specs.Recorded.{RemovesTwice, MayRefuseInsert, Adds, Unmade};
+ghost use Rattle.quick_cache_traced.specs.Recorded.{FromSome, WasMade, GetsTwice, NotesInsert, RemovesTwice, MayRefuseInsert, Adds, Unmade};
 ghost use Rattle.quick_cache_traced.specs.Seats.{parts_of, calls_of};
 ghost use Rattle.quick_cache_shard.specs.Alone.{IsDoneAlone};
 ghost use Rattle.quick_cache_shard.specs.Steps.{InsertsBy, rules_in};
@@ -69,7 +67,7 @@ impl<
         requires all { G.parts ≡ PARTS }
         requires steady { L.steady lifecycle }
         ensures seat { IfOk result (λ made. made.1 ≡ record { parts = PARTS; calls = 0 }) }
-        ensures refused { IfErr result (λ refusal. refusal ≡ Memory) }
+        ensures refused { IfErr result (λ refusal. refusal ≡ Refusal.Memory) }
     {
         let (calls, share) = blank.open::<G>();
         let recorder = Recorder::new(alloc, options, weigher, builder, lifecycle, calls)?;
@@ -93,7 +91,7 @@ impl<
             answer × Adds old new seat.old seat.new)) }
         ensures counts { OnOk result (seat.new ≡ record seat.old { calls = seat.old.calls + 1 }) }
         ensures refused { OnErr result (seat.new ≡ seat.old) }
-        ensures memory { IfErr result (λ refusal. refusal ≡ Memory) }
+        ensures memory { IfErr result (λ refusal. refusal ≡ Refusal.Memory) }
     {
         self.recorder.lock(rt).get(seat, key)
     }
@@ -149,7 +147,7 @@ impl<
             × Adds old new seat.old seat.new)) }
         ensures counts { OnOk result (seat.new ≡ record seat.old { calls = seat.old.calls + 1 }) }
         ensures refused { OnErr result (seat.new ≡ seat.old) }
-        ensures memory { IfErr result (λ refusal. refusal ≡ Memory) }
+        ensures memory { IfErr result (λ refusal. refusal ≡ Refusal.Memory) }
     {
         self.recorder.lock(rt).remove(seat, key)
     }

@@ -1,4 +1,3 @@
 pub mod ReferenceLemmas
-mod DrainLemmas
 pub mod LoadLemmas
 mod ManyLemmas

@@ -21,8 +21,7 @@ use Rattle.quick_cache_shard.specs.Shard.{HasItem}
 use Rattle.quick_cache_unsync.specs.Loads.{IsAwaited, Takes, EndsLoad, AnswersLoad, OnResident}
 use Rattle.quick_cache_unsync.specs.Fetches.{EndsFetch, Fetches}
 use Rattle.quick_cache_unsync.specs.declared.loading.not_loaded.LoadError.{LoadError}
-use Rattle.quick_cache_unsync.specs.declared.loading.not_loaded.LoadError.TheVariants.{Failed, Refused}
-use Rattle.quick_cache_model.specs.declared.refusal.Refusal.TheVariants.{Memory}
+use Rattle.quick_cache_model.specs.declared.refusal.Refusal.{Refusal}
 
 module _ {K V : Type 0} (stands_for : K → Bool) (gives : K → Type 0) (hash : ℕ)
     (old : CacheState K V) where
@@ -149,13 +148,13 @@ pub ends-answered : {K V S E : Type 0} (steady : Type 0) (hooks : Hooks K V S) (
     (given : Result V E → Type 0) (old new : CacheState K V) (P : Type 0)
     (answer : Result V (LoadError E))
     → EndsFetch steady hooks rules is_default is_clone is_infallible ticket given old answer new
-    → IfErr answer (λ error. error ≡ Refused Memory → P)
+    → IfErr answer (λ error. error ≡ LoadError.Refused Refusal.Memory → P)
 ends-answered steady hooks rules is_default is_clone is_infallible ticket given old new P
     (Ok value) ends = tt
 ends-answered steady hooks rules is_default is_clone is_infallible ticket given old new P
-    (Err (Failed error)) ends = λ same. absurd cc
+    (Err (LoadError.Failed error)) ends = λ same. absurd cc
 ends-answered steady hooks rules is_default is_clone is_infallible ticket given old new P
-    (Err (Refused refusal)) ends = absurd ends
+    (Err (LoadError.Refused refusal)) ends = absurd ends
 
 -- a placeholder that was taken and ended, by what stood before it was taken
 pub fetches-by : {K V S E X : Type 0} (steady : X → Type 0) (hooks : X → Hooks K V S)

@@ -1,7 +1,6 @@
 -- A load that answers its value.
 use Rattle.std.specs.Prelude.{ℕ, ◌⊎◌, Bool, false, Some, Result, Ok, Err}
 use Rattle.quick_cache_model.specs.declared.refusal.Refusal.{Refusal}
-use Rattle.quick_cache_model.specs.declared.refusal.Refusal.TheVariants.{Memory}
 use Rattle.quick_cache_model.specs.CacheState.{CacheState, UpToOrder}
 use Rattle.quick_cache_model.specs.Hooks.{Rules, Hooks, Calls}
 use Rattle.quick_cache_model.specs.Lookups.{LooksUp}
@@ -14,7 +13,6 @@ use Rattle.quick_cache_shard.specs.Shard.{Shard}
 use Rattle.quick_cache_shard.specs.Steps.{Goes, steady_in, hooks_in, rules_in}
 use Rattle.quick_cache_unsync.specs.Loads.{Takes}
 use Rattle.quick_cache_unsync.specs.declared.loading.not_loaded.LoadError.{LoadError}
-use Rattle.quick_cache_unsync.specs.declared.loading.not_loaded.LoadError.TheVariants.{Failed, Refused}
 
 -- it is a clone of the value that stands under the query
 pub record IsCloneUnder {K V : Type 0} (is_clone : V → V → Type 0) (stands_for : K → Bool)
@@ -58,8 +56,8 @@ module _ {K V S E : Type 0} (steady : Type 0) (hooks : Hooks K V S) (rules : Rul
     -- what the loader gave is the answer
     abbrev pub EndsFetch : Result V (LoadError E) → CacheState K V → Type 0
     EndsFetch (Ok value) new = AnswersLoaded value new
-    EndsFetch (Err (Failed error)) new = AnswersError error new
-    EndsFetch (Err (Refused refusal)) new = ⊥
+    EndsFetch (Err (LoadError.Failed error)) new = AnswersError error new
+    EndsFetch (Err (LoadError.Refused refusal)) new = ⊥
 
   module _ (stands_for : K → Bool) (gives : K → Type 0) (hash : ℕ) (given : Result V E → Type 0)
       (old : CacheState K V) where
@@ -72,12 +70,14 @@ module _ {K V S E : Type 0} (steady : Type 0) (hooks : Hooks K V S) (rules : Rul
           → IsCloneUnder is_clone stands_for new copy → Fetches (Ok copy) new
       not_cloned : (value : V) (new : CacheState K V)
           → UpToOrder (LooksUp stands_for old (λ item. item.value) (Some value)) new
-          → IsUnclonedUnder is_infallible stands_for new → Fetches (Err (Refused Memory)) new
+          → IsUnclonedUnder is_infallible stands_for new
+          → Fetches (Err (LoadError.Refused Refusal.Memory)) new
       loads : (answer : Result V (LoadError E)) (ticket : ℕ) (mid new : CacheState K V)
           → Takes stands_for gives hash old ticket mid → EndsFetch ticket given mid answer new
           → Fetches answer new
       refused : (refusal : Refusal) (new : CacheState K V)
-          → MakesNone stands_for gives hash old refusal new → Fetches (Err (Refused refusal)) new
+          → MakesNone stands_for gives hash old refusal new
+          → Fetches (Err (LoadError.Refused refusal)) new
 
 -- by what the cache goes by
 module _ {K V We B L S E : Type 0} (goes : Goes K V We B L S) (may_count : ℕ → Type 0)

@@ -4,14 +4,13 @@ use Rattle.std.specs.Borrow.{Bor}
 use Rattle.std.specs.List.{filter}
 use Rattle.quick_cache_model.specs.CacheState.{CacheState, Item}
 use Rattle.quick_cache_model.specs.declared.queue.Queue.{Queue}
-use Rattle.quick_cache_model.specs.declared.queue.Queue.TheVariants.{Hot, Cold}
 use Rattle.quick_cache_shard.specs.Shard.{shown}
 
 module _ {K V : Type 0} where
   -- the items of a ring, the next to be visited first
   abbrev pub ring_of : CacheState K V → Queue → List (Item K V)
-  ring_of state Hot = state.hot
-  ring_of state Cold = state.cold
+  ring_of state Queue.Hot = state.hot
+  ring_of state Queue.Cold = state.cold
 
   -- the pairs with this mark, in the order of the ring
   abbrev pub with_mark : ℕ → List (K × V × ℕ) → List (K × V)

@@ -1,4 +1,5 @@
--- What a reference to a value of a cache holds, and how the logic calls its type.
+-- What a reference to a value of a cache holds, to read or to write, and how the logic calls the type
+-- of one to write.
 use Rattle.std.specs.Prelude.{ℕ, Bool, List, []}
 use Rattle.std.specs.Borrow.{RattleType, GName}
 use Rattle.std.specs.declared.alloc.Allocator.{Ghosts}
@@ -14,6 +15,7 @@ use Rattle.quick_cache_model.specs.declared.terms.lifecycle.Lifecycle as lifecyc
 use Rattle.quick_cache_shard.specs.References.{with_value_under}
 use Rattle.quick_cache_shard.specs.Shard.{Shard}
 use Rattle.quick_cache_unsync.specs.References.{still_under}
+use Rattle.quick_cache_unsync.specs.declared.lent.reading.Ref.{Ref}
 use Rattle.quick_cache_unsync.specs.declared.lent.reference.RefMut.{RefMut}
 use Rattle.quick_cache_unsync.specs.contracts.lent.reference.RefMut as refs
 
@@ -21,7 +23,22 @@ module _ {Q K V We B L A H S : Type 0} {query : equivalent.Ghosts Q K} {query_ha
     {query_eq : partial_eq.Ghosts Q} {key_eq : partial_eq.Ghosts K} {key_hash : hash.Ghosts K}
     {weigh : weighter.Ghosts We K V} {make : builder.Ghosts B H} {hashes : hasher.Ghosts H}
     {life : lifecycle.Ghosts L K V S} {start : default.Ghosts S} where
-  -- the borrow that a reference holds
+  -- the borrow that one to read holds
+  abbrev pub reader : Ref Q K V We B L A H S query query_hash query_eq key_eq key_hash weigh make
+      hashes life start → GName
+  reader r = r.cache.ghost_name
+
+  -- the cache that it reads
+  abbrev pub read_from : Ref Q K V We B L A H S query query_hash query_eq key_eq key_hash weigh make
+      hashes life start → Shard K V We B L
+  read_from r = r.cache.now
+
+  -- the query that it stands under
+  abbrev pub asked_of : Ref Q K V We B L A H S query query_hash query_eq key_eq key_hash weigh make
+      hashes life start → Q
+  asked_of r = r.query.now
+
+  -- the borrow that one to write holds
   abbrev pub lender : RefMut Q K V We B L A H S query query_hash query_eq key_eq key_hash weigh make
       hashes life start → GName
   lender r = r.cache.ghost_name

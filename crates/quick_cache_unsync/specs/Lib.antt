@@ -34,5 +34,4 @@ pub use Rattle.quick_cache_model.specs.Removal
 pub use Rattle.quick_cache_model.specs.Sizes
 pub use Rattle.quick_cache_model.specs.Refusals
 pub mod LentValues
-pub mod LentReads
 pub mod LentGuards

@@ -9,7 +9,6 @@ use Rattle.quick_cache_model.specs.Placeholders.{HasNoTicket, GivesUpPlaceholder
 use Rattle.quick_cache_model.specs.Loads.{LoadsNothing}
 use Rattle.quick_cache_model.specs.References.{TellsItem}
 use Rattle.quick_cache_unsync.specs.declared.loading.not_loaded.NotLoaded.{NotLoaded}
-use Rattle.quick_cache_unsync.specs.declared.loading.not_loaded.NotLoaded.TheVariants.{NotKept, Failed, Refused}
 use Rattle.quick_cache_shard.specs.Alone.{IsDoneAlone}
 use Rattle.quick_cache_shard.specs.Filling.{Fills, AnswersFill}
 use Rattle.quick_cache_shard.specs.Loading.{IsMadeOrMet, MakesNone}
@@ -99,6 +98,6 @@ OnResident (Err refusal) P = ⊤
 
 -- what a load answers that gives no reference, for this reason
 abbrev pub answer_of : {E : Type 0} → NotLoaded E → Result (Result Bool E) Refusal
-answer_of NotKept = Ok (Ok false)
-answer_of (Failed error) = Ok (Err error)
-answer_of (Refused refusal) = Err refusal
+answer_of NotLoaded.NotKept = Ok (Ok false)
+answer_of (NotLoaded.Failed error) = Ok (Err error)
+answer_of (NotLoaded.Refused refusal) = Err refusal

@@ -1,7 +1,6 @@
 //! The cache for one thread.
 ghost use Rattle.std.specs.Prelude.{◌≡◌, ◌≤◌, ◌+◌, ◌^◌, ◌-◌, ◌↔◌, min, max, IsTrue, IfOk, IfErr, IsOk, Some, codes, option_copied, OnOk};
 ghost use Rattle.std.specs.Borrow.{sem};
-ghost use Rattle.quick_cache_model.specs.declared.refusal.Refusal.TheVariants.{Memory};
 ghost use Rattle.quick_cache_model.specs.CacheState.{empty_state, item_count, total_weight};
 ghost use Rattle.std.specs.Bool.{OnTrue, OnFalse};
 ghost use Rattle.std.specs.Option.{option_map};
@@ -106,7 +105,7 @@ impl<K: Eq + Hash, V, A: Allocator> Cache<
         ensures makes { IfOk result (λ cache. cache.state ≡ empty_state items
             (hot_target_of items default_hot_share) (ghost_limit_of items default_ghost_share)) }
         ensures succeeds { A.is_infallible alloc → IsOk result }
-        ensures refused { IfErr result (λ refusal. refusal ≡ Memory) }
+        ensures refused { IfErr result (λ refusal. refusal ≡ Refusal.Memory) }
     {
         Cache::with(
             alloc,
@@ -141,7 +140,7 @@ impl<K: Eq + Hash, V, We, A: Allocator> Cache<
             (empty_state weight (hot_target_of weight default_hot_share)
             (ghost_limit_of items default_ghost_share)) weigher cache.builder cache.lifecycle) }
         ensures succeeds { A.is_infallible alloc → IsOk result }
-        ensures refused { IfErr result (λ refusal. refusal ≡ Memory) }
+        ensures refused { IfErr result (λ refusal. refusal ≡ Refusal.Memory) }
     {
         let (builder, lifecycle) = (DefaultHashBuilder::new(), DefaultLifecycle::new());
         Cache::with(alloc, items, weight, weigher, builder, lifecycle)
@@ -174,7 +173,7 @@ impl<K: Eq + Hash, V, We, B: BuildHasher, L, A: Allocator> Cache<K, V, We, B, L,
             (empty_state weight (hot_target_of weight default_hot_share)
             (ghost_limit_of items default_ghost_share)) weigher builder lifecycle) }
         ensures succeeds { A.is_infallible alloc → IsOk result }
-        ensures refused { IfErr result (λ refusal. refusal ≡ Memory) }
+        ensures refused { IfErr result (λ refusal. refusal ≡ Refusal.Memory) }
     {
         Ok(Cache {
             shard: CacheShard::new(
@@ -211,7 +210,7 @@ impl<K: Eq + Hash, V, We, B: BuildHasher, L, A: Allocator> Cache<K, V, We, B, L,
         ensures builder { IfOk result (λ copy. B.is_clone self.now.builder copy.builder) }
         ensures lifecycle { IfOk result (λ copy. L.is_clone self.now.lifecycle copy.lifecycle) }
         ensures work { IfOk result (λ copy. copy.work ≡ no_work) }
-        ensures refused { IfErr result (λ refusal. refusal ≡ Memory) }
+        ensures refused { IfErr result (λ refusal. refusal ≡ Refusal.Memory) }
     {
         Ok(Cache {
             shard: self.shard.try_clone()?,
@@ -234,7 +233,7 @@ impl<K: Eq + Hash, V, We, B: BuildHasher, L, A: Allocator> Cache<K, V, We, B, L,
         // Where there is that room already it succeeds.
         ensures succeeds { min (additional + min additional self.old.state.ghost_limit)
             (slot_count - slots_taken self.old.state) ≤ self.old.room → IsOk result }
-        ensures refused { IfErr result (λ refusal. refusal ≡ Memory) }
+        ensures refused { IfErr result (λ refusal. refusal ≡ Refusal.Memory) }
         ensures same { self.new ≡ record self.old { room = self.new.room } }
     {
         self.shard.reserve(additional)

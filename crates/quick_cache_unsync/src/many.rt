@@ -1,7 +1,6 @@
 //! Many pairs at once: those of an iterator are written.
 ghost use Rattle.std.specs.Prelude.{◌≡◌, IfErr};
 ghost use Rattle.std.specs.Iterator.{IsFinite};
-ghost use Rattle.quick_cache_model.specs.declared.refusal.Refusal.TheVariants.{Memory};
 ghost use Rattle.quick_cache_shard.specs.Shard.{KeepsTerms, IsSoundShard};
 ghost use Rattle.quick_cache_unsync.specs.Many.{InsertsInTurn};
 ghost use Rattle.quick_cache_unsync.specs.Touches.{no_touches};

@@ -3,7 +3,8 @@ ghost use Rattle.std.specs.Prelude.{◌≡◌, ◌≤◌, Bool};
 ghost use Rattle.std.specs.Fn.{FnOnceReturnsAt};
 ghost use Rattle.quick_cache_model.specs.Hashing.{hash_of};
 ghost use Rattle.quick_cache_model.specs.Removal.{Removes, RemovesIf, Retains};
-ghost use Rattle.quick_cache_shard.specs.Predicates.{Answers, IsAnsweredAs, IsTestedAs, MayBeAskedUnder, MayBeAskedOfEach, RemovesAsked, RetainsAsked};
+ghost use Rattle.quick_cache_shard.specs.Predicates.{Answers, IsAnsweredAs, IsTestedAs, MayBeAskedUnder, MayBeAskedOfEach, RemovesAsked};
+ghost use Rattle.quick_cache_shard.specs.Predicates.{RetainsAsked};
 ghost use Rattle.quick_cache_shard.specs.Shard.{IsSoundShard, UpToOrder, KeepsWork};
 ghost use Rattle.quick_cache_shard.specs.ShardDrain.{emptied};
 

@@ -1,6 +1,5 @@
 //! The sizes of a cache: as options tell them, and as they are set later.
 ghost use Rattle.std.specs.Prelude.{◌≡◌, ◌≤◌, IfOk, IfErr, IsOk};
-ghost use Rattle.quick_cache_model.specs.declared.refusal.Refusal.TheVariants.{Memory};
 ghost use Rattle.quick_cache_shard.specs.Alone.{IsDoneAlone};
 ghost use Rattle.quick_cache_shard.specs.SetsCapacity.{Rescales};
 ghost use Rattle.quick_cache_shard.specs.Shard.{KeepsTerms, WorksAsWrite, made_with};
@@ -37,7 +36,7 @@ impl<K: Eq + Hash, V, We, B: BuildHasher, L, A: Allocator> Cache<K, V, We, B, L,
         ensures makes { IfOk result (λ cache. cache ≡ made_with (empty_by options)
             weigher builder lifecycle) }
         ensures succeeds { A.is_infallible alloc → IsOk result }
-        ensures refused { IfErr result (λ refusal. refusal ≡ Memory) }
+        ensures refused { IfErr result (λ refusal. refusal ≡ Refusal.Memory) }
     {
         let shard = CacheShard::new(
             alloc,

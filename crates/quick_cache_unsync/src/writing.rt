@@ -1,6 +1,5 @@
 //! Pairs that are written: inserts, and replaces.
 ghost use Rattle.std.specs.Prelude.{◌≡◌, ◌+◌, ◌≤◌, IfErr};
-ghost use Rattle.quick_cache_model.specs.declared.refusal.Refusal.TheVariants.{Memory};
 ghost use Rattle.quick_cache_shard.specs.Shard.{KeepsTerms, WorksAsWrite};
 ghost use Rattle.quick_cache_shard.specs.Alone.{IsDoneAlone};
 ghost use Rattle.quick_cache_unsync.specs.Touches.{no_touches};
@@ -9,7 +8,7 @@ ghost use Rattle.quick_cache_shard.specs.Inserts.{with_pair};
 
 use crate::cache::Cache;
 use quick_cache_model::{Lifecycle, Refusal, Weighter};
-use quick_cache_shard::{Going, InsertStrategy};
+use quick_cache_shard::Going;
 use std::alloc::Allocator;
 use std::hash::{BuildHasher, Hash};
 
@@ -33,7 +32,7 @@ impl<
             (InsertsBy ⟦<Self as Going>⟧.goes no_touches self.old K.eq key value result self.new) }
         // It takes room for one entry at most, and asks for memory only where there is no room.
         ensures room { self.old.room ≤ self.new.room + 1 }
-        ensures asks { IfErr result (λ back. back.2 ≡ Memory → self.old.room ≡ 0) }
+        ensures asks { IfErr result (λ back. back.2 ≡ Refusal.Memory → self.old.room ≡ 0) }
         // How much work it takes, whatever is pinned.
         ensures work { WorksAsWrite self.old self.new }
         ensures same { KeepsTerms self.old self.new }
@@ -55,7 +54,7 @@ impl<
             (InsertsBy ⟦<Self as Going>⟧.goes no_touches self.old K.eq key value
             (with_pair key value result) self.new) }
         ensures room { self.old.room ≤ self.new.room + 1 }
-        ensures asks { IfErr result (λ refusal. refusal ≡ Memory → self.old.room ≡ 0) }
+        ensures asks { IfErr result (λ refusal. refusal ≡ Refusal.Memory → self.old.room ≡ 0) }
         ensures work { WorksAsWrite self.old self.new }
         ensures same { KeepsTerms self.old self.new }
     {
@@ -85,19 +84,13 @@ impl<
             self.new state.old state.new }
         // It takes room for one entry at most, and asks for memory only where there is no room.
         ensures room { self.old.room ≤ self.new.room + 1 }
-        ensures asks { IfErr result (λ back. back.2 ≡ Memory → self.old.room ≡ 0) }
+        ensures asks { IfErr result (λ back. back.2 ≡ Refusal.Memory → self.old.room ≡ 0) }
         // How much work it takes, whatever is pinned.
         ensures work { WorksAsWrite self.old self.new }
         ensures same { KeepsTerms self.old self.new }
     {
         let hash = self.shard.hash(&key);
-        match self
-            .shard
-            .insert(state, hash, key, value, InsertStrategy::Insert)
-        {
-            Ok(()) => Ok(()),
-            Err((key, value, refusal)) => Err((key, value, refusal.unwrap())),
-        }
+        self.shard.insert_pair(state, hash, key, value)
     }
 
     /// Replaces the item under the key by the pair, and hands what leaves to the lifecycle, with a
@@ -146,10 +139,6 @@ impl<
         ensures same { KeepsTerms self.old self.new }
     {
         let hash = self.shard.hash(&key);
-        let strategy = InsertStrategy::Replace { soft };
-        match self.shard.insert(state, hash, key, value, strategy) {
-            Ok(()) => Ok(()),
-            Err((key, value, _)) => Err((key, value)),
-        }
+        self.shard.replace_pair(state, hash, key, value, soft)
     }
 }

@@ -4,7 +4,6 @@ use Rattle.std.specs.Cmp.{IsEquivalence}
 use Rattle.quick_cache_locked.specs.Fitting.{ClonesFit}
 use Rattle.quick_cache_expiring.specs.declared.loaded.Loaded.{Loaded}
 use Rattle.read_through.specs.declared.given.Given.{Given}
-use Rattle.read_through.specs.declared.given.Given.TheVariants.{Fresh, Stale}
 use Rattle.quick_cache_expiring.specs.Moments.{Serves, IsFresh, IsWithin}
 use Rattle.read_through.specs.Answers.{Answers, AnswersLate, IsOf, GivesClones}
 use Rattle.read_through.specs.Givens.{IfFresh, IfStale}
@@ -30,15 +29,15 @@ module _ {V E : Type 0} where
   pub IfFresh-loaded : (P : V → Type 0) (loaded : Result V E) → IfOk loaded P
       → (given : Result (Given V E) E) → IfFresh given (λ value. loaded ≡ Ok value)
       → IfFresh given P
-  IfFresh-loaded P loaded holds (Ok (Fresh value)) own = subst (λ it. IfOk it P) own holds
-  IfFresh-loaded P loaded holds (Ok (Stale value error)) own = tt
+  IfFresh-loaded P loaded holds (Ok (Given.Fresh value)) own = subst (λ it. IfOk it P) own holds
+  IfFresh-loaded P loaded holds (Ok (Given.Stale value error)) own = tt
   IfFresh-loaded P loaded holds (Err error) own = tt
 
   -- where an older value is this one, what is true of that is true of it
   pub IfStale-own : (P : V → Type 0) (old : V) → P old → (given : Result (Given V E) E)
       → IfStale given (λ value. value ≡ old) → IfStale given P
-  IfStale-own P old holds (Ok (Fresh value)) own = tt
-  IfStale-own P old holds (Ok (Stale value error)) own = subst P (sym own) holds
+  IfStale-own P old holds (Ok (Given.Fresh value)) own = tt
+  IfStale-own P old holds (Ok (Given.Stale value error)) own = subst P (sym own) holds
   IfStale-own P old holds (Err error) own = tt
 
   -- what a load gives is what a call of it may give

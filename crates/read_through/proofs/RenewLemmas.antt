@@ -3,7 +3,6 @@ use Rattle.std.proofs.Common.{◌≡◌, ℕ, Bool, true, false, IsTrue, Option,
 use denote.Ref.{Bor, MutBor}
 use denote.Param.Members.{Once}
 use Rattle.quick_cache_model.specs.declared.calls.entry.EntryAction.{EntryAction}
-use Rattle.quick_cache_model.specs.declared.calls.entry.EntryAction.TheVariants.{Retain as retain, Remove as remove, ReplaceWithGuard as replace}
 use Rattle.quick_cache_guard.specs.Acts.{LeavesOnce, MayTell}
 use Rattle.quick_cache_expiring.specs.declared.loaded.Loaded.{Loaded}
 use Rattle.quick_cache_expiring.specs.Moments.{IsDue}
@@ -16,7 +15,7 @@ pub Claims-told : {F K V : Type 0}
     (EntryAction (Option ℕ) × (MutBor (Loaded V) × Unit {0})))
     (fits : K → Loaded V → Type 0) (test : K → Bool) (callback : F) (refresh_after now : ℕ)
     (claimed : Option ℕ) (told : MayTell (LeavesOnce calls callback) fits test claimed)
-    → ChoosesToClaim refresh_after now told.called.shown.now (retain claimed)
+    → ChoosesToClaim refresh_after now told.called.shown.now (EntryAction.Retain claimed)
     told.called.left_by.now
     → IfSome claimed (Claims fits test refresh_after now)
 Claims-told calls fits test callback refresh_after now (Some moment) told chosen = record {
@@ -35,7 +34,7 @@ pub Renews-told : {F K V : Type 0}
     (fits : K → Loaded V → Type 0) (test : K → Bool) (callback : F) (is_clone : V → V → Type 0)
     (claimed now : ℕ) (value : V) (renewed : Bool)
     (told : MayTell (LeavesOnce calls callback) fits test renewed)
-    → ChoosesToRenew is_clone claimed now value told.called.shown.now (retain renewed)
+    → ChoosesToRenew is_clone claimed now value told.called.shown.now (EntryAction.Retain renewed)
     told.called.left_by.now
     → IsTrue renewed → Renews fits test is_clone claimed now value
 Renews-told calls fits test callback is_clone claimed now value true told chosen so = record {
@@ -56,16 +55,18 @@ pub renewed-source : {K V : Type 0} (gives : K → ℕ → V → Type 0) (equal 
     → ChoosesToRenew is_clone claimed now loaded old action new
     → IsOf gives equal key old.moment old.value → IsOf gives equal key new.moment new.value
 renewed-source gives equal is_clone asked claimed now loaded clones gave key same old new
-    (retain true) chosen source = record {
+    (EntryAction.Retain true) chosen source = record {
       key = asked;
       same = same;
       gave = subst (λ moment. gives asked moment new.value) (sym chosen.1.1)
           (clones asked now loaded new.value chosen.1.0 gave);
     }
 renewed-source gives equal is_clone asked claimed now loaded clones gave key same old new
-    (retain false) chosen source =
+    (EntryAction.Retain false) chosen source =
     subst (λ (it : Loaded _). IsOf gives equal key it.moment it.value) (sym chosen) source
-renewed-source gives equal is_clone asked claimed now loaded clones gave key same old new remove
+renewed-source gives equal is_clone asked claimed now loaded clones gave key same old new
+    EntryAction.Remove
     chosen source = absurd chosen
-renewed-source gives equal is_clone asked claimed now loaded clones gave key same old new replace
+renewed-source gives equal is_clone asked claimed now loaded clones gave key same old new
+    EntryAction.ReplaceWithGuard
     chosen source = absurd chosen

@@ -1,21 +1,20 @@
 -- What a call answers whose load may fail.
 use Rattle.std.specs.Prelude.{⊤, Result, Ok, Err}
 use Rattle.read_through.specs.declared.given.Given.{Given}
-use Rattle.read_through.specs.declared.given.Given.TheVariants.{Fresh, Stale}
 
 module _ {V E : Type 0} where
   -- of a value that lives this is true
   abbrev pub IfFresh : Result (Given V E) E → (V → Type 0) → Type 0
-  IfFresh (Ok (Fresh value)) P = P value
+  IfFresh (Ok (Given.Fresh value)) P = P value
   IfFresh _ P = ⊤
 
   -- of an older value this is true
   abbrev pub IfStale : Result (Given V E) E → (V → Type 0) → Type 0
-  IfStale (Ok (Stale value error)) P = P value
+  IfStale (Ok (Given.Stale value error)) P = P value
   IfStale _ P = ⊤
 
   -- of the error of a load this is true
   abbrev pub IfFailed : Result (Given V E) E → (E → Type 0) → Type 0
-  IfFailed (Ok (Stale value error)) P = P error
+  IfFailed (Ok (Given.Stale value error)) P = P error
   IfFailed (Err error) P = P error
   IfFailed _ P = ⊤

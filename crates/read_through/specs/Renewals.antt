@@ -1,7 +1,6 @@
 -- Values whose loader is asked anew while they serve, beside other threads.
 use Rattle.std.specs.Prelude.{◌≡◌, ℕ, Bool, true, false, Option, Some, None}
 use Rattle.quick_cache_model.specs.declared.calls.entry.EntryAction.{EntryAction}
-use Rattle.quick_cache_model.specs.declared.calls.entry.EntryAction.TheVariants.{Retain as retain, Remove as remove, ReplaceWithGuard as replace}
 use Rattle.quick_cache_locked.specs.Fitting.{FitsQuery}
 use Rattle.quick_cache_expiring.specs.declared.loaded.Loaded.{Loaded}
 use Rattle.quick_cache_expiring.specs.Moments.{IsDue}
@@ -10,13 +9,13 @@ module _ {V : Type 0} where
   -- what is due is asked for now, and its moment is told; all else stays as it is
   abbrev pub ChoosesToClaim : (refresh_after now : ℕ) → Loaded V → EntryAction (Option ℕ)
       → Loaded V → Type 0
-  ChoosesToClaim refresh_after now old (retain (Some moment)) new =
+  ChoosesToClaim refresh_after now old (EntryAction.Retain (Some moment)) new =
       IsDue old.asked refresh_after now × (moment ≡ old.moment)
       × (new ≡ record old { asked = now })
-  ChoosesToClaim refresh_after now old (retain None) new =
+  ChoosesToClaim refresh_after now old (EntryAction.Retain None) new =
       (IsDue old.asked refresh_after now → ⊥) × (new ≡ old)
-  ChoosesToClaim refresh_after now old remove new = ⊥
-  ChoosesToClaim refresh_after now old replace new = ⊥
+  ChoosesToClaim refresh_after now old EntryAction.Remove new = ⊥
+  ChoosesToClaim refresh_after now old EntryAction.ReplaceWithGuard new = ⊥
 
   -- it is of the moment that was claimed, and its loader was last asked now
   abbrev pub IsClaimed : (claimed now : ℕ) → Loaded V → Type 0
@@ -30,11 +29,11 @@ module _ {V : Type 0} where
   -- what was claimed gives its place to what was loaded now, and that is told; all else stays as it is
   abbrev pub ChoosesToRenew : (is_clone : V → V → Type 0) → (claimed now : ℕ) → V → Loaded V
       → EntryAction Bool → Loaded V → Type 0
-  ChoosesToRenew is_clone claimed now value old (retain true) new =
+  ChoosesToRenew is_clone claimed now value old (EntryAction.Retain true) new =
       IsClaimed claimed now old × IsLoadedNow is_clone now value new
-  ChoosesToRenew is_clone claimed now value old (retain false) new = new ≡ old
-  ChoosesToRenew is_clone claimed now value old remove new = ⊥
-  ChoosesToRenew is_clone claimed now value old replace new = ⊥
+  ChoosesToRenew is_clone claimed now value old (EntryAction.Retain false) new = new ≡ old
+  ChoosesToRenew is_clone claimed now value old EntryAction.Remove new = ⊥
+  ChoosesToRenew is_clone claimed now value old EntryAction.ReplaceWithGuard new = ⊥
 
 module _ {K V : Type 0} (fits : K → Loaded V → Type 0) (stands_for : K → Bool) where
   -- what stood under the query was due, and was of this moment

@@ -1,6 +1,5 @@
 //! How an answer is found: under the lock to read where it serves, else by a guard.
 ghost use Rattle.std.specs.Prelude.{◌≡◌, ◌↔◌, IsTrue, Ok, Err, None, IfOk, IfErr, IfSome, false};
-ghost use Rattle.quick_cache_model.specs.declared.refusal.Refusal.TheVariants.{Memory};
 ghost use Rattle.quick_cache_guard.specs.Answers.{IsLoadRefusal};
 ghost use Rattle.quick_cache_guard.specs.Entries.{IfGivenBack, IfGuarded, IfRetained, IsRefusedAsLoad, is_late};
 ghost use Rattle.quick_cache_expiring.specs.Looks.{IfRetain, Stays};
@@ -174,7 +173,8 @@ impl<
                 (Li.life_of lives.entry.now key.entry.now loaded.old.value loaded.old.moment)
                 loaded.old.moment now }
             ensures told { IfRetain result (λ told. IfOk told (V.is_clone loaded.old.value)) }
-            ensures refused { IfRetain result (λ told. IfErr told (λ refusal. refusal ≡ Memory)) }
+            ensures refused { IfRetain result
+                (λ told. IfErr told (λ refusal. refusal ≡ Refusal.Memory)) }
         { loaded.look(lives.life(key, &loaded.value, loaded.moment), now) };
         match self.cache.entry(rt, key, limit, looks) {
             EntryResult::Retained(Ok(value)) => EntryResult::Retained(value),

@@ -1,9 +1,8 @@
 //! The loader with its cache.
 ghost use Rattle.std.specs.Prelude.{◌≡◌, ◌⊎◌, ℕ, ◌+◌, ◌-◌, ◌^◌, ◌≤◌, min, IfOk, IfErr, IfSome};
-ghost use Rattle.quick_cache_model.specs.declared.refusal.Refusal.TheVariants.{Memory, SlotsFull};
 ghost use Rattle.quick_cache_model.specs.Sizes.{IsShardCount};
 ghost use Rattle.quick_cache_options.specs.Options.{default_shards};
-ghost use Rattle.quick_cache_locked.specs.declared.count.Count.TheVariants.{Items, Hits, Misses};
+ghost use Rattle.quick_cache_locked.specs.declared.count.Count.{Count};
 ghost use Rattle.read_through.specs.Answers.{IsOf};
 ghost use Rattle.read_through.specs.Counted.{Counted};
 
@@ -92,7 +91,7 @@ impl<K: Eq + Hash + Drop, V: Drop, F, S: Source<K, V>, A: Allocator, Li> ReadThr
         ensures lives { IfOk result (λ made. made.lives ≡ lives) }
         ensures grace { IfOk result (λ made. made.grace ≡ 0) }
         ensures loader { IfOk result (λ made. made.loader ≡ loader) }
-        ensures refused { IfErr result (λ refusal. refusal ≡ Memory) }
+        ensures refused { IfErr result (λ refusal. refusal ≡ Refusal.Memory) }
     {
         ReadThrough::with(
             alloc,
@@ -138,7 +137,7 @@ impl<K: Eq + Hash + Drop, V: Drop, F, S: Source<K, V>, A: Allocator, Li, We> Rea
         ensures lives { IfOk result (λ made. made.lives ≡ lives) }
         ensures grace { IfOk result (λ made. made.grace ≡ 0) }
         ensures loader { IfOk result (λ made. made.loader ≡ loader) }
-        ensures refused { IfErr result (λ refusal. refusal ≡ Memory) }
+        ensures refused { IfErr result (λ refusal. refusal ≡ Refusal.Memory) }
     {
         let cache = Cache::with(
             alloc,
@@ -179,7 +178,8 @@ impl<K: Eq + Hash + Drop, V: Drop, F, S: Source<K, V>, A: Allocator, Li, We> Rea
     where
         We: Weighter<K, V>,
         requires gives { S.gives key now value }
-        ensures refused { IfErr result (λ refusal. refusal ≡ Memory ⊎ refusal ≡ SlotsFull) }
+        ensures refused { IfErr result
+            (λ refusal. refusal ≡ Refusal.Memory ⊎ refusal ≡ Refusal.SlotsFull) }
     {
         self.cache.put(rt, key, Loaded::at(value, now))
     }
@@ -221,7 +221,7 @@ impl<K: Eq + Hash + Drop, V: Drop, F, S: Source<K, V>, A: Allocator, Li, We> Rea
 
     /// How many values are stored, fresh or not.
     pub fn len<R: Wait>(&self, rt: &R) -> usize
-        ensures answers { Counted We ⟦<Fresh<S> as Lifecycle<K, Loaded<V>>>⟧ K.eq Items
+        ensures answers { Counted We ⟦<Fresh<S> as Lifecycle<K, Loaded<V>>>⟧ K.eq Count.Items
             self.now.shards result }
     {
         self.cache.len(rt)
@@ -231,10 +231,10 @@ impl<K: Eq + Hash + Drop, V: Drop, F, S: Source<K, V>, A: Allocator, Li, We> Rea
     pub fn stats<R: Wait>(&self, rt: &R) -> Stats
         // Its misses are those of the cache behind it and what was too old; it tells no more hits.
         ensures misses { (counted : ℕ) × Counted We ⟦<Fresh<S> as Lifecycle<K, Loaded<V>>>⟧ K.eq
-            Misses self.now.shards counted
+            Count.Misses self.now.shards counted
             × (result.misses ≡ min (counted + result.too_old) (2 ^ 64 - 1)) }
         ensures hits { (counted : ℕ) × Counted We ⟦<Fresh<S> as Lifecycle<K, Loaded<V>>>⟧ K.eq
-            Hits self.now.shards counted × (result.hits ≤ counted) }
+            Count.Hits self.now.shards counted × (result.hits ≤ counted) }
     {
         let too_old = self.too_old.load(Ordering::SeqCst);
         let not_hits = self.not_hits.load(Ordering::SeqCst);

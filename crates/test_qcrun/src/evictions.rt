@@ -3,6 +3,7 @@ use crate::scripts::{check_all, write_each};
 use qcrun_parts::serve;
 use std::io::Write;
 use std::test::Fail;
+use test_tools::{expect, expect_eq};
 
 #[test]
 fn items_leave_by_marks_pins_and_weights(rt: HostRuntime) {
@@ -104,8 +105,8 @@ fn a_scan_of_fresh_keys_takes_no_hot_one(rt: HostRuntime) -> Result<(), Fail> {
         &mut written,
         &mut Vec::new(rt.alloc()),
     );
-    assert_eq!(rt; ended, 0);
+    expect_eq!(rt; ended, 0);
     let told = b"some 1\nsome 1\nsome 1\nhits 194 misses 0\n";
-    assert!(rt; written.as_slice().ends_with(told.as_slice()));
+    expect!(rt; written.as_slice().ends_with(told.as_slice()));
     Ok(())
 }

@@ -62,9 +62,9 @@ fn what_lacks_memory_is_told_and_leaves_the_cache(rt: HostRuntime) {
     };
     let mut written = Vec::new(rt.alloc());
     let status = serve(&ration, reader, &mut written, &mut Vec::new(rt.alloc()));
-    assert_eq!(rt; status, 0);
+    expect_eq!(rt; status, 0);
     // A new cache takes no memory, so that its line is not refused.
     let wanted = "ok\nrefused memory\nok\nevents lost\nok\nsome 2\nok\nrefused memory\n\
          hot 1:2:2\ncold\nghosts\nstill 7:200\ncount 2 2 53 27\nok\nnone\n";
-    assert_eq!(rt; written.as_slice(), wanted.as_bytes());
+    expect_eq!(rt; written.as_slice(), wanted.as_bytes());
 }

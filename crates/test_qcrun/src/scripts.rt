@@ -5,6 +5,7 @@ use std::io::{self, ErrorKind, Read, Write};
 use std::ops::RangeInclusive;
 use std::process::Abort;
 use std::test::Fail;
+use test_tools::{expect, expect_eq};
 
 /// Serves a script to its end, and checks what is written.
 pub fn check(rt: &impl Abort, alloc: Global, script: &[u8], wanted: &str) {
@@ -27,8 +28,8 @@ fn check_end(
 ) {
     let (mut written, mut reasons) = (Vec::new(alloc), Vec::new(alloc));
     let ended = serve(alloc, script, &mut written, &mut reasons);
-    assert_eq!(rt; (ended, reasons.as_slice()), (status, reason.as_bytes()));
-    assert_eq!(rt; written.as_slice(), wanted.as_bytes());
+    expect_eq!(rt; (ended, reasons.as_slice()), (status, reason.as_bytes()));
+    expect_eq!(rt; written.as_slice(), wanted.as_bytes());
 }
 
 #[test]
@@ -258,7 +259,7 @@ fn a_bad_line_ends_the_script(rt: HostRuntime) {
         let (mut script, mut told) = (Vec::new(rt.alloc()), String::new(rt.alloc()));
         let made = write!(script, "cache 5 5\n{line}\nget 1\n");
         let also = writeln!(told, "line 2: {reason}");
-        assert!(rt; made.is_ok() && also.is_ok());
+        expect!(rt; made.is_ok() && also.is_ok());
         check_bad(
             &rt,
             rt.alloc(),
@@ -294,7 +295,7 @@ fn each_command_of_the_help_is_served(rt: HostRuntime) -> Result<(), Fail> {
     }
     let (mut written, mut reasons) = (Vec::new(rt.alloc()), Vec::new(rt.alloc()));
     let ended = serve(rt.alloc(), script.as_slice(), &mut written, &mut reasons);
-    assert_eq!(rt; (ended, reasons.len()), (0, 0));
+    expect_eq!(rt; (ended, reasons.len()), (0, 0));
     Ok(())
 }
 
@@ -334,8 +335,8 @@ fn a_bad_line_is_told_by_its_number_behind_seventy_thousand(rt: HostRuntime) -> 
         &mut written,
         &mut Vec::new(rt.alloc()),
     );
-    assert_eq!(rt; ended, 2);
-    assert_eq!(rt; written.as_slice(), wanted.as_slice());
+    expect_eq!(rt; ended, 2);
+    expect_eq!(rt; written.as_slice(), wanted.as_slice());
     Ok(())
 }
 
@@ -372,7 +373,7 @@ fn a_hundred_keys_of_one_hash_are_found_and_go_once(rt: HostRuntime) -> Result<(
         &mut written,
         &mut Vec::new(rt.alloc()),
     );
-    assert!(rt; ended == 0 && written.as_slice() == wanted.as_slice());
+    expect!(rt; ended == 0 && written.as_slice() == wanted.as_slice());
     Ok(())
 }
 
@@ -390,10 +391,10 @@ fn two_of_each_are_shown_in_order(rt: HostRuntime) -> Result<(), Fail> {
         &mut written,
         &mut Vec::new(rt.alloc()),
     );
-    assert_eq!(rt; ended, 0);
+    expect_eq!(rt; ended, 0);
     let shown =
         "some 1\nsome 1\nhot 31:1:0 32:1:1\ncold 35:1:0 36:1:1\nghosts 33 34\nstill\ncount 4 4 32 17\n";
-    assert!(rt; written.as_slice().ends_with(shown.as_bytes()));
+    expect!(rt; written.as_slice().ends_with(shown.as_bytes()));
     Ok(())
 }
 
@@ -447,8 +448,8 @@ fn a_failed_read_ends_it(rt: HostRuntime) {
         is_read: false,
     };
     let status = serve(rt.alloc(), reader, &mut written, &mut Vec::new(rt.alloc()));
-    assert_eq!(rt; status, 1);
-    assert_eq!(rt; written.as_slice(), b"ok\nnone\n".as_slice());
+    expect_eq!(rt; status, 1);
+    expect_eq!(rt; written.as_slice(), b"ok\nnone\n".as_slice());
 }
 
 /// Takes what is first written, and counts the writes.
@@ -484,6 +485,6 @@ fn a_failed_write_ends_it(rt: HostRuntime) {
         &mut writer,
         &mut Vec::new(rt.alloc()),
     );
-    assert_eq!(rt; status, 1);
-    assert_eq!(rt; writer.writes, 2);
+    expect_eq!(rt; status, 1);
+    expect_eq!(rt; writer.writes, 2);
 }

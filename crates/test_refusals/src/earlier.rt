@@ -3,7 +3,7 @@
 use crate::sweeps::stage::AMPLE;
 use crate::texts::{Text, Texts};
 use quick_cache_guard::GuardResult;
-use quick_cache_model::{DefaultHashBuilder, Refusal, UnitWeighter};
+use quick_cache_model::{DefaultHashBuilder, Queue, Refusal, UnitWeighter};
 use quick_cache_sync::{Cache, DefaultLifecycle};
 use quick_cache_unsync as unsync;
 use quick_cache_unsync::LoadError;
@@ -18,6 +18,16 @@ type Numbers<'a> = Cache<
     UnitWeighter,
     DefaultHashBuilder,
     DefaultLifecycle<u64, u64>,
+    &'a Rationed<Global>,
+>;
+
+/// A cache of numbers for one thread, whose memory is rationed.
+type OwnNumbers<'a> = unsync::Cache<
+    u64,
+    u64,
+    UnitWeighter,
+    DefaultHashBuilder,
+    unsync::DefaultLifecycle<u64, u64>,
     &'a Rationed<Global>,
 >;
 
@@ -73,6 +83,19 @@ fn what_came_in_before_a_refused_pair_stays(rt: HostRuntime) {
     };
     let left = rest.count() as u64;
     expect_eq!(rt; (cache.len(&rt) as u64, key + 1 + left), (key, 100_000));
+}
+
+#[test]
+fn what_came_back_before_a_refused_pair_stays(rt: HostRuntime) {
+    let ration = Rationed::new(rt.alloc(), AMPLE);
+    let mut cache: OwnNumbers<'_> = expect_ok!(rt; unsync::Cache::new(&ration, 100_000));
+    expect!(rt; cache.put(0, 0).is_ok());
+    ration.allow(0);
+    let pairs = (1..100_000).map(|n| (n, n, Queue::Hot, 0));
+    expect_eq!(rt; cache.restore_all(pairs), Err(Refusal::Memory));
+    let left = cache.len() as u64;
+    let there = [1, left.saturating_sub(1), left].map(|key| cache.contains_key(&key));
+    expect_eq!(rt; there, [true, true, false]);
 }
 
 #[test]

@@ -1,75 +1,90 @@
 //! The calls of a cache that threads share, each once and by one thread.
+use crate::asked::{Ask, Said, answers};
 use quick_cache::sync::Cache;
-use std::sync::Wait;
 use test_tools::{expect, expect_eq, expect_ok};
 
-/// A cache of 100 items that holds three pairs.
-fn three_pairs<R: Wait>(rt: &R, cache: &Cache<u64, u64>) -> bool {
-    cache.insert(rt, 1, 10).is_ok()
-        && cache.insert(rt, 2, 20).is_ok()
-        && cache.insert(rt, 3, 30).is_ok()
-}
+/// Three pairs come in.
+const THREE_PAIRS: [(Ask, Said); 3] = [
+    (Ask::Insert(1, 10), Said::Done),
+    (Ask::Insert(2, 20), Said::Done),
+    (Ask::Insert(3, 30), Said::Done),
+];
 
 #[test]
 fn shared_calls_act(rt: HostRuntime) {
     let cache: Cache<u64, u64> = expect_ok!(rt; Cache::new(rt.alloc(), 100));
-    expect!(rt; cache.is_empty(&rt));
-    expect!(rt; three_pairs(&rt, &cache));
-    expect_eq!(rt; cache.len(&rt), 3);
-    expect!(rt; !cache.is_empty(&rt));
-    expect_eq!(rt; cache.get(&rt, &3), Ok(Some(30)));
-    expect!(rt; cache.contains_key(&rt, &1));
-    expect!(rt; !cache.contains_key(&rt, &4));
-    expect_eq!(rt; cache.peek(&rt, &2), Ok(Some(20)));
-    expect_eq!(rt; cache.peek(&rt, &4), Ok(None));
-    expect_eq!(rt; cache.replace(&rt, 2, 21, false), Ok(()));
-    expect_eq!(rt; cache.replace(&rt, 9, 1, false), Err((9, 1)));
+    let mut empty = [cache.is_empty(&rt), false, false];
+    answers(&rt, &cache, &THREE_PAIRS);
+    empty[1] = cache.is_empty(&rt);
+    answers(
+        &rt,
+        &cache,
+        &[
+            (Ask::Len, Said::Count(3)),
+            (Ask::Get(3), Said::Value(30)),
+            (Ask::Contains(1), Said::Is(true)),
+            (Ask::Contains(4), Said::Is(false)),
+            (Ask::Peek(2), Said::Value(20)),
+            (Ask::Peek(4), Said::Nothing),
+            (Ask::Replace(2, 21), Said::Done),
+            (Ask::Replace(9, 1), Said::Pair(9, 1)),
+        ],
+    );
     let mut gone = [None, None];
-    expect_eq!(rt;
-        cache.replace_with_lifecycle(&rt, 3, 31, true, &mut gone),
-        Ok(())
+    let softly = cache.replace_with_lifecycle(&rt, 3, 31, true, &mut gone);
+    expect_eq!(rt; (softly, gone), (Ok(()), [Some((3, 30)), None]));
+    answers(
+        &rt,
+        &cache,
+        &[
+            (Ask::RemoveIf(2, 20), Said::Nothing),
+            (Ask::RemoveIf(2, 21), Said::Pair(2, 21)),
+            (Ask::Hits, Said::Count(1)),
+            (Ask::Misses, Said::Count(0)),
+            (Ask::Weight, Said::Count(2)),
+            (Ask::KeepBelow(2), Said::Count(1)),
+            (Ask::Len, Said::Count(1)),
+            (Ask::Remove(3), Said::Nothing),
+            (Ask::Remove(1), Said::Pair(1, 10)),
+            (Ask::Put(1, 10), Said::Done),
+            (Ask::Capacity, Said::Count(100)),
+            (Ask::SetCapacity(40), Said::Done),
+            (Ask::Capacity, Said::Count(40)),
+            (Ask::ShardCapacity, Said::Count(20)),
+            (Ask::Clear, Said::Done),
+        ],
     );
-    expect_eq!(rt; gone, [Some((3, 30)), None]);
-    expect_eq!(rt; cache.remove_if(&rt, &2, |value| *value == 20), None);
-    expect_eq!(rt;
-        cache.remove_if(&rt, &2, |value| *value == 21),
-        Some((2, 21))
-    );
-    expect_eq!(rt; (cache.hits(&rt), cache.misses(&rt)), (1, 0));
-    expect_eq!(rt; cache.weight(&rt), 2);
-    cache.retain(&rt, |key, _| *key == 1);
-    expect_eq!(rt; cache.len(&rt), 1);
-    expect_eq!(rt; cache.remove(&rt, &3), None);
-    expect_eq!(rt; cache.remove(&rt, &1), Some((1, 10)));
-    expect_eq!(rt; cache.put(&rt, 1, 10), Ok(()));
-    expect_eq!(rt; cache.capacity(&rt), 100);
-    cache.set_capacity(&rt, 40);
-    expect_eq!(rt; cache.capacity(&rt), 40);
-    expect_eq!(rt; cache.shard_capacity(&rt), 20);
-    cache.clear(&rt);
-    expect!(rt; cache.is_empty(&rt));
+    empty[2] = cache.is_empty(&rt);
+    expect_eq!(rt; empty, [true, false, true]);
 }
 
 #[test]
 fn reads_are_counted_and_looks_are_not(rt: HostRuntime) {
     let cache: Cache<u64, u64> = expect_ok!(rt; Cache::new(rt.alloc(), 100));
-    expect!(rt; three_pairs(&rt, &cache));
-    for _ in 0..3 {
-        expect_eq!(rt; cache.get(&rt, &1), Ok(Some(10)));
-    }
-    expect_eq!(rt; cache.peek(&rt, &1), Ok(Some(10)));
-    let reads = cache.item_stats(&rt, &1).map(|stats| stats.access_count);
-    expect_eq!(rt; reads, Some(3));
-    expect!(rt; cache.item_stats(&rt, &4).is_none());
-    expect_eq!(rt; cache.get(&rt, &4), Ok(None));
-    expect_eq!(rt; (cache.hits(&rt), cache.misses(&rt)), (3, 1));
-    // A hit stays counted where its item goes, is written over or is cleared.
-    expect_eq!(rt; cache.remove(&rt, &1), Some((1, 10)));
-    expect_eq!(rt; cache.get(&rt, &2), Ok(Some(20)));
-    expect_eq!(rt; cache.put(&rt, 2, 21), Ok(()));
-    expect_eq!(rt; cache.get(&rt, &3), Ok(Some(30)));
-    cache.clear(&rt);
-    expect_eq!(rt; (cache.hits(&rt), cache.misses(&rt)), (5, 1));
+    answers(&rt, &cache, &THREE_PAIRS);
+    answers(
+        &rt,
+        &cache,
+        &[
+            (Ask::Get(1), Said::Value(10)),
+            (Ask::Get(1), Said::Value(10)),
+            (Ask::Get(1), Said::Value(10)),
+            (Ask::Peek(1), Said::Value(10)),
+            (Ask::Reads(1), Said::Count(3)),
+            (Ask::Reads(4), Said::Nothing),
+            (Ask::Get(4), Said::Nothing),
+            (Ask::Hits, Said::Count(3)),
+            (Ask::Misses, Said::Count(1)),
+            // A hit stays counted where its item goes, is written over or is cleared.
+            (Ask::Remove(1), Said::Pair(1, 10)),
+            (Ask::Get(2), Said::Value(20)),
+            (Ask::Put(2, 21), Said::Done),
+            (Ask::Get(3), Said::Value(30)),
+            (Ask::Clear, Said::Done),
+            (Ask::Hits, Said::Count(5)),
+            (Ask::Misses, Said::Count(1)),
+        ],
+    );
 }
 
 #[test]

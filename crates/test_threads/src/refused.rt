@@ -1,6 +1,7 @@
 //! Refusals: a clone that fails, and a growth for which there is no memory.
 ghost use Rattle.std.specs.Prelude.{◌≡◌};
 
+use crate::asked::{Ask, Said, answers};
 use quick_cache::sync::{Cache, DefaultLifecycle, TryError};
 use quick_cache::{DefaultHashBuilder, Refusal, UnitWeighter};
 use std::alloc::{AllocError, Global};
@@ -67,19 +68,24 @@ type RationedCache<'a> = Cache<
 fn a_pair_for_which_there_is_no_memory_comes_back(rt: HostRuntime) {
     let ration = Rationed::new(rt.alloc(), 1);
     let cache: RationedCache<'_> = expect_ok!(rt; Cache::new(&ration, 5));
-    expect_eq!(rt; cache.insert(&rt, 1, 10), Err((1, 10, Refusal::Memory)));
-    expect_eq!(rt;
-        cache.try_insert(1, 10),
-        Err((1, 10, TryError::Refused(Refusal::Memory)))
-    );
-    expect_eq!(rt; cache.get(&rt, &1), Ok(None));
+    let inserted = cache.insert(&rt, 1, 10);
+    let tried = cache.try_insert(1, 10);
+    expect_eq!(rt; inserted, Err((1, 10, Refusal::Memory)));
+    expect_eq!(rt; tried, Err((1, 10, TryError::Refused(Refusal::Memory))));
+    answers(&rt, &cache, &[(Ask::Get(1), Said::Nothing)]);
     ration.allow(12);
-    expect_eq!(rt; cache.insert(&rt, 1, 10), Ok(()));
+    answers(&rt, &cache, &[(Ask::Insert(1, 10), Said::Done)]);
     // With no memory, what is there can be read and written over.
     ration.allow(0);
-    expect_eq!(rt; cache.get(&rt, &1), Ok(Some(10)));
-    expect_eq!(rt; cache.insert(&rt, 1, 11), Ok(()));
-    expect_eq!(rt; cache.get(&rt, &1), Ok(Some(11)));
+    answers(
+        &rt,
+        &cache,
+        &[
+            (Ask::Get(1), Said::Value(10)),
+            (Ask::Insert(1, 11), Said::Done),
+            (Ask::Get(1), Said::Value(11)),
+        ],
+    );
 }
 
 #[test]

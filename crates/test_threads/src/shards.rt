@@ -1,4 +1,5 @@
 //! The shards of a cache: how many there are, how much each may hold, and which one a key has.
+use crate::asked::{Ask, Said, answers};
 use quick_cache::sync::{Cache, DefaultLifecycle};
 use quick_cache::{DefaultHashBuilder, Options, OptionsBuilder, UnitWeighter};
 use std::alloc::Global;
@@ -51,9 +52,12 @@ fn the_options_tell_how_a_cache_is_divided(rt: HostRuntime) {
             DefaultHashBuilder::new(),
             DefaultLifecycle::new(),
         ));
-        expect_eq!(rt; cache.num_shards(), shards);
-        expect_eq!(rt; cache.shard_capacity(&rt), shard_capacity);
-        expect_eq!(rt; cache.capacity(&rt), capacity);
+        let told = (
+            cache.num_shards(),
+            cache.shard_capacity(&rt),
+            cache.capacity(&rt),
+        );
+        expect_eq!(rt; told, (shards, shard_capacity, capacity));
     }
 }
 
@@ -73,15 +77,21 @@ fn the_greatest_mark_decides_who_leaves(rt: HostRuntime) {
             DefaultHashBuilder::new(),
             DefaultLifecycle::new(),
         ));
-        expect_eq!(rt; cache.insert(&rt, 1, 10), Ok(()));
-        expect_eq!(rt; cache.get(&rt, &1), Ok(Some(10)));
-        expect_eq!(rt; cache.insert(&rt, 2, 20), Ok(()));
-        for _ in 0..3 {
-            expect_eq!(rt; cache.get(&rt, &2), Ok(Some(20)));
-        }
-        expect_eq!(rt; cache.insert(&rt, 3, 30), Ok(()));
-        let found = (cache.contains_key(&rt, &1), cache.contains_key(&rt, &2));
-        assert_eq!(rt; found, (stays == 1, stays == 2), "at {cut}");
+        answers(
+            &rt,
+            &cache,
+            &[
+                (Ask::Insert(1, 10), Said::Done),
+                (Ask::Get(1), Said::Value(10)),
+                (Ask::Insert(2, 20), Said::Done),
+                (Ask::Get(2), Said::Value(20)),
+                (Ask::Get(2), Said::Value(20)),
+                (Ask::Get(2), Said::Value(20)),
+                (Ask::Insert(3, 30), Said::Done),
+                (Ask::Contains(1), Said::Is(stays == 1)),
+                (Ask::Contains(2), Said::Is(stays == 2)),
+            ],
+        );
     }
 }
 
@@ -117,22 +127,18 @@ fn calls_reach_the_shard_that_the_hash_tells(rt: HostRuntime) {
     expect_eq!(rt; cache.num_shards(), 4);
     for key in 0..8 {
         expect_eq!(rt; cache.shard_index(&key), key as usize % 4);
-        expect_eq!(rt; cache.insert(&rt, key, key + 1), Ok(()));
+        answers(&rt, &cache, &[(Ask::Insert(key, key + 1), Said::Done)]);
     }
     for key in 0..8 {
-        expect_eq!(rt; cache.get(&rt, &key), Ok(Some(key + 1)));
+        answers(&rt, &cache, &[(Ask::Get(key), Said::Value(key + 1))]);
     }
     // Of the keys below 4 one lies in each shard, and of those above too.
-    cache.retain(&rt, |key, _| *key < 4);
+    answers(&rt, &cache, &[(Ask::KeepBelow(4), Said::Count(4))]);
     for key in 0..8 {
-        assert_eq!(rt;
-            cache.contains_key(&rt, &key),
-            key < 4,
-            "after retain, {key}"
-        );
+        answers(&rt, &cache, &[(Ask::Contains(key), Said::Is(key < 4))]);
     }
-    cache.clear(&rt);
+    answers(&rt, &cache, &[(Ask::Clear, Said::Done)]);
     for key in 0..8 {
-        assert!(rt; !cache.contains_key(&rt, &key), "after clear, {key}");
+        answers(&rt, &cache, &[(Ask::Contains(key), Said::Is(false))]);
     }
 }

@@ -13,7 +13,7 @@ fn met<R: Wait>(rt: &R, alloc: Global, cache: &Cache<u64, u64>, drains: bool) ->
     let mut keys = Vec::new(alloc);
     let mut walk = cache.iter(rt);
     let mut drain = cache.drain(rt);
-    for _ in 0..5000 {
+    for _ in 0..80000 {
         let step = if drains {
             drain.next()
         } else {
@@ -56,17 +56,17 @@ fn walks_print_their_names(rt: HostRuntime) {
 
 #[test]
 fn a_walk_shows_each_item_once_and_a_drain_takes_it(rt: HostRuntime) {
-    let Some(cache) = divided(rt.alloc(), 2, 1000) else {
+    let Some(cache) = divided(rt.alloc(), 2, 140000) else {
         panic!(rt; "there is memory");
     };
-    for number in 0..500 {
+    for number in 0..70000 {
         expect!(rt; cache.insert(&rt, number, number).is_ok());
     }
     for drains in [false, true] {
         let Some(keys) = met(&rt, rt.alloc(), &cache, drains) else {
             panic!(rt; "each value is as its key");
         };
-        expect!(rt; begin_with_numbers(&keys, 500) && keys.len() == 500);
+        expect!(rt; begin_with_numbers(&keys, 70000) && keys.len() == 70000);
     }
     expect_eq!(rt; cache.len(&rt), 0);
 }

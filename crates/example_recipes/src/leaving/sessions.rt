@@ -111,6 +111,7 @@ impl Sessions {
 mod tests {
     use super::*;
     use std::test::Fail;
+    use test_tools::expect_eq;
 
     #[test]
     fn a_session_that_left_is_found_again(rt: HostRuntime) -> Result<(), Fail> {
@@ -118,16 +119,16 @@ mod tests {
         for visitor in 0..5 {
             sessions.keep(visitor, Session { pages: visitor })?;
         }
-        assert_eq!(rt; sessions.in_use.len(), 2);
+        expect_eq!(rt; sessions.in_use.len(), 2);
         for visitor in 0..5 {
-            assert_eq!(rt; sessions.open(visitor), Some(Session { pages: visitor }));
+            expect_eq!(rt; sessions.open(visitor), Some(Session { pages: visitor }));
         }
         // What was written last is what is found, also if it left once more.
         sessions.keep(1, Session { pages: 70 })?;
         for visitor in 5..9 {
             sessions.keep(visitor, Session { pages: visitor })?;
         }
-        assert_eq!(rt; sessions.open(1), Some(Session { pages: 70 }));
+        expect_eq!(rt; sessions.open(1), Some(Session { pages: 70 }));
         Ok(())
     }
 }

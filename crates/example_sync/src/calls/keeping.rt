@@ -4,6 +4,7 @@ use quick_cache::sync::{Cache, DefaultLifecycle, Guard, GuardResult, LockedShard
 use quick_cache::{DefaultHashBuilder, UnitWeighter};
 use std::sync::Wait;
 use std::test::Fail;
+use test_tools::{expect, expect_eq};
 
 type Names = Cache<u64, &'static str>;
 
@@ -44,19 +45,19 @@ fn a_guard_is_kept(rt: HostRuntime) -> Result<(), Fail> {
         panic!(rt; "the key is absent");
     };
     let search = Search { guard, steps: 1 };
-    assert_eq!(rt; search.steps, 1);
-    assert!(rt; search.guard.insert("square").is_ok());
-    assert_eq!(rt; cache.get(&rt, &4), Ok(Some("square")));
+    expect_eq!(rt; search.steps, 1);
+    expect!(rt; search.guard.insert("square").is_ok());
+    expect_eq!(rt; cache.get(&rt, &4), Ok(Some("square")));
     Ok(())
 }
 
 #[test]
 fn a_future_is_kept(rt: HostRuntime) -> Result<(), Fail> {
     let cache: Names = Cache::new(rt.alloc(), 100)?;
-    assert!(rt; cache.insert(&rt, 4, "square").is_ok());
+    expect!(rt; cache.insert(&rt, 4, "square").is_ok());
     let question = Question {
         answer: cache.get_value_or_guard_async(&rt, &4),
     };
-    assert!(rt; matches!(block_on(&rt, question.answer), Ok(Ok(Ok("square")))));
+    expect!(rt; matches!(block_on(&rt, question.answer), Ok(Ok(Ok("square")))));
     Ok(())
 }

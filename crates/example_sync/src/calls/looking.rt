@@ -2,55 +2,56 @@
 use quick_cache::sync::Cache;
 use quick_cache::sync_placeholder::GuardResult;
 use std::test::Fail;
+use test_tools::{expect, expect_eq};
 
 #[test]
 fn get(rt: HostRuntime) -> Result<(), Fail> {
     let cache = Cache::new(rt.alloc(), 100)?;
-    assert!(rt; cache.insert(&rt, "square", 4).is_ok());
+    expect!(rt; cache.insert(&rt, "square", 4).is_ok());
     // It gives a clone of the value, or says that there was no memory for one.
-    assert_eq!(rt; cache.get(&rt, &"square"), Ok(Some(4)));
-    assert_eq!(rt; cache.get(&rt, &"circle"), Ok(None));
-    assert_eq!(rt; (cache.hits(&rt), cache.misses(&rt)), (1, 1));
+    expect_eq!(rt; cache.get(&rt, &"square"), Ok(Some(4)));
+    expect_eq!(rt; cache.get(&rt, &"circle"), Ok(None));
+    expect_eq!(rt; (cache.hits(&rt), cache.misses(&rt)), (1, 1));
     Ok(())
 }
 
 #[test]
 fn find(rt: HostRuntime) -> Result<(), Fail> {
     let cache = Cache::new(rt.alloc(), 100)?;
-    assert!(rt; cache.insert(&rt, "square", 4).is_ok());
+    expect!(rt; cache.insert(&rt, "square", 4).is_ok());
     let found = (cache.find(&rt, &"square"), cache.find(&rt, &"circle"));
-    assert_eq!(rt; found, (Ok(Some(4)), Ok(None)));
+    expect_eq!(rt; found, (Ok(Some(4)), Ok(None)));
     // What is there counts as a hit, and what is not there counts as no miss.
-    assert_eq!(rt; (cache.hits(&rt), cache.misses(&rt)), (1, 0));
+    expect_eq!(rt; (cache.hits(&rt), cache.misses(&rt)), (1, 0));
     Ok(())
 }
 
 #[test]
 fn peek(rt: HostRuntime) -> Result<(), Fail> {
     let cache = Cache::new(rt.alloc(), 100)?;
-    assert!(rt; cache.insert(&rt, "square", 4).is_ok());
-    assert_eq!(rt; cache.peek(&rt, &"square"), Ok(Some(4)));
+    expect!(rt; cache.insert(&rt, "square", 4).is_ok());
+    expect_eq!(rt; cache.peek(&rt, &"square"), Ok(Some(4)));
     // A look is no use of the item, and no hit.
-    assert_eq!(rt; (cache.hits(&rt), cache.misses(&rt)), (0, 0));
+    expect_eq!(rt; (cache.hits(&rt), cache.misses(&rt)), (0, 0));
     Ok(())
 }
 
 #[test]
 fn contains_key(rt: HostRuntime) -> Result<(), Fail> {
     let cache = Cache::new(rt.alloc(), 100)?;
-    assert!(rt; cache.insert(&rt, "square", 4).is_ok());
-    assert!(rt; cache.contains_key(&rt, &"square"));
-    assert!(rt; !cache.contains_key(&rt, &"circle"));
+    expect!(rt; cache.insert(&rt, "square", 4).is_ok());
+    expect!(rt; cache.contains_key(&rt, &"square"));
+    expect!(rt; !cache.contains_key(&rt, &"circle"));
     Ok(())
 }
 
 #[test]
 fn item_stats(rt: HostRuntime) -> Result<(), Fail> {
     let cache: Cache<u64, u64> = Cache::new(rt.alloc(), 100)?;
-    assert_eq!(rt; cache.insert(&rt, 1, 10), Ok(()));
-    assert_eq!(rt; cache.get(&rt, &1), Ok(Some(10)));
-    assert_eq!(rt; cache.peek(&rt, &1), Ok(Some(10)));
-    assert_eq!(rt;
+    expect_eq!(rt; cache.insert(&rt, 1, 10), Ok(()));
+    expect_eq!(rt; cache.get(&rt, &1), Ok(Some(10)));
+    expect_eq!(rt; cache.peek(&rt, &1), Ok(Some(10)));
+    expect_eq!(rt;
         cache.item_stats(&rt, &1).map(|stats| stats.access_count),
         Some(1)
     );
@@ -63,18 +64,18 @@ fn get_value_or_guard(rt: HostRuntime) -> Result<(), Fail> {
     let GuardResult::Guard(guard) = cache.get_value_or_guard(&rt, &"square", None) else {
         panic!(rt; "the key is absent");
     };
-    assert!(rt; guard.insert(4).is_ok());
+    expect!(rt; guard.insert(4).is_ok());
     let found = cache.get_value_or_guard(&rt, &"square", None);
-    assert!(rt; matches!(found, GuardResult::Value(4)));
+    expect!(rt; matches!(found, GuardResult::Value(4)));
     Ok(())
 }
 
 #[test]
 fn get_many(rt: HostRuntime) -> Result<(), Fail> {
     let cache: Cache<u64, u64> = Cache::new(rt.alloc(), 100)?;
-    assert_eq!(rt; cache.insert(&rt, 1, 10), Ok(()));
+    expect_eq!(rt; cache.insert(&rt, 1, 10), Ok(()));
     let found = cache.get_many(&rt, rt.alloc(), &[1u64, 2])?;
-    assert_eq!(rt; found.as_slice(), [Some(10), None].as_slice());
+    expect_eq!(rt; found.as_slice(), [Some(10), None].as_slice());
     Ok(())
 }
 
@@ -82,11 +83,11 @@ fn get_many(rt: HostRuntime) -> Result<(), Fail> {
 fn hottest(rt: HostRuntime) -> Result<(), Fail> {
     let cache = Cache::new(rt.alloc(), 100)?;
     for name in ["circle", "square", "square"] {
-        assert_eq!(rt; cache.put(&rt, name, 4), Ok(()));
+        expect_eq!(rt; cache.put(&rt, name, 4), Ok(()));
     }
     // Each is shown with its ring and its mark.
     let shown = cache.hottest(&rt, rt.alloc(), 1)?;
-    assert_eq!(rt; shown.len(), 1);
-    assert_eq!(rt; (shown[0].key, shown[0].mark), ("square", 1));
+    expect_eq!(rt; shown.len(), 1);
+    expect_eq!(rt; (shown[0].key, shown[0].mark), ("square", 1));
     Ok(())
 }

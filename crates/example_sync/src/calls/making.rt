@@ -2,6 +2,7 @@
 use quick_cache::sync::{Cache, DefaultLifecycle};
 use quick_cache::{DefaultHashBuilder, OptionsBuilder, UnitWeighter, Weighter};
 use std::test::Fail;
+use test_tools::{expect, expect_eq};
 
 /// Weighs a list of numbers by how many there are.
 #[derive(Clone, Drop)]
@@ -18,16 +19,16 @@ impl Weighter<u64, [u64; 4]> for BySize {
 #[test]
 fn new(rt: HostRuntime) -> Result<(), Fail> {
     let cache = Cache::new(rt.alloc(), 100)?;
-    assert!(rt; cache.insert(&rt, "square", 4).is_ok());
-    assert_eq!(rt; (cache.len(&rt), cache.capacity(&rt)), (1, 100));
+    expect!(rt; cache.insert(&rt, "square", 4).is_ok());
+    expect_eq!(rt; (cache.len(&rt), cache.capacity(&rt)), (1, 100));
     Ok(())
 }
 
 #[test]
 fn with_weighter(rt: HostRuntime) -> Result<(), Fail> {
     let cache = Cache::with_weighter(rt.alloc(), 100, 1000, BySize)?;
-    assert!(rt; cache.insert(&rt, 1, [1, 2, 3, 4]).is_ok());
-    assert_eq!(rt;
+    expect!(rt; cache.insert(&rt, 1, [1, 2, 3, 4]).is_ok());
+    expect_eq!(rt;
         (cache.len(&rt), cache.weight(&rt), cache.capacity(&rt)),
         (1, 4, 1000)
     );
@@ -44,8 +45,8 @@ fn with(rt: HostRuntime) -> Result<(), Fail> {
         DefaultHashBuilder::new(),
         DefaultLifecycle::new(),
     )?;
-    assert!(rt; cache.insert(&rt, 1, 10).is_ok());
-    assert_eq!(rt; (cache.weight(&rt), cache.capacity(&rt)), (1, 50));
+    expect!(rt; cache.insert(&rt, 1, 10).is_ok());
+    expect_eq!(rt; (cache.weight(&rt), cache.capacity(&rt)), (1, 50));
     Ok(())
 }
 
@@ -63,8 +64,8 @@ fn with_options(rt: HostRuntime) -> Result<(), Fail> {
         DefaultHashBuilder::new(),
         DefaultLifecycle::new(),
     )?;
-    assert!(rt; cache.insert(&rt, 1, 10).is_ok());
-    assert_eq!(rt; (cache.num_shards(), cache.shard_capacity(&rt)), (4, 250));
+    expect!(rt; cache.insert(&rt, 1, 10).is_ok());
+    expect_eq!(rt; (cache.num_shards(), cache.shard_capacity(&rt)), (4, 250));
     Ok(())
 }
 
@@ -72,8 +73,8 @@ fn with_options(rt: HostRuntime) -> Result<(), Fail> {
 fn reserve(rt: HostRuntime) -> Result<(), Fail> {
     let cache: Cache<u64, u64> = Cache::new(rt.alloc(), 100)?;
     // Each of the two shards now has room for two entries, and for the ghosts of two inserts.
-    assert_eq!(rt; cache.reserve(&rt, 3), Ok(()));
-    assert_eq!(rt; cache.insert(&rt, 1, 10), Ok(()));
+    expect_eq!(rt; cache.reserve(&rt, 3), Ok(()));
+    expect_eq!(rt; cache.insert(&rt, 1, 10), Ok(()));
     Ok(())
 }
 
@@ -81,9 +82,9 @@ fn reserve(rt: HostRuntime) -> Result<(), Fail> {
 fn set_capacity(rt: HostRuntime) -> Result<(), Fail> {
     let cache: Cache<u64, u64> = Cache::new(rt.alloc(), 5)?;
     for key in 0..5u64 {
-        assert_eq!(rt; cache.insert(&rt, key, key), Ok(()));
+        expect_eq!(rt; cache.insert(&rt, key, key), Ok(()));
     }
     cache.set_capacity(&rt, 2);
-    assert_eq!(rt; (cache.capacity(&rt), cache.len(&rt)), (2, 2));
+    expect_eq!(rt; (cache.capacity(&rt), cache.len(&rt)), (2, 2));
     Ok(())
 }

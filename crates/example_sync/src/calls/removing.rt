@@ -1,22 +1,23 @@
 //! Items are taken out.
 use quick_cache::sync::Cache;
 use std::test::Fail;
+use test_tools::{expect, expect_eq};
 
 #[test]
 fn remove(rt: HostRuntime) -> Result<(), Fail> {
     let cache = Cache::new(rt.alloc(), 100)?;
-    assert!(rt; cache.insert(&rt, "square", 4).is_ok());
-    assert_eq!(rt; cache.remove(&rt, &"square"), Some(("square", 4)));
-    assert_eq!(rt; cache.remove(&rt, &"square"), None);
+    expect!(rt; cache.insert(&rt, "square", 4).is_ok());
+    expect_eq!(rt; cache.remove(&rt, &"square"), Some(("square", 4)));
+    expect_eq!(rt; cache.remove(&rt, &"square"), None);
     Ok(())
 }
 
 #[test]
 fn remove_if(rt: HostRuntime) -> Result<(), Fail> {
     let cache = Cache::new(rt.alloc(), 100)?;
-    assert!(rt; cache.insert(&rt, "square", 4).is_ok());
-    assert_eq!(rt; cache.remove_if(&rt, &"square", |sides| *sides > 4), None);
-    assert_eq!(rt;
+    expect!(rt; cache.insert(&rt, "square", 4).is_ok());
+    expect_eq!(rt; cache.remove_if(&rt, &"square", |sides| *sides > 4), None);
+    expect_eq!(rt;
         cache.remove_if(&rt, &"square", |sides| *sides == 4),
         Some(("square", 4))
     );
@@ -27,10 +28,10 @@ fn remove_if(rt: HostRuntime) -> Result<(), Fail> {
 fn retain(rt: HostRuntime) -> Result<(), Fail> {
     let cache: Cache<u64, u64> = Cache::new(rt.alloc(), 100)?;
     for key in 1..4u64 {
-        assert_eq!(rt; cache.insert(&rt, key, key * 10), Ok(()));
+        expect_eq!(rt; cache.insert(&rt, key, key * 10), Ok(()));
     }
     let dropped = cache.retain(&rt, |key, value| *key == 1 || *value == 30);
-    assert_eq!(rt;
+    expect_eq!(rt;
         (dropped, cache.len(&rt), cache.contains_key(&rt, &2)),
         (1, 2, false)
     );
@@ -41,28 +42,28 @@ fn retain(rt: HostRuntime) -> Result<(), Fail> {
 fn invalidate_if(rt: HostRuntime) -> Result<(), Fail> {
     let cache: Cache<u64, u64> = Cache::new(rt.alloc(), 100)?;
     for key in 1..4u64 {
-        assert_eq!(rt; cache.insert(&rt, key, key * 10), Ok(()));
+        expect_eq!(rt; cache.insert(&rt, key, key * 10), Ok(()));
     }
-    assert_eq!(rt; cache.invalidate_if(&rt, |key| *key > 1), 2);
-    assert_eq!(rt; cache.len(&rt), 1);
+    expect_eq!(rt; cache.invalidate_if(&rt, |key| *key > 1), 2);
+    expect_eq!(rt; cache.len(&rt), 1);
     Ok(())
 }
 
 #[test]
 fn clear(rt: HostRuntime) -> Result<(), Fail> {
     let cache = Cache::new(rt.alloc(), 100)?;
-    assert!(rt; cache.insert(&rt, "square", 4).is_ok());
+    expect!(rt; cache.insert(&rt, "square", 4).is_ok());
     cache.clear(&rt);
-    assert!(rt; cache.is_empty(&rt));
+    expect!(rt; cache.is_empty(&rt));
     Ok(())
 }
 
 #[test]
 fn drain(rt: HostRuntime) -> Result<(), Fail> {
     let cache = Cache::new(rt.alloc(), 100)?;
-    assert!(rt; cache.insert(&rt, "square", 4).is_ok());
+    expect!(rt; cache.insert(&rt, "square", 4).is_ok());
     let mut drain = cache.drain(&rt);
-    assert_eq!(rt; (drain.next(), drain.next()), (Some(("square", 4)), None));
-    assert!(rt; cache.is_empty(&rt));
+    expect_eq!(rt; (drain.next(), drain.next()), (Some(("square", 4)), None));
+    expect!(rt; cache.is_empty(&rt));
     Ok(())
 }

@@ -1,14 +1,15 @@
 //! What a cache tells of itself and of its shards.
 use quick_cache::sync::Cache;
 use std::test::Fail;
+use test_tools::{expect, expect_eq};
 
 #[test]
 fn len_is_empty_weight_and_capacity(rt: HostRuntime) -> Result<(), Fail> {
     let cache: Cache<u64, u64> = Cache::new(rt.alloc(), 100)?;
-    assert!(rt; cache.is_empty(&rt));
-    assert_eq!(rt; cache.insert(&rt, 1, 10), Ok(()));
-    assert!(rt; !cache.is_empty(&rt));
-    assert_eq!(rt;
+    expect!(rt; cache.is_empty(&rt));
+    expect_eq!(rt; cache.insert(&rt, 1, 10), Ok(()));
+    expect!(rt; !cache.is_empty(&rt));
+    expect_eq!(rt;
         (cache.len(&rt), cache.weight(&rt), cache.capacity(&rt)),
         (1, 1, 100)
     );
@@ -18,11 +19,11 @@ fn len_is_empty_weight_and_capacity(rt: HostRuntime) -> Result<(), Fail> {
 #[test]
 fn hits_and_misses(rt: HostRuntime) -> Result<(), Fail> {
     let cache: Cache<u64, u64> = Cache::new(rt.alloc(), 100)?;
-    assert_eq!(rt; cache.insert(&rt, 1, 10), Ok(()));
+    expect_eq!(rt; cache.insert(&rt, 1, 10), Ok(()));
     for key in [1, 1, 2] {
         cache.get(&rt, &key)?;
     }
-    assert_eq!(rt; (cache.hits(&rt), cache.misses(&rt)), (2, 1));
+    expect_eq!(rt; (cache.hits(&rt), cache.misses(&rt)), (2, 1));
     Ok(())
 }
 
@@ -30,18 +31,18 @@ fn hits_and_misses(rt: HostRuntime) -> Result<(), Fail> {
 fn num_shards_shard_index_and_shard_capacity(rt: HostRuntime) -> Result<(), Fail> {
     // Of 100 items two shards are made, each for 50 of them.
     let cache: Cache<u64, u64> = Cache::new(rt.alloc(), 100)?;
-    assert_eq!(rt; cache.num_shards(), 2);
-    assert!(rt; cache.shard_index(&1) < 2);
-    assert_eq!(rt; cache.shard_capacity(&rt), 50);
+    expect_eq!(rt; cache.num_shards(), 2);
+    expect!(rt; cache.shard_index(&1) < 2);
+    expect_eq!(rt; cache.shard_capacity(&rt), 50);
     Ok(())
 }
 
 #[test]
 fn memory_used(rt: HostRuntime) -> Result<(), Fail> {
     let cache: Cache<u64, u64> = Cache::new(rt.alloc(), 100)?;
-    assert_eq!(rt; cache.insert(&rt, 1, 10), Ok(()));
+    expect_eq!(rt; cache.insert(&rt, 1, 10), Ok(()));
     // In bytes: the slots, and the indexes that find them.
-    assert!(rt; cache.memory_used(&rt).entries > 0);
-    assert!(rt; cache.memory_used(&rt).map > 0);
+    expect!(rt; cache.memory_used(&rt).entries > 0);
+    expect!(rt; cache.memory_used(&rt).map > 0);
     Ok(())
 }

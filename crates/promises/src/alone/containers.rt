@@ -1,5 +1,6 @@
 //! What is stored in a slab or a table is there, and what was taken out is gone.
-ghost use Rattle.std.specs.Prelude.{◌≡◌, ◌≢◌, ℕ, ◌<◌, List, [], ◌∷◌, Some, None, OnOk, OnErr, OnSome, IfOk, IfErr, IfSome, IfNone, true, false};
+ghost use Rattle.std.specs.Prelude.{◌≡◌, ◌≢◌, ℕ, ◌<◌, List, [], ◌∷◌, Some, None, OnOk, OnErr, OnSome, IfOk, IfErr, IfSome, IfNone, true};
+ghost use Rattle.std.specs.Prelude.{false};
 ghost use Rattle.std.specs.Int.NonZero.{non_zero_u32_get as number};
 ghost use Rattle.quick_cache_containers.specs.LinkedSlab.{item_at, items, left, successor, with_item};
 ghost use Rattle.quick_cache_containers.specs.Table.{has_pair, pair_count};

@@ -1,7 +1,6 @@
 //! What the listeners, pins and weights that are ready made promise.
 ghost use Rattle.std.specs.Prelude.{◌≡◌, ◌<◌, ◌∷◌, [], Some, None, length, ◌==◌, ◌%◌, ◌+◌, ◌^◌};
-ghost use Rattle.quick_cache_listeners.specs.declared.causes.cause.Cause.TheVariants.{Replaced};
-ghost use Rattle.quick_cache_listeners.specs.declared.causes.cause.Stage.TheVariants.{Armed, Fresh};
+ghost use Rattle.quick_cache_listeners.specs.declared.causes.cause.Stage.{Stage};
 ghost use Rattle.quick_cache_shard.specs.Steps.{InsertsBy};
 ghost use Rattle.quick_cache_unsync.specs.Alone.{IsDoneAlone};
 ghost use Rattle.quick_cache_unsync.specs.Touches.{no_touches};
@@ -85,7 +84,7 @@ impl ListenerWhy<u64, u64> for LastCause {
 
 /// What leaves first in a call, and is no victim, was replaced.
 pub fn hear_of_the_first(heard: &mut Request<Option<Cause>>, key: u64, value: u64)
-    ensures { heard.new.state ≡ Some Replaced }
+    ensures { heard.new.state ≡ Some Cause.Replaced }
 {
     heard.begin();
     OnLeaveWhy(LastCause).on_evict_hot(heard, key, value);
@@ -93,7 +92,7 @@ pub fn hear_of_the_first(heard: &mut Request<Option<Cause>>, key: u64, value: u6
 
 /// So is what leaves first in a call that has a state of its own.
 pub fn hear_of_the_first_alone(key: u64, value: u64) -> Request<Option<Cause>>
-    ensures { result.state ≡ Some Replaced }
+    ensures { result.state ≡ Some Cause.Replaced }
 {
     let mut heard = Request::default();
     OnLeaveWhy(LastCause).on_evict_cold(&mut heard, key, value);
@@ -108,7 +107,7 @@ pub fn insert_from_the_beginning<
     B: BuildHasher,
     L: ListenerWhy<K, V>,
 >(cache: &mut Cache<K, V, We, B, OnLeaveWhy<L>>, key: K, value: V) -> Result<(), (K, V, Refusal)>
-    ensures { IsDoneAlone (λ request. request.stage ≡ Fresh)
+    ensures { IsDoneAlone (λ request. request.stage ≡ Stage.Fresh)
         (InsertsBy ⟦<Cache<K, V, We, B, OnLeaveWhy<L>> as Going>⟧.goes no_touches cache.old K.eq key
         value result cache.new) }
 {
@@ -121,7 +120,7 @@ pub fn count_a_victim(
     key: u64,
     text: &'static str,
 )
-    requires victim { counts.old.stage ≡ Armed }
+    requires victim { counts.old.stage ≡ Stage.Armed }
     requires holds { counts.old.state.tallies.evicted_cold.weight + length text.now < 2 ^ 64 }
     ensures { counts.new.state.tallies.evicted_cold.weight
         ≡ counts.old.state.tallies.evicted_cold.weight + length text.now }

@@ -4,7 +4,6 @@ ghost use Rattle.std.specs.Bool.{OnTrue, OnFalse};
 ghost use Rattle.std.specs.Iterator.{Drains, IsFinite};
 ghost use Rattle.quick_cache_model.specs.CacheState.{Item};
 ghost use Rattle.quick_cache_model.specs.declared.queue.Queue.{Queue};
-ghost use Rattle.quick_cache_model.specs.declared.queue.Queue.TheVariants.{Hot};
 
 use quick_cache_unsync::{Cache, Lifecycle, Options, Queue, Refusal, Weighter};
 use std::alloc::Global;
@@ -52,7 +51,7 @@ pub fn put_back_hot(cache: &mut Cache<u64, u64>, key: u64, value: u64, mark: u8)
       weight = 1;
       mark = min mark cache.old.state.mark_cut;
       reads = 0;
-      queue = Hot;
+      queue = Queue.Hot;
     } ∷ []) }
     ensures cold { cache.new.state.cold ≡ cache.old.state.cold }
     ensures unchanged { OnFalse result (cache.new.state ≡ cache.old.state) }

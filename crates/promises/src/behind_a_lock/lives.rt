@@ -1,6 +1,5 @@
 //! What those rely on who ask a loader with its cache, where each answer has a life of its own.
 ghost use Rattle.std.specs.Prelude.{◌≡◌, ◌⊎◌, ◌+◌, ◌<◌, ◌≤◌, IfErr, IfOk, IfSome};
-ghost use Rattle.quick_cache_model.specs.declared.refusal.Refusal.TheVariants.{Memory, SlotsFull};
 ghost use Rattle.read_through.specs.Loads.{LoadsFrom, LoadsOkFrom};
 
 use futures::Future;
@@ -120,7 +119,7 @@ pub fn put_or_tell_why<R: Wait, F>(
     now: u64,
     life: u64,
 ) -> Result<(), Refusal>
-    ensures why { IfErr result (λ refusal. refusal ≡ Memory ⊎ refusal ≡ SlotsFull) }
+    ensures why { IfErr result (λ refusal. refusal ≡ Refusal.Memory ⊎ refusal ≡ Refusal.SlotsFull) }
 {
     let value = Address { name, asked: now };
     addresses.put(rt, name, Lasting { value, life }, now)

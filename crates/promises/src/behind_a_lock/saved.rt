@@ -1,7 +1,6 @@
 //! What a user relies on who saves a shared cache, and puts pairs back into one.
 ghost use Rattle.std.specs.Prelude.{◌≡◌, ◌⊎◌, IfOk, IfErr, IfSome};
 ghost use Rattle.std.specs.List.{AllByRecursion};
-ghost use Rattle.quick_cache_model.specs.declared.refusal.Refusal.TheVariants.{Memory, SlotsFull};
 ghost use Rattle.quick_cache_shard.specs.Copies.{ClonesAreEqual};
 ghost use Rattle.quick_cache_locked.specs.Fitting.{ClonesFit};
 ghost use Rattle.quick_cache_sync.specs.InTurn.{FitsHeated};
@@ -25,7 +24,7 @@ pub fn save_what_fits<
     requires keys { ClonesAreEqual K.eq K.is_clone }
     requires values { ClonesFit L.fits V.is_clone }
     ensures fits { IfOk result (λ list. AllByRecursion (FitsHeated L.Lifecycle) list.items) }
-    ensures why { IfErr result (λ refusal. refusal ≡ Memory) }
+    ensures why { IfErr result (λ refusal. refusal ≡ Refusal.Memory) }
 {
     cache.saved(rt, alloc)
 }
@@ -51,7 +50,7 @@ pub fn restore_or_take_back<
     ensures key { IfErr result (λ back. back.0 ≡ key) }
     ensures value { IfErr result (λ back. back.1 ≡ value) }
     ensures why { IfErr result (λ back. IfSome back.2 (λ refusal.
-        refusal ≡ Memory ⊎ refusal ≡ SlotsFull)) }
+        refusal ≡ Refusal.Memory ⊎ refusal ≡ Refusal.SlotsFull)) }
 {
     cache.restore(rt, key, value, queue, mark)
 }

@@ -1,9 +1,60 @@
-//! What a user of a shard relies on who goes by its tokens, or borrows a value of it to write.
+//! What a user of a shard relies on who writes by a strategy, goes by its tokens, or borrows a value
+//! of it to write.
 ghost use Rattle.std.specs.Prelude.{◌≡◌, IfSome, true};
+ghost use Rattle.quick_cache_shard.specs.Steps.{InsertsBy, ReplacesBy};
 
-use quick_cache_model::{Lifecycle, Token, Weighter};
-use quick_cache_shard::{CacheShard, SharedPlaceholder};
+use quick_cache_model::{Lifecycle, Refusal, Token, Weighter};
+use quick_cache_shard::{CacheShard, Going, InsertStrategy, SharedPlaceholder};
 use std::hash::{BuildHasher, Hash};
+
+/// A write by the strategy of an insert is one, and what comes back has a refusal.
+pub fn insert_by_strategy<
+    K: Eq + Hash + Drop,
+    V: Drop,
+    We: Weighter<K, V>,
+    B: BuildHasher,
+    L: Lifecycle<K, V>,
+    P: SharedPlaceholder<K>,
+>(
+    shard: &mut CacheShard<K, V, We, B, L, P>,
+    state: &mut L::RequestState,
+    key: K,
+    value: V,
+) -> Result<(), (K, V, Refusal)>
+    ensures inserts { InsertsBy ⟦<CacheShard<K, V, We, B, L, P> as Going>⟧.goes P.Touch.may_count
+        shard.old K.eq key value result shard.new state.old state.new }
+{
+    let hash = shard.hash(&key);
+    match shard.insert(state, hash, key, value, InsertStrategy::Insert) {
+        Ok(()) => Ok(()),
+        Err((key, value, refusal)) => Err((key, value, refusal.unwrap())),
+    }
+}
+
+/// A write by the strategy of a replace is one, and is never refused.
+pub fn replace_by_strategy<
+    K: Eq + Hash + Drop,
+    V: Drop,
+    We: Weighter<K, V>,
+    B: BuildHasher,
+    L: Lifecycle<K, V>,
+    P: SharedPlaceholder<K>,
+>(
+    shard: &mut CacheShard<K, V, We, B, L, P>,
+    state: &mut L::RequestState,
+    key: K,
+    value: V,
+    soft: bool,
+) -> Result<(), (K, V)>
+    ensures replaces { ReplacesBy ⟦<CacheShard<K, V, We, B, L, P> as Going>⟧.goes
+        P.Touch.may_count shard.old K.eq soft key value result shard.new state.old state.new }
+{
+    let hash = shard.hash(&key);
+    match shard.insert(state, hash, key, value, InsertStrategy::Replace { soft }) {
+        Ok(()) => Ok(()),
+        Err((key, value, _)) => Err((key, value)),
+    }
+}
 
 /// A token at which a value is shown is one under which a pair is taken out, and no other is.
 pub fn show_and_take<K: Eq + Hash + Drop, V: Drop, We, B: BuildHasher, L, P: SharedPlaceholder<K>>(

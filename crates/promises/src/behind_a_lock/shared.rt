@@ -1,6 +1,5 @@
 //! What a user of the shared cache relies on, whatever other threads do.
 ghost use Rattle.std.specs.Prelude.{◌≡◌, ◌⊎◌, ◌<◌, [], ◌∷◌, IfOk, IfErr, IfSome, OnErr, Some, None, true, false};
-ghost use Rattle.quick_cache_model.specs.declared.refusal.Refusal.TheVariants.{Memory, SlotsFull};
 ghost use Rattle.quick_cache_model.specs.Hashing.{hash_of};
 ghost use Rattle.quick_cache_locked.specs.Locked.{FromSome};
 ghost use Rattle.quick_cache_sync.specs.Answers.{ReplacesSoBy};
@@ -97,7 +96,7 @@ pub fn put_or_tell_why<
     R: Wait,
 >(rt: &R, cache: &Cache<K, V, We, B, L>, key: K, value: V) -> Result<(), Refusal>
     requires fits { L.fits key value }
-    ensures why { IfErr result (λ refusal. refusal ≡ Memory ⊎ refusal ≡ SlotsFull) }
+    ensures why { IfErr result (λ refusal. refusal ≡ Refusal.Memory ⊎ refusal ≡ Refusal.SlotsFull) }
 {
     cache.put(rt, key, value)
 }

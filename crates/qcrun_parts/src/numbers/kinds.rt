@@ -1,7 +1,7 @@
 //! What a value weighs, and what becomes of it by its kind.
 ghost use Rattle.std.specs.Prelude.{◌≡◌};
-ghost use Rattle.qcrun_parts.specs.declared.events.Event.TheVariants.{Before, Cold, Hot};
 ghost use Rattle.qcrun_parts.specs.Events.{Keeps};
+ghost use Rattle.qcrun_parts.specs.declared.events.Event.{Event};
 ghost use Rattle.qcrun_parts.specs.Kinds.{is_pinned, kind_of, value_left, weight_of};
 
 use crate::events::{Event, Events, kept};
@@ -71,13 +71,13 @@ impl<A: Allocator> Lifecycle<u64, u64> for ByKind<A> {
     ghost pinned = { λ _ _ value. is_pinned value };
 
     ghost before_evict_gives = { λ _ old key value new left.
-        Keeps old (Before key value) new × (left ≡ value_left value) };
+        Keeps old (Event.Before key value) new × (left ≡ value_left value) };
 
     ghost on_evict_gives = { λ _ old _ _ new. new ≡ old };
 
-    ghost on_evict_cold_gives = { λ _ old key value new. Keeps old (Cold key value) new };
+    ghost on_evict_cold_gives = { λ _ old key value new. Keeps old (Event.Cold key value) new };
 
-    ghost on_evict_hot_gives = { λ _ old key value new. Keeps old (Hot key value) new };
+    ghost on_evict_hot_gives = { λ _ old key value new. Keeps old (Event.Hot key value) new };
 
     ghost keeps_fits = { λ _ _ _ _ _ _ _ fits. fits };
 

@@ -1,7 +1,8 @@
 //! Prints what became of a command.
 ghost use Rattle.std.specs.Prelude.{◌++◌, OnOk, codes};
 ghost use Rattle.std.specs.Io.KnownBytes.{Appends};
-ghost use Rattle.qcrun_parts.specs.Printed.{counts_text, event_lines, events_text, ghosts_text, items_text, line_of, outcome_text, pairs_text, rings_text, shown_text};
+ghost use Rattle.qcrun_parts.specs.Printed.{counts_text, event_lines, events_text, ghosts_text, items_text, line_of, outcome_text};
+ghost use Rattle.qcrun_parts.specs.Printed.{pairs_text, rings_text, shown_text};
 
 use crate::events::{Event, Events};
 use crate::numbers::NumberCache;

@@ -1,10 +1,12 @@
 //! Places of pairs, in groups of sixteen, and a tag for each place: the groups of the index.
-ghost use Rattle.std.specs.Prelude.{◌≡◌, ◌≢◌, ℕ, List, ◌+◌, ◌-◌, ◌*◌, ◌^◌, ◌<◌, ◌≤◌, ◌==◌, ◌&&◌, false, length, count_by, map, replicate, IsTrue, IsFalse, OnOk, OnErr, IfErr, bit_xor, slice_index, slice_set, vec_len, vec_capacity};
+ghost use Rattle.std.specs.Prelude.{◌≡◌, ◌≢◌, ℕ, List, ◌+◌, ◌-◌, ◌*◌, ◌^◌, ◌<◌, ◌≤◌, ◌==◌, ◌&&◌, false, length, count_by, map, replicate};
+ghost use Rattle.std.specs.Prelude.{IsTrue, IsFalse, OnOk, OnErr, IfErr, bit_xor, slice_index, slice_set, vec_len, vec_capacity};
 ghost use Rattle.std.specs.Simd.Lanes.{chunk, mask_l};
 ghost use Rattle.std.specs.Int.{IsPowerOfTwo};
 ghost use Rattle.quick_cache_index.specs.Index.{tag_of as tag_number, home_of as home_number, distance, IsReached};
 ghost use Rattle.quick_cache_index.specs.IndexGroups.{capacity_of, ReachesGrow};
-ghost use Rattle.quick_cache_containers.specs.TableGroups.{hash_at, is_free, place_at, IsGrouped, IsHoused, IsBareBelow, IsWhole, HasOneMore, HasSamePairs, HasPairOf, empty_place};
+ghost use Rattle.quick_cache_containers.specs.TableGroups.{hash_at, is_free, place_at, IsGrouped, IsHoused, IsBareBelow, IsWhole};
+ghost use Rattle.quick_cache_containers.specs.TableGroups.{HasOneMore, HasSamePairs, HasPairOf, empty_place};
 
 use super::places::{Places, Seen};
 use quick_cache_index::index::groups::{LANES, home_of, tag_of, untagged};

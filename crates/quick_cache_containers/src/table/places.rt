@@ -1,7 +1,8 @@
 //! The places of pairs: their hashes in one list and their tokens in another.
 //!
 //! A look-up that asks for keys reads the tokens alone, of which sixteen lie in a line of the cache.
-ghost use Rattle.std.specs.Prelude.{◌≡◌, ◌+◌, ◌-◌, ◌*◌, ◌^◌, ◌<◌, ◌≤◌, ◌++◌, [], length, min, replicate, slice_set, IfOk, IfErr, OnOk, OnErr};
+ghost use Rattle.std.specs.Prelude.{◌≡◌, ◌+◌, ◌-◌, ◌*◌, ◌^◌, ◌<◌, ◌≤◌, ◌++◌, [], length, min, replicate, slice_set, IfOk, IfErr, OnOk};
+ghost use Rattle.std.specs.Prelude.{OnErr};
 ghost use Rattle.std.specs.List.{swap};
 ghost use Rattle.quick_cache_containers.specs.TableGroups.{hash_at, place_at, empty_place};
 

@@ -1,6 +1,7 @@
 //! A walk over the places of one hash.
 ghost use Rattle.std.specs.Prelude.{◌≡◌, ◌<◌, ◌==◌, ◌∷◌, [], length, count_by, IfSome, IfNone, IsTrue};
-ghost use Rattle.quick_cache_containers.specs.TableGroups.{hash_at, holds_pair, place_at, reach_of, IsWhole, IsWalk, tokens_left, AreTokensOf};
+ghost use Rattle.quick_cache_containers.specs.TableGroups.{hash_at, holds_pair, place_at, reach_of, IsWhole, IsWalk, tokens_left};
+ghost use Rattle.quick_cache_containers.specs.TableGroups.{AreTokensOf};
 
 use super::places::Seen;
 use quick_cache_index::index::groups::{LANES, home_of, lanes_of, tag_of};

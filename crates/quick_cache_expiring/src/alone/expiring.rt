@@ -1,6 +1,5 @@
 //! A cache for one thread whose entries end.
 ghost use Rattle.std.specs.Prelude.{◌≡◌, ◌^◌, ◌-◌, min, IfOk, IfErr, IsOk};
-ghost use Rattle.quick_cache_model.specs.declared.refusal.Refusal.TheVariants.{Memory};
 ghost use Rattle.quick_cache_model.specs.CacheState.{empty_state, item_count};
 ghost use Rattle.quick_cache_model.specs.Sizes.{hot_target_of, ghost_limit_of, default_hot_share, default_ghost_share};
 ghost use Rattle.quick_cache_model.specs.Touches.{counted_up};
@@ -71,7 +70,7 @@ impl<K: Eq + Hash, V, A: Allocator> Expiring<
         ensures none { IfOk result (λ made. (made.expired ≡ 0) × (made.missed ≡ 0)
             × (made.from ≡ 0)) }
         ensures succeeds { A.is_infallible alloc → IsOk result }
-        ensures refused { IfErr result (λ refusal. refusal ≡ Memory) }
+        ensures refused { IfErr result (λ refusal. refusal ≡ Refusal.Memory) }
     {
         Expiring::with(
             alloc,
@@ -112,7 +111,7 @@ impl<K: Eq + Hash, V, We, B: BuildHasher, L, A: Allocator> Expiring<K, V, We, B,
         ensures none { IfOk result (λ made. (made.expired ≡ 0) × (made.missed ≡ 0)
             × (made.from ≡ 0)) }
         ensures succeeds { A.is_infallible alloc → IsOk result }
-        ensures refused { IfErr result (λ refusal. refusal ≡ Memory) }
+        ensures refused { IfErr result (λ refusal. refusal ≡ Refusal.Memory) }
     {
         let weigher = ByValue { weigher };
         let cache = Cache::with(alloc, items, weight, weigher, builder, lifecycle)?;

@@ -1,6 +1,5 @@
 //! Entries that are written with an end, renewed, and removed.
 ghost use Rattle.std.specs.Prelude.{◌≡◌, ◌+◌, ◌≤◌, IfErr};
-ghost use Rattle.quick_cache_model.specs.declared.refusal.Refusal.TheVariants.{Memory};
 ghost use Rattle.quick_cache_model.specs.Hashing.{hash_of};
 ghost use Rattle.quick_cache_model.specs.Removal.{Removes};
 ghost use Rattle.quick_cache_shard.specs.Alone.{IsDoneAlone};
@@ -48,7 +47,7 @@ impl<
             self.old.cache K.eq key (lasting_of value (end_of now life)) result self.new.cache) }
         // It takes room for one entry at most, and asks for memory only where there is no room.
         ensures room { self.old.cache.room ≤ self.new.cache.room + 1 }
-        ensures asks { IfErr result (λ back. back.2 ≡ Memory → self.old.cache.room ≡ 0) }
+        ensures asks { IfErr result (λ back. back.2 ≡ Refusal.Memory → self.old.cache.room ≡ 0) }
         ensures work { WorksAsWrite self.old.cache self.new.cache }
         ensures same { KeepsTerms self.old.cache self.new.cache }
         ensures rest { KeepsRest self.old self.new }

@@ -4,11 +4,14 @@
 //! groups at distance 1, 2 and so on, up to the home's reach. The group at a distance is the one
 //! whose number differs from the home's in the bits of that distance, so that the next few lie in
 //! the same line of the cache, and each group is met once.
-ghost use Rattle.std.specs.Prelude.{◌≡◌, ◌≢◌, ℕ, ◌+◌, ◌-◌, ◌*◌, ◌^◌, ◌<◌, ◌≤◌, ◌==◌, max, length, count_by, map, replicate, OnOk, OnErr, IfErr, bit_xor, slice_index, slice_set, vec_capacity};
+ghost use Rattle.std.specs.Prelude.{◌≡◌, ◌≢◌, ℕ, ◌+◌, ◌-◌, ◌*◌, ◌^◌, ◌<◌, ◌≤◌, ◌==◌, max, length, count_by, map, replicate, OnOk, OnErr};
+ghost use Rattle.std.specs.Prelude.{IfErr, bit_xor, slice_index, slice_set, vec_capacity};
 ghost use Rattle.std.specs.Simd.Lanes.{chunk, mask_l};
 ghost use Rattle.std.specs.Int.{IsPowerOfTwo};
-ghost use Rattle.quick_cache_index.specs.Index.{tag_of as tag_number, home_of as home_number, distance, told as told_number, IsReached, is_free};
-ghost use Rattle.quick_cache_index.specs.IndexGroups.{IsGrouped, IsMatched, HasDistances, HasAtDistance, capacity_of, ReachesGrow, KeepsReached, TakesPlace};
+ghost use Rattle.quick_cache_index.specs.Index.{tag_of as tag_number, home_of as home_number, distance, told as told_number, IsReached};
+ghost use Rattle.quick_cache_index.specs.Index.{is_free};
+ghost use Rattle.quick_cache_index.specs.IndexGroups.{IsGrouped, IsMatched, HasDistances, HasAtDistance, capacity_of, ReachesGrow};
+ghost use Rattle.quick_cache_index.specs.IndexGroups.{KeepsReached, TakesPlace};
 
 use quick_cache_model::{Refusal, Token};
 use std::alloc::Allocator;

@@ -1,9 +1,7 @@
 -- A pair that passed its check was not too heavy, and the check left one value.
-use Rattle.std.proofs.Common.{◌≡◌, ℕ, Bool, true, false, true≢false, List, ◌∷◌}
-use Rattle.std.proofs.Common.{◌++◌, refl, sym, ap, ◌∙◌, arith}
+use Rattle.std.proofs.Common.{◌≡◌, ℕ, Bool, true, false, true≢false, List, ◌∷◌, ◌++◌, refl, sym, ap, ◌∙◌, arith}
 use Rattle.quick_cache_model.specs.Hooks.{Rules, HookCall, BeforeEvict}
-use Rattle.quick_cache_model.specs.Admission.{Admission, Admitted, TooHeavy, ChecksAdmission}
-use Rattle.quick_cache_model.specs.Admission.{PassesCheck}
+use Rattle.quick_cache_model.specs.Admission.{Admission, Admitted, TooHeavy, ChecksAdmission, PassesCheck}
 
 -- the value that a check leaves, and whether it admitted it
 abbrev value_of : {V : Type 0} → Admission V → V

@@ -1,19 +1,16 @@
 -- An insert under a key of which nothing is found keeps a pair that passed its check.
-use Rattle.std.proofs.Common.{◌≡◌, ◌≢◌, Bool, false, true≢false, List, [], ◌∷◌, ◌++◌}
-use Rattle.std.proofs.Common.{Option, None, refl, sym, subst, ◌∙◌}
+use Rattle.std.proofs.Common.{◌≡◌, ◌≢◌, Bool, false, true≢false, List, [], ◌∷◌, ◌++◌, Option, None, refl, sym, subst, ◌∙◌, ap}
+use Rattle.std.proofs.Common.{IsPermutation, append_assoc}
 use Rattle.std.specs.List.{AllByRecursion}
-use Rattle.quick_cache_model.specs.declared.queue.Queue.TheVariants.{Cold}
-use Rattle.quick_cache_model.specs.CacheState.{CacheState, Item, Place, InHot, InCold}
-use Rattle.quick_cache_model.specs.CacheState.{InStill, items_at, entered, place_of_item}
+use Rattle.quick_cache_model.specs.declared.queue.Queue.{Queue}
+use Rattle.quick_cache_model.specs.CacheState.{CacheState, Item, Place, InHot, InCold, InStill, items_at, entered, place_of_item}
 use Rattle.quick_cache_model.specs.CacheState.{SameButOrder, UpToOrder}
 use Rattle.quick_cache_model.specs.Hooks.{Rules, HookCall}
 use Rattle.quick_cache_model.specs.Finding.{HasNothing, HasNoItem, IsItemAt}
 use Rattle.quick_cache_model.specs.Admission.{PassesCheck}
 use Rattle.quick_cache_model.specs.Writes.{Insert, new_item, queue_for, WritesAdmitted, Writes}
 use Rattle.quick_cache_laws.specs.Admitted.{HoldsPair}
-use Rattle.quick_cache_model.proofs.EachElement.{all-middle}
-use Rattle.quick_cache_model.proofs.EachElement.{all-permutation}
-use Rattle.std.proofs.Common.{ap, IsPermutation, append_assoc}
+use Rattle.quick_cache_model.proofs.EachElement.{all-middle, all-permutation}
 use Rattle.std.proofs.lemmas.List.Sorted.{IsPermutation-sym}
 use Rattle.quick_cache_model.proofs.Valid.Places.{put}
 use Rattle.quick_cache_laws.proofs.Admitted.Checks.{passed_is_not_too_heavy, passed_leaves}
@@ -119,8 +116,11 @@ module _ {K V : Type 0} where
         → WritesAdmitted rules equal_to key Insert old value calls answer new
         → HasNothing equal_to (rules.hash key) old → (answer ≡ None) × HoldsPair key value new
     WritesAdmitted-holds old value _ _ _
-        (WritesAdmitted.inserts_new mid calls inserts nothing evicts) none =
-        (refl, entered-holds (new_item rules key value (queue_for rules old key value Cold) 0) mid)
+        (WritesAdmitted.inserts_new mid calls inserts nothing evicts) none = (
+          refl,
+          entered-holds (new_item rules key value (queue_for rules old key value Queue.Cold) 0)
+              mid,
+        )
     WritesAdmitted-holds old value _ _ _
         (WritesAdmitted.overwrites place before item touched after calls new there takes evicts)
         none

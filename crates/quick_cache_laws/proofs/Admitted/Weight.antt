@@ -1,13 +1,9 @@
 -- After a write or a fill of a pair that passed its check, the items that are not pinned weigh at
 -- most the capacity.
-use Rattle.std.proofs.Common.{◌≡◌, ℕ, ◌+◌, ◌<◌, ◌≤◌, ◌⊎◌, inl, inr, Bool, List}
-use Rattle.std.proofs.Common.{[], ◌∷◌, ◌++◌, None, refl, sym, ap, ap₂, subst, arith}
+use Rattle.std.proofs.Common.{◌≡◌, ℕ, ◌+◌, ◌<◌, ◌≤◌, ◌⊎◌, inl, inr, Bool, List, [], ◌∷◌, ◌++◌, None, refl, sym, ap, ap₂, subst, arith}
 use Rattle.quick_cache_model.specs.declared.queue.Queue.{Queue}
-use Rattle.quick_cache_model.specs.declared.queue.Queue.TheVariants.{Cold}
-use Rattle.quick_cache_model.specs.CacheState.{CacheState, Item, LoadingEntry, Place, InHot, InCold}
-use Rattle.quick_cache_model.specs.CacheState.{InStill, entered, place_of_item, total_weight}
-use Rattle.quick_cache_model.specs.CacheState.{IsValid}
-use Rattle.quick_cache_model.specs.CacheState.{SameButOrder, UpToOrder}
+use Rattle.quick_cache_model.specs.CacheState.{CacheState, Item, LoadingEntry, Place, InHot, InCold, InStill, entered, place_of_item}
+use Rattle.quick_cache_model.specs.CacheState.{total_weight, IsValid, SameButOrder, UpToOrder}
 use Rattle.quick_cache_model.specs.Hooks.{Rules, HookCall, EvictCold}
 use Rattle.quick_cache_model.specs.Eviction.{EvictsToCapacity}
 use Rattle.quick_cache_model.specs.Admission.{Admitted, TooHeavy, ChecksAdmission, PassesCheck}
@@ -20,10 +16,8 @@ use Rattle.quick_cache_model.proofs.EvictionKeeps.{EvictsToCapacity-beside}
 use Rattle.quick_cache_laws.proofs.Eviction.Room.{EvictsToCapacity-makes_room}
 use Rattle.quick_cache_laws.proofs.Admitted.Checks.{passed_is_not_too_heavy, passed_leaves}
 use Rattle.quick_cache_laws.proofs.Admitted.Tickets.{one_of_ticket}
-use Rattle.quick_cache_laws.proofs.Admitted.UnpinnedWeight.{unpinned, unpinned-le, unpinned-pinned}
-use Rattle.quick_cache_laws.proofs.Admitted.UnpinnedWeight.{unpinned_weight-le}
-use Rattle.quick_cache_laws.proofs.Admitted.UnpinnedWeight.{unpinned_weight-none}
-use Rattle.quick_cache_laws.proofs.Admitted.UnpinnedWeight.{unpinned_weight-entered}
+use Rattle.quick_cache_laws.proofs.Admitted.UnpinnedWeight.{unpinned, unpinned-le, unpinned-pinned, unpinned_weight-le}
+use Rattle.quick_cache_laws.proofs.Admitted.UnpinnedWeight.{unpinned_weight-none, unpinned_weight-entered}
 
 module _ {K V : Type 0} (rules : Rules K V) where
   -- eviction ends within the capacity, but for what is pinned
@@ -67,7 +61,7 @@ module _ {K V : Type 0} (rules : Rules K V) where
       go (EvictsToCapacity-makes_room rules (rules.weight key left) old mid calls evicts)
     where
       item : Item K V
-      item = new_item rules key left (queue_for rules old key left Cold) 0
+      item = new_item rules key left (queue_for rules old key left Queue.Cold) 0
 
       go : (total_weight mid + rules.weight key left ≤ mid.capacity) ⊎ AreRingsPinned rules mid
           → unpinned_weight rules (entered item mid) ≤ (entered item mid).capacity
@@ -83,7 +77,7 @@ module _ {K V : Type 0} (rules : Rules K V) where
         arith,
         sized,
         admitted-light old.hot_target key value left 0
-            (queue_for rules old key left Cold) first passed,
+            (queue_for rules old key left Queue.Cold) first passed,
         unpinned_weight-none rules mid all,
         unpinned_weight-entered rules item mid,
         capacity-put (place_of_item item) item mid,

@@ -1,17 +1,14 @@
 -- Laws of setting the capacity: the sizes stay as options make them, and the present capacity
 -- changes none of them.
-use Rattle.std.proofs.Common.{◌≡◌, ℕ, ◌+◌, ◌-◌, ◌*◌, ◌/◌, ◌^◌, ◌<◌, ◌≤◌, ◌==◌, min, Bool, true}
-use Rattle.std.proofs.Common.{false, if◌then◌else◌, List, [], length, drop, refl, ap, ap₂, ◌∙◌}
-use Rattle.std.proofs.Common.{arith, mul-div_cancel}
+use Rattle.std.proofs.Common.{◌≡◌, ℕ, ◌+◌, ◌-◌, ◌*◌, ◌/◌, ◌^◌, ◌<◌, ◌≤◌, ◌==◌, min, Bool, true, false, if◌then◌else◌, List, [], length}
+use Rattle.std.proofs.Common.{drop, refl, ap, ap₂, ◌∙◌, arith, mul-div_cancel}
 use Rattle.std.proofs.Math.Nat.{mul-div_cancel_left}
 use Rattle.std.proofs.lemmas.Bool.{eqb-true, eqb-false}
 use Rattle.quick_cache_model.specs.CacheState.{CacheState, total_weight}
 use Rattle.quick_cache_model.specs.Hooks.{Rules, HookCall}
-use Rattle.quick_cache_model.specs.Sizes.{default_hot_share, clamped_target, hot_target_of}
-use Rattle.quick_cache_model.specs.Sizes.{rescaled_target, rescaled_limit}
+use Rattle.quick_cache_model.specs.Sizes.{default_hot_share, clamped_target, hot_target_of, rescaled_target, rescaled_limit, IsSized}
 use Rattle.quick_cache_model.specs.Eviction.{newest, EvictsToCapacity}
 use Rattle.quick_cache_model.specs.Capacity.{resized, SetsCapacity}
-use Rattle.quick_cache_model.specs.Sizes.{IsSized}
 use Rattle.quick_cache_model.proofs.EvictionKeeps.{EvictsToCapacity-beside}
 
 -- the target at the present capacity is the target, if it was within its bounds

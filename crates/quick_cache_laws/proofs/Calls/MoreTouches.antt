@@ -2,15 +2,12 @@
 -- it may do where more may.
 use Rattle.std.proofs.Common.{ℕ, Bool, true, false, List, [], ◌∷◌, Option}
 use Rattle.quick_cache_model.specs.declared.queue.Queue.{Queue}
-use Rattle.quick_cache_model.specs.declared.queue.Queue.TheVariants.{Hot, Cold}
 use Rattle.quick_cache_model.specs.CacheState.{CacheState, Item}
 use Rattle.quick_cache_model.specs.Hooks.{Rules, HookCall}
 use Rattle.quick_cache_model.specs.Touches.{TakesTouches, RaisesMarks}
-use Rattle.quick_cache_model.specs.Eviction.{EvictsVictim, AdvancesHot, EvictsToTarget}
-use Rattle.quick_cache_model.specs.Eviction.{AdvancesCold, EvictsToCapacity}
+use Rattle.quick_cache_model.specs.Eviction.{EvictsVictim, AdvancesHot, EvictsToTarget, AdvancesCold, EvictsToCapacity}
 use Rattle.quick_cache_model.specs.Admission.{Admission, ChecksAdmission}
-use Rattle.quick_cache_model.specs.Writes.{Strategy, WritesAdmitted}
-use Rattle.quick_cache_model.specs.Writes.{Writes}
+use Rattle.quick_cache_model.specs.Writes.{Strategy, WritesAdmitted, Writes}
 use Rattle.quick_cache_model.specs.Placeholders.{MakesRoomFor, FillsPlaceholder}
 use Rattle.quick_cache_model.specs.Capacity.{SetsCapacity}
 
@@ -38,9 +35,9 @@ module _ {K V : Type 0} (rules : Rules K V) (many : ℕ → Type 0)
       → EvictsVictim (record rules { may_count = many }) queue old item calls new
   EvictsVictim-more queue old item _ _ (EvictsVictim.stays left light) =
       EvictsVictim.stays left light
-  EvictsVictim-more Hot old item _ _ (EvictsVictim.leaves left heavy) =
+  EvictsVictim-more Queue.Hot old item _ _ (EvictsVictim.leaves left heavy) =
       EvictsVictim.leaves left heavy
-  EvictsVictim-more Cold old item _ _ (EvictsVictim.leaves left heavy) =
+  EvictsVictim-more Queue.Cold old item _ _ (EvictsVictim.leaves left heavy) =
       EvictsVictim.leaves left heavy
 
   -- a hot advance
@@ -57,7 +54,7 @@ module _ {K V : Type 0} (rules : Rules K V) (many : ℕ → Type 0)
       AdvancesHot.evicts hot before item after calls new
       (RaisesMarks-more rules.may_count many more old.mark_cut old.hot hot raised) split
       (record { unpinned = first.unpinned; earlier = first.earlier; later = first.later })
-      (EvictsVictim-more Hot _ _ calls new evicts)
+      (EvictsVictim-more Queue.Hot _ _ calls new evicts)
 
   -- eviction down to the target
   pub EvictsToTarget-more : (old : CacheState K V) (calls : List (HookCall K V))
@@ -87,7 +84,7 @@ module _ {K V : Type 0} (rules : Rules K V) (many : ℕ → Type 0)
       AdvancesCold.evicts cold before item after calls new
       (RaisesMarks-more rules.may_count many more old.mark_cut old.cold cold raised)
       split passed unmarked unpinned
-      (EvictsVictim-more Cold _ _ calls new evicts)
+      (EvictsVictim-more Queue.Cold _ _ calls new evicts)
   AdvancesCold-more old _ _ _ (AdvancesCold.passes_all cold answer calls new raised passed advances)
       =
       AdvancesCold.passes_all cold answer calls new

@@ -2,8 +2,7 @@
 -- show the same.
 use Rattle.std.proofs.Common.{◌≡◌, ◌≤◌, Bool, true, Option, arith}
 use Rattle.quick_cache_model.specs.CacheState.{CacheState, Item, keys_by, IsValid}
-use Rattle.quick_cache_model.specs.Finding.{Found, FoundItem, FoundLoading, FoundGhost}
-use Rattle.quick_cache_model.specs.Finding.{FoundNothing, Finds}
+use Rattle.quick_cache_model.specs.Finding.{Found, FoundItem, FoundLoading, FoundGhost, FoundNothing, Finds}
 use Rattle.quick_cache_model.specs.Lookups.{Sees, LooksUp}
 use Rattle.quick_cache_laws.specs.Laws.{IsQuery}
 use Rattle.quick_cache_model.proofs.Eviction.Keys.{keys_by-none}

@@ -1,9 +1,7 @@
 -- Laws of removals: a second one finds nothing to remove.
-use Rattle.std.proofs.Common.{◌≡◌, ℕ, Bool, true, false, cond, List, [], ◌∷◌, Option, None, refl}
-use Rattle.std.proofs.Common.{IsPermutation, sym, ap, subst, ◌∙◌, arith}
+use Rattle.std.proofs.Common.{◌≡◌, ℕ, Bool, true, false, cond, List, [], ◌∷◌, Option, None, refl, IsPermutation, sym, ap, subst, ◌∙◌, arith}
 use Rattle.std.specs.List.{AllByRecursion, filter}
-use Rattle.quick_cache_model.specs.CacheState.{CacheState, Item, Place, InHot, InCold, InStill}
-use Rattle.quick_cache_model.specs.CacheState.{keys_by, IsValid, SameButOrder, UpToOrder}
+use Rattle.quick_cache_model.specs.CacheState.{CacheState, Item, Place, InHot, InCold, InStill, keys_by, IsValid, SameButOrder, UpToOrder}
 use Rattle.quick_cache_model.specs.Finding.{IsItemAt}
 use Rattle.quick_cache_model.specs.Removal.{Removes, Retains, retained}
 use Rattle.quick_cache_laws.specs.Laws.{IsQuery}

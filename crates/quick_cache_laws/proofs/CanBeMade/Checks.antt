@@ -1,9 +1,7 @@
 -- The admission check can be made in every state where each hook may be called.
-use Rattle.std.proofs.Common.{◌≡◌, ℕ, ◌<◌, ◌≤◌, ◌⊎◌, inl, inr, Bool, true, false}
-use Rattle.std.proofs.Common.{List, [], ◌∷◌, refl}
+use Rattle.std.proofs.Common.{◌≡◌, ℕ, ◌<◌, ◌≤◌, ◌⊎◌, inl, inr, Bool, true, false, List, [], ◌∷◌, refl}
 use Rattle.std.proofs.lemmas.Bool.{cases_lt}
-use Rattle.quick_cache_model.specs.Hooks.{Rules, HookCall, BeforeEvict, Hooks}
-use Rattle.quick_cache_model.specs.Hooks.{RunsHooks}
+use Rattle.quick_cache_model.specs.Hooks.{Rules, HookCall, BeforeEvict, Hooks, RunsHooks}
 use Rattle.quick_cache_model.specs.Admission.{Admission, Admitted, TooHeavy, ChecksAdmission}
 use Rattle.quick_cache_laws.specs.Laws.{CanCallHooks}
 

@@ -1,21 +1,16 @@
 -- Laws of existence: an item that is there can be acted on, whatever the callback leaves and
 -- chooses.
-use Rattle.std.proofs.Common.{◌≡◌, ◌==◌, Bool, true, false, if◌then◌else◌, List, [], ◌∷◌, ◌++◌}
-use Rattle.std.proofs.Common.{refl, ◌≤◌, arith}
-use Rattle.quick_cache_model.specs.CacheState.{CacheState, Item, Place, InHot, InCold, InStill}
-use Rattle.quick_cache_model.specs.CacheState.{items_at, with_items, place_of_item, entered}
-use Rattle.quick_cache_model.specs.CacheState.{rewritten, restarted_behind}
+use Rattle.std.proofs.Common.{◌≡◌, ◌==◌, Bool, true, false, if◌then◌else◌, List, [], ◌∷◌, ◌++◌, refl, ◌≤◌, arith}
+use Rattle.quick_cache_model.specs.CacheState.{CacheState, Item, Place, InHot, InCold, InStill, items_at, with_items, place_of_item}
+use Rattle.quick_cache_model.specs.CacheState.{entered, rewritten, restarted_behind}
 use Rattle.quick_cache_model.specs.Hooks.{Rules}
 use Rattle.quick_cache_model.specs.Finding.{IsItemAt}
 use Rattle.quick_cache_model.specs.Placeholders.{with_placeholder}
 use Rattle.quick_cache_model.specs.Lookups.{looked_up, after_hit}
 use Rattle.quick_cache_model.specs.Removal.{weighed, reweighed}
-use Rattle.quick_cache_model.specs.Entries.{EntryChoice, Retain, Remove, ReplaceWithGuard}
-use Rattle.quick_cache_model.specs.Entries.{EntryOutcome, Refused, outcome_of, ActsOnEntry}
-use Rattle.quick_cache_model.specs.Refusals.{HasTicket, last_ticket, MayRefuse}
-use Rattle.quick_cache_model.specs.Refusals.{needs_of_replacement}
+use Rattle.quick_cache_model.specs.Entries.{EntryChoice, Retain, Remove, ReplaceWithGuard, EntryOutcome, Refused, outcome_of, ActsOnEntry}
+use Rattle.quick_cache_model.specs.Refusals.{HasTicket, last_ticket, MayRefuse, needs_of_replacement}
 use Rattle.quick_cache_model.specs.declared.refusal.Refusal.{Refusal}
-use Rattle.quick_cache_model.specs.declared.refusal.Refusal.TheVariants.{Memory, TicketsSpent}
 
 -- where an item stands once it was written over another
 pub record StandsAt {K V : Type 0} (stands_for : K → Bool) (state : CacheState K V)
@@ -115,11 +110,11 @@ module _ {K V : Type 0} (stands_for : K → Bool) where
   pub ActsOnEntry-memory : (rules : Rules K V) (old : CacheState K V) (item : Item K V) (left : V)
       (choice : EntryChoice) (refusal : Refusal) (new : CacheState K V)
       → ActsOnEntry rules stands_for old item left choice (Refused refusal) new → HasTicket old
-      → refusal ≡ Memory
+      → refusal ≡ Refusal.Memory
   ActsOnEntry-memory rules old item left _ _ _
       (ActsOnEntry.refused place before after refusal there may) ticket = cause refusal may
     where
-      cause : (why : Refusal) → MayRefuse needs_of_replacement old why → why ≡ Memory
+      cause : (why : Refusal) → MayRefuse needs_of_replacement old why → why ≡ Refusal.Memory
       cause _ (MayRefuse.tickets_spent needs spent) = absurd (omega (arith, ticket))
       cause _ (MayRefuse.slots_full has needs full) = absurd needs
       cause _ (MayRefuse.memory_refused provided needs) = refl
@@ -128,7 +123,7 @@ module _ {K V : Type 0} (stands_for : K → Bool) where
   pub ActsOnEntry-tickets : (rules : Rules K V) (old : CacheState K V) (item : Item K V) (left : V)
       (outcome : EntryOutcome) (new : CacheState K V)
       → ActsOnEntry rules stands_for old item left ReplaceWithGuard outcome new
-      → last_ticket ≤ old.next_ticket → outcome ≡ Refused TicketsSpent
+      → last_ticket ≤ old.next_ticket → outcome ≡ Refused Refusal.TicketsSpent
   ActsOnEntry-tickets rules old item left _ _
       (ActsOnEntry.replaced place before after now front back there written provided) spent =
       let ticket = provided.ticket tt in absurd (omega (arith, ticket))
@@ -136,7 +131,7 @@ module _ {K V : Type 0} (stands_for : K → Bool) where
       (ActsOnEntry.refused place before after refusal there may) spent = cause refusal may
     where
       cause : (why : Refusal) → MayRefuse needs_of_replacement old why
-          → Refused why ≡ Refused TicketsSpent
+          → Refused why ≡ Refused Refusal.TicketsSpent
       cause _ (MayRefuse.tickets_spent needs none) = refl
       cause _ (MayRefuse.slots_full has needs full) = absurd needs
       cause _ (MayRefuse.memory_refused provided needs) =

@@ -1,23 +1,17 @@
 -- Laws of existence: each eviction ends, whatever the state, where a count of touches may be 0 and
 -- each hook may be called.
-use Rattle.std.proofs.Common.{◌≡◌, ℕ, zero, suc, ◌+◌, ◌<◌, ◌≤◌, ◌⊎◌, inl, inr, Bool, true, false}
-use Rattle.std.proofs.Common.{List, [], ◌∷◌, ◌++◌, map, refl}
-use Rattle.std.proofs.Common.{arith}
+use Rattle.std.proofs.Common.{◌≡◌, ℕ, zero, suc, ◌+◌, ◌<◌, ◌≤◌, ◌⊎◌, inl, inr, Bool, true, false, List, [], ◌∷◌, ◌++◌, map, refl, arith}
 use Rattle.std.proofs.lemmas.Bool.{cases_lt}
 use Rattle.quick_cache_model.specs.declared.queue.Queue.{Queue}
-use Rattle.quick_cache_model.specs.declared.queue.Queue.TheVariants.{Hot, Cold}
-use Rattle.quick_cache_model.specs.CacheState.{CacheState, Item, restarted_behind, entered}
-use Rattle.quick_cache_model.specs.CacheState.{hot_weight, total_weight}
+use Rattle.quick_cache_model.specs.CacheState.{CacheState, Item, restarted_behind, entered, hot_weight, total_weight}
 use Rattle.quick_cache_model.specs.Hooks.{Rules, HookCall, BeforeEvict, evicted, Hooks, RunsHooks}
-use Rattle.quick_cache_model.specs.Eviction.{lowered, ghosts_with}
-use Rattle.quick_cache_model.specs.Eviction.{promoted, EvictsVictim, AdvancesHot, EvictsToTarget}
-use Rattle.quick_cache_model.specs.Eviction.{AdvancesCold, EvictsToCapacity}
+use Rattle.quick_cache_model.specs.Eviction.{lowered, ghosts_with, promoted, EvictsVictim, AdvancesHot, EvictsToTarget, AdvancesCold}
+use Rattle.quick_cache_model.specs.Eviction.{EvictsToCapacity}
 use Rattle.quick_cache_laws.specs.Laws.{ring_measure, CanCallHooks}
 use Rattle.quick_cache_model.proofs.TouchLaws.{RaisesMarks-same}
 use Rattle.quick_cache_model.proofs.HookLaws.{RunsHooks-append}
 use Rattle.quick_cache_laws.proofs.Eviction.Measure.{AdvancesHot-measure, AdvancesCold-measure}
-use Rattle.quick_cache_laws.proofs.CanBeMade.Victims.{Victim, first_victim, Candidate}
-use Rattle.quick_cache_laws.proofs.CanBeMade.Victims.{first_candidate}
+use Rattle.quick_cache_laws.proofs.CanBeMade.Victims.{Victim, first_victim, Candidate, first_candidate}
 
 -- calls and a state for which a relation holds, and a request state to which the hooks lead
 pub record Leads {K V S : Type 0} (hooks : Hooks K V S)
@@ -43,9 +37,9 @@ module _ {K V S : Type 0} (rules : Rules K V) (may : rules.may_count 0) (hooks :
   -- the hook of a queue can be told a pair
   pub told : (queue : Queue) (first : S) (key : K) (value : V) → (last : S)
       × RunsHooks hooks (evicted queue key value ∷ []) first last
-  told Hot first key value = let step = can.evict_hot first key value in
+  told Queue.Hot first key value = let step = can.evict_hot first key value in
       (step.0, (step.0, step.1, refl))
-  told Cold first key value = let step = can.evict_cold first key value in
+  told Queue.Cold first key value = let step = can.evict_cold first key value in
       (step.0, (step.0, step.1, refl))
 
   -- each victim has a fate
@@ -92,7 +86,7 @@ module _ {K V S : Type 0} (rules : Rules K V) (may : rules.may_count 0) (hooks :
         runs = refl;
       }
       go (Victim.is_there before item after split is) =
-          let fate = EvictsVictim-exists Hot
+          let fate = EvictsVictim-exists Queue.Hot
           (record old {
             hot = restarted_behind (map (lowered (item.mark + 1)) before)
                 (map (lowered item.mark) after);
@@ -186,7 +180,8 @@ module _ {K V S : Type 0} (rules : Rules K V) (may : rules.may_count 0) (hooks :
             runs = rest.runs;
           }
       go (Candidate.is_victim before item after split passed unmarked unpinned) =
-          let fate = EvictsVictim-exists Cold (record old { cold = restarted_behind before after })
+          let fate = EvictsVictim-exists Queue.Cold
+          (record old { cold = restarted_behind before after })
           item first in
           record {
             answer = true;

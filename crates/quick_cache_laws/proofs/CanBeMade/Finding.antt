@@ -1,11 +1,9 @@
 -- Laws of finding: a query always finds something, be it nothing.
-use Rattle.std.proofs.Common.{◌≡◌, ◌≢◌, ℕ, ◌==◌, Bool, true, false, List, [], ◌∷◌, ◌++◌, refl, ap}
-use Rattle.std.proofs.Common.{◌∙◌}
+use Rattle.std.proofs.Common.{◌≡◌, ◌≢◌, ℕ, ◌==◌, Bool, true, false, List, [], ◌∷◌, ◌++◌, refl, ap, ◌∙◌}
 use Rattle.std.proofs.lemmas.Bool.{eqb-true, eqb-false}
 use Rattle.std.specs.List.{AllByRecursion}
 use Rattle.quick_cache_model.specs.CacheState.{CacheState, InHot, InCold, InStill}
-use Rattle.quick_cache_model.specs.Finding.{Found, FoundItem, FoundLoading, FoundGhost}
-use Rattle.quick_cache_model.specs.Finding.{FoundNothing, HasNoItem, HasNoKey, Finds}
+use Rattle.quick_cache_model.specs.Finding.{Found, FoundItem, FoundLoading, FoundGhost, FoundNothing, HasNoItem, HasNoKey, Finds}
 use Rattle.quick_cache_model.proofs.EachElement.{all-weaker}
 
 -- an element that passes, with what stands before and behind it, or that none passes

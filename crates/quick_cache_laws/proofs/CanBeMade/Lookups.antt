@@ -1,19 +1,14 @@
 -- Laws of existence: a look-up, a removal, and a placeholder made or met can be had in every state.
-use Rattle.std.proofs.Common.{◌≡◌, ℕ, ◌==◌, ◌⊎◌, inl, inr, Bool, true, false, List, ◌∷◌, ◌++◌}
-use Rattle.std.proofs.Common.{Option, Some, None, ap, ◌∙◌}
+use Rattle.std.proofs.Common.{◌≡◌, ℕ, ◌==◌, ◌⊎◌, inl, inr, Bool, true, false, List, ◌∷◌, ◌++◌, Option, Some, None, ap, ◌∙◌}
 use Rattle.std.proofs.lemmas.Bool.{eqb-true, eqb-false}
-use Rattle.quick_cache_model.specs.declared.queue.Queue.TheVariants.{Hot, Cold}
-use Rattle.quick_cache_model.specs.CacheState.{CacheState, Item, Place, InHot, InCold}
-use Rattle.quick_cache_model.specs.CacheState.{InStill, with_items}
-use Rattle.quick_cache_model.specs.Finding.{Found, FoundItem, FoundLoading, FoundGhost}
-use Rattle.quick_cache_model.specs.Finding.{FoundNothing, IsItemAt, HasNoItem, HasNoKey, Finds}
-use Rattle.quick_cache_model.specs.Placeholders.{with_placeholder, MakesPlaceholder}
-use Rattle.quick_cache_model.specs.Placeholders.{MeetsPlaceholder}
+use Rattle.quick_cache_model.specs.declared.queue.Queue.{Queue}
+use Rattle.quick_cache_model.specs.CacheState.{CacheState, Item, Place, InHot, InCold, InStill, with_items}
+use Rattle.quick_cache_model.specs.Finding.{Found, FoundItem, FoundLoading, FoundGhost, FoundNothing, IsItemAt, HasNoItem, HasNoKey, Finds}
+use Rattle.quick_cache_model.specs.Placeholders.{with_placeholder, MakesPlaceholder, MeetsPlaceholder}
 use Rattle.quick_cache_model.specs.Lookups.{looked_up, after_hit, after_miss, LooksUp}
 use Rattle.quick_cache_model.specs.Removal.{Removes}
 use Rattle.quick_cache_model.proofs.EachElement.{all-weaker}
-use Rattle.quick_cache_laws.proofs.CanBeMade.Finding.{Searched, is_there, is_absent, search_list}
-use Rattle.quick_cache_laws.proofs.CanBeMade.Finding.{Finds-some}
+use Rattle.quick_cache_laws.proofs.CanBeMade.Finding.{Searched, is_there, is_absent, search_list, Finds-some}
 
 -- an item for which the query stands, or that there is none
 pub data ItemFound {K V : Type 0} (stands_for : K → Bool) (state : CacheState K V) : Type 0 where
@@ -95,7 +90,7 @@ Placeholder-exists {K} {V} stands_for hash key old stands none =
         ⊎ ((ticket : ℕ) × (new : CacheState K V) × MeetsPlaceholder stands_for old ticket new)
     by_ghosts no_key (is_there before ghost after split passes) =
         inl (
-          with_placeholder key Hot (after_miss (record old { ghosts = before ++ after })),
+          with_placeholder key Queue.Hot (after_miss (record old { ghosts = before ++ after })),
           MakesPlaceholder.on_ghost before after stands (record {
             keys = no_key;
             split = split ∙ ap (λ g. before ++ g ∷ after) (eqb-true ghost hash passes);
@@ -103,7 +98,7 @@ Placeholder-exists {K} {V} stands_for hash key old stands none =
         )
     by_ghosts no_key (is_absent others) =
         inl (
-          with_placeholder key Cold (after_miss old),
+          with_placeholder key Queue.Cold (after_miss old),
           MakesPlaceholder.on_nothing stands (record {
             keys = no_key;
             ghosts = all-weaker (λ ghost. (ghost == hash) ≡ false)

@@ -1,31 +1,24 @@
 -- Laws of existence: each write, each filling and each new capacity can be had in every state,
 -- where a count of touches may be 0 and each hook may be called.
-use Rattle.std.proofs.Common.{◌≡◌, ℕ, ◌<◌, ◌≤◌, ◌==◌, ◌⊎◌, inl, inr, Bool, false}
-use Rattle.std.proofs.Common.{if◌then◌else◌, List, [], ◌∷◌, ◌++◌, Option, Some, None, refl, arith}
+use Rattle.std.proofs.Common.{◌≡◌, ℕ, ◌<◌, ◌≤◌, ◌==◌, ◌⊎◌, inl, inr, Bool, false, if◌then◌else◌, List, [], ◌∷◌, ◌++◌, Option, Some, None}
+use Rattle.std.proofs.Common.{refl, arith}
 use Rattle.std.proofs.lemmas.Bool.{cases_lt, eqb-true, eqb-false}
-use Rattle.quick_cache_model.specs.declared.queue.Queue.TheVariants.{Hot, Cold}
-use Rattle.quick_cache_model.specs.CacheState.{CacheState, Item, LoadingEntry, Place, with_items}
-use Rattle.quick_cache_model.specs.CacheState.{entered, rewritten}
-use Rattle.quick_cache_model.specs.Hooks.{Rules, HookCall, EvictCold, evicted, Hooks}
-use Rattle.quick_cache_model.specs.Hooks.{RunsHooks}
-use Rattle.quick_cache_model.specs.Finding.{Found, FoundItem, FoundLoading, FoundGhost}
-use Rattle.quick_cache_model.specs.Finding.{FoundNothing, IsItemAt, Finds}
+use Rattle.quick_cache_model.specs.declared.queue.Queue.{Queue}
+use Rattle.quick_cache_model.specs.CacheState.{CacheState, Item, LoadingEntry, Place, with_items, entered, rewritten}
+use Rattle.quick_cache_model.specs.Hooks.{Rules, HookCall, EvictCold, evicted, Hooks, RunsHooks}
+use Rattle.quick_cache_model.specs.Finding.{Found, FoundItem, FoundLoading, FoundGhost, FoundNothing, IsItemAt, Finds}
 use Rattle.quick_cache_model.specs.Eviction.{newest}
 use Rattle.quick_cache_model.specs.Admission.{Admission, Admitted, TooHeavy, ChecksAdmission}
-use Rattle.quick_cache_model.specs.Writes.{Strategy, Insert, Replace, SoftReplace, IsReplace}
+use Rattle.quick_cache_model.specs.Writes.{Strategy, Insert, Replace, SoftReplace, IsReplace, mark_after, new_item, queue_for}
+use Rattle.quick_cache_model.specs.Writes.{WritesAdmitted, TakesOutItem, RejectsTooHeavy, Writes}
 use Rattle.quick_cache_model.specs.Touches.{first_mark}
-use Rattle.quick_cache_model.specs.Writes.{mark_after, new_item, queue_for, WritesAdmitted}
-use Rattle.quick_cache_model.specs.Writes.{TakesOutItem, RejectsTooHeavy, Writes}
 use Rattle.quick_cache_model.specs.Placeholders.{IsLoadingTicket, MakesRoomFor, FillsPlaceholder}
 use Rattle.quick_cache_model.specs.Capacity.{resized, SetsCapacity}
 use Rattle.quick_cache_laws.specs.Laws.{CanCallHooks}
 use Rattle.quick_cache_model.proofs.EachElement.{all-weaker}
-use Rattle.quick_cache_laws.proofs.CanBeMade.Finding.{Searched, is_there, is_absent, search_list}
-use Rattle.quick_cache_laws.proofs.CanBeMade.Finding.{Finds-some}
+use Rattle.quick_cache_laws.proofs.CanBeMade.Finding.{Searched, is_there, is_absent, search_list, Finds-some}
 use Rattle.quick_cache_model.proofs.HookLaws.{RunsHooks-append}
-use Rattle.quick_cache_laws.proofs.CanBeMade.Evictions.{Leads, Answers, told}
-use Rattle.quick_cache_laws.proofs.CanBeMade.Evictions.{EvictsToCapacity-exists, idle_hooks}
-use Rattle.quick_cache_laws.proofs.CanBeMade.Evictions.{can_call_idle_hooks}
+use Rattle.quick_cache_laws.proofs.CanBeMade.Evictions.{Leads, Answers, told, EvictsToCapacity-exists, idle_hooks, can_call_idle_hooks}
 use Rattle.quick_cache_laws.proofs.CanBeMade.Lookups.{ItemFound, item_there, no_item, find_item}
 use Rattle.quick_cache_laws.proofs.CanBeMade.Checks.{ChecksAdmission-exists}
 
@@ -92,7 +85,7 @@ module _ {K V S : Type 0} (rules : Rules K V) (may : rules.may_count 0) (hooks :
         }
     inserted old value first (FoundGhost before after) there =
         let room = EvictsToCapacity-exists rules may hooks can 0
-        (entered (new_item rules key value Hot 0) (record old { ghosts = before ++ after }))
+        (entered (new_item rules key value Queue.Hot 0) (record old { ghosts = before ++ after }))
         first in
         record {
           answer = None;
@@ -108,7 +101,8 @@ module _ {K V S : Type 0} (rules : Rules K V) (may : rules.may_count 0) (hooks :
         record {
           answer = None;
           calls = room.calls;
-          new = entered (new_item rules key value (queue_for rules old key value Cold) 0) room.new;
+          new = entered (new_item rules key value (queue_for rules old key value Queue.Cold) 0)
+              room.new;
           last = room.last;
           holds = WritesAdmitted.inserts_new room.new room.calls refl nothing room.holds;
           runs = room.runs;

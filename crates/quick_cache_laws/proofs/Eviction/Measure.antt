@@ -1,15 +1,13 @@
 -- Laws of the measure of the rings: an advance that answers yes lowers it, and no hot advance
 -- raises it.
-use Rattle.std.proofs.Common.{◌≡◌, ℕ, ◌+◌, ◌-◌, ◌<◌, ◌≤◌, Bool, true, false, List, [], ◌∷◌, ◌++◌}
-use Rattle.std.proofs.Common.{map, length, refl, ap, arith, length-append}
+use Rattle.std.proofs.Common.{◌≡◌, ℕ, ◌+◌, ◌-◌, ◌<◌, ◌≤◌, Bool, true, false, List, [], ◌∷◌, ◌++◌, map, length, refl, ap, arith}
+use Rattle.std.proofs.Common.{length-append}
 use Rattle.std.proofs.lemmas.List.{length-map}
 use Rattle.quick_cache_model.specs.declared.queue.Queue.{Queue}
-use Rattle.quick_cache_model.specs.declared.queue.Queue.TheVariants.{Hot, Cold}
 use Rattle.quick_cache_model.specs.CacheState.{CacheState, Item}
 use Rattle.quick_cache_model.specs.Hooks.{Rules, HookCall}
 use Rattle.quick_cache_model.specs.Touches.{RaisesMarks}
-use Rattle.quick_cache_model.specs.Eviction.{lowered, EvictsVictim, AdvancesHot, EvictsToTarget}
-use Rattle.quick_cache_model.specs.Eviction.{AdvancesCold}
+use Rattle.quick_cache_model.specs.Eviction.{lowered, EvictsVictim, AdvancesHot, EvictsToTarget, AdvancesCold}
 use Rattle.quick_cache_laws.specs.Laws.{ring_measure}
 
 module _ {K V : Type 0} where
@@ -35,8 +33,8 @@ module _ {K V : Type 0} (rules : Rules K V) where
       (calls : List (HookCall K V))
       → EvictsVictim rules queue old item calls new → ring_measure new ≡ ring_measure old
   EvictsVictim-measure queue old _ item _ (EvictsVictim.stays left light) = refl
-  EvictsVictim-measure Hot old _ item _ (EvictsVictim.leaves left heavy) = refl
-  EvictsVictim-measure Cold old _ item _ (EvictsVictim.leaves left heavy) = refl
+  EvictsVictim-measure Queue.Hot old _ item _ (EvictsVictim.leaves left heavy) = refl
+  EvictsVictim-measure Queue.Cold old _ item _ (EvictsVictim.leaves left heavy) = refl
 
   -- a hot advance that evicts takes an item out of the hot ring
   pub AdvancesHot-measure : (old new : CacheState K V) (calls : List (HookCall K V))
@@ -47,7 +45,7 @@ module _ {K V : Type 0} (rules : Rules K V) where
         arith,
         length-raised old.mark_cut rules.may_count old.hot hot raised,
         length-split hot before item after split,
-        EvictsVictim-measure Hot _ new (lowered item.mark item) calls evicts,
+        EvictsVictim-measure Queue.Hot _ new (lowered item.mark item) calls evicts,
         length-append (map (lowered item.mark) after) (map (lowered (item.mark + 1)) before),
         length-map after (lowered item.mark),
         length-map before (lowered (item.mark + 1)),
@@ -92,7 +90,7 @@ module _ {K V : Type 0} (rules : Rules K V) where
         length-raised old.mark_cut rules.may_count old.cold cold raised,
         length-split cold before item after split,
         EvictsToTarget-measure_le _ new calls goes,
-        length-append old.hot (record item { mark = item.mark - 1; queue = Hot } ∷ []),
+        length-append old.hot (record item { mark = item.mark - 1; queue = Queue.Hot } ∷ []),
         length-append after before,
       )
   AdvancesCold-measure old _ _ (AdvancesCold.evicts cold before item after calls new raised split
@@ -101,7 +99,7 @@ module _ {K V : Type 0} (rules : Rules K V) where
         arith,
         length-raised old.mark_cut rules.may_count old.cold cold raised,
         length-split cold before item after split,
-        EvictsVictim-measure Cold _ new item calls evicts,
+        EvictsVictim-measure Queue.Cold _ new item calls evicts,
         length-append after before,
       )
   AdvancesCold-measure old _ _ (AdvancesCold.passes_all cold _ calls new raised passed advances) =

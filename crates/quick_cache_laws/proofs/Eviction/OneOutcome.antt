@@ -1,20 +1,15 @@
 -- How room is made is determined: where no reader leaves touches, and what `before_evict` leaves is
 -- a function of the pair, an advance and an eviction have one outcome.
-use Rattle.std.proofs.Common.{◌≡◌, ℕ, ◌+◌, Bool, true, false, true≢false, List, [], ◌∷◌, ◌++◌, map}
-use Rattle.std.proofs.Common.{refl, sym, ap, subst, ◌∙◌, arith}
+use Rattle.std.proofs.Common.{◌≡◌, ℕ, ◌+◌, Bool, true, false, true≢false, List, [], ◌∷◌, ◌++◌, map, refl, sym, ap, subst, ◌∙◌, arith}
 use Rattle.std.specs.List.{AllByRecursion}
 use Rattle.quick_cache_model.specs.declared.queue.Queue.{Queue}
-use Rattle.quick_cache_model.specs.declared.queue.Queue.TheVariants.{Hot, Cold}
 use Rattle.quick_cache_model.specs.CacheState.{CacheState, Item, entered, restarted_behind}
-use Rattle.quick_cache_model.specs.Hooks.{Rules, HookCall, BeforeEvict, EvictHot, EvictCold}
-use Rattle.quick_cache_model.specs.Hooks.{evicted}
+use Rattle.quick_cache_model.specs.Hooks.{Rules, HookCall, BeforeEvict, EvictHot, EvictCold, evicted}
 use Rattle.quick_cache_model.specs.Touches.{RaisesMarks, with_touches}
-use Rattle.quick_cache_model.specs.Eviction.{EvictsVictim, AdvancesHot, EvictsToTarget}
-use Rattle.quick_cache_model.specs.Eviction.{AdvancesCold, EvictsToCapacity, IsPassed, lowered}
+use Rattle.quick_cache_model.specs.Eviction.{EvictsVictim, AdvancesHot, EvictsToTarget, AdvancesCold, EvictsToCapacity, IsPassed, lowered}
 use Rattle.quick_cache_model.specs.Eviction.{pinned, promoted, ghosts_with, newest}
 use Rattle.quick_cache_model.specs.Capacity.{SetsCapacity, resized}
-use Rattle.quick_cache_laws.proofs.Eviction.OneVictim.{the_first_victim_is_one}
-use Rattle.quick_cache_laws.proofs.Eviction.OneVictim.{the_first_taken_is_one, holds_between}
+use Rattle.quick_cache_laws.proofs.Eviction.OneVictim.{the_first_victim_is_one, the_first_taken_is_one, holds_between}
 
 module _ {K V : Type 0} (rules : Rules K V) (leaves : K → V → V) where
   -- `before_evict` left what the function says
@@ -122,7 +117,7 @@ module _ {K V : Type 0} (rules : Rules K V) (leaves : K → V → V) where
         (items_as_they_are old.mark_cut old.hot hot' raises') in
         let one = the_first_victim_is_one rules before item after before' item' after'
         (sym split ∙ same ∙ split') victim victim' in
-        let ends = one_fate Hot _ _ _ _ calls calls' new new'
+        let ends = one_fate Queue.Hot _ _ _ _ calls calls' new new'
         (λ i. record old {
           hot = restarted_behind (map (lowered ((one.1 i).mark + 1)) (one.0 i))
               (map (lowered (one.1 i).mark) (one.2 i));
@@ -256,7 +251,7 @@ module _ {K V : Type 0} (rules : Rules K V) (leaves : K → V → V) where
         split split' passed passed'
         (λ is_passed. true≢false (sym is_passed.1 ∙ unpinned))
         (λ is_passed. true≢false (sym is_passed.1 ∙ unpinned')) in
-        let ends = one_fate Cold _ _ _ _ calls calls' new new'
+        let ends = one_fate Queue.Cold _ _ _ _ calls calls' new new'
         (λ i. record old { cold = restarted_behind (one.0 i) (one.2 i) }) one.1 fate fate' so so' in
         (refl, ends.0, ends.1)
     one_cold_advance old _ _ _ _ _ _ (AdvancesCold.evicts cold before item after calls new raises

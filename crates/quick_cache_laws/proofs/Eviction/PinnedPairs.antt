@@ -1,16 +1,14 @@
 -- Laws of items that are never victims: one without weight stays where it is, and no pinned pair
 -- leaves the cache.
-use Rattle.std.proofs.Common.{◌≡◌, ℕ, ◌+◌, ◌-◌, ◌≤◌, Bool, true, false, true≢false, cond, List, []}
-use Rattle.std.proofs.Common.{◌∷◌, ◌++◌, map, refl, sym, ap, ap₂, ◌∙◌, arith}
+use Rattle.std.proofs.Common.{◌≡◌, ℕ, ◌+◌, ◌-◌, ◌≤◌, Bool, true, false, true≢false, cond, List, [], ◌∷◌, ◌++◌, map, refl, sym, ap, ap₂, ◌∙◌}
+use Rattle.std.proofs.Common.{arith}
 use Rattle.std.specs.List.{count_by}
 use Rattle.std.proofs.lemmas.List.Sums.{sum_by-append, sum_by-cons}
 use Rattle.quick_cache_model.specs.declared.queue.Queue.{Queue}
-use Rattle.quick_cache_model.specs.declared.queue.Queue.TheVariants.{Hot, Cold}
 use Rattle.quick_cache_model.specs.CacheState.{CacheState, Item}
 use Rattle.quick_cache_model.specs.Hooks.{Rules, HookCall}
 use Rattle.quick_cache_model.specs.Touches.{RaisesMarks}
-use Rattle.quick_cache_model.specs.Eviction.{lowered, EvictsVictim, AdvancesHot, EvictsToTarget}
-use Rattle.quick_cache_model.specs.Eviction.{AdvancesCold, EvictsToCapacity}
+use Rattle.quick_cache_model.specs.Eviction.{lowered, EvictsVictim, AdvancesHot, EvictsToTarget, AdvancesCold, EvictsToCapacity}
 use Rattle.quick_cache_laws.specs.Laws.{pairs_by, IsPinnedTest}
 use Rattle.quick_cache_model.proofs.KeyCounts.{one_if}
 use Rattle.quick_cache_model.proofs.TouchLaws.{with_touches-key, with_touches-value}
@@ -98,8 +96,8 @@ module _ {K V : Type 0} (rules : Rules K V) (test : K → V → Bool)
       → EvictsVictim rules queue old item calls new → pairs_by test old ≤ pairs_by test new
   EvictsVictim-pairs queue old _ item _ (EvictsVictim.stays left light) =
       omega (arith, pairs-append test old.still (record item { value = left; weight = 0 } ∷ []))
-  EvictsVictim-pairs Hot old _ item _ (EvictsVictim.leaves left heavy) = omega arith
-  EvictsVictim-pairs Cold old _ item _ (EvictsVictim.leaves left heavy) = omega arith
+  EvictsVictim-pairs Queue.Hot old _ item _ (EvictsVictim.leaves left heavy) = omega arith
+  EvictsVictim-pairs Queue.Cold old _ item _ (EvictsVictim.leaves left heavy) = omega arith
 
   -- no pinned pair leaves by a hot advance
   pub AdvancesHot-pairs : (old new : CacheState K V) (answer : Bool) (calls : List (HookCall K V))
@@ -119,7 +117,7 @@ module _ {K V : Type 0} (rules : Rules K V) (test : K → V → Bool)
         ap (pairs test) split,
         pairs-split test before item after,
         unpinned_fails item.key item.value first.unpinned,
-        EvictsVictim-pairs Hot _ new (lowered item.mark item) calls evicts,
+        EvictsVictim-pairs Queue.Hot _ new (lowered item.mark item) calls evicts,
         pairs-append test (map (lowered item.mark) after) (map (lowered (item.mark + 1)) before),
         pairs-lowered test item.mark after,
         pairs-lowered test (item.mark + 1) before,
@@ -144,7 +142,7 @@ module _ {K V : Type 0} (rules : Rules K V) (test : K → V → Bool)
       → AdvancesCold rules old answer calls new → pairs_by test old ≤ pairs_by test new
   AdvancesCold-pairs old _ _ _ (AdvancesCold.promotes cold before item after calls new raised split
       passed marked goes) =
-      let moved = record item { mark = item.mark - 1; queue = Hot } in
+      let moved = record item { mark = item.mark - 1; queue = Queue.Hot } in
       omega (
         arith,
         pairs-raised test old.mark_cut rules.may_count old.cold cold raised,
@@ -163,7 +161,7 @@ module _ {K V : Type 0} (rules : Rules K V) (test : K → V → Bool)
         ap (pairs test) split,
         pairs-split test before item after,
         unpinned_fails item.key item.value unpinned,
-        EvictsVictim-pairs Cold _ new item calls evicts,
+        EvictsVictim-pairs Queue.Cold _ new item calls evicts,
         pairs-append test after before,
       )
   AdvancesCold-pairs old _ _ _ (AdvancesCold.passes_all cold answer calls new raised passed

@@ -1,7 +1,6 @@
 -- Laws of the room that was made: the items weigh at most the capacity, or nothing more could be
 -- evicted.
-use Rattle.std.proofs.Common.{◌≡◌, ℕ, ◌+◌, ◌≤◌, ◌⊎◌, inl, inr, true, false}
-use Rattle.std.proofs.Common.{List, [], ◌∷◌, map}
+use Rattle.std.proofs.Common.{◌≡◌, ℕ, ◌+◌, ◌≤◌, ◌⊎◌, inl, inr, true, false, List, [], ◌∷◌, map}
 use Rattle.std.specs.List.{AllByRecursion}
 use Rattle.quick_cache_model.specs.CacheState.{CacheState, Item, total_weight}
 use Rattle.quick_cache_model.specs.Hooks.{Rules, HookCall}

@@ -1,6 +1,6 @@
 -- The caches of the examples: keys and values are numbers.
 use Rattle.std.proofs.Common.{◌≡◌, ℕ, Bool, List, [], ◌∷◌, refl, ◌==◌, ◌/◌, ◌%◌, false}
-use Rattle.quick_cache_model.specs.declared.queue.Queue.TheVariants.{Hot, Cold}
+use Rattle.quick_cache_model.specs.declared.queue.Queue.{Queue}
 use Rattle.quick_cache_model.specs.CacheState.{Item, default_mark_cut}
 use Rattle.quick_cache_model.specs.Hooks.{Rules}
 use Rattle.quick_cache_model.specs.Touches.{RaisesMarks}
@@ -40,7 +40,7 @@ hot_item key value weight mark = record {
   weight = weight;
   mark = mark;
   reads = 0;
-  queue = Hot;
+  queue = Queue.Hot;
 }
 
 -- an item of the cold ring that was never read
@@ -51,7 +51,7 @@ cold_item key value weight mark = record {
   weight = weight;
   mark = mark;
   reads = 0;
-  queue = Cold;
+  queue = Queue.Cold;
 }
 
 -- where no reader leaves touches, an advance starts from the items as they are

@@ -3,8 +3,7 @@ use Rattle.std.proofs.Common.{◌≡◌, [], ◌∷◌, refl, lit<, lit≤}
 use Rattle.quick_cache_model.specs.CacheState.{empty_state}
 use Rattle.quick_cache_model.specs.Hooks.{BeforeEvict, EvictCold}
 use Rattle.quick_cache_model.specs.Eviction.{EvictsToCapacity, AdvancesCold, EvictsVictim}
-use Rattle.quick_cache_model.specs.Sizes.{hot_target_of, ghost_limit_of, default_hot_share}
-use Rattle.quick_cache_model.specs.Sizes.{default_ghost_share}
+use Rattle.quick_cache_model.specs.Sizes.{hot_target_of, ghost_limit_of, default_hot_share, default_ghost_share}
 use Rattle.quick_cache_model.specs.Capacity.{SetsCapacity}
 use Rattle.quick_cache_laws.proofs.Examples.Caches.{unit_rules, hot_item, cold_item, untouched}
 

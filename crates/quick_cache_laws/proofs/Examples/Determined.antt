@@ -1,11 +1,10 @@
 -- States that are valid, and calls that have one outcome alone.
-use Rattle.std.proofs.Common.{◌≡◌, ◌≢◌, ℕ, ◌+◌, ◌≤◌, Bool, true, false, List, [], ◌∷◌, refl, lit<}
-use Rattle.std.proofs.Common.{lit≤, arith, None, true≢false, if◌then◌else◌, ◌==◌}
+use Rattle.std.proofs.Common.{◌≡◌, ◌≢◌, ℕ, ◌+◌, ◌≤◌, Bool, true, false, List, [], ◌∷◌, refl, lit<, lit≤, arith, None, true≢false}
+use Rattle.std.proofs.Common.{if◌then◌else◌, ◌==◌}
 use Rattle.quick_cache_model.specs.CacheState.{CacheState, IsValid, empty_state}
 use Rattle.quick_cache_model.specs.Hooks.{HookCall, BeforeEvict, EvictHot}
 use Rattle.quick_cache_model.specs.Finding.{Finds, FoundGhost}
-use Rattle.quick_cache_model.specs.Eviction.{EvictsToCapacity, AdvancesHot, AdvancesCold}
-use Rattle.quick_cache_model.specs.Eviction.{EvictsVictim}
+use Rattle.quick_cache_model.specs.Eviction.{EvictsToCapacity, AdvancesHot, AdvancesCold, EvictsVictim}
 use Rattle.quick_cache_model.specs.Lookups.{LooksUp}
 use Rattle.quick_cache_laws.proofs.Eviction.OneOutcome.{LeaveSo, one_eviction_to_capacity}
 use Rattle.quick_cache_laws.proofs.Examples.Caches.{unit_rules, is, hot_item, cold_item, untouched}

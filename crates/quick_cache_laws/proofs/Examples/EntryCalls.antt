@@ -1,10 +1,8 @@
 -- Entry calls: what comes of a callback's choice, and when a replacing call is refused.
 use Rattle.std.proofs.Common.{ℕ, [], ◌∷◌, refl, lit<, lit≤, arith}
-use Rattle.quick_cache_model.specs.declared.refusal.Refusal.TheVariants.{SlotsFull}
-use Rattle.quick_cache_model.specs.declared.refusal.Refusal.TheVariants.{TicketsSpent}
+use Rattle.quick_cache_model.specs.declared.refusal.Refusal.{Refusal}
 use Rattle.quick_cache_model.specs.CacheState.{CacheState, empty_state, InHot, InStill}
-use Rattle.quick_cache_model.specs.Entries.{ActsOnEntry, Remove, ReplaceWithGuard}
-use Rattle.quick_cache_model.specs.Entries.{Retain, Kept, Removed, Replaced, Refused}
+use Rattle.quick_cache_model.specs.Entries.{ActsOnEntry, Remove, ReplaceWithGuard, Retain, Kept, Removed, Replaced, Refused}
 use Rattle.quick_cache_model.specs.Refusals.{last_ticket, MayRefuse}
 use Rattle.quick_cache_laws.proofs.Examples.Caches.{digit_rules, is, hot_item}
 use Rattle.quick_cache_laws.proofs.Examples.LoadingKeys.{hot_entry}
@@ -53,15 +51,16 @@ a_replaced_entry_is_being_loaded =
 pub an_entry_is_refused_once_tickets_are_spent
     : ActsOnEntry digit_rules (is 1) (record (empty_state 100 97 50)
     { hot = hot_item 1 5 5 2 ∷ []; next_ticket = last_ticket })
-    (hot_item 1 5 5 2) 7 ReplaceWithGuard (Refused TicketsSpent)
+    (hot_item 1 5 5 2) 7 ReplaceWithGuard (Refused Refusal.TicketsSpent)
     (record (empty_state 100 97 50) { hot = hot_item 1 7 7 2 ∷ []; next_ticket = last_ticket })
 an_entry_is_refused_once_tickets_are_spent =
-    ActsOnEntry.refused InHot [] [] TicketsSpent (record { split = refl; passes = refl })
+    ActsOnEntry.refused InHot [] [] Refusal.TicketsSpent (record { split = refl; passes = refl })
     (MayRefuse.tickets_spent tt (lit≤ tt))
 
 -- no replacing call is refused for want of a slot: it has the item's
 pub no_entry_is_refused_for_slots : (old new : CacheState ℕ ℕ)
-    → ActsOnEntry digit_rules (is 1) old (hot_item 1 5 5 2) 5 ReplaceWithGuard (Refused SlotsFull)
+    → ActsOnEntry digit_rules (is 1) old (hot_item 1 5 5 2) 5 ReplaceWithGuard
+    (Refused Refusal.SlotsFull)
     new
     → ⊥
 no_entry_is_refused_for_slots old _
@@ -72,7 +71,7 @@ no_entry_is_refused_for_slots old _
 pub no_entry_is_refused_before_tickets_are_spent : (new : CacheState ℕ ℕ)
     → ActsOnEntry digit_rules (is 1)
     (record (empty_state 100 97 50) { hot = hot_item 1 5 5 2 ∷ []; next_ticket = 7 })
-    (hot_item 1 5 5 2) 5 ReplaceWithGuard (Refused TicketsSpent) new → ⊥
+    (hot_item 1 5 5 2) 5 ReplaceWithGuard (Refused Refusal.TicketsSpent) new → ⊥
 no_entry_is_refused_before_tickets_are_spent _
     (ActsOnEntry.refused place before after _ there (MayRefuse.tickets_spent needs spent)) =
     omega (arith, spent)

@@ -1,26 +1,22 @@
 -- Placeholders: made, met, filled and given up.
-use Rattle.std.proofs.Common.{ℕ, [], ◌∷◌, ◌≡◌, refl, sym, ap, ◌∙◌, lit<, lit≤}
-use Rattle.std.proofs.Common.{◌==◌, ◌/◌, true, false, true≢false, Some, None}
+use Rattle.std.proofs.Common.{ℕ, [], ◌∷◌, ◌≡◌, refl, sym, ap, ◌∙◌, lit<, lit≤, ◌==◌, ◌/◌, true, false, true≢false, Some, None}
 use Rattle.std.proofs.lemmas.Bool.{eqb-true, eq-eqb}
-use Rattle.quick_cache_model.specs.declared.queue.Queue.TheVariants.{Hot, Cold}
+use Rattle.quick_cache_model.specs.declared.queue.Queue.{Queue}
 use Rattle.quick_cache_model.specs.CacheState.{CacheState, LoadingEntry, empty_state}
 use Rattle.quick_cache_model.specs.Hooks.{BeforeEvict, EvictHot, EvictCold}
-use Rattle.quick_cache_model.specs.Eviction.{EvictsToCapacity, AdvancesHot, AdvancesCold}
-use Rattle.quick_cache_model.specs.Eviction.{EvictsVictim}
+use Rattle.quick_cache_model.specs.Eviction.{EvictsToCapacity, AdvancesHot, AdvancesCold, EvictsVictim}
 use Rattle.quick_cache_model.specs.Admission.{ChecksAdmission}
 use Rattle.quick_cache_model.specs.Writes.{Insert, Writes, WritesAdmitted}
-use Rattle.quick_cache_model.specs.Placeholders.{MakesPlaceholder, MeetsPlaceholder}
-use Rattle.quick_cache_model.specs.Placeholders.{GivesUpPlaceholder, FillsPlaceholder, MakesRoomFor}
+use Rattle.quick_cache_model.specs.Placeholders.{MakesPlaceholder, MeetsPlaceholder, GivesUpPlaceholder, FillsPlaceholder, MakesRoomFor}
 use Rattle.quick_cache_laws.specs.Laws.{IsQuery, IsQueryOf}
-use Rattle.quick_cache_laws.proofs.Examples.Caches.{unit_rules, digit_rules, is, hot_item}
-use Rattle.quick_cache_laws.proofs.Examples.Caches.{cold_item, untouched}
+use Rattle.quick_cache_laws.proofs.Examples.Caches.{unit_rules, digit_rules, is, hot_item, cold_item, untouched}
 
 -- the placeholder of a key
 abbrev pub hot_entry : (key ticket : ℕ) → LoadingEntry ℕ
-hot_entry key ticket = record { key = key; queue = Hot; ticket = ticket }
+hot_entry key ticket = record { key = key; queue = Queue.Hot; ticket = ticket }
 
 abbrev pub cold_entry : (key ticket : ℕ) → LoadingEntry ℕ
-cold_entry key ticket = record { key = key; queue = Cold; ticket = ticket }
+cold_entry key ticket = record { key = key; queue = Queue.Cold; ticket = ticket }
 
 -- a key that is not known gets a cold placeholder, which is a miss
 pub an_unknown_key_gets_a_cold_placeholder

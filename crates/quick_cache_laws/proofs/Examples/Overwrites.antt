@@ -2,13 +2,10 @@
 use Rattle.std.proofs.Common.{[], ◌∷◌, refl, lit<, lit≤, true, false, Some, None}
 use Rattle.quick_cache_model.specs.CacheState.{empty_state, InHot, InCold}
 use Rattle.quick_cache_model.specs.Hooks.{BeforeEvict, EvictHot, EvictCold}
-use Rattle.quick_cache_model.specs.Eviction.{EvictsToCapacity, AdvancesHot, AdvancesCold}
-use Rattle.quick_cache_model.specs.Eviction.{EvictsVictim}
+use Rattle.quick_cache_model.specs.Eviction.{EvictsToCapacity, AdvancesHot, AdvancesCold, EvictsVictim}
 use Rattle.quick_cache_model.specs.Admission.{ChecksAdmission}
-use Rattle.quick_cache_model.specs.Writes.{Insert, Replace, SoftReplace, Writes, WritesAdmitted}
-use Rattle.quick_cache_model.specs.Writes.{RejectsTooHeavy, TakesOutItem}
-use Rattle.quick_cache_laws.proofs.Examples.Caches.{unit_rules, digit_rules, is, hot_item}
-use Rattle.quick_cache_laws.proofs.Examples.Caches.{cold_item, untouched}
+use Rattle.quick_cache_model.specs.Writes.{Insert, Replace, SoftReplace, Writes, WritesAdmitted, RejectsTooHeavy, TakesOutItem}
+use Rattle.quick_cache_laws.proofs.Examples.Caches.{unit_rules, digit_rules, is, hot_item, cold_item, untouched}
 
 -- a replace with a pair that is too heavy: the item under the key goes, and the pair comes back
 pub a_replace_too_heavy_takes_the_item_with_it

@@ -2,8 +2,7 @@
 use Rattle.std.proofs.Common.{[], ◌∷◌, refl, lit<, lit≤, None, false}
 use Rattle.quick_cache_model.specs.CacheState.{empty_state}
 use Rattle.quick_cache_model.specs.Hooks.{BeforeEvict, EvictHot}
-use Rattle.quick_cache_model.specs.Eviction.{EvictsToCapacity, EvictsToTarget, AdvancesHot}
-use Rattle.quick_cache_model.specs.Eviction.{AdvancesCold, EvictsVictim}
+use Rattle.quick_cache_model.specs.Eviction.{EvictsToCapacity, EvictsToTarget, AdvancesHot, AdvancesCold, EvictsVictim}
 use Rattle.quick_cache_model.specs.Admission.{ChecksAdmission}
 use Rattle.quick_cache_model.specs.Writes.{Insert, Writes, WritesAdmitted}
 use Rattle.quick_cache_laws.proofs.Examples.Caches.{digit_rules, is, hot_item, cold_item, untouched}

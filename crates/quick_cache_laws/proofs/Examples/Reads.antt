@@ -6,8 +6,7 @@ use Rattle.quick_cache_model.specs.Touches.{ShowsCount}
 use Rattle.quick_cache_model.specs.Eviction.{AdvancesHot, EvictsVictim}
 use Rattle.quick_cache_model.specs.Lookups.{LooksUp, Sees}
 use Rattle.quick_cache_model.specs.Removal.{Removes}
-use Rattle.quick_cache_laws.proofs.Examples.Caches.{unit_rules, is, hot_item}
-use Rattle.quick_cache_laws.proofs.Examples.Caches.{cold_item}
+use Rattle.quick_cache_laws.proofs.Examples.Caches.{unit_rules, is, hot_item, cold_item}
 
 -- a look-up marks its item, counts a read of it, and a hit
 pub a_lookup_marks_and_counts

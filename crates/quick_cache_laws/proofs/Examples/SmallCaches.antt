@@ -2,14 +2,11 @@
 use Rattle.std.proofs.Common.{[], ◌∷◌, refl, lit<, lit≤, None, true}
 use Rattle.quick_cache_model.specs.CacheState.{empty_state}
 use Rattle.quick_cache_model.specs.Hooks.{BeforeEvict, EvictHot, EvictCold}
-use Rattle.quick_cache_model.specs.Eviction.{EvictsToCapacity, AdvancesHot, AdvancesCold}
-use Rattle.quick_cache_model.specs.Eviction.{EvictsVictim}
+use Rattle.quick_cache_model.specs.Eviction.{EvictsToCapacity, AdvancesHot, AdvancesCold, EvictsVictim}
 use Rattle.quick_cache_model.specs.Admission.{ChecksAdmission}
-use Rattle.quick_cache_model.specs.Writes.{Insert, Writes, WritesAdmitted, RejectsTooHeavy}
-use Rattle.quick_cache_model.specs.Writes.{TakesOutItem}
+use Rattle.quick_cache_model.specs.Writes.{Insert, Writes, WritesAdmitted, RejectsTooHeavy, TakesOutItem}
 use Rattle.quick_cache_model.specs.Lookups.{LooksUp}
-use Rattle.quick_cache_laws.proofs.Examples.Caches.{unit_rules, digit_rules, is, hot_item}
-use Rattle.quick_cache_laws.proofs.Examples.Caches.{cold_item, untouched}
+use Rattle.quick_cache_laws.proofs.Examples.Caches.{unit_rules, digit_rules, is, hot_item, cold_item, untouched}
 
 -- an insert into a full cache of capacity 1: the item there is the victim of the first advance,
 -- though it is marked

@@ -1,8 +1,7 @@
 -- Lists of steps: tickets that never return, and sizes that stay.
 use Rattle.std.proofs.Common.{ℕ, ◌==◌, [], ◌∷◌, refl, arith}
 use Rattle.quick_cache_model.specs.CacheState.{empty_state}
-use Rattle.quick_cache_model.specs.Placeholders.{HasNoTicket, MakesPlaceholder}
-use Rattle.quick_cache_model.specs.Placeholders.{GivesUpPlaceholder}
+use Rattle.quick_cache_model.specs.Placeholders.{HasNoTicket, MakesPlaceholder, GivesUpPlaceholder}
 use Rattle.quick_cache_model.specs.Sizes.{IsSized}
 use Rattle.quick_cache_laws.specs.Laws.{IsQueryOf}
 use Rattle.quick_cache_laws.specs.Steps.{Step, Steps}

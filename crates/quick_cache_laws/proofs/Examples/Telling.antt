@@ -1,6 +1,6 @@
 -- How the hooks lead the request state, and what a call is refused for.
 use Rattle.std.proofs.Common.{◌≡◌, ℕ, ◌+◌, ◌^◌, true≢false, ◌-◌, List, [], ◌∷◌, refl, lit≤}
-use Rattle.quick_cache_model.specs.declared.refusal.Refusal.TheVariants.{TicketsSpent, Memory}
+use Rattle.quick_cache_model.specs.declared.refusal.Refusal.{Refusal}
 use Rattle.quick_cache_model.specs.CacheState.{empty_state}
 use Rattle.quick_cache_model.specs.Hooks.{Hooks, RunsHooks, BeforeEvict, EvictHot, EvictCold}
 use Rattle.quick_cache_model.specs.Refusals.{MayRefuse, needs_of_insert, needs_of_placeholder}
@@ -26,7 +26,7 @@ hooks_run_in_the_order_of_their_calls =
 pub spent_tickets_refuse_a_placeholder
     : MayRefuse (needs_of_placeholder (is 1) 1
     (record (empty_state {K = ℕ} {V = ℕ} 5 4 2) { next_ticket = 2 ^ 64 - 1 }))
-    (record (empty_state {K = ℕ} {V = ℕ} 5 4 2) { next_ticket = 2 ^ 64 - 1 }) TicketsSpent
+    (record (empty_state {K = ℕ} {V = ℕ} 5 4 2) { next_ticket = 2 ^ 64 - 1 }) Refusal.TicketsSpent
 spent_tickets_refuse_a_placeholder =
     MayRefuse.tickets_spent (record {
       items = record { hot = tt; cold = tt; still = tt };
@@ -38,6 +38,6 @@ spent_tickets_refuse_a_placeholder =
 pub an_insert_over_an_item_is_not_refused
     : MayRefuse (needs_of_insert (is 1) 1 (record (empty_state 5 4 2)
     { hot = hot_item 1 10 1 0 ∷ [] }))
-    (record (empty_state 5 4 2) { hot = hot_item 1 10 1 0 ∷ [] }) Memory → ⊥
+    (record (empty_state 5 4 2) { hot = hot_item 1 10 1 0 ∷ [] }) Refusal.Memory → ⊥
 an_insert_over_an_item_is_not_refused (MayRefuse.memory_refused provided nothing) =
     true≢false (nothing.keys.items.hot.0)

@@ -2,12 +2,10 @@
 use Rattle.std.proofs.Common.{[], ◌∷◌, refl, lit<, lit≤, None, arith, true≢false}
 use Rattle.quick_cache_model.specs.CacheState.{empty_state}
 use Rattle.quick_cache_model.specs.Hooks.{BeforeEvict, EvictHot}
-use Rattle.quick_cache_model.specs.Eviction.{EvictsToCapacity, EvictsToTarget, AdvancesHot}
-use Rattle.quick_cache_model.specs.Eviction.{AdvancesCold, EvictsVictim, IsFirstVictim}
+use Rattle.quick_cache_model.specs.Eviction.{EvictsToCapacity, EvictsToTarget, AdvancesHot, AdvancesCold, EvictsVictim, IsFirstVictim}
 use Rattle.quick_cache_model.specs.Admission.{ChecksAdmission}
 use Rattle.quick_cache_model.specs.Writes.{Insert, Writes, WritesAdmitted}
-use Rattle.quick_cache_laws.proofs.Examples.Caches.{unit_rules, digit_rules, is, hot_item}
-use Rattle.quick_cache_laws.proofs.Examples.Caches.{cold_item, untouched}
+use Rattle.quick_cache_laws.proofs.Examples.Caches.{unit_rules, digit_rules, is, hot_item, cold_item, untouched}
 
 -- a marked item of the cold ring is promoted, and the unmarked one that was hot before it goes
 pub a_marked_cold_item_pushes_a_hot_one_out

@@ -2,8 +2,7 @@
 use Rattle.std.proofs.Common.{◌≡◌, [], ◌∷◌, refl, lit<, lit≤, true, None}
 use Rattle.quick_cache_model.specs.CacheState.{empty_state, InHot, InStill}
 use Rattle.quick_cache_model.specs.Hooks.{BeforeEvict, EvictHot}
-use Rattle.quick_cache_model.specs.Eviction.{EvictsToCapacity, AdvancesHot, AdvancesCold}
-use Rattle.quick_cache_model.specs.Eviction.{EvictsVictim}
+use Rattle.quick_cache_model.specs.Eviction.{EvictsToCapacity, AdvancesHot, AdvancesCold, EvictsVictim}
 use Rattle.quick_cache_model.specs.Admission.{ChecksAdmission}
 use Rattle.quick_cache_model.specs.Writes.{Insert, Writes, WritesAdmitted}
 use Rattle.quick_cache_model.specs.Removal.{reweighed}

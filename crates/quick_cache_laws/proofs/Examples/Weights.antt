@@ -1,6 +1,5 @@
 -- The weight that a write leaves, and what becomes of a pair that passed its check.
-use Rattle.std.proofs.Common.{◌≡◌, ℕ, List, [], ◌∷◌, refl, sym, lit<, lit≤, arith, None}
-use Rattle.std.proofs.Common.{false, true≢false}
+use Rattle.std.proofs.Common.{◌≡◌, ℕ, List, [], ◌∷◌, refl, sym, lit<, lit≤, arith, None, false, true≢false}
 use Rattle.quick_cache_model.specs.CacheState.{empty_state}
 use Rattle.quick_cache_model.specs.Hooks.{HookCall, BeforeEvict}
 use Rattle.quick_cache_model.specs.Eviction.{EvictsToCapacity, AdvancesHot, AdvancesCold}

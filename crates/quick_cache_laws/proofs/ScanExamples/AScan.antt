@@ -1,6 +1,5 @@
 -- A scan of three inserts, and a look-up behind it, over a cache that was full.
-use Rattle.std.proofs.Common.{◌≡◌, ℕ, Bool, List, [], ◌∷◌, Some, None, refl, lit<, lit≤, true}
-use Rattle.std.proofs.Common.{false, arith, sym}
+use Rattle.std.proofs.Common.{◌≡◌, ℕ, Bool, List, [], ◌∷◌, Some, None, refl, lit<, lit≤, true, false, arith, sym}
 use Rattle.std.proofs.lemmas.Bool.{eqb-true}
 use Rattle.quick_cache_model.specs.Admission.{ChecksAdmission}
 use Rattle.quick_cache_model.specs.CacheState.{CacheState, empty_state, InHot}
@@ -9,16 +8,12 @@ use Rattle.quick_cache_model.specs.Hooks.{HookCall, BeforeEvict, EvictCold}
 use Rattle.quick_cache_model.specs.Lookups.{LooksUp}
 use Rattle.quick_cache_model.specs.Writes.{Writes, WritesAdmitted, Insert as insertion}
 use Rattle.quick_cache_model.specs.declared.calls.call.Call.{Call}
-use Rattle.quick_cache_model.specs.declared.calls.call.Call.TheVariants.{Insert, Get}
 use Rattle.quick_cache_model.specs.declared.calls.reply.Reply.{Reply}
-use Rattle.quick_cache_model.specs.declared.calls.reply.Reply.TheVariants.{Done, Value}
 use Rattle.quick_cache_model.specs.CacheRun.{CacheRun}
 use Rattle.quick_cache_model.specs.CacheStep.{CacheStep}
 use Rattle.quick_cache_model.specs.Shown.{IsItself}
-use Rattle.quick_cache_laws.specs.Scans.{AtEachTurn, IsReadyForScan, IsScanCall, KeepsHot}
-use Rattle.quick_cache_laws.specs.Scans.{ScansRings, IsApart, AreFresh}
-use Rattle.quick_cache_laws.proofs.ScanExamples.Caches.{value_rules, equal, hot_item, cold_item}
-use Rattle.quick_cache_laws.proofs.ScanExamples.Caches.{untouched, in_order}
+use Rattle.quick_cache_laws.specs.Scans.{AtEachTurn, IsReadyForScan, IsScanCall, KeepsHot, ScansRings, IsApart, AreFresh}
+use Rattle.quick_cache_laws.proofs.ScanExamples.Caches.{value_rules, equal, hot_item, cold_item, untouched, in_order}
 use Rattle.quick_cache_laws.proofs.Fresh.{fresh_is_scan}
 use Rattle.quick_cache_laws.proofs.Runs.{rings_at_each_turn, run_keeps_hot}
 
@@ -68,10 +63,10 @@ after_look = record (empty_state 4 2 2) {
 }
 
 abbrev pub calls : List (Call ℕ ℕ (Unit {0}))
-calls = Insert 5 2 ∷ Insert 6 1 ∷ Insert 7 1 ∷ Get 1 ∷ []
+calls = Call.Insert 5 2 ∷ Call.Insert 6 1 ∷ Call.Insert 7 1 ∷ Call.Get 1 ∷ []
 
 abbrev pub replies : List (Reply ℕ ℕ (Unit {0}))
-replies = Done ∷ Done ∷ Done ∷ Value (Some 1) ∷ []
+replies = Reply.Done ∷ Reply.Done ∷ Reply.Done ∷ Reply.Value (Some 1) ∷ []
 
 -- no predicate is asked
 abbrev pub never : Unit {0} → ℕ → ℕ → Bool
@@ -86,7 +81,7 @@ Run = CacheRun value_rules equal IsItself IsItself never before calls replies ho
 
 abbrev pub a_scan : Run
 a_scan =
-    CacheRun.goes_on before after_two after_look (Insert 5 2) Done _ _
+    CacheRun.goes_on before after_two after_look (Call.Insert 5 2) Reply.Done _ _
     (BeforeEvict 3 1 0 ∷ BeforeEvict 4 1 1 ∷ EvictCold 4 1 ∷ []) _
     (CacheStep.inserts 5 2 _ after_two
     (record { ticket = λ none. absurd none; slot = λ _. lit< tt })
@@ -109,7 +104,7 @@ a_scan =
     (AdvancesCold.evicts _ [] (cold_item 4 1 0) [] _ _ (untouched (cold_item 4 1 0 ∷ [])) refl tt
     refl refl (EvictsVictim.leaves 1 (lit< tt)))
     (EvictsToCapacity.has_room _ (lit≤ tt))))))))
-    (CacheRun.goes_on after_two after_one after_look (Insert 6 1) Done _ _
+    (CacheRun.goes_on after_two after_one after_look (Call.Insert 6 1) Reply.Done _ _
     (BeforeEvict 5 2 2 ∷ EvictCold 5 2 ∷ []) _
     (CacheStep.inserts 6 1 _ after_one
     (record { ticket = λ none. absurd none; slot = λ _. lit< tt })
@@ -127,7 +122,7 @@ a_scan =
     (AdvancesCold.evicts _ [] (cold_item 5 2 0) [] _ _ (untouched (cold_item 5 2 0 ∷ [])) refl tt
     refl refl (EvictsVictim.leaves 2 (lit< tt)))
     (EvictsToCapacity.has_room _ (lit≤ tt)))))))
-    (CacheRun.goes_on after_one after_none after_look (Insert 7 1) Done _ _ [] _
+    (CacheRun.goes_on after_one after_none after_look (Call.Insert 7 1) Reply.Done _ _ [] _
     (CacheStep.inserts 7 1 _ after_none
     (record { ticket = λ none. absurd none; slot = λ _. lit< tt })
     (in_order (λ new. Writes value_rules (equal 7) 7 insertion after_one 1 _ None new) after_none
@@ -141,7 +136,7 @@ a_scan =
       ghosts = ((λ same. omega (arith, same)), ((λ same. omega (arith, same)), tt));
     })
     (EvictsToCapacity.has_room _ (lit≤ tt))))))
-    (CacheRun.goes_on after_none after_look after_look (Get 1) (Value (Some 1)) _ _ [] _
+    (CacheRun.goes_on after_none after_look after_look (Call.Get 1) (Reply.Value (Some 1)) _ _ [] _
     (CacheStep.gets 1 (Some 1) (Some 1) after_look
     (in_order (λ new. LooksUp (equal 1) after_none (λ item. item.value) (Some 1) new) after_look
     (LooksUp.hit InHot [] (hot_item 1 1 0) (hot_item 2 1 0 ∷ [])

@@ -3,14 +3,12 @@
 use Rattle.std.proofs.Common.{ℕ, List, [], ◌∷◌, Some, None, refl, lit<, lit≤, ap, arith, true}
 use Rattle.quick_cache_model.specs.Admission.{ChecksAdmission}
 use Rattle.quick_cache_model.specs.CacheState.{CacheState, Item, empty_state, InCold}
-use Rattle.quick_cache_model.specs.Eviction.{EvictsToCapacity, EvictsToTarget, AdvancesCold}
-use Rattle.quick_cache_model.specs.Eviction.{AdvancesHot, EvictsVictim}
+use Rattle.quick_cache_model.specs.Eviction.{EvictsToCapacity, EvictsToTarget, AdvancesCold, AdvancesHot, EvictsVictim}
 use Rattle.quick_cache_model.specs.Hooks.{BeforeEvict, EvictHot}
 use Rattle.quick_cache_model.specs.Lookups.{LooksUp}
 use Rattle.quick_cache_model.specs.Writes.{Writes, WritesAdmitted, Insert as insertion}
 use Rattle.quick_cache_laws.specs.Scans.{KeepsHot}
-use Rattle.quick_cache_laws.proofs.ScanExamples.Caches.{value_rules, equal, hot_item, cold_item}
-use Rattle.quick_cache_laws.proofs.ScanExamples.Caches.{untouched}
+use Rattle.quick_cache_laws.proofs.ScanExamples.Caches.{value_rules, equal, hot_item, cold_item, untouched}
 
 -- the key of the first item
 abbrev pub first_key : List (Item ℕ ℕ) → ℕ

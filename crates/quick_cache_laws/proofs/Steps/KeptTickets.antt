@@ -1,28 +1,21 @@
 -- Through each call the tickets that were given and are gone stay so, and the next one never falls.
-use Rattle.std.proofs.Common.{◌≡◌, ◌≢◌, ℕ, ◌<◌, ◌≤◌, Bool, if◌then◌else◌, List}
-use Rattle.std.proofs.Common.{◌∷◌, ◌++◌, Option, refl, sym, ap, subst, arith}
+use Rattle.std.proofs.Common.{◌≡◌, ◌≢◌, ℕ, ◌<◌, ◌≤◌, Bool, if◌then◌else◌, List, ◌∷◌, ◌++◌, Option, refl, sym, ap, subst, arith}
 use Rattle.std.specs.List.{AllByRecursion}
 use Rattle.quick_cache_model.specs.declared.queue.Queue.{Queue}
-use Rattle.quick_cache_model.specs.declared.queue.Queue.TheVariants.{Hot, Cold}
-use Rattle.quick_cache_model.specs.CacheState.{CacheState, Item, LoadingEntry, Place}
-use Rattle.quick_cache_model.specs.CacheState.{with_items, entered, rewritten, SameButOrder}
+use Rattle.quick_cache_model.specs.CacheState.{CacheState, Item, LoadingEntry, Place, with_items, entered, rewritten, SameButOrder}
 use Rattle.quick_cache_model.specs.Hooks.{Rules, HookCall}
 use Rattle.quick_cache_model.specs.Touches.{first_mark}
 use Rattle.quick_cache_model.specs.Eviction.{EvictsToCapacity}
-use Rattle.quick_cache_model.specs.Writes.{Strategy, new_item, queue_for, WritesAdmitted}
-use Rattle.quick_cache_model.specs.Writes.{TakesOutItem, RejectsTooHeavy, Writes}
-use Rattle.quick_cache_model.specs.Placeholders.{with_placeholder, MakesPlaceholder}
-use Rattle.quick_cache_model.specs.Placeholders.{MeetsPlaceholder, MakesRoomFor, FillsPlaceholder}
+use Rattle.quick_cache_model.specs.Writes.{Strategy, new_item, queue_for, WritesAdmitted, TakesOutItem, RejectsTooHeavy, Writes}
+use Rattle.quick_cache_model.specs.Placeholders.{with_placeholder, MakesPlaceholder, MeetsPlaceholder, MakesRoomFor, FillsPlaceholder}
 use Rattle.quick_cache_model.specs.Placeholders.{GivesUpPlaceholder, HasNoTicket}
 use Rattle.quick_cache_model.specs.Lookups.{looked_up, after_hit, LooksUp}
 use Rattle.quick_cache_model.specs.Removal.{Removes, RemovesIf, weighed, reweighed}
 use Rattle.quick_cache_model.specs.Entries.{EntryChoice, EntryOutcome, ActsOnEntry}
 use Rattle.quick_cache_model.specs.Capacity.{resized, SetsCapacity}
 use Rattle.quick_cache_model.proofs.EvictionKeeps.{EvictsToCapacity-beside}
-use Rattle.quick_cache_model.proofs.EachElement.{all-without, all-push}
-use Rattle.quick_cache_model.proofs.Valid.Places.{IsSameButItems, with_items-same, entered-same}
-use Rattle.quick_cache_model.proofs.Valid.Places.{rewritten-same}
-use Rattle.quick_cache_model.proofs.EachElement.{all-permutation}
+use Rattle.quick_cache_model.proofs.EachElement.{all-without, all-push, all-permutation}
+use Rattle.quick_cache_model.proofs.Valid.Places.{IsSameButItems, with_items-same, entered-same, rewritten-same}
 
 module _ {K V : Type 0} where
   -- the next ticket did not fall, and none that was given and is gone came back
@@ -135,10 +128,10 @@ module _ {K V : Type 0} where
       (old new : CacheState K V) → MakesPlaceholder stands_for old hash key new
       → KeepsTickets old new
   MakesPlaceholder-tickets stands_for hash key old _ (MakesPlaceholder.on_nothing stands nothing) =
-      let same = kept-loaded key Cold old in record { grows = same.grows; gone = same.gone }
+      let same = kept-loaded key Queue.Cold old in record { grows = same.grows; gone = same.gone }
   MakesPlaceholder-tickets stands_for hash key old _
       (MakesPlaceholder.on_ghost before after stands there) =
-      let same = kept-loaded key Hot old in record { grows = same.grows; gone = same.gone }
+      let same = kept-loaded key Queue.Hot old in record { grows = same.grows; gone = same.gone }
 
   -- one that is met
   pub MeetsPlaceholder-tickets : (stands_for : K → Bool) (ticket : ℕ) (old new : CacheState K V)
@@ -232,7 +225,7 @@ module _ {K V : Type 0} where
       WritesAdmitted-tickets strategy old value _ _ _
           (WritesAdmitted.inserts_new mid calls inserts nothing evicts) =
           kept-trans old mid _ (kept-evicted (rules.weight key value) old mid calls evicts)
-          (kept-entered (new_item rules key value (queue_for rules old key value Cold) 0) mid)
+          (kept-entered (new_item rules key value (queue_for rules old key value Queue.Cold) 0) mid)
       WritesAdmitted-tickets strategy old value _ _ _
           (WritesAdmitted.overwrites place before item touched after calls new there takes evicts) =
           kept-trans old _ new (kept-rewritten place before _ after old)
@@ -241,7 +234,8 @@ module _ {K V : Type 0} where
           (WritesAdmitted.inserts_over_ghost before after calls new inserts there evicts) =
           kept-trans old _ new
           (kept-trans old (record old { ghosts = before ++ after }) _ (kept-same old _ refl refl)
-          (kept-entered (new_item rules key value Hot 0) (record old { ghosts = before ++ after })))
+          (kept-entered (new_item rules key value Queue.Hot 0)
+          (record old { ghosts = before ++ after })))
           (kept-evicted 0 _ new calls evicts)
       WritesAdmitted-tickets strategy old value _ _ _
           (WritesAdmitted.inserts_over_loading before entry after calls new inserts there evicts) =

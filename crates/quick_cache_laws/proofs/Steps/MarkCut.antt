@@ -1,17 +1,13 @@
 -- No call changes the greatest mark.
-use Rattle.std.proofs.Common.{◌≡◌, ℕ, Bool, true, false, List, ◌∷◌, ◌++◌, Option, refl, ap, ◌∙◌}
-use Rattle.std.proofs.Common.{if◌then◌else◌, ◌==◌}
-use Rattle.quick_cache_model.specs.declared.queue.Queue.TheVariants.{Hot, Cold}
-use Rattle.quick_cache_model.specs.CacheState.{CacheState, Item, Place, InHot, InCold, InStill}
-use Rattle.quick_cache_model.specs.CacheState.{with_items, place_of_item, entered}
+use Rattle.std.proofs.Common.{◌≡◌, ℕ, Bool, true, false, List, ◌∷◌, ◌++◌, Option, refl, ap, ◌∙◌, if◌then◌else◌, ◌==◌}
+use Rattle.quick_cache_model.specs.declared.queue.Queue.{Queue}
+use Rattle.quick_cache_model.specs.CacheState.{CacheState, Item, Place, InHot, InCold, InStill, with_items, place_of_item, entered}
 use Rattle.quick_cache_model.specs.CacheState.{rewritten, restarted_behind}
 use Rattle.quick_cache_model.specs.Hooks.{Rules, HookCall}
 use Rattle.quick_cache_model.specs.Eviction.{EvictsToCapacity}
-use Rattle.quick_cache_model.specs.Writes.{Strategy, WritesAdmitted, TakesOutItem, RejectsTooHeavy}
+use Rattle.quick_cache_model.specs.Writes.{Strategy, WritesAdmitted, TakesOutItem, RejectsTooHeavy, Writes, new_item, queue_for}
 use Rattle.quick_cache_model.specs.Touches.{first_mark}
-use Rattle.quick_cache_model.specs.Writes.{Writes, new_item, queue_for}
-use Rattle.quick_cache_model.specs.Placeholders.{MakesPlaceholder, MeetsPlaceholder, MakesRoomFor}
-use Rattle.quick_cache_model.specs.Placeholders.{FillsPlaceholder, GivesUpPlaceholder}
+use Rattle.quick_cache_model.specs.Placeholders.{MakesPlaceholder, MeetsPlaceholder, MakesRoomFor, FillsPlaceholder, GivesUpPlaceholder}
 use Rattle.quick_cache_model.specs.Lookups.{LooksUp, looked_up}
 use Rattle.quick_cache_model.specs.Removal.{Removes, RemovesIf, Retains, Drains, reweighed}
 use Rattle.quick_cache_model.specs.Entries.{EntryChoice, EntryOutcome, ActsOnEntry}
@@ -131,7 +127,7 @@ module _ {K V : Type 0} (rules : Rules K V) where
         → KeepsTheCut old new
     WritesAdmitted-cut strategy old value _ _ _
         (WritesAdmitted.inserts_new mid calls inserts nothing evicts) =
-        entered-cut (new_item rules key value (queue_for rules old key value Cold) 0) mid
+        entered-cut (new_item rules key value (queue_for rules old key value Queue.Cold) 0) mid
         ∙ evicted-cut (rules.weight key value) old mid calls evicts
     WritesAdmitted-cut strategy old value _ _ _
         (WritesAdmitted.overwrites place before item touched after calls new there takes evicts) =
@@ -139,7 +135,8 @@ module _ {K V : Type 0} (rules : Rules K V) where
     WritesAdmitted-cut strategy old value _ _ _
         (WritesAdmitted.inserts_over_ghost before after calls new inserts there evicts) =
         evicted-cut 0 _ new calls evicts
-        ∙ entered-cut (new_item rules key value Hot 0) (record old { ghosts = before ++ after })
+        ∙ entered-cut (new_item rules key value Queue.Hot 0)
+        (record old { ghosts = before ++ after })
     WritesAdmitted-cut strategy old value _ _ _
         (WritesAdmitted.inserts_over_loading before entry after calls new inserts there evicts) =
         evicted-cut 0 _ new calls evicts

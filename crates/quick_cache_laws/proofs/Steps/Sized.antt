@@ -3,11 +3,9 @@ use Rattle.std.proofs.Common.{Bool}
 use Rattle.quick_cache_model.specs.CacheState.{CacheState}
 use Rattle.quick_cache_model.specs.Hooks.{Rules}
 use Rattle.quick_cache_model.specs.Sizes.{IsSized}
-use Rattle.quick_cache_model.proofs.KeptSizes.{IsSized-kept, Writes-sizes, MakesPlaceholder-sizes}
-use Rattle.quick_cache_model.proofs.KeptSizes.{MeetsPlaceholder-sizes, FillsPlaceholder-sizes}
-use Rattle.quick_cache_model.proofs.KeptSizes.{GivesUpPlaceholder-sizes, LooksUp-sizes}
-use Rattle.quick_cache_model.proofs.KeptSizes.{Removes-sizes, RemovesIf-sizes, Retains-sizes}
-use Rattle.quick_cache_model.proofs.KeptSizes.{Drains-sizes, ActsOnEntry-sizes, reweighed-sizes}
+use Rattle.quick_cache_model.proofs.KeptSizes.{IsSized-kept, Writes-sizes, MakesPlaceholder-sizes, MeetsPlaceholder-sizes}
+use Rattle.quick_cache_model.proofs.KeptSizes.{FillsPlaceholder-sizes, GivesUpPlaceholder-sizes, LooksUp-sizes, Removes-sizes}
+use Rattle.quick_cache_model.proofs.KeptSizes.{RemovesIf-sizes, Retains-sizes, Drains-sizes, ActsOnEntry-sizes, reweighed-sizes}
 use Rattle.quick_cache_model.proofs.KeptSizes.{SetsCapacity-sized, SameButOrder-sizes}
 use Rattle.quick_cache_laws.specs.Steps.{Step, Steps}
 

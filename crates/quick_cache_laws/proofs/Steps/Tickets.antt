@@ -1,20 +1,15 @@
 -- A ticket that left the placeholders never returns.
-use Rattle.std.proofs.Common.{ℕ, ◌<◌, Bool, List, refl, ap, subst}
-use Rattle.std.proofs.Common.{sym, arith}
+use Rattle.std.proofs.Common.{ℕ, ◌<◌, Bool, List, refl, ap, subst, sym, arith}
 use Rattle.std.specs.List.{AllByRecursion}
 use Rattle.quick_cache_model.specs.CacheState.{CacheState, LoadingEntry, IsValid}
 use Rattle.quick_cache_model.specs.Hooks.{Rules}
 use Rattle.quick_cache_model.specs.Placeholders.{IsLoadingTicket, HasNoTicket}
 use Rattle.quick_cache_laws.specs.Steps.{Step, Steps}
 use Rattle.quick_cache_model.proofs.EachElement.{all-middle}
-use Rattle.quick_cache_laws.proofs.Steps.KeptTickets.{KeepsTickets, kept-same, kept-trans}
-use Rattle.quick_cache_laws.proofs.Steps.KeptTickets.{Writes-tickets, MakesPlaceholder-tickets}
-use Rattle.quick_cache_laws.proofs.Steps.KeptTickets.{MeetsPlaceholder-tickets}
-use Rattle.quick_cache_laws.proofs.Steps.KeptTickets.{FillsPlaceholder-tickets}
-use Rattle.quick_cache_laws.proofs.Steps.KeptTickets.{GivesUpPlaceholder-tickets, LooksUp-tickets}
-use Rattle.quick_cache_laws.proofs.Steps.KeptTickets.{Removes-tickets, RemovesIf-tickets}
-use Rattle.quick_cache_laws.proofs.Steps.KeptTickets.{ActsOnEntry-tickets, reweighed-tickets}
-use Rattle.quick_cache_laws.proofs.Steps.KeptTickets.{SetsCapacity-tickets, SameButOrder-tickets}
+use Rattle.quick_cache_laws.proofs.Steps.KeptTickets.{KeepsTickets, kept-same, kept-trans, Writes-tickets, MakesPlaceholder-tickets}
+use Rattle.quick_cache_laws.proofs.Steps.KeptTickets.{MeetsPlaceholder-tickets, FillsPlaceholder-tickets, GivesUpPlaceholder-tickets}
+use Rattle.quick_cache_laws.proofs.Steps.KeptTickets.{LooksUp-tickets, Removes-tickets, RemovesIf-tickets, ActsOnEntry-tickets}
+use Rattle.quick_cache_laws.proofs.Steps.KeptTickets.{reweighed-tickets, SetsCapacity-tickets, SameButOrder-tickets}
 
 module _ {K V : Type 0} (equal : K → K → Bool) (rules : Rules K V) where
   -- one step

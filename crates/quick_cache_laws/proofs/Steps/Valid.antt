@@ -9,13 +9,10 @@ use Rattle.quick_cache_laws.specs.Steps.{Step, Steps}
 use Rattle.quick_cache_model.proofs.Valid.States.{IsValid-in_place, SetsCapacity-valid}
 use Rattle.quick_cache_model.proofs.Valid.Places.{IsInPlace-marked}
 use Rattle.quick_cache_model.proofs.Valid.Writes.{Writes-valid}
-use Rattle.quick_cache_model.proofs.Valid.Placeholders.{MakesPlaceholder-valid}
-use Rattle.quick_cache_model.proofs.Valid.Placeholders.{MeetsPlaceholder-valid}
-use Rattle.quick_cache_model.proofs.Valid.Placeholders.{FillsPlaceholder-valid}
+use Rattle.quick_cache_model.proofs.Valid.Placeholders.{MakesPlaceholder-valid, MeetsPlaceholder-valid, FillsPlaceholder-valid}
 use Rattle.quick_cache_model.proofs.Valid.Placeholders.{GivesUpPlaceholder-valid}
-use Rattle.quick_cache_model.proofs.Valid.Lookups.{LooksUp-valid, Removes-valid, RemovesIf-valid}
-use Rattle.quick_cache_model.proofs.Valid.Lookups.{Retains-valid, Drains-valid, ActsOnEntry-valid}
-use Rattle.quick_cache_model.proofs.Valid.Lookups.{reweighed-valid}
+use Rattle.quick_cache_model.proofs.Valid.Lookups.{LooksUp-valid, Removes-valid, RemovesIf-valid, Retains-valid, Drains-valid}
+use Rattle.quick_cache_model.proofs.Valid.Lookups.{ActsOnEntry-valid, reweighed-valid}
 use Rattle.quick_cache_model.proofs.Valid.Orders.{SameButOrder-valid}
 
 module _ {K V : Type 0} (equal : K → K → Bool) (laws : IsEquivalence equal)

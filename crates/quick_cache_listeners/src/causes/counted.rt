@@ -1,5 +1,5 @@
 //! Lifecycles that count what leaves, by its cause, and do all else as another one does.
-ghost use Rattle.quick_cache_model.specs.declared.queue.Queue.TheVariants.{Hot, Cold};
+ghost use Rattle.quick_cache_model.specs.declared.queue.Queue.{Queue};
 ghost use Rattle.quick_cache_listeners.specs.Tallies.{ArmsCount, CountsPair};
 
 use crate::causes::cause::Stage;
@@ -34,13 +34,13 @@ impl<K: Eq + Drop, V: Drop, W: Weighter<K, V>, L: Lifecycle<K, V>> Lifecycle<K, 
 
     ghost before_evict_gives = { λ by. ArmsCount (L.before_evict_gives by.1) };
 
-    ghost on_evict_gives = { λ by. CountsPair (L.on_evict_gives by.1) (W.weight_of by.0) Cold };
+    ghost on_evict_gives = { λ by. CountsPair (L.on_evict_gives by.1) (W.weight_of by.0) Queue.Cold };
 
     ghost on_evict_cold_gives = { λ by. CountsPair (L.on_evict_cold_gives by.1) (W.weight_of by.0)
-        Cold };
+        Queue.Cold };
 
     ghost on_evict_hot_gives = { λ by. CountsPair (L.on_evict_hot_gives by.1) (W.weight_of by.0)
-        Hot };
+        Queue.Hot };
 
     ghost keeps_fits = { λ by old key val new left gives. L.keeps_fits by.1 old.state.state key val
         new.state.state left gives.0 };

@@ -1,8 +1,8 @@
 //! A lifecycle made of a listener that is told of each pair that leaves, and why.
 ghost use Rattle.std.specs.Prelude.{◌≡◌};
-ghost use Rattle.quick_cache_model.specs.declared.queue.Queue.TheVariants.{Hot, Cold};
+ghost use Rattle.quick_cache_model.specs.declared.queue.Queue.{Queue};
 ghost use Rattle.quick_cache_listeners.specs.declared.causes.cause.Cause.{Cause};
-ghost use Rattle.quick_cache_listeners.specs.declared.causes.cause.Stage.TheVariants.{Fresh};
+ghost use Rattle.quick_cache_listeners.specs.declared.causes.cause.Stage.{Stage};
 ghost use Rattle.quick_cache_listeners.specs.Requests.{Arms, TellsWhy};
 
 use crate::causes::cause::{Cause, Stage};
@@ -33,7 +33,7 @@ pub struct Request<S> {
 
 impl<S: Default> Default for Request<S> {
     // It begins a call, so that the laws of the causes hold of a call with a state of its own.
-    ghost is_default = { λ request. S.is_default request.state × (request.stage ≡ Fresh) };
+    ghost is_default = { λ request. S.is_default request.state × (request.stage ≡ Stage.Fresh) };
 
     fn default() -> Self {
         Request {
@@ -46,7 +46,7 @@ impl<S: Default> Default for Request<S> {
 impl<S> Request<S> {
     /// Begins a call with this state.
     pub fn with(state: S) -> Self
-        ensures { result ≡ record { state = state; stage = Fresh } }
+        ensures { result ≡ record { state = state; stage = Stage.Fresh } }
     {
         Request {
             state,
@@ -58,7 +58,7 @@ impl<S> Request<S> {
     /// several calls begins each of them so: else the first pair of a call is told as if the last
     /// call went on.
     pub fn begin(&mut self)
-        ensures { self.new ≡ record self.old { stage = Fresh } }
+        ensures { self.new ≡ record self.old { stage = Stage.Fresh } }
     {
         self.stage = Stage::Fresh;
     }
@@ -75,11 +75,11 @@ impl<K: Eq + Drop, V: Drop, L: ListenerWhy<K, V>> Lifecycle<K, V> for OnLeaveWhy
 
     ghost before_evict_gives = { λ _ old _ value new left. Arms old value new left };
 
-    ghost on_evict_gives = { λ told. TellsWhy (L.tells told.0) Cold };
+    ghost on_evict_gives = { λ told. TellsWhy (L.tells told.0) Queue.Cold };
 
-    ghost on_evict_cold_gives = { λ told. TellsWhy (L.tells told.0) Cold };
+    ghost on_evict_cold_gives = { λ told. TellsWhy (L.tells told.0) Queue.Cold };
 
-    ghost on_evict_hot_gives = { λ told. TellsWhy (L.tells told.0) Hot };
+    ghost on_evict_hot_gives = { λ told. TellsWhy (L.tells told.0) Queue.Hot };
 
     ghost keeps_fits = { λ _ _ _ _ _ _ _ fits. fits };
 

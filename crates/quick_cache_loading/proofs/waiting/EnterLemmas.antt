@@ -1,16 +1,14 @@
 -- One who comes to a life that has begun, or to one that goes on.
-use Rattle.std.proofs.Common.{◌≡◌, ◌==◌, ◌⊎◌, ◌&&◌, ◌||◌, not, inl, inr, ℕ, Bool, true, false, true≢false, Result, Ok, Err, None, Some, MatchBool, ap}
+use Rattle.std.proofs.Common.{◌≡◌, ◌==◌, ◌⊎◌, ◌&&◌, ◌||◌, not, inl, inr, ℕ, Bool, true, false, true≢false, Result, Ok, Err, None, Some}
+use Rattle.std.proofs.Common.{MatchBool, ap}
 use Rattle.std.specs.Prelude.{IfErr, ⊤}
-use Rattle.quick_cache_model.specs.declared.refusal.Refusal.TheVariants.{Memory}
+use Rattle.quick_cache_model.specs.declared.refusal.Refusal.{Refusal}
 use Rattle.quick_cache_loading.specs.Core.{Life, Loading, Filled, GivenUp, CoreState, core_state, is_filled, is_handed_to}
 use Rattle.quick_cache_loading.specs.LoadingStep.{Adds, Creates, Joins, LoadingStep, NotNowOf, Receives, TimesOut, Withdraws}
 use Rattle.quick_cache_loading.specs.LoadingLaws.{given_by, shown_by}
-use Rattle.quick_cache_loading.specs.declared.protocol.events.Event.TheVariants.{Create, Join}
+use Rattle.quick_cache_loading.specs.declared.protocol.events.Event.{Event}
 use Rattle.quick_cache_loading.specs.declared.protocol.events.Answer.{Answer}
-use Rattle.quick_cache_loading.specs.declared.protocol.events.Answer.TheVariants.{Created, NotNow, Refused}
-use Rattle.quick_cache_loading.specs.declared.protocol.events.Answer.TheVariants as answer
 use Rattle.quick_cache_loading.specs.declared.waiting.waited.Waited.{Waited}
-use Rattle.quick_cache_loading.specs.declared.waiting.waited.Waited.TheVariants as waited
 use Rattle.quick_cache_loading.specs.Entering.{Enters, TellsNewcomer, TellsOnce}
 use Rattle.quick_cache_loading.specs.Waiters.{IsGuard, IsTold, by_number}
 use Rattle.quick_cache_loading.specs.Waiting.{has, without_waiter}
@@ -18,14 +16,15 @@ use Rattle.quick_cache_loading.specs.declared.waiting.place.Place.{Place}
 
 module _ {V : Type 0} (old : CoreState V) (a : Answer V) (new : CoreState V) where
   -- where a life began, the answer was so
-  pub began : (life : Life V) → Creates life old a new → (given_by a == 1) ≡ true → a ≡ Created
+  pub began : (life : Life V) → Creates life old a new → (given_by a == 1) ≡ true
+      → a ≡ Answer.Created
   began (Loading h ws) step gives = absurd (cc)
   began (Filled v) step gives = absurd (cc)
   began GivenUp step gives = step.0
 
   -- where none began, nothing changed
   pub went_on : (life : Life V) → Creates life old a new → (given_by a == 1) ≡ false
-      → (a ≡ NotNow) × (new ≡ old)
+      → (a ≡ Answer.NotNow) × (new ≡ old)
   went_on (Loading h ws) step gives = step
   went_on (Filled v) step gives = step
   went_on GivenUp step gives = absurd (cc)
@@ -34,60 +33,61 @@ module _ {V : Type 0} (shows : V → V → Type 0) (stands : Bool) (n : ℕ) (is
     (old : CoreState V) where
   -- one who comes to a life that goes on joins, or there is no room for its waker
   pub came : (a : Answer V) (told : Result ℕ (Waited V)) (mid new : CoreState V)
-      → is_over ≡ false → LoadingStep shows old Create NotNow old → mid ≡ old
-      → LoadingStep shows mid (Join n) a new ⊎ ((a ≡ Refused Memory) × (new ≡ mid))
+      → is_over ≡ false → LoadingStep shows old Event.Create Answer.NotNow old → mid ≡ old
+      → LoadingStep shows mid (Event.Join n) a new
+      ⊎ ((a ≡ Answer.Refused Refusal.Memory) × (new ≡ mid))
       → TellsNewcomer stands n a told → Enters shows stands n is_over old told new
   came a told mid new over create same (inl step) tells =
       Enters.joins a told new over create (rw same at step) tells
   came a told mid new over create same (inr refused) tells =
-      let is : told ≡ Err (waited.Refused Memory) = rw refused.0 at tells in
+      let is : told ≡ Err (Waited.Refused Refusal.Memory) = rw refused.0 at tells in
       rw (is, refused.1, same) (Enters.lacks_room over create)
 
 -- ---- one who comes to a life that is not filled is shown no value
 
 -- one is told of no value
 abbrev pub IsUnshown : {V : Type 0} → Waited V → Type 0
-IsUnshown (waited.Value v) = ⊥
+IsUnshown (Waited.Value v) = ⊥
 IsUnshown _ = ⊤
 
 abbrev pub ShowsNone : {V : Type 0} → Result ℕ (Waited V) → Type 0
 ShowsNone told = IfErr told IsUnshown
 
 guard-unshown : {V : Type 0} (told : Waited V) → IsGuard (Some told) → IsUnshown told
-guard-unshown (waited.Guard share) is = tt
-guard-unshown (waited.Value v) is = absurd is
-guard-unshown waited.Timeout is = tt
-guard-unshown waited.Again is = tt
-guard-unshown (waited.Refused why) is = tt
+guard-unshown (Waited.Guard share) is = tt
+guard-unshown (Waited.Value v) is = absurd is
+guard-unshown Waited.Timeout is = tt
+guard-unshown Waited.Again is = tt
+guard-unshown (Waited.Refused why) is = tt
 
 module _ {V : Type 0} (shows : V → V → Type 0) (stands : Bool) (n : ℕ) where
   newcomer-unshown : (a : Answer V) (told : Result ℕ (Waited V)) → shown_by a ≡ None
       → TellsNewcomer stands n a told → ShowsNone told
-  newcomer-unshown answer.Joined told none tells = rw tells tt
-  newcomer-unshown (answer.Value v) told none tells = absurd (cc)
-  newcomer-unshown (answer.Refused why) told none tells = rw tells tt
-  newcomer-unshown answer.Created told none tells = rw tells tt
-  newcomer-unshown answer.Guard told none tells = rw tells tt
-  newcomer-unshown answer.Waiting told none tells = rw tells tt
-  newcomer-unshown answer.TimedOut told none tells = rw tells tt
-  newcomer-unshown (answer.HandedTo m) told none tells = rw tells tt
-  newcomer-unshown answer.GivenUp told none tells = rw tells tt
-  newcomer-unshown answer.Done told none tells = rw tells tt
-  newcomer-unshown answer.NotNow told none tells = rw tells tt
+  newcomer-unshown Answer.Joined told none tells = rw tells tt
+  newcomer-unshown (Answer.Value v) told none tells = absurd (cc)
+  newcomer-unshown (Answer.Refused why) told none tells = rw tells tt
+  newcomer-unshown Answer.Created told none tells = rw tells tt
+  newcomer-unshown Answer.Guard told none tells = rw tells tt
+  newcomer-unshown Answer.Waiting told none tells = rw tells tt
+  newcomer-unshown Answer.TimedOut told none tells = rw tells tt
+  newcomer-unshown (Answer.HandedTo m) told none tells = rw tells tt
+  newcomer-unshown Answer.GivenUp told none tells = rw tells tt
+  newcomer-unshown Answer.Done told none tells = rw tells tt
+  newcomer-unshown Answer.NotNow told none tells = rw tells tt
 
   once-unshown : (a : Answer V) (told : Waited V) → shown_by a ≡ None
       → TellsOnce stands a told → IsUnshown told
-  once-unshown answer.Joined told none tells = rw tells tt
-  once-unshown (answer.Value v) told none tells = absurd (cc)
-  once-unshown (answer.Refused why) told none tells = rw tells tt
-  once-unshown answer.Created told none tells = guard-unshown told tells
-  once-unshown answer.Guard told none tells = guard-unshown told tells
-  once-unshown answer.Waiting told none tells = rw tells tt
-  once-unshown answer.TimedOut told none tells = rw tells tt
-  once-unshown (answer.HandedTo m) told none tells = rw tells tt
-  once-unshown answer.GivenUp told none tells = rw tells tt
-  once-unshown answer.Done told none tells = rw tells tt
-  once-unshown answer.NotNow told none tells = rw tells tt
+  once-unshown Answer.Joined told none tells = rw tells tt
+  once-unshown (Answer.Value v) told none tells = absurd (cc)
+  once-unshown (Answer.Refused why) told none tells = rw tells tt
+  once-unshown Answer.Created told none tells = guard-unshown told tells
+  once-unshown Answer.Guard told none tells = guard-unshown told tells
+  once-unshown Answer.Waiting told none tells = rw tells tt
+  once-unshown Answer.TimedOut told none tells = rw tells tt
+  once-unshown (Answer.HandedTo m) told none tells = rw tells tt
+  once-unshown Answer.GivenUp told none tells = rw tells tt
+  once-unshown Answer.Done told none tells = rw tells tt
+  once-unshown Answer.NotNow told none tells = rw tells tt
 
   joined-unshown : (life : Life V) (old : CoreState V) (a : Answer V) (new : CoreState V)
       → is_filled life ≡ false → Joins shows life n old a new → shown_by a ≡ None
@@ -107,14 +107,14 @@ module _ {V : Type 0} (shows : V → V → Type 0) (stands : Bool) (n : ℕ) whe
   looked-unshown (Loading holder waiters) old a new unfilled step =
       handed (is_handed_to holder n) step
     where
-      waited : (b : Bool) → MatchBool b ((a ≡ answer.TimedOut)
+      waited : (b : Bool) → MatchBool b ((a ≡ Answer.TimedOut)
           × (new ≡ core_state (Loading holder (without_waiter n waiters)) old.in_shard))
           (NotNowOf old a new) → shown_by a ≡ None
       waited true out = ap shown_by out.0
       waited false later = ap shown_by later.0
 
       handed : (b : Bool) → MatchBool b (Receives waiters old a new)
-          (Withdraws answer.TimedOut holder waiters n old a new) → shown_by a ≡ None
+          (Withdraws Answer.TimedOut holder waiters n old a new) → shown_by a ≡ None
       handed true comes = ap shown_by comes.0
       handed false leaves = waited (has n waiters) leaves
   looked-unshown (Filled v) old a new unfilled step = absurd (true≢false unfilled)
@@ -137,8 +137,8 @@ pub told-unshown : {V : Type 0} (P : V → Type 0) (ticket : ℕ) (told : Result
     → ShowsNone (by_number told) → IfErr told (IsTold ticket P)
     → IfErr told (IsTold ticket (λ v. ⊥))
 told-unshown P ticket (Ok place) none told = tt
-told-unshown P ticket (Err (waited.Value v)) none told = absurd none
-told-unshown P ticket (Err (waited.Guard share)) none told = told
-told-unshown P ticket (Err (waited.Refused why)) none told = told
-told-unshown P ticket (Err waited.Timeout) none told = tt
-told-unshown P ticket (Err waited.Again) none told = tt
+told-unshown P ticket (Err (Waited.Value v)) none told = absurd none
+told-unshown P ticket (Err (Waited.Guard share)) none told = told
+told-unshown P ticket (Err (Waited.Refused why)) none told = told
+told-unshown P ticket (Err Waited.Timeout) none told = tt
+told-unshown P ticket (Err Waited.Again) none told = tt

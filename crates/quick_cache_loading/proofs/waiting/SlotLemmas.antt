@@ -1,5 +1,6 @@
 -- Each who waits has a slot, whatever happens, and all numbers are below the next one's.
-use Rattle.std.proofs.Common.{◌≡◌, ◌==◌, ◌<◌, ◌+◌, ◌&&◌, ◌||◌, ◌⊎◌, not, inl, inr, ℕ, Bool, true, false, List, [], ◌∷◌, ◌++◌, None, Some, MatchBool, All, refl, sym, ◌∙◌, ap, cond, arith}
+use Rattle.std.proofs.Common.{◌≡◌, ◌==◌, ◌<◌, ◌+◌, ◌&&◌, ◌||◌, ◌⊎◌, not, inl, inr, ℕ, Bool, true, false, List, [], ◌∷◌, ◌++◌, None, Some}
+use Rattle.std.proofs.Common.{MatchBool, All, refl, sym, ◌∙◌, ap, cond, arith}
 use Rattle.std.proofs.lemmas.Bool.Decides.{nat_tests}
 use Rattle.std.proofs.lemmas.List.{map-append}
 use Rattle.std.proofs.lemmas.List.Elements.{All-nil, All-cons, All-head, All-tail, All-push, All-pop, All-filter, All-weaker}
@@ -9,17 +10,17 @@ use Rattle.std.specs.List.{position, position_from}
 use Rattle.quick_cache_loading.proofs.BoolLemmas.{both, not-true, same-number}
 use Rattle.quick_cache_loading.proofs.WaiterLists.{is_distinct-push}
 use Rattle.quick_cache_loading.proofs.waiting.WithdrawalLemmas.{handed-absent}
-use Rattle.quick_cache_model.specs.declared.refusal.Refusal.TheVariants.{Memory}
+use Rattle.quick_cache_model.specs.declared.refusal.Refusal.{Refusal}
 use Rattle.quick_cache_loading.specs.Waiting.{has, without_waiter, is_distinct}
-use Rattle.quick_cache_loading.specs.Core.{Life, Loading, Filled, GivenUp, CoreState, core_state, is_handed_to, is_sound, numbers_in, waiters_of}
-use Rattle.quick_cache_loading.specs.LoadingStep.{Abandons, Adds, Cancels, Joins, NotNowOf, PassesOn, Receives, Remains, Shows, Takes, TimesOut, Withdraws}
+use Rattle.quick_cache_loading.specs.Core.{Life, Loading, Filled, GivenUp, CoreState, core_state, is_handed_to, is_sound, numbers_in}
+use Rattle.quick_cache_loading.specs.Core.{waiters_of}
+use Rattle.quick_cache_loading.specs.LoadingStep.{Abandons, Adds, Cancels, Joins, NotNowOf, PassesOn, Receives, Remains, Shows, Takes}
+use Rattle.quick_cache_loading.specs.LoadingStep.{TimesOut, Withdraws}
 use Rattle.quick_cache_loading.specs.Tasks.{has_slot, numbers_of, slots_after, slots_of_others, with_slot}
 use Rattle.quick_cache_loading.specs.Waiters.{HaveSlots}
 use Rattle.quick_cache_loading.specs.declared.waiting.tasks.Slot.{Slot}
 use Rattle.quick_cache_loading.specs.declared.protocol.life.Holder.{Holder}
-use Rattle.quick_cache_loading.specs.declared.protocol.life.Holder.TheVariants.{Held, HandedTo}
 use Rattle.quick_cache_loading.specs.declared.protocol.events.Answer.{Answer}
-use Rattle.quick_cache_loading.specs.declared.protocol.events.Answer.TheVariants as answer
 
 -- ---- lists of numbers and of slots
 
@@ -94,17 +95,18 @@ no-slot n slots none =
 -- ---- answers that differ
 
 module _ {V : Type 0} where
-  no-refused : (a : Answer V) → a ≡ answer.Joined → a ≡ answer.Refused Memory → ⊥
+  no-refused : (a : Answer V) → a ≡ Answer.Joined → a ≡ Answer.Refused Refusal.Memory → ⊥
   no-refused a did e = absurd (cc)
 
-  no-join : (a : Answer V) → a ≡ answer.Joined → a ≡ answer.NotNow → ⊥
+  no-join : (a : Answer V) → a ≡ Answer.Joined → a ≡ Answer.NotNow → ⊥
   no-join a did e = absurd (cc)
 
   -- one that is shown a value does not join
   shows-no_join : (shows : V → V → Type 0) (v : V) (old : CoreState V) (a : Answer V)
-      (new : CoreState V) → Shows shows v old a new → a ≡ answer.Joined → ⊥
+      (new : CoreState V) → Shows shows v old a new → a ≡ Answer.Joined → ⊥
   shows-no_join shows v old a new step did = by_cases step.0 where
-    by_cases : ((w : V) × shows v w × (a ≡ answer.Value w)) ⊎ (a ≡ answer.Refused Memory) → ⊥
+    by_cases : ((w : V) × shows v w × (a ≡ Answer.Value w)) ⊎ (a ≡ Answer.Refused Refusal.Memory)
+        → ⊥
     by_cases (inl shown) = let is = shown.2 in absurd (cc)
     by_cases (inr is) = absurd (cc)
 
@@ -113,15 +115,15 @@ module _ {V : Type 0} where
 module _ (V : Type 0) (next : ℕ) where
   waiters-below : (h : Holder) (ws : List ℕ)
       → All (λ n. n < next) (numbers_in {V = V} (Loading h ws)) → All (λ n. n < next) ws
-  waiters-below Held ws below = below
-  waiters-below (HandedTo m) ws below = All-tail (λ n. n < next) m ws below
+  waiters-below Holder.Held ws below = below
+  waiters-below (Holder.HandedTo m) ws below = All-tail (λ n. n < next) m ws below
 
   -- those who are left are below it, too
   left-below : (h : Holder) (n : ℕ) (ws : List ℕ)
       → All (λ n. n < next) (numbers_in {V = V} (Loading h ws))
       → All (λ n. n < next) (numbers_in {V = V} (Loading h (without_waiter n ws)))
-  left-below Held n ws below = All-filter (λ m. not (m == n)) (λ n. n < next) ws below
-  left-below (HandedTo m) n ws below =
+  left-below Holder.Held n ws below = All-filter (λ m. not (m == n)) (λ n. n < next) ws below
+  left-below (Holder.HandedTo m) n ws below =
       All-cons (λ n. n < next) m _ (All-head (λ n. n < next) m ws below)
       (All-filter (λ m. not (m == n)) (λ n. n < next) ws
       (All-tail (λ n. n < next) m ws below))
@@ -149,7 +151,7 @@ module _ {V : Type 0} (next : ℕ) where
 
   module _ (slots : List Slot) (old : CoreState V) (a : Answer V) (new : CoreState V) where
     -- who joins has the last slot
-    pub joined : (shows : V → V → Type 0) (life : Life V) → a ≡ answer.Joined
+    pub joined : (shows : V → V → Type 0) (life : Life V) → a ≡ Answer.Joined
         → Joins shows life next old a new → HaveSlots slots next life
         → HaveSlots (with_slot next slots) (next + 1) new.life
     joined shows (Loading h ws) did step have =
@@ -157,10 +159,10 @@ module _ {V : Type 0} (next : ℕ) where
       where
         below : (h : Holder) → All (λ n. n < next) (numbers_in {V = V} (Loading h ws))
             → All (λ n. n < next + 1) (numbers_in {V = V} (Loading h (ws ++ next ∷ [])))
-        below Held all =
+        below Holder.Held all =
             All-push (λ n. n < next + 1) ws next (All-weaker (λ n. n < next) (λ n. n < next + 1)
             (λ n less. omega arith) ws all) (omega arith)
-        below (HandedTo m) all =
+        below (Holder.HandedTo m) all =
             All-push (λ n. n < next + 1) (m ∷ ws) next
             (All-weaker (λ n. n < next) (λ n. n < next + 1) (λ n less. omega arith) (m ∷ ws) all)
             (omega arith)
@@ -182,7 +184,7 @@ module _ {V : Type 0} (next : ℕ) where
     joined shows GivenUp did step have = absurd (no-join a did step.0)
 
     -- who does not join changes nothing
-    pub not-joined : (shows : V → V → Type 0) (life : Life V) → (a ≡ answer.Joined → ⊥)
+    pub not-joined : (shows : V → V → Type 0) (life : Life V) → (a ≡ Answer.Joined → ⊥)
         → Joins shows life next old a new → new ≡ old
     not-joined shows (Loading h ws) other step =
         go (old.in_shard && not (is_handed_to h next || has next ws)) step
@@ -201,7 +203,7 @@ module _ {V : Type 0} (next : ℕ) where
     pub taken : (shows : V → V → Type 0) (n : ℕ) (life : Life V) → old.life ≡ life
         → Takes shows life n old a new → HaveSlots slots next life → HaveSlots slots next new.life
     taken shows n (Loading h ws) is step have = go (is_handed_to h n) step where
-      waits : (b : Bool) → MatchBool b ((a ≡ answer.Waiting) × (new ≡ old)) (NotNowOf old a new)
+      waits : (b : Bool) → MatchBool b ((a ≡ Answer.Waiting) × (new ≡ old)) (NotNowOf old a new)
           → HaveSlots slots next new.life
       waits true on = rw (on.1, is) have
       waits false later = rw (later.1, is) have
@@ -226,7 +228,7 @@ module _ {V : Type 0} (next : ℕ) where
         → HaveSlots (slots_of_others n slots) next new.life
     timed_out shows n (Loading h ws) is sound step have = go (is_handed_to h n) refl step where
       left : (b : Bool) → has n ws ≡ b → MatchBool b
-          ((a ≡ answer.TimedOut)
+          ((a ≡ Answer.TimedOut)
           × (new ≡ core_state (Loading h (without_waiter n ws)) old.in_shard))
           (NotNowOf old a new) → HaveSlots (slots_of_others n slots) next new.life
       left true there out = rw out.1 (record {
@@ -236,7 +238,7 @@ module _ {V : Type 0} (next : ℕ) where
       left false absent later = rw (later.1, is) (unseated n _ absent have)
 
       go : (b : Bool) → is_handed_to h n ≡ b → MatchBool b (Receives ws old a new)
-          (Withdraws answer.TimedOut h ws n old a new)
+          (Withdraws Answer.TimedOut h ws n old a new)
           → HaveSlots (slots_of_others n slots) next new.life
       go true handed gets = rw gets.1 (record {
         each = gone n slots ws have.each (handed-absent h ws n sound handed);
@@ -268,14 +270,14 @@ module _ {V : Type 0} (next : ℕ) where
     -- no number is twice in the list of a life that can be
     distinct : (h : Holder) (ws : List ℕ) → is_sound {V = V} (Loading h ws) ≡ true
         → is_distinct ws ≡ true
-    distinct Held ws sound = sound
-    distinct (HandedTo m) ws sound = (both (not (has m ws)) (is_distinct ws) sound).1
+    distinct Holder.Held ws sound = sound
+    distinct (Holder.HandedTo m) ws sound = (both (not (has m ws)) (is_distinct ws) sound).1
 
     pub abandoned : (life : Life V) → old.life ≡ life → is_sound life ≡ true
         → Abandons life old a new → HaveSlots slots next life
         → HaveSlots (slots_after a slots) next new.life
-    abandoned (Loading Held ws) is sound step have = passed Held ws sound step have
-    abandoned (Loading (HandedTo m) ws) is sound step have = rw (step.0, step.1, is) have
+    abandoned (Loading Holder.Held ws) is sound step have = passed Holder.Held ws sound step have
+    abandoned (Loading (Holder.HandedTo m) ws) is sound step have = rw (step.0, step.1, is) have
     abandoned (Filled v) is sound step have = rw (step.0, step.1, is) have
     abandoned GivenUp is sound step have = rw (step.0, step.1, is) have
 
@@ -286,7 +288,7 @@ module _ {V : Type 0} (next : ℕ) where
         → HaveSlots (slots_after a (slots_of_others n slots)) next new.life
     cancelled n (Loading h ws) is sound step have = go (is_handed_to h n) refl step where
       left : (b : Bool) → has n ws ≡ b → MatchBool b
-          ((a ≡ answer.Done) × (new ≡ core_state (Loading h (without_waiter n ws)) old.in_shard))
+          ((a ≡ Answer.Done) × (new ≡ core_state (Loading h (without_waiter n ws)) old.in_shard))
           (NotNowOf old a new) → HaveSlots (slots_after a (slots_of_others n slots)) next new.life
       left true there out = rw (out.0, out.1) (record {
         each = numbers-others n slots ∙ ap (λ xs. without_waiter n xs) have.each;
@@ -296,7 +298,7 @@ module _ {V : Type 0} (next : ℕ) where
           rw (later.0, later.1, is) (unseated slots old a new n _ absent have)
 
       go : (b : Bool) → is_handed_to h n ≡ b → MatchBool b (PassesOn ws old a new)
-          (Withdraws answer.Done h ws n old a new)
+          (Withdraws Answer.Done h ws n old a new)
           → HaveSlots (slots_after a (slots_of_others n slots)) next new.life
       go true handed on =
           let absent = handed-absent h ws n sound handed in

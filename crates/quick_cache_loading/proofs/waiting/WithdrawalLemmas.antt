@@ -1,13 +1,12 @@
 -- One who withdraws waits no more.
-use Rattle.std.proofs.Common.{◌≡◌, ℕ, ◌==◌, Bool, true, false, not, ◌&&◌, ◌||◌, List, [], ◌∷◌, ◌++◌, inl, inr, refl, sym, cond, arith, MatchBool}
+use Rattle.std.proofs.Common.{◌≡◌, ℕ, ◌==◌, Bool, true, false, not, ◌&&◌, ◌||◌, List, [], ◌∷◌, ◌++◌, inl, inr, refl, sym, cond, arith}
+use Rattle.std.proofs.Common.{MatchBool}
 use Rattle.std.proofs.lemmas.Bool.Decides.{nat_tests}
 use Rattle.quick_cache_loading.specs.Waiting.{has, without_waiter, is_distinct}
 use Rattle.quick_cache_loading.specs.Core.{Life, Loading, Filled, GivenUp, CoreState, core_state, is_handed_to, is_sound, waits}
 use Rattle.quick_cache_loading.specs.LoadingStep.{Cancels, PassesOn, Withdraws}
 use Rattle.quick_cache_loading.specs.declared.protocol.life.Holder.{Holder}
-use Rattle.quick_cache_loading.specs.declared.protocol.life.Holder.TheVariants.{Held, HandedTo}
 use Rattle.quick_cache_loading.specs.declared.protocol.events.Answer.{Answer}
-use Rattle.quick_cache_loading.specs.declared.protocol.events.Answer.TheVariants as answer
 
 -- one that is taken out of a list is not in it
 has-without_itself : (n : ℕ) (ws : List ℕ) → has n (without_waiter n ws) ≡ false
@@ -30,8 +29,8 @@ has-front n m (w ∷ ws) absent = by_cases (w == n) absent (has-front n m ws) wh
 -- the one to whom the guard was handed is not among those who wait
 pub handed-absent : (h : Holder) (ws : List ℕ) (n : ℕ)
     → is_sound {V = Unit {0}} (Loading h ws) ≡ true → is_handed_to h n ≡ true → has n ws ≡ false
-handed-absent Held ws n sound handed = absurd (cc)
-handed-absent (HandedTo m) ws n sound handed =
+handed-absent Holder.Held ws n sound handed = absurd (cc)
+handed-absent (Holder.HandedTo m) ws n sound handed =
     let same : m ≡ n = grind (arith, nat_tests) in
     rw (sym same) (by_cases (has m ws) (is_distinct ws) sound) where
       by_cases : (a b : Bool) → (not a && b) ≡ true → a ≡ false
@@ -42,7 +41,7 @@ module _ {V : Type 0} where
   withdrawn-loading : (h : Holder) (ws : List ℕ) (n : ℕ) (old : CoreState V) (a : Answer V)
       (new : CoreState V) → old.life ≡ Loading h ws → is_sound {V = V} (Loading h ws) ≡ true
       → (b : Bool) → is_handed_to h n ≡ b
-      → MatchBool b (PassesOn ws old a new) (Withdraws answer.Done h ws n old a new)
+      → MatchBool b (PassesOn ws old a new) (Withdraws Answer.Done h ws n old a new)
       → waits n new ≡ false
   withdrawn-loading h ws n old a new life sound true handed (inl ended) = rw ended.2 refl
   withdrawn-loading h ws n old a new life sound true handed (inr on) =
@@ -52,8 +51,8 @@ module _ {V : Type 0} where
       by_cases (has n ws) refl steps where
         by_cases : (b : Bool) → has n ws ≡ b
             → MatchBool b
-            ((a ≡ answer.Done) × (new ≡ core_state (Loading h (without_waiter n ws)) old.in_shard))
-            ((a ≡ answer.NotNow) × (new ≡ old))
+            ((a ≡ Answer.Done) × (new ≡ core_state (Loading h (without_waiter n ws)) old.in_shard))
+            ((a ≡ Answer.NotNow) × (new ≡ old))
             → waits n new ≡ false
         by_cases true there left = rw left.1 (has-without_itself n ws)
         by_cases false there none = rw (none.1, life) there

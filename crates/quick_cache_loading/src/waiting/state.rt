@@ -1,5 +1,6 @@
 //! The state of a placeholder, as its lock keeps it.
-ghost use Rattle.std.specs.Prelude.{◌≡◌, ◌≢◌, ◌==◌, true, false, MatchOption, MatchResult, not, length, Some, None, [], IfSome, IfNone, is_some};
+ghost use Rattle.std.specs.Prelude.{◌≡◌, ◌≢◌, ◌==◌, true, false, MatchOption, MatchResult, not, length, Some, None, [], IfSome, IfNone};
+ghost use Rattle.std.specs.Prelude.{is_some};
 ghost use Rattle.quick_cache_loading.specs.Core.{new_core, is_filled, is_sound, waiters_of, waits};
 ghost use Rattle.quick_cache_loading.specs.LoadingStep.{LoadingStep};
 ghost use Rattle.quick_cache_loading.specs.LoadingLaws.{ShowsNothing};

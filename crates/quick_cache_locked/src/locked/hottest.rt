@@ -1,7 +1,6 @@
 //! The hottest items of a shard behind its lock, by rings and marks.
 ghost use Rattle.std.specs.Prelude.{◌≡◌, ◌≤◌, ◌++◌, ℕ, vec_len, take, map, IfOk, IfErr, OnOk};
 ghost use Rattle.std.specs.List.{AppendsClones};
-ghost use Rattle.quick_cache_model.specs.declared.refusal.Refusal.TheVariants.{Memory};
 ghost use Rattle.quick_cache_shard.specs.Shard.{shown};
 ghost use Rattle.quick_cache_locked.specs.Hottest.{IsHeatedClone, by_heat, by_mark, pairs_read, ring_of, with_mark};
 ghost use Rattle.quick_cache_locked.specs.Locked.{IsKept};
@@ -31,7 +30,7 @@ impl<
     ) -> Result<(), Refusal>
         ensures shows { OnOk result (AppendsClones (IsHeatedClone K.is_clone V.is_clone)
             list.old.items list.new.items (take count (by_heat self.now.state))) }
-        ensures refused { IfErr result (λ refusal. refusal ≡ Memory) }
+        ensures refused { IfErr result (λ refusal. refusal ≡ Refusal.Memory) }
         ensures kept { IsKept L.Lifecycle K.eq self.now }
     {
         self.facts();
@@ -60,7 +59,7 @@ impl<
     ) -> Result<Vec<Heated<&K, &V>, O>, Refusal>
         ensures shows { IfOk result (λ list.
             pairs_read list.items ≡ take count (by_heat self.now.state)) }
-        ensures refused { IfErr result (λ refusal. refusal ≡ Memory) }
+        ensures refused { IfErr result (λ refusal. refusal ≡ Refusal.Memory) }
     {
         let mut list = Vec::new(alloc);
         self.add_ring(&mut list, count, Queue::Hot)?;
@@ -79,7 +78,7 @@ impl<
         ensures adds { OnOk result (pairs_read list.new.items ≡ take count
             (pairs_read list.old.items ++ by_mark queue (map shown (ring_of self.now.state queue)))) }
         ensures within { OnOk result (vec_len list.new ≤ count) }
-        ensures refused { IfErr result (λ refusal. refusal ≡ Memory) }
+        ensures refused { IfErr result (λ refusal. refusal ≡ Refusal.Memory) }
     {
         add_marked(list, count, queue, 3, self.ring(queue))?;
         add_marked(list, count, queue, 2, self.ring(queue))?;
@@ -111,7 +110,7 @@ fn add_marked<'a, K: Eq + Hash, V, P: AnyPlaceholder<K>, A: Allocator, O: Alloca
     ensures adds { OnOk result (pairs_read list.new.items
         ≡ take count (pairs_read list.old.items ++ with_mark queue mark ring.entry)) }
     ensures within { OnOk result (vec_len list.new ≤ count) }
-    ensures refused { IfErr result (λ refusal. refusal ≡ Memory) }
+    ensures refused { IfErr result (λ refusal. refusal ≡ Refusal.Memory) }
 {
     while let Some((key, value, found)) = ring.next() {
         if found == mark {
@@ -139,7 +138,7 @@ fn add_clones<K: Clone, V: Clone, O: Allocator>(
 ) -> Result<(), Refusal>
     ensures adds { OnOk result (AppendsClones (IsHeatedClone K.is_clone V.is_clone)
         list.old.items list.new.items (pairs_read shown.now)) }
-    ensures refused { IfErr result (λ refusal. refusal ≡ Memory) }
+    ensures refused { IfErr result (λ refusal. refusal ≡ Refusal.Memory) }
 {
     for item in shown {
         let Ok(key) = item.key.clone() else {

@@ -1,7 +1,6 @@
 //! The items of a shard behind its lock as they are saved, and pairs that come back.
 ghost use Rattle.std.specs.Prelude.{◌≡◌, map, IfErr, OnOk};
 ghost use Rattle.std.specs.List.{AppendsClones};
-ghost use Rattle.quick_cache_model.specs.declared.refusal.Refusal.TheVariants.{Memory};
 ghost use Rattle.quick_cache_shard.specs.Shard.{KeepsPlaces, KeepsTerms};
 ghost use Rattle.quick_cache_shard.specs.Steps.{RestoresBy};
 ghost use Rattle.quick_cache_locked.specs.Hottest.{IsHeatedClone};
@@ -28,7 +27,7 @@ impl<
     pub fn show_saved<O: Allocator>(&self, list: &mut Vec<Heated<K, V>, O>) -> Result<(), Refusal>
         ensures shows { OnOk result (AppendsSaved K.is_clone V.is_clone self.now.state
             list.old.items list.new.items) }
-        ensures refused { IfErr result (λ refusal. refusal ≡ Memory) }
+        ensures refused { IfErr result (λ refusal. refusal ≡ Refusal.Memory) }
         ensures kept { IsKept L.Lifecycle K.eq self.now }
     {
         self.facts();
@@ -73,7 +72,7 @@ fn add_saved<K: Eq + Hash + Clone, V: Clone, P: SharedPlaceholder<K>, A: Allocat
 ) -> Result<(), Refusal>
     ensures adds { OnOk result (AppendsClones (IsHeatedClone K.is_clone V.is_clone)
         list.old.items list.new.items (map heated_saved saved.entry)) }
-    ensures refused { IfErr result (λ refusal. refusal ≡ Memory) }
+    ensures refused { IfErr result (λ refusal. refusal ≡ Refusal.Memory) }
 {
     while let Some((key, value, queue, mark)) = saved.next() {
         let Ok(key) = key.clone() else {

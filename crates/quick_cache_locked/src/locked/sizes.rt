@@ -1,6 +1,5 @@
 //! Room in a shard behind its lock.
 ghost use Rattle.std.specs.Prelude.{◌≡◌, ◌-◌, ◌≤◌, ◌+◌, IfErr, OnOk, min, max};
-ghost use Rattle.quick_cache_model.specs.declared.refusal.Refusal.TheVariants.{Memory};
 ghost use Rattle.quick_cache_model.specs.Refusals.{slots_taken, slot_count};
 ghost use Rattle.quick_cache_shard.specs.Room.{most_room};
 ghost use Rattle.quick_cache_locked.specs.Locked.{IsKept};
@@ -24,7 +23,7 @@ impl<
             ≤ self.new.room) }
         ensures at_most { self.new.room ≤ max self.old.room (most_room
             (slots_taken self.old.state) (additional + min additional self.old.state.ghost_limit)) }
-        ensures refused { IfErr result (λ refusal. refusal ≡ Memory) }
+        ensures refused { IfErr result (λ refusal. refusal ≡ Refusal.Memory) }
         ensures same { self.new ≡ record self.old { room = self.new.room } }
         ensures kept { IsKept L.Lifecycle K.eq self.old }
     {

@@ -8,7 +8,7 @@ ghost use Rattle.quick_cache_shard.specs.Steps.{InsertsBy, ReplacesBy, SetsCapac
 
 use crate::locked::LockedShard;
 use quick_cache_model::{Lifecycle, Refusal, Weighter};
-use quick_cache_shard::{Going, InsertStrategy};
+use quick_cache_shard::Going;
 use std::alloc::Allocator;
 use std::hash::{BuildHasher, Hash};
 
@@ -37,13 +37,7 @@ impl<
     {
         self.facts();
         let hash = self.shard.hash(&key);
-        match self
-            .shard
-            .insert(state, hash, key, value, InsertStrategy::Insert)
-        {
-            Ok(()) => Ok(()),
-            Err((key, value, refusal)) => Err((key, value, refusal.unwrap())),
-        }
+        self.shard.insert_pair(state, hash, key, value)
     }
 
     /// Replaces the item under the key by the pair, whose value fits it, and hands what leaves to
@@ -67,11 +61,7 @@ impl<
     {
         self.facts();
         let hash = self.shard.hash(&key);
-        let strategy = InsertStrategy::Replace { soft };
-        match self.shard.insert(state, hash, key, value, strategy) {
-            Ok(()) => Ok(()),
-            Err((key, value, _)) => Err((key, value)),
-        }
+        self.shard.replace_pair(state, hash, key, value, soft)
     }
 
     /// Sets the weight that it may hold, and evicts what is too much, with this request state.

@@ -1,24 +1,19 @@
 -- Eviction keeps each item where its weight and its queue say.
-use Rattle.std.proofs.Common.{ℕ, ◌+◌, ◌-◌, ◌≤◌, Bool, true, false, List, [], ◌∷◌, ◌++◌, map}
-use Rattle.std.proofs.Common.{refl, sym, subst, ◌∙◌, arith}
+use Rattle.std.proofs.Common.{ℕ, ◌+◌, ◌-◌, ◌≤◌, Bool, true, false, List, [], ◌∷◌, ◌++◌, map, refl, sym, subst, ◌∙◌, arith}
 use Rattle.std.specs.List.{AllByRecursion}
 use Rattle.quick_cache_model.specs.declared.queue.Queue.{Queue}
-use Rattle.quick_cache_model.specs.declared.queue.Queue.TheVariants.{Hot, Cold}
 use Rattle.quick_cache_model.specs.CacheState.{CacheState, Item, IsRingItem, IsStillItem}
 use Rattle.quick_cache_model.specs.Hooks.{Rules, HookCall}
 use Rattle.quick_cache_model.specs.Touches.{TakesTouches, RaisesMarks}
-use Rattle.quick_cache_model.specs.Eviction.{lowered, EvictsVictim, AdvancesHot}
-use Rattle.quick_cache_model.specs.Eviction.{EvictsToTarget, AdvancesCold, EvictsToCapacity}
-use Rattle.quick_cache_model.proofs.TouchLaws.{with_touches-weight, with_touches-queue}
-use Rattle.quick_cache_model.proofs.TouchLaws.{with_touches-mark}
-use Rattle.quick_cache_model.proofs.EachElement.{all-append, all-left, all-right, all-middle}
-use Rattle.quick_cache_model.proofs.EachElement.{all-restarted, all-push}
+use Rattle.quick_cache_model.specs.Eviction.{lowered, EvictsVictim, AdvancesHot, EvictsToTarget, AdvancesCold, EvictsToCapacity}
+use Rattle.quick_cache_model.proofs.TouchLaws.{with_touches-weight, with_touches-queue, with_touches-mark}
+use Rattle.quick_cache_model.proofs.EachElement.{all-append, all-left, all-right, all-middle, all-restarted, all-push}
 
 module _ {K V : Type 0} where
   -- each item of the state stands where its weight and its queue say
   pub record IsInPlace (state : CacheState K V) : Type 0 where
-    pub in_hot : AllByRecursion (IsRingItem state.mark_cut Hot) state.hot
-    pub in_cold : AllByRecursion (IsRingItem state.mark_cut Cold) state.cold
+    pub in_hot : AllByRecursion (IsRingItem state.mark_cut Queue.Hot) state.hot
+    pub in_cold : AllByRecursion (IsRingItem state.mark_cut Queue.Cold) state.cold
     pub in_still : AllByRecursion (IsStillItem state.mark_cut) state.still
 
   -- touches keep an item in its ring
@@ -76,8 +71,8 @@ module _ {K V : Type 0} (rules : Rules K V) where
         (record item { value = left; weight = 0 })
         place.in_still (record { weightless = refl; marked = marked });
   }
-  EvictsVictim-in_place Hot old _ item _ (EvictsVictim.leaves left heavy) marked place = place
-  EvictsVictim-in_place Cold old _ item _ (EvictsVictim.leaves left heavy) marked place =
+  EvictsVictim-in_place Queue.Hot old _ item _ (EvictsVictim.leaves left heavy) marked place = place
+  EvictsVictim-in_place Queue.Cold old _ item _ (EvictsVictim.leaves left heavy) marked place =
       record { in_hot = place.in_hot; in_cold = place.in_cold; in_still = place.in_still }
 
   -- a hot advance keeps each item in place
@@ -85,26 +80,26 @@ module _ {K V : Type 0} (rules : Rules K V) where
       (calls : List (HookCall K V))
       → AdvancesHot rules old answer calls new → IsInPlace old → IsInPlace new
   AdvancesHot-in_place old _ _ _ (AdvancesHot.all_pinned hot raised pinned) place = record {
-    in_hot = all-lowered old.mark_cut Hot 1 hot
-        (all-raised old.mark_cut Hot rules.may_count old.hot hot raised place.in_hot);
+    in_hot = all-lowered old.mark_cut Queue.Hot 1 hot
+        (all-raised old.mark_cut Queue.Hot rules.may_count old.hot hot raised place.in_hot);
     in_cold = place.in_cold;
     in_still = place.in_still;
   }
   AdvancesHot-in_place old _ _ _ (AdvancesHot.evicts hot before item after calls new raised split
       first evicts) place =
-      let ring : AllByRecursion (IsRingItem old.mark_cut Hot) (before ++ item ∷ after) =
-      subst (λ (xs : List (Item K V)). AllByRecursion (IsRingItem old.mark_cut Hot) xs) split
-      (all-raised old.mark_cut Hot rules.may_count old.hot hot raised place.in_hot)
+      let ring : AllByRecursion (IsRingItem old.mark_cut Queue.Hot) (before ++ item ∷ after) =
+      subst (λ (xs : List (Item K V)). AllByRecursion (IsRingItem old.mark_cut Queue.Hot) xs) split
+      (all-raised old.mark_cut Queue.Hot rules.may_count old.hot hot raised place.in_hot)
       in
-      EvictsVictim-in_place Hot _ new (lowered item.mark item) calls evicts (omega arith)
+      EvictsVictim-in_place Queue.Hot _ new (lowered item.mark item) calls evicts (omega arith)
       (record {
-        in_hot = all-append (IsRingItem old.mark_cut Hot) (map (lowered item.mark) after)
+        in_hot = all-append (IsRingItem old.mark_cut Queue.Hot) (map (lowered item.mark) after)
             (map (lowered (item.mark + 1)) before)
-            (all-lowered old.mark_cut Hot item.mark after
-            (all-right (IsRingItem old.mark_cut Hot) before (item ∷ after)
+            (all-lowered old.mark_cut Queue.Hot item.mark after
+            (all-right (IsRingItem old.mark_cut Queue.Hot) before (item ∷ after)
             ring).1)
-            (all-lowered old.mark_cut Hot (item.mark + 1) before
-            (all-left (IsRingItem old.mark_cut Hot) before (item ∷ after) ring));
+            (all-lowered old.mark_cut Queue.Hot (item.mark + 1) before
+            (all-left (IsRingItem old.mark_cut Queue.Hot) before (item ∷ after) ring));
         in_cold = place.in_cold;
         in_still = place.in_still;
       })
@@ -126,31 +121,31 @@ module _ {K V : Type 0} (rules : Rules K V) where
       → AdvancesCold rules old answer calls new → IsInPlace old → IsInPlace new
   AdvancesCold-in_place old _ _ _ (AdvancesCold.promotes cold before item after calls new raised
       split passed marked goes) place =
-      let ring : AllByRecursion (IsRingItem old.mark_cut Cold) (before ++ item ∷ after) =
-      subst (λ (xs : List (Item K V)). AllByRecursion (IsRingItem old.mark_cut Cold) xs) split
-      (all-raised old.mark_cut Cold rules.may_count old.cold cold raised place.in_cold)
+      let ring : AllByRecursion (IsRingItem old.mark_cut Queue.Cold) (before ++ item ∷ after) =
+      subst (λ (xs : List (Item K V)). AllByRecursion (IsRingItem old.mark_cut Queue.Cold) xs) split
+      (all-raised old.mark_cut Queue.Cold rules.may_count old.cold cold raised place.in_cold)
       in
-      let was : IsRingItem old.mark_cut Cold item =
-      all-middle (IsRingItem old.mark_cut Cold) before item after ring in
+      let was : IsRingItem old.mark_cut Queue.Cold item =
+      all-middle (IsRingItem old.mark_cut Queue.Cold) before item after ring in
       EvictsToTarget-in_place _ new calls goes
       (record {
-        in_hot = all-push (IsRingItem old.mark_cut Hot) old.hot
-            (record item { mark = item.mark - 1; queue = Hot }) place.in_hot
+        in_hot = all-push (IsRingItem old.mark_cut Queue.Hot) old.hot
+            (record item { mark = item.mark - 1; queue = Queue.Hot }) place.in_hot
             (record { weighs = was.weighs; of_queue = refl; marked = omega (arith, was.marked) });
-        in_cold = all-restarted (IsRingItem old.mark_cut Cold) before item after ring;
+        in_cold = all-restarted (IsRingItem old.mark_cut Queue.Cold) before item after ring;
         in_still = place.in_still;
       })
   AdvancesCold-in_place old _ _ _ (AdvancesCold.evicts cold before item after calls new raised split
       passed unmarked unpinned evicts) place =
-      let ring : AllByRecursion (IsRingItem old.mark_cut Cold) (before ++ item ∷ after) =
-      subst (λ (xs : List (Item K V)). AllByRecursion (IsRingItem old.mark_cut Cold) xs) split
-      (all-raised old.mark_cut Cold rules.may_count old.cold cold raised place.in_cold)
+      let ring : AllByRecursion (IsRingItem old.mark_cut Queue.Cold) (before ++ item ∷ after) =
+      subst (λ (xs : List (Item K V)). AllByRecursion (IsRingItem old.mark_cut Queue.Cold) xs) split
+      (all-raised old.mark_cut Queue.Cold rules.may_count old.cold cold raised place.in_cold)
       in
-      EvictsVictim-in_place Cold _ new item calls evicts (omega (arith, unmarked))
+      EvictsVictim-in_place Queue.Cold _ new item calls evicts (omega (arith, unmarked))
       (record {
         in_hot = place.in_hot;
         in_cold =
-            all-restarted (IsRingItem old.mark_cut Cold) before item after ring;
+            all-restarted (IsRingItem old.mark_cut Queue.Cold) before item after ring;
         in_still = place.in_still;
       })
   AdvancesCold-in_place old _ _ _ (AdvancesCold.passes_all cold answer calls new raised passed
@@ -159,7 +154,7 @@ module _ {K V : Type 0} (rules : Rules K V) where
       (record {
         in_hot = place.in_hot;
         in_cold =
-            all-raised old.mark_cut Cold rules.may_count old.cold cold raised place.in_cold;
+            all-raised old.mark_cut Queue.Cold rules.may_count old.cold cold raised place.in_cold;
         in_still =
             place.in_still;
       })

@@ -1,16 +1,12 @@
 -- Laws of making room: it brings no key.
-use Rattle.std.proofs.Common.{◌≡◌, ℕ, ◌+◌, ◌-◌, ◌≤◌, Bool, true, false, List, [], ◌∷◌, map, ap}
-use Rattle.std.proofs.Common.{arith}
+use Rattle.std.proofs.Common.{◌≡◌, ℕ, ◌+◌, ◌-◌, ◌≤◌, Bool, true, false, List, [], ◌∷◌, map, ap, arith}
 use Rattle.quick_cache_model.specs.declared.queue.Queue.{Queue}
-use Rattle.quick_cache_model.specs.declared.queue.Queue.TheVariants.{Hot, Cold}
 use Rattle.quick_cache_model.specs.CacheState.{CacheState, Item, keys_by}
 use Rattle.quick_cache_model.specs.Hooks.{Rules, HookCall}
 use Rattle.quick_cache_model.specs.Finding.{HasNoKey}
-use Rattle.quick_cache_model.specs.Eviction.{EvictsVictim, AdvancesHot, EvictsToTarget}
-use Rattle.quick_cache_model.specs.Eviction.{AdvancesCold, EvictsToCapacity, lowered}
-use Rattle.quick_cache_model.proofs.KeyCounts.{one, keys, keys-cons, keys-append, keys-split}
-use Rattle.quick_cache_model.proofs.KeyCounts.{keys-lowered, keys-raised, keys-none, none-from_keys}
-use Rattle.quick_cache_model.proofs.KeyCounts.{loading_keys-none, loading_none-from_keys}
+use Rattle.quick_cache_model.specs.Eviction.{EvictsVictim, AdvancesHot, EvictsToTarget, AdvancesCold, EvictsToCapacity, lowered}
+use Rattle.quick_cache_model.proofs.KeyCounts.{one, keys, keys-cons, keys-append, keys-split, keys-lowered, keys-raised, keys-none}
+use Rattle.quick_cache_model.proofs.KeyCounts.{none-from_keys, loading_keys-none, loading_none-from_keys}
 
 module _ {K V : Type 0} (rules : Rules K V) (test : K → Bool) where
   -- the victim brings at most its own key back
@@ -26,8 +22,8 @@ module _ {K V : Type 0} (rules : Rules K V) (test : K → Bool) where
         keys-cons test
             (record item { value = left; weight = 0 }) [],
       )
-  EvictsVictim-keys Hot old _ item _ (EvictsVictim.leaves left heavy) = omega arith
-  EvictsVictim-keys Cold old _ item _ (EvictsVictim.leaves left heavy) = omega arith
+  EvictsVictim-keys Queue.Hot old _ item _ (EvictsVictim.leaves left heavy) = omega arith
+  EvictsVictim-keys Queue.Cold old _ item _ (EvictsVictim.leaves left heavy) = omega arith
 
   -- a hot advance brings no key
   pub AdvancesHot-keys : (old new : CacheState K V) (answer : Bool) (calls : List (HookCall K V))
@@ -46,7 +42,7 @@ module _ {K V : Type 0} (rules : Rules K V) (test : K → Bool) where
         keys-raised test old.mark_cut rules.may_count old.hot hot raised,
         ap (keys test) split,
         keys-split test before item after,
-        EvictsVictim-keys Hot _ new (lowered item.mark item) calls evicts,
+        EvictsVictim-keys Queue.Hot _ new (lowered item.mark item) calls evicts,
         keys-append test (map (lowered item.mark) after) (map (lowered (item.mark + 1)) before),
         keys-lowered test item.mark after,
         keys-lowered test (item.mark + 1) before,
@@ -71,7 +67,7 @@ module _ {K V : Type 0} (rules : Rules K V) (test : K → Bool) where
       → AdvancesCold rules old answer calls new → keys_by test new ≤ keys_by test old
   AdvancesCold-keys old _ _ _ (AdvancesCold.promotes cold before item after calls new raised split
       passed marked goes) =
-      let moved = record item { mark = item.mark - 1; queue = Hot } in
+      let moved = record item { mark = item.mark - 1; queue = Queue.Hot } in
       omega (
         arith,
         keys-raised test old.mark_cut rules.may_count old.cold cold raised,
@@ -89,7 +85,7 @@ module _ {K V : Type 0} (rules : Rules K V) (test : K → Bool) where
         keys-raised test old.mark_cut rules.may_count old.cold cold raised,
         ap (keys test) split,
         keys-split test before item after,
-        EvictsVictim-keys Cold _ new item calls evicts,
+        EvictsVictim-keys Queue.Cold _ new item calls evicts,
         keys-append test after before,
       )
   AdvancesCold-keys old _ _ _ (AdvancesCold.passes_all cold answer calls new raised passed advances)

@@ -1,29 +1,24 @@
 -- Single edits that lead from a valid state to a valid one.
-use Rattle.std.proofs.Common.{◌≡◌, ℕ, ◌+◌, ◌≤◌, Bool, true, false, cond, List, [], ◌∷◌, ◌++◌}
-use Rattle.std.proofs.Common.{length, refl, ap, subst, ◌∙◌, arith, length-append}
+use Rattle.std.proofs.Common.{◌≡◌, ℕ, ◌+◌, ◌≤◌, Bool, true, false, cond, List, [], ◌∷◌, ◌++◌, length, refl, ap, subst, ◌∙◌, arith}
+use Rattle.std.proofs.Common.{length-append}
 use Rattle.std.specs.List.{AllByRecursion}
 use Rattle.std.specs.Cmp.{IsEquivalence}
 use Rattle.quick_cache_model.specs.declared.queue.Queue.{Queue}
-use Rattle.quick_cache_model.specs.declared.queue.Queue.TheVariants.{Hot, Cold}
-use Rattle.quick_cache_model.specs.CacheState.{CacheState, Item, LoadingEntry, Place, InHot, InCold}
-use Rattle.quick_cache_model.specs.CacheState.{InStill, items_at, with_items, entered, rewritten}
-use Rattle.quick_cache_model.specs.CacheState.{keys_by, IsRingItem, IsStillItem, IsValid}
+use Rattle.quick_cache_model.specs.CacheState.{CacheState, Item, LoadingEntry, Place, InHot, InCold, InStill, items_at, with_items, entered}
+use Rattle.quick_cache_model.specs.CacheState.{rewritten, keys_by, IsRingItem, IsStillItem, IsValid}
 use Rattle.quick_cache_model.specs.Lookups.{after_hit, after_miss}
 use Rattle.quick_cache_model.specs.Placeholders.{with_placeholder}
 use Rattle.quick_cache_model.specs.Removal.{cleared, retained}
 use Rattle.quick_cache_model.proofs.EachElement.{all-middle, all-instead, all-filter}
-use Rattle.quick_cache_model.proofs.KeyCounts.{one, one_if, keys, keys-cons, loading_keys}
-use Rattle.quick_cache_model.proofs.KeyCounts.{loading_keys-cons, loading_keys-append}
+use Rattle.quick_cache_model.proofs.KeyCounts.{one, one_if, keys, keys-cons, loading_keys, loading_keys-cons, loading_keys-append}
 use Rattle.quick_cache_model.proofs.KeyCounts.{loading_keys-split}
 use Rattle.quick_cache_model.proofs.Eviction.InPlace.{IsInPlace}
-use Rattle.quick_cache_model.proofs.Valid.Places.{with_items-same, entered-same, rewritten-same}
-use Rattle.quick_cache_model.proofs.Valid.Places.{keys_by-without, keys_by-instead, keys_by-entered}
-use Rattle.quick_cache_model.proofs.Valid.Places.{keys_by-rewritten, without-in_place}
-use Rattle.quick_cache_model.proofs.Valid.Places.{entered-in_place, rewritten-in_place}
+use Rattle.quick_cache_model.proofs.Valid.Places.{with_items-same, entered-same, rewritten-same, keys_by-without, keys_by-instead}
+use Rattle.quick_cache_model.proofs.Valid.Places.{keys_by-entered, keys_by-rewritten, without-in_place, entered-in_place}
+use Rattle.quick_cache_model.proofs.Valid.Places.{rewritten-in_place}
 use Rattle.quick_cache_model.proofs.EqualKeys.{one-equal, keys_by-new}
 use Rattle.quick_cache_model.proofs.Valid.Tickets.{AreTickets, AreTickets-without, AreTickets-push}
-use Rattle.quick_cache_model.proofs.Valid.States.{IsValid-parts, IsValid-tickets, IsValid-in_place}
-use Rattle.quick_cache_model.proofs.Valid.States.{IsValid-items, IsValid-ghosts}
+use Rattle.quick_cache_model.proofs.Valid.States.{IsValid-parts, IsValid-tickets, IsValid-in_place, IsValid-items, IsValid-ghosts}
 
 module _ {K V : Type 0} where
   -- an item in the place of another, with its queue and its weight
@@ -34,17 +29,17 @@ module _ {K V : Type 0} where
       → IsInPlace state → IsInPlace (with_items place (before ++ new ∷ after) state)
   instead-in_place InHot before item new after state split queue weight marked all = record {
     in_hot = ring (subst (λ (xs : List (Item K V)). AllByRecursion
-        (IsRingItem state.mark_cut Hot) xs)
+        (IsRingItem state.mark_cut Queue.Hot) xs)
         split all.in_hot);
     in_cold = all.in_cold;
     in_still = all.in_still;
   }
     where
-      ring : AllByRecursion (IsRingItem state.mark_cut Hot) (before ++ item ∷ after)
-          → AllByRecursion (IsRingItem state.mark_cut Hot) (before ++ new ∷ after)
-      ring was = let h = all-middle (IsRingItem state.mark_cut Hot) before item after was
+      ring : AllByRecursion (IsRingItem state.mark_cut Queue.Hot) (before ++ item ∷ after)
+          → AllByRecursion (IsRingItem state.mark_cut Queue.Hot) (before ++ new ∷ after)
+      ring was = let h = all-middle (IsRingItem state.mark_cut Queue.Hot) before item after was
           in all-instead
-          (IsRingItem state.mark_cut Hot) before item new after
+          (IsRingItem state.mark_cut Queue.Hot) before item new after
           (record {
             weighs = omega (arith, h.weighs, weight);
             of_queue =
@@ -54,16 +49,16 @@ module _ {K V : Type 0} where
   instead-in_place InCold before item new after state split queue weight marked all = record {
     in_hot = all.in_hot;
     in_cold = ring (subst (λ (xs : List (Item K V)). AllByRecursion
-        (IsRingItem state.mark_cut Cold) xs)
+        (IsRingItem state.mark_cut Queue.Cold) xs)
         split all.in_cold);
     in_still = all.in_still;
   }
     where
-      ring : AllByRecursion (IsRingItem state.mark_cut Cold) (before ++ item ∷ after)
-          → AllByRecursion (IsRingItem state.mark_cut Cold) (before ++ new ∷ after)
-      ring was = let h = all-middle (IsRingItem state.mark_cut Cold) before item after was
+      ring : AllByRecursion (IsRingItem state.mark_cut Queue.Cold) (before ++ item ∷ after)
+          → AllByRecursion (IsRingItem state.mark_cut Queue.Cold) (before ++ new ∷ after)
+      ring was = let h = all-middle (IsRingItem state.mark_cut Queue.Cold) before item after was
           in all-instead
-          (IsRingItem state.mark_cut Cold) before item new after
+          (IsRingItem state.mark_cut Queue.Cold) before item new after
           (record {
             weighs = omega (arith, h.weighs, weight);
             of_queue =
@@ -215,9 +210,11 @@ module _ {K V : Type 0} (equal : K → K → Bool) where
       (IsValid-tickets equal state valid)
       valid.ghosts_within
       (record {
-        in_hot = all-filter (IsRingItem state.mark_cut Hot) (λ item. keeps item.key item.value)
+        in_hot = all-filter (IsRingItem state.mark_cut Queue.Hot)
+            (λ item. keeps item.key item.value)
             state.hot valid.in_hot;
-        in_cold = all-filter (IsRingItem state.mark_cut Cold) (λ item. keeps item.key item.value)
+        in_cold = all-filter (IsRingItem state.mark_cut Queue.Cold)
+            (λ item. keeps item.key item.value)
             state.cold valid.in_cold;
         in_still = all-filter (IsStillItem state.mark_cut) (λ item. keeps item.key item.value)
             state.still valid.in_still;

@@ -1,20 +1,17 @@
 -- Laws of look-ups, of removals and of the entry call: each leads from a valid state to a valid
 -- one.
-use Rattle.std.proofs.Common.{◌≡◌, ℕ, ◌≤◌, Bool, true, List, ◌∷◌, ◌++◌, Option, refl, sym, subst}
-use Rattle.std.proofs.Common.{◌∙◌, arith}
+use Rattle.std.proofs.Common.{◌≡◌, ℕ, ◌≤◌, Bool, true, List, ◌∷◌, ◌++◌, Option, refl, sym, subst, ◌∙◌, arith}
 use Rattle.std.specs.Cmp.{IsEquivalence}
-use Rattle.quick_cache_model.specs.CacheState.{CacheState, Item, Place, InHot, InCold, InStill}
-use Rattle.quick_cache_model.specs.CacheState.{items_at, with_items, IsValid}
+use Rattle.quick_cache_model.specs.CacheState.{CacheState, Item, Place, InHot, InCold, InStill, items_at, with_items, IsValid}
 use Rattle.quick_cache_model.specs.Hooks.{Rules}
 use Rattle.quick_cache_model.specs.Lookups.{looked_up, after_hit, LooksUp}
 use Rattle.quick_cache_model.specs.Removal.{Removes, RemovesIf, Retains, Drains, weighed, reweighed}
 use Rattle.quick_cache_model.specs.Entries.{EntryChoice, EntryOutcome, ActsOnEntry}
 use Rattle.quick_cache_model.proofs.Valid.Places.{keys_by-without, IsInPlace-marked}
 use Rattle.quick_cache_model.proofs.Valid.States.{IsValid-in_place}
-use Rattle.quick_cache_model.proofs.Valid.Edits.{after_hit-valid, after_miss-valid, instead-valid}
-use Rattle.quick_cache_model.proofs.Valid.Edits.{without-valid, without_ghost-valid, unloaded-valid}
-use Rattle.quick_cache_model.proofs.Valid.Edits.{retained-valid, cleared-valid, rewritten-valid}
-use Rattle.quick_cache_model.proofs.Valid.Edits.{with_placeholder-valid, keys_by-taken}
+use Rattle.quick_cache_model.proofs.Valid.Edits.{after_hit-valid, after_miss-valid, instead-valid, without-valid, without_ghost-valid}
+use Rattle.quick_cache_model.proofs.Valid.Edits.{unloaded-valid, retained-valid, cleared-valid, rewritten-valid, with_placeholder-valid}
+use Rattle.quick_cache_model.proofs.Valid.Edits.{keys_by-taken}
 
 module _ {K V : Type 0} (equal : K → K → Bool) where
   -- a counted hit leaves the items as they are

@@ -1,9 +1,7 @@
 -- Of states that are the same but for the order of what has none, each is valid where one is.
-use Rattle.std.proofs.Common.{◌<◌, ◌==◌, Bool, cond, sym, subst}
-use Rattle.std.proofs.Common.{arith}
+use Rattle.std.proofs.Common.{◌<◌, ◌==◌, Bool, cond, sym, subst, arith}
 use Rattle.std.proofs.lemmas.List.Sorted.{sum_by-IsPermutation}
-use Rattle.quick_cache_model.specs.CacheState.{CacheState, Item, LoadingEntry}
-use Rattle.quick_cache_model.specs.CacheState.{IsStillItem, IsValid, SameButOrder}
+use Rattle.quick_cache_model.specs.CacheState.{CacheState, Item, LoadingEntry, IsStillItem, IsValid, SameButOrder}
 use Rattle.quick_cache_model.proofs.EachElement.{all-permutation}
 use Rattle.quick_cache_model.proofs.Valid.States.{IsValid-parts}
 

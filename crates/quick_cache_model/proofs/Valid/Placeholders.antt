@@ -1,21 +1,17 @@
 -- Laws of placeholders: each call leads from a valid state to a valid one.
-use Rattle.std.proofs.Common.{◌≡◌, ℕ, ◌≤◌, Bool, true, false, if◌then◌else◌, List, ◌++◌, Option}
-use Rattle.std.proofs.Common.{arith}
+use Rattle.std.proofs.Common.{◌≡◌, ℕ, ◌≤◌, Bool, true, false, if◌then◌else◌, List, ◌++◌, Option, arith}
 use Rattle.std.specs.Cmp.{IsEquivalence}
-use Rattle.quick_cache_model.specs.declared.queue.Queue.TheVariants.{Hot, Cold}
+use Rattle.quick_cache_model.specs.declared.queue.Queue.{Queue}
 use Rattle.quick_cache_model.specs.CacheState.{CacheState, entered, IsValid}
 use Rattle.quick_cache_model.specs.Hooks.{Rules, HookCall}
 use Rattle.quick_cache_model.specs.Lookups.{after_miss}
 use Rattle.quick_cache_model.specs.Writes.{new_item, queue_for}
 use Rattle.quick_cache_model.specs.Touches.{first_mark}
-use Rattle.quick_cache_model.specs.Placeholders.{MakesPlaceholder, MeetsPlaceholder}
-use Rattle.quick_cache_model.specs.Placeholders.{GivesUpPlaceholder, MakesRoomFor, FillsPlaceholder}
+use Rattle.quick_cache_model.specs.Placeholders.{MakesPlaceholder, MeetsPlaceholder, GivesUpPlaceholder, MakesRoomFor, FillsPlaceholder}
 use Rattle.quick_cache_model.proofs.EqualKeys.{keys_by-absent}
 use Rattle.quick_cache_model.proofs.Valid.States.{EvictsToCapacity-valid}
-use Rattle.quick_cache_model.proofs.Valid.Edits.{after_hit-valid, after_miss-valid}
-use Rattle.quick_cache_model.proofs.Valid.Edits.{without_ghost-valid, unloaded-valid, entered-valid}
-use Rattle.quick_cache_model.proofs.Valid.Edits.{with_placeholder-valid, keys_by-unloaded}
-use Rattle.quick_cache_model.proofs.Valid.Edits.{keys_by-taken}
+use Rattle.quick_cache_model.proofs.Valid.Edits.{after_hit-valid, after_miss-valid, without_ghost-valid, unloaded-valid, entered-valid}
+use Rattle.quick_cache_model.proofs.Valid.Edits.{with_placeholder-valid, keys_by-unloaded, keys_by-taken}
 
 module _ {K V : Type 0} (equal : K → K → Bool) (laws : IsEquivalence equal) where
   -- a placeholder is made under a key that the query stands for: it stands for the keys that are
@@ -26,13 +22,13 @@ module _ {K V : Type 0} (equal : K → K → Bool) (laws : IsEquivalence equal) 
   MakesPlaceholder-valid stands_for hash key old _ exact
       (MakesPlaceholder.on_nothing stands nothing)
       valid =
-      with_placeholder-valid equal laws key Cold (after_miss old)
+      with_placeholder-valid equal laws key Queue.Cold (after_miss old)
       (keys_by-absent equal laws stands_for key exact old nothing.keys)
       (after_miss-valid equal old valid)
   MakesPlaceholder-valid stands_for hash key old _ exact
       (MakesPlaceholder.on_ghost before after stands there) valid =
       let mid : CacheState K V = record old { ghosts = before ++ after } in
-      with_placeholder-valid equal laws key Hot (after_miss mid)
+      with_placeholder-valid equal laws key Queue.Hot (after_miss mid)
       (keys_by-absent equal laws stands_for key exact old there.keys)
       (after_miss-valid equal mid (without_ghost-valid equal before hash after old there.split
       valid))

@@ -1,17 +1,12 @@
 -- What it does to keys and places to take an item out, to put one in, and to write one over
 -- another.
-use Rattle.std.proofs.Common.{◌≡◌, ◌+◌, ◌<◌, ◌≤◌, ◌==◌, Bool, true, false, if◌then◌else◌, List, []}
-use Rattle.std.proofs.Common.{◌∷◌, ◌++◌, refl, ap, subst, ◌∙◌, arith}
+use Rattle.std.proofs.Common.{◌≡◌, ◌+◌, ◌<◌, ◌≤◌, ◌==◌, Bool, true, false, if◌then◌else◌, List, [], ◌∷◌, ◌++◌, refl, ap, subst, ◌∙◌, arith}
 use Rattle.std.proofs.lemmas.Bool.{eqb-true, eqb-false}
 use Rattle.std.specs.List.{AllByRecursion}
 use Rattle.quick_cache_model.specs.declared.queue.Queue.{Queue}
-use Rattle.quick_cache_model.specs.declared.queue.Queue.TheVariants.{Hot, Cold}
-use Rattle.quick_cache_model.specs.CacheState.{CacheState, Item, Place, InHot, InCold, InStill}
-use Rattle.quick_cache_model.specs.CacheState.{ring_place, items_at, with_items, place_of_item}
-use Rattle.quick_cache_model.specs.CacheState.{entered, restarted_behind, rewritten, keys_by}
-use Rattle.quick_cache_model.specs.CacheState.{IsRingItem, IsStillItem}
-use Rattle.quick_cache_model.proofs.EachElement.{all-middle, all-without, all-instead, all-restarted}
-use Rattle.quick_cache_model.proofs.EachElement.{all-push}
+use Rattle.quick_cache_model.specs.CacheState.{CacheState, Item, Place, InHot, InCold, InStill, ring_place, items_at, with_items}
+use Rattle.quick_cache_model.specs.CacheState.{place_of_item, entered, restarted_behind, rewritten, keys_by, IsRingItem, IsStillItem}
+use Rattle.quick_cache_model.proofs.EachElement.{all-middle, all-without, all-instead, all-restarted, all-push}
 use Rattle.quick_cache_model.proofs.KeyCounts.{one, keys, keys-cons, keys-append, keys-split}
 use Rattle.quick_cache_model.proofs.Eviction.InPlace.{IsInPlace}
 
@@ -217,12 +212,12 @@ module _ {K V : Type 0} where
       (after : List (Item K V)) (state : CacheState K V)
       → items_at place state ≡ before ++ item ∷ after → IsInPlace state → item.mark ≤ state.mark_cut
   IsInPlace-marked InHot before item after state split all =
-      (all-middle (IsRingItem state.mark_cut Hot) before item after
-      (subst (λ (xs : List (Item K V)). AllByRecursion (IsRingItem state.mark_cut Hot) xs)
+      (all-middle (IsRingItem state.mark_cut Queue.Hot) before item after
+      (subst (λ (xs : List (Item K V)). AllByRecursion (IsRingItem state.mark_cut Queue.Hot) xs)
       split all.in_hot)).marked
   IsInPlace-marked InCold before item after state split all =
-      (all-middle (IsRingItem state.mark_cut Cold) before item after
-      (subst (λ (xs : List (Item K V)). AllByRecursion (IsRingItem state.mark_cut Cold) xs)
+      (all-middle (IsRingItem state.mark_cut Queue.Cold) before item after
+      (subst (λ (xs : List (Item K V)). AllByRecursion (IsRingItem state.mark_cut Queue.Cold) xs)
       split all.in_cold)).marked
   IsInPlace-marked InStill before item after state split all =
       (all-middle (IsStillItem state.mark_cut) before item after
@@ -235,16 +230,18 @@ module _ {K V : Type 0} where
       → items_at place state ≡ before ++ item ∷ after → IsInPlace state
       → IsInPlace (with_items place (before ++ after) state)
   without-in_place InHot before item after state split all = record {
-    in_hot = all-without (IsRingItem state.mark_cut Hot) before item after
-        (subst (λ (xs : List (Item K V)). AllByRecursion (IsRingItem state.mark_cut Hot) xs) split
+    in_hot = all-without (IsRingItem state.mark_cut Queue.Hot) before item after
+        (subst (λ (xs : List (Item K V)). AllByRecursion (IsRingItem state.mark_cut Queue.Hot) xs)
+        split
         all.in_hot);
     in_cold = all.in_cold;
     in_still = all.in_still;
   }
   without-in_place InCold before item after state split all = record {
     in_hot = all.in_hot;
-    in_cold = all-without (IsRingItem state.mark_cut Cold) before item after
-        (subst (λ (xs : List (Item K V)). AllByRecursion (IsRingItem state.mark_cut Cold) xs) split
+    in_cold = all-without (IsRingItem state.mark_cut Queue.Cold) before item after
+        (subst (λ (xs : List (Item K V)). AllByRecursion (IsRingItem state.mark_cut Queue.Cold) xs)
+        split
         all.in_cold);
     in_still = all.in_still;
   }
@@ -263,15 +260,15 @@ module _ {K V : Type 0} where
     where
       ring : (queue : Queue) → item.queue ≡ queue → 0 < item.weight
           → IsInPlace (put (ring_place queue) item state)
-      ring Hot is weighs = record {
-        in_hot = all-push (IsRingItem state.mark_cut Hot) state.hot item all.in_hot
+      ring Queue.Hot is weighs = record {
+        in_hot = all-push (IsRingItem state.mark_cut Queue.Hot) state.hot item all.in_hot
             (record { weighs = weighs; of_queue = is; marked = marked });
         in_cold = all.in_cold;
         in_still = all.in_still;
       }
-      ring Cold is weighs = record {
+      ring Queue.Cold is weighs = record {
         in_hot = all.in_hot;
-        in_cold = all-push (IsRingItem state.mark_cut Cold) state.cold item all.in_cold
+        in_cold = all-push (IsRingItem state.mark_cut Queue.Cold) state.cold item all.in_cold
             (record { weighs = weighs; of_queue = is; marked = marked });
         in_still = all.in_still;
       }
@@ -311,8 +308,9 @@ module _ {K V : Type 0} where
   rewritten-in_place InHot before item new after state split queue marked all =
       go (new.weight == 0) refl
     where
-      ring : AllByRecursion (IsRingItem state.mark_cut Hot) (before ++ item ∷ after)
-      ring = subst (λ (xs : List (Item K V)). AllByRecursion (IsRingItem state.mark_cut Hot) xs)
+      ring : AllByRecursion (IsRingItem state.mark_cut Queue.Hot) (before ++ item ∷ after)
+      ring = subst (λ (xs : List (Item K V)). AllByRecursion (IsRingItem state.mark_cut Queue.Hot)
+          xs)
           split all.in_hot
 
       go : (b : Bool) → (new.weight == 0) ≡ b
@@ -320,17 +318,17 @@ module _ {K V : Type 0} where
           state) else with_items InHot (before ++ new ∷ after) state)
       go true is = entered-in_place new (record state { hot = after ++ before }) marked
           (record {
-            in_hot = all-restarted (IsRingItem state.mark_cut Hot) before item after ring;
+            in_hot = all-restarted (IsRingItem state.mark_cut Queue.Hot) before item after ring;
             in_cold =
                 all.in_cold;
             in_still = all.in_still;
           })
       go false is = let some = eqb-false new.weight 0 is in record {
-        in_hot = all-instead (IsRingItem state.mark_cut Hot) before item new after
+        in_hot = all-instead (IsRingItem state.mark_cut Queue.Hot) before item new after
             (record {
               weighs = omega arith;
               of_queue =
-                  queue ∙ (all-middle (IsRingItem state.mark_cut Hot) before item after
+                  queue ∙ (all-middle (IsRingItem state.mark_cut Queue.Hot) before item after
                   ring).of_queue;
               marked =
                   marked;
@@ -341,8 +339,9 @@ module _ {K V : Type 0} where
   rewritten-in_place InCold before item new after state split queue marked all =
       go (new.weight == 0) refl
     where
-      ring : AllByRecursion (IsRingItem state.mark_cut Cold) (before ++ item ∷ after)
-      ring = subst (λ (xs : List (Item K V)). AllByRecursion (IsRingItem state.mark_cut Cold) xs)
+      ring : AllByRecursion (IsRingItem state.mark_cut Queue.Cold) (before ++ item ∷ after)
+      ring = subst (λ (xs : List (Item K V)). AllByRecursion (IsRingItem state.mark_cut Queue.Cold)
+          xs)
           split all.in_cold
 
       go : (b : Bool) → (new.weight == 0) ≡ b
@@ -352,16 +351,16 @@ module _ {K V : Type 0} where
           (record {
             in_hot = all.in_hot;
             in_cold =
-                all-restarted (IsRingItem state.mark_cut Cold) before item after ring;
+                all-restarted (IsRingItem state.mark_cut Queue.Cold) before item after ring;
             in_still = all.in_still;
           })
       go false is = let some = eqb-false new.weight 0 is in record {
         in_hot = all.in_hot;
-        in_cold = all-instead (IsRingItem state.mark_cut Cold) before item new after
+        in_cold = all-instead (IsRingItem state.mark_cut Queue.Cold) before item new after
             (record {
               weighs = omega arith;
               of_queue =
-                  queue ∙ (all-middle (IsRingItem state.mark_cut Cold) before item after
+                  queue ∙ (all-middle (IsRingItem state.mark_cut Queue.Cold) before item after
                   ring).of_queue;
               marked =
                   marked;

@@ -1,21 +1,16 @@
 -- Laws of valid states: a valid one with another list, and that making room leads from a valid
 -- state to a valid one, and so does setting the capacity.
-use Rattle.std.proofs.Common.{◌≡◌, ℕ, ◌+◌, ◌<◌, ◌≤◌, ◌==◌, Bool, List, length, sym, ap, subst}
-use Rattle.std.proofs.Common.{arith}
+use Rattle.std.proofs.Common.{◌≡◌, ℕ, ◌+◌, ◌<◌, ◌≤◌, ◌==◌, Bool, List, length, sym, ap, subst, arith}
 use Rattle.std.specs.List.{AllByRecursion, count_by}
 use Rattle.quick_cache_model.specs.declared.queue.Queue.{Queue}
-use Rattle.quick_cache_model.specs.declared.queue.Queue.TheVariants.{Cold}
-use Rattle.quick_cache_model.specs.CacheState.{CacheState, Item, LoadingEntry, keys_by}
-use Rattle.quick_cache_model.specs.CacheState.{IsRingItem, IsValid, empty_state}
+use Rattle.quick_cache_model.specs.CacheState.{CacheState, Item, LoadingEntry, keys_by, IsRingItem, IsValid, empty_state}
 use Rattle.quick_cache_model.specs.Hooks.{Rules, HookCall}
 use Rattle.quick_cache_model.specs.Eviction.{EvictsVictim, EvictsToCapacity}
 use Rattle.quick_cache_model.specs.Capacity.{resized, SetsCapacity}
 use Rattle.quick_cache_model.proofs.KeyCounts.{one, keys}
-use Rattle.quick_cache_model.proofs.EvictionKeeps.{newest-within, IsSameBeside}
-use Rattle.quick_cache_model.proofs.EvictionKeeps.{EvictsVictim-beside, EvictsToCapacity-beside}
+use Rattle.quick_cache_model.proofs.EvictionKeeps.{newest-within, IsSameBeside, EvictsVictim-beside, EvictsToCapacity-beside}
 use Rattle.quick_cache_model.proofs.Eviction.Keys.{EvictsVictim-keys, EvictsToCapacity-keys}
-use Rattle.quick_cache_model.proofs.Eviction.InPlace.{IsInPlace, EvictsVictim-in_place}
-use Rattle.quick_cache_model.proofs.Eviction.InPlace.{EvictsToCapacity-in_place}
+use Rattle.quick_cache_model.proofs.Eviction.InPlace.{IsInPlace, EvictsVictim-in_place, EvictsToCapacity-in_place}
 use Rattle.quick_cache_model.proofs.Valid.Places.{IsSameButItems}
 use Rattle.quick_cache_model.proofs.Valid.Tickets.{AreTickets}
 
@@ -87,7 +82,7 @@ module _ {K V : Type 0} (equal : K → K → Bool) where
   -- or without some of its items.
   pub IsValid-cold : (cold : List (Item K V)) (state : CacheState K V)
       → ((test : K → Bool) → keys test cold ≤ keys test state.cold)
-      → AllByRecursion (IsRingItem state.mark_cut Cold) cold → IsValid equal state
+      → AllByRecursion (IsRingItem state.mark_cut Queue.Cold) cold → IsValid equal state
       → IsValid equal (record state { cold = cold })
   IsValid-cold cold state fewer ring valid =
       IsValid-parts (record state { cold = cold })

@@ -1,20 +1,17 @@
 -- Laws of writes: each leads from a valid state to a valid one, whatever the pair weighs.
 use Rattle.std.proofs.Common.{◌≡◌, ℕ, ◌≤◌, Bool, List, ◌++◌, Option, refl, sym, subst, arith}
 use Rattle.std.specs.Cmp.{IsEquivalence}
-use Rattle.quick_cache_model.specs.declared.queue.Queue.TheVariants.{Hot, Cold}
-use Rattle.quick_cache_model.specs.CacheState.{CacheState, Item, entered, rewritten, keys_by}
-use Rattle.quick_cache_model.specs.CacheState.{IsValid}
+use Rattle.quick_cache_model.specs.declared.queue.Queue.{Queue}
+use Rattle.quick_cache_model.specs.CacheState.{CacheState, Item, entered, rewritten, keys_by, IsValid}
 use Rattle.quick_cache_model.specs.Hooks.{Rules, HookCall}
 use Rattle.quick_cache_model.specs.Touches.{TakesTouches, first_mark}
-use Rattle.quick_cache_model.specs.Writes.{Strategy, Insert, Replace, SoftReplace, mark_after}
-use Rattle.quick_cache_model.specs.Writes.{new_item, queue_for, WritesAdmitted, TakesOutItem}
-use Rattle.quick_cache_model.specs.Writes.{RejectsTooHeavy, Writes}
+use Rattle.quick_cache_model.specs.Writes.{Strategy, Insert, Replace, SoftReplace, mark_after, new_item, queue_for, WritesAdmitted}
+use Rattle.quick_cache_model.specs.Writes.{TakesOutItem, RejectsTooHeavy, Writes}
 use Rattle.quick_cache_model.proofs.TouchLaws.{with_touches-mark}
 use Rattle.quick_cache_model.proofs.Eviction.Keys.{EvictsToCapacity-keys, keys_by-none}
 use Rattle.quick_cache_model.proofs.Valid.Places.{IsInPlace-marked}
 use Rattle.quick_cache_model.proofs.Valid.States.{IsValid-in_place, EvictsToCapacity-valid}
-use Rattle.quick_cache_model.proofs.Valid.Edits.{entered-valid, rewritten-valid, without-valid}
-use Rattle.quick_cache_model.proofs.Valid.Edits.{without_ghost-valid, unloaded-valid}
+use Rattle.quick_cache_model.proofs.Valid.Edits.{entered-valid, rewritten-valid, without-valid, without_ghost-valid, unloaded-valid}
 use Rattle.quick_cache_model.proofs.Valid.Edits.{keys_by-unloaded, keys_by-taken}
 
 -- a write keeps the mark up to the greatest
@@ -48,7 +45,8 @@ module _ {K V : Type 0} (equal : K → K → Bool) (laws : IsEquivalence equal) 
             (equal key) (rules.weight key value) old mid calls evicts,
       )
       in
-      entered-valid equal laws (new_item rules key value (queue_for rules old key value Cold) 0)
+      entered-valid equal laws
+      (new_item rules key value (queue_for rules old key value Queue.Cold) 0)
       mid none (omega arith)
       (EvictsToCapacity-valid equal rules (rules.weight key value) old mid calls evicts valid)
   WritesAdmitted-valid strategy old value _ _ _
@@ -67,9 +65,9 @@ module _ {K V : Type 0} (equal : K → K → Bool) (laws : IsEquivalence equal) 
   WritesAdmitted-valid strategy old value _ _ _
       (WritesAdmitted.inserts_over_ghost before after calls new inserts there evicts) valid =
       let mid : CacheState K V = record old { ghosts = before ++ after } in
-      EvictsToCapacity-valid equal rules 0 (entered (new_item rules key value Hot 0) mid)
+      EvictsToCapacity-valid equal rules 0 (entered (new_item rules key value Queue.Hot 0) mid)
       new calls evicts
-      (entered-valid equal laws (new_item rules key value Hot 0) mid
+      (entered-valid equal laws (new_item rules key value Queue.Hot 0) mid
       (keys_by-none (equal key) old there.keys) (omega arith)
       (without_ghost-valid equal before (rules.hash key) after old there.split valid))
   WritesAdmitted-valid strategy old value _ _ _

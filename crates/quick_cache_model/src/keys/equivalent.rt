@@ -1,7 +1,6 @@
 //! Queries that stand for keys.
 ghost use Rattle.std.specs.Prelude.{◌≡◌, Bool, IsTrue, IfOk, IfErr, IsOk};
 ghost use Rattle.std.proofs.Common.{sym, ◌∙◌};
-ghost use Rattle.quick_cache_model.specs.declared.refusal.Refusal.TheVariants.{Memory};
 
 use crate::refusal::Refusal;
 use std::hash::Hash;
@@ -55,7 +54,7 @@ pub trait ToKey<K: Eq + Hash>: Equivalent<K> {
     fn to_key(&self) -> Result<K, Refusal>
         ensures gives { IfOk result (to_key_gives self.now) }
         ensures succeeds { to_key_is_infallible self.now → IsOk result }
-        ensures refused { IfErr result (λ refusal. refusal ≡ Memory) };
+        ensures refused { IfErr result (λ refusal. refusal ≡ Refusal.Memory) };
 
     /// A query that stands for a key that it gives stands for each key that is equal to that one.
     /// So a key that is made where the query found nothing is equal to none that is there.

@@ -1,7 +1,8 @@
 //! Look-ups and removals.
 ghost use Rattle.std.specs.Prelude.{◌≡◌, ◌≤◌, IsOk, MatchOption};
 ghost use Rattle.std.specs.Int.NonZero.{non_zero_u32_get as number};
-ghost use Rattle.quick_cache_store.specs.Lists.{Finds, FindsItem, HasNoItem};
+ghost use Rattle.quick_cache_store.specs.Lists.{Finds, FindsItem, HasItemToken, HasNoItem, with_change};
+ghost use Rattle.quick_cache_model.specs.Lookups.{looked_up};
 ghost use Rattle.quick_cache_model.specs.Removal.{Removes};
 ghost use Rattle.quick_cache_model.specs.CacheState.{UpToOrder};
 ghost use Rattle.quick_cache_policy.specs.Contents.{state_of};
@@ -107,6 +108,26 @@ impl<K: Eq + Hash, V, P: SharedPlaceholder<K>, A: Allocator> Contents<K, V, P, A
         self.lists.find_by_key(hash, query)
     }
 
+    /// Marks an item and counts a read of it.
+    ///
+    /// A full mark is not written again: most look-ups meet one, and write one number of a slot.
+    #[inline(always)]
+    fn mark_and_read(&mut self, token: Token)
+        requires { HasItemToken self.old.lists (number token) }
+        ensures { self.new ≡ record self.old {
+          lists = with_change (number token) (looked_up self.old.mark_cut) self.old.lists;
+        } }
+    {
+        self.lists.facts();
+        let mark = self.lists.item(token).mark();
+        if mark == self.mark_cut {
+            self.lists.count_read(token);
+            return;
+        }
+        self.lists
+            .count_use(token, mark.saturating_add(1).min(self.mark_cut));
+    }
+
     /// Counts a hit at an item that the query found: it is marked and read.
     #[inline]
     pub(crate) fn count_hit<Q: Equivalent<K>>(&mut self, token: Token, hash: u64, _query: &Q)
@@ -125,15 +146,7 @@ impl<K: Eq + Hash, V, P: SharedPlaceholder<K>, A: Allocator> Contents<K, V, P, A
         } }
     {
         self.lists.facts();
-        let item = self.lists.item(token);
-        let mark = item.mark();
-        // A full mark is not written again: most look-ups meet one, and write one number of a slot.
-        if mark == self.mark_cut {
-            self.lists.count_read(token);
-        } else {
-            self.lists
-                .count_use(token, mark.saturating_add(1).min(self.mark_cut));
-        }
+        self.mark_and_read(token);
         self.hits = self.hits.saturating_add(1);
     }
 

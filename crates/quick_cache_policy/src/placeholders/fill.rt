@@ -7,14 +7,15 @@ ghost use Rattle.quick_cache_model.specs.Hooks.{Calls};
 ghost use Rattle.quick_cache_model.specs.Placeholders.{GivesUpPlaceholder, HasNoTicket};
 ghost use Rattle.quick_cache_policy.specs.Places.{places_of, KeepsPlaces, LosesOnly};
 ghost use Rattle.quick_cache_policy.specs.Contents.{IsSound, state_of};
-ghost use Rattle.quick_cache_policy.specs.Filling.{AnswersFill, AwaitsKey, Fills};
+ghost use Rattle.quick_cache_policy.specs.Advances.{Evicting};
+ghost use Rattle.quick_cache_policy.specs.Filling.{AnswersFill, AwaitsKey, Fills, MakesRoomBehind};
 ghost use Rattle.quick_cache_policy.specs.Policies.{rules_by};
-ghost use Rattle.quick_cache_policy.specs.Stays.{WritesWithin, KeepsSound};
+ghost use Rattle.quick_cache_policy.specs.Stays.{MakesRoom, WritesWithin, KeepsSound};
 
 use crate::contents::Contents;
 use crate::policy::Policy;
 use crate::writing::admission::{Admission, Weighed};
-use quick_cache_model::{Queue, SharedPlaceholder, Token};
+use quick_cache_model::{SharedPlaceholder, Token};
 use quick_cache_store::lists::{Entry, Meaning, Order};
 use std::alloc::Allocator;
 use std::hash::Hash;
@@ -41,6 +42,29 @@ fn mark_if(waited: bool) -> u8
 }
 
 impl<K: Eq + Hash + Drop, V: Drop, P: SharedPlaceholder<K>, A: Allocator> Contents<K, V, P, A> {
+    /// Evicts to the capacity behind a pair of that weight, which came in, if it weighs something.
+    #[inline(always)]
+    fn make_room_for<M: Policy<K, V>>(
+        &mut self,
+        weight: u64,
+        terms: &M,
+        state: &mut M::RequestState,
+    )
+        requires sound { IsSound P.ticket_of K.eq (M.hashed terms.now) self.old }
+        ensures makes { Calls (M.hooks terms.now)
+            (Evicting (M.steady terms.now)
+            (MakesRoomBehind (rules_by M.Policy P.Touch.may_count terms.now) weight)
+            (state_of P.ticket_of self.old) (state_of P.ticket_of self.new))
+            state.old state.new }
+        ensures stays { MakesRoom P.ticket_of K.eq (M.hashed terms.now) 1 self.old self.new }
+    {
+        self.facts();
+        if weight == 0 {
+            return;
+        }
+        self.evict_to_capacity(0, terms, state);
+    }
+
     /// Fills the placeholder of a token: its pair is put in where the placeholder stands, and room
     /// is made behind it where it weighs something, or the placeholder goes and the pair is turned
     /// away. It is hot if it fits the hot target, and else of the placeholder's queue.
@@ -73,18 +97,11 @@ impl<K: Eq + Hash + Drop, V: Drop, P: SharedPlaceholder<K>, A: Allocator> Conten
         match self.admit(terms, state, awaited.key(), value) {
             Admission::Admitted(weighed) => {
                 let Weighed { value, weight } = weighed;
-                let hot_weight = self.lists.weight(Queue::Hot) + u128::from(weight);
-                let queue = if hot_weight <= u128::from(self.hot_target) {
-                    Queue::Hot
-                } else {
-                    otherwise
-                };
+                let queue = self.choose_queue(weight, otherwise);
                 let mark = mark_if(marked);
                 let touch = P::Touch::default();
                 self.lists.fill(token, queue, mark, weight, value, touch);
-                if weight > 0 {
-                    self.evict_to_capacity(0, terms, state);
-                }
+                self.make_room_for(weight, terms, state);
             }
             Admission::TooHeavy(value) => {
                 let slot = self.lists.take(token, Order::Kept);

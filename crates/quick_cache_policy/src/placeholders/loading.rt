@@ -4,7 +4,6 @@ ghost use Rattle.std.specs.Int.NonZero.{non_zero_u32_get as number};
 ghost use Rattle.quick_cache_store.specs.Lists.{Finds};
 ghost use Rattle.quick_cache_model.specs.CacheState.{UpToOrder};
 ghost use Rattle.quick_cache_model.specs.Placeholders.{MeetsPlaceholder};
-ghost use Rattle.quick_cache_model.specs.declared.refusal.Refusal.TheVariants.{Memory, TicketsSpent};
 ghost use Rattle.quick_cache_policy.specs.Contents.{IsSound, state_of};
 ghost use Rattle.quick_cache_policy.specs.Finding.{AreUnder};
 ghost use Rattle.quick_cache_policy.specs.Loading.{IsMadeUnder, Makes, LooksUpOrMakes};
@@ -36,7 +35,7 @@ impl<K: Eq + Hash + Drop, V: Drop, P: SharedPlaceholder<K>, A: Allocator> Conten
         ensures hash { IfOk result (λ made. P.hash_of made.1 ≡ hash) }
         ensures succeeds { M.is_infallible maker.now → Q.to_key_is_infallible query.now
             → IsOk result }
-        ensures refused { IfErr result (λ refusal. refusal ≡ Memory) }
+        ensures refused { IfErr result (λ refusal. refusal ≡ Refusal.Memory) }
     {
         let key = query.to_key()?;
         let placeholder = maker.make(hash, token, self.next_ticket, query)?;
@@ -85,7 +84,7 @@ impl<K: Eq + Hash + Drop, V: Drop, P: SharedPlaceholder<K>, A: Allocator> Conten
         // Where key and placeholder are had without fail, it asks for memory only where there is no
         // room.
         ensures asks { M.is_infallible maker.now → Q.to_key_is_infallible query.now
-            → IfErr result (λ refusal. refusal ≡ Memory → self.old.lists.room ≡ 0) }
+            → IfErr result (λ refusal. refusal ≡ Refusal.Memory → self.old.lists.room ≡ 0) }
         ensures same { self.new ≡ record self.old {
           lists = self.new.lists;
           misses = self.new.misses;
@@ -128,7 +127,7 @@ impl<K: Eq + Hash + Drop, V: Drop, P: SharedPlaceholder<K>, A: Allocator> Conten
         ensures room { self.old.lists.room ≤ self.new.lists.room }
         // Where key and placeholder are had without fail it is refused for tickets alone.
         ensures asks { M.is_infallible maker.now → Q.to_key_is_infallible query.now
-            → IfErr result (λ refusal. refusal ≡ TicketsSpent) }
+            → IfErr result (λ refusal. refusal ≡ Refusal.TicketsSpent) }
         ensures same { self.new ≡ record self.old {
           lists = self.new.lists;
           misses = self.new.misses;
@@ -191,7 +190,7 @@ impl<K: Eq + Hash + Drop, V: Drop, P: SharedPlaceholder<K>, A: Allocator> Conten
         // Where key and placeholder are had without fail, it asks for memory only where there is no
         // room.
         ensures asks { M.is_infallible maker.now → Q.to_key_is_infallible query.now
-            → IfErr result (λ refusal. refusal ≡ Memory → self.old.lists.room ≡ 0) }
+            → IfErr result (λ refusal. refusal ≡ Refusal.Memory → self.old.lists.room ≡ 0) }
         ensures same { self.new ≡ record self.old {
           lists = self.new.lists;
           hits = self.new.hits;

@@ -1,19 +1,17 @@
 //! Whether a pair may come in at all, and what becomes of one that may not.
-ghost use Rattle.std.specs.Prelude.{◌≡◌, [], ◌∷◌, None, true};
+ghost use Rattle.std.specs.Prelude.{◌≡◌, [], ◌∷◌, None};
+ghost use Rattle.quick_cache_store.specs.Lists.{Finds};
 ghost use Rattle.quick_cache_model.specs.Hooks.{Calls, RunsHooks, evicted};
-ghost use Rattle.quick_cache_model.specs.Writes.{Strategy, TakesOutItem};
+ghost use Rattle.quick_cache_model.specs.Writes.{Insert, TakesOutItem};
 ghost use Rattle.quick_cache_policy.specs.Contents.{IsSound, state_of};
-ghost use Rattle.quick_cache_policy.specs.Finding.{IsPlanned};
 ghost use Rattle.quick_cache_policy.specs.Policies.{rules_by};
 ghost use Rattle.quick_cache_policy.specs.Stays.{LosesEntries};
-ghost use Rattle.quick_cache_policy.specs.Writing.{strategy_of, is_insert, Checks, IsReplacement, Rejecting};
+ghost use Rattle.quick_cache_policy.specs.Writing.{Checks, IsReplacement, Rejecting};
 
 use crate::contents::Contents;
 use crate::policy::Policy;
-use crate::strategy::InsertStrategy;
-use crate::writing::plan::Plan;
 use quick_cache_model::{Queue, SharedPlaceholder};
-use quick_cache_store::lists::{Entry, Order};
+use quick_cache_store::lists::{Entry, Found, Order};
 use std::alloc::Allocator;
 use std::hash::Hash;
 
@@ -78,9 +76,9 @@ impl<K: Eq + Hash + Drop, V: Drop, P: SharedPlaceholder<K>, A: Allocator> Conten
     }
 
     /// Takes the item out that was to be written over, if there is one, and tells it to its hook.
-    fn take_out_item<M: Policy<K, V>>(
+    pub(crate) fn take_out_item<M: Policy<K, V>>(
         &mut self,
-        plan: Plan,
+        found: Found,
         terms: &M,
         state: &mut M::RequestState,
         key: &K,
@@ -88,15 +86,14 @@ impl<K: Eq + Hash + Drop, V: Drop, P: SharedPlaceholder<K>, A: Allocator> Conten
     )
         requires sound { IsSound P.ticket_of K.eq (M.hashed terms.now) self.old }
         requires hash_is { hash ≡ M.hashed terms.now key.now }
-        requires planned { (strategy : Strategy)
-            × IsPlanned (K.eq key.now) hash self.old.lists strategy plan }
+        requires found { Finds (K.eq key.now) hash self.old.lists found }
         ensures takes { Calls (M.hooks terms.now)
             (λ calls. TakesOutItem (K.eq key.now) (state_of P.ticket_of self.old) calls
             (state_of P.ticket_of self.new) × IsReplacement calls)
             state.old state.new }
         ensures stays { LosesEntries P.ticket_of K.eq (M.hashed terms.now) self.old self.new }
     {
-        let Plan::OverItem(token) = plan else {
+        let Found::Item(token) = found else {
             return;
         };
         self.lists.facts();
@@ -113,34 +110,27 @@ impl<K: Eq + Hash + Drop, V: Drop, P: SharedPlaceholder<K>, A: Allocator> Conten
         }
     }
 
-    /// Turns away a pair that is too heavy, with the item under its key: an insert tells the pair
-    /// to the cold hook, a replace gives it back.
-    pub(crate) fn reject_too_heavy<M: Policy<K, V>>(
+    /// Turns away a pair that is too heavy to be inserted: the item under its key leaves, and the
+    /// pair is told to the cold hook.
+    pub(crate) fn turn_away<M: Policy<K, V>>(
         &mut self,
-        plan: Plan,
+        found: Found,
         terms: &M,
         state: &mut M::RequestState,
         hash: u64,
         key: K,
         value: V,
-        strategy: InsertStrategy,
-    ) -> Option<(K, V)>
+    )
         requires sound { IsSound P.ticket_of K.eq (M.hashed terms.now) self.old }
         requires hash_is { hash ≡ M.hashed terms.now key }
-        requires planned { IsPlanned (K.eq key) hash self.old.lists (strategy_of strategy) plan }
+        requires found { Finds (K.eq key) hash self.old.lists found }
         ensures rejects { Calls (M.hooks terms.now)
-            (Rejecting (K.eq key) key (strategy_of strategy) (state_of P.ticket_of self.old) value
-            result (state_of P.ticket_of self.new))
+            (Rejecting (K.eq key) key Insert (state_of P.ticket_of self.old) value None
+            (state_of P.ticket_of self.new))
             state.old state.new }
-        // An insert takes the pair.
-        ensures taken { is_insert (strategy_of strategy) ≡ true → result ≡ None }
         ensures stays { LosesEntries P.ticket_of K.eq (M.hashed terms.now) self.old self.new }
     {
-        self.take_out_item(plan, terms, state, &key, hash);
-        if !strategy.makes_items() {
-            return Some((key, value));
-        }
+        self.take_out_item(found, terms, state, &key, hash);
         terms.on_evict_cold(state, key, value);
-        None
     }
 }

@@ -1,6 +1,5 @@
 //! A pair that a cache had before comes back to where it stood.
 ghost use Rattle.std.specs.Prelude.{◌≡◌, ◌+◌, ◌≤◌, IfErr, Some};
-ghost use Rattle.quick_cache_model.specs.declared.refusal.Refusal.TheVariants.{Memory};
 ghost use Rattle.quick_cache_policy.specs.Contents.{IsSound, state_of};
 ghost use Rattle.quick_cache_policy.specs.Places.{KeepsPlaces, places_of};
 ghost use Rattle.quick_cache_policy.specs.Policies.{rules_by};
@@ -8,10 +7,8 @@ ghost use Rattle.quick_cache_policy.specs.Restoring.{AnswersRestore};
 
 use crate::contents::Contents;
 use crate::policy::Policy;
-use crate::strategy::InsertStrategy;
-use crate::writing::plan::Plan;
 use quick_cache_model::{Queue, Refusal, SharedPlaceholder};
-use quick_cache_store::lists::{Entry, Marked};
+use quick_cache_store::lists::{Entry, Found, Marked};
 use std::alloc::Allocator;
 use std::hash::Hash;
 
@@ -35,18 +32,19 @@ impl<K: Eq + Hash + Drop, V: Drop, P: SharedPlaceholder<K>, A: Allocator> Conten
             key value queue mark (state_of P.ticket_of self.old) result
             (state_of P.ticket_of self.new) }
         // It asks for memory only where there is no room.
-        ensures asks { IfErr result (λ back. back.2 ≡ Some Memory → self.old.lists.room ≡ 0) }
+        ensures asks { IfErr result
+            (λ back. back.2 ≡ Some Refusal.Memory → self.old.lists.room ≡ 0) }
         ensures sound { IsSound P.ticket_of K.eq (M.hashed terms.now) self.new }
         // No item moves, and it takes room for one entry at most.
         ensures places { KeepsPlaces K.eq (places_of self.old.lists) (places_of self.new.lists) }
         ensures room { self.old.lists.room ≤ self.new.lists.room + 1 }
         ensures same { self.new ≡ record self.old { lists = self.new.lists } }
     {
-        let plan = self.plan_write(hash, &key, InsertStrategy::Insert);
-        let Plan::InsertNew = plan else {
+        let found = self.lists.find(hash, &key);
+        let Found::Nothing = found else {
             return Err((key, value, None));
         };
-        if let Some(refusal) = self.provide(plan) {
+        if let Err(refusal) = self.provide(found) {
             return Err((key, value, Some(refusal)));
         }
         let weight = terms.weigh(&key, &value);

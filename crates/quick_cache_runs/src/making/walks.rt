@@ -3,7 +3,6 @@ ghost use Rattle.std.specs.Prelude.{◌≡◌, ◌≤◌, [], IfOk, IfErr, vec_c
 ghost use Rattle.quick_cache_model.specs.Shown.{ArePairsShown};
 ghost use Rattle.quick_cache_model.specs.CacheState.{item_count};
 ghost use Rattle.quick_cache_model.specs.Removal.{Drains};
-ghost use Rattle.quick_cache_model.specs.declared.refusal.Refusal.TheVariants.{Memory};
 ghost use Rattle.quick_cache_shard.specs.Shard.{KeepsWork};
 ghost use Rattle.quick_cache_runs.specs.Made.{StepsBy};
 
@@ -17,7 +16,7 @@ use std::hash::{BuildHasher, Hash};
 /// Clones of a key and of its value.
 fn pair<K: Clone + Drop, V: Clone>(key: &K, value: &V) -> Result<(K, V), Refusal>
     ensures clones { IfOk result (λ pair. K.is_clone key.now pair.0 × V.is_clone value.now pair.1) }
-    ensures refused { IfErr result (λ refusal. refusal ≡ Memory) }
+    ensures refused { IfErr result (λ refusal. refusal ≡ Refusal.Memory) }
 {
     let Ok(key) = key.clone() else {
         return Err(Refusal::Memory);
@@ -35,7 +34,7 @@ fn shown<M: Allocator, K: Eq + Hash + Clone + Drop, V: Clone + Drop>(
 ) -> Result<Vec<(K, V), M>, Refusal>
     ensures shows { IfOk result (λ pairs. ArePairsShown K.is_clone V.is_clone items.entry
         pairs.items) }
-    ensures refused { IfErr result (λ refusal. refusal ≡ Memory) }
+    ensures refused { IfErr result (λ refusal. refusal ≡ Refusal.Memory) }
 {
     let mut pairs = Vec::new(alloc);
     let Ok(()) = pairs.reserve(items.len()) else {

@@ -135,6 +135,7 @@ impl<
     A: Allocator,
 > CacheShard<K, V, We, B, L, P, A> {
     ghost use Rattle.quick_cache_shard.specs.LentTokens.{lender, lent, slot_of};
+    ghost use Rattle.quick_cache_shard.specs.TokenValues.{with_value_at};
 
     /// A reference to the value of the item that stands at the token, to write, if one does. It is
     /// no use of the item: nothing is counted or marked. Once it is dropped, the item has the weight
@@ -155,6 +156,28 @@ impl<
             shard: self,
             slot: token.get(),
         })
+    }
+
+    /// The value of the item of the token, which is known to be there.
+    pub(crate) fn value_at(&self, token: Token) -> &V
+        requires there { IsTaken self.now (number token) }
+        ensures { IsValueOf self.now (number token) result.now }
+    {
+        let Some(value) = self.peek_token(token) else {
+            unreachable!();
+        };
+        value
+    }
+
+    /// The same, to write. The item keeps its place and its weight.
+    pub(crate) fn value_at_mut(&mut self, token: Token) -> &mut V
+        requires there { IsTaken self.old (number token) }
+        ensures* writes_back { sem 𝓛 (Lends ⟦<Self as Rowed>⟧.lender_row V.row self.entry result
+            (λ value. with_value_at K.eq (number token) value self.old)) }
+        ensures value { IsValueOf self.old (number token) result.now }
+    {
+        self.contents.lists.facts();
+        self.contents.value_mut(token)
     }
 
     /// Weighs the item of the token anew, which is known to be there, as `reweigh` does.

@@ -1,6 +1,5 @@
 //! Placeholders: made or met by a look-up, filled, or given up.
 ghost use Rattle.std.specs.Prelude.{◌≡◌, ℕ, Bool, true, IfErr, MatchOption};
-ghost use Rattle.quick_cache_model.specs.declared.refusal.Refusal.TheVariants.{Memory};
 ghost use Rattle.quick_cache_model.specs.Placeholders.{GivesUpPlaceholder, HasNoTicket};
 ghost use Rattle.quick_cache_policy.specs.Filling.{AwaitsKey};
 ghost use Rattle.quick_cache_shard.specs.Loading.{FindsToken, HasNoneWanted, IsMadeUnder, LooksUpOrMakes, MeansByTicket};
@@ -52,7 +51,7 @@ impl<
         // Where key and placeholder are had without fail, it asks for memory only where there is no
         // room.
         ensures asks { M.is_infallible maker.now → Q.to_key_is_infallible query.now
-            → IfErr result (λ refusal. refusal ≡ Memory → self.old.room ≡ 0) }
+            → IfErr result (λ refusal. refusal ≡ Refusal.Memory → self.old.room ≡ 0) }
         ensures stays { IdlesWithin K.eq 1 self.old self.new }
     {
         let answer = self.contents.get_or_placeholder(maker, hash, query);

@@ -5,7 +5,7 @@ ghost use Rattle.std.specs.Iterator.{at_most, UpTo};
 ghost use Rattle.std.specs.Iterator.SizeHint.{IsWithinCount};
 ghost use Rattle.quick_cache_policy.specs.Tokens.{TakesItem};
 ghost use Rattle.quick_cache_shard.specs.Shard.{LeavesPlace};
-ghost use Rattle.quick_cache_shard.specs.ShardDrain.{drained, drain_lender, DrainsInAll};
+ghost use Rattle.quick_cache_shard.specs.ShardDrain.{held, drain_rest, DrainsInAll};
 ghost use Rattle.quick_cache_shard.specs.Stays.{IdlesWithin};
 
 use crate::shard::CacheShard;
@@ -41,10 +41,10 @@ impl<
     P: SharedPlaceholder<K>,
     A: Allocator,
 > Drop for Drain<'a, K, V, We, B, L, P, A> {
-    ghost use Rattle.quick_cache_shard.specs.ShardDrain.{drained, emptied};
+    ghost use Rattle.quick_cache_shard.specs.ShardDrain.{held, emptied};
 
     fn drop(self)
-        ensures { self.exit.0.now ≡ emptied (drained self.entry) }
+        ensures { self.exit.0.now ≡ emptied (held self.entry).now }
     {
         let Drain { shard, at: _ } = self;
         shard.clear();
@@ -62,13 +62,13 @@ impl<
     A: Allocator,
 > Iterator for Drain<'a, K, V, We, B, L, P, A> {
     ghost use Rattle.std.specs.Iterator.{item_count};
-    ghost use Rattle.quick_cache_shard.specs.ShardDrain.{drain_rest, DrainSteps};
+    ghost use Rattle.quick_cache_shard.specs.ShardDrain.{held, drain_rest, DrainSteps};
 
     type Item = (K, V);
 
-    ghost next_gives = { DrainSteps };
+    ghost next_gives = { DrainSteps held };
 
-    ghost remaining = { item_count drain_rest };
+    ghost remaining = { item_count (drain_rest held) };
 
     fn next(&mut self) -> Option<(K, V)> {
         let (token, pair) = self.shard.take_next(self.at)?;
@@ -77,11 +77,11 @@ impl<
     }
 
     fn size_hint(&self) -> (usize, Option<usize>)
-        ensures lower { IsWithinCount result.0 (at_most (length (drain_rest self.now))) }
-        ensures upper { IfSome result.1 (UpTo (at_most (length (drain_rest self.now)))) }
+        ensures lower { IsWithinCount result.0 (at_most (length (drain_rest held self.now))) }
+        ensures upper { IfSome result.1 (UpTo (at_most (length (drain_rest held self.now)))) }
         // It is exact.
         ensures exact { result
-            ≡ (length (drain_rest self.now), Some (length (drain_rest self.now))) }
+            ≡ (length (drain_rest held self.now), Some (length (drain_rest held self.now))) }
     {
         let left = self.shard.len();
         (left, Some(left))
@@ -149,9 +149,9 @@ impl<K: Eq + Hash, V, We, B: BuildHasher, L, P: SharedPlaceholder<K>, A: Allocat
     where
         K: Drop,
         V: Drop,
-        ensures begins { drained result ≡ self.old }
-        ensures same_reference { drain_lender result ≡ self.entry.ghost_name }
-        ensures gives { DrainsInAll result }
+        ensures begins { (held result).now ≡ self.old }
+        ensures same_reference { (held result).ghost_name ≡ self.entry.ghost_name }
+        ensures gives { DrainsInAll held result }
     {
         Drain {
             shard: self,

@@ -2,7 +2,8 @@
 ghost use Rattle.std.specs.Prelude.{◌≡◌, Bool};
 ghost use Rattle.std.specs.Fn.{FnOnceReturnsAt};
 ghost use Rattle.quick_cache_model.specs.Removal.{Removes, RemovesIf, Retains};
-ghost use Rattle.quick_cache_policy.specs.Predicates.{Answers, IsAnsweredAs, IsTestedAs, MayBeAskedUnder, MayBeAskedOfEach, RemovesAsked, RetainsAsked};
+ghost use Rattle.quick_cache_policy.specs.Predicates.{Answers, IsAnsweredAs, IsTestedAs, MayBeAskedUnder, MayBeAskedOfEach, RemovesAsked};
+ghost use Rattle.quick_cache_policy.specs.Predicates.{RetainsAsked};
 ghost use Rattle.quick_cache_shard.specs.Shard.{LosesOnly, UpToOrder, IsSoundShard};
 ghost use Rattle.quick_cache_shard.specs.ShardDrain.{emptied};
 ghost use Rattle.quick_cache_shard.specs.Stays.{IdlesWithin};

@@ -1,12 +1,13 @@
 //! Walks over what a shard holds: over a ring in the order in which it would be visited, and over
 //! all items in none.
-ghost use Rattle.std.specs.Prelude.{◌≡◌, length, IfSome, Some};
+ghost use Rattle.std.specs.Prelude.{◌≡◌, length, IfSome, Some, codes};
 ghost use Rattle.std.specs.Iterator.{YieldsFirst, YieldsFirstBy, item_count, at_most, UpTo};
 ghost use Rattle.std.specs.Iterator.SizeHint.{IsWithinCount};
 
 use quick_cache_policy::SharedPlaceholder;
 use quick_cache_store::lists::{GhostIter as Ghosts, ItemIter as Items, RingIter as Ring};
 use std::alloc::{Allocator, Global};
+use std::fmt::{Debug, Formatter, Write};
 use std::hash::Hash;
 use std::iter::FusedIterator;
 use std::marker::Model;
@@ -152,3 +153,11 @@ impl<'a, K: Eq + Hash, V, P: SharedPlaceholder<K>> ExactSizeIterator for Iter<'a
 }
 
 impl<'a, K: Eq + Hash, V, P: SharedPlaceholder<K>> FusedIterator for Iter<'a, K, V, P> {}
+
+impl<'a, K: Eq + Hash, V, P: SharedPlaceholder<K>> Debug for Iter<'a, K, V, P> {
+    ghost debug_output = { λ _. Some (codes "Iter { .. }") };
+
+    fn fmt<W: Write>(&self, f: &mut Formatter<W>) -> std::fmt::Result {
+        f.write_str("Iter { .. }")
+    }
+}

@@ -1,11 +1,10 @@
 //! Calls that may evict: a write, the fill of a placeholder, and another capacity.
 ghost use Rattle.std.specs.Prelude.{◌≡◌, ◌+◌, ◌≤◌, IfErr, IsSome, Some, None, true, false};
-ghost use Rattle.quick_cache_model.specs.declared.refusal.Refusal.TheVariants.{Memory};
 ghost use Rattle.quick_cache_policy.specs.Writing.{strategy_of, is_insert};
 ghost use Rattle.quick_cache_shard.specs.Shard.{KeepsPlaces, KeepsTerms, KeepsWork, LosesOnly};
 ghost use Rattle.quick_cache_shard.specs.SetsCapacity.{Rescales};
 ghost use Rattle.quick_cache_shard.specs.Stays.{WritesWithin};
-ghost use Rattle.quick_cache_shard.specs.Steps.{AnswersWriteBy, FillsBy, RestoresBy, SetsCapacityBy};
+ghost use Rattle.quick_cache_shard.specs.Steps.{AnswersWriteBy, FillsBy, InsertsBy, ReplacesBy, RestoresBy, SetsCapacityBy};
 
 use crate::shard::CacheShard;
 use crate::words::{Going, Keyed};
@@ -24,12 +23,59 @@ impl<
     P: SharedPlaceholder<K>,
     A: Allocator,
 > CacheShard<K, V, We, B, L, P, A> {
-    /// Writes a pair, whose hash is handed in, and makes room for it.
+    /// Inserts a pair, whose hash is handed in, and makes room for it.
     ///
     /// Room is made first: with 4294967294 items, ghosts and placeholders, and where there is no
     /// memory, an insert of what is not found gives the pair back with the refusal, and has changed
-    /// nothing and called no hook. A pair that comes back with no refusal was not admitted: only a
-    /// replace gives one back so.
+    /// nothing and called no hook.
+    #[inline(always)]
+    pub fn insert_pair(
+        &mut self,
+        state: &mut L::RequestState,
+        hash: u64,
+        key: K,
+        value: V,
+    ) -> Result<(), (K, V, Refusal)>
+        requires hash_is { hash ≡ ⟦<Self as Keyed>⟧.hash self.old.builder (K.hash_input key) }
+        ensures inserts { InsertsBy ⟦<Self as Going>⟧.goes P.Touch.may_count self.old K.eq key value
+            result self.new state.old state.new }
+        ensures places { KeepsPlaces K.eq self.old.places self.new.places }
+        // It asks for memory only where there is no room.
+        ensures asks { IfErr result (λ back. back.2 ≡ Refusal.Memory → self.old.room ≡ 0) }
+        ensures stays { WritesWithin K.eq 1 self.old self.new }
+    {
+        let answer = self.contents.insert(&self.terms, state, hash, key, value);
+        self.facts();
+        answer
+    }
+
+    /// Replaces the item under the key by the pair, whose hash is handed in. The pair comes back
+    /// where it was not admitted: there is no item, or it is too heavy, and then the item has left.
+    pub fn replace_pair(
+        &mut self,
+        state: &mut L::RequestState,
+        hash: u64,
+        key: K,
+        value: V,
+        soft: bool,
+    ) -> Result<(), (K, V)>
+        requires hash_is { hash ≡ ⟦<Self as Keyed>⟧.hash self.old.builder (K.hash_input key) }
+        ensures replaces { ReplacesBy ⟦<Self as Going>⟧.goes P.Touch.may_count self.old K.eq soft
+            key value result self.new state.old state.new }
+        ensures places { KeepsPlaces K.eq self.old.places self.new.places }
+        // It takes no room.
+        ensures stays { WritesWithin K.eq 0 self.old self.new }
+    {
+        let answer = self
+            .contents
+            .replace(&self.terms, state, hash, key, value, soft);
+        self.facts();
+        answer
+    }
+
+    /// Writes a pair by a strategy, as `insert_pair` or as `replace_pair`.
+    ///
+    /// A pair that comes back with no refusal was not admitted: only a replace gives one back so.
     pub fn insert(
         &mut self,
         state: &mut L::RequestState,
@@ -48,15 +94,22 @@ impl<
         ensures unrefused { is_insert (strategy_of strategy) ≡ false
             → IfErr result (λ back. back.2 ≡ None) }
         // It asks for memory only where there is no room, and a replace takes none.
-        ensures asks { IfErr result (λ back. back.2 ≡ Some Memory → self.old.room ≡ 0) }
+        ensures asks { IfErr result (λ back. back.2 ≡ Some Refusal.Memory → self.old.room ≡ 0) }
         ensures kept { is_insert (strategy_of strategy) ≡ false → self.old.room ≤ self.new.room }
         ensures stays { WritesWithin K.eq 1 self.old self.new }
     {
-        let answer = self
-            .contents
-            .insert(&self.terms, state, hash, key, value, strategy);
-        self.facts();
-        answer
+        match strategy {
+            InsertStrategy::Insert => match self.insert_pair(state, hash, key, value) {
+                Ok(()) => Ok(()),
+                Err((key, value, refusal)) => Err((key, value, Some(refusal))),
+            },
+            InsertStrategy::Replace { soft } => {
+                match self.replace_pair(state, hash, key, value, soft) {
+                    Ok(()) => Ok(()),
+                    Err((key, value)) => Err((key, value, None)),
+                }
+            }
+        }
     }
 
     /// Puts a pair last in that ring, or among the weightless, with that mark or the greatest there
@@ -77,7 +130,7 @@ impl<
         requires hash_is { hash ≡ ⟦<Self as Keyed>⟧.hash self.old.builder (K.hash_input key) }
         ensures answers { RestoresBy ⟦<Self as Going>⟧.goes P.Touch.may_count self.old K.eq
             key value queue mark result self.new }
-        ensures asks { IfErr result (λ back. back.2 ≡ Some Memory → self.old.room ≡ 0) }
+        ensures asks { IfErr result (λ back. back.2 ≡ Some Refusal.Memory → self.old.room ≡ 0) }
         ensures places { KeepsPlaces K.eq self.old.places self.new.places }
         ensures room { self.old.room ≤ self.new.room + 1 }
         ensures same { KeepsTerms self.old self.new }

@@ -1,5 +1,6 @@
 -- Each token has one entry at most.
-use Rattle.std.proofs.Common.{◌≡◌, ◌≢◌, ℕ, zero, suc, ◌≤◌, ◌==◌, if◌then◌else◌, Bool, true, false, List, [], ◌∷◌, map, length, Option, Some, None, refl, sym, ap, ◌∙◌, inl, inr, arith}
+use Rattle.std.proofs.Common.{◌≡◌, ◌≢◌, ℕ, zero, suc, ◌≤◌, ◌==◌, if◌then◌else◌, Bool, true, false, List, [], ◌∷◌, map, length, Option, Some}
+use Rattle.std.proofs.Common.{None, refl, sym, ap, ◌∙◌, inl, inr, arith}
 use Rattle.std.proofs.lemmas.Bool.{cases_eq, cases_lt}
 use Rattle.quick_cache_model.specs.Sequences.{times}
 use Rattle.quick_cache_store.specs.Pool.{Pool, item_at}
@@ -7,11 +8,11 @@ use Rattle.quick_cache_index.specs.Index.{Index}
 use Rattle.quick_cache_model.specs.declared.queue.Queue.{Queue}
 use Rattle.quick_cache_store.proofs.pool.TokenCounts.{times-append, times-other}
 use Rattle.quick_cache_store.specs.declared.slots.entry.Entry.{Entry}
-use Rattle.quick_cache_store.specs.declared.slots.entry.Entry.TheVariants.{Item as item_variant, Loading as loading_variant, Ghost as ghost_variant}
 use Rattle.quick_cache_store.specs.declared.slots.entry.Slot.{Slot}
 use Rattle.quick_cache_store.specs.Rings.{Ring, Rings}
 use Rattle.quick_cache_store.specs.Lists.{HeldItem, AreApart, entries_of}
-use Rattle.quick_cache_store.specs.ListSlots.{Stand, AmongHot, AmongCold, AmongStill, AmongLoading, AmongGhosts, ring_stand, stand_of, item_of, still_of, loading_of, ghost_of}
+use Rattle.quick_cache_store.specs.ListSlots.{Stand, AmongHot, AmongCold, AmongStill, AmongLoading, AmongGhosts, ring_stand, stand_of}
+use Rattle.quick_cache_store.specs.ListSlots.{item_of, still_of, loading_of, ghost_of}
 use Rattle.quick_cache_store.specs.Sound.{put, gather, upto, lists_of, IsStanding}
 use Rattle.quick_cache_store.proofs.lists.GatherLemmas.{times-upto, times-upto_past}
 use Rattle.quick_cache_store.proofs.lists.SoundLemmas.{out_of_ring}
@@ -78,11 +79,11 @@ module _ {K V P T : Type 0} where
       by_entry : (hash : ℕ) (entry : Entry K V P T)
           → stand_of (Some (record { hash = hash; entry = entry })) ≢ Some AmongStill
           → still_of t (Some (record { hash = hash; entry = entry })) ≡ None
-      by_entry hash (item_variant item) off' =
+      by_entry hash (Entry.Item item) off' =
           by_weight (item.weight == 0) item.queue
           (record { token = t; hash = hash; item = item }) off'
-      by_entry hash (loading_variant awaited) off' = refl
-      by_entry hash ghost_variant off' = refl
+      by_entry hash (Entry.Loading awaited) off' = refl
+      by_entry hash Entry.Ghost off' = refl
 
   waiting_none : (t : ℕ) (o : Option (Slot K V P T)) → stand_of o ≢ Some AmongLoading
       → loading_of t o ≡ None
@@ -92,9 +93,9 @@ module _ {K V P T : Type 0} where
       by_entry : (hash : ℕ) (entry : Entry K V P T)
           → stand_of (Some (record { hash = hash; entry = entry })) ≢ Some AmongLoading
           → loading_of t (Some (record { hash = hash; entry = entry })) ≡ None
-      by_entry hash (item_variant item) off' = refl
-      by_entry hash (loading_variant awaited) off' = absurd (off' refl)
-      by_entry hash ghost_variant off' = refl
+      by_entry hash (Entry.Item item) off' = refl
+      by_entry hash (Entry.Loading awaited) off' = absurd (off' refl)
+      by_entry hash Entry.Ghost off' = refl
 
 module _ {K V P T : Type 0} (slab : Pool (Slot K V P T)) (index : Index)
     (rings : Rings) (sound : IsStanding slab rings) where

@@ -5,7 +5,6 @@ use Rattle.quick_cache_store.specs.Pool.{Pool, item_at}
 use Rattle.quick_cache_index.specs.Index.{Index}
 use Rattle.quick_cache_store.specs.declared.slots.entry.Awaited.{Awaited}
 use Rattle.quick_cache_store.specs.declared.slots.entry.Entry.{Entry}
-use Rattle.quick_cache_store.specs.declared.slots.entry.Entry.TheVariants.{Item as item_variant, Loading as loading_variant, Ghost as ghost_variant}
 use Rattle.quick_cache_store.specs.declared.slots.entry.Slot.{Slot}
 use Rattle.quick_cache_store.specs.Slots.{HasLoading}
 use Rattle.quick_cache_store.specs.Rings.{Rings}
@@ -22,58 +21,58 @@ use Rattle.quick_cache_store.proofs.lists.TakeLemmas.{occupied_by_entry, named_l
 module _ {K V P T : Type 0} where
   -- an entry that is seen as a key that is being loaded is one
   pub entry_awaited-some : (entry : Entry K V P T) (awaited : Awaited K P)
-      → entry_awaited entry ≡ Some awaited → entry ≡ loading_variant awaited
-  entry_awaited-some (item_variant item) awaited is = absurd (cc)
-  entry_awaited-some (loading_variant one) awaited is =
-      let same : one ≡ awaited = cc in ap (λ a. loading_variant a) same
-  entry_awaited-some ghost_variant awaited is = absurd (cc)
+      → entry_awaited entry ≡ Some awaited → entry ≡ Entry.Loading awaited
+  entry_awaited-some (Entry.Item item) awaited is = absurd (cc)
+  entry_awaited-some (Entry.Loading one) awaited is =
+      let same : one ≡ awaited = cc in ap (λ a. Entry.Loading a) same
+  entry_awaited-some Entry.Ghost awaited is = absurd (cc)
 
   -- and one that is a key that is being loaded is seen as that
   pub entry_awaited-none : (entry : Entry K V P T) (awaited : Awaited K P)
-      → entry ≡ loading_variant awaited → entry_awaited entry ≡ None → ⊥
-  entry_awaited-none (item_variant item) awaited is none = absurd (cc)
-  entry_awaited-none (loading_variant one) awaited is none = absurd (cc)
-  entry_awaited-none ghost_variant awaited is none = absurd (cc)
+      → entry ≡ Entry.Loading awaited → entry_awaited entry ≡ None → ⊥
+  entry_awaited-none (Entry.Item item) awaited is none = absurd (cc)
+  entry_awaited-none (Entry.Loading one) awaited is none = absurd (cc)
+  entry_awaited-none Entry.Ghost awaited is none = absurd (cc)
 
   -- a slot that shows a placeholder has one
   awaited_in_slot : (t : ℕ) (o : Option (Slot K V P T)) (waiting : HeldLoading K P)
       → loading_of t o ≡ Some waiting → (slot : Slot K V P T) → o ≡ Some slot
-      → (awaited : Awaited K P) × (slot.entry ≡ loading_variant awaited)
+      → (awaited : Awaited K P) × (slot.entry ≡ Entry.Loading awaited)
   awaited_in_slot t None waiting is slot at = absurd (cc)
   awaited_in_slot t (Some one) waiting is slot at =
       let same : one ≡ slot = cc in
-      subst (λ (s : Slot K V P T). (awaited : Awaited K P) × (s.entry ≡ loading_variant awaited))
+      subst (λ (s : Slot K V P T). (awaited : Awaited K P) × (s.entry ≡ Entry.Loading awaited))
       same (by_entry one.hash one.entry is)
     where
       by_entry : (hash : ℕ) (entry : Entry K V P T)
           → loading_of t (Some (record { hash = hash; entry = entry })) ≡ Some waiting
-          → (awaited : Awaited K P) × (entry ≡ loading_variant awaited)
-      by_entry hash (item_variant item) e = absurd (cc)
-      by_entry hash (loading_variant awaited) e = (awaited, refl)
-      by_entry hash ghost_variant e = absurd (cc)
+          → (awaited : Awaited K P) × (entry ≡ Entry.Loading awaited)
+      by_entry hash (Entry.Item item) e = absurd (cc)
+      by_entry hash (Entry.Loading awaited) e = (awaited, refl)
+      by_entry hash Entry.Ghost e = absurd (cc)
 
   -- and one that shows a ghost has one
   ghost_in_slot : (t : ℕ) (o : Option (Slot K V P T)) (shade : HeldGhost)
       → ghost_of t o ≡ Some shade → (slot : Slot K V P T) → o ≡ Some slot
-      → slot.entry ≡ ghost_variant
+      → slot.entry ≡ Entry.Ghost
   ghost_in_slot t None shade is slot at = absurd (cc)
   ghost_in_slot t (Some one) shade is slot at =
       let same : one ≡ slot = cc in
-      subst (λ (s : Slot K V P T). s.entry ≡ ghost_variant) same (by_entry one.hash one.entry is)
+      subst (λ (s : Slot K V P T). s.entry ≡ Entry.Ghost) same (by_entry one.hash one.entry is)
     where
       by_entry : (hash : ℕ) (entry : Entry K V P T)
           → ghost_of t (Some (record { hash = hash; entry = entry })) ≡ Some shade
-          → entry ≡ ghost_variant
-      by_entry hash (item_variant item) e = absurd (cc)
-      by_entry hash (loading_variant awaited) e = absurd (cc)
-      by_entry hash ghost_variant e = refl
+          → entry ≡ Entry.Ghost
+      by_entry hash (Entry.Item item) e = absurd (cc)
+      by_entry hash (Entry.Loading awaited) e = absurd (cc)
+      by_entry hash Entry.Ghost e = refl
 
 module _ {K V P T : Type 0} (slab : Pool (Slot K V P T)) (index : Index)
     (rings : Rings) where
   -- what has the token of a placeholder is one
   pub awaited_by_token : (t : ℕ) → HasLoadingToken (lists_of slab index rings) t
       → (slot : Slot K V P T) → item_at slab t ≡ Some slot
-      → (awaited : Awaited K P) × (slot.entry ≡ loading_variant awaited)
+      → (awaited : Awaited K P) × (slot.entry ≡ Entry.Loading awaited)
   awaited_by_token t has slot at =
       let there = gather-from (λ u. loading_of u (item_at slab u)) (upto (length slab.slots))
       has.0 has.1 in
@@ -96,7 +95,7 @@ module _ {K V P T : Type 0} (slab : Pool (Slot K V P T)) (index : Index)
 
   -- what has the token of a ghost is one
   pub ghost_by_token : (t : ℕ) → HasGhostToken (lists_of slab index rings) t
-      → (slot : Slot K V P T) → item_at slab t ≡ Some slot → slot.entry ≡ ghost_variant
+      → (slot : Slot K V P T) → item_at slab t ≡ Some slot → slot.entry ≡ Entry.Ghost
   ghost_by_token t has slot at =
       let there = gather-from (λ u. ghost_of u (item_at slab u)) rings.ghosts.tokens
       has.0 has.1 in
@@ -107,11 +106,11 @@ module _ {K V P T : Type 0} (slab : Pool (Slot K V P T)) (index : Index)
 
   module _ (standing : IsStanding slab rings) where
     pub IsAwaitedOf-from : (t : ℕ) (slot : Slot K V P T) (awaited : Awaited K P)
-        → item_at slab t ≡ Some slot → slot.entry ≡ loading_variant awaited
+        → item_at slab t ≡ Some slot → slot.entry ≡ Entry.Loading awaited
         → IsAwaitedOf (lists_of slab index rings) t awaited
     IsAwaitedOf-from t slot awaited at is =
         let here : item_at slab t
-        ≡ Some (record { hash = slot.hash; entry = loading_variant awaited }) =
+        ≡ Some (record { hash = slot.hash; entry = Entry.Loading awaited }) =
         at ∙ ap (λ (e : Entry K V P T). Some (record slot { entry = e })) is in
         (slot.hash, StandsIn-loading slab index rings standing t _ _ here refl)
 
@@ -131,13 +130,13 @@ module _ {K V P T : Type 0} (slab : Pool (Slot K V P T)) (index : Index)
             → MatchOption (entry_item entry)
             (¬ HasItemToken (lists_of slab index rings) t)
             (λ item. IsItemOf (lists_of slab index rings) t item)
-        by_entry hash (item_variant item) here =
+        by_entry hash (Entry.Item item) here =
             (hash, HasItem-from slab index rings standing t hash item here)
-        by_entry hash (loading_variant awaited) here = λ has.
+        by_entry hash (Entry.Loading awaited) here = λ has.
             let there = item_by_token slab index rings t has in
             let entry = item_is (item_at slab t) _ there.0 there.1 there.2 here in
             absurd (cc entry)
-        by_entry hash ghost_variant here = λ has.
+        by_entry hash Entry.Ghost here = λ has.
             let there = item_by_token slab index rings t has in
             let entry = item_is (item_at slab t) _ there.0 there.1 there.2 here in
             absurd (cc entry)

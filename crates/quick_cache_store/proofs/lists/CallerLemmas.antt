@@ -1,12 +1,14 @@
 -- For callers: what a call does to the lists, told of the place where an entry stands.
-use Rattle.std.proofs.Common.{◌≡◌, ℕ, ◌+◌, ◌<◌, ◌≤◌, Bool, true, false, cond, eqb, List, [], ◌∷◌, ◌++◌, map, sum_by, refl, sym, ap, ◌∙◌, inl, inr, arith}
+use Rattle.std.proofs.Common.{◌≡◌, ℕ, ◌+◌, ◌<◌, ◌≤◌, Bool, true, false, cond, eqb, List, [], ◌∷◌, ◌++◌, map, sum_by, refl, sym, ap, ◌∙◌}
+use Rattle.std.proofs.Common.{inl, inr, arith}
 use Rattle.std.proofs.lemmas.Bool.{cases_eq, eq-eqb, ne_eqb}
 use Rattle.std.proofs.lemmas.List.{map-append}
 use Rattle.std.proofs.lemmas.List.Sums.{sum_by-cons}
 use Rattle.quick_cache_model.specs.CacheState.{Item, weight_of}
 use Rattle.quick_cache_store.specs.Pool.{times}
 use Rattle.quick_cache_store.proofs.pool.TokenCounts.{times-here, times-other, times-append}
-use Rattle.quick_cache_store.specs.Lists.{HeldItem, HeldLoading, HeldGhost, Lists, AreApart, dropped, ahead_of, behind, restarted, left_by, without_entry, changed_held, with_change}
+use Rattle.quick_cache_store.specs.Lists.{HeldItem, HeldLoading, HeldGhost, Lists, AreApart, dropped, ahead_of, behind, restarted, left_by}
+use Rattle.quick_cache_store.specs.Lists.{without_entry, changed_held, with_change}
 use Rattle.quick_cache_store.specs.Views.{items_of, joined_around}
 
 module _ {X : Type 0} (name : X → ℕ) (t : ℕ) where

@@ -1,18 +1,20 @@
 -- An item that is written in its place.
-use Rattle.std.proofs.Common.{◌≡◌, ◌≢◌, ◌<◌, ◌+◌, [], ◌∷◌, arith, ℕ, subst, ◌==◌, if◌then◌else◌, Bool, true, false, cond, eqb, List, map, length, Option, Some, None, is_some, refl, sym, ap, ◌∙◌, inl, inr}
+use Rattle.std.proofs.Common.{◌≡◌, ◌≢◌, ◌<◌, ◌+◌, [], ◌∷◌, arith, ℕ, subst, ◌==◌, if◌then◌else◌, Bool, true, false, cond, eqb, List, map}
+use Rattle.std.proofs.Common.{length, Option, Some, None, is_some, refl, sym, ap, ◌∙◌, inl, inr}
 use Rattle.std.proofs.lemmas.Bool.{cases_eq}
 use Rattle.quick_cache_model.specs.CacheState.{Item}
 use Rattle.quick_cache_model.specs.Sequences.{times}
 use Rattle.quick_cache_store.specs.Pool.{Pool, at_token, with_token, item_at, next_token, with_item}
 use Rattle.quick_cache_index.specs.Index.{Index}
 use Rattle.quick_cache_store.proofs.pool.AtTokens.{at_token-with_same, at_token-with_other, length-with_token}
-use Rattle.quick_cache_store.specs.declared.slots.entry.Entry.TheVariants.{Item as item_variant}
+use Rattle.quick_cache_store.specs.declared.slots.entry.Entry.{Entry}
 use Rattle.quick_cache_store.specs.declared.slots.entry.Slot.{Slot}
 use Rattle.quick_cache_store.specs.Writes.{Writes, changed_at, changed_to}
 use Rattle.quick_cache_store.specs.Rings.{Ring, Rings, ring_reweighed, reweighed}
 use Rattle.quick_cache_store.proofs.pool.TokenCounts.{times-here, times-other}
 use Rattle.quick_cache_store.specs.Lists.{HeldItem, Lists, with_change, entry_count}
-use Rattle.quick_cache_store.specs.ListSlots.{Stand, AmongHot, AmongCold, AmongStill, AmongLoading, AmongGhosts, stand_of, weight_at, has_hash, item_of, still_of, loading_of, ghost_of, slot_changed, is_item}
+use Rattle.quick_cache_store.specs.ListSlots.{Stand, AmongHot, AmongCold, AmongStill, AmongLoading, AmongGhosts, stand_of, weight_at}
+use Rattle.quick_cache_store.specs.ListSlots.{has_hash, item_of, still_of, loading_of, ghost_of, slot_changed, is_item}
 use Rattle.quick_cache_store.specs.Sound.{weigh, gather, upto, lists_of, room_of, IsRingOf, IsKeyed, IsStanding, IsSound}
 use Rattle.quick_cache_store.proofs.lists.CountLemmas.{entry_count-change}
 use Rattle.quick_cache_store.proofs.lists.GatherLemmas.{weigh-same, weigh-member, gather-changed, gather-neither}
@@ -46,21 +48,21 @@ module _ {K V : Type 0} where
 module _ {K V P T : Type 0} where
   -- what a slot that is known to have this item becomes
   pub changed_slot : (o : Option (Slot K V P T)) (slot : Slot K V P T) (hash : ℕ) (item : Item K V)
-      (change : Item K V → Item K V) → o ≡ Some (record { hash = hash; entry = item_variant item })
+      (change : Item K V → Item K V) → o ≡ Some (record { hash = hash; entry = Entry.Item item })
       → o ≡ Some slot → (is_item slot ≡ true)
-      × (slot_changed change slot ≡ record { hash = hash; entry = item_variant (change item) })
+      × (slot_changed change slot ≡ record { hash = hash; entry = Entry.Item (change item) })
   changed_slot o slot hash item change is at =
-      let same : slot ≡ record { hash = hash; entry = item_variant item } = cc in
+      let same : slot ≡ record { hash = hash; entry = Entry.Item item } = cc in
       (ap is_item same, ap (slot_changed change) same)
 
   abbrev pub written : (hash : ℕ) (item : Item K V) (t : ℕ) → Pool (Slot K V P T)
       → Pool (Slot K V P T)
-  written hash item t old = with_item old t (record { hash = hash; entry = item_variant item })
+  written hash item t old = with_item old t (record { hash = hash; entry = Entry.Item item })
 
   -- what a write leaves where this item stood
   pub written-by : (old new : Pool (Slot K V P T)) (t hash : ℕ) (item : Item K V)
       (change : Item K V → Item K V) → Writes old new t (slot_changed change)
-      → item_at old t ≡ Some (record { hash = hash; entry = item_variant item })
+      → item_at old t ≡ Some (record { hash = hash; entry = Entry.Item item })
       → new ≡ written hash (change item) t old
   written-by old new t hash item change writes at = writes.is ∙ ap (with_item old t)
       (changed_slot (item_at old t) writes.slot hash item change at writes.was).1
@@ -68,7 +70,7 @@ module _ {K V P T : Type 0} where
   -- the same, where the slot is changed if it is there
   pub changed_at-item : (old : Pool (Slot K V P T)) (t hash : ℕ) (item : Item K V)
       (change : Item K V → Item K V)
-      → item_at old t ≡ Some (record { hash = hash; entry = item_variant item })
+      → item_at old t ≡ Some (record { hash = hash; entry = Entry.Item item })
       → changed_at (slot_changed change) t old ≡ written hash (change item) t old
   changed_at-item old t hash item change at =
       ap (λ o. changed_to (slot_changed change) t o old) at
@@ -76,32 +78,32 @@ module _ {K V P T : Type 0} where
   module _ (old : Pool (Slot K V P T)) (t hash : ℕ) (item : Item K V)
       (change : Item K V → Item K V) (heavy : ((change item).weight == 0) ≡ (item.weight == 0))
       (queue : (change item).queue ≡ item.queue)
-      (at : item_at old t ≡ Some (record { hash = hash; entry = item_variant item })) where
+      (at : item_at old t ≡ Some (record { hash = hash; entry = Entry.Item item })) where
     stand_same : stand_of {K = K} {V = V} {P = P} {T = T}
-        (Some (record { hash = hash; entry = item_variant (change item) }))
+        (Some (record { hash = hash; entry = Entry.Item (change item) }))
         ≡ stand_of {K = K} {V = V} {P = P} {T = T}
-        (Some (record { hash = hash; entry = item_variant item }))
+        (Some (record { hash = hash; entry = Entry.Item item }))
     stand_same = rw (heavy, queue) refl
 
     here : at_token (with_token old.slots t
-        (Some (record { hash = hash; entry = item_variant (change item) }))) t None
-        ≡ Some (record { hash = hash; entry = item_variant (change item) })
+        (Some (record { hash = hash; entry = Entry.Item (change item) }))) t None
+        ≡ Some (record { hash = hash; entry = Entry.Item (change item) })
     here = let within = occupied_within old.slots t _ at in at_token-with_same old.slots t _ None
         within.0 within.1
 
     others : (u : ℕ) → u ≢ t → at_token
-        (with_token old.slots t (Some (record { hash = hash; entry = item_variant (change item) })))
+        (with_token old.slots t (Some (record { hash = hash; entry = Entry.Item (change item) })))
         u None ≡ item_at old u
     others u differs = at_token-with_other old.slots t u _ None differs
 
     long : length (with_token old.slots t
-        (Some (record { hash = hash; entry = item_variant (change item) }))) ≡ length old.slots
+        (Some (record { hash = hash; entry = Entry.Item (change item) }))) ≡ length old.slots
     long = length-with_token old.slots t _
 
     -- what is said of a slot and does not speak of its mark
     alike : {X : Type 0} (says : Option (Slot K V P T) → X)
-        → says (Some (record { hash = hash; entry = item_variant (change item) }))
-        ≡ says (Some (record { hash = hash; entry = item_variant item })) → (u : ℕ)
+        → says (Some (record { hash = hash; entry = Entry.Item (change item) }))
+        ≡ says (Some (record { hash = hash; entry = Entry.Item item })) → (u : ℕ)
         → says (item_at (written hash (change item) t old) u) ≡ says (item_at old u)
     alike says same u = elim (cases_eq u t) [
       | inl is ↦ rw is (ap says here ∙ same ∙ ap says (sym at))

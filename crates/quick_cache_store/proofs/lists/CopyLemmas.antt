@@ -1,5 +1,6 @@
 -- Copied slots under the hashes of a new index are copies of the lists.
-use Rattle.std.proofs.Common.{◌≡◌, ◌≢◌, ℕ, zero, suc, ◌+◌, ◌<◌, ◌≤◌, ◌==◌, if◌then◌else◌, Bool, true, false, List, [], ◌∷◌, cond, map, length, count_by, Option, Some, None, is_some, ◌||◌, IsTrue, refl, sym, ap, subst, ◌∙◌, inl, inr, arith}
+use Rattle.std.proofs.Common.{◌≡◌, ◌≢◌, ℕ, zero, suc, ◌+◌, ◌<◌, ◌≤◌, ◌==◌, if◌then◌else◌, Bool, true, false, List, [], ◌∷◌, cond, map}
+use Rattle.std.proofs.Common.{length, count_by, Option, Some, None, is_some, ◌||◌, IsTrue, refl, sym, ap, subst, ◌∙◌, inl, inr, arith}
 use Rattle.std.proofs.lemmas.Bool.{cases_eq, eq-eqb, eqb-true, ne_eqb}
 use Rattle.std.proofs.lemmas.List.Sums.{sum_by-cons}
 use Rattle.std.specs.List.{AllZip}
@@ -10,12 +11,12 @@ use Rattle.quick_cache_store.specs.Pool.{IsSlotCopy as IsCopyAt}
 use Rattle.quick_cache_store.proofs.pool.TokenCounts.{times-cons_le, times-here, times-other}
 use Rattle.quick_cache_index.specs.Index.{Index, GainsToken, HasNone, HasToken, KeepsAllLeads, Leads, has_token, token_count}
 use Rattle.quick_cache_store.specs.declared.slots.entry.Entry.{Entry}
-use Rattle.quick_cache_store.specs.declared.slots.entry.Entry.TheVariants.{Item as item_variant, Loading as loading_variant, Ghost as ghost_variant}
 use Rattle.quick_cache_store.specs.declared.slots.entry.Slot.{Slot}
 use Rattle.quick_cache_store.specs.Rings.{Ring, Rings}
 use Rattle.quick_cache_store.specs.ListCopies.{AreCopies, IsEntryCopy, IsHeldCopy, IsItemCopy, IsSlotCopy, IsWaitingCopy}
 use Rattle.quick_cache_store.specs.Lists.{HeldItem, HeldLoading}
-use Rattle.quick_cache_store.specs.ListSlots.{Stand, ghost_of, has_hash, if_still, item_of, loading_of, stand_of, stand_of_item, still_of, weight_at}
+use Rattle.quick_cache_store.specs.ListSlots.{Stand, ghost_of, has_hash, if_still, item_of, loading_of, stand_of, stand_of_item, still_of}
+use Rattle.quick_cache_store.specs.ListSlots.{weight_at}
 use Rattle.quick_cache_store.specs.Sound.{AddsTokens, HasHash, IsKeyed, IsRingOf, IsSound, IsStanding, gather, lists_of, put, upto}
 use Rattle.quick_cache_store.proofs.lists.GatherLemmas.{weigh-same}
 
@@ -95,15 +96,15 @@ module _ {K V P : Type 0} (clones_key : K → K → Type 0) (clones_value : V �
         → IsEntryCopy clones_key clones_value hash_of shares hash copy_hash x y
         → stand_of (Some (record { hash = copy_hash; entry = y }))
         ≡ stand_of (Some (record { hash = hash; entry = x }))
-    stand-entry h k (item_variant x) (item_variant y) is = ap Some (stand-item x y is.1)
-    stand-entry h k (item_variant x) (loading_variant y) is = absurd is
-    stand-entry h k (item_variant x) ghost_variant is = absurd is
-    stand-entry h k (loading_variant x) (item_variant y) is = absurd is
-    stand-entry h k (loading_variant x) (loading_variant y) is = refl
-    stand-entry h k (loading_variant x) ghost_variant is = absurd is
-    stand-entry h k ghost_variant (item_variant y) is = absurd is
-    stand-entry h k ghost_variant (loading_variant y) is = absurd is
-    stand-entry h k ghost_variant ghost_variant is = refl
+    stand-entry h k (Entry.Item x) (Entry.Item y) is = ap Some (stand-item x y is.1)
+    stand-entry h k (Entry.Item x) (Entry.Loading y) is = absurd is
+    stand-entry h k (Entry.Item x) Entry.Ghost is = absurd is
+    stand-entry h k (Entry.Loading x) (Entry.Item y) is = absurd is
+    stand-entry h k (Entry.Loading x) (Entry.Loading y) is = refl
+    stand-entry h k (Entry.Loading x) Entry.Ghost is = absurd is
+    stand-entry h k Entry.Ghost (Entry.Item y) is = absurd is
+    stand-entry h k Entry.Ghost (Entry.Loading y) is = absurd is
+    stand-entry h k Entry.Ghost Entry.Ghost is = refl
 
     stand-at : (x y : Option (Slot K V P T)) → IsCopyAt Copied x y → stand_of y ≡ stand_of x
     stand-at None None is = refl
@@ -115,15 +116,15 @@ module _ {K V P : Type 0} (clones_key : K → K → Type 0) (clones_value : V �
         → IsEntryCopy clones_key clones_value hash_of shares hash copy_hash x y
         → weight_at (Some (record { hash = copy_hash; entry = y }))
         ≡ weight_at (Some (record { hash = hash; entry = x }))
-    weight-entry h k (item_variant x) (item_variant y) is = ap (λ (i : Item K V). i.weight) is.1.same
-    weight-entry h k (item_variant x) (loading_variant y) is = absurd is
-    weight-entry h k (item_variant x) ghost_variant is = absurd is
-    weight-entry h k (loading_variant x) (item_variant y) is = absurd is
-    weight-entry h k (loading_variant x) (loading_variant y) is = refl
-    weight-entry h k (loading_variant x) ghost_variant is = absurd is
-    weight-entry h k ghost_variant (item_variant y) is = absurd is
-    weight-entry h k ghost_variant (loading_variant y) is = absurd is
-    weight-entry h k ghost_variant ghost_variant is = refl
+    weight-entry h k (Entry.Item x) (Entry.Item y) is = ap (λ (i : Item K V). i.weight) is.1.same
+    weight-entry h k (Entry.Item x) (Entry.Loading y) is = absurd is
+    weight-entry h k (Entry.Item x) Entry.Ghost is = absurd is
+    weight-entry h k (Entry.Loading x) (Entry.Item y) is = absurd is
+    weight-entry h k (Entry.Loading x) (Entry.Loading y) is = refl
+    weight-entry h k (Entry.Loading x) Entry.Ghost is = absurd is
+    weight-entry h k Entry.Ghost (Entry.Item y) is = absurd is
+    weight-entry h k Entry.Ghost (Entry.Loading y) is = absurd is
+    weight-entry h k Entry.Ghost Entry.Ghost is = refl
 
     weight-at : (x y : Option (Slot K V P T)) → IsCopyAt Copied x y → weight_at y ≡ weight_at x
     weight-at None None is = refl
@@ -135,16 +136,16 @@ module _ {K V P : Type 0} (clones_key : K → K → Type 0) (clones_value : V �
         → IsEntryCopy clones_key clones_value hash_of shares hash copy_hash x y
         → IsCopyAt Held (item_of t (Some (record { hash = hash; entry = x })))
         (item_of t (Some (record { hash = copy_hash; entry = y })))
-    item-entry t h k (item_variant x) (item_variant y) is =
+    item-entry t h k (Entry.Item x) (Entry.Item y) is =
         record { token = refl; hash = is.0; item = is.1 }
-    item-entry t h k (item_variant x) (loading_variant y) is = absurd is
-    item-entry t h k (item_variant x) ghost_variant is = absurd is
-    item-entry t h k (loading_variant x) (item_variant y) is = absurd is
-    item-entry t h k (loading_variant x) (loading_variant y) is = tt
-    item-entry t h k (loading_variant x) ghost_variant is = absurd is
-    item-entry t h k ghost_variant (item_variant y) is = absurd is
-    item-entry t h k ghost_variant (loading_variant y) is = absurd is
-    item-entry t h k ghost_variant ghost_variant is = tt
+    item-entry t h k (Entry.Item x) (Entry.Loading y) is = absurd is
+    item-entry t h k (Entry.Item x) Entry.Ghost is = absurd is
+    item-entry t h k (Entry.Loading x) (Entry.Item y) is = absurd is
+    item-entry t h k (Entry.Loading x) (Entry.Loading y) is = tt
+    item-entry t h k (Entry.Loading x) Entry.Ghost is = absurd is
+    item-entry t h k Entry.Ghost (Entry.Item y) is = absurd is
+    item-entry t h k Entry.Ghost (Entry.Loading y) is = absurd is
+    item-entry t h k Entry.Ghost Entry.Ghost is = tt
 
     item-at : (t : ℕ) (x y : Option (Slot K V P T)) → IsCopyAt Copied x y
         → IsCopyAt Held (item_of t x) (item_of t y)
@@ -157,21 +158,21 @@ module _ {K V P : Type 0} (clones_key : K → K → Type 0) (clones_value : V �
         → IsEntryCopy clones_key clones_value hash_of shares hash copy_hash x y
         → IsCopyAt Waiting (loading_of t (Some (record { hash = hash; entry = x })))
         (loading_of t (Some (record { hash = copy_hash; entry = y })))
-    loading-entry t h k (item_variant x) (item_variant y) is = tt
-    loading-entry t h k (item_variant x) (loading_variant y) is = absurd is
-    loading-entry t h k (item_variant x) ghost_variant is = absurd is
-    loading-entry t h k (loading_variant x) (item_variant y) is = absurd is
-    loading-entry t h k (loading_variant x) (loading_variant y) is = record {
+    loading-entry t h k (Entry.Item x) (Entry.Item y) is = tt
+    loading-entry t h k (Entry.Item x) (Entry.Loading y) is = absurd is
+    loading-entry t h k (Entry.Item x) Entry.Ghost is = absurd is
+    loading-entry t h k (Entry.Loading x) (Entry.Item y) is = absurd is
+    loading-entry t h k (Entry.Loading x) (Entry.Loading y) is = record {
       token = refl;
       hash = is.0;
       key = is.1.key;
       queue = is.1.queue;
       placeholder = is.1.placeholder;
     }
-    loading-entry t h k (loading_variant x) ghost_variant is = absurd is
-    loading-entry t h k ghost_variant (item_variant y) is = absurd is
-    loading-entry t h k ghost_variant (loading_variant y) is = absurd is
-    loading-entry t h k ghost_variant ghost_variant is = tt
+    loading-entry t h k (Entry.Loading x) Entry.Ghost is = absurd is
+    loading-entry t h k Entry.Ghost (Entry.Item y) is = absurd is
+    loading-entry t h k Entry.Ghost (Entry.Loading y) is = absurd is
+    loading-entry t h k Entry.Ghost Entry.Ghost is = tt
 
     loading-at : (t : ℕ) (x y : Option (Slot K V P T)) → IsCopyAt Copied x y
         → IsCopyAt Waiting (loading_of t x) (loading_of t y)
@@ -184,15 +185,15 @@ module _ {K V P : Type 0} (clones_key : K → K → Type 0) (clones_value : V �
         → IsEntryCopy clones_key clones_value hash_of shares hash copy_hash x y
         → ghost_of t (Some (record { hash = copy_hash; entry = y }))
         ≡ ghost_of t (Some (record { hash = hash; entry = x }))
-    ghost-entry t h k (item_variant x) (item_variant y) is = refl
-    ghost-entry t h k (item_variant x) (loading_variant y) is = absurd is
-    ghost-entry t h k (item_variant x) ghost_variant is = absurd is
-    ghost-entry t h k (loading_variant x) (item_variant y) is = absurd is
-    ghost-entry t h k (loading_variant x) (loading_variant y) is = refl
-    ghost-entry t h k (loading_variant x) ghost_variant is = absurd is
-    ghost-entry t h k ghost_variant (item_variant y) is = absurd is
-    ghost-entry t h k ghost_variant (loading_variant y) is = absurd is
-    ghost-entry t h k ghost_variant ghost_variant is =
+    ghost-entry t h k (Entry.Item x) (Entry.Item y) is = refl
+    ghost-entry t h k (Entry.Item x) (Entry.Loading y) is = absurd is
+    ghost-entry t h k (Entry.Item x) Entry.Ghost is = absurd is
+    ghost-entry t h k (Entry.Loading x) (Entry.Item y) is = absurd is
+    ghost-entry t h k (Entry.Loading x) (Entry.Loading y) is = refl
+    ghost-entry t h k (Entry.Loading x) Entry.Ghost is = absurd is
+    ghost-entry t h k Entry.Ghost (Entry.Item y) is = absurd is
+    ghost-entry t h k Entry.Ghost (Entry.Loading y) is = absurd is
+    ghost-entry t h k Entry.Ghost Entry.Ghost is =
         ap (λ (hash : ℕ). Some (record { token = t; hash = hash })) is
 
     ghost-at : (t : ℕ) (x y : Option (Slot K V P T)) → IsCopyAt Copied x y

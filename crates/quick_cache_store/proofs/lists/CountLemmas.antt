@@ -1,18 +1,19 @@
 -- How many entries there are, once one came or went.
-use Rattle.std.proofs.Common.{◌≡◌, ℕ, ◌+◌, ◌<◌, ◌≤◌, ◌==◌, if◌then◌else◌, Bool, true, false, List, [], ◌∷◌, ◌++◌, map, length, refl, ap, ◌∙◌, inl, inr, arith}
+use Rattle.std.proofs.Common.{◌≡◌, ℕ, ◌+◌, ◌<◌, ◌≤◌, ◌==◌, if◌then◌else◌, Bool, true, false, List, [], ◌∷◌, ◌++◌, map, length, refl, ap}
+use Rattle.std.proofs.Common.{◌∙◌, inl, inr, arith}
 use Rattle.std.proofs.lemmas.Bool.Decides.{nat_tests}
 use Rattle.std.proofs.lemmas.Bool.{cases_eq, eq-eqb, ne_eqb}
 use Rattle.std.proofs.lemmas.List.{length-append, length-map, map-append}
 use Rattle.std.proofs.lemmas.List.Sorted.{length_permutation}
 use Rattle.quick_cache_model.specs.CacheState.{Item, Place, InHot, InCold, InStill, place_of_item}
 use Rattle.quick_cache_model.specs.declared.queue.Queue.{Queue}
-use Rattle.quick_cache_model.specs.declared.queue.Queue.TheVariants.{Hot, Cold}
 use Rattle.quick_cache_store.specs.Pool.{times}
 use Rattle.quick_cache_store.proofs.pool.TokenCounts.{times-here, times-other, times-append}
 use Rattle.quick_cache_store.specs.declared.slots.entry.Entry.{Entry}
 use Rattle.quick_cache_store.specs.declared.slots.entry.Slot.{Slot}
-use Rattle.quick_cache_store.specs.declared.slots.entry.Entry.TheVariants.{Item as item_variant, Loading as loading_variant, Ghost as ghost_variant}
-use Rattle.quick_cache_store.specs.Lists.{HeldItem, Lists, StandsIn, items_at, with_items, SameButOrder, PutsLast, PutsItem, HasEntry, IsEntry, AreApart, dropped, ahead_of, behind, left_by, without_entry, entries_of, entry_count, changed_held, with_change}
+use Rattle.quick_cache_store.specs.Lists.{HeldItem, Lists, StandsIn, items_at, with_items, SameButOrder, PutsLast, PutsItem, HasEntry}
+use Rattle.quick_cache_store.specs.Lists.{IsEntry, AreApart, dropped, ahead_of, behind, left_by, without_entry, entries_of, entry_count}
+use Rattle.quick_cache_store.specs.Lists.{changed_held, with_change}
 use Rattle.quick_cache_store.specs.ListSlots.{AmongStill, ring_stand, stand_in, loading_in}
 
 module _ {Y : Type 0} (name : Y → ℕ) (t : ℕ) where
@@ -71,8 +72,8 @@ in_ring-heavy weight heavy = grind (arith, nat_tests, heavy)
 pub loading_in-item : (b : Bool) (q : Queue)
     → loading_in (if b then AmongStill else ring_stand q) ≡ 0
 loading_in-item true q = refl
-loading_in-item false Hot = refl
-loading_in-item false Cold = refl
+loading_in-item false Queue.Hot = refl
+loading_in-item false Queue.Cold = refl
 
 module _ {K V P : Type 0} where
   -- ---- one came
@@ -95,7 +96,7 @@ module _ {K V P : Type 0} where
 module _ {K V P T : Type 0} where
   pub IsMore-put : (old new : Lists K V P) (token hash : ℕ) (entry : Entry K V P T)
       → PutsLast old token hash entry new → IsMore old new (loading_in (stand_in entry))
-  IsMore-put old new token hash (item_variant item) puts = by_place (place_of_item item) puts.put
+  IsMore-put old new token hash (Entry.Item item) puts = by_place (place_of_item item) puts.put
     where
       held : HeldItem K V
       held = record { token = token; hash = hash; item = item }
@@ -104,7 +105,7 @@ module _ {K V P T : Type 0} where
           (record (with_items p (items_at p old ++ held ∷ []) old)
           { next = new.next; room = new.room }) new
           → IsMore old new (loading_in (stand_in {K = K} {V = V} {P = P} {T = T}
-          (item_variant item)))
+          (Entry.Item item)))
       by_place InHot same =
           let both = counts _ new same in
           record {
@@ -123,7 +124,7 @@ module _ {K V P T : Type 0} where
             all = omega (arith, both.0, length-append old.still (held ∷ []));
             waiting = omega (arith, both.1, loading_in-item (item.weight == 0) item.queue);
           }
-  IsMore-put old new token hash (loading_variant awaited) puts =
+  IsMore-put old new token hash (Entry.Loading awaited) puts =
       let both = counts _ new puts.put in
       let more = length-append old.loading
       (record {
@@ -134,7 +135,7 @@ module _ {K V P T : Type 0} where
         placeholder = awaited.placeholder;
       } ∷ []) in
       record { all = omega (arith, both.0, more); waiting = omega (arith, both.1, more) }
-  IsMore-put old new token hash ghost_variant puts =
+  IsMore-put old new token hash Entry.Ghost puts =
       let both = counts _ new puts.put in
       let more = length-append old.ghosts (record { token = token; hash = hash } ∷ []) in
       record { all = omega (arith, both.0, more); waiting = omega (arith, both.1) }
@@ -191,23 +192,23 @@ module _ {K V P : Type 0} where
 module _ {K V P T : Type 0} where
   pub has_entry : (lists : Lists K V P) (t hash : ℕ) (entry : Entry K V P T)
       → IsEntry lists t hash entry → HasEntry lists t
-  has_entry lists t hash (item_variant item) is =
+  has_entry lists t hash (Entry.Item item) is =
       inl (record { token = t; hash = hash; item = item }, is, refl)
-  has_entry lists t hash (loading_variant awaited) is = inr (inl (_, is, refl))
-  has_entry lists t hash ghost_variant is = inr (inr (_, is, refl))
+  has_entry lists t hash (Entry.Loading awaited) is = inr (inl (_, is, refl))
+  has_entry lists t hash Entry.Ghost is = inr (inr (_, is, refl))
 
   -- an entry's token is among the placeholders where it is one
   pub times-loading : (lists : Lists K V P) (t hash : ℕ) (entry : Entry K V P T) → AreApart lists
       → IsEntry lists t hash entry → times t (map (λ w. w.token) lists.loading)
       ≡ loading_in (stand_in entry)
-  times-loading lists t hash (item_variant item) apart is = by_place is.place is.stands
+  times-loading lists t hash (Entry.Item item) apart is = by_place is.place is.stands
     where
       held : HeldItem K V
       held = record { token = t; hash = hash; item = item }
 
       by_place : (p : Place) → StandsIn (items_at p lists) held
           → times t (map (λ w. w.token) lists.loading)
-          ≡ loading_in (stand_in {K = K} {V = V} {P = P} {T = T} (item_variant item))
+          ≡ loading_in (stand_in {K = K} {V = V} {P = P} {T = T} (Entry.Item item))
       by_place InHot stands = omega (
         arith,
         apart t,
@@ -228,9 +229,9 @@ module _ {K V P T : Type 0} where
         times-stands (λ h. h.token) t lists.still held stands refl,
         loading_in-item (item.weight == 0) item.queue,
       )
-  times-loading lists t hash (loading_variant awaited) apart is =
+  times-loading lists t hash (Entry.Loading awaited) apart is =
       omega (arith, apart t, times-stands (λ w. w.token) t lists.loading _ is refl)
-  times-loading lists t hash ghost_variant apart is =
+  times-loading lists t hash Entry.Ghost apart is =
       omega (arith, apart t, times-stands (λ h. h.token) t lists.ghosts _ is refl)
 
   pub IsLess-without : (lists : Lists K V P) (t hash : ℕ) (entry : Entry K V P T) (restarts : Bool)
@@ -265,14 +266,14 @@ module _ {K V P : Type 0} where
 
 module _ {K V P T : Type 0} where
   pub loading_in-slot : (slot : Slot K V P T) (hash : ℕ) (item : Item K V)
-      → slot ≡ record { hash = hash; entry = item_variant item }
+      → slot ≡ record { hash = hash; entry = Entry.Item item }
       → loading_in (stand_in slot.entry) ≡ 0
   loading_in-slot slot hash item is =
       ap (λ (s : Slot K V P T). loading_in (stand_in s.entry)) is
       ∙ loading_in-item (item.weight == 0) item.queue
 
   pub PutsItem-from : (old new : Lists K V P) (token hash : ℕ) (item : Item K V)
-      → PutsLast {T = T} old token hash (item_variant item) new → PutsItem old token hash item new
+      → PutsLast {T = T} old token hash (Entry.Item item) new → PutsItem old token hash item new
   PutsItem-from old new token hash item last = record {
     put = last.put;
     in_ring = λ heavy. last.in_ring (in_ring-heavy item.weight heavy);

@@ -1,5 +1,6 @@
 -- What a look-up finds.
-use Rattle.std.proofs.Common.{◌≡◌, ◌≢◌, ℕ, ◌+◌, ◌<◌, ◌==◌, if◌then◌else◌, Bool, true, false, eqb, List, [], ◌∷◌, count_by, length, IfSome, Option, Some, None, IsSome, is_some, refl, sym, ap, subst, ◌∙◌, inl, inr, arith, true≢false}
+use Rattle.std.proofs.Common.{◌≡◌, ◌≢◌, ℕ, ◌+◌, ◌<◌, ◌==◌, if◌then◌else◌, Bool, true, false, eqb, List, [], ◌∷◌, count_by, length, IfSome}
+use Rattle.std.proofs.Common.{Option, Some, None, IsSome, is_some, refl, sym, ap, subst, ◌∙◌, inl, inr, arith, true≢false}
 use Rattle.std.specs.Int.NonZero.{non_zero_u32_get}
 use Rattle.std.specs.declared.num.NonZeroU32.{NonZeroU32 as Token}
 use Rattle.std.proofs.lemmas.Bool.{cases_eq, cases_Bool, eqb-true, eq-eqb}
@@ -9,13 +10,13 @@ use Rattle.quick_cache_index.proofs.CountedTokens.{bit}
 use Rattle.quick_cache_store.proofs.pool.TokenCounts.{times-here, times-other}
 use Rattle.quick_cache_index.specs.Index.{Index, HasToken, AreCandidates}
 use Rattle.quick_cache_store.specs.declared.slots.entry.Entry.{Entry}
-use Rattle.quick_cache_store.specs.declared.slots.entry.Entry.TheVariants.{Item as item_variant, Loading as loading_variant, Ghost as ghost_variant}
 use Rattle.quick_cache_store.specs.declared.slots.entry.Slot.{Slot}
 use Rattle.quick_cache_store.specs.declared.lists.found.Found.{Found}
-use Rattle.quick_cache_store.specs.declared.lists.found.Found.TheVariants.{Item as found_item, Loading as found_loading, Ghost as found_ghost, Nothing as found_nothing}
 use Rattle.quick_cache_store.specs.Rings.{Rings}
-use Rattle.quick_cache_store.specs.Lists.{Lists, HeldItem, HeldLoading, HeldGhost, StandsIn, Finds, FindsByKey, HasNoItem, HasNoKey, HasNothing, FindsItem, FindsItemOfAnyHash, FindsLoading}
-use Rattle.quick_cache_store.specs.ListSlots.{has_hash, hash_in, item_of, if_still, still_of, loading_of, ghost_of, is_under_at, is_item_under_at, is_ghost_at, is_item_at}
+use Rattle.quick_cache_store.specs.Lists.{Lists, HeldItem, HeldLoading, HeldGhost, StandsIn, Finds, FindsByKey, HasNoItem, HasNoKey}
+use Rattle.quick_cache_store.specs.Lists.{HasNothing, FindsItem, FindsItemOfAnyHash, FindsLoading}
+use Rattle.quick_cache_store.specs.ListSlots.{has_hash, hash_in, item_of, if_still, still_of, loading_of, ghost_of, is_under_at}
+use Rattle.quick_cache_store.specs.ListSlots.{is_item_under_at, is_ghost_at, is_item_at}
 use Rattle.quick_cache_store.specs.Sound.{gather, upto, lists_of, HasHash, IsKeyed, IsStanding, IsWalked, PassesNoItem}
 use Rattle.quick_cache_store.proofs.lists.GatherLemmas.{gather-all}
 use Rattle.quick_cache_store.proofs.lists.StandLemmas.{HasItem-from, StandsIn-loading, StandsIn-ghosts}
@@ -58,15 +59,15 @@ module _ {K V P T : Type 0} where
           → (is_under_at stands_for (Some (record { hash = hash; entry = entry }))
           ≡ stands_for held.item.key) × ((h : ℕ)
           → has_hash h (Some (record { hash = hash; entry = entry })) ≡ eqb held.hash h)
-      by_entry hash (item_variant item) e =
+      by_entry hash (Entry.Item item) e =
           let same : record { token = t; hash = hash; item = item } ≡ held =
           cc in (
             ap (λ (y : HeldItem K V). stands_for y.item.key) same,
             λ h. ap
                 (λ (y : HeldItem K V). eqb y.hash h) same,
           )
-      by_entry hash (loading_variant awaited) e = absurd (cc)
-      by_entry hash ghost_variant e = absurd (cc)
+      by_entry hash (Entry.Loading awaited) e = absurd (cc)
+      by_entry hash Entry.Ghost e = absurd (cc)
 
   item_under_held : (stands_for : K → Bool) (t : ℕ) (o : Option (Slot K V P T))
       (held : HeldItem K V) → item_of t o ≡ Some held
@@ -78,11 +79,11 @@ module _ {K V P T : Type 0} where
           → item_of t (Some (record { hash = hash; entry = entry })) ≡ Some held
           → is_item_under_at stands_for (Some (record { hash = hash; entry = entry }))
           ≡ stands_for held.item.key
-      by_entry hash (item_variant item) e =
+      by_entry hash (Entry.Item item) e =
           let same : record { token = t; hash = hash; item = item } ≡ held = cc in
           ap (λ (y : HeldItem K V). stands_for y.item.key) same
-      by_entry hash (loading_variant awaited) e = absurd (cc)
-      by_entry hash ghost_variant e = absurd (cc)
+      by_entry hash (Entry.Loading awaited) e = absurd (cc)
+      by_entry hash Entry.Ghost e = absurd (cc)
 
   -- what has an item under the query is an item, and is under it
   item_under-is : (stands_for : K → Bool) (o : Option (Slot K V P T))
@@ -95,9 +96,9 @@ module _ {K V P T : Type 0} where
           → is_item_under_at stands_for (Some (record { hash = hash; entry = entry })) ≡ true
           → (is_under_at stands_for (Some (record { hash = hash; entry = entry })) ≡ true)
           × (is_item_at (Some (record { hash = hash; entry = entry })) ≡ true)
-      by_entry hash (item_variant item) e = (e, refl)
-      by_entry hash (loading_variant awaited) e = absurd (true≢false (sym e))
-      by_entry hash ghost_variant e = absurd (true≢false (sym e))
+      by_entry hash (Entry.Item item) e = (e, refl)
+      by_entry hash (Entry.Loading awaited) e = absurd (true≢false (sym e))
+      by_entry hash Entry.Ghost e = absurd (true≢false (sym e))
 
   -- what is under the query has the hash of its slot
   under_has_hash : (stands_for : K → Bool) (o : Option (Slot K V P T))
@@ -117,8 +118,8 @@ module _ {K V P T : Type 0} where
           → (is_under_at stands_for (Some (record { hash = hash; entry = entry }))
           ≡ stands_for waiting.key) × ((h : ℕ)
           → has_hash h (Some (record { hash = hash; entry = entry })) ≡ eqb waiting.hash h)
-      by_entry hash (item_variant item) e = absurd (cc)
-      by_entry hash (loading_variant awaited) e =
+      by_entry hash (Entry.Item item) e = absurd (cc)
+      by_entry hash (Entry.Loading awaited) e =
           let same : record {
             token = t;
             hash = hash;
@@ -131,7 +132,7 @@ module _ {K V P T : Type 0} where
             λ h. ap
                 (λ (y : HeldLoading K P). eqb y.hash h) same,
           )
-      by_entry hash ghost_variant e = absurd (cc)
+      by_entry hash Entry.Ghost e = absurd (cc)
 
   ghost_shade : (t : ℕ) (o : Option (Slot K V P T)) (shade : HeldGhost) → ghost_of t o ≡ Some shade
       → (is_ghost_at o ≡ true) × ((h : ℕ) → has_hash h o ≡ eqb shade.hash h)
@@ -142,9 +143,9 @@ module _ {K V P T : Type 0} where
           → ghost_of t (Some (record { hash = hash; entry = entry })) ≡ Some shade
           → (is_ghost_at (Some (record { hash = hash; entry = entry })) ≡ true)
           × ((h : ℕ) → has_hash h (Some (record { hash = hash; entry = entry })) ≡ eqb shade.hash h)
-      by_entry hash (item_variant item) e = absurd (cc)
-      by_entry hash (loading_variant awaited) e = absurd (cc)
-      by_entry hash ghost_variant e = let same : record { token = t; hash = hash } ≡ shade =
+      by_entry hash (Entry.Item item) e = absurd (cc)
+      by_entry hash (Entry.Loading awaited) e = absurd (cc)
+      by_entry hash Entry.Ghost e = let same : record { token = t; hash = hash } ≡ shade =
           cc in (refl, λ h. ap (λ (y : HeldGhost). eqb y.hash h) same)
 
   module _ (slab : Pool (Slot K V P T)) (index : Index) (rings : Rings)
@@ -227,15 +228,15 @@ module _ {K V P T : Type 0} where
             → is_under_at stands_for (Some (record { hash = h; entry = entry })) ≡ true
             → is_item_at (Some (record { hash = h; entry = entry })) ≡ true
             → FindsItem stands_for hash (lists_of slab index rings) t
-        by_entry h (item_variant i) at same under is = record {
+        by_entry h (Entry.Item i) at same under is = record {
           item = i;
           stands = HasItem-from slab index rings sound t hash i
-              (at ∙ ap (λ n. Some (record { hash = n; entry = item_variant i }))
+              (at ∙ ap (λ n. Some (record { hash = n; entry = Entry.Item i }))
               (eqb-true h hash same));
           passes = under;
         }
-        by_entry h (loading_variant w) at same under is = absurd (true≢false (sym is))
-        by_entry h ghost_variant at same under is = absurd (true≢false (sym is))
+        by_entry h (Entry.Loading w) at same under is = absurd (true≢false (sym is))
+        by_entry h Entry.Ghost at same under is = absurd (true≢false (sym is))
 
         by_slot : (o : Option (Slot K V P T)) → item_at slab t ≡ o → has_hash hash o ≡ true
             → is_under_at stands_for o ≡ true → is_item_at o ≡ true
@@ -254,8 +255,8 @@ module _ {K V P T : Type 0} where
             → is_under_at stands_for (Some (record { hash = h; entry = entry })) ≡ true
             → is_item_at (Some (record { hash = h; entry = entry })) ≡ false
             → FindsLoading stands_for hash (lists_of slab index rings) t
-        by_entry h (item_variant i) at same under is = absurd (true≢false is)
-        by_entry h (loading_variant w) at same under is = record {
+        by_entry h (Entry.Item i) at same under is = absurd (true≢false is)
+        by_entry h (Entry.Loading w) at same under is = record {
           waiting = record {
             token = t;
             hash = h;
@@ -268,7 +269,7 @@ module _ {K V P T : Type 0} where
           stands = StandsIn-loading slab index rings sound t _ _ at refl;
           passes = under;
         }
-        by_entry h ghost_variant at same under is = absurd (true≢false (sym under))
+        by_entry h Entry.Ghost at same under is = absurd (true≢false (sym under))
 
         by_slot : (o : Option (Slot K V P T)) → item_at slab t ≡ o → has_hash hash o ≡ true
             → is_under_at stands_for o ≡ true → is_item_at o ≡ false
@@ -287,11 +288,11 @@ module _ {K V P T : Type 0} where
             → is_ghost_at (Some (record { hash = h; entry = entry })) ≡ true
             → StandsIn (gather (λ token. ghost_of token (item_at slab token))
             rings.ghosts.tokens) (record { token = t; hash = hash })
-        by_entry h (item_variant i) at same is = absurd (true≢false (sym is))
-        by_entry h (loading_variant w) at same is = absurd (true≢false (sym is))
-        by_entry h ghost_variant at same is =
+        by_entry h (Entry.Item i) at same is = absurd (true≢false (sym is))
+        by_entry h (Entry.Loading w) at same is = absurd (true≢false (sym is))
+        by_entry h Entry.Ghost at same is =
             StandsIn-ghosts slab index rings sound t hash
-            (at ∙ ap (λ n. Some (record { hash = n; entry = ghost_variant }))
+            (at ∙ ap (λ n. Some (record { hash = n; entry = Entry.Ghost }))
             (eqb-true h hash same))
 
         by_slot : (o : Option (Slot K V P T)) → item_at slab t ≡ o → has_hash hash o ≡ true
@@ -449,7 +450,7 @@ module _ {K V P T : Type 0} where
 -- what is found by key and hash is found by key
 pub FindsByKey-from : {K V P : Type 0} (stands_for : K → Bool) (hash : ℕ) (lists : Lists K V P)
     (found : Found) → Finds stands_for hash lists found → FindsByKey stands_for hash lists found
-FindsByKey-from stands_for hash lists (found_item token) finds = (hash, finds)
-FindsByKey-from stands_for hash lists (found_loading token) finds = (hash, finds)
-FindsByKey-from stands_for hash lists (found_ghost token) finds = finds
-FindsByKey-from stands_for hash lists found_nothing finds = finds
+FindsByKey-from stands_for hash lists (Found.Item token) finds = (hash, finds)
+FindsByKey-from stands_for hash lists (Found.Loading token) finds = (hash, finds)
+FindsByKey-from stands_for hash lists (Found.Ghost token) finds = finds
+FindsByKey-from stands_for hash lists Found.Nothing finds = finds

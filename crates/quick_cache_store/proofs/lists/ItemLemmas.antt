@@ -5,13 +5,13 @@ use Rattle.quick_cache_model.specs.CacheState.{Item, Place, InHot, InCold, InSti
 use Rattle.quick_cache_store.specs.Pool.{Pool, item_at, next_token}
 use Rattle.quick_cache_index.specs.Index.{Index, token_count}
 use Rattle.quick_cache_store.specs.declared.slots.entry.Entry.{Entry}
-use Rattle.quick_cache_store.specs.declared.slots.entry.Entry.TheVariants.{Item as item_variant, Loading as loading_variant, Ghost as ghost_variant}
 use Rattle.quick_cache_store.specs.declared.slots.entry.Slot.{Slot}
 use Rattle.quick_cache_store.specs.Rings.{Ring, Rings}
 use Rattle.std.specs.Int.NonZero.{non_zero_u32_get}
 use Rattle.std.specs.declared.num.NonZeroU32.{NonZeroU32 as Token}
 use Rattle.quick_cache_store.specs.Lists.{HeldItem, StandsIn, items_at, HasItem, HasItemToken, HasItemUnder, IsFirstOf}
-use Rattle.quick_cache_store.specs.ListSlots.{Stand, AmongHot, AmongCold, AmongGhosts, stand_of, has_hash, item_of, still_of, loading_of, ghost_of}
+use Rattle.quick_cache_store.specs.ListSlots.{Stand, AmongHot, AmongCold, AmongGhosts, stand_of, has_hash, item_of, still_of, loading_of}
+use Rattle.quick_cache_store.specs.ListSlots.{ghost_of}
 use Rattle.quick_cache_store.specs.Sound.{gather, upto, lists_of, room_of, slot_room, IsKeyed, IsRingOf, IsSound}
 use Rattle.quick_cache_store.proofs.lists.GatherLemmas.{gather-from}
 use Rattle.quick_cache_store.proofs.lists.FindLemmas.{held_still}
@@ -20,7 +20,7 @@ use Rattle.quick_cache_store.proofs.lists.TakeLemmas.{named_item}
 module _ {K V P T : Type 0} where
   slot_by_held : (u : ℕ) (o : Option (Slot K V P T)) (held : HeldItem K V) → item_of u o ≡ Some held
       → (hash : ℕ) × (item : Item K V)
-      × (o ≡ Some (record { hash = hash; entry = item_variant item }))
+      × (o ≡ Some (record { hash = hash; entry = Entry.Item item }))
   slot_by_held u None held is = absurd (cc)
   slot_by_held u (Some slot) held is = by_entry slot.hash slot.entry is
     where
@@ -28,10 +28,10 @@ module _ {K V P T : Type 0} where
           → item_of u (Some (record { hash = hash; entry = entry })) ≡ Some held → (h : ℕ)
           × (item : Item K V) × ◌≡◌ {A = Option (Slot K V P T)}
           (Some (record { hash = hash; entry = entry }))
-          (Some (record { hash = h; entry = item_variant item }))
-      by_entry hash (item_variant item) e = (hash, item, refl)
-      by_entry hash (loading_variant awaited) e = absurd (cc)
-      by_entry hash ghost_variant e = absurd (cc)
+          (Some (record { hash = h; entry = Entry.Item item }))
+      by_entry hash (Entry.Item item) e = (hash, item, refl)
+      by_entry hash (Entry.Loading awaited) e = absurd (cc)
+      by_entry hash Entry.Ghost e = absurd (cc)
 
   hash_by_held : (u : ℕ) (o : Option (Slot K V P T)) (held : HeldItem K V)
       → item_of u o ≡ Some held → has_hash held.hash o ≡ true
@@ -41,11 +41,11 @@ module _ {K V P T : Type 0} where
       by_entry : (hash : ℕ) (entry : Entry K V P T)
           → item_of u (Some (record { hash = hash; entry = entry })) ≡ Some held
           → has_hash held.hash (Some (record { hash = hash; entry = entry })) ≡ true
-      by_entry hash (item_variant item) e =
+      by_entry hash (Entry.Item item) e =
           let same : record { token = u; hash = hash; item = item } ≡ held = cc in
           eq-eqb hash held.hash (ap (λ (h : HeldItem K V). h.hash) same)
-      by_entry hash (loading_variant awaited) e = absurd (cc)
-      by_entry hash ghost_variant e = absurd (cc)
+      by_entry hash (Entry.Loading awaited) e = absurd (cc)
+      by_entry hash Entry.Ghost e = absurd (cc)
 
   module _ (slab : Pool (Slot K V P T)) (index : Index) (rings : Rings) where
     -- the hash that an item was found under is that of its slot
@@ -76,19 +76,19 @@ module _ {K V P T : Type 0} where
 
     pub item_by_token : (t : ℕ) → HasItemToken (lists_of slab index rings) t → (hash : ℕ)
         × (item : Item K V) × (item_at slab t
-        ≡ Some (record { hash = hash; entry = item_variant item }))
+        ≡ Some (record { hash = hash; entry = Entry.Item item }))
     item_by_token t has = by_place has.0 has.1.place has.1.stands has.2
       where
         found : (u : ℕ) (held : HeldItem K V) → item_of u (item_at slab u) ≡ Some held
             → held.token ≡ t → (hash : ℕ) × (item : Item K V)
-            × (item_at slab t ≡ Some (record { hash = hash; entry = item_variant item }))
+            × (item_at slab t ≡ Some (record { hash = hash; entry = Entry.Item item }))
         found u held is at = rw (sym (named_item u (item_at slab u) held is) ∙ at) at
             (slot_by_held u (item_at slab u) held is)
 
         by_place : (held : HeldItem K V) (place : Place)
             → StandsIn (items_at place (lists_of slab index rings)) held → held.token ≡ t
             → (hash : ℕ) × (item : Item K V)
-            × (item_at slab t ≡ Some (record { hash = hash; entry = item_variant item }))
+            × (item_at slab t ≡ Some (record { hash = hash; entry = Entry.Item item }))
         by_place held InHot there e =
             let at = gather-from (λ u. item_of u (item_at slab u))
             rings.hot.tokens held there in
@@ -118,14 +118,14 @@ module _ {K V P T : Type 0} where
     pub first_cold-item : (token : Token) → IsFirstOf (λ (held : HeldItem K V). held.token)
         (lists_of slab index rings).cold (Some token) → (hash : ℕ) × (item : Item K V)
         × (item_at slab (non_zero_u32_get token)
-        ≡ Some (record { hash = hash; entry = item_variant item }))
+        ≡ Some (record { hash = hash; entry = Entry.Item item }))
     first_cold-item token first =
         let at = gather-from (λ u. item_of u (item_at slab u)) rings.cold.tokens first.0
         (record { before = []; after = first.1; split = first.2 }) in
         let is : at.0 ≡ non_zero_u32_get token =
         sym (named_item at.0 (item_at slab at.0) first.0 at.2) ∙ first.3 in
         subst (λ (u : ℕ). (hash : ℕ) × (item : Item K V)
-        × (item_at slab u ≡ Some (record { hash = hash; entry = item_variant item }))) is
+        × (item_at slab u ≡ Some (record { hash = hash; entry = Entry.Item item }))) is
         (slot_by_held at.0 (item_at slab at.0) first.0 at.2)
 
   -- there is one slot
@@ -134,15 +134,15 @@ module _ {K V P T : Type 0} where
   one_slot o slot other is at = cc
 
   pub item_is : (o : Option (Slot K V P T)) (slot : Slot K V P T) (hash : ℕ) (item : Item K V)
-      → o ≡ Some (record { hash = hash; entry = item_variant item }) → o ≡ Some slot
-      → slot.entry ≡ item_variant item
+      → o ≡ Some (record { hash = hash; entry = Entry.Item item }) → o ≡ Some slot
+      → slot.entry ≡ Entry.Item item
   item_is o slot hash item is at =
-      let same : slot ≡ record { hash = hash; entry = item_variant item } = cc in
+      let same : slot ≡ record { hash = hash; entry = Entry.Item item } = cc in
       ap (λ (s : Slot K V P T). s.entry) same
 
   pub slot_is : (o : Option (Slot K V P T)) (slot : Slot K V P T) (hash : ℕ) (item : Item K V)
-      → o ≡ Some (record { hash = hash; entry = item_variant item }) → o ≡ Some slot
-      → slot ≡ record { hash = hash; entry = item_variant item }
+      → o ≡ Some (record { hash = hash; entry = Entry.Item item }) → o ≡ Some slot
+      → slot ≡ record { hash = hash; entry = Entry.Item item }
   slot_is o slot hash item is at = cc
 
   pub lists-reserved : (old new : Pool (Slot K V P T)) (told tnew : Index)
@@ -244,37 +244,37 @@ module _ {K V P T : Type 0} where
       kept (omega (arith, bounded, count))) sound))
 
   slot_of_held : (u : ℕ) (o : Option (Slot K V P T)) (held : HeldItem K V) → item_of u o ≡ Some held
-      → o ≡ Some (record { hash = held.hash; entry = item_variant held.item })
+      → o ≡ Some (record { hash = held.hash; entry = Entry.Item held.item })
   slot_of_held u None held is = absurd (cc)
   slot_of_held u (Some slot) held is = by_entry slot.hash slot.entry is
     where
       by_entry : (hash : ℕ) (entry : Entry K V P T)
           → item_of u (Some (record { hash = hash; entry = entry })) ≡ Some held
           → ◌≡◌ {A = Option (Slot K V P T)} (Some (record { hash = hash; entry = entry }))
-          (Some (record { hash = held.hash; entry = item_variant held.item }))
-      by_entry hash (item_variant item) e =
+          (Some (record { hash = held.hash; entry = Entry.Item held.item }))
+      by_entry hash (Entry.Item item) e =
           let same : record { token = u; hash = hash; item = item } ≡ held =
           cc in ap (λ (h : HeldItem K V). Some
-          (record { hash = h.hash; entry = item_variant h.item })) same
-      by_entry hash (loading_variant awaited) e = absurd (cc)
-      by_entry hash ghost_variant e = absurd (cc)
+          (record { hash = h.hash; entry = Entry.Item h.item })) same
+      by_entry hash (Entry.Loading awaited) e = absurd (cc)
+      by_entry hash Entry.Ghost e = absurd (cc)
 
   -- an item is in the slot of its token
   pub item_at-held : (slab : Pool (Slot K V P T)) (index : Index) (rings : Rings)
       (held : HeldItem K V) → HasItem (lists_of slab index rings) held
-      → item_at slab held.token ≡ Some (record { hash = held.hash; entry = item_variant held.item })
+      → item_at slab held.token ≡ Some (record { hash = held.hash; entry = Entry.Item held.item })
   item_at-held slab index rings held has = by_place has.place has.stands
     where
       found : (u : ℕ) → item_of u (item_at slab u) ≡ Some held
           → item_at slab held.token ≡ Some
-          (record { hash = held.hash; entry = item_variant held.item })
+          (record { hash = held.hash; entry = Entry.Item held.item })
       found u is = ap (item_at slab) (named_item u (item_at slab u) held is)
           ∙ slot_of_held u (item_at slab u) held is
 
       by_place : (place : Place) → StandsIn
           (items_at place (lists_of slab index rings)) held
           → item_at slab held.token ≡ Some
-          (record { hash = held.hash; entry = item_variant held.item })
+          (record { hash = held.hash; entry = Entry.Item held.item })
       by_place InHot there =
           let at = gather-from (λ u. item_of u (item_at slab u))
           rings.hot.tokens held there in found at.0 at.2

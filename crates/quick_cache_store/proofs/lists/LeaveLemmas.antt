@@ -6,7 +6,8 @@ use Rattle.quick_cache_store.specs.Rings.{Ring, Rings, CanLeave, CanLeaveRing, L
 use Rattle.quick_cache_store.specs.declared.slots.entry.Slot.{Slot}
 use Rattle.quick_cache_store.specs.Frames.{IsRemoved}
 use Rattle.quick_cache_store.specs.Lists.{Lists, without_entry, entry_count}
-use Rattle.quick_cache_store.specs.ListSlots.{Stand, AmongHot, AmongCold, AmongStill, AmongLoading, AmongGhosts, stand_of, stand_in, weight_at, weight_in, loading_in}
+use Rattle.quick_cache_store.specs.ListSlots.{Stand, AmongHot, AmongCold, AmongStill, AmongLoading, AmongGhosts, stand_of, stand_in}
+use Rattle.quick_cache_store.specs.ListSlots.{weight_at, weight_in, loading_in}
 use Rattle.quick_cache_store.specs.Sound.{lists_of, slot_room, IsRingOf, IsKeyed, IsStanding, IsSound}
 use Rattle.quick_cache_store.proofs.lists.ApartLemmas.{apart_by}
 use Rattle.quick_cache_store.proofs.lists.CountLemmas.{IsLess, IsLess-without}

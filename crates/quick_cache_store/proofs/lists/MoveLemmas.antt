@@ -1,6 +1,7 @@
 -- An entry left its list, and another came to its token and was put last. It is told by way of a
 -- slab that has nothing at the token.
-use Rattle.std.proofs.Common.{◌≡◌, ◌≢◌, ℕ, ◌+◌, ◌-◌, ◌<◌, ◌≤◌, length, Bool, eqb, [], Some, None, is_some, true, refl, sym, ap, subst, ◌∙◌, inl, inr, arith}
+use Rattle.std.proofs.Common.{◌≡◌, ◌≢◌, ℕ, ◌+◌, ◌-◌, ◌<◌, ◌≤◌, length, Bool, eqb, [], Some, None, is_some, true, refl, sym, ap, subst, ◌∙◌}
+use Rattle.std.proofs.Common.{inl, inr, arith}
 use Rattle.std.proofs.lemmas.Bool.{cases_eq}
 use Rattle.quick_cache_store.specs.Pool.{Pool, first_or, next_token, item_at, with_item, removed}
 use Rattle.quick_cache_store.proofs.pool.AtTokens.{length-with_token, at_token-with_same, at_token-with_other}

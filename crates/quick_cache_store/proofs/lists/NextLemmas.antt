@@ -1,12 +1,12 @@
 -- The first item above a token.
-use Rattle.std.proofs.Common.{◌≡◌, ℕ, zero, suc, ◌+◌, ◌-◌, ◌<◌, Bool, true, false, true≢false, List, [], ◌∷◌, drop, get_or, Option, Some, None, MatchOption, refl, sym, ap, subst, ◌∙◌, arith}
+use Rattle.std.proofs.Common.{◌≡◌, ℕ, zero, suc, ◌+◌, ◌-◌, ◌<◌, Bool, true, false, true≢false, List, [], ◌∷◌, drop, get_or, Option, Some}
+use Rattle.std.proofs.Common.{None, MatchOption, refl, sym, ap, subst, ◌∙◌, arith}
 use Rattle.std.specs.Int.NonZero.{non_zero_u32_get}
 use Rattle.std.specs.declared.num.NonZeroU32.{NonZeroU32 as Token}
 use Rattle.std.proofs.lemmas.List.{get_or-drop}
 use Rattle.quick_cache_store.specs.Pool.{Pool, entries_past, entries_after, item_at}
 use Rattle.quick_cache_index.specs.Index.{Index}
 use Rattle.quick_cache_store.specs.declared.slots.entry.Entry.{Entry}
-use Rattle.quick_cache_store.specs.declared.slots.entry.Entry.TheVariants.{Item as item_variant, Loading as loading_variant, Ghost as ghost_variant}
 use Rattle.quick_cache_store.specs.declared.slots.entry.Slot.{Slot}
 use Rattle.quick_cache_store.specs.Rings.{Rings}
 use Rattle.quick_cache_store.specs.Lists.{HasItemToken, number_or_zero, IsFirstAbove}
@@ -126,14 +126,14 @@ module _ {K V P T : Type 0} (slab : Pool (Slot K V P T)) (index : Index)
           → item_at slab u ≡ Some (record { hash = hash; entry = entry })
           → is_item (record { hash = hash; entry = entry }) ≡ true
           → HasItemToken (lists_of slab index rings) u
-      by_entry hash (item_variant item) here item_is = (
+      by_entry hash (Entry.Item item) here item_is = (
         record { token = u; hash = hash; item = item },
         HasItem-from slab index rings
             standing u hash item here,
         refl,
       )
-      by_entry hash (loading_variant awaited) here item_is = absurd (true≢false (sym item_is))
-      by_entry hash ghost_variant here item_is = absurd (true≢false (sym item_is))
+      by_entry hash (Entry.Loading awaited) here item_is = absurd (true≢false (sym item_is))
+      by_entry hash Entry.Ghost here item_is = absurd (true≢false (sym item_is))
 
   pub IsFirstAbove-none : first_item (entries_after slab k) ≡ None
       → IsFirstAbove (lists_of slab index rings) k None

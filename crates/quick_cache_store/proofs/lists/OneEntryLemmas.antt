@@ -1,18 +1,14 @@
 -- For callers: each token has one entry, so what is found under the token of a known entry is that
 -- entry; and the lists without the first of a list, or without the last ghost.
-use Rattle.std.proofs.Common.{◌≡◌, ℕ, ◌+◌, ◌≤◌, false, List, [], ◌∷◌, ◌++◌, map, refl, sym, ap, subst, ◌∙◌, arith}
-use Rattle.std.proofs.Common.{append-nil}
+use Rattle.std.proofs.Common.{◌≡◌, ℕ, ◌+◌, ◌≤◌, false, List, [], ◌∷◌, ◌++◌, map, refl, sym, ap, subst, ◌∙◌, arith, append-nil}
 use Rattle.quick_cache_model.specs.declared.queue.Queue.{Queue}
-use Rattle.quick_cache_model.specs.declared.queue.Queue.TheVariants.{Hot, Cold}
 use Rattle.quick_cache_model.specs.CacheState.{Place, InHot, InCold, InStill, ring_place}
 use Rattle.quick_cache_store.specs.Pool.{times}
 use Rattle.quick_cache_store.proofs.pool.TokenCounts.{times-here, times-append}
 use Rattle.quick_cache_store.specs.declared.slots.entry.Entry.{Entry}
-use Rattle.quick_cache_store.specs.declared.slots.entry.Entry.TheVariants.{Item as item_variant, Loading as loading_variant, Ghost as ghost_variant}
-use Rattle.quick_cache_store.specs.Lists.{HeldItem, HeldLoading, HeldGhost, Lists, StandsIn, HasItem}
-use Rattle.quick_cache_store.specs.Lists.{IsEntry, AreApart, items_at, with_items, without_entry}
-use Rattle.quick_cache_store.proofs.lists.CallerLemmas.{stands-once, without-hot, without-cold}
-use Rattle.quick_cache_store.proofs.lists.CallerLemmas.{without-ghost}
+use Rattle.quick_cache_store.specs.Lists.{HeldItem, HeldLoading, HeldGhost, Lists, StandsIn, HasItem, IsEntry, AreApart, items_at}
+use Rattle.quick_cache_store.specs.Lists.{with_items, without_entry}
+use Rattle.quick_cache_store.proofs.lists.CallerLemmas.{stands-once, without-hot, without-cold, without-ghost}
 
 module _ {X : Type 0} (name : X → ℕ) (t : ℕ) where
   -- of a list that has a token once, two elements of that token are one
@@ -49,7 +45,7 @@ module _ {K V P : Type 0} (lists : Lists K V P) (apart : AreApart lists) where
     pub first-item : (queue : Queue) (other : HeldItem K V)
         → items_at (ring_place queue) lists ≡ held ∷ rest → HasItem lists other
         → other.token ≡ held.token → other ≡ held
-    first-item Hot other split has is = go has.place has.stands
+    first-item Queue.Hot other split has is = go has.place has.stands
       where
         go : (place : Place) → StandsIn (items_at place lists) other → other ≡ held
         go InHot stands =
@@ -78,7 +74,7 @@ module _ {K V P : Type 0} (lists : Lists K V P) (apart : AreApart lists) where
               stands-once (λ (h : HeldItem K V). h.token) held.token lists.still stands.before
                   stands.after other stands.split is,
             ))
-    first-item Cold other split has is = go has.place has.stands
+    first-item Queue.Cold other split has is = go has.place has.stands
       where
         go : (place : Place) → StandsIn (items_at place lists) other → other ≡ held
         go InCold stands =
@@ -112,7 +108,7 @@ module _ {K V P : Type 0} (lists : Lists K V P) (apart : AreApart lists) where
     pub first-loading : (queue : Queue) (waiting : HeldLoading K P)
         → items_at (ring_place queue) lists ≡ held ∷ rest → StandsIn lists.loading waiting
         → waiting.token ≡ held.token → ⊥
-    first-loading Hot waiting split stands is =
+    first-loading Queue.Hot waiting split stands is =
         omega (
           arith,
           apart held.token,
@@ -120,7 +116,7 @@ module _ {K V P : Type 0} (lists : Lists K V P) (apart : AreApart lists) where
           stands-once (λ (w : HeldLoading K P). w.token) held.token lists.loading stands.before
               stands.after waiting stands.split is,
         )
-    first-loading Cold waiting split stands is =
+    first-loading Queue.Cold waiting split stands is =
         omega (
           arith,
           apart held.token,
@@ -133,7 +129,7 @@ module _ {K V P : Type 0} (lists : Lists K V P) (apart : AreApart lists) where
     pub first-ghost : (queue : Queue) (shade : HeldGhost)
         → items_at (ring_place queue) lists ≡ held ∷ rest → StandsIn lists.ghosts shade
         → shade.token ≡ held.token → ⊥
-    first-ghost Hot shade split stands is =
+    first-ghost Queue.Hot shade split stands is =
         omega (
           arith,
           apart held.token,
@@ -141,7 +137,7 @@ module _ {K V P : Type 0} (lists : Lists K V P) (apart : AreApart lists) where
           stands-once (λ (g : HeldGhost). g.token) held.token lists.ghosts stands.before
               stands.after shade stands.split is,
         )
-    first-ghost Cold shade split stands is =
+    first-ghost Queue.Cold shade split stands is =
         omega (
           arith,
           apart held.token,
@@ -155,11 +151,11 @@ module _ {K V P : Type 0} (lists : Lists K V P) (apart : AreApart lists) where
         → held.token ≡ t
         → without_entry false t lists
         ≡ record (with_items (ring_place queue) rest lists) { next = t; room = lists.room + 1 }
-    without-first Hot t split is =
+    without-first Queue.Hot t split is =
         subst (λ (u : ℕ). without_entry false u lists
         ≡ record lists { hot = rest; next = u; room = lists.room + 1 }) is
         (without-hot lists apart false [] rest held split)
-    without-first Cold t split is =
+    without-first Queue.Cold t split is =
         subst (λ (u : ℕ). without_entry false u lists
         ≡ record lists { cold = rest; next = u; room = lists.room + 1 }) is
         (without-cold lists apart false [] rest held split)
@@ -170,7 +166,7 @@ module _ {K V P : Type 0} (lists : Lists K V P) (apart : AreApart lists) where
   pub last_ghost-hash : {T : Type 0} (before : List HeldGhost) (t hash other : ℕ)
       (entry : Entry K V P T) → lists.ghosts ≡ before ++ record { token = t; hash = hash } ∷ []
       → IsEntry lists t other entry → other ≡ hash
-  last_ghost-hash before t hash other (item_variant item) split has = go has.place has.stands
+  last_ghost-hash before t hash other (Entry.Item item) split has = go has.place has.stands
     where
       go : (place : Place)
           → StandsIn (items_at place lists) (record { token = t; hash = other; item = item })
@@ -199,7 +195,7 @@ module _ {K V P : Type 0} (lists : Lists K V P) (apart : AreApart lists) where
             stands-once (λ (h : HeldItem K V). h.token) t lists.still stands.before stands.after _
                 stands.split refl,
           ))
-  last_ghost-hash before t hash other (loading_variant awaited) split stands =
+  last_ghost-hash before t hash other (Entry.Loading awaited) split stands =
       absurd (omega (
         arith,
         apart t,
@@ -207,7 +203,7 @@ module _ {K V P : Type 0} (lists : Lists K V P) (apart : AreApart lists) where
         stands-once (λ (w : HeldLoading K P). w.token) t lists.loading stands.before stands.after _
             stands.split refl,
       ))
-  last_ghost-hash before t hash other ghost_variant split stands =
+  last_ghost-hash before t hash other Entry.Ghost split stands =
       ap (λ (g : HeldGhost). g.hash)
       (one-element (λ (g : HeldGhost). g.token) t before [] stands.before stands.after
       (record { token = t; hash = hash }) (record { token = t; hash = other })

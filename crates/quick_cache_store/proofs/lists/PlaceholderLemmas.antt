@@ -1,12 +1,12 @@
 -- A walk over the slots in search of a placeholder.
-use Rattle.std.proofs.Common.{◌≡◌, ℕ, zero, suc, ◌+◌, Bool, true, false, true≢false, List, [], ◌∷◌, ◌++◌, length, drop, get_or, Option, Some, None, refl, sym, ap, subst, ◌∙◌, arith}
+use Rattle.std.proofs.Common.{◌≡◌, ℕ, zero, suc, ◌+◌, Bool, true, false, true≢false, List, [], ◌∷◌, ◌++◌, length, drop, get_or, Option}
+use Rattle.std.proofs.Common.{Some, None, refl, sym, ap, subst, ◌∙◌, arith}
 use Rattle.std.specs.Bool.{OnTrue}
 use Rattle.std.specs.List.{AllByRecursion}
 use Rattle.quick_cache_model.proofs.EachElement.{all-push}
 use Rattle.quick_cache_store.specs.Pool.{Pool, entries_past, entries_after, item_at}
 use Rattle.quick_cache_index.specs.Index.{Index}
 use Rattle.quick_cache_store.specs.declared.slots.entry.Entry.{Entry}
-use Rattle.quick_cache_store.specs.declared.slots.entry.Entry.TheVariants.{Item as item_variant, Loading as loading_variant, Ghost as ghost_variant}
 use Rattle.quick_cache_store.specs.declared.slots.entry.Slot.{Slot}
 use Rattle.quick_cache_store.specs.Rings.{Rings}
 use Rattle.quick_cache_store.specs.Lists.{HeldLoading}
@@ -96,8 +96,8 @@ module _ {K V P T : Type 0} (slab : Pool (Slot K V P T)) (index : Index)
           → item_at slab t ≡ Some (record { hash = hash; entry = entry })
           → is_meant means (record { hash = hash; entry = entry }) ≡ true
           → FindsPlaceholder means (lists_of slab index rings) t
-      by_entry hash (item_variant item) here meant = absurd (true≢false (sym meant))
-      by_entry hash (loading_variant awaited) here meant = record {
+      by_entry hash (Entry.Item item) here meant = absurd (true≢false (sym meant))
+      by_entry hash (Entry.Loading awaited) here meant = record {
         waiting = record {
           token = t;
           hash = hash;
@@ -109,7 +109,7 @@ module _ {K V P T : Type 0} (slab : Pool (Slot K V P T)) (index : Index)
         stands = StandsIn-loading slab index rings standing t _ _ here refl;
         passes = meant;
       }
-      by_entry hash ghost_variant here meant = absurd (true≢false (sym meant))
+      by_entry hash Entry.Ghost here meant = absurd (true≢false (sym meant))
 
   -- one that the walk comes to
   pub FindsPlaceholder-walk : (all left rest : List (ℕ × Slot K V P T)) (t : ℕ)
@@ -133,8 +133,8 @@ module _ {K V P T : Type 0} (slab : Pool (Slot K V P T)) (index : Index)
           → is_meant means (record { hash = hash; entry = entry }) ≡ false
           → loading_of t (Some (record { hash = hash; entry = entry })) ≡ Some waiting
           → means waiting.placeholder ≡ false
-      by_entry hash (item_variant item) isnt at = absurd (cc)
-      by_entry hash (loading_variant awaited) isnt at =
+      by_entry hash (Entry.Item item) isnt at = absurd (cc)
+      by_entry hash (Entry.Loading awaited) isnt at =
           let same : record {
             token = t;
             hash = hash;
@@ -143,7 +143,7 @@ module _ {K V P T : Type 0} (slab : Pool (Slot K V P T)) (index : Index)
             placeholder = awaited.placeholder;
           } ≡ waiting = cc in
           subst (λ (w : HeldLoading K P). means w.placeholder ≡ false) same isnt
-      by_entry hash ghost_variant isnt at = absurd (cc)
+      by_entry hash Entry.Ghost isnt at = absurd (cc)
 
   -- the walk came to no other slot
   pub HasNoPlaceholder-walk : (all left : List (ℕ × Slot K V P T))

@@ -1,23 +1,27 @@
 -- An entry was put last.
-use Rattle.std.proofs.Common.{◌≡◌, ℕ, ◌+◌, ◌<◌, ◌≤◌, List, [], ◌∷◌, ◌++◌, length, ◌==◌, if◌then◌else◌, Bool, true, false, refl, sym, ap, subst, ◌∙◌, arith, true≢false}
+use Rattle.std.proofs.Common.{◌≡◌, ℕ, ◌+◌, ◌<◌, ◌≤◌, List, [], ◌∷◌, ◌++◌, length, ◌==◌, if◌then◌else◌, Bool, true, false, refl, sym, ap}
+use Rattle.std.proofs.Common.{subst, ◌∙◌, arith, true≢false}
 use Rattle.std.proofs.lemmas.List.Sorted.{IsPermutation-refl}
 use Rattle.quick_cache_model.specs.CacheState.{Place, InHot, InCold, InStill, place_of_item, ring_place}
 use Rattle.quick_cache_model.specs.declared.queue.Queue.{Queue}
-use Rattle.quick_cache_model.specs.declared.queue.Queue.TheVariants.{Hot, Cold}
 use Rattle.quick_cache_store.specs.Pool.{Pool, item_at, next_token}
 use Rattle.quick_cache_index.specs.Index.{Index, token_count}
 use Rattle.quick_cache_store.specs.Rings.{Ring, Rings, CanJoin, CanEnter, entered}
 use Rattle.quick_cache_store.specs.declared.slots.entry.Entry.{Entry}
-use Rattle.quick_cache_store.specs.declared.slots.entry.Entry.TheVariants.{Item as item_variant, Loading as loading_variant, Ghost as ghost_variant}
 use Rattle.quick_cache_store.specs.Frames.{IsPlaced}
 use Rattle.quick_cache_store.specs.declared.slots.entry.Slot.{Slot}
-use Rattle.quick_cache_store.specs.Lists.{HeldItem, Lists, items_at, with_items, with_last, is_placeholder, is_weightless, PutsLast, entry_count}
-use Rattle.quick_cache_store.specs.ListSlots.{Stand, AmongHot, AmongCold, AmongStill, AmongLoading, AmongGhosts, stand_in, weight_in, weight_at, loading_in}
+use Rattle.quick_cache_store.specs.Lists.{HeldItem, Lists, items_at, with_items, with_last, is_placeholder, is_weightless, PutsLast}
+use Rattle.quick_cache_store.specs.Lists.{entry_count}
+use Rattle.quick_cache_store.specs.ListSlots.{Stand, AmongHot, AmongCold, AmongStill, AmongLoading, AmongGhosts, stand_in, weight_in}
+use Rattle.quick_cache_store.specs.ListSlots.{weight_at, loading_in}
 use Rattle.quick_cache_store.specs.Sound.{lists_of, room_of, slot_room, IsRingOf, IsKeyed, IsStanding, IsSound}
 use Rattle.quick_cache_store.proofs.lists.CountLemmas.{IsMore-put}
 use Rattle.quick_cache_store.proofs.lists.SoundLemmas.{ring_light}
 use Rattle.quick_cache_store.proofs.lists.TurnLemmas.{count_held, count_ghosts}
-use Rattle.quick_cache_store.proofs.lists.ViewLemmas.{same_lists, IsStanding-put_hot, IsStanding-put_cold, IsStanding-put_still, IsStanding-put_loading, IsStanding-put_ghost, lists-put_hot, lists-put_cold, lists-put_ghost, SameButOrder-put_still, SameButOrder-put_loading, loading-put_still, still-put_loading}
+use Rattle.quick_cache_store.proofs.lists.ViewLemmas.{same_lists, IsStanding-put_hot, IsStanding-put_cold, IsStanding-put_still}
+use Rattle.quick_cache_store.proofs.lists.ViewLemmas.{IsStanding-put_loading, IsStanding-put_ghost, lists-put_hot, lists-put_cold}
+use Rattle.quick_cache_store.proofs.lists.ViewLemmas.{lists-put_ghost, SameButOrder-put_still, SameButOrder-put_loading, loading-put_still}
+use Rattle.quick_cache_store.proofs.lists.ViewLemmas.{still-put_loading}
 
 module _ {K V P : Type 0} where
   pub with_items-loading : (p : Place) (xs : List (HeldItem K V)) (lists : Lists K V P)
@@ -31,8 +35,8 @@ module _ {K V P : Type 0} where
       → (with_items (if b then InStill else ring_place q)
       (xs (if b then InStill else ring_place q)) lists).still ≡ lists.still
   with_items-still true q xs lists weighs = absurd (true≢false weighs)
-  with_items-still false Hot xs lists weighs = refl
-  with_items-still false Cold xs lists weighs = refl
+  with_items-still false Queue.Hot xs lists weighs = refl
+  with_items-still false Queue.Cold xs lists weighs = refl
 
 -- the room of the rings stays
 pub capacity-entered : (t w : ℕ) (s : Stand) (rings : Rings)
@@ -81,18 +85,18 @@ module _ {K V P T : Type 0} where
 
   with_last-loading : (t hash : ℕ) (entry : Entry K V P T) (lists : Lists K V P)
       → is_placeholder entry ≡ false → (with_last t hash entry lists).loading ≡ lists.loading
-  with_last-loading t hash (item_variant item) lists is =
+  with_last-loading t hash (Entry.Item item) lists is =
       with_items-loading (place_of_item item) _ lists
-  with_last-loading t hash (loading_variant awaited) lists is = absurd (true≢false is)
-  with_last-loading t hash ghost_variant lists is = refl
+  with_last-loading t hash (Entry.Loading awaited) lists is = absurd (true≢false is)
+  with_last-loading t hash Entry.Ghost lists is = refl
 
   with_last-still : (t hash : ℕ) (entry : Entry K V P T) (lists : Lists K V P)
       → is_weightless entry ≡ false → (with_last t hash entry lists).still ≡ lists.still
-  with_last-still t hash (item_variant item) lists is =
+  with_last-still t hash (Entry.Item item) lists is =
       with_items-still (item.weight == 0) item.queue (λ p. items_at p lists
       ++ record { token = t; hash = hash; item = item } ∷ []) lists is
-  with_last-still t hash (loading_variant awaited) lists is = refl
-  with_last-still t hash ghost_variant lists is = refl
+  with_last-still t hash (Entry.Loading awaited) lists is = refl
+  with_last-still t hash Entry.Ghost lists is = refl
 
   -- ---- it stands last
 
@@ -134,38 +138,38 @@ module _ {K V P T : Type 0} where
         → IsPlaced old new t (record { hash = hash; entry = entry })
         → IsPut old new told tnew t hash rings entry
         (entered t (weight_in entry) (stand_in entry) rings)
-    IsPut-by (item_variant item) placed = by_weight (item.weight == 0) refl
+    IsPut-by (Entry.Item item) placed = by_weight (item.weight == 0) refl
       where
         at_stand : (s : Stand)
-            → stand_in {K = K} {V = V} {P = P} {T = T} (item_variant item) ≡ s
-            → IsPut old new told tnew t hash rings (item_variant item)
+            → stand_in {K = K} {V = V} {P = P} {T = T} (Entry.Item item) ≡ s
+            → IsPut old new told tnew t hash rings (Entry.Item item)
             (entered t item.weight s rings)
-            → IsPut old new told tnew t hash rings (item_variant item)
-            (entered t item.weight (stand_in {K = K} {V = V} {P = P} {T = T} (item_variant item))
+            → IsPut old new told tnew t hash rings (Entry.Item item)
+            (entered t item.weight (stand_in {K = K} {V = V} {P = P} {T = T} (Entry.Item item))
             rings)
         at_stand s is put = subst (λ (r : Stand). IsPut old new told tnew t hash rings
-            (item_variant item) (entered t item.weight r rings)) (sym is) put
+            (Entry.Item item) (entered t item.weight r rings)) (sym is) put
 
         by_queue : (q : Queue) → item.queue ≡ q → (item.weight == 0) ≡ false
-            → IsPut old new told tnew t hash rings (item_variant item)
-            (entered t item.weight (stand_in {K = K} {V = V} {P = P} {T = T} (item_variant item))
+            → IsPut old new told tnew t hash rings (Entry.Item item)
+            (entered t item.weight (stand_in {K = K} {V = V} {P = P} {T = T} (Entry.Item item))
             rings)
-        by_queue Hot of weighs = at_stand AmongHot (rw (weighs, of) refl) (
+        by_queue Queue.Hot of weighs = at_stand AmongHot (rw (weighs, of) refl) (
           IsStanding-put_hot old new told tnew t hash item rings standing placed weighs of,
-          in_ring old new told tnew t hash rings (item_variant item)
+          in_ring old new told tnew t hash rings (Entry.Item item)
               (entered t item.weight AmongHot rings)
               (lists-put_hot old new told tnew t hash item rings standing placed weighs of),
         )
-        by_queue Cold of weighs = at_stand AmongCold (rw (weighs, of) refl) (
+        by_queue Queue.Cold of weighs = at_stand AmongCold (rw (weighs, of) refl) (
           IsStanding-put_cold old new told tnew t hash item rings standing placed weighs of,
-          in_ring old new told tnew t hash rings (item_variant item)
+          in_ring old new told tnew t hash rings (Entry.Item item)
               (entered t item.weight AmongCold rings)
               (lists-put_cold old new told tnew t hash item rings standing placed weighs of),
         )
 
         by_weight : (b : Bool) → (item.weight == 0) ≡ b
-            → IsPut old new told tnew t hash rings (item_variant item)
-            (entered t item.weight (stand_in {K = K} {V = V} {P = P} {T = T} (item_variant item))
+            → IsPut old new told tnew t hash rings (Entry.Item item)
+            (entered t item.weight (stand_in {K = K} {V = V} {P = P} {T = T} (Entry.Item item))
             rings)
         by_weight false weighs = by_queue item.queue refl weighs
         by_weight true none = at_stand AmongStill (rw none refl) (
@@ -178,7 +182,7 @@ module _ {K V P T : Type 0} where
                 placed none;
           },
         )
-    IsPut-by (loading_variant awaited) placed = (
+    IsPut-by (Entry.Loading awaited) placed = (
       IsStanding-put_loading old new told tnew t hash awaited rings standing placed,
       record {
         put = SameButOrder-put_loading old new told tnew t hash awaited rings standing placed;
@@ -187,9 +191,9 @@ module _ {K V P T : Type 0} where
         loading_stays = λ is. absurd (true≢false is);
       },
     )
-    IsPut-by ghost_variant placed = (
+    IsPut-by Entry.Ghost placed = (
       IsStanding-put_ghost old new told tnew t hash rings standing placed,
-      in_ring old new told tnew t hash rings ghost_variant (entered t 0 AmongGhosts rings)
+      in_ring old new told tnew t hash rings Entry.Ghost (entered t 0 AmongGhosts rings)
           (lists-put_ghost old new told tnew t hash rings standing placed),
     )
 

@@ -1,17 +1,17 @@
 -- A walk over all slots comes to each item once.
-use Rattle.std.proofs.Common.{◌≡◌, ◌≢◌, ◌⊎◌, ℕ, zero, suc, ◌+◌, ◌≤◌, ◌==◌, if◌then◌else◌, Bool, true, false, List, [], ◌∷◌, ◌++◌, length, filter_map, get_or, Option, Some, None, refl, sym, ap, subst, ◌∙◌, inl, inr, arith}
+use Rattle.std.proofs.Common.{◌≡◌, ◌≢◌, ◌⊎◌, ℕ, zero, suc, ◌+◌, ◌≤◌, ◌==◌, if◌then◌else◌, Bool, true, false, List, [], ◌∷◌, ◌++◌, length}
+use Rattle.std.proofs.Common.{filter_map, get_or, Option, Some, None, refl, sym, ap, subst, ◌∙◌, inl, inr, arith}
 use Rattle.std.proofs.lemmas.List.{map-append, length-append, length-map}
 use Rattle.std.specs.List.Sorted.{IsPermutation}
-use Rattle.std.proofs.lemmas.List.Sorted.{IsPermutation-refl, IsPermutation-trans, IsPermutation-sym, IsPermutation-cons, IsPermutation-middle, IsPermutation-map, IsPermutation-append_left}
+use Rattle.std.proofs.lemmas.List.Sorted.{IsPermutation-refl, IsPermutation-trans, IsPermutation-sym, IsPermutation-cons}
+use Rattle.std.proofs.lemmas.List.Sorted.{IsPermutation-middle, IsPermutation-map, IsPermutation-append_left}
 use Rattle.quick_cache_model.specs.CacheState.{Item}
 use Rattle.quick_cache_model.specs.declared.queue.Queue.{Queue}
-use Rattle.quick_cache_model.specs.declared.queue.Queue.TheVariants.{Hot, Cold}
 use Rattle.quick_cache_model.specs.Sequences.{times}
 use Rattle.quick_cache_store.specs.Pool.{Pool, item_at, items}
 use Rattle.quick_cache_store.proofs.pool.TokenCounts.{times-here, times-other, times-append}
 use Rattle.quick_cache_index.specs.Index.{Index}
 use Rattle.quick_cache_store.specs.declared.slots.entry.Entry.{Entry}
-use Rattle.quick_cache_store.specs.declared.slots.entry.Entry.TheVariants.{Item as item_variant, Loading as loading_variant, Ghost as ghost_variant}
 use Rattle.quick_cache_store.specs.declared.slots.entry.Slot.{Slot}
 use Rattle.quick_cache_store.specs.Rings.{Ring, Rings}
 use Rattle.quick_cache_store.specs.Lists.{HeldItem, Lists, item_count}
@@ -159,7 +159,7 @@ module _ {K V P T : Type 0} where
   heavy_of t o = if_heavy (item_of t o)
 
   abbrev slot_of : ℕ → Item K V → Slot K V P T
-  slot_of hash item = record { hash = hash; entry = item_variant item }
+  slot_of hash item = record { hash = hash; entry = Entry.Item item }
 
   -- what stands in a ring weighs something
   heavy-in_ring : (t : ℕ) (o : Option (Slot K V P T)) (q : Queue)
@@ -168,22 +168,22 @@ module _ {K V P T : Type 0} where
   heavy-in_ring t (Some slot) q stands = by_entry slot.hash slot.entry stands
     where
       not_still : (q : Queue) → Some AmongStill ≡ Some (ring_stand q) → ⊥
-      not_still Hot e = cc
-      not_still Cold e = cc
+      not_still Queue.Hot e = cc
+      not_still Queue.Cold e = cc
 
       by_entry : (hash : ℕ) (entry : Entry K V P T)
           → stand_of (Some (record { hash = hash; entry = entry })) ≡ Some (ring_stand q)
           → heavy_of t (Some (record { hash = hash; entry = entry }))
           ≡ item_of t (Some (record { hash = hash; entry = entry }))
-      by_entry hash (item_variant item) is = by_weight (item.weight == 0) refl
+      by_entry hash (Entry.Item item) is = by_weight (item.weight == 0) refl
         where
           by_weight : (b : Bool) → (item.weight == 0) ≡ b
               → heavy_of t (Some (slot_of hash item))
               ≡ item_of t (Some (slot_of hash item))
           by_weight true e = absurd (not_still q (rw e at is))
           by_weight false e = rw e refl
-      by_entry hash (loading_variant awaited) is = refl
-      by_entry hash ghost_variant is = refl
+      by_entry hash (Entry.Loading awaited) is = refl
+      by_entry hash Entry.Ghost is = refl
 
   -- an item that weighs something stands in the ring of its queue
   heavy-stands : (t : ℕ) (o : Option (Slot K V P T)) (held : HeldItem K V)
@@ -195,7 +195,7 @@ module _ {K V P T : Type 0} where
           → heavy_of t (Some (record { hash = hash; entry = entry })) ≡ Some held
           → stand_of (Some (record { hash = hash; entry = entry }))
           ≡ Some (ring_stand held.item.queue)
-      by_entry hash (item_variant item) there = by_weight (item.weight == 0) refl
+      by_entry hash (Entry.Item item) there = by_weight (item.weight == 0) refl
         where
           by_weight : (b : Bool) → (item.weight == 0) ≡ b
               → stand_of (Some (slot_of hash item))
@@ -206,8 +206,8 @@ module _ {K V P T : Type 0} where
               rw e at there in
               let one : record { token = t; hash = hash; item = item } ≡ held = cc in
               rw e (ap (λ (h : HeldItem K V). Some (ring_stand h.item.queue)) one)
-      by_entry hash (loading_variant awaited) there = absurd (cc)
-      by_entry hash ghost_variant there = absurd (cc)
+      by_entry hash (Entry.Loading awaited) there = absurd (cc)
+      by_entry hash Entry.Ghost there = absurd (cc)
 
 module _ {K V P T : Type 0} (slab : Pool (Slot K V P T)) (index : Index)
     (rings : Rings) (standing : IsStanding slab rings) where
@@ -228,7 +228,7 @@ module _ {K V P T : Type 0} (slab : Pool (Slot K V P T)) (index : Index)
       by_queue : (q : Queue) → stand_of (item_at slab t) ≡ Some (ring_stand q)
           → times t (rings.hot.tokens ++ rings.cold.tokens)
           ≡ times t (upto (length slab.slots))
-      by_queue Hot stands = omega (
+      by_queue Queue.Hot stands = omega (
         arith,
         times-append t rings.hot.tokens rings.cold.tokens,
         standing.hot_ring.all t stands,
@@ -236,7 +236,7 @@ module _ {K V P T : Type 0} (slab : Pool (Slot K V P T)) (index : Index)
         out_of_ring slab rings.cold AmongCold t standing.cold_ring (λ e. let f = sym stands ∙ e in cc),
         in_all t (item_at slab t) AmongHot refl stands,
       )
-      by_queue Cold stands = omega (
+      by_queue Queue.Cold stands = omega (
         arith,
         times-append t rings.hot.tokens rings.cold.tokens,
         standing.cold_ring.all t stands,
@@ -270,7 +270,8 @@ module _ {K V P T : Type 0} (slab : Pool (Slot K V P T)) (index : Index)
       rings.cold.tokens in
       let both = subst (IsPermutation
       (gather (λ t. heavy_of t (item_at slab t)) (upto (length slab.slots))))
-      (apart ∙ (λ i. ring-heavy rings.hot Hot standing.hot_ring i ++ ring-heavy rings.cold Cold standing.cold_ring i))
+      (apart ∙ (λ i. ring-heavy rings.hot Queue.Hot standing.hot_ring i
+      ++ ring-heavy rings.cold Queue.Cold standing.cold_ring i))
       both_rings in
       IsPermutation-trans _ _ _ parts (IsPermutation-append_left
       (gather (λ t. still_of t (item_at slab t)) (upto (length slab.slots))) _ _ both)

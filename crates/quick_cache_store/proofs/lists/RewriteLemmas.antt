@@ -1,15 +1,17 @@
 -- An item stands in for another one under its token: in its place, or moved by its weight.
-use Rattle.std.proofs.Common.{◌≡◌, ◌≢◌, ℕ, ◌+◌, ◌<◌, ◌==◌, if◌then◌else◌, Bool, true, false, not, List, [], ◌∷◌, ◌++◌, length, Option, Some, None, refl, sym, ap, subst, ◌∙◌, true≢false}
+use Rattle.std.proofs.Common.{◌≡◌, ◌≢◌, ℕ, ◌+◌, ◌<◌, ◌==◌, if◌then◌else◌, Bool, true, false, not, List, [], ◌∷◌, ◌++◌, length, Option, Some}
+use Rattle.std.proofs.Common.{None, refl, sym, ap, subst, ◌∙◌, true≢false}
 use Rattle.std.proofs.Math.Bool.{beq}
 use Rattle.std.proofs.lemmas.List.Sorted.{IsPermutation-refl}
 use Rattle.quick_cache_model.specs.CacheState.{Item, Place, InHot, InCold, InStill, place_of_item, ring_place}
 use Rattle.quick_cache_model.specs.declared.queue.Queue.{Queue}
-use Rattle.quick_cache_model.specs.declared.queue.Queue.TheVariants.{Hot, Cold}
-use Rattle.quick_cache_store.specs.Lists.{HeldItem, Lists, StandsIn, items_at, with_items, entered, AreApart, without_entry, with_change, SameButOrder, PutsItem, Replaces, Requeues, IsEntry, IsItemOf, HasItemOfQueue, with_weight, requeued, held_rewritten, Rewrites, Reweighs}
+use Rattle.quick_cache_store.specs.Lists.{HeldItem, Lists, StandsIn, items_at, with_items, entered, AreApart, without_entry, with_change}
+use Rattle.quick_cache_store.specs.Lists.{SameButOrder, PutsItem, Replaces, Requeues, IsEntry, IsItemOf, HasItemOfQueue, with_weight}
+use Rattle.quick_cache_store.specs.Lists.{requeued, held_rewritten, Rewrites, Reweighs}
 use Rattle.quick_cache_store.specs.Pool.{Pool, item_at}
 use Rattle.quick_cache_index.specs.Index.{Index}
 use Rattle.quick_cache_store.specs.declared.slots.entry.Awaited.{Awaited}
-use Rattle.quick_cache_store.specs.declared.slots.entry.Entry.TheVariants.{Item as item_variant, Loading as loading_variant, Ghost as ghost_variant}
+use Rattle.quick_cache_store.specs.declared.slots.entry.Entry.{Entry}
 use Rattle.quick_cache_store.specs.declared.slots.entry.Slot.{Slot}
 use Rattle.quick_cache_store.specs.Rings.{Rings, CanReweigh, reweighed}
 use Rattle.quick_cache_store.specs.ListSlots.{Stand, stand_of, stand_of_item, item_of, weight_at, loading_of, ghost_of}
@@ -34,8 +36,8 @@ weightless_at InStill = true
 weightless-place : (p : Place) (b : Bool) (q : Queue) → p ≡ (if b then InStill else ring_place q)
     → b ≡ weightless_at p
 weightless-place p true q is = sym (ap weightless_at is)
-weightless-place p false Hot is = sym (ap weightless_at is)
-weightless-place p false Cold is = sym (ap weightless_at is)
+weightless-place p false Queue.Hot is = sym (ap weightless_at is)
+weightless-place p false Queue.Cold is = sym (ap weightless_at is)
 
 other_than : (a b : Bool) → a ≢ b → b ≡ true → a ≡ false
 other_than true b differs is = absurd (differs (sym is))
@@ -211,8 +213,8 @@ none_of o is is' = cc
 
 module _ {K V P T : Type 0} where
   same_item : (o : Option (Slot K V P T)) (h h' : ℕ) (item other : Item K V)
-      → o ≡ Some (record { hash = h; entry = item_variant item })
-      → o ≡ Some (record { hash = h'; entry = item_variant other }) → item ≡ other
+      → o ≡ Some (record { hash = h; entry = Entry.Item item })
+      → o ≡ Some (record { hash = h'; entry = Entry.Item other }) → item ≡ other
   same_item o h h' item other is is' =
       let both = sym (ap (item_of 0) is) ∙ ap (item_of 0) is' in
       let same : record { token = 0; hash = h; item = item }
@@ -220,19 +222,19 @@ module _ {K V P T : Type 0} where
       ap (λ (y : HeldItem K V). y.item) same
 
   same_weight : (o : Option (Slot K V P T)) (h h' : ℕ) (item other : Item K V)
-      → o ≡ Some (record { hash = h; entry = item_variant item })
-      → o ≡ Some (record { hash = h'; entry = item_variant other }) → item.weight ≡ other.weight
+      → o ≡ Some (record { hash = h; entry = Entry.Item item })
+      → o ≡ Some (record { hash = h'; entry = Entry.Item other }) → item.weight ≡ other.weight
   same_weight o h h' item other is is' = sym (ap weight_at is) ∙ ap weight_at is'
 
   module _ (slab : Pool (Slot K V P T)) (index : Index) (rings : Rings) (t : ℕ)
       (seen : Item K V) (has : IsItemOf (lists_of slab index rings) t seen) where
-    pub item_at-token : item_at slab t ≡ Some (record { hash = has.0; entry = item_variant seen })
+    pub item_at-token : item_at slab t ≡ Some (record { hash = has.0; entry = Entry.Item seen })
     item_at-token = item_at-held slab index rings
         (record { token = t; hash = has.0; item = seen }) has.1
 
     -- no placeholder and no ghost has the token
     pub no_placeholder : (hash : ℕ) (awaited : Awaited K P) → IsEntry {T = T}
-        (lists_of slab index rings) t hash (loading_variant awaited) → ⊥
+        (lists_of slab index rings) t hash (Entry.Loading awaited) → ⊥
     no_placeholder hash awaited stands =
         let found = gather-from (λ u. loading_of u (item_at slab u)) (upto (length slab.slots))
         _ stands in
@@ -241,7 +243,7 @@ module _ {K V P T : Type 0} where
         (named_loading found.0 (item_at slab found.0) _ found.2) ∙ found.2)
 
     pub no_ghost : (hash : ℕ)
-        → IsEntry {T = T} (lists_of slab index rings) t hash ghost_variant → ⊥
+        → IsEntry {T = T} (lists_of slab index rings) t hash Entry.Ghost → ⊥
     no_ghost hash stands =
         let found = gather-from (λ u. ghost_of u (item_at slab u)) rings.ghosts.tokens
         _ stands in
@@ -257,12 +259,12 @@ module _ {K V P T : Type 0} where
     abbrev lists : Lists K V P
     lists = lists_of slab index rings
 
-    seen_at : item_at slab t ≡ Some (record { hash = has.0; entry = item_variant seen })
+    seen_at : item_at slab t ≡ Some (record { hash = has.0; entry = Entry.Item seen })
     seen_at = item_at-token slab index rings t seen has
 
     module _ (new : Lists K V P) (v w : ℕ) (v_is : v ≡ seen.weight) where
       pub Rewrites-replaced : (item was : Item K V)
-          → Replaces {T = T} lists t true (item_variant item) (item_variant was) new
+          → Replaces {T = T} lists t true (Entry.Item item) (Entry.Item was) new
           → w ≡ item.weight → not (beq (v == 0) (w == 0)) ≡ true → Rewrites lists t item was new
       Rewrites-replaced item was replaces w_is differs =
           let at = item_at-held slab index rings
@@ -299,16 +301,16 @@ module _ {K V P T : Type 0} where
   -- ---- it keeps its place
 
   pub was_seen : (o : Option (Slot K V P T)) (slot : Slot K V P T) (hash : ℕ) (seen was : Item K V)
-      → o ≡ Some (record { hash = hash; entry = item_variant seen }) → o ≡ Some slot
-      → slot.entry ≡ item_variant was → seen ≡ was
+      → o ≡ Some (record { hash = hash; entry = Entry.Item seen }) → o ≡ Some slot
+      → slot.entry ≡ Entry.Item was → seen ≡ was
   was_seen o slot hash seen was at is old =
-      let same : slot ≡ record { hash = hash; entry = item_variant seen } = cc in cc
+      let same : slot ≡ record { hash = hash; entry = Entry.Item seen } = cc in cc
 
   module _ (slab : Pool (Slot K V P T)) (index : Index) (rings : Rings) (loading : ℕ)
       (sound : IsSound slab index rings loading) (t : ℕ)
       (seen : Item K V)
       (has : IsItemOf (lists_of slab index rings) t seen) where
-    at : item_at slab t ≡ Some (record { hash = has.0; entry = item_variant seen })
+    at : item_at slab t ≡ Some (record { hash = has.0; entry = Entry.Item seen })
     at = item_at-token slab index rings t seen has
 
     pub queue_seen : (queue : Queue)

@@ -1,12 +1,14 @@
 -- What the calls of a slab do, told token by token.
-use Rattle.std.proofs.Common.{◌≡◌, ◌≢◌, ℕ, zero, suc, ◌+◌, ◌<◌, ◌≤◌, List, [], ◌∷◌, ◌++◌, length, Option, Some, None, IsSome, refl, sym, ap, subst, ◌∙◌, inl, inr, arith}
+use Rattle.std.proofs.Common.{◌≡◌, ◌≢◌, ℕ, zero, suc, ◌+◌, ◌<◌, ◌≤◌, List, [], ◌∷◌, ◌++◌, length, Option, Some, None, IsSome, refl, sym, ap}
+use Rattle.std.proofs.Common.{subst, ◌∙◌, inl, inr, arith}
 use Rattle.std.proofs.lemmas.Bool.{cases_eq, cases_lt}
 use Rattle.std.proofs.lemmas.List.{length_push}
 use Rattle.quick_cache_model.specs.Sequences.{times}
 use Rattle.quick_cache_store.specs.Pool.{Pool, at_token, with_token, item_at, next_token, placed, removed, IsParted}
 use Rattle.quick_cache_store.specs.Frames.{IsPlaced, IsRemoved}
 use Rattle.quick_cache_store.proofs.pool.TokenCounts.{times-here, times-other}
-use Rattle.quick_cache_store.proofs.pool.AtTokens.{length-with_token, at_token-with_same, at_token-with_other, at_token-past, at_token-push_same, at_token-push_other}
+use Rattle.quick_cache_store.proofs.pool.AtTokens.{length-with_token, at_token-with_same, at_token-with_other, at_token-past}
+use Rattle.quick_cache_store.proofs.pool.AtTokens.{at_token-push_same, at_token-push_other}
 
 module _ {S : Type 0} where
   pub occupied_within : (slots : List (Option S)) (t : ℕ) (x : S) → at_token slots t None ≡ Some x

@@ -4,8 +4,7 @@ use Rattle.quick_cache_model.specs.CacheState.{Item, Place, InHot, InCold, InSti
 use Rattle.quick_cache_store.specs.Pool.{Pool, times, item_at}
 use Rattle.quick_cache_index.specs.Index.{Index}
 use Rattle.quick_cache_model.specs.declared.queue.Queue.{Queue}
-use Rattle.quick_cache_model.specs.declared.queue.Queue.TheVariants.{Hot, Cold}
-use Rattle.quick_cache_store.specs.declared.slots.entry.Entry.TheVariants.{Item as item_variant, Ghost as ghost_variant}
+use Rattle.quick_cache_store.specs.declared.slots.entry.Entry.{Entry}
 use Rattle.quick_cache_store.specs.declared.slots.entry.Slot.{Slot}
 use Rattle.quick_cache_store.specs.Rings.{Rings}
 use Rattle.quick_cache_store.specs.Lists.{HeldLoading, items_at, StandsIn, HasItem}
@@ -28,18 +27,18 @@ module _ {K V P T : Type 0} (slab : Pool (Slot K V P T)) (index : Index)
 
   -- an item stands where its weight and its queue say
   pub StandsIn-item : (t hash : ℕ) (item : Item K V)
-      → item_at slab t ≡ Some (record { hash = hash; entry = item_variant item })
+      → item_at slab t ≡ Some (record { hash = hash; entry = Entry.Item item })
       → StandsIn (items_at (place_of_item item) (lists_of slab index rings))
       (record { token = t; hash = hash; item = item })
   StandsIn-item t hash item at = by_weight (item.weight == 0) refl
     where
       by_queue : (queue : Queue) → item.queue ≡ queue → (item.weight == 0) ≡ false
           → StandsAt t hash item (place_of_item item)
-      by_queue Hot of weighs =
+      by_queue Queue.Hot of weighs =
           let is : place_of_item item ≡ InHot = rw (weighs, of) refl in
           subst (StandsAt t hash item) (sym is) (gather-has (λ token. item_of token (item_at slab token)) _ t _
           (sound.hot_ring.all t (rw (at, weighs, of) refl)) (rw at refl))
-      by_queue Cold of weighs =
+      by_queue Queue.Cold of weighs =
           let is : place_of_item item ≡ InCold = rw (weighs, of) refl in
           subst (StandsAt t hash item) (sym is) (gather-has (λ token. item_of token (item_at slab token)) _ t _
           (sound.cold_ring.all t (rw (at, weighs, of) refl)) (rw at refl))
@@ -52,7 +51,7 @@ module _ {K V P T : Type 0} (slab : Pool (Slot K V P T)) (index : Index)
       by_weight false weighs = by_queue item.queue refl weighs
 
   pub HasItem-from : (t hash : ℕ) (item : Item K V)
-      → item_at slab t ≡ Some (record { hash = hash; entry = item_variant item })
+      → item_at slab t ≡ Some (record { hash = hash; entry = Entry.Item item })
       → HasItem (lists_of slab index rings)
       (record { token = t; hash = hash; item = item })
   HasItem-from t hash item at =
@@ -66,7 +65,7 @@ module _ {K V P T : Type 0} (slab : Pool (Slot K V P T)) (index : Index)
       gather-has (λ token. loading_of token (item_at slab token)) _ t _ (in_upto t _ at) (rw at is)
 
   pub StandsIn-ghosts : (t hash : ℕ)
-      → item_at slab t ≡ Some (record { hash = hash; entry = ghost_variant })
+      → item_at slab t ≡ Some (record { hash = hash; entry = Entry.Ghost })
       → StandsIn (gather (λ token. ghost_of token (item_at slab token))
       rings.ghosts.tokens) (record { token = t; hash = hash })
   StandsIn-ghosts t hash at =

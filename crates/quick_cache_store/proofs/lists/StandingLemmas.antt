@@ -6,9 +6,8 @@ use Rattle.quick_cache_store.specs.Pool.{times}
 use Rattle.quick_cache_store.proofs.pool.TokenCounts.{times-append}
 use Rattle.quick_cache_store.specs.declared.slots.entry.Awaited.{Awaited}
 use Rattle.quick_cache_store.specs.declared.slots.entry.Entry.{Entry}
-use Rattle.quick_cache_store.specs.declared.slots.entry.Entry.TheVariants.{Item as item_variant, Loading as loading_variant, Ghost as ghost_variant}
-use Rattle.quick_cache_store.specs.Lists.{HeldItem, HeldLoading, HeldGhost, Lists, StandsIn, HasItem}
-use Rattle.quick_cache_store.specs.Lists.{IsEntry, AreApart, items_at, entries_of}
+use Rattle.quick_cache_store.specs.Lists.{HeldItem, HeldLoading, HeldGhost, Lists, StandsIn, HasItem, IsEntry, AreApart, items_at}
+use Rattle.quick_cache_store.specs.Lists.{entries_of}
 use Rattle.quick_cache_store.proofs.lists.OneEntryLemmas.{one-element}
 
 -- ---- one list
@@ -82,9 +81,9 @@ module _ {K V P : Type 0} where
 
   -- the entry of that token and hash
   abbrev pub standing_of : {T : Type 0} → (token hash : ℕ) → Entry K V P T → Standing K V P
-  standing_of token hash (item_variant item) =
+  standing_of token hash (Entry.Item item) =
       Standing.OfItem (record { token = token; hash = hash; item = item })
-  standing_of token hash (loading_variant awaited) =
+  standing_of token hash (Entry.Loading awaited) =
       Standing.OfLoading (record {
         token = token;
         hash = hash;
@@ -92,7 +91,7 @@ module _ {K V P : Type 0} where
         queue = awaited.queue;
         placeholder = awaited.placeholder;
       })
-  standing_of token hash ghost_variant =
+  standing_of token hash Entry.Ghost =
       Standing.OfGhost (record { token = token; hash = hash })
 
 module _ (K V P : Type 0) where
@@ -200,10 +199,10 @@ module _ {K V P : Type 0} where
     pub StandsIn-entry : {T : Type 0} (token hash : ℕ) (entry : Entry K V P T)
         → IsEntry lists token hash entry
         → StandsIn (standings lists) (standing_of token hash entry)
-    StandsIn-entry token hash (item_variant item) is =
+    StandsIn-entry token hash (Entry.Item item) is =
         StandsIn-item (record { token = token; hash = hash; item = item }) is
-    StandsIn-entry token hash (loading_variant awaited) is = StandsIn-loading _ is
-    StandsIn-entry token hash ghost_variant is =
+    StandsIn-entry token hash (Entry.Loading awaited) is = StandsIn-loading _ is
+    StandsIn-entry token hash Entry.Ghost is =
         StandsIn-ghost (record { token = token; hash = hash }) is
 
     -- two of one token are one
@@ -222,16 +221,16 @@ module _ {K V P : Type 0} where
   -- the token of an entry is the one that it is found under
   pub standing_of-token : {T : Type 0} (token hash : ℕ) (entry : Entry K V P T)
       → token_of (standing_of token hash entry) ≡ token
-  standing_of-token token hash (item_variant item) = refl
-  standing_of-token token hash (loading_variant awaited) = refl
-  standing_of-token token hash ghost_variant = refl
+  standing_of-token token hash (Entry.Item item) = refl
+  standing_of-token token hash (Entry.Loading awaited) = refl
+  standing_of-token token hash Entry.Ghost = refl
 
   -- and its hash is that
   pub standing_of-hash : {T : Type 0} (token hash : ℕ) (entry : Entry K V P T)
       → hash_of (standing_of token hash entry) ≡ hash
-  standing_of-hash token hash (item_variant item) = refl
-  standing_of-hash token hash (loading_variant awaited) = refl
-  standing_of-hash token hash ghost_variant = refl
+  standing_of-hash token hash (Entry.Item item) = refl
+  standing_of-hash token hash (Entry.Loading awaited) = refl
+  standing_of-hash token hash Entry.Ghost = refl
 
   -- what a call gives of a token is the known entry of that token
   pub known_standing : {T : Type 0} (lists : Lists K V P) → AreApart lists
@@ -272,7 +271,7 @@ module _ {K V P T : Type 0} (lists : Lists K V P) (apart : AreApart lists) (toke
 
   -- so it is no placeholder and no ghost
   pub not-loading : (held : HeldItem K V) → HasItem lists held → held.token ≡ token
-      → (awaited : Awaited K P) → entry ≡ loading_variant awaited → ⊥
+      → (awaited : Awaited K P) → entry ≡ Entry.Loading awaited → ⊥
   not-loading held has named awaited e = clash (sym (ap (λ (x : Entry K V P T). standing_of token hash x) e)
       ∙ entry-item held has named)
     where
@@ -286,7 +285,7 @@ module _ {K V P T : Type 0} (lists : Lists K V P) (apart : AreApart lists) (toke
       clash same = cc same
 
   pub not-ghost : (held : HeldItem K V) → HasItem lists held → held.token ≡ token
-      → entry ≡ ghost_variant → ⊥
+      → entry ≡ Entry.Ghost → ⊥
   not-ghost held has named e = clash (sym (ap (λ (x : Entry K V P T). standing_of token hash x) e)
       ∙ entry-item held has named)
     where
@@ -296,7 +295,7 @@ module _ {K V P T : Type 0} (lists : Lists K V P) (apart : AreApart lists) (toke
 
   -- it is that item
   pub entry-is_item : (held : HeldItem K V) → HasItem lists held → held.token ≡ token
-      → (item : Item K V) → entry ≡ item_variant item
+      → (item : Item K V) → entry ≡ Entry.Item item
       → record { token = token; hash = hash; item = item } ≡ held
   entry-is_item held has named item e = same (sym (ap (λ (x : Entry K V P T). standing_of token hash x) e)
       ∙ entry-item held has named)
@@ -325,7 +324,7 @@ module _ {K V P T : Type 0} (lists : Lists K V P) (apart : AreApart lists) (toke
       (StandsIn-loading lists waiting stands) token hash entry named is
 
   pub loading-not_item : (waiting : HeldLoading K P) → StandsIn lists.loading waiting
-      → waiting.token ≡ token → (item : Item K V) → entry ≡ item_variant item → ⊥
+      → waiting.token ≡ token → (item : Item K V) → entry ≡ Entry.Item item → ⊥
   loading-not_item waiting stands named item e =
       clash (sym (ap (λ (x : Entry K V P T). standing_of token hash x) e)
       ∙ entry-loading waiting stands named)
@@ -336,7 +335,7 @@ module _ {K V P T : Type 0} (lists : Lists K V P) (apart : AreApart lists) (toke
       clash s = cc s
 
   pub loading-not_ghost : (waiting : HeldLoading K P) → StandsIn lists.loading waiting
-      → waiting.token ≡ token → entry ≡ ghost_variant → ⊥
+      → waiting.token ≡ token → entry ≡ Entry.Ghost → ⊥
   loading-not_ghost waiting stands named e =
       clash (sym (ap (λ (x : Entry K V P T). standing_of token hash x) e)
       ∙ entry-loading waiting stands named)

@@ -1,17 +1,17 @@
 -- The lists once an entry was taken out.
-use Rattle.std.proofs.Common.{◌≡◌, ◌≢◌, ◌⊎◌, ℕ, ◌+◌, ◌==◌, if◌then◌else◌, Bool, true, false, length, Option, Some, None, IsSome, refl, sym, ap, ◌∙◌, inl, inr}
+use Rattle.std.proofs.Common.{◌≡◌, ◌≢◌, ◌⊎◌, ℕ, ◌+◌, ◌==◌, if◌then◌else◌, Bool, true, false, length, Option, Some, None, IsSome, refl, sym}
+use Rattle.std.proofs.Common.{ap, ◌∙◌, inl, inr}
 use Rattle.quick_cache_model.specs.CacheState.{Place, InHot, InCold, InStill}
 use Rattle.quick_cache_store.specs.Pool.{Pool, item_at, next_token, IsOccupied}
 use Rattle.quick_cache_index.specs.Index.{Index}
 use Rattle.quick_cache_model.specs.declared.queue.Queue.{Queue}
-use Rattle.quick_cache_model.specs.declared.queue.Queue.TheVariants.{Hot, Cold}
 use Rattle.quick_cache_store.specs.Rings.{Ring, Rings, IsLeft, LeavesRingOf}
 use Rattle.quick_cache_store.specs.declared.slots.entry.Entry.{Entry}
-use Rattle.quick_cache_store.specs.declared.slots.entry.Entry.TheVariants.{Item as item_variant, Loading as loading_variant, Ghost as ghost_variant}
 use Rattle.quick_cache_store.specs.declared.slots.entry.Slot.{Slot}
 use Rattle.quick_cache_store.specs.Frames.{IsRemoved}
 use Rattle.quick_cache_store.specs.Lists.{HeldItem, HeldLoading, HeldGhost, items_at, StandsIn, HasEntry, IsEntry, left_by, without_entry}
-use Rattle.quick_cache_store.specs.ListSlots.{Stand, AmongHot, AmongCold, AmongStill, AmongLoading, AmongGhosts, ring_stand, stand_of, weight_at, item_of, still_of, loading_of, ghost_of}
+use Rattle.quick_cache_store.specs.ListSlots.{Stand, AmongHot, AmongCold, AmongStill, AmongLoading, AmongGhosts, ring_stand, stand_of}
+use Rattle.quick_cache_store.specs.ListSlots.{weight_at, item_of, still_of, loading_of, ghost_of}
 use Rattle.quick_cache_store.specs.Sound.{gather, upto, lists_of, room_of, IsRingOf, IsStanding}
 use Rattle.quick_cache_store.proofs.lists.GatherLemmas.{gather-from}
 use Rattle.quick_cache_store.proofs.lists.FindLemmas.{held_still}
@@ -23,8 +23,8 @@ use Rattle.quick_cache_store.proofs.lists.RemoveLemmas.{IsRingOf-removed, view-d
 pub not_ghosts : (weightless : Bool) (queue : Queue)
     → (if weightless then AmongStill else ring_stand queue) ≢ AmongGhosts
 not_ghosts true queue e = cc
-not_ghosts false Hot e = cc
-not_ghosts false Cold e = cc
+not_ghosts false Queue.Hot e = cc
+not_ghosts false Queue.Cold e = cc
 
 module _ {K V P T : Type 0} where
   pub named_item : (u : ℕ) (o : Option (Slot K V P T)) (held : HeldItem K V)
@@ -34,11 +34,11 @@ module _ {K V P T : Type 0} where
     where
       by_entry : (hash : ℕ) (entry : Entry K V P T)
           → item_of u (Some (record { hash = hash; entry = entry })) ≡ Some held → held.token ≡ u
-      by_entry hash (item_variant item) e =
+      by_entry hash (Entry.Item item) e =
           let same : record { token = u; hash = hash; item = item } ≡ held =
           cc in ap (λ (y : HeldItem K V). y.token) (sym same)
-      by_entry hash (loading_variant awaited) e = absurd (cc)
-      by_entry hash ghost_variant e = absurd (cc)
+      by_entry hash (Entry.Loading awaited) e = absurd (cc)
+      by_entry hash Entry.Ghost e = absurd (cc)
 
   pub named_still : (u : ℕ) (o : Option (Slot K V P T)) (held : HeldItem K V)
       → still_of u o ≡ Some held → held.token ≡ u
@@ -52,8 +52,8 @@ module _ {K V P T : Type 0} where
       by_entry : (hash : ℕ) (entry : Entry K V P T)
           → loading_of u (Some (record { hash = hash; entry = entry })) ≡ Some waiting
           → waiting.token ≡ u
-      by_entry hash (item_variant item) e = absurd (cc)
-      by_entry hash (loading_variant awaited) e =
+      by_entry hash (Entry.Item item) e = absurd (cc)
+      by_entry hash (Entry.Loading awaited) e =
           let same : record {
             token = u;
             hash = hash;
@@ -62,7 +62,7 @@ module _ {K V P T : Type 0} where
             placeholder = awaited.placeholder;
           }
           ≡ waiting = cc in ap (λ (y : HeldLoading K P). y.token) (sym same)
-      by_entry hash ghost_variant e = absurd (cc)
+      by_entry hash Entry.Ghost e = absurd (cc)
 
   pub named_ghost : (u : ℕ) (o : Option (Slot K V P T)) (shade : HeldGhost)
       → ghost_of u o ≡ Some shade → shade.token ≡ u
@@ -71,9 +71,9 @@ module _ {K V P T : Type 0} where
     where
       by_entry : (hash : ℕ) (entry : Entry K V P T)
           → ghost_of u (Some (record { hash = hash; entry = entry })) ≡ Some shade → shade.token ≡ u
-      by_entry hash (item_variant item) e = absurd (cc)
-      by_entry hash (loading_variant awaited) e = absurd (cc)
-      by_entry hash ghost_variant e = let same : record { token = u; hash = hash } ≡ shade =
+      by_entry hash (Entry.Item item) e = absurd (cc)
+      by_entry hash (Entry.Loading awaited) e = absurd (cc)
+      by_entry hash Entry.Ghost e = let same : record { token = u; hash = hash } ≡ shade =
           cc in ap (λ (y : HeldGhost). y.token) (sym same)
 
   shown_some : {Y : Type 0} (shows : ℕ → Option (Slot K V P T) → Option Y)
@@ -91,9 +91,9 @@ module _ {K V P T : Type 0} where
       by_entry : (hash : ℕ) (entry : Entry K V P T)
           → stand_of (Some (record { hash = hash; entry = entry })) ≡ Some s → (held : HeldItem K V)
           × (item_of t (Some (record { hash = hash; entry = entry })) ≡ Some held)
-      by_entry hash (item_variant item) e = (record { token = t; hash = hash; item = item }, refl)
-      by_entry hash (loading_variant awaited) e = absurd (off (cc))
-      by_entry hash ghost_variant e = absurd (off' (cc))
+      by_entry hash (Entry.Item item) e = (record { token = t; hash = hash; item = item }, refl)
+      by_entry hash (Entry.Loading awaited) e = absurd (off (cc))
+      by_entry hash Entry.Ghost e = absurd (off' (cc))
 
   pub is_ghost_entry : (t : ℕ) (o : Option (Slot K V P T)) → stand_of o ≡ Some AmongGhosts
       → (shade : HeldGhost) × (ghost_of t o ≡ Some shade)
@@ -104,9 +104,9 @@ module _ {K V P T : Type 0} where
           → stand_of (Some (record { hash = hash; entry = entry })) ≡ Some AmongGhosts
           → (shade : HeldGhost) × (ghost_of t (Some (record { hash = hash; entry = entry }))
           ≡ Some shade)
-      by_entry hash (item_variant item) e = absurd (not_ghosts (item.weight == 0) item.queue (cc))
-      by_entry hash (loading_variant awaited) e = absurd (cc)
-      by_entry hash ghost_variant e = (record { token = t; hash = hash }, refl)
+      by_entry hash (Entry.Item item) e = absurd (not_ghosts (item.weight == 0) item.queue (cc))
+      by_entry hash (Entry.Loading awaited) e = absurd (cc)
+      by_entry hash Entry.Ghost e = (record { token = t; hash = hash }, refl)
 
   module _ (slab : Pool (Slot K V P T)) (index : Index) (rings : Rings) where
     pub occupied_by_entry : (t : ℕ) → HasEntry (lists_of slab index rings) t
@@ -157,11 +157,11 @@ module _ {K V P T : Type 0} where
         by_entry : (hash : ℕ) (entry : Entry K V P T)
             → item_at slab t ≡ Some (record { hash = hash; entry = entry })
             → IsEntry (lists_of slab index rings) t hash entry
-        by_entry hash (item_variant item) is =
+        by_entry hash (Entry.Item item) is =
             HasItem-from slab index rings sound t hash item is
-        by_entry hash (loading_variant awaited) is =
+        by_entry hash (Entry.Loading awaited) is =
             StandsIn-loading slab index rings sound t _ _ is refl
-        by_entry hash ghost_variant is = StandsIn-ghosts slab index rings sound t hash is
+        by_entry hash Entry.Ghost is = StandsIn-ghosts slab index rings sound t hash is
 
   -- ---- an entry left its list, and its ring, if it stood in one
 

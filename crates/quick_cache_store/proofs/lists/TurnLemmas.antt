@@ -1,5 +1,6 @@
 -- The first of a ring, a ring that begins one further on, and what a ring counts.
-use Rattle.std.proofs.Common.{◌≡◌, ◌≢◌, ℕ, ◌<◌, ◌≤◌, List, [], ◌∷◌, ◌++◌, sum_by, length, Option, Some, None, MatchOption, refl, sym, ap, ◌∙◌, arith}
+use Rattle.std.proofs.Common.{◌≡◌, ◌≢◌, ℕ, ◌<◌, ◌≤◌, List, [], ◌∷◌, ◌++◌, sum_by, length, Option, Some, None, MatchOption, refl, sym, ap}
+use Rattle.std.proofs.Common.{◌∙◌, arith}
 use Rattle.std.specs.Int.NonZero.{non_zero_u32_get as number}
 use Rattle.std.specs.declared.num.NonZeroU32.{NonZeroU32 as Token}
 use Rattle.std.proofs.lemmas.List.{length_push}
@@ -9,15 +10,14 @@ use Rattle.quick_cache_store.proofs.pool.TokenCounts.{times-here, times-append}
 use Rattle.quick_cache_store.specs.Queues.{StandsAt}
 use Rattle.quick_cache_store.specs.Rings.{Ring, Rings, ring_of, one_further, rings_turned, AreWithin}
 use Rattle.quick_cache_store.specs.declared.slots.entry.Entry.{Entry}
-use Rattle.quick_cache_store.specs.declared.slots.entry.Entry.TheVariants.{Item as item_variant, Loading as loading_variant, Ghost as ghost_variant}
 use Rattle.quick_cache_store.specs.declared.slots.entry.Slot.{Slot}
 use Rattle.quick_cache_model.specs.declared.queue.Queue.{Queue}
-use Rattle.quick_cache_model.specs.declared.queue.Queue.TheVariants.{Hot, Cold}
 use Rattle.quick_cache_index.specs.Index.{Index, token_count}
 use Rattle.quick_cache_model.specs.CacheState.{ring_place}
 use Rattle.quick_cache_store.specs.Lists.{HeldItem, HeldGhost, Lists, IsFirstOf, turned, ring_turned, items_at}
 use Rattle.quick_cache_store.specs.Views.{items_of}
-use Rattle.quick_cache_store.specs.ListSlots.{Stand, AmongHot, AmongCold, AmongLoading, AmongGhosts, ring_stand, weight_at, item_of, ghost_of}
+use Rattle.quick_cache_store.specs.ListSlots.{Stand, AmongHot, AmongCold, AmongLoading, AmongGhosts, ring_stand, weight_at, item_of}
+use Rattle.quick_cache_store.specs.ListSlots.{ghost_of}
 use Rattle.quick_cache_store.specs.Sound.{weigh, put, gather, lists_of, IsRingOf, IsStanding, IsSound}
 use Rattle.quick_cache_store.proofs.lists.GatherLemmas.{gather-append, length-gather, weigh-append, weigh-gather}
 use Rattle.quick_cache_store.proofs.lists.TakeLemmas.{is_held, is_ghost_entry, named_item, named_ghost}
@@ -132,11 +132,11 @@ module _ {K V P T : Type 0} (slab : Pool (Slot K V P T)) where
       by_entry : (hash : ℕ) (entry : Entry K V P T)
           → item_of u (Some (record { hash = hash; entry = entry })) ≡ Some held
           → held.item.weight ≡ weight_at (Some (record { hash = hash; entry = entry }))
-      by_entry hash (item_variant item) e =
+      by_entry hash (Entry.Item item) e =
           let same : record { token = u; hash = hash; item = item } ≡ held =
           cc in ap (λ (y : HeldItem K V). y.item.weight) (sym same)
-      by_entry hash (loading_variant awaited) e = absurd (cc)
-      by_entry hash ghost_variant e = absurd (cc)
+      by_entry hash (Entry.Loading awaited) e = absurd (cc)
+      by_entry hash Entry.Ghost e = absurd (cc)
 
   pub weight_held : (ring : Ring) (s : Stand) → s ≢ AmongLoading → s ≢ AmongGhosts
       → IsRingOf slab ring s → ring.weight
@@ -151,44 +151,48 @@ module _ {K V P T : Type 0} (slab : Pool (Slot K V P T)) where
 -- ---- the same of the ring of a queue
 
 pub not_loading : (queue : Queue) → ring_stand queue ≢ AmongLoading
-not_loading Hot e = cc
-not_loading Cold e = cc
+not_loading Queue.Hot e = cc
+not_loading Queue.Cold e = cc
 
 pub not_ghost : (queue : Queue) → ring_stand queue ≢ AmongGhosts
-not_ghost Hot e = cc
-not_ghost Cold e = cc
+not_ghost Queue.Hot e = cc
+not_ghost Queue.Cold e = cc
 
 module _ {K V P T : Type 0} (slab : Pool (Slot K V P T)) (index : Index) (rings : Rings)
     (standing : IsStanding slab rings) where
   pub IsRingOf-queue : (queue : Queue) → IsRingOf slab (ring_of queue rings) (ring_stand queue)
-  IsRingOf-queue Hot = standing.hot_ring
-  IsRingOf-queue Cold = standing.cold_ring
+  IsRingOf-queue Queue.Hot = standing.hot_ring
+  IsRingOf-queue Queue.Cold = standing.cold_ring
 
   pub first_queue : (queue : Queue) (first : Option Token)
       → MatchOption first ((ring_of queue rings).tokens ≡ [])
       (λ token. StandsAt (ring_of queue rings).tokens 0 (number token))
       → IsFirstOf (λ held. held.token)
       (items_at (ring_place queue) (lists_of slab index rings)) first
-  first_queue Hot = IsFirstOf-held slab rings.hot AmongHot (λ e. cc) (λ e. cc) standing.hot_ring
-  first_queue Cold = IsFirstOf-held slab rings.cold AmongCold (λ e. cc) (λ e. cc) standing.cold_ring
+  first_queue Queue.Hot =
+      IsFirstOf-held slab rings.hot AmongHot (λ e. cc) (λ e. cc) standing.hot_ring
+  first_queue Queue.Cold =
+      IsFirstOf-held slab rings.cold AmongCold (λ e. cc) (λ e. cc) standing.cold_ring
 
   pub count_queue : (queue : Queue) → length (ring_of queue rings).tokens
       ≡ length (items_at (ring_place queue) (lists_of slab index rings))
-  count_queue Hot = count_held slab rings.hot AmongHot (λ e. cc) (λ e. cc) standing.hot_ring
-  count_queue Cold = count_held slab rings.cold AmongCold (λ e. cc) (λ e. cc) standing.cold_ring
+  count_queue Queue.Hot = count_held slab rings.hot AmongHot (λ e. cc) (λ e. cc) standing.hot_ring
+  count_queue Queue.Cold =
+      count_held slab rings.cold AmongCold (λ e. cc) (λ e. cc) standing.cold_ring
 
   pub weight_queue : (queue : Queue) → (ring_of queue rings).weight
       ≡ sum_by (λ held. held.item.weight)
       (items_at (ring_place queue) (lists_of slab index rings))
-  weight_queue Hot = weight_held slab rings.hot AmongHot (λ e. cc) (λ e. cc) standing.hot_ring
-  weight_queue Cold = weight_held slab rings.cold AmongCold (λ e. cc) (λ e. cc) standing.cold_ring
+  weight_queue Queue.Hot = weight_held slab rings.hot AmongHot (λ e. cc) (λ e. cc) standing.hot_ring
+  weight_queue Queue.Cold =
+      weight_held slab rings.cold AmongCold (λ e. cc) (λ e. cc) standing.cold_ring
 
   -- what a walk along it shows
   pub items_queue : (queue : Queue)
       → items_of (gather (λ u. item_of u (item_at slab u)) (ring_of queue rings).tokens)
       ≡ items_of (items_at (ring_place queue) (lists_of slab index rings))
-  items_queue Hot = refl
-  items_queue Cold = refl
+  items_queue Queue.Hot = refl
+  items_queue Queue.Cold = refl
 
 -- no ring has more tokens than there are entries
 module _ {K V P T : Type 0} (slab : Pool (Slot K V P T)) (index : Index) (rings : Rings)
@@ -228,15 +232,15 @@ module _ {K V P T : Type 0} (slab : Pool (Slot K V P T)) (index : Index) (rings 
     (loading : ℕ) (sound : IsSound slab index rings loading) where
   pub lists-turned : (queue : Queue) → lists_of slab index (rings_turned queue rings)
       ≡ ring_turned queue (lists_of slab index rings)
-  lists-turned Hot =
+  lists-turned Queue.Hot =
       let is = view-turned slab rings.hot AmongHot (λ e. cc) (λ e. cc) sound.standing.hot_ring in
       λ j. record (lists_of slab index rings) { hot = is j }
-  lists-turned Cold =
+  lists-turned Queue.Cold =
       let is = view-turned slab rings.cold AmongCold (λ e. cc) (λ e. cc) sound.standing.cold_ring in
       λ j. record (lists_of slab index rings) { cold = is j }
 
   pub IsSound-turned : (queue : Queue) → IsSound slab index (rings_turned queue rings) loading
-  IsSound-turned Hot = record {
+  IsSound-turned Queue.Hot = record {
     standing = record {
       hot_ring = IsRingOf-turned slab rings.hot AmongHot sound.standing.hot_ring;
       cold_ring = sound.standing.cold_ring;
@@ -247,13 +251,13 @@ module _ {K V P T : Type 0} (slab : Pool (Slot K V P T)) (index : Index) (rings 
     all_counted = omega (
       arith,
       sound.all_counted,
-      ap (λ (l : Lists K V P). length l.hot) (lists-turned Hot),
+      ap (λ (l : Lists K V P). length l.hot) (lists-turned Queue.Hot),
       length-turned (lists_of slab index rings).hot,
     );
     within = sound.within;
     bounded = sound.bounded;
   }
-  IsSound-turned Cold = record {
+  IsSound-turned Queue.Cold = record {
     standing = record {
       hot_ring = sound.standing.hot_ring;
       cold_ring = IsRingOf-turned slab rings.cold AmongCold sound.standing.cold_ring;
@@ -264,7 +268,7 @@ module _ {K V P T : Type 0} (slab : Pool (Slot K V P T)) (index : Index) (rings 
     all_counted = omega (
       arith,
       sound.all_counted,
-      ap (λ (l : Lists K V P). length l.cold) (lists-turned Cold),
+      ap (λ (l : Lists K V P). length l.cold) (lists-turned Queue.Cold),
       length-turned (lists_of slab index rings).cold,
     );
     within = sound.within;

@@ -1,21 +1,24 @@
 -- What the lists show, before and after an entry comes.
-use Rattle.std.proofs.Common.{◌≡◌, ◌≢◌, ℕ, ◌==◌, true, false, List, [], ◌∷◌, ◌++◌, length, Option, Some, None, refl, sym, ap, subst, ◌∙◌, inl, inr, arith}
+use Rattle.std.proofs.Common.{◌≡◌, ◌≢◌, ℕ, ◌==◌, true, false, List, [], ◌∷◌, ◌++◌, length, Option, Some, None, refl, sym, ap, subst, ◌∙◌}
+use Rattle.std.proofs.Common.{inl, inr, arith}
 use Rattle.std.specs.List.Sorted.{IsPermutation}
 use Rattle.std.proofs.lemmas.List.Sorted.{IsPermutation-refl, IsPermutation-trans, IsPermutation-to_front}
 use Rattle.quick_cache_model.specs.CacheState.{Item, Place, InHot, InCold, InStill, place_of_item}
 use Rattle.quick_cache_model.specs.Sequences.{times}
 use Rattle.quick_cache_store.specs.Pool.{Pool, item_at, next_token}
 use Rattle.quick_cache_index.specs.Index.{Index}
-use Rattle.quick_cache_model.specs.declared.queue.Queue.TheVariants.{Hot, Cold}
+use Rattle.quick_cache_model.specs.declared.queue.Queue.{Queue}
 use Rattle.quick_cache_store.specs.Rings.{Ring, Rings, joined}
-use Rattle.quick_cache_store.specs.declared.slots.entry.Entry.TheVariants.{Item as item_variant, Loading as loading_variant, Ghost as ghost_variant}
+use Rattle.quick_cache_store.specs.declared.slots.entry.Entry.{Entry}
 use Rattle.quick_cache_store.specs.declared.slots.entry.Awaited.{Awaited}
 use Rattle.quick_cache_store.specs.declared.slots.entry.Slot.{Slot}
 use Rattle.quick_cache_store.specs.Lists.{HeldItem, HeldLoading, Lists, items_at, with_items, entered, SameButOrder}
 use Rattle.quick_cache_store.specs.Frames.{IsPlaced}
-use Rattle.quick_cache_store.specs.ListSlots.{Stand, AmongHot, AmongCold, AmongStill, AmongLoading, AmongGhosts, stand_of, weight_at, item_of, still_of, loading_of, ghost_of}
+use Rattle.quick_cache_store.specs.ListSlots.{Stand, AmongHot, AmongCold, AmongStill, AmongLoading, AmongGhosts, stand_of, weight_at}
+use Rattle.quick_cache_store.specs.ListSlots.{item_of, still_of, loading_of, ghost_of}
 use Rattle.quick_cache_store.specs.Sound.{gather, upto, lists_of, room_of, IsRingOf, IsStanding}
-use Rattle.quick_cache_store.proofs.lists.GatherLemmas.{times-upto, times-upto_past, gather-other, gather-push, gather-push_none, gather-neither, gather-more}
+use Rattle.quick_cache_store.proofs.lists.GatherLemmas.{times-upto, times-upto_past, gather-other, gather-push, gather-push_none}
+use Rattle.quick_cache_store.proofs.lists.GatherLemmas.{gather-neither, gather-more}
 use Rattle.quick_cache_store.proofs.lists.SoundLemmas.{vacant-stand, out_of_ring, IsRingOf-kept, IsRingOf-joined}
 
 module _ {K V P T Y : Type 0} (shows : ℕ → Option (Slot K V P T) → Option Y)
@@ -131,18 +134,18 @@ module _ {K V P T : Type 0} (old new : Pool (Slot K V P T)) (t : ℕ) (x : Slot 
 module _ {K V P T : Type 0} where
   -- the slot of an item
   abbrev pub slot_with : ℕ → Item K V → Slot K V P T
-  slot_with hash item = record { hash = hash; entry = item_variant item }
+  slot_with hash item = record { hash = hash; entry = Entry.Item item }
 
   -- ---- an item comes to the hot ring
 
   module _ (old new : Pool (Slot K V P T)) (told tnew : Index) (t hash : ℕ)
       (item : Item K V) (rings : Rings) (sound : IsStanding old rings)
-      (placed : IsPlaced old new t (record { hash = hash; entry = item_variant item }))
+      (placed : IsPlaced old new t (record { hash = hash; entry = Entry.Item item }))
       (weighs : (item.weight == 0) ≡ false) where
     no_still : still_of t (Some (slot_with hash item)) ≡ None
     no_still = rw weighs refl
 
-    module _ (of : item.queue ≡ Hot) where
+    module _ (of : item.queue ≡ Queue.Hot) where
       abbrev pub with_hot : Rings
       with_hot = record rings { hot = joined t item.weight rings.hot }
 
@@ -188,7 +191,7 @@ module _ {K V P T : Type 0} where
 
     -- ---- to the cold ring
 
-    module _ (of : item.queue ≡ Cold) where
+    module _ (of : item.queue ≡ Queue.Cold) where
       abbrev pub with_cold : Rings
       with_cold = record rings { cold = joined t item.weight rings.cold }
 
@@ -236,7 +239,7 @@ module _ {K V P T : Type 0} where
 
   module _ (old new : Pool (Slot K V P T)) (told tnew : Index) (t hash : ℕ)
       (item : Item K V) (rings : Rings) (sound : IsStanding old rings)
-      (placed : IsPlaced old new t (record { hash = hash; entry = item_variant item }))
+      (placed : IsPlaced old new t (record { hash = hash; entry = Entry.Item item }))
       (weightless : (item.weight == 0) ≡ true) where
     is_still : stand_of (Some (slot_with hash item)) ≡ Some AmongStill
     is_still = rw weightless refl
@@ -283,7 +286,7 @@ module _ {K V P T : Type 0} where
 
   module _ (old new : Pool (Slot K V P T)) (told tnew : Index) (t hash : ℕ) (rings : Rings)
       (sound : IsStanding old rings)
-      (placed : IsPlaced old new t (record { hash = hash; entry = ghost_variant })) where
+      (placed : IsPlaced old new t (record { hash = hash; entry = Entry.Ghost })) where
     abbrev pub with_ghost : Rings
     with_ghost = record rings { ghosts = joined t 0 rings.ghosts }
 
@@ -325,7 +328,7 @@ module _ {K V P T : Type 0} where
 
   module _ (old new : Pool (Slot K V P T)) (told tnew : Index) (t hash : ℕ)
       (awaited : Awaited K P) (rings : Rings) (sound : IsStanding old rings)
-      (placed : IsPlaced old new t (record { hash = hash; entry = loading_variant awaited })) where
+      (placed : IsPlaced old new t (record { hash = hash; entry = Entry.Loading awaited })) where
     pub IsStanding-put_loading : IsStanding new rings
     IsStanding-put_loading = record {
       hot_ring = ring-kept old new t _ placed AmongLoading refl rings.hot AmongHot (λ e. cc)

@@ -6,7 +6,6 @@ use Rattle.quick_cache_store.specs.Pool.{Pool, item_at, IsOccupied}
 use Rattle.quick_cache_store.proofs.pool.TokenCounts.{times-here}
 use Rattle.quick_cache_store.specs.Rings.{Ring}
 use Rattle.quick_cache_store.specs.declared.slots.entry.Entry.{Entry}
-use Rattle.quick_cache_store.specs.declared.slots.entry.Entry.TheVariants.{Item as item_variant, Loading as loading_variant, Ghost as ghost_variant}
 use Rattle.quick_cache_store.specs.declared.slots.entry.Slot.{Slot}
 use Rattle.quick_cache_store.specs.ListSlots.{Stand, AmongLoading, AmongGhosts, stand_of, stand_in, is_item, item_of, ghost_of}
 use Rattle.quick_cache_store.specs.Sound.{put, gather, IsRingOf}
@@ -54,10 +53,10 @@ module _ {K V P T : Type 0} where
   item_by_stand s off off' slot stands = by_entry slot.entry refl
     where
       by_entry : (entry : Entry K V P T) → slot.entry ≡ entry → is_item slot ≡ true
-      by_entry (item_variant item) is = rw is refl
-      by_entry (loading_variant awaited) is =
+      by_entry (Entry.Item item) is = rw is refl
+      by_entry (Entry.Loading awaited) is =
           absurd (off (sym stands ∙ ap stand_in is))
-      by_entry ghost_variant is = absurd (off' (sym stands ∙ ap stand_in is))
+      by_entry Entry.Ghost is = absurd (off' (sym stands ∙ ap stand_in is))
 
   -- nothing but a ghost stands among the ghosts
   ghost_by_stand : (t : ℕ) (slot : Slot K V P T) → stand_in slot.entry ≡ AmongGhosts
@@ -66,11 +65,11 @@ module _ {K V P T : Type 0} where
     where
       by_entry : (entry : Entry K V P T) → slot.entry ≡ entry
           → ghost_of t (Some slot) ≡ Some (record { token = t; hash = slot.hash })
-      by_entry (item_variant item) is =
+      by_entry (Entry.Item item) is =
           absurd (not_ghosts (item.weight == 0) item.queue (sym (ap stand_in is) ∙ stands))
-      by_entry (loading_variant awaited) is =
+      by_entry (Entry.Loading awaited) is =
           let e : AmongLoading ≡ AmongGhosts = sym (ap stand_in is) ∙ stands in absurd (cc)
-      by_entry ghost_variant is = rw is refl
+      by_entry Entry.Ghost is = rw is refl
 
   module _ (slab : Pool (Slot K V P T)) where
     -- the items of the slots at these tokens are those that the lists show
@@ -94,9 +93,9 @@ module _ {K V P T : Type 0} where
                 → items_in (record { hash = hash; entry = entry } ∷ gather (λ t. item_at slab t) xs)
                 ≡ items_of (put (item_of x (Some (record { hash = hash; entry = entry })))
                 (gather (λ t. item_of t (item_at slab t)) xs))
-            by_entry hash (item_variant item) e = ap (λ items. item ∷ items) e
-            by_entry hash (loading_variant awaited) e = e
-            by_entry hash ghost_variant e = e
+            by_entry hash (Entry.Item item) e = ap (λ items. item ∷ items) e
+            by_entry hash (Entry.Loading awaited) e = e
+            by_entry hash Entry.Ghost e = e
 
     hashes_in-gather : (xs : List ℕ)
         → ((t : ℕ) → 0 < times t xs → stand_of (item_at slab t) ≡ Some AmongGhosts)
@@ -159,6 +158,6 @@ module _ {K V P T : Type 0} where
           → length (items_in slots) ≡ length slots
           → length (items_in (record { hash = hash; entry = entry } ∷ slots))
           ≡ suc (length slots)
-      by_entry hash (item_variant item) is e = ap suc e
-      by_entry hash (loading_variant awaited) is e = absurd (cc)
-      by_entry hash ghost_variant is e = absurd (cc)
+      by_entry hash (Entry.Item item) is e = ap suc e
+      by_entry hash (Entry.Loading awaited) is e = absurd (cc)
+      by_entry hash Entry.Ghost is e = absurd (cc)

@@ -1,15 +1,20 @@
 -- Items and stack, as a list of slots, and what their edits make of it.
-use Rattle.std.proofs.Common.{◌≡◌, ◌≢◌, ◌⊎◌, ℕ, zero, suc, ◌+◌, ◌-◌, ◌*◌, ◌<◌, ◌≤◌, min, max, cond, List, [], ◌∷◌, ◌++◌, length, reverse, get_or, set, take, count_by, Option, Some, None, IsSome, is_some, refl, sym, ap, subst, length-set, ◌∙◌, inl, inr, arith}
+use Rattle.std.proofs.Common.{◌≡◌, ◌≢◌, ◌⊎◌, ℕ, zero, suc, ◌+◌, ◌-◌, ◌*◌, ◌<◌, ◌≤◌, min, max, cond, List, [], ◌∷◌, ◌++◌, length, reverse}
+use Rattle.std.proofs.Common.{get_or, set, take, count_by, Option, Some, None, IsSome, is_some, refl, sym, ap, subst, length-set, ◌∙◌, inl}
+use Rattle.std.proofs.Common.{inr, arith}
 use Rattle.std.proofs.lemmas.Bool.{cases_lt, cases_eq}
 use Rattle.std.proofs.lemmas.List.{get_or_past, get_or_push, get_or_append_left, length_push, length-take-le, reverse-append, take_more}
 use Rattle.std.proofs.lemmas.List.Elements.{AllZip-push}
 use Rattle.std.specs.List.{AllZip}
 use Rattle.std.proofs.lemmas.List.Sums.{sum_by-cons}
-use Rattle.quick_cache_store.specs.Pool.{Pool, IsSlotCopy, at_token, with_token, first_or, times, next_token, placed, removed, with_item, IsParted}
+use Rattle.quick_cache_store.specs.Pool.{Pool, IsSlotCopy, at_token, with_token, first_or, times, next_token, placed, removed, with_item}
+use Rattle.quick_cache_store.specs.Pool.{IsParted}
 use Rattle.quick_cache_store.specs.PoolEdits.{PlacesItem}
 use Rattle.quick_cache_store.specs.Stack.{slot_if, slots_past, view_of, room_of, IsNoted, AreNoted, IsSound}
-use Rattle.quick_cache_store.proofs.pool.AtTokens.{with_token-suc, at_token-suc, length-with_token, at_token-with_same, at_token-with_other, at_token-past, at_token-push_same, at_token-push_other}
-use Rattle.quick_cache_store.proofs.pool.TokenCounts.{times-here, times-other, times-append, times-push_same, times-push_other, times-reverse, length_once, tally, tally-all}
+use Rattle.quick_cache_store.proofs.pool.AtTokens.{with_token-suc, at_token-suc, length-with_token, at_token-with_same, at_token-with_other}
+use Rattle.quick_cache_store.proofs.pool.AtTokens.{at_token-past, at_token-push_same, at_token-push_other}
+use Rattle.quick_cache_store.proofs.pool.TokenCounts.{times-here, times-other, times-append, times-push_same, times-push_other}
+use Rattle.quick_cache_store.proofs.pool.TokenCounts.{times-reverse, length_once, tally, tally-all}
 
 module _ {T : Type 0} where
   -- ---- slots

@@ -1,9 +1,11 @@
 -- Places of a queue, the tokens that stand there, and the queue without one of them.
-use Rattle.std.proofs.Common.{◌≡◌, ◌≢◌, ℕ, zero, suc, ◌+◌, ◌<◌, ◌≤◌, Bool, true, false, not, eqb, MatchBool, List, [], ◌∷◌, ◌++◌, length, take, drop, set, get_or, Option, Some, None, MatchOption, refl, sym, ap, ◌∙◌, subst, arith}
+use Rattle.std.proofs.Common.{◌≡◌, ◌≢◌, ℕ, zero, suc, ◌+◌, ◌<◌, ◌≤◌, Bool, true, false, not, eqb, MatchBool, List, [], ◌∷◌, ◌++◌, length}
+use Rattle.std.proofs.Common.{take, drop, set, get_or, Option, Some, None, MatchOption, refl, sym, ap, ◌∙◌, subst, arith}
 use Rattle.std.specs.Int.NonZero.{non_zero_u32_get as number}
 use Rattle.std.specs.declared.num.NonZeroU32.{NonZeroU32 as Token}
 use Rattle.std.proofs.lemmas.Bool.{eqb-true, eqb-false}
-use Rattle.std.proofs.lemmas.List.{append_assoc, take-append-drop, drop_more, take_more, take_more_set, take-set, drop-set-lt, append-nil, get_or_read, length-take-le, length-append, length_push, set_at, take_at, drop_at}
+use Rattle.std.proofs.lemmas.List.{append_assoc, take-append-drop, drop_more, take_more, take_more_set, take-set, drop-set-lt, append-nil}
+use Rattle.std.proofs.lemmas.List.{get_or_read, length-take-le, length-append, length_push, set_at, take_at, drop_at}
 use mir.Val.{bool_byte}
 use Rattle.quick_cache_store.specs.Queues.{turned, tokens_at, BeginsWithToken, StandsAt, Leaves}
 

@@ -1,12 +1,12 @@
 -- What stands beside the slots of a copy, and the copy as a pool of whole slots.
-use Rattle.std.proofs.Common.{◌≡◌, ℕ, zero, suc, ◌+◌, ◌<◌, min, List, [], ◌∷◌, ◌++◌, length, drop, Option, Some, None, get_or, refl, sym, ap, ◌∙◌, append_assoc, add-one, arith}
+use Rattle.std.proofs.Common.{◌≡◌, ℕ, zero, suc, ◌+◌, ◌<◌, min, List, [], ◌∷◌, ◌++◌, length, drop, Option, Some, None, get_or, refl, sym}
+use Rattle.std.proofs.Common.{ap, ◌∙◌, append_assoc, add-one, arith}
 use Rattle.std.specs.List.{AllZip}
 use Rattle.std.proofs.lemmas.List.{get_or_default}
 use Rattle.quick_cache_store.specs.Pool.{Pool, AreItemCopies, at_token, IsSlotCopy as IsPlaceCopy}
 use Rattle.quick_cache_store.specs.declared.slots.beside.Beside.{Beside}
 use Rattle.quick_cache_store.specs.declared.slots.entry.Slot.{Slot}
 use Rattle.quick_cache_store.specs.declared.slots.stored.StoredEntry.{StoredEntry}
-use Rattle.quick_cache_store.specs.declared.slots.stored.StoredEntry.TheVariants.{Item as stored_item, Loading as stored_loading, Ghost as stored_ghost}
 use Rattle.quick_cache_store.specs.Copies.{IsSlotCopy, IsStoredCopy, aside_copy, aside_for, aside_copies}
 use Rattle.quick_cache_store.specs.Joined.{joined_slot, joined_slots, joined, AreBeside}
 use Rattle.quick_cache_store.specs.Stored.{slot_of, item_of_body}
@@ -84,7 +84,7 @@ module _ {K V P T : Type 0} where
     IsSlotCopy-stored : (stored copy : StoredEntry K V P T) (aside : Beside)
         → stored_copy stored copy
         → whole_copy (slot_of stored aside) (slot_of copy (aside_copy hash_of copy aside))
-    IsSlotCopy-stored (stored_item head body) (stored_item copied copy) aside is = (
+    IsSlotCopy-stored (StoredEntry.Item head body) (StoredEntry.Item copied copy) aside is = (
       refl,
       record {
         key = is.1;
@@ -92,18 +92,22 @@ module _ {K V P T : Type 0} where
         same = ap (λ h. item_of_body h copy aside) is.0;
       },
     )
-    IsSlotCopy-stored (stored_item head body) (stored_loading queue key placeholder) aside is =
+    IsSlotCopy-stored (StoredEntry.Item head body) (StoredEntry.Loading queue key placeholder) aside
+        is =
         absurd is
-    IsSlotCopy-stored (stored_item head body) (stored_ghost note) aside is = absurd is
-    IsSlotCopy-stored (stored_loading queue key placeholder) (stored_item head body) aside is =
+    IsSlotCopy-stored (StoredEntry.Item head body) (StoredEntry.Ghost note) aside is = absurd is
+    IsSlotCopy-stored (StoredEntry.Loading queue key placeholder) (StoredEntry.Item head body) aside
+        is =
         absurd is
-    IsSlotCopy-stored (stored_loading queue key placeholder)
-        (stored_loading copied copy stand_in) aside is =
+    IsSlotCopy-stored (StoredEntry.Loading queue key placeholder)
+        (StoredEntry.Loading copied copy stand_in) aside is =
         (refl, record { key = is.1; queue = is.0; placeholder = is.2 })
-    IsSlotCopy-stored (stored_loading queue key placeholder) (stored_ghost note) aside is = absurd is
-    IsSlotCopy-stored (stored_ghost note) (stored_item head body) aside is = absurd is
-    IsSlotCopy-stored (stored_ghost note) (stored_loading queue key placeholder) aside is = absurd is
-    IsSlotCopy-stored (stored_ghost note) (stored_ghost copied) aside is = refl
+    IsSlotCopy-stored (StoredEntry.Loading queue key placeholder) (StoredEntry.Ghost note) aside
+        is = absurd is
+    IsSlotCopy-stored (StoredEntry.Ghost note) (StoredEntry.Item head body) aside is = absurd is
+    IsSlotCopy-stored (StoredEntry.Ghost note) (StoredEntry.Loading queue key placeholder) aside
+        is = absurd is
+    IsSlotCopy-stored (StoredEntry.Ghost note) (StoredEntry.Ghost copied) aside is = refl
 
     -- so it is at each place
     slot-copied : (stored copy : Option (StoredEntry K V P T)) (aside : Beside)

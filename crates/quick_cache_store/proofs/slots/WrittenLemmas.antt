@@ -1,5 +1,6 @@
 -- A write to the entry of a token and to what stands beside it, in the pool of whole slots.
-use Rattle.std.proofs.Common.{◌≡◌, ℕ, zero, suc, ◌+◌, ◌<◌, ◌≤◌, min, length, List, [], ◌∷◌, Option, Some, None, IsSome, is_some, get_or, set, refl, sym, ap, subst, ◌∙◌, arith}
+use Rattle.std.proofs.Common.{◌≡◌, ℕ, zero, suc, ◌+◌, ◌<◌, ◌≤◌, min, length, List, [], ◌∷◌, Option, Some, None, IsSome, is_some, get_or}
+use Rattle.std.proofs.Common.{set, refl, sym, ap, subst, ◌∙◌, arith}
 use Rattle.std.proofs.lemmas.List.{get_or_read, get_or_default, set-get_or, set-set}
 use Rattle.quick_cache_store.proofs.pool.AtTokens.{with_token-suc, at_token-suc, at_token-with_same}
 use Rattle.quick_cache_store.specs.Pool.{Pool, at_token, with_token, item_at, IsOccupied, with_item}
@@ -7,10 +8,8 @@ use Rattle.quick_cache_model.specs.CacheState.{Item}
 use Rattle.quick_cache_store.specs.declared.slots.beside.Beside.{Beside}
 use Rattle.quick_cache_store.specs.declared.slots.entry.Awaited.{Awaited}
 use Rattle.quick_cache_store.specs.declared.slots.entry.Entry.{Entry}
-use Rattle.quick_cache_store.specs.declared.slots.entry.Entry.TheVariants.{Item as item_variant, Loading as loading_variant}
 use Rattle.quick_cache_store.specs.declared.slots.entry.Slot.{Slot}
 use Rattle.quick_cache_store.specs.declared.slots.stored.StoredEntry.{StoredEntry}
-use Rattle.quick_cache_store.specs.declared.slots.stored.StoredEntry.TheVariants.{Item as stored_item, Loading as stored_loading, Ghost as stored_ghost}
 use Rattle.quick_cache_store.specs.Joined.{joined_slot, joined_slots, joined, AreBeside}
 use Rattle.quick_cache_store.specs.Items.{with_mark, with_value}
 use Rattle.quick_cache_store.specs.Slots.{HasItem, HasLoading, HasEntry, HasValue, slot_changed}
@@ -57,17 +56,17 @@ module _ {K V P T : Type 0} where
 
   -- an entry that stands for an item is one that is stored
   IsItem-entry : (stored : StoredEntry K V P T) (aside : Beside) (item : Item K V)
-      → entry_of stored aside ≡ item_variant item → IsItem stored
-  IsItem-entry (stored_item head body) aside item is = tt
-  IsItem-entry (stored_loading queue key placeholder) aside item is = absurd (cc)
-  IsItem-entry (stored_ghost note) aside item is = absurd (cc)
+      → entry_of stored aside ≡ Entry.Item item → IsItem stored
+  IsItem-entry (StoredEntry.Item head body) aside item is = tt
+  IsItem-entry (StoredEntry.Loading queue key placeholder) aside item is = absurd (cc)
+  IsItem-entry (StoredEntry.Ghost note) aside item is = absurd (cc)
 
   -- an entry that stands for a key that is being loaded is one that is stored
   IsAwaited-entry : (stored : StoredEntry K V P T) (aside : Beside) (awaited : Awaited K P)
-      → entry_of stored aside ≡ loading_variant awaited → IsAwaited stored
-  IsAwaited-entry (stored_item head body) aside awaited is = absurd (cc)
-  IsAwaited-entry (stored_loading queue key placeholder) aside awaited is = tt
-  IsAwaited-entry (stored_ghost note) aside awaited is = absurd (cc)
+      → entry_of stored aside ≡ Entry.Loading awaited → IsAwaited stored
+  IsAwaited-entry (StoredEntry.Item head body) aside awaited is = absurd (cc)
+  IsAwaited-entry (StoredEntry.Loading queue key placeholder) aside awaited is = tt
+  IsAwaited-entry (StoredEntry.Ghost note) aside awaited is = absurd (cc)
 
   -- two slots of one token have one entry
   entry-same : (slot other : Slot K V P T) (o : Option (Slot K V P T)) → o ≡ Some slot
@@ -113,10 +112,10 @@ module _ {K V P T : Type 0} where
       may-be-shown : (stored : StoredEntry K V P T) (aside : Beside) → IsItem stored
           → item_at whole t ≡ Some (slot_of stored aside)
           → HoldsOfItem stored (MayBeShown calls callback)
-      may-be-shown (stored_item head body) aside item has =
+      may-be-shown (StoredEntry.Item head body) aside item has =
           may aside.aside.hash (item_of_body head body aside) has
-      may-be-shown (stored_loading queue key placeholder) aside item has = absurd item
-      may-be-shown (stored_ghost note) aside item has = absurd item
+      may-be-shown (StoredEntry.Loading queue key placeholder) aside item has = absurd item
+      may-be-shown (StoredEntry.Ghost note) aside item has = absurd item
 
       pub shown-stored : (stored : StoredEntry K V P T) → HasItem whole t
           → item_at pool t ≡ Some stored → HoldsOfItem stored (MayBeShown calls callback)
@@ -225,9 +224,9 @@ module _ {K V P T : Type 0} where
   slot_of-mark : (stored : StoredEntry K V P T) (beside : Beside) (mark : ℕ)
       → slot_of stored (record beside { mark = mark })
       ≡ slot_changed (with_mark mark) (slot_of stored beside)
-  slot_of-mark (stored_item head body) beside mark = refl
-  slot_of-mark (stored_loading queue key placeholder) beside mark = refl
-  slot_of-mark (stored_ghost note) beside mark = refl
+  slot_of-mark (StoredEntry.Item head body) beside mark = refl
+  slot_of-mark (StoredEntry.Loading queue key placeholder) beside mark = refl
+  slot_of-mark (StoredEntry.Ghost note) beside mark = refl
 
   stored-some : (o : Option (StoredEntry K V P T)) → IsSome o
       → (stored : StoredEntry K V P T) × (o ≡ Some stored)
@@ -284,19 +283,19 @@ module _ {K V P T : Type 0} where
 
   changed-item : (o : Option (Slot K V P T)) (slot : Slot K V P T) (hash : ℕ) (item : Item K V)
       (change : Item K V → Item K V) → o ≡ Some slot
-      → o ≡ Some (record { hash = hash; entry = item_variant item })
-      → slot_changed change slot ≡ record { hash = hash; entry = item_variant (change item) }
+      → o ≡ Some (record { hash = hash; entry = Entry.Item item })
+      → slot_changed change slot ≡ record { hash = hash; entry = Entry.Item (change item) }
   changed-item o slot hash item change is has =
-      let same : slot ≡ record { hash = hash; entry = item_variant item } = cc in
+      let same : slot ≡ record { hash = hash; entry = Entry.Item item } = cc in
       ap (slot_changed change) same
 
   module _ (old mid : Pool (Slot K V P T)) (t : ℕ) (first : Item K V → Item K V)
       (has : HasItem old t) (writes : Writes old mid t (slot_changed first)) where
     changed-is : slot_changed first writes.slot
-        ≡ record { hash = has.0; entry = item_variant (first has.1) }
+        ≡ record { hash = has.0; entry = Entry.Item (first has.1) }
     changed-is = changed-item (item_at old t) writes.slot has.0 has.1 first writes.was has.2
 
-    here-is : item_at mid t ≡ Some (record { hash = has.0; entry = item_variant (first has.1) })
+    here-is : item_at mid t ≡ Some (record { hash = has.0; entry = Entry.Item (first has.1) })
     here-is =
         let within = item-within old.slots t _ has.2 in
         ap (λ (s : Pool (Slot K V P T)). item_at s t) writes.is
@@ -345,9 +344,9 @@ module _ {K V P T : Type 0} where
     slot_of-with_value : (value : V) (stored : StoredEntry K V P T) (aside : Beside)
         → slot_of (entry_with_value value stored) aside
         ≡ slot_changed (with_value value) (slot_of stored aside)
-    slot_of-with_value value (stored_item head body) aside = refl
-    slot_of-with_value value (stored_loading queue key placeholder) aside = refl
-    slot_of-with_value value (stored_ghost note) aside = refl
+    slot_of-with_value value (StoredEntry.Item head body) aside = refl
+    slot_of-with_value value (StoredEntry.Loading queue key placeholder) aside = refl
+    slot_of-with_value value (StoredEntry.Ghost note) aside = refl
 
     -- another value of the stored entry is one of the slot
     pub value-written : (value : V)
@@ -370,7 +369,7 @@ module _ {K V P T : Type 0} where
           → item_at (joined pool asides left) t ≡ Some (slot_of entry aside)
           → Writes (joined pool asides left) new t (slot_changed (with_value value))
           → ShowsSlot calls callback (joined pool asides left) t answer next new
-      shown-in (stored_item head body) aside value new called has writes = record {
+      shown-in (StoredEntry.Item head body) aside value new called has writes = record {
         hash = aside.aside.hash;
         item = item_of_body head body aside;
         at = has;
@@ -378,9 +377,9 @@ module _ {K V P T : Type 0} where
         called = called;
         writes = writes;
       }
-      shown-in (stored_loading queue key placeholder) aside value new called has writes =
+      shown-in (StoredEntry.Loading queue key placeholder) aside value new called has writes =
           absurd called
-      shown-in (stored_ghost note) aside value new called has writes = absurd called
+      shown-in (StoredEntry.Ghost note) aside value new called has writes = absurd called
 
       pub shown-joined : (new : StoredEntry K V P T)
           → ShowsStored calls callback stored answer next new
@@ -400,10 +399,10 @@ module _ {K V P T : Type 0} where
         → IsStoredValue entry value
         → item_at (joined pool asides left) t ≡ Some (slot_of entry aside)
         → HasValue (joined pool asides left) t value
-    has-value (stored_item head body) aside value is has =
+    has-value (StoredEntry.Item head body) aside value is has =
         (aside.aside.hash, item_of_body head body aside, has, is)
-    has-value (stored_loading queue key placeholder) aside value is has = absurd is
-    has-value (stored_ghost note) aside value is has = absurd is
+    has-value (StoredEntry.Loading queue key placeholder) aside value is has = absurd is
+    has-value (StoredEntry.Ghost note) aside value is has = absurd is
 
     -- the value of the stored entry is that of the slot
     pub value-joined : (value : V) → IsStoredValue stored value

@@ -1,9 +1,11 @@
 //! A queue of tokens.
-ghost use Rattle.std.specs.Prelude.{◌≡◌, ◌≢◌, ◌<◌, ◌≤◌, [], ◌∷◌, ◌++◌, length, take, drop, get_or, MatchOption, IfErr, OnOk, IsOk, true, false};
+ghost use Rattle.std.specs.Prelude.{◌≡◌, ◌≢◌, ◌<◌, ◌≤◌, [], ◌∷◌, ◌++◌, length, take, drop, get_or, MatchOption, IfErr, OnOk, IsOk, true};
+ghost use Rattle.std.specs.Prelude.{false};
 ghost use Rattle.std.specs.Bool.{MatchBool};
 ghost use Rattle.std.specs.VecDeque.{deque_len, deque_capacity};
 ghost use Rattle.std.specs.Int.NonZero.{non_zero_u32_get as number};
-ghost use Rattle.quick_cache_store.specs.Queues.{times, turned, tokens_at, BeginsWithToken, tokens_of, tokens_from, capacity_of, IsCounted, IsQueue, StandsAt, Leaves};
+ghost use Rattle.quick_cache_store.specs.Queues.{times, turned, tokens_at, BeginsWithToken, tokens_of, tokens_from, capacity_of, IsCounted};
+ghost use Rattle.quick_cache_store.specs.Queues.{IsQueue, StandsAt, Leaves};
 
 use crate::queue::numbers::Numbers;
 use quick_cache_model::{Refusal, Token};

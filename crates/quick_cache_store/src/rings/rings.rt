@@ -1,9 +1,10 @@
 //! The three rings, chosen by the list of an entry.
-ghost use Rattle.std.specs.Prelude.{◌≡◌, ◌≤◌, ◌*◌, [], max, IsOk, IfOk, IfErr, OnOk, OnErr, Err};
+ghost use Rattle.std.specs.Prelude.{◌≡◌, ◌≤◌, [], max, IsOk, IfOk, IfErr, OnOk, OnErr, Err};
 ghost use Rattle.std.specs.Int.NonZero.{non_zero_u32_get as number};
 ghost use Rattle.quick_cache_store.specs.Queues.{tokens_of, IsQueue};
 ghost use Rattle.quick_cache_store.specs.Slots.{stand_by};
-ghost use Rattle.quick_cache_store.specs.Rings.{no_rings, emptied, ring_of, CanEnter, entered, CanLeaveRing, LeavesRingOf, restarts, CanBury, buried, first_forgotten, rings_turned, CanReweigh, reweighed, AreWithin};
+ghost use Rattle.quick_cache_store.specs.Rings.{no_rings, emptied, ring_of, CanEnter, entered, CanLeaveRing, LeavesRingOf, restarts};
+ghost use Rattle.quick_cache_store.specs.Rings.{CanBury, buried, first_forgotten, rings_turned, CanReweigh, reweighed, AreWithin};
 
 use crate::queue::{Numbers, TokenQueue};
 use crate::rings::ring::{Order, Ring, join, leave, leave_first, turn};
@@ -148,27 +149,6 @@ impl<A: Allocator> Rings<A> {
         self.numbers.reserve(tokens)?;
         self.capacity = tokens;
         Ok(())
-    }
-
-    /// Makes room for so many tokens in each of the rings, and for twice as many as there was room
-    /// for: so that a ring which grows by one token at a time is moved seldom.
-    ///
-    /// A refusal is for want of memory: it may keep memory that it got, and changes nothing else.
-    pub fn grow(&mut self, tokens: usize) -> Result<(), Refusal>
-        ensures kept { self.new ≡ record self.old { capacity = self.new.capacity } }
-        ensures room { OnOk result (tokens ≤ self.new.capacity) }
-        ensures grows { self.old.capacity ≤ self.new.capacity }
-        ensures at_most { self.new.capacity
-            ≤ max self.old.capacity (max tokens (2 * self.old.capacity)) }
-
-        // Where there is room it succeeds, and nothing changes.
-        ensures had_room { tokens ≤ self.old.capacity → IsOk result × (self.new ≡ self.old) }
-        ensures memory { IfErr result (λ refused. refused ≡ Refusal.Memory) }
-    {
-        if tokens <= self.capacity {
-            return Ok(());
-        }
-        self.reserve(tokens.max(self.capacity.saturating_mul(2)))
     }
 
     /// Puts a token last in the ring of that list, if it is one.

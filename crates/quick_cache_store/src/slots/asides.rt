@@ -1,6 +1,7 @@
 //! What stands beside slots: in one list what a look-up seldom reads, in another the marks, which
 //! the policy reads one after the other.
-ghost use Rattle.std.specs.Prelude.{◌≡◌, ◌+◌, ◌*◌, ◌<◌, ◌≤◌, ◌↔◌, [], ◌∷◌, ◌++◌, length, max, IsTrue, slice_set, slice_index_or, IsOk, IfErr, OnOk};
+ghost use Rattle.std.specs.Prelude.{◌≡◌, ◌+◌, ◌*◌, ◌<◌, ◌≤◌, ◌↔◌, [], ◌∷◌, ◌++◌, length, max, IsTrue, slice_set, slice_index_or, IsOk};
+ghost use Rattle.std.specs.Prelude.{IfErr, OnOk};
 ghost use Rattle.quick_cache_store.specs.declared.slots.beside.Beside.{Beside};
 ghost use Rattle.quick_cache_store.specs.Asides.{besides_of, room_of, AreInStep, seen};
 

@@ -1,6 +1,7 @@
 //! Looks at what a slot has: at the whole of it, at an item, and at a key that is being loaded.
 ghost use Rattle.std.specs.Prelude.{◌≡◌, Some, true};
-ghost use Rattle.quick_cache_store.specs.Slots.{has_hash, stand_in, stand_of_item, is_under, is_item_under, is_ghost, is_item, weight_in, entry_item, entry_awaited};
+ghost use Rattle.quick_cache_store.specs.Slots.{has_hash, stand_in, stand_of_item, is_under, is_item_under, is_ghost, is_item, weight_in};
+ghost use Rattle.quick_cache_store.specs.Slots.{entry_item, entry_awaited};
 
 use crate::slots::beside::BesideRef;
 use crate::slots::entry::{Entry, Stand};
@@ -29,30 +30,35 @@ impl<'a, K, V, T> Model for ItemRef<'a, K, V, T> {
 }
 
 impl<'a, K, V, T> ItemRef<'a, K, V, T> {
+    /// Its ring, also where it weighs nothing and stands beside the rings.
     pub fn queue(&self) -> Queue
         ensures { result ≡ self.now.queue }
     {
         self.head.queue
     }
 
+    /// The weight that it counts for.
     pub fn weight(&self) -> u64
         ensures { result ≡ self.now.weight }
     {
         self.beside.aside.weight_by(self.head.weight)
     }
 
+    /// How often it was used lately.
     pub fn mark(&self) -> u8
         ensures { result ≡ self.now.mark }
     {
         *self.beside.mark
     }
 
+    /// Its key.
     pub fn key(&self) -> &'a K
         ensures { result.now ≡ self.now.key }
     {
         &self.body.key
     }
 
+    /// Its value.
     pub fn value(&self) -> &'a V
         ensures { result.now ≡ self.now.value }
     {
@@ -72,6 +78,7 @@ impl<'a, K, V, T> ItemRef<'a, K, V, T> {
         &self.body.touch
     }
 
+    /// How often it was read, but for what `touch` tells.
     pub fn reads(&self) -> u64
         ensures { result ≡ self.now.reads }
     {
@@ -108,18 +115,21 @@ impl<'a, K, P> Model for AwaitedRef<'a, K, P> {
 }
 
 impl<'a, K, P> AwaitedRef<'a, K, P> {
+    /// The ring that it is to come into.
     pub fn queue(&self) -> Queue
         ensures { result ≡ self.now.queue }
     {
         self.queue
     }
 
+    /// The key that is being loaded.
     pub fn key(&self) -> &'a K
         ensures { result.now ≡ self.now.key }
     {
         self.key
     }
 
+    /// Its placeholder.
     pub fn placeholder(&self) -> &'a P
         ensures { result.now ≡ self.now.placeholder }
     {
@@ -265,6 +275,7 @@ impl<'a, K, V, P, T> SlotRef<'a, K, V, P, T> {
         }
     }
 
+    /// Whether it has a ghost.
     pub fn is_ghost(&self) -> bool
         ensures { result ≡ is_ghost self.now }
     {
@@ -274,6 +285,7 @@ impl<'a, K, V, P, T> SlotRef<'a, K, V, P, T> {
         }
     }
 
+    /// Whether it has an item.
     pub fn is_item(&self) -> bool
         ensures { result ≡ is_item self.now }
     {

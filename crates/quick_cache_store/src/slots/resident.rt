@@ -69,30 +69,35 @@ impl<K, V, T> Marked<K, V, T> {
         }
     }
 
+    /// Its ring, also where it weighs nothing and stands beside the rings.
     pub fn queue(&self) -> Queue
         ensures { result ≡ self.now.queue }
     {
         self.resident.queue
     }
 
+    /// The weight that it counts for.
     pub fn weight(&self) -> u64
         ensures { result ≡ self.now.weight }
     {
         self.resident.weight
     }
 
+    /// How often it was used lately.
     pub fn mark(&self) -> u8
         ensures { result ≡ self.now.mark }
     {
         self.mark
     }
 
+    /// Its key.
     pub fn key(&self) -> &K
         ensures { result.now ≡ self.now.key }
     {
         &self.resident.body.key
     }
 
+    /// Its value.
     pub fn value(&self) -> &V
         ensures { result.now ≡ self.now.value }
     {
@@ -115,6 +120,7 @@ impl<K, V, T> Marked<K, V, T> {
         Stand::of_item(self.resident.weight, self.resident.queue)
     }
 
+    /// How often it was read, but for what `touch` tells.
     pub fn reads(&self) -> u64
         ensures { result ≡ self.now.reads }
     {

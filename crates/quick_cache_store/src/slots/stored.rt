@@ -7,7 +7,8 @@ ghost use Rattle.quick_cache_model.specs.Touches.{counted_up};
 ghost use Rattle.quick_cache_store.specs.Items.{filled, read_once, requeued, with_counts, with_weight};
 ghost use Rattle.quick_cache_store.specs.declared.slots.beside.Beside.{Beside};
 ghost use Rattle.quick_cache_store.specs.Slots.{slot_changed, slot_filled, with_entry};
-ghost use Rattle.quick_cache_store.specs.Stored.{resident_of, entry_of, slot_of, reads_by, entry_filled_by, is_counted_out, IsItem, IsAwaited};
+ghost use Rattle.quick_cache_store.specs.Stored.{resident_of, entry_of, slot_of, reads_by, entry_filled_by, is_counted_out, IsItem};
+ghost use Rattle.quick_cache_store.specs.Stored.{IsAwaited};
 
 use crate::pool::Blank;
 use crate::slots::aside::Aside;
@@ -266,11 +267,10 @@ impl<K, V, P, T> StoredEntry<K, V, P, T> {
             result) }
         ensures value { IsStoredValue self.old result.now }
     {
-        match self {
-            StoredEntry::Item(_, body) => body.value_mut(),
-            StoredEntry::Loading(_, _, _) => unreachable!(),
-            StoredEntry::Ghost(_) => unreachable!(),
-        }
+        let StoredEntry::Item(_, body) = self else {
+            unreachable!();
+        };
+        body.value_mut()
     }
 
     /// Shows the key of an item, and its value to write.
@@ -280,11 +280,10 @@ impl<K, V, P, T> StoredEntry<K, V, P, T> {
         requires callable { HoldsOfItem self.old (MayBeShown F.FnMut callback.old) }
         ensures { ShowsStored F.FnMut callback.old self.old result callback.new self.new }
     {
-        match self {
-            StoredEntry::Item(_, body) => callback(&body.key, &mut body.value),
-            StoredEntry::Loading(_, _, _) => unreachable!(),
-            StoredEntry::Ghost(_) => unreachable!(),
-        }
+        let StoredEntry::Item(_, body) = self else {
+            unreachable!();
+        };
+        callback(&body.key, &mut body.value)
     }
 
     /// Whether an item is stored whose slot can count no more reads.
@@ -307,11 +306,10 @@ impl<K, V, P, T> StoredEntry<K, V, P, T> {
         ensures { (beside : Beside) → slot_of self.new beside
             ≡ slot_changed read_once (slot_of self.old beside) }
     {
-        match self {
-            StoredEntry::Item(head, _) => head.late += 1,
-            StoredEntry::Loading(_, _, _) => unreachable!(),
-            StoredEntry::Ghost(_) => unreachable!(),
-        }
+        let StoredEntry::Item(head, _) = self else {
+            unreachable!();
+        };
+        head.late += 1;
     }
 
     /// Counts a read of an item beside its slot, and those that the slot counted.
@@ -320,11 +318,10 @@ impl<K, V, P, T> StoredEntry<K, V, P, T> {
         ensures { slot_of self.new beside.new
             ≡ slot_changed read_once (slot_of self.old beside.old) }
     {
-        match self {
-            StoredEntry::Item(head, _) => head.settle(&mut beside.aside),
-            StoredEntry::Loading(_, _, _) => unreachable!(),
-            StoredEntry::Ghost(_) => unreachable!(),
-        }
+        let StoredEntry::Item(head, _) = self else {
+            unreachable!();
+        };
+        head.settle(&mut beside.aside);
     }
 
     /// Gives an item another mark and another count of reads.
@@ -333,15 +330,12 @@ impl<K, V, P, T> StoredEntry<K, V, P, T> {
         ensures { slot_of self.new beside.new
             ≡ slot_changed (with_counts mark reads) (slot_of self.old beside.old) }
     {
-        match self {
-            StoredEntry::Item(head, _) => {
-                beside.mark = mark;
-                head.late = 0;
-                beside.aside.reads = reads;
-            }
-            StoredEntry::Loading(_, _, _) => unreachable!(),
-            StoredEntry::Ghost(_) => unreachable!(),
-        }
+        let StoredEntry::Item(head, _) = self else {
+            unreachable!();
+        };
+        beside.mark = mark;
+        head.late = 0;
+        beside.aside.reads = reads;
     }
 
     /// Gives an item another weight.
@@ -350,11 +344,10 @@ impl<K, V, P, T> StoredEntry<K, V, P, T> {
         ensures { slot_of self.new beside.new
             ≡ slot_changed (with_weight weight) (slot_of self.old beside.old) }
     {
-        match self {
-            StoredEntry::Item(head, _) => head.weight = beside.aside.keep_weight(weight),
-            StoredEntry::Loading(_, _, _) => unreachable!(),
-            StoredEntry::Ghost(_) => unreachable!(),
-        }
+        let StoredEntry::Item(head, _) = self else {
+            unreachable!();
+        };
+        head.weight = beside.aside.keep_weight(weight);
     }
 
     /// Gives an item another queue, mark and weight.
@@ -363,15 +356,12 @@ impl<K, V, P, T> StoredEntry<K, V, P, T> {
         ensures { slot_of self.new beside.new
             ≡ slot_changed (requeued queue mark weight) (slot_of self.old beside.old) }
     {
-        match self {
-            StoredEntry::Item(head, _) => {
-                beside.mark = mark;
-                head.queue = queue;
-                head.weight = beside.aside.keep_weight(weight);
-            }
-            StoredEntry::Loading(_, _, _) => unreachable!(),
-            StoredEntry::Ghost(_) => unreachable!(),
-        }
+        let StoredEntry::Item(head, _) = self else {
+            unreachable!();
+        };
+        beside.mark = mark;
+        head.queue = queue;
+        head.weight = beside.aside.keep_weight(weight);
     }
 
     /// Takes another entry, and gives the old one back. An item in the place of an item goes on
@@ -428,21 +418,18 @@ impl<K, V, P, T> StoredEntry<K, V, P, T> {
         ensures old { entry_of self.old beside.old ≡ Entry.Item result }
     {
         let mut item = item;
-        match self {
-            StoredEntry::Item(head, body) => {
-                swap(&mut body.touch, &mut item.resident.body.touch);
-                let before = *beside;
-                beside.mark = item.mark;
-                let (new_head, new_body) = item.resident.into_stored(&mut beside.aside);
-                let old_head = replace(head, new_head);
-                let old_body = replace(body, new_body);
-                Marked {
-                    mark: before.mark,
-                    resident: Resident::from_stored(old_head, old_body, &before.aside),
-                }
-            }
-            StoredEntry::Loading(_, _, _) => unreachable!(),
-            StoredEntry::Ghost(_) => unreachable!(),
+        let StoredEntry::Item(head, body) = self else {
+            unreachable!();
+        };
+        swap(&mut body.touch, &mut item.resident.body.touch);
+        let before = *beside;
+        beside.mark = item.mark;
+        let (new_head, new_body) = item.resident.into_stored(&mut beside.aside);
+        let old_head = replace(head, new_head);
+        let old_body = replace(body, new_body);
+        Marked {
+            mark: before.mark,
+            resident: Resident::from_stored(old_head, old_body, &before.aside),
         }
     }
 
@@ -456,8 +443,7 @@ impl<K, V, P, T> StoredEntry<K, V, P, T> {
     {
         match self {
             StoredEntry::Item(_, body) => body.touch.take(),
-            StoredEntry::Loading(_, _, _) => unreachable!(),
-            StoredEntry::Ghost(_) => unreachable!(),
+            _ => unreachable!(),
         }
     }
 

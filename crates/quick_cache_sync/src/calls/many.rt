@@ -1,6 +1,5 @@
 //! Many keys are looked up at once, shard by shard.
 ghost use Rattle.std.specs.Prelude.{◌≡◌, ◌<◌, ℕ, length, slice_index, slice_index_or, slice_set, vec_len, None, Ok, OnOk, IfOk, IfErr};
-ghost use Rattle.quick_cache_model.specs.declared.refusal.Refusal.TheVariants.{Memory};
 ghost use Rattle.quick_cache_shard.specs.Shard.{Shard};
 ghost use Rattle.quick_cache_locked.specs.Locked.{FromSome};
 ghost use Rattle.quick_cache_sync.specs.Many.{HasPlaces, IsGot, KeepsOthers, ShowsMany, ShowsThose, place_of};
@@ -37,7 +36,7 @@ impl<K: Eq + Hash + Drop, V: Clone, We, B: BuildHasher, L: Lifecycle<K, V>, A: A
         ensures answers { IfOk result (λ values. ShowsMany L.Lifecycle K.eq V.is_clone
             Q.equivalent queries.now values.items We B
             (place_of B.BuildHasher B.Hasher.Hasher self.now Q.hash_input)) }
-        ensures refused { IfErr result (λ refusal. refusal ≡ Memory) }
+        ensures refused { IfErr result (λ refusal. refusal ≡ Refusal.Memory) }
     {
         let own: Result<_, _> = alloc.clone();
         let Ok(own) = own else {
@@ -72,7 +71,7 @@ impl<K: Eq + Hash + Drop, V: Clone, We, B: BuildHasher, L: Lifecycle<K, V>, A: A
         ensures places { IfOk result (λ places. HasPlaces
             (place_of B.BuildHasher B.Hasher.Hasher self.now Q.hash_input) self.now.shards
             queries.now places.items) }
-        ensures refused { IfErr result (λ refusal. refusal ≡ Memory) }
+        ensures refused { IfErr result (λ refusal. refusal ≡ Refusal.Memory) }
     {
         let Ok(mut places) = Vec::with_capacity(alloc, queries.len()) else {
             return Err(Refusal::Memory);
@@ -112,7 +111,7 @@ fn get_those<
         (λ index _. slice_index places.now index ≡ place) shard)) }
     ensures others { KeepsOthers places.now place values.old.items values.new.items }
     ensures as_many { vec_len values.new ≡ vec_len values.old }
-    ensures refused { IfErr result (λ refusal. refusal ≡ Memory) }
+    ensures refused { IfErr result (λ refusal. refusal ≡ Refusal.Memory) }
 {
     if !places.contains(&place) {
         return Ok(());
@@ -144,7 +143,7 @@ fn get_those_in<
         values.new.items (λ index _. slice_index places.now index ≡ place) shard.now) }
     ensures others { KeepsOthers places.now place values.old.items values.new.items }
     ensures as_many { vec_len values.new ≡ vec_len values.old }
-    ensures refused { IfErr result (λ refusal. refusal ≡ Memory) }
+    ensures refused { IfErr result (λ refusal. refusal ≡ Refusal.Memory) }
 {
     for index in 0..queries.len() {
         get_at(shard, index, place, places, queries, values)?;
@@ -182,7 +181,7 @@ fn get_at<
     ensures unasked { (slice_index places.now index ≡ place → ⊥)
         → values.new.items ≡ values.old.items }
     ensures as_many { vec_len values.new ≡ vec_len values.old }
-    ensures refused { IfErr result (λ refusal. refusal ≡ Memory) }
+    ensures refused { IfErr result (λ refusal. refusal ≡ Refusal.Memory) }
 {
     if places[index] != place {
         return Ok(());
@@ -212,7 +211,7 @@ fn get_in<
     Q: Equivalent<K>,
 >(shard: &LockedShard<K, V, We, B, L, A>, query: &Q) -> Result<Option<V>, Refusal>
     ensures got { IsGot L.Lifecycle K.eq V.is_clone Q.equivalent query.now shard.now result }
-    ensures refused { IfErr result (λ refusal. refusal ≡ Memory) }
+    ensures refused { IfErr result (λ refusal. refusal ≡ Refusal.Memory) }
 {
     shard.get(query)
 }

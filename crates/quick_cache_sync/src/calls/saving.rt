@@ -1,7 +1,6 @@
 //! The items of all shards as they are saved, and pairs that come back to where they stood.
 ghost use Rattle.std.specs.Prelude.{◌≡◌, IfOk, IfErr};
 ghost use Rattle.std.specs.List.{AllByRecursion};
-ghost use Rattle.quick_cache_model.specs.declared.refusal.Refusal.TheVariants.{Memory};
 ghost use Rattle.quick_cache_shard.specs.Copies.{ClonesAreEqual};
 ghost use Rattle.quick_cache_locked.specs.Fitting.{ClonesFit};
 ghost use Rattle.quick_cache_locked.specs.Locked.{FromSome};
@@ -44,7 +43,7 @@ impl<
         // Where clones are as their keys and values are, each pair fits.
         ensures fits { ClonesAreEqual K.eq K.is_clone → ClonesFit L.fits V.is_clone
             → IfOk result (λ list. AllByRecursion (FitsHeated L.Lifecycle) list.items) }
-        ensures refused { IfErr result (λ refusal. refusal ≡ Memory) }
+        ensures refused { IfErr result (λ refusal. refusal ≡ Refusal.Memory) }
     {
         let mut list = Vec::new(alloc);
         for index in 0..self.shards.len() {

@@ -1,11 +1,9 @@
 //! The numbers of a cache, which it asks of one shard after the other, and its sizes.
 ghost use Rattle.std.specs.Prelude.{◌≡◌, ℕ, ◌↔◌, IfErr, IsTrue};
-ghost use Rattle.quick_cache_model.specs.declared.refusal.Refusal.TheVariants.{Memory};
 ghost use Rattle.quick_cache_shard.specs.Shard.{Shard};
 ghost use Rattle.quick_cache_locked.specs.Locked.{FromSome};
 ghost use Rattle.quick_cache_locked.specs.Counts.{Shows};
 ghost use Rattle.quick_cache_sync.specs.Sums.{AddsUp};
-ghost use Rattle.quick_cache_locked.specs.declared.count.Count.TheVariants.{Items, Weight, Capacity, Hits, Misses};
 
 use crate::cache::Cache;
 use quick_cache_locked::Count;
@@ -27,7 +25,7 @@ impl<K: Eq + Hash + Drop, V: Drop, We, B: BuildHasher, L: Lifecycle<K, V>, A: Al
     /// read lock of each shard in turn.
     pub fn len<R: Wait>(&self, rt: &R) -> usize
         ensures answers { AddsUp L.Lifecycle K.eq (λ (shard : Shard K V We B L) shown.
-            Shows Items shard.state shown) self.now.shards result }
+            Shows Count.Items shard.state shown) self.now.shards result }
     {
         self.added_up(rt, Count::Items) as usize
     }
@@ -35,7 +33,8 @@ impl<K: Eq + Hash + Drop, V: Drop, We, B: BuildHasher, L: Lifecycle<K, V>, A: Al
     /// Whether no shard has an item. It takes the read lock of each shard in turn.
     pub fn is_empty<R: Wait>(&self, rt: &R) -> bool
         ensures answers { (items : ℕ) × AddsUp L.Lifecycle K.eq (λ (shard : Shard K V We B L) shown.
-            Shows Items shard.state shown) self.now.shards items × (IsTrue result ↔ (items ≡ 0)) }
+            Shows Count.Items shard.state shown) self.now.shards items
+            × (IsTrue result ↔ (items ≡ 0)) }
     {
         self.len(rt) == 0
     }
@@ -43,7 +42,7 @@ impl<K: Eq + Hash + Drop, V: Drop, We, B: BuildHasher, L: Lifecycle<K, V>, A: Al
     /// What all items weigh, up to the greatest `u64`. It takes the read lock of each shard in turn.
     pub fn weight<R: Wait>(&self, rt: &R) -> u64
         ensures answers { AddsUp L.Lifecycle K.eq (λ (shard : Shard K V We B L) shown.
-            Shows Weight shard.state shown) self.now.shards result }
+            Shows Count.Weight shard.state shown) self.now.shards result }
     {
         self.added_up(rt, Count::Weight)
     }
@@ -52,7 +51,7 @@ impl<K: Eq + Hash + Drop, V: Drop, We, B: BuildHasher, L: Lifecycle<K, V>, A: Al
     /// the read lock of each shard in turn.
     pub fn capacity<R: Wait>(&self, rt: &R) -> u64
         ensures answers { AddsUp L.Lifecycle K.eq (λ (shard : Shard K V We B L) shown.
-            Shows Capacity shard.state shown) self.now.shards result }
+            Shows Count.Capacity shard.state shown) self.now.shards result }
     {
         self.added_up(rt, Count::Capacity)
     }
@@ -69,7 +68,7 @@ impl<K: Eq + Hash + Drop, V: Drop, We, B: BuildHasher, L: Lifecycle<K, V>, A: Al
     /// shard in turn, and looks at each slot: a look-up leaves its hit at the item.
     pub fn hits<R: Wait>(&self, rt: &R) -> u64
         ensures answers { AddsUp L.Lifecycle K.eq (λ (shard : Shard K V We B L) shown.
-            Shows Hits shard.state shown) self.now.shards result }
+            Shows Count.Hits shard.state shown) self.now.shards result }
     {
         self.added_up(rt, Count::Hits)
     }
@@ -78,7 +77,7 @@ impl<K: Eq + Hash + Drop, V: Drop, We, B: BuildHasher, L: Lifecycle<K, V>, A: Al
     /// in turn.
     pub fn misses<R: Wait>(&self, rt: &R) -> u64
         ensures answers { AddsUp L.Lifecycle K.eq (λ (shard : Shard K V We B L) shown.
-            Shows Misses shard.state shown) self.now.shards result }
+            Shows Count.Misses shard.state shown) self.now.shards result }
     {
         self.added_up(rt, Count::Misses)
     }
@@ -117,7 +116,7 @@ impl<K: Eq + Hash + Drop, V: Drop, We, B: BuildHasher, L: Lifecycle<K, V>, A: Al
     ///
     /// `Memory` where there is not enough. Room that was already made may stay.
     pub fn reserve<R: Wait>(&self, rt: &R, additional: usize) -> Result<(), Refusal>
-        ensures refused { IfErr result (λ refusal. refusal ≡ Memory) }
+        ensures refused { IfErr result (λ refusal. refusal ≡ Refusal.Memory) }
     {
         let part = shard_items(additional, self.num_shards());
         for shard in &self.shards {

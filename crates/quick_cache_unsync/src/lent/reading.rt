@@ -49,7 +49,9 @@ impl<
         ensures { IsValueUnder (Q.equivalent self.now.query.now) self.now.cache.now.state
             result.now }
     {
-        self.cache
+        let cache = &*self.cache;
+        cache
+            .shard
             .value_under(Token::new(self.slot), self.hash, self.query)
     }
 }

@@ -59,7 +59,7 @@ impl<
             hash,
             slot,
         } = self;
-        cache.reweigh(Token::new(slot), hash, query);
+        cache.shard.reweigh(Token::new(slot), hash, query);
     }
 }
 
@@ -96,7 +96,9 @@ impl<
         ensures { IsValueUnder (Q.equivalent self.now.query.now) self.now.cache.now.state
             result.now }
     {
-        self.cache
+        let cache = &*self.cache;
+        cache
+            .shard
             .value_under(Token::new(self.slot), self.hash, self.query)
     }
 }
@@ -129,20 +131,6 @@ impl<K: Eq + Hash, V, We, B: BuildHasher, L, A: Allocator> Cache<K, V, We, B, L,
     ghost use Rattle.quick_cache_shard.specs.Lent.{written_under};
 
     // The value of the item under the query, which is known to be there.
-    pub(crate) fn value_under<Q: Equivalent<K>>(
-        &self,
-        thought: Option<Token>,
-        hash: u64,
-        query: &Q,
-    ) -> &V
-        requires hash_is { hash ≡ ⟦<Self as Keyed>⟧.hash self.now.builder (Q.hash_input query.now) }
-        requires there { 0 < count_under (Q.equivalent query.now) self.now.state }
-        ensures { IsValueUnder (Q.equivalent query.now) self.now.state result.now }
-    {
-        self.shard.value_under(thought, hash, query)
-    }
-
-    // The same, to write.
     fn value_mut<Q: Equivalent<K>>(
         &mut self,
         thought: Option<Token>,
@@ -227,17 +215,5 @@ impl<
             hash,
             slot: token.get(),
         })
-    }
-
-    // Weighs the item under the query anew, which is known to be there.
-    fn reweigh<Q: Equivalent<K>>(&mut self, thought: Option<Token>, hash: u64, query: &Q)
-        requires hash_is { hash ≡ ⟦<Self as Keyed>⟧.hash self.old.builder (Q.hash_input query.now) }
-        requires there { 0 < count_under (Q.equivalent query.now) self.old.state }
-        ensures reweighs { ReweighsBy ⟦<Self as Going>⟧.goes no_touches self.old
-            (Q.equivalent query.now) self.new }
-        ensures there { 0 < count_under (Q.equivalent query.now) self.new.state }
-        ensures same { KeepsRoom self.old self.new }
-    {
-        self.shard.reweigh(thought, hash, query);
     }
 }

@@ -1,13 +1,11 @@
 //! Values that are answered as clones, whether they were found or loaded.
 ghost use Rattle.std.specs.Prelude.{◌≡◌, ◌<◌, ◌+◌, ◌≤◌, IfErr, IfNone, IfSome, IsSome, true};
-ghost use Rattle.quick_cache_model.specs.declared.refusal.Refusal.TheVariants.{Memory};
 ghost use Rattle.quick_cache_shard.specs.References.{count_under};
 ghost use Rattle.quick_cache_shard.specs.Shard.{IsSoundShard, KeepsTerms};
 ghost use Rattle.quick_cache_shard.specs.Stays.{StaysWithin};
 ghost use Rattle.quick_cache_unsync.specs.Fetches.{FetchesBy, EndsFetchBy, IsCloneUnder, IsUnclonedUnder};
 ghost use Rattle.quick_cache_unsync.specs.Loads.{IsAwaited};
 ghost use Rattle.quick_cache_unsync.specs.Touches.{no_touches};
-ghost use Rattle.quick_cache_unsync.specs.declared.loading.not_loaded.LoadError.TheVariants.{Refused};
 
 use crate::cache::Cache;
 use crate::loading::not_loaded::LoadError;
@@ -54,7 +52,7 @@ impl<
         // there is no room.
         ensures room { self.old.room ≤ self.new.room + 1 }
         ensures asks { Q.to_key_is_infallible query.now → ((value : V) → V.is_infallible value)
-            → IfErr result (λ error. error ≡ Refused Memory → self.old.room ≡ 0) }
+            → IfErr result (λ error. error ≡ LoadError.Refused Refusal.Memory → self.old.room ≡ 0) }
         ensures same { KeepsTerms self.old self.new }
         ensures sound { IsSoundShard K.eq self.new }
     {
@@ -80,7 +78,7 @@ impl<
             (Q.to_key_gives query.now)
             hash (F.post loader) result self.new }
         ensures asks { Q.to_key_is_infallible query.now → ((value : V) → V.is_infallible value)
-            → IfErr result (λ error. error ≡ Refused Memory → self.old.room ≡ 0) }
+            → IfErr result (λ error. error ≡ LoadError.Refused Refusal.Memory → self.old.room ≡ 0) }
         ensures stays { StaysWithin K.eq 1 self.old self.new }
     {
         match self.begin_load(hash, query) {
@@ -105,7 +103,7 @@ impl<
             (IsUnclonedUnder V.is_infallible (Q.equivalent query.now) self.now.state) }
         ensures succeeds { ((value : V) → V.is_infallible value) → IsSome result }
     {
-        match self.value_under(Some(token), hash, query).clone() {
+        match self.shard.value_under(Some(token), hash, query).clone() {
             Ok(copy) => Some(copy),
             Err(_) => None,
         }

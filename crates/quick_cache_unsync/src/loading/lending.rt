@@ -1,11 +1,9 @@
 //! References to values that are there or that a loader makes, and guards of what is not there.
 ghost use Rattle.std.specs.Prelude.{◌≡◌, ◌≤◌, ◌+◌, IfOk, IfErr, Ok, true};
 ghost use Rattle.std.specs.Borrow.{sem, RestsIfErr};
-ghost use Rattle.quick_cache_model.specs.declared.refusal.Refusal.TheVariants.{Memory};
 ghost use Rattle.quick_cache_shard.specs.Shard.{IsSoundShard, KeepsWork};
 ghost use Rattle.quick_cache_unsync.specs.Loads.{answer_of};
 ghost use Rattle.quick_cache_unsync.specs.Touches.{no_touches};
-ghost use Rattle.quick_cache_unsync.specs.declared.loading.not_loaded.NotLoaded.TheVariants.{Refused};
 ghost use Rattle.quick_cache_unsync.specs.Steps.{LoadsWithin, TakesNone};
 
 use crate::cache::Cache;
@@ -26,9 +24,8 @@ impl<
     L: Lifecycle<K, V>,
     A: Allocator,
 > Cache<K, V, We, B, L, A> {
-    ghost use Rattle.quick_cache_unsync.specs.LentReads.{reader, read_from, asked_of};
-    ghost use Rattle.quick_cache_unsync.specs.LentValues.{lender, lent, query_of};
-    ghost use Rattle.quick_cache_unsync.specs.LentGuards.{ReadsOrTakes, reader_of, read_or_guarded, WritesOrTakes, lender_of, lent_or_guarded};
+    ghost use Rattle.quick_cache_unsync.specs.LentValues.{reader, read_from, asked_of, lender, lent, query_of};
+    ghost use Rattle.quick_cache_unsync.specs.LentGuards.{LendsOrTakes, lender_of, lent_or_guarded};
 
     /// A reference to the value under the query's key, to read: the item is looked up as by `get`.
     /// Where no item stands under it, calls the loader and puts its value in, with a request state
@@ -60,7 +57,7 @@ impl<
             (F.post loader) (Ok (Ok true)) (read_from r)) }
         // Where a key is had without fail, it asks for memory only where there is no room.
         ensures asks { Q.to_key_is_infallible query.now
-            → IfErr result (λ error. error ≡ Refused Memory → self.old.room ≡ 0) }
+            → IfErr result (λ error. error ≡ NotLoaded.Refused Refusal.Memory → self.old.room ≡ 0) }
         ensures lends { IfOk result (λ r. reader r ≡ self.entry.ghost_name) }
         ensures query { IfOk result (λ r. asked_of r ≡ query.now) }
         ensures sound { IfOk result (λ r. IsSoundShard K.eq (read_from r)) }
@@ -110,7 +107,7 @@ impl<
             (F.post loader) (Ok (Ok true)) (lent r)) }
         // Where a key is had without fail, it asks for memory only where there is no room.
         ensures asks { Q.to_key_is_infallible query.now
-            → IfErr result (λ error. error ≡ Refused Memory → self.old.room ≡ 0) }
+            → IfErr result (λ error. error ≡ NotLoaded.Refused Refusal.Memory → self.old.room ≡ 0) }
         ensures lends { IfOk result (λ r. lender r ≡ self.entry.ghost_name) }
         ensures query { IfOk result (λ r. query_of r ≡ query.now) }
         ensures sound { IfOk result (λ r. IsSoundShard K.eq (lent r)) }
@@ -143,23 +140,24 @@ impl<
     ) -> Result<Result<Ref<'a, Q, K, V, We, B, L, A>, Guard<'a, K, V, We, B, L, A>>, Refusal>
         requires stands { (key : K) → Q.to_key_gives query.now key
             → Q.equivalent query.now key ≡ true }
-        ensures* rests { sem 𝓛 (RestsIfErr ⟦<Self as Rowed>⟧.lender_row self.entry reader_of result
-            (λ new. IfErr result (λ refusal. TakesNone (Q.equivalent query.now)
-            (Q.to_key_gives query.now)
+        ensures* rests { sem 𝓛 (RestsIfErr ⟦<Self as Rowed>⟧.lender_row self.entry
+            (lender_of reader) result (λ new. IfErr result (λ refusal. TakesNone
+            (Q.equivalent query.now) (Q.to_key_gives query.now)
             (⟦<Self as Keyed>⟧.hash self.old.builder (Q.hash_input query.now))
             self.old refusal new))) }
-        ensures answers { IfOk result (λ given. ReadsOrTakes (Q.equivalent query.now)
-            (Q.to_key_gives query.now)
+        ensures answers { IfOk result (λ given. LendsOrTakes read_from asked_of
+            (Q.equivalent query.now) (Q.to_key_gives query.now)
             (⟦<Self as Keyed>⟧.hash self.old.builder (Q.hash_input query.now))
             query.now self.old.state given) }
-        ensures lends { IfOk result (λ given. reader_of given ≡ self.entry.ghost_name) }
+        ensures lends { IfOk result (λ given. lender_of reader given ≡ self.entry.ghost_name) }
         // It takes room for one entry at most, and where a key is had without fail it asks for memory
         // only where there is no room.
-        ensures room { IfOk result (λ given. self.old.room ≤ (read_or_guarded given).room + 1) }
+        ensures room { IfOk result
+            (λ given. self.old.room ≤ (lent_or_guarded read_from given).room + 1) }
         ensures asks { Q.to_key_is_infallible query.now
-            → IfErr result (λ refusal. refusal ≡ Memory → self.old.room ≡ 0) }
-        ensures same { IfOk result (λ given. KeepsWork self.old (read_or_guarded given)) }
-        ensures sound { IfOk result (λ given. IsSoundShard K.eq (read_or_guarded given)) }
+            → IfErr result (λ refusal. refusal ≡ Refusal.Memory → self.old.room ≡ 0) }
+        ensures same { IfOk result (λ given. KeepsWork self.old (lent_or_guarded read_from given)) }
+        ensures sound { IfOk result (λ given. IsSoundShard K.eq (lent_or_guarded read_from given)) }
     {
         let hash = self.hash_of(query);
         match self.begin_load(hash, query) {
@@ -193,23 +191,24 @@ impl<
     ) -> Result<Result<RefMut<'a, Q, K, V, We, B, L, A>, Guard<'a, K, V, We, B, L, A>>, Refusal>
         requires stands { (key : K) → Q.to_key_gives query.now key
             → Q.equivalent query.now key ≡ true }
-        ensures* rests { sem 𝓛 (RestsIfErr ⟦<Self as Rowed>⟧.lender_row self.entry lender_of result
-            (λ new. IfErr result (λ refusal. TakesNone (Q.equivalent query.now)
-            (Q.to_key_gives query.now)
+        ensures* rests { sem 𝓛 (RestsIfErr ⟦<Self as Rowed>⟧.lender_row self.entry
+            (lender_of lender) result (λ new. IfErr result (λ refusal. TakesNone
+            (Q.equivalent query.now) (Q.to_key_gives query.now)
             (⟦<Self as Keyed>⟧.hash self.old.builder (Q.hash_input query.now))
             self.old refusal new))) }
-        ensures answers { IfOk result (λ given. WritesOrTakes (Q.equivalent query.now)
-            (Q.to_key_gives query.now)
+        ensures answers { IfOk result (λ given. LendsOrTakes lent query_of
+            (Q.equivalent query.now) (Q.to_key_gives query.now)
             (⟦<Self as Keyed>⟧.hash self.old.builder (Q.hash_input query.now))
             query.now self.old.state given) }
-        ensures lends { IfOk result (λ given. lender_of given ≡ self.entry.ghost_name) }
+        ensures lends { IfOk result (λ given. lender_of lender given ≡ self.entry.ghost_name) }
         // It takes room for one entry at most, and where a key is had without fail it asks for memory
         // only where there is no room.
-        ensures room { IfOk result (λ given. self.old.room ≤ (lent_or_guarded given).room + 1) }
+        ensures room { IfOk result
+            (λ given. self.old.room ≤ (lent_or_guarded lent given).room + 1) }
         ensures asks { Q.to_key_is_infallible query.now
-            → IfErr result (λ refusal. refusal ≡ Memory → self.old.room ≡ 0) }
-        ensures same { IfOk result (λ given. KeepsWork self.old (lent_or_guarded given)) }
-        ensures sound { IfOk result (λ given. IsSoundShard K.eq (lent_or_guarded given)) }
+            → IfErr result (λ refusal. refusal ≡ Refusal.Memory → self.old.room ≡ 0) }
+        ensures same { IfOk result (λ given. KeepsWork self.old (lent_or_guarded lent given)) }
+        ensures sound { IfOk result (λ given. IsSoundShard K.eq (lent_or_guarded lent given)) }
     {
         let hash = self.hash_of(query);
         match self.begin_load(hash, query) {

@@ -1,6 +1,5 @@
 //! Values that a loader makes where there is none.
 ghost use Rattle.std.specs.Prelude.{◌≡◌, ◌<◌, ◌+◌, ◌≤◌, true, IfErr};
-ghost use Rattle.quick_cache_model.specs.declared.refusal.Refusal.TheVariants.{Memory};
 ghost use Rattle.quick_cache_model.specs.Hashing.{hash_of};
 ghost use Rattle.quick_cache_shard.specs.References.{count_under};
 ghost use Rattle.quick_cache_shard.specs.Shard.{IsSoundShard, KeepsTerms};
@@ -57,7 +56,7 @@ impl<
             self.old.state (λ placeholder. placeholder.ticket) result self.new.state }
         // Where a key is had without fail, it asks for memory only where there is no room.
         ensures asks { Q.to_key_is_infallible query.now
-            → IfErr result (λ refusal. refusal ≡ Memory → self.old.room ≡ 0) }
+            → IfErr result (λ refusal. refusal ≡ Refusal.Memory → self.old.room ≡ 0) }
         ensures stays { IdlesWithin K.eq 1 self.old self.new }
     {
         match self.shard.get_or_placeholder(&Plainly, hash, query) {
@@ -113,7 +112,7 @@ impl<
             L.RequestState.is_default (Q.equivalent query.now) (Q.to_key_gives query.now)
             hash (F.post loader) result.1 self.new }
         ensures asks { Q.to_key_is_infallible query.now
-            → IfErr result.1 (λ refusal. refusal ≡ Memory → self.old.room ≡ 0) }
+            → IfErr result.1 (λ refusal. refusal ≡ Refusal.Memory → self.old.room ≡ 0) }
         ensures there { OnResident result.1
             (0 < count_under (Q.equivalent query.now) self.new.state) }
         ensures stays { StaysWithin K.eq 1 self.old self.new }
@@ -154,7 +153,7 @@ impl<
         // only where there is no room.
         ensures room { self.old.room ≤ self.new.room + 1 }
         ensures asks { Q.to_key_is_infallible query.now
-            → IfErr result (λ refusal. refusal ≡ Memory → self.old.room ≡ 0) }
+            → IfErr result (λ refusal. refusal ≡ Refusal.Memory → self.old.room ≡ 0) }
         ensures same { KeepsTerms self.old self.new }
         ensures sound { IsSoundShard K.eq self.new }
     {

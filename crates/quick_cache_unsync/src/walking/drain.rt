@@ -4,7 +4,7 @@ ghost use Rattle.std.specs.Iterator.{at_most, UpTo};
 ghost use Rattle.std.specs.Iterator.SizeHint.{IsWithinCount};
 ghost use Rattle.quick_cache_shard.specs.Tokens.{TakesItem};
 ghost use Rattle.quick_cache_shard.specs.Stays.{IdlesWithin};
-ghost use Rattle.quick_cache_unsync.specs.CacheDrain.{drained, drain_lender, DrainsInAll};
+ghost use Rattle.quick_cache_unsync.specs.CacheDrain.{held, drain_rest, DrainsInAll};
 
 use crate::cache::Cache;
 use quick_cache_shard::Token;
@@ -23,10 +23,10 @@ pub struct Drain<'a, K: Eq + Hash, V, We, B: BuildHasher, L, A: Allocator = Glob
 
 impl<'a, K: Eq + Hash + Drop, V: Drop, We, B: BuildHasher, L, A: Allocator> Drop
     for Drain<'a, K, V, We, B, L, A> {
-    ghost use Rattle.quick_cache_unsync.specs.CacheDrain.{drained, emptied};
+    ghost use Rattle.quick_cache_unsync.specs.CacheDrain.{held, emptied};
 
     fn drop(self)
-        ensures { self.exit.0.now ≡ emptied (drained self.entry) }
+        ensures { self.exit.0.now ≡ emptied (held self.entry).now }
     {
         let Drain { cache, at: _ } = self;
         cache.clear();
@@ -36,13 +36,13 @@ impl<'a, K: Eq + Hash + Drop, V: Drop, We, B: BuildHasher, L, A: Allocator> Drop
 impl<'a, K: Eq + Hash + Drop, V: Drop, We, B: BuildHasher, L, A: Allocator> Iterator
     for Drain<'a, K, V, We, B, L, A> {
     ghost use Rattle.std.specs.Iterator.{item_count};
-    ghost use Rattle.quick_cache_unsync.specs.CacheDrain.{drain_rest, DrainSteps};
+    ghost use Rattle.quick_cache_unsync.specs.CacheDrain.{held, drain_rest, DrainSteps};
 
     type Item = (K, V);
 
-    ghost next_gives = { DrainSteps };
+    ghost next_gives = { DrainSteps held };
 
-    ghost remaining = { item_count drain_rest };
+    ghost remaining = { item_count (drain_rest held) };
 
     fn next(&mut self) -> Option<(K, V)> {
         let (token, pair) = self.cache.take_next(self.at)?;
@@ -51,11 +51,11 @@ impl<'a, K: Eq + Hash + Drop, V: Drop, We, B: BuildHasher, L, A: Allocator> Iter
     }
 
     fn size_hint(&self) -> (usize, Option<usize>)
-        ensures lower { IsWithinCount result.0 (at_most (length (drain_rest self.now))) }
-        ensures upper { IfSome result.1 (UpTo (at_most (length (drain_rest self.now)))) }
+        ensures lower { IsWithinCount result.0 (at_most (length (drain_rest held self.now))) }
+        ensures upper { IfSome result.1 (UpTo (at_most (length (drain_rest held self.now)))) }
         // It is exact.
         ensures exact { result
-            ≡ (length (drain_rest self.now), Some (length (drain_rest self.now))) }
+            ≡ (length (drain_rest held self.now), Some (length (drain_rest held self.now))) }
     {
         let left = self.cache.len();
         (left, Some(left))
@@ -104,9 +104,9 @@ impl<K: Eq + Hash, V, We, B: BuildHasher, L, A: Allocator> Cache<K, V, We, B, L,
     where
         K: Drop,
         V: Drop,
-        ensures begins { drained result ≡ self.old }
-        ensures same_reference { drain_lender result ≡ self.entry.ghost_name }
-        ensures gives { DrainsInAll result }
+        ensures begins { (held result).now ≡ self.old }
+        ensures same_reference { (held result).ghost_name ≡ self.entry.ghost_name }
+        ensures gives { DrainsInAll held result }
     {
         Drain {
             cache: self,

@@ -1,6 +1,5 @@
 //! The hottest items of a cache, by rings and marks.
 ghost use Rattle.std.specs.Prelude.{◌≡◌, ◌≤◌, ◌++◌, vec_len, take, map, IfOk, IfErr, OnOk};
-ghost use Rattle.quick_cache_model.specs.declared.refusal.Refusal.TheVariants.{Memory};
 ghost use Rattle.quick_cache_shard.specs.Shard.{shown};
 ghost use Rattle.quick_cache_unsync.specs.Hottest.{by_heat, by_mark, pairs_shown, ring_of, with_mark};
 
@@ -22,7 +21,7 @@ impl<K: Eq + Hash, V, We, B: BuildHasher, L, A: Allocator> Cache<K, V, We, B, L,
     pub fn hottest<O: Allocator>(&self, alloc: O, count: usize) -> Result<Vec<(&K, &V), O>, Refusal>
         ensures shows { IfOk result (λ list.
             pairs_shown list.items ≡ take count (by_heat self.now.state)) }
-        ensures refused { IfErr result (λ refusal. refusal ≡ Memory) }
+        ensures refused { IfErr result (λ refusal. refusal ≡ Refusal.Memory) }
     {
         let mut list = Vec::new(alloc);
         self.add_ring(&mut list, count, Queue::Hot)?;
@@ -41,7 +40,7 @@ impl<K: Eq + Hash, V, We, B: BuildHasher, L, A: Allocator> Cache<K, V, We, B, L,
         ensures adds { OnOk result (pairs_shown list.new.items ≡ take count
             (pairs_shown list.old.items ++ by_mark (map shown (ring_of self.now.state queue)))) }
         ensures within { OnOk result (vec_len list.new ≤ count) }
-        ensures refused { IfErr result (λ refusal. refusal ≡ Memory) }
+        ensures refused { IfErr result (λ refusal. refusal ≡ Refusal.Memory) }
     {
         add_marked(list, count, 3, self.ring(queue))?;
         add_marked(list, count, 2, self.ring(queue))?;
@@ -72,7 +71,7 @@ fn add_marked<'a, K: Eq + Hash, V, A: Allocator, O: Allocator>(
     ensures adds { OnOk result (pairs_shown list.new.items
         ≡ take count (pairs_shown list.old.items ++ with_mark mark ring.entry)) }
     ensures within { OnOk result (vec_len list.new ≤ count) }
-    ensures refused { IfErr result (λ refusal. refusal ≡ Memory) }
+    ensures refused { IfErr result (λ refusal. refusal ≡ Refusal.Memory) }
 {
     for (key, value, found) in ring {
         if found == mark {

@@ -1,7 +1,6 @@
 //! The items of a cache as they can be saved, and pairs that come back to where they stood.
 ghost use Rattle.std.specs.Prelude.{◌≡◌, ◌+◌, ◌≤◌, IfOk, IfErr, OnOk, Ok, Err, Some};
 ghost use Rattle.std.specs.Iterator.{IsFinite};
-ghost use Rattle.quick_cache_model.specs.declared.refusal.Refusal.TheVariants.{Memory};
 ghost use Rattle.quick_cache_shard.specs.Saved.{SavesAll};
 ghost use Rattle.quick_cache_shard.specs.Shard.{KeepsTerms, KeepsWork, made_with};
 ghost use Rattle.quick_cache_shard.specs.Steps.{RestoresBy};
@@ -130,7 +129,7 @@ impl<
         ensures restores { RestoresBy ⟦<Self as Going>⟧.goes no_touches self.old K.eq
             key value queue mark result self.new }
         // It takes room for one entry at most, and asks for memory only where there is no room.
-        ensures asks { IfErr result (λ back. back.2 ≡ Some Memory → self.old.room ≡ 0) }
+        ensures asks { IfErr result (λ back. back.2 ≡ Some Refusal.Memory → self.old.room ≡ 0) }
         ensures room { self.old.room ≤ self.new.room + 1 }
         ensures work { KeepsWork self.old self.new }
         ensures same { KeepsTerms self.old self.new }

@@ -1,9 +1,11 @@
 //! What loads answer, by one thread and by two.
-use quick_cache_guard::{EntryResult, FillError, GuardResult};
-use quick_cache_model::Refusal;
+use crate::by_threads::asking::{Call, answers};
+use crate::schedules::steps::{Step, Told};
+use quick_cache_guard::{EntryResult, GuardResult};
 use quick_cache_shard::EntryAction;
 use quick_cache_sync::Cache;
 use std::sync::Wait;
+use std::test::Fail;
 use std::thread::{join, yield_now};
 use std::time::{Clock, Duration};
 use test_tools::{expect, expect_eq, expect_ok};
@@ -28,125 +30,102 @@ fn outcome<R: Wait + Clock>(rt: &R, cache: &Numbers, key: u64, limit: Option<u64
     }
 }
 
-// What a loader gives: the value, or none where it is 0. The calls are counted.
-fn loaded<R: Wait>(
-    rt: &R,
-    cache: &Numbers,
-    calls: &mut u64,
-    value: u64,
-) -> Result<Result<u64, ()>, Refusal> {
-    cache.get_or_insert_with(rt, &4, || {
-        *calls = calls.saturating_add(1);
-        if value == 0 { Err(()) } else { Ok(value) }
-    })
-}
-
-// The same, and whether it is told that this call's loader gave the value.
-fn loaded_and_told<R: Wait>(
-    rt: &R,
-    cache: &Numbers,
-    calls: &mut u64,
-    value: u64,
-) -> Result<Result<(u64, bool), ()>, Refusal> {
-    let told = cache.get_or_insert_told(rt, &4, || {
-        *calls = calls.saturating_add(1);
-        if value == 0 { Err(()) } else { Ok(value) }
-    })?;
-    Ok(match told {
-        Ok(fetched) => Ok((fetched.value, fetched.loaded)),
-        Err(()) => Err(()),
-    })
+#[test]
+fn what_is_invalidated_is_not_stored_afterwards(rt: HostRuntime) -> Result<(), Fail> {
+    answers(
+        &rt,
+        100,
+        &[
+            (Call::Step(Step::Insert(1, 1)), Told::Done),
+            (Call::Step(Step::Insert(2, 2)), Told::Done),
+            (Call::Step(Step::Insert(3, 3)), Told::Done),
+            (Call::Step(Step::Insert(4, 4)), Told::Done),
+            (Call::Step(Step::Insert(5, 5)), Told::Done),
+            (Call::Step(Step::Insert(6, 6)), Told::Done),
+            (Call::Step(Step::Ask(9)), Told::Guard),
+            (Call::Step(Step::Ask(8)), Told::Guard),
+            // Three items and a load.
+            (Call::InvalidateEven, Told::Count(4)),
+            (Call::Step(Step::Fill(1, 80)), Told::Gone(80)),
+            (Call::Step(Step::Fill(0, 90)), Told::Done),
+            (Call::Step(Step::Count), Told::Count(4)),
+            (Call::Step(Step::Get(5)), Told::Value(5)),
+            (Call::Step(Step::Get(9)), Told::Value(90)),
+        ],
+    )
 }
 
 #[test]
-fn what_is_invalidated_is_not_stored_afterwards(rt: HostRuntime) {
-    let cache: Numbers = expect_ok!(rt; Cache::new(rt.alloc(), 100));
-    for key in 1..7 {
-        expect_eq!(rt; cache.put(&rt, key, key), Ok(()));
-    }
-    let (GuardResult::Guard(even), GuardResult::Guard(odd)) = (
-        cache.get_value_or_guard(&rt, &8, None),
-        cache.get_value_or_guard(&rt, &9, None),
-    ) else {
-        panic!(rt; "the keys are absent");
-    };
-    // Three items and a load.
-    expect_eq!(rt; cache.invalidate_if(&rt, |key| *key % 2 == 0), 4);
-    expect!(rt; matches!(even.insert(80), Err(FillError::Gone(80))));
-    expect!(rt; odd.insert(90).is_ok());
-    let left = (1..10u64)
-        .filter(|key| cache.contains_key(&rt, key))
-        .count();
-    expect_eq!(rt; (left, cache.get(&rt, &9)), (4, Ok(Some(90))));
-}
-
-#[test]
-fn each_load_of_a_shard_is_invalidated(rt: HostRuntime) {
+fn each_load_of_a_shard_is_invalidated(rt: HostRuntime) -> Result<(), Fail> {
     // All keys of so small a cache have one shard.
-    let cache: Numbers = expect_ok!(rt; Cache::new(rt.alloc(), 8));
-    let (GuardResult::Guard(first), GuardResult::Guard(other), GuardResult::Guard(last)) = (
-        cache.get_value_or_guard(&rt, &2, None),
-        cache.get_value_or_guard(&rt, &3, None),
-        cache.get_value_or_guard(&rt, &4, None),
-    ) else {
-        panic!(rt; "the keys are absent");
-    };
-    expect_eq!(rt; cache.invalidate_if(&rt, |key| *key % 2 == 0), 2);
-    let stored = [
-        first.insert(20).is_ok(),
-        other.insert(30).is_ok(),
-        last.insert(40).is_ok(),
-    ];
-    expect_eq!(rt; stored, [false, true, false]);
-    expect_eq!(rt; cache.len(&rt), 1);
+    answers(
+        &rt,
+        8,
+        &[
+            (Call::Step(Step::Ask(4)), Told::Guard),
+            (Call::Step(Step::Ask(3)), Told::Guard),
+            (Call::Step(Step::Ask(2)), Told::Guard),
+            (Call::InvalidateEven, Told::Count(2)),
+            (Call::Step(Step::Fill(2, 20)), Told::Gone(20)),
+            (Call::Step(Step::Fill(1, 30)), Told::Done),
+            (Call::Step(Step::Fill(0, 40)), Told::Gone(40)),
+            (Call::Step(Step::Count), Told::Count(1)),
+        ],
+    )
 }
 
 #[test]
-fn the_loader_is_called_until_it_gives_a_value(rt: HostRuntime) {
-    let cache: Numbers = expect_ok!(rt; Cache::new(rt.alloc(), 100));
-    let mut calls = 0;
-    expect_eq!(rt; loaded(&rt, &cache, &mut calls, 0), Ok(Err(())));
-    expect_eq!(rt; loaded(&rt, &cache, &mut calls, 4), Ok(Ok(4)));
-    expect_eq!(rt; loaded(&rt, &cache, &mut calls, 5), Ok(Ok(4)));
-    expect_eq!(rt; outcome(&rt, &cache, 4, None), 4);
-    expect_eq!(rt; (calls, cache.hits(&rt), cache.misses(&rt)), (2, 2, 2));
+fn the_loader_is_called_until_it_gives_a_value(rt: HostRuntime) -> Result<(), Fail> {
+    answers(
+        &rt,
+        100,
+        &[
+            (Call::Load(4, 0), Told::Failed),
+            (Call::Load(4, 4), Told::Loaded(4)),
+            (Call::Load(4, 5), Told::Value(4)),
+            (Call::Step(Step::Ask(4)), Told::Value(4)),
+            (Call::Hits, Told::Count(2)),
+            (Call::Misses, Told::Count(2)),
+        ],
+    )
 }
 
 #[test]
-fn who_loads_is_told_whether_its_loader_gave_the_value(rt: HostRuntime) {
-    let cache: Numbers = expect_ok!(rt; Cache::new(rt.alloc(), 100));
-    let mut calls = 0;
-    expect_eq!(rt; loaded_and_told(&rt, &cache, &mut calls, 0), Ok(Err(())));
-    expect_eq!(rt; loaded_and_told(&rt, &cache, &mut calls, 4), Ok(Ok((4, true))));
-    expect_eq!(rt; loaded_and_told(&rt, &cache, &mut calls, 5), Ok(Ok((4, false))));
-    expect_eq!(rt; calls, 2);
+fn who_loads_is_told_whether_its_loader_gave_the_value(rt: HostRuntime) -> Result<(), Fail> {
+    answers(
+        &rt,
+        100,
+        &[
+            (Call::LoadTold(4, 0), Told::Failed),
+            (Call::LoadTold(4, 4), Told::Loaded(4)),
+            (Call::LoadTold(4, 5), Told::Value(4)),
+        ],
+    )
 }
 
 #[test]
-fn a_guard_whose_placeholder_left_is_gone(rt: HostRuntime) {
+fn a_guard_whose_placeholder_left_is_gone(rt: HostRuntime) -> Result<(), Fail> {
     // All keys of so small a cache have one shard.
-    let cache: Numbers = expect_ok!(rt; Cache::new(rt.alloc(), 8));
-    let GuardResult::Guard(guard) = cache.get_value_or_guard(&rt, &1, None) else {
-        panic!(rt; "the key is absent");
-    };
-    cache.clear(&rt);
-    // The other key comes to the slot that the placeholder had.
-    expect_eq!(rt; cache.insert(&rt, 2, 22), Ok(()));
-    expect!(rt; matches!(guard.insert(5), Err(FillError::Gone(5))));
-    expect_eq!(rt;
-        (expect_ok!(rt; cache.get(&rt, &1)), expect_ok!(rt; cache.get(&rt, &2))),
-        (None, Some(22))
-    );
-    let GuardResult::Guard(guard) = cache.get_value_or_guard(&rt, &1, None) else {
-        panic!(rt; "the key is absent");
-    };
-    expect_eq!(rt; cache.insert(&rt, 1, 3), Ok(()));
-    // Dropped or filled, a guard whose placeholder is gone leaves what stands under its key.
-    drop(guard);
-    expect_eq!(rt;
-        (expect_ok!(rt; cache.get(&rt, &1)), cache.len(&rt), cache.misses(&rt)),
-        (Some(3), 2, 3)
-    );
+    answers(
+        &rt,
+        8,
+        &[
+            (Call::Step(Step::Ask(1)), Told::Guard),
+            (Call::Step(Step::Clear), Told::Done),
+            // The other key comes to the slot that the placeholder had.
+            (Call::Step(Step::Insert(2, 22)), Told::Done),
+            (Call::Step(Step::Fill(0, 5)), Told::Gone(5)),
+            (Call::Step(Step::Get(1)), Told::Nothing),
+            (Call::Step(Step::Get(2)), Told::Value(22)),
+            (Call::Step(Step::Ask(1)), Told::Guard),
+            (Call::Step(Step::Insert(1, 3)), Told::Done),
+            // Dropped or filled, a guard whose placeholder is gone leaves what stands under its key.
+            (Call::Step(Step::LetGo(0)), Told::Done),
+            (Call::Step(Step::Get(1)), Told::Value(3)),
+            (Call::Step(Step::Count), Told::Count(2)),
+            (Call::Misses, Told::Count(3)),
+        ],
+    )
 }
 
 // Lets others go on until so many hits are counted: each who meets the placeholder counts one.

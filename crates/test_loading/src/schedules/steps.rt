@@ -33,6 +33,8 @@ pub enum Told {
     Nothing,
     Done,
     Value(u64),
+    /// A value that this call's own loader gave.
+    Loaded(u64),
     Guard,
     Timeout,
     Retained(u64),

@@ -1,12 +1,13 @@
 //! Readers of one shard: they look keys up side by side, and what they count is shown and taken in.
 ghost use Rattle.std.specs.Prelude.{⊤};
 
+use crate::asked::{Ask, Said, answers};
 use quick_cache::sync::Cache;
 use std::alloc::AllocError;
 use std::sync::atomic::AtomicU64;
 use std::thread::join;
 use test_parts::meeting::raise_and_meet;
-use test_tools::{expect, expect_eq, expect_ok};
+use test_tools::{expect, expect_ok};
 
 /// A value whose clone raises a flag, and waits for another one's.
 #[derive(Drop)]
@@ -51,17 +52,32 @@ fn readers_of_one_shard_overlap(rt: HostRuntime) {
     }
 }
 
+/// Ten pairs fill a cache. The last is the only cold one, so it is the first that goes where nobody reads
+/// it.
+const TEN_PAIRS: [(Ask, Said); 10] = [
+    (Ask::Insert(1, 1), Said::Done),
+    (Ask::Insert(2, 2), Said::Done),
+    (Ask::Insert(3, 3), Said::Done),
+    (Ask::Insert(4, 4), Said::Done),
+    (Ask::Insert(5, 5), Said::Done),
+    (Ask::Insert(6, 6), Said::Done),
+    (Ask::Insert(7, 7), Said::Done),
+    (Ask::Insert(8, 8), Said::Done),
+    (Ask::Insert(9, 9), Said::Done),
+    (Ask::Insert(10, 10), Said::Done),
+];
+
 #[test]
 fn what_readers_count_is_shown_and_taken_in(rt: HostRuntime) {
     let cache: Cache<u64, u64> = expect_ok!(rt; Cache::new(rt.alloc(), 10));
     let unread: Cache<u64, u64> = expect_ok!(rt; Cache::new(rt.alloc(), 10));
-    for key in 1..11 {
-        expect_eq!(rt; cache.insert(&rt, key, key), Ok(()));
-        expect_eq!(rt; unread.insert(&rt, key, key), Ok(()));
-    }
-    // The last item is the only cold one, so it is the first that goes where nobody reads it.
-    expect_eq!(rt; unread.insert(&rt, 11, 11), Ok(()));
-    expect!(rt; !unread.contains_key(&rt, &10));
+    answers(&rt, &unread, &TEN_PAIRS);
+    let eleventh = [
+        (Ask::Insert(11, 11), Said::Done),
+        (Ask::Contains(10), Said::Is(false)),
+    ];
+    answers(&rt, &unread, &eleventh);
+    answers(&rt, &cache, &TEN_PAIRS);
     let shared = &cache;
     let (first, second) = join(
         &rt,
@@ -70,16 +86,22 @@ fn what_readers_count_is_shown_and_taken_in(rt: HostRuntime) {
             && shared.get(&rt, &10).is_ok(),
     );
     expect!(rt; first && second);
-    let reads = cache.item_stats(&rt, &10).map(|stats| stats.access_count);
-    expect_eq!(rt; reads, Some(51));
-    expect_eq!(rt; (cache.hits(&rt), cache.misses(&rt)), (51, 50));
-    // Where it was read it is promoted, and the first hot one, which was not read, goes.
-    expect_eq!(rt; cache.insert(&rt, 11, 11), Ok(()));
-    expect_eq!(rt; cache.peek(&rt, &10), Ok(Some(10)));
-    expect!(rt; !cache.contains_key(&rt, &1));
-    expect!(rt; cache.contains_key(&rt, &11));
-    // What was taken in is counted once.
-    let reads = cache.item_stats(&rt, &10).map(|stats| stats.access_count);
-    expect_eq!(rt; reads, Some(51));
-    expect_eq!(rt; (cache.hits(&rt), cache.misses(&rt)), (51, 50));
+    answers(
+        &rt,
+        &cache,
+        &[
+            (Ask::Reads(10), Said::Count(51)),
+            (Ask::Hits, Said::Count(51)),
+            (Ask::Misses, Said::Count(50)),
+            // Where it was read it is promoted, and the first hot one, which was not read, goes.
+            (Ask::Insert(11, 11), Said::Done),
+            (Ask::Peek(10), Said::Value(10)),
+            (Ask::Contains(1), Said::Is(false)),
+            (Ask::Contains(11), Said::Is(true)),
+            // What was taken in is counted once.
+            (Ask::Reads(10), Said::Count(51)),
+            (Ask::Hits, Said::Count(51)),
+            (Ask::Misses, Said::Count(50)),
+        ],
+    );
 }

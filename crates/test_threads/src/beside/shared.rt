@@ -1,4 +1,5 @@
 //! What one thread writes another reads, and what leaves with a call.
+use crate::asked::{Ask, Said, answers};
 use quick_cache::sync::{Cache, DefaultLifecycle};
 use quick_cache::{DefaultHashBuilder, UnitWeighter, Weighter, unsync};
 use std::thread::join;
@@ -46,17 +47,26 @@ impl Weighter<u64, u64> for ByValue {
 fn the_first_two_pairs_that_leave_are_kept(rt: HostRuntime) {
     let cache: Cache<u64, u64, ByValue> =
         expect_ok!(rt; Cache::with_weighter(rt.alloc(), 10, 10, ByValue));
-    expect_eq!(rt; cache.insert(&rt, 1, 4), Ok(()));
-    expect_eq!(rt; cache.insert(&rt, 2, 3), Ok(()));
-    expect_eq!(rt; cache.insert(&rt, 3, 3), Ok(()));
+    let three = [
+        (Ask::Insert(1, 4), Said::Done),
+        (Ask::Insert(2, 3), Said::Done),
+        (Ask::Insert(3, 3), Said::Done),
+    ];
+    answers(&rt, &cache, &three);
     let mut gone = [None, None];
-    expect_eq!(rt; cache.insert_with_lifecycle(&rt, 4, 9, &mut gone), Ok(()));
+    let inserted = cache.insert_with_lifecycle(&rt, 4, 9, &mut gone);
     // The cold one goes first, and then the hot ones: the last of the three is dropped.
-    expect_eq!(rt; gone, [Some((3, 3)), Some((1, 4))]);
-    for key in 1..4 {
-        expect_eq!(rt; cache.get(&rt, &key), Ok(None));
-    }
-    expect_eq!(rt; cache.get(&rt, &4), Ok(Some(9)));
+    expect_eq!(rt; (inserted, gone), (Ok(()), [Some((3, 3)), Some((1, 4))]));
+    answers(
+        &rt,
+        &cache,
+        &[
+            (Ask::Get(1), Said::Nothing),
+            (Ask::Get(2), Said::Nothing),
+            (Ask::Get(3), Said::Nothing),
+            (Ask::Get(4), Said::Value(9)),
+        ],
+    );
 }
 
 #[test]
@@ -72,24 +82,16 @@ fn a_new_cache_holds_as_much_as_it_is_made_for(rt: HostRuntime) {
         DefaultHashBuilder::new(),
         DefaultLifecycle::new(),
     ));
-    for key in 1..4 {
-        expect_eq!(rt; cache.insert(&rt, key, key), Ok(()));
-        expect_eq!(rt; weighted.insert(&rt, key, 3), Ok(()));
-        expect_eq!(rt; whole.insert(&rt, key, key), Ok(()));
-    }
-    let mut counts = (0u64, 0u64, 0u64);
-    for key in 1..4 {
-        counts.0 = counts
-            .0
-            .saturating_add(u64::from(expect_ok!(rt; cache.get(&rt, &key)).is_some()));
-        counts.1 = counts.1.saturating_add(u64::from(
-            expect_ok!(rt; weighted.get(&rt, &key)).is_some(),
-        ));
-        counts.2 = counts
-            .2
-            .saturating_add(u64::from(expect_ok!(rt; whole.get(&rt, &key)).is_some()));
-    }
-    expect_eq!(rt; counts, (2, 3, 2));
+    let pairs = [
+        (Ask::Insert(1, 3), Said::Done),
+        (Ask::Insert(2, 3), Said::Done),
+        (Ask::Insert(3, 3), Said::Done),
+    ];
+    answers(&rt, &cache, &pairs);
+    answers(&rt, &weighted, &pairs);
+    answers(&rt, &whole, &pairs);
+    let lengths = [cache.len(&rt), weighted.len(&rt), whole.len(&rt)];
+    expect_eq!(rt; lengths, [2, 3, 2]);
     let text =
         expect_ok!(rt; format!(in rt.alloc(); "{cache:?}, {:?}", DefaultLifecycle::<u64, u64>::new()));
     expect_eq!(rt; text.as_str(), "Cache { .. }, DefaultLifecycle");

@@ -11,6 +11,7 @@ use std::sync::Wait;
 use std::sync::ledger::{Blank, Ledger};
 use std::test::Fail;
 use std::thread::{Threads, join};
+use test_tools::expect;
 
 /// A cache of numbers, with the list of its calls.
 pub type Numbers<G> = Traced<
@@ -178,7 +179,7 @@ pub fn is_replayed(alloc: Global, items: usize, history: History) -> Result<bool
 #[test]
 fn the_history_of_a_service_is_replayed(rt: HostRuntime) -> Result<(), Fail> {
     let history = asked_by_two::<Brand, _>(&rt, rt.alloc(), Blank::new(PARTS))?;
-    assert!(rt; history.len() > 600);
-    assert!(rt; is_replayed(rt.alloc(), 20, history)?);
+    expect!(rt; history.len() > 600);
+    expect!(rt; is_replayed(rt.alloc(), 20, history)?);
     Ok(())
 }

@@ -106,8 +106,8 @@ fn one_call<G: Ledger, R: Wait>(
     Ok((TraceCall::Remove(key), Reply::Pair(taken)))
 }
 
-/// Makes a thousand calls, on even keys or, with one more, on odd ones, and keeps their answers.
-fn a_thousand<G: Ledger, R: Wait>(
+/// Makes 35,000 calls, on even keys or, with one more, on odd ones, and keeps their answers.
+fn many_calls<G: Ledger, R: Wait>(
     rt: &R,
     alloc: Global,
     traced: &Numbers<G>,
@@ -115,7 +115,7 @@ fn a_thousand<G: Ledger, R: Wait>(
     more: u64,
 ) -> Result<(Seat<G>, History), Refusal> {
     let mut history: History = Vec::new(alloc);
-    for turn in 0..1000u64 {
+    for turn in 0..35000u64 {
         let key = (turn / 3 % 50 * 2).saturating_add(more);
         let entry = one_call(rt, traced, &mut seat, key, turn)?;
         let Ok(()) = history.push(entry) else {
@@ -127,7 +127,7 @@ fn a_thousand<G: Ledger, R: Wait>(
 
 /// What two threads did and were answered, the one on even keys and the other on odd ones, and the
 /// history that was gathered.
-fn two_thousand<G: Ledger + Send + Sync, R: Threads + Wait + Sync>(
+fn made_by_two<G: Ledger + Send + Sync, R: Threads + Wait + Sync>(
     rt: &R,
     alloc: Global,
     blank: Blank,
@@ -143,8 +143,8 @@ fn two_thousand<G: Ledger + Send + Sync, R: Threads + Wait + Sync>(
     let shared = &traced;
     let (even, odd) = join(
         rt,
-        move || a_thousand(rt, alloc, shared, first, 0),
-        move || a_thousand(rt, alloc, shared, second, 1),
+        move || many_calls(rt, alloc, shared, first, 0),
+        move || many_calls(rt, alloc, shared, second, 1),
     );
     let (first, even) = even?;
     let (second, odd) = odd?;
@@ -163,9 +163,9 @@ fn is_odd(call: &TraceCall<u64, u64>) -> bool {
 
 #[test]
 fn a_history_has_the_calls_of_each_thread_in_its_order(rt: HostRuntime) -> Result<(), Fail> {
-    let made = two_thousand::<Brand, _>(&rt, rt.alloc(), Blank::new(PARTS))?;
+    let made = made_by_two::<Brand, _>(&rt, rt.alloc(), Blank::new(PARTS))?;
     let (even, odd, history) = made;
-    expect_eq!(rt; history.len(), 2000);
+    expect_eq!(rt; history.len(), 70000);
     let evens = history.iter().filter(|entry| !is_odd(&entry.0));
     expect!(rt; evens.eq(even.iter()));
     let odds = history.iter().filter(|entry| is_odd(&entry.0));

@@ -3,7 +3,7 @@ use Rattle.std.specs.Prelude.{nat_eq}
 use Rattle.quick_cache_model.specs.CacheState.{Item, UpToOrder}
 use Rattle.quick_cache_model.specs.Lookups.{Sees, LooksUp}
 use Rattle.quick_cache_model.specs.CacheStep.{CacheStep}
-use Rattle.quick_cache_model.specs.declared.calls.call.Call.TheVariants as call
+use Rattle.quick_cache_model.specs.declared.calls.call.Call.{Call}
 use Rattle.quick_cache_model.proofs.ShownLemmas.{IsShown-itself}
 use Rattle.qcrun_parts.proofs.calls.make_call.Goals as goal
 
@@ -18,7 +18,7 @@ returns-in-Get-clause-serves g c =
     record {
       calls = [];
       holds = rw c.in-Get.is (
-        call.Get c.in-Get.key,
+        Call.Get c.in-Get.key,
         refl,
         (
           CacheStep.gets c.in-Get.key c.copied.result c.copied.result _ looks
@@ -39,7 +39,7 @@ returns-in-Peek-clause-serves g c =
     record {
       calls = [];
       holds = rw c.in-Peek.is (
-        call.Peek c.in-Peek.key,
+        Call.Peek c.in-Peek.key,
         refl,
         (CacheStep.peeks c.in-Peek.key found found sees (IsShown-itself found), tt),
       );
@@ -50,7 +50,7 @@ pub returns-in-Remove-clause-serves : goal.returns-in-Remove-clause-serves
 returns-in-Remove-clause-serves g c = record {
   calls = [];
   holds = rw c.in-Remove.is (
-    call.Remove c.in-Remove.key,
+    Call.Remove c.in-Remove.key,
     refl,
     (CacheStep.removes c.in-Remove.key c.remove.result _ c.remove.ensures.removes, tt),
   );
@@ -61,7 +61,7 @@ pub returns-in-RemoveIf-clause-serves : goal.returns-in-RemoveIf-clause-serves
 returns-in-RemoveIf-clause-serves g c = record {
   calls = [];
   holds = rw c.in-RemoveIf.is (
-    call.RemoveIf c.in-RemoveIf.key c.in-RemoveIf.value,
+    Call.RemoveIf c.in-RemoveIf.key c.in-RemoveIf.value,
     refl,
     (
       CacheStep.removes_if c.in-RemoveIf.key c.in-RemoveIf.value c.remove_value.result _
@@ -79,7 +79,7 @@ returns-in-Set-clause-serves g c =
     record {
       calls = [];
       holds = rw c.in-Set.is (
-        call.GetMut c.in-Set.key c.in-Set.value,
+        Call.GetMut c.in-Set.key c.in-Set.value,
         refl,
         (
           CacheStep.gets_mut c.in-Set.key c.in-Set.value sets.found c.set.result sets.mid _
@@ -94,7 +94,7 @@ pub returns-in-Poke-clause-serves : goal.returns-in-Poke-clause-serves
 returns-in-Poke-clause-serves g c = record {
   calls = [];
   holds = rw c.in-Poke.is (
-    call.PeekMut c.in-Poke.key c.in-Poke.value,
+    Call.PeekMut c.in-Poke.key c.in-Poke.value,
     refl,
     (
       CacheStep.peeks_mut c.in-Poke.key c.in-Poke.value c.poke.result _ c.poke.ensures.writes,
@@ -108,7 +108,7 @@ pub returns-in-Stats-clause-serves : goal.returns-in-Stats-clause-serves
 returns-in-Stats-clause-serves g c = record {
   calls = [];
   holds = rw c.in-Stats.is (
-    call.Stats c.in-Stats.key,
+    Call.Stats c.in-Stats.key,
     refl,
     (CacheStep.tells_reads c.in-Stats.key c.reads.result c.reads.ensures.sees, tt),
   );
@@ -118,7 +118,7 @@ returns-in-Stats-clause-serves g c = record {
 pub returns-in-Clear-clause-serves : goal.returns-in-Clear-clause-serves
 returns-in-Clear-clause-serves g c = record {
   calls = [];
-  holds = rw c.in-Clear.is (rw c.clear.ensures.clears (call.Clear, refl, (CacheStep.clears, tt)));
+  holds = rw c.in-Clear.is (rw c.clear.ensures.clears (Call.Clear, refl, (CacheStep.clears, tt)));
   runs = refl;
 }
 
@@ -129,7 +129,7 @@ returns-in-Capacity-clause-serves g c =
     record {
       calls = set.calls;
       holds = rw c.in-Capacity.is (
-        call.SetCapacity c.in-Capacity.weight,
+        Call.SetCapacity c.in-Capacity.weight,
         refl,
         (CacheStep.sets_capacity c.in-Capacity.weight set.calls _ (set.holds.0 tt), tt),
       );
@@ -139,6 +139,6 @@ returns-in-Capacity-clause-serves g c =
 pub returns-in-Hits-clause-serves : goal.returns-in-Hits-clause-serves
 returns-in-Hits-clause-serves g c = record {
   calls = [];
-  holds = rw c.in-Hits.is (rw c.count.ensures (call.Counts, refl, (CacheStep.counts, tt)));
+  holds = rw c.in-Hits.is (rw c.count.ensures (Call.Counts, refl, (CacheStep.counts, tt)));
   runs = refl;
 }

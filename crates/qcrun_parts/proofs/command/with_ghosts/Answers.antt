@@ -1,8 +1,8 @@
 use Rattle.std.proofs.Common.{ℕ, List, [], ◌∷◌, None, Some, sym, ap, subst, ◌∙◌, arith}
 use Rattle.std.proofs.lemmas.Str.Pattern.{split_parts}
 use Rattle.qcrun_parts.specs.Commands.{HasGhosts, HasNumbers}
-use Rattle.qcrun_parts.proofs.CommandLemmas.{IsOkExactly-as, IsOkExactly-err, AreNumbers-one}
-use Rattle.qcrun_parts.proofs.CommandLemmas.{AreNumbers-of_one, HasGhosts-mark, HasGhosts-of_mark}
+use Rattle.qcrun_parts.proofs.CommandLemmas.{IsOkExactly-as, IsOkExactly-err, AreNumbers-one, AreNumbers-of_one, HasGhosts-mark}
+use Rattle.qcrun_parts.proofs.CommandLemmas.{HasGhosts-of_mark}
 use Rattle.qcrun_parts.proofs.command.with_ghosts.Goals as goal
 
 -- one word more is no number

@@ -1,9 +1,8 @@
 use Rattle.std.proofs.Common.{ℕ, List, [], ◌∷◌, None, Some, refl, sym, ap, subst, ◌∙◌, arith}
 use Rattle.std.proofs.lemmas.Str.Pattern.{split_parts}
 use Rattle.qcrun_parts.specs.Commands.{HasGhosts, HasMore, HasNumbers}
-use Rattle.qcrun_parts.proofs.CommandLemmas.{IsOkExactly-as, IsOkExactly-err, AreNumbers-one}
-use Rattle.qcrun_parts.proofs.CommandLemmas.{AreNumbers-of_one, HasMore-second, HasMore-not_two}
-use Rattle.qcrun_parts.proofs.CommandLemmas.{HasMore-shares, HasMore-of_shares}
+use Rattle.qcrun_parts.proofs.CommandLemmas.{IsOkExactly-as, IsOkExactly-err, AreNumbers-one, AreNumbers-of_one, HasMore-second}
+use Rattle.qcrun_parts.proofs.CommandLemmas.{HasMore-not_two, HasMore-shares, HasMore-of_shares}
 use Rattle.qcrun_parts.proofs.command.with_more.Goals as goal
 
 -- one word more is no number

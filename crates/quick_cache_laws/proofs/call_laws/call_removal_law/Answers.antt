@@ -1,5 +1,5 @@
 use Rattle.std.proofs.Common.{ap, ◌∙◌}
-use Rattle.quick_cache_model.specs.declared.calls.reply.Reply.TheVariants.{Pair}
+use Rattle.quick_cache_model.specs.declared.calls.reply.Reply.{Reply}
 use Rattle.quick_cache_laws.proofs.CallWrites.{equal_both}
 use Rattle.quick_cache_laws.proofs.StepParts.{remove_of, retain_of}
 use Rattle.quick_cache_laws.proofs.call_laws.call_removal_law.Goals as goal
@@ -9,7 +9,7 @@ returns-clause-removes g c = λ hash weight pinned answers old mid new key first
     valid one two.
     let a = remove_of _ _ _ _ answers old key first calls mid one in
     let b = remove_of _ _ _ _ answers mid key second more new two in
-    b.1 ∙ ap Pair (c.removal_law.ensures.again _ (hash key) old mid new a.0 b.0
+    b.1 ∙ ap Reply.Pair (c.removal_law.ensures.again _ (hash key) old mid new a.0 b.0
     (equal_both _ g.met.K.Eq.laws key) valid a.2 b.2)
 
 pub returns-clause-retains : goal.returns-clause-retains

@@ -1,8 +1,6 @@
-use Rattle.quick_cache_laws.proofs.CanBeMade.Lookups.{Placeholder-exists, LooksUp-exists}
-use Rattle.quick_cache_laws.proofs.CanBeMade.Lookups.{Removes-exists}
+use Rattle.quick_cache_laws.proofs.CanBeMade.Lookups.{Placeholder-exists, LooksUp-exists, Removes-exists}
 use Rattle.quick_cache_laws.proofs.CanBeMade.EntryCalls.{ActsOnEntry-exists}
-use Rattle.quick_cache_laws.proofs.CanBeMade.Writes.{Writes-ends, FillsPlaceholder-ends}
-use Rattle.quick_cache_laws.proofs.CanBeMade.Writes.{SetsCapacity-ends}
+use Rattle.quick_cache_laws.proofs.CanBeMade.Writes.{Writes-ends, FillsPlaceholder-ends, SetsCapacity-ends}
 use Rattle.quick_cache_laws.proofs.laws.call_law.Goals as goal
 
 pub returns-clause-writes : goal.returns-clause-writes

@@ -1,7 +1,6 @@
 use Rattle.quick_cache_laws.proofs.Eviction.OneOutcome.{one_eviction_to_capacity}
 use Rattle.quick_cache_model.proofs.Eviction.Keys.{EvictsToCapacity-keys}
-use Rattle.quick_cache_laws.proofs.Eviction.PinnedPairs.{EvictsToCapacity-still}
-use Rattle.quick_cache_laws.proofs.Eviction.PinnedPairs.{EvictsToCapacity-pairs}
+use Rattle.quick_cache_laws.proofs.Eviction.PinnedPairs.{EvictsToCapacity-still, EvictsToCapacity-pairs}
 use Rattle.quick_cache_laws.proofs.Eviction.Measure.{AdvancesCold-measure}
 use Rattle.quick_cache_laws.proofs.CanBeMade.Evictions.{EvictsToCapacity-ends}
 use Rattle.quick_cache_laws.proofs.Eviction.Room.{EvictsToCapacity-makes_room}

@@ -1,5 +1,4 @@
-use Rattle.quick_cache_laws.proofs.Calls.MoreTouches.{Writes-more, FillsPlaceholder-more}
-use Rattle.quick_cache_laws.proofs.Calls.MoreTouches.{SetsCapacity-more}
+use Rattle.quick_cache_laws.proofs.Calls.MoreTouches.{Writes-more, FillsPlaceholder-more, SetsCapacity-more}
 use Rattle.quick_cache_laws.proofs.laws.shared_law.Goals as goal
 
 pub returns-clause-writes : goal.returns-clause-writes

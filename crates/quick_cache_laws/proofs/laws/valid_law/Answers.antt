@@ -2,12 +2,9 @@ use Rattle.quick_cache_model.proofs.Valid.Orders.{SameButOrder-valid}
 use Rattle.quick_cache_model.proofs.Valid.States.{empty_state-valid, SetsCapacity-valid}
 use Rattle.quick_cache_model.proofs.Valid.Edits.{cleared-valid}
 use Rattle.quick_cache_model.proofs.Valid.Writes.{Writes-valid}
-use Rattle.quick_cache_model.proofs.Valid.Placeholders.{MakesPlaceholder-valid}
-use Rattle.quick_cache_model.proofs.Valid.Placeholders.{MeetsPlaceholder-valid}
-use Rattle.quick_cache_model.proofs.Valid.Placeholders.{FillsPlaceholder-valid}
+use Rattle.quick_cache_model.proofs.Valid.Placeholders.{MakesPlaceholder-valid, MeetsPlaceholder-valid, FillsPlaceholder-valid}
 use Rattle.quick_cache_model.proofs.Valid.Placeholders.{GivesUpPlaceholder-valid}
-use Rattle.quick_cache_model.proofs.Valid.Lookups.{LooksUp-valid, Removes-valid, RemovesIf-valid}
-use Rattle.quick_cache_model.proofs.Valid.Lookups.{Retains-valid, ActsOnEntry-valid}
+use Rattle.quick_cache_model.proofs.Valid.Lookups.{LooksUp-valid, Removes-valid, RemovesIf-valid, Retains-valid, ActsOnEntry-valid}
 use Rattle.quick_cache_laws.proofs.Steps.Valid.{Steps-valid, reweighed_there-valid}
 use Rattle.quick_cache_laws.proofs.laws.valid_law.Goals as goal
 

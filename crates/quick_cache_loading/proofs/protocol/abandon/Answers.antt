@@ -1,15 +1,16 @@
 use Rattle.std.proofs.Common.{arith}
 use Rattle.quick_cache_loading.proofs.CasesToRows.{row_of_step}
-use Rattle.quick_cache_loading.proofs.RowLaws.{one_guard, at_most_one, row-only_tells, row-value, row-given_up, row-alone, row-new_core, row-stays, row-last, row-guards, row-most_given, row-abandon}
+use Rattle.quick_cache_loading.proofs.RowLaws.{one_guard, at_most_one, row-only_tells, row-value, row-given_up, row-alone, row-new_core}
+use Rattle.quick_cache_loading.proofs.RowLaws.{row-stays, row-last, row-guards, row-most_given, row-abandon}
 use Rattle.quick_cache_loading.specs.LoadingLaws.{ShowsNothing}
-use Rattle.quick_cache_loading.specs.declared.protocol.events.Event.TheVariants.{Abandon}
+use Rattle.quick_cache_loading.specs.declared.protocol.events.Event.{Event}
 use Rattle.quick_cache_loading.proofs.protocol.abandon.Goals as goal
 
 -- The step is a row of the table, and each law holds of each row.
 pub returns : goal.returns
 returns g c =
     let row =
-    row_of_step ShowsNothing Abandon c.args.core.now c.abandon.result c.abandon.new.self
+    row_of_step ShowsNothing Event.Abandon c.args.core.now c.abandon.result c.abandon.new.self
     c.abandon.ensures in
     record {
       step = c.abandon.ensures;

@@ -3,7 +3,8 @@ use Rattle.std.proofs.lemmas.Grind.{common_steps}
 use Rattle.std.proofs.lemmas.Iterator.Consumers.{YieldsList-end}
 use Rattle.std.proofs.lemmas.Iterator.Adapters.{YieldsList-from_vec}
 use Rattle.quick_cache_loading.proofs.RowLaws.{one_guard, at_most_one}
-use Rattle.quick_cache_loading.proofs.ScheduleLaws.{LoadingRun-push, LoadingRun-guards, LoadingRun-shows, LoadingRun-none_joins, LoadingRun-alone, LoadingRun-stays}
+use Rattle.quick_cache_loading.proofs.ScheduleLaws.{LoadingRun-push, LoadingRun-guards, LoadingRun-shows, LoadingRun-none_joins}
+use Rattle.quick_cache_loading.proofs.ScheduleLaws.{LoadingRun-alone, LoadingRun-stays}
 use Rattle.quick_cache_loading.proofs.protocol.run.Goals as goal
 
 -- One more event is one more step of the schedule.

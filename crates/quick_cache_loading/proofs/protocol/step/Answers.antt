@@ -1,5 +1,7 @@
 use Rattle.quick_cache_loading.proofs.CasesToRows.{row_of_step}
-use Rattle.quick_cache_loading.proofs.RowLaws.{one_guard, at_most_one, row-only_tells, row-value, row-given_up, row-alone, row-new_core, row-stays, row-last, row-guards, row-most_given, row-not_now, row-refused, row-shown, row-none_joins, row-taken, row-joins}
+use Rattle.quick_cache_loading.proofs.RowLaws.{one_guard, at_most_one, row-only_tells, row-value, row-given_up, row-alone, row-new_core}
+use Rattle.quick_cache_loading.proofs.RowLaws.{row-stays, row-last, row-guards, row-most_given, row-not_now, row-refused, row-shown}
+use Rattle.quick_cache_loading.proofs.RowLaws.{row-none_joins, row-taken, row-joins}
 use Rattle.quick_cache_loading.proofs.protocol.step.Goals as goal
 
 -- The step is a row of the table, and each law holds of each row.

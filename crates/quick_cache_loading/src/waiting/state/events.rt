@@ -1,5 +1,6 @@
 //! What happens to a placeholder: each call is one event of its core.
-ghost use Rattle.std.specs.Prelude.{◌≡◌, ◌≢◌, ◌⊎◌, ◌==◌, ◌+◌, ◌<◌, MatchResult, not, length, IfSome, IfNone, IfOk, IfErr, IsSome, OnErr, is_some, true, false};
+ghost use Rattle.std.specs.Prelude.{◌≡◌, ◌≢◌, ◌⊎◌, ◌==◌, ◌+◌, ◌<◌, MatchResult, not, length, IfSome, IfNone, IfOk, IfErr, IsSome, OnErr};
+ghost use Rattle.std.specs.Prelude.{is_some, true, false};
 ghost use Rattle.quick_cache_loading.specs.Core.{held_count, waiters_of};
 ghost use Rattle.quick_cache_loading.specs.LoadingStep.{LoadingStep};
 ghost use Rattle.quick_cache_loading.specs.LoadingLaws.{given_by, shown_by};

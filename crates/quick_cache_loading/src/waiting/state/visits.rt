@@ -1,10 +1,12 @@
 //! Those who come to a placeholder and look at it again: what each of them is told.
-ghost use Rattle.std.specs.Prelude.{◌≡◌, ◌≢◌, ◌⊎◌, ◌==◌, ◌+◌, ◌≤◌, ℕ, true, false, Some, IfSome, IfOk, IfErr, IsOk, IsErr, OnOk, OnErr, is_some};
+ghost use Rattle.std.specs.Prelude.{◌≡◌, ◌≢◌, ◌⊎◌, ◌==◌, ◌+◌, ◌≤◌, ℕ, true, false, Some, IfSome, IfOk, IfErr, IsOk, IsErr, OnOk, OnErr};
+ghost use Rattle.std.specs.Prelude.{is_some};
 ghost use Rattle.futures.specs.Task.{Covers, Keeps};
 ghost use Rattle.quick_cache_loading.specs.LoadingLaws.{given_by, shown_by};
 ghost use Rattle.quick_cache_loading.specs.Fitting.{ClonesFit, FitsIfClonesDo};
 ghost use Rattle.quick_cache_loading.specs.Tasks.{HasWaker, has_slot, slots_after_look, slots_of_others};
-ghost use Rattle.quick_cache_loading.specs.Waiters.{IsTold, Looks, Tells, by_number, has_joined, is_timed_out, is_timeout, look_event, told_or_none, waits_on};
+ghost use Rattle.quick_cache_loading.specs.Waiters.{IsTold, Looks, Tells, by_number, has_joined, is_timed_out, is_timeout, look_event};
+ghost use Rattle.quick_cache_loading.specs.Waiters.{told_or_none, waits_on};
 ghost use Rattle.quick_cache_loading.specs.Entering.{Enters, LooksOnce, TellsNewcomer};
 
 use crate::protocol::{Answer, Event};

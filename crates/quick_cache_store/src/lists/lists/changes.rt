@@ -2,7 +2,9 @@
 ghost use Rattle.std.specs.Prelude.{◌≡◌, ◌+◌, ◌<◌, false, Some};
 ghost use Rattle.std.specs.Int.NonZero.{non_zero_u32_get as number};
 ghost use Rattle.quick_cache_store.specs.Rings.{restarts};
-ghost use Rattle.quick_cache_store.specs.Lists.{PutsLast, HasEntry, IsEntry, without_entry, IsFirstOf, HasItemToken, HasItemUnder, ring_turned, with_change, with_counts, with_mark, read_once, used, HasItemOfQueue, Rewrites, Reweighs};
+ghost use Rattle.quick_cache_store.specs.Lists.{PutsLast, HasEntry, IsEntry, without_entry, IsFirstOf, HasItemToken, HasItemUnder};
+ghost use Rattle.quick_cache_store.specs.Lists.{ring_turned, with_change, with_counts, with_mark, read_once, used, HasItemOfQueue};
+ghost use Rattle.quick_cache_store.specs.Lists.{Rewrites, Reweighs};
 
 use crate::lists::lists::Lists;
 use crate::lists::store::{displace, displace_known, place};

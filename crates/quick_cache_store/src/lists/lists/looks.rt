@@ -4,7 +4,8 @@ ghost use Rattle.std.specs.Int.NonZero.{non_zero_u32_get as number};
 ghost use Rattle.quick_cache_model.specs.CacheState.{ring_place};
 ghost use Rattle.quick_cache_store.specs.Pool.{IsOccupied, item_at};
 ghost use Rattle.quick_cache_store.specs.ListSlots.{is_item_under_at};
-ghost use Rattle.quick_cache_store.specs.Lists.{Finds, FindsByKey, FindsItemOfAnyHash, HasNoItem, HasItemToken, IsItemOf, HasLoadingToken, IsAwaitedOf, IsFirstAbove, number_or_zero, IsFirstOf, items_at};
+ghost use Rattle.quick_cache_store.specs.Lists.{Finds, FindsByKey, FindsItemOfAnyHash, HasNoItem, HasItemToken, IsItemOf, HasLoadingToken};
+ghost use Rattle.quick_cache_store.specs.Lists.{IsAwaitedOf, IsFirstAbove, number_or_zero, IsFirstOf, items_at};
 
 use crate::lists::found::Found;
 use crate::lists::lists::Lists;

@@ -1,9 +1,8 @@
 use Rattle.std.proofs.Common.{ℕ, List, [], ◌∷◌, None, Some, sym, ap, subst, ◌∙◌, arith}
 use Rattle.std.proofs.lemmas.Str.Pattern.{split_parts}
 use Rattle.qcrun_parts.specs.Commands.{AreNumbers, HasMore, HasNumbers, IsLineOf, numbers_of}
-use Rattle.qcrun_parts.proofs.CommandLemmas.{IsOkExactly-as, IsOkExactly-err, IsLineOf-split}
-use Rattle.qcrun_parts.proofs.CommandLemmas.{IsLineOf-joined, AreNumbers-one, AreNumbers-of_one}
-use Rattle.qcrun_parts.proofs.CommandLemmas.{AreNumbers-two, AreNumbers-more}
+use Rattle.qcrun_parts.proofs.CommandLemmas.{IsOkExactly-as, IsOkExactly-err, IsLineOf-split, IsLineOf-joined, AreNumbers-one}
+use Rattle.qcrun_parts.proofs.CommandLemmas.{AreNumbers-of_one, AreNumbers-two, AreNumbers-more}
 use Rattle.qcrun_parts.proofs.command.CommandFromStr.from_str.Goals as goal
 
 -- the one word behind the name is no number

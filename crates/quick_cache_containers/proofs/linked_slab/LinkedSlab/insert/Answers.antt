@@ -1,7 +1,6 @@
 use Rattle.std.proofs.Common.{map, ◌≡◌, ◌≢◌, ◌⊎◌, ◌+◌, length, inl, inr, refl, ap, vec_len, vec_capacity, arith}
-use Rattle.std.proofs.lemmas.List.{with_items_is}
+use Rattle.std.proofs.lemmas.List.{with_items_is, length-map, map_push}
 use Rattle.quick_cache_containers.specs.Links.{room_of}
-use Rattle.std.proofs.lemmas.List.{length-map, map_push}
 use Rattle.quick_cache_containers.proofs.SlabViews.{next_token-is, none_free, some_free, next_after, Reused-at, Grown-at}
 use Rattle.quick_cache_containers.proofs.PartedRings.{IsParted-nodes}
 use Rattle.quick_cache_containers.proofs.EditsByToken.{PlacesItem-from, spare-placed}

@@ -1,7 +1,6 @@
 use Rattle.std.proofs.Common.{map, None, is_some, ◌≡◌, ◌⊎◌, ◌<◌, ◌≤◌, length, inl, inr, ap, vec_len, vec_capacity, arith}
-use Rattle.std.proofs.lemmas.List.{with_items_is}
+use Rattle.std.proofs.lemmas.List.{with_items_is, length-map}
 use Rattle.quick_cache_containers.specs.Links.{room_of}
-use Rattle.std.proofs.lemmas.List.{length-map}
 use Rattle.quick_cache_containers.proofs.SlabViews.{IsNextOf-is, IsSound-prev, Removes-by}
 use Rattle.quick_cache_containers.proofs.AtTokens.{at_token-with_same}
 use Rattle.quick_cache_containers.proofs.SlotRings.{taken_within}

@@ -1,7 +1,6 @@
 use Rattle.std.proofs.Common.{map, ◌≡◌, ◌<◌, None, length, get_or, is_some, sym, ap, ◌∙◌, arith}
-use Rattle.std.proofs.lemmas.List.{get_or-map}
+use Rattle.std.proofs.lemmas.List.{get_or-map, length-map}
 use Rattle.std.proofs.lemmas.List.Sums.{count_by_more_yes, count_by_more_no}
-use Rattle.std.proofs.lemmas.List.{length-map}
 use Rattle.quick_cache_containers.proofs.linked_slab.links.occupied_count.Goals as goal
 use Rattle.quick_cache_containers.specs.Nodes.{item_of}
 use Rattle.quick_cache_containers.proofs.linked_slab.links.occupied_count.Goals.{then-is_occupied, else-is_occupied}

@@ -3,7 +3,8 @@ use Rattle.quick_cache_containers.specs.Table.{Table, IsTokensOf, SearchesAlong}
 use Rattle.std.specs.Vec.{vec_len}
 use Rattle.std.proofs.lemmas.Bool.{eqb-true}
 use Rattle.quick_cache_containers.proofs.ShownPairs.{IsTokensOf-none}
-use Rattle.quick_cache_containers.proofs.SearchAlongTokens.{SearchesAlong-on, SearchesAlong-ends, FindsPassing-from_search, FindsByAnswer-from_search, HasPair-from_search}
+use Rattle.quick_cache_containers.proofs.SearchAlongTokens.{SearchesAlong-on, SearchesAlong-ends, FindsPassing-from_search}
+use Rattle.quick_cache_containers.proofs.SearchAlongTokens.{FindsByAnswer-from_search, HasPair-from_search}
 use Rattle.quick_cache_containers.proofs.table.Table.find.Given as given
 use Rattle.quick_cache_containers.proofs.table.Table.find.Goals as goal
 

@@ -1,7 +1,8 @@
 use Rattle.std.proofs.Common.{◌≡◌, true, false}
 use Rattle.quick_cache_expiring_sync.proofs.TellLemmas.{HasLived-told}
 use Rattle.quick_cache_expiring_sync.proofs.shared.SharedExpiring.touch.Goals as goal
-use Rattle.quick_cache_expiring_sync.proofs.shared.SharedExpiring.touch.Goals.{in-Retained+then-not-renewed, in-Retained+else-not-renewed, in-Refused, in_default}
+use Rattle.quick_cache_expiring_sync.proofs.shared.SharedExpiring.touch.Goals.{in-Retained+then-not-renewed, in-Retained+else-not-renewed}
+use Rattle.quick_cache_expiring_sync.proofs.shared.SharedExpiring.touch.Goals.{in-Refused, in_default}
 
 -- what the callback told to be renewed lived
 pub returns-clause-lived : goal.returns-clause-lived

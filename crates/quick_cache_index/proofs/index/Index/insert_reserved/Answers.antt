@@ -3,7 +3,8 @@ use Rattle.std.proofs.lemmas.List.{with_items_is}
 use Rattle.std.specs.Int.NonZero.{non_zero_u32_get}
 use Rattle.quick_cache_index.specs.Index.{holds}
 use Rattle.quick_cache_index.specs.IndexGroups.{taken_count, capacity_of}
-use Rattle.quick_cache_index.proofs.ShownTokens.{TakesPlace-lent, Leads-take, KeepsAllLeads-take, IsSound-take, count_by-absent, free-from_room}
+use Rattle.quick_cache_index.proofs.ShownTokens.{TakesPlace-lent, Leads-take, KeepsAllLeads-take, IsSound-take, count_by-absent}
+use Rattle.quick_cache_index.proofs.ShownTokens.{free-from_room}
 use Rattle.quick_cache_index.proofs.index.Index.insert_reserved.Goals as goal
 
 -- an index with room has a free place

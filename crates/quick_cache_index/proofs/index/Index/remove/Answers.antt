@@ -2,7 +2,8 @@ use Rattle.std.proofs.Common.{refl, ◌≡◌, ◌≤◌, ◌+◌, ◌∙◌, ap
 use Rattle.std.proofs.lemmas.List.{with_items_is}
 use Rattle.std.specs.Int.NonZero.{non_zero_u32_get}
 use Rattle.quick_cache_index.specs.Index.{Index, home_of, holds}
-use Rattle.quick_cache_index.proofs.ShownTokens.{LeavesPlace-lent, KeepsOtherLeads-leave, LosesToken-leave, IsGrouped-as_long, IsSound-leave, distances-at_home}
+use Rattle.quick_cache_index.proofs.ShownTokens.{LeavesPlace-lent, KeepsOtherLeads-leave, LosesToken-leave, IsGrouped-as_long}
+use Rattle.quick_cache_index.proofs.ShownTokens.{IsSound-leave, distances-at_home}
 use Rattle.quick_cache_index.proofs.index.Index.remove.Goals as goal
 
 pub invariant_of-self : goal.invariant_of-self

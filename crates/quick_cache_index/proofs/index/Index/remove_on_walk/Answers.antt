@@ -4,7 +4,8 @@ use Rattle.std.specs.Int.NonZero.{non_zero_u32_get}
 use Rattle.quick_cache_index.specs.Index.{Index, holds}
 use Rattle.quick_cache_index.specs.IndexGroups.{candidates_left}
 use Rattle.quick_cache_index.proofs.Candidates.{CoversTagged-lent, times-leads}
-use Rattle.quick_cache_index.proofs.ShownTokens.{LeavesPlace-lent, KeepsOtherLeads-leave, LosesToken-leave, taken_count-leaves, IsSound-leave}
+use Rattle.quick_cache_index.proofs.ShownTokens.{LeavesPlace-lent, KeepsOtherLeads-leave, LosesToken-leave, taken_count-leaves}
+use Rattle.quick_cache_index.proofs.ShownTokens.{IsSound-leave}
 use Rattle.quick_cache_index.proofs.index.Index.remove_on_walk.Goals as goal
 
 -- the hash leads to the token, which is a candidate therefore

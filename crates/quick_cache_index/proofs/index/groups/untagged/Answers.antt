@@ -1,7 +1,8 @@
 -- A place without a tag stands at a distance of at most `mask`, so no group past it is read.
 use Rattle.std.proofs.Common.{sym, ◌∙◌, arith}
 use Rattle.std.specs.Int.Bits.{bit_xor}
-use Rattle.quick_cache_index.proofs.NearestFreePlace.{lane_of_mask, AreTagged-near, AreTagged-step, AreTagged-group, AreTagged-more, distance-lane}
+use Rattle.quick_cache_index.proofs.NearestFreePlace.{lane_of_mask, AreTagged-near, AreTagged-step, AreTagged-group, AreTagged-more}
+use Rattle.quick_cache_index.proofs.NearestFreePlace.{distance-lane}
 use Rattle.quick_cache_index.proofs.index.groups.untagged.Goals as goal
 
 pub loop-mask-init : goal.loop-mask-init

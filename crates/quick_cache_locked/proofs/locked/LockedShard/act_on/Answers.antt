@@ -1,4 +1,5 @@
-use Rattle.quick_cache_locked.proofs.EntryFits.{AnswersEntry-fits, AnswersEntry-chosen, AnswersEntry-gives, AnswersEntry-tells, AnswersEntry-uncalled}
+use Rattle.quick_cache_locked.proofs.EntryFits.{AnswersEntry-fits, AnswersEntry-chosen, AnswersEntry-gives, AnswersEntry-tells}
+use Rattle.quick_cache_locked.proofs.EntryFits.{AnswersEntry-uncalled}
 use Rattle.quick_cache_locked.proofs.FitWrites.{IsItemAt-fits}
 use Rattle.quick_cache_locked.proofs.LoadLemmas.{AnswersEntry-refusal}
 use Rattle.quick_cache_locked.proofs.locked.LockedShard.act_on.Goals as goal

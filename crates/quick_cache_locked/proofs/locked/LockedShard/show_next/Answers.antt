@@ -1,7 +1,6 @@
 use Rattle.std.proofs.Common.{Some, Ok, subst}
 use Rattle.quick_cache_shard.specs.PlaceWalks.{EndsAt}
-use Rattle.quick_cache_shard.specs.WalksFrom.{WalkFrom, number_or_zero}
-use Rattle.quick_cache_shard.specs.WalksFrom.{ShowsNext as StepShown}
+use Rattle.quick_cache_shard.specs.WalksFrom.{WalkFrom, number_or_zero, ShowsNext as StepShown}
 use Rattle.quick_cache_locked.proofs.FitWalks.{ShowsNext-fits}
 use Rattle.quick_cache_locked.proofs.locked.LockedShard.show_next.Goals as goal
 

@@ -1,16 +1,14 @@
 use Rattle.std.proofs.Common.{rules, ◌∙◌, ap, subst, arith, length, true}
-use Rattle.quick_cache_model.specs.declared.queue.Queue.TheVariants.{Cold}
+use Rattle.quick_cache_model.specs.declared.queue.Queue.{Queue}
 use Rattle.quick_cache_model.specs.CacheState.{CacheState}
 use Rattle.quick_cache_model.specs.Eviction.{AdvancesHot, AdvancesCold, EvictsToTarget}
 use Rattle.quick_cache_model.specs.Hooks.{Calls}
 use Rattle.quick_cache_store.specs.Views.{items_of}
 use Rattle.quick_cache_policy.specs.declared.contents.Contents.{Contents}
-use Rattle.quick_cache_policy.specs.Advances.{AreEvictions, Evicting, FirstIsEvicted}
-use Rattle.quick_cache_policy.specs.Advances.{FirstIsPromoted}
+use Rattle.quick_cache_policy.specs.Advances.{AreEvictions, Evicting, FirstIsEvicted, FirstIsPromoted}
 use Rattle.quick_cache_policy.specs.Contents.{state_of, work_of}
 use Rattle.quick_cache_policy.specs.Policies.{rules_by}
-use Rattle.quick_cache_policy.proofs.ColdAdvances.{AdvancesCold-promoted, AdvancesCold-evicted}
-use Rattle.quick_cache_policy.proofs.ColdAdvances.{AdvancesCold-passed}
+use Rattle.quick_cache_policy.proofs.ColdAdvances.{AdvancesCold-promoted, AdvancesCold-evicted, AdvancesCold-passed}
 use Rattle.quick_cache_policy.proofs.KeyLemmas.{FirstIsEvicted-keys, FirstIsPromoted-keys, Searches-keys, keys_by-cold}
 use Rattle.quick_cache_policy.proofs.LoopLemmas.{Calls-map}
 use Rattle.quick_cache_policy.proofs.PlaceLemmas.{LosesOnly-cold}
@@ -47,13 +45,14 @@ returns-in-Victim-clause-advances g c =
     let new = state_of g.P.SharedPlaceholder.ticket_of c.evict_cold.new.self in
     let steady = g.M.Policy.steady c.args.terms.now in
     Calls-map (g.M.Policy.hooks c.args.terms.now)
-    (λ calls. FirstIsEvicted rules Cold (record old { cold = cold }) calls new × AreEvictions calls)
+    (λ calls. FirstIsEvicted rules Queue.Cold (record old { cold = cold }) calls new
+    × AreEvictions calls)
     (Evicting steady (λ state. AdvancesCold rules state true) old new)
     c.args.state.now c.evict_cold.new.state
     (λ calls. AdvancesCold-evicted rules steady old cold new calls
     c.in-Victim.ensures.searches)
     (subst (λ (s : CacheState _ _). Calls (g.M.Policy.hooks c.args.terms.now)
-    (λ calls. FirstIsEvicted rules Cold s calls new × AreEvictions calls)
+    (λ calls. FirstIsEvicted rules Queue.Cold s calls new × AreEvictions calls)
     c.args.state.now c.evict_cold.new.state) is c.evict_cold.ensures.evicts)
 
 pub returns-in-Victim-clause-falls : goal.returns-in-Victim-clause-falls
@@ -133,7 +132,7 @@ returns-in-Victim-clause-stays g c =
             g.P.Touch.Touches.may_count
             (items_of c.args.self.now.lists.cold) (items_of c.search_cold.new.self.lists.cold)
             c.search_cold.result c.search_cold.ensures.searches),
-        FirstIsEvicted-keys test rules Cold
+        FirstIsEvicted-keys test rules Queue.Cold
             (state_of g.P.SharedPlaceholder.ticket_of c.search_cold.new.self)
             (state_of g.P.SharedPlaceholder.ticket_of c.evict_cold.new.self) e.calls e.holds.0,
       );

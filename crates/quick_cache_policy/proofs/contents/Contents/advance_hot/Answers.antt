@@ -1,5 +1,5 @@
 use Rattle.std.proofs.Common.{rules, ap, ◌∙◌, arith}
-use Rattle.quick_cache_model.specs.declared.queue.Queue.TheVariants.{Hot, Cold}
+use Rattle.quick_cache_model.specs.declared.queue.Queue.{Queue}
 use Rattle.quick_cache_policy.specs.declared.contents.Contents.{Contents}
 use Rattle.quick_cache_policy.specs.Contents.{state_of, ring_count}
 use Rattle.quick_cache_policy.specs.Policies.{rules_by}
@@ -29,7 +29,7 @@ returns-clause-advances g c =
 pub returns-clause-cold : goal.returns-clause-cold
 returns-clause-cold g c =
     c.evict_hot.ensures.cold
-    ∙ ap (λ (s : Contents _ _ _ _ _ _). ring_count Cold s) c.seek_victim.ensures.same
+    ∙ ap (λ (s : Contents _ _ _ _ _ _). ring_count Queue.Cold s) c.seek_victim.ensures.same
 
 -- the visits lower marks
 -- the visits move none
@@ -57,7 +57,7 @@ returns-then-not-seek_victim-clause-stays g c =
       work = PaysFor-advance _ 1 _ _ _ _ s.ends.visits _ _
           (ap (λ (x : Contents _ _ _ _ _ _). x.advances) s.same ∙ c.saturating_add-self.ensures)
           s.ends.counted within (omega (arith, s.count)) (omega (arith, s.count))
-          (ap (λ (x : Contents _ _ _ _ _ _). ring_count Cold x) s.same);
+          (ap (λ (x : Contents _ _ _ _ _ _). ring_count Queue.Cold x) s.same);
       same = search rules;
     }
 
@@ -81,7 +81,7 @@ returns-clause-stays g c =
             (g.M.Policy.pinned c.args.terms.now) c.args.self.now.mark_cut
             g.P.Touch.Touches.may_count c.seek_victim.result
             _ _ s.ends.visits s.ends.ends),
-        FirstIsEvicted-keys test rules Hot
+        FirstIsEvicted-keys test rules Queue.Hot
             (state_of g.P.SharedPlaceholder.ticket_of c.seek_victim.new.self)
             (state_of g.P.SharedPlaceholder.ticket_of c.evict_hot.new.self) e.calls e.holds.0,
       );
@@ -98,7 +98,7 @@ returns-clause-stays g c =
           (omega (arith, c.evict_hot.ensures.falls, s.count))
           (omega (arith, c.evict_hot.ensures.falls, s.count))
           (c.evict_hot.ensures.cold
-          ∙ ap (λ (x : Contents _ _ _ _ _ _). ring_count Cold x) s.same);
+          ∙ ap (λ (x : Contents _ _ _ _ _ _). ring_count Queue.Cold x) s.same);
       same = KeepsNumbers-from c.args.self.now c.evict_hot.new.self c.evict_hot.new.self.lists _ _
           (c.evict_hot.ensures.stays.same
           ∙ ap (λ (r : Contents _ _ _ _ _ _). record r { lists = c.evict_hot.new.self.lists })

@@ -1,8 +1,8 @@
 use Rattle.std.proofs.Common.{◌<◌, ◌≤◌, ◌+◌, arith, true, false}
 use Rattle.quick_cache_model.specs.CacheState.{total_weight}
 use Rattle.quick_cache_model.specs.Eviction.{AdvancesCold, EvictsToCapacity}
-use Rattle.quick_cache_model.proofs.OrderLaws.{SameButOrder-refl, EvictsToCapacity-has_room}
-use Rattle.quick_cache_model.proofs.OrderLaws.{EvictsToCapacity-gives_up, EvictsToCapacity-goes_on}
+use Rattle.quick_cache_model.proofs.OrderLaws.{SameButOrder-refl, EvictsToCapacity-has_room, EvictsToCapacity-gives_up}
+use Rattle.quick_cache_model.proofs.OrderLaws.{EvictsToCapacity-goes_on}
 use Rattle.quick_cache_store.proofs.lists.CallerLemmas.{weight_of-items}
 use Rattle.quick_cache_policy.specs.Contents.{state_of}
 use Rattle.quick_cache_policy.specs.Policies.{rules_by}

@@ -1,8 +1,7 @@
 use Rattle.std.proofs.Common.{◌<◌, ◌≤◌, ◌∙◌, arith, refl, true, false}
 use Rattle.quick_cache_model.specs.CacheState.{hot_weight}
 use Rattle.quick_cache_model.specs.Eviction.{AdvancesHot, EvictsToTarget}
-use Rattle.quick_cache_model.proofs.OrderLaws.{SameButOrder-refl, EvictsToTarget-has_room}
-use Rattle.quick_cache_model.proofs.OrderLaws.{EvictsToTarget-gives_up, EvictsToTarget-goes_on}
+use Rattle.quick_cache_model.proofs.OrderLaws.{SameButOrder-refl, EvictsToTarget-has_room, EvictsToTarget-gives_up, EvictsToTarget-goes_on}
 use Rattle.quick_cache_store.proofs.lists.CallerLemmas.{weight_of-items}
 use Rattle.quick_cache_policy.specs.Contents.{state_of}
 use Rattle.quick_cache_policy.specs.Policies.{rules_by}

@@ -1,5 +1,6 @@
 use Rattle.std.proofs.Common.{◌<◌, length, arith}
-use Rattle.quick_cache_policy.proofs.HotRoundLemmas.{GoesRound-begins, GoesRound-length, GoesRound-passes_pinned, GoesRound-passes_marked, GoesRound-stops, GoesRound-over_pinned, GoesRound-over_unpinned}
+use Rattle.quick_cache_policy.proofs.HotRoundLemmas.{GoesRound-begins, GoesRound-length, GoesRound-passes_pinned, GoesRound-passes_marked}
+use Rattle.quick_cache_policy.proofs.HotRoundLemmas.{GoesRound-stops, GoesRound-over_pinned, GoesRound-over_unpinned}
 use Rattle.quick_cache_policy.proofs.contents.Contents.go_round.Goals.{in-Pinned, in-Marked}
 use Rattle.quick_cache_policy.proofs.contents.Contents.go_round.Goals as goal
 

@@ -1,21 +1,18 @@
-use Rattle.std.proofs.Common.{◌≡◌, ℕ, [], sym, ap, subst, ◌∙◌, arith}
+use Rattle.std.proofs.Common.{◌≡◌, ℕ, [], sym, ap, subst, ◌∙◌, arith, inl, inr}
 use Rattle.std.specs.Int.NonZero.{non_zero_u32_get as number}
-use Rattle.quick_cache_model.specs.declared.queue.Queue.TheVariants.{Cold}
+use Rattle.quick_cache_model.specs.declared.queue.Queue.{Queue}
 use Rattle.quick_cache_model.specs.CacheState.{Item, UpToOrder}
 use Rattle.quick_cache_model.specs.Eviction.{EvictsToCapacity}
 use Rattle.quick_cache_model.specs.Writes.{queue_for}
 use Rattle.quick_cache_model.specs.Removal.{pair_of}
-use Rattle.quick_cache_store.specs.declared.slots.entry.Entry.TheVariants.{Item as item_variant}
-use Rattle.quick_cache_store.specs.declared.lists.found.Found.TheVariants.{Nothing as found_nothing}
+use Rattle.quick_cache_store.specs.declared.slots.entry.Entry.{Entry}
+use Rattle.quick_cache_store.specs.declared.lists.found.Found.{Found}
 use Rattle.quick_cache_store.specs.Lists.{Finds, PutsLast}
-use Rattle.quick_cache_store.proofs.lists.CallerLemmas.{weight_of-items}
 use Rattle.quick_cache_policy.specs.Contents.{state_of}
 use Rattle.quick_cache_policy.specs.Policies.{rules_by}
-use Rattle.quick_cache_policy.specs.Writing.{AreAdmittedCalls, IsReplacement}
+use Rattle.quick_cache_policy.specs.Writing.{queue_by, AreAdmittedCalls, IsReplacement}
 use Rattle.quick_cache_policy.proofs.FindLemmas.{AreHashed-under, HasNothing-state}
-use Rattle.quick_cache_policy.proofs.NewLemmas.{new-writes, new-tells, new-sound, queue_for-hot, queue_for-otherwise}
-use Rattle.quick_cache_policy.proofs.contents.Contents.insert_new.Goals.{then-hot_weight-from, else-hot_weight-from}
-use Rattle.std.proofs.Common.{inl, inr}
+use Rattle.quick_cache_policy.proofs.NewLemmas.{new-writes, new-tells, new-sound}
 use Rattle.quick_cache_policy.proofs.AdmissionLemmas.{Finds-no_item}
 use Rattle.quick_cache_policy.proofs.WrittenPlaces.{no-place, put-places}
 use Rattle.quick_cache_policy.specs.declared.contents.Contents.{Contents}
@@ -31,33 +28,13 @@ returns-clause-writes g c =
     let old = state_of ticket_of c.args.self.now in
     let lists = c.args.self.now.lists in
     let made = c.evict_to_capacity.new.self in
-    let found = subst (λ h. Finds (g.K.PartialEq.eq key) h lists found_nothing)
+    let found = subst (λ h. Finds (g.K.PartialEq.eq key) h lists Found.Nothing)
     c.requires.hash_is c.requires.found in
     let under = AreHashed-under (g.K.PartialEq.eq key) (rules.hash key) lists rules.hash
     (λ k same. sym (g.met.M.Policy.same_hash c.args.terms.now key k same))
     c.requires.sound.hashed in
-    let queue : c.if-hot_weight-from.queue ≡ queue_for rules old key value Cold =
-    elim c.if-hot_weight-from.branch [
-      | then-hot_weight-from w ↦ w.queue-is ∙ sym (queue_for-hot rules old key value Cold (omega (
-        arith,
-        w.if-hot_weight-from,
-        c.weight.ensures.weight,
-        c.from.ensures,
-        c.from-2.ensures,
-        c.requires.weight_is,
-        weight_of-items lists.hot,
-      )))
-      | else-hot_weight-from w ↦ w.queue-is
-          ∙ sym (queue_for-otherwise rules old key value Cold (omega (
-            arith,
-            w.if-hot_weight-from,
-            c.weight.ensures.weight,
-            c.from.ensures,
-            c.from-2.ensures,
-            c.requires.weight_is,
-            weight_of-items lists.hot,
-          )))
-    ] in
+    let queue : c.choose_queue-queue.result ≡ queue_for rules old key value Queue.Cold =
+    c.choose_queue-queue.ensures ∙ ap (λ n. queue_by old n Queue.Cold) c.requires.weight_is in
     let evicts = c.evict_to_capacity.ensures.evicts in
     record {
       calls = evicts.calls;
@@ -69,7 +46,7 @@ returns-clause-writes g c =
             c.evict_to_capacity.ensures.stays.keys (number c.put.result) c.new-item.result
             c.put.new.self
             (subst (λ (h : ℕ). PutsLast {T = g.row.P-Touch.Denot} made.lists (number c.put.result) h
-            (item_variant c.new-item.result) c.put.new.self) c.requires.hash_is c.put.ensures.last)
+            (Entry.Item c.new-item.result) c.put.new.self) c.requires.hash_is c.put.ensures.last)
             (c.new-item.ensures ∙ (λ i. record c.new-item.result {
               key = key;
               value = value;
@@ -87,7 +64,7 @@ returns-clause-writes g c =
             c.evict_to_capacity.ensures.stays.keys (number c.put.result) c.new-item.result
             c.put.new.self
             (subst (λ (h : ℕ). PutsLast {T = g.row.P-Touch.Denot} made.lists (number c.put.result) h
-            (item_variant c.new-item.result) c.put.new.self) c.requires.hash_is c.put.ensures.last)
+            (Entry.Item c.new-item.result) c.put.new.self) c.requires.hash_is c.put.ensures.last)
             (ap pair_of c.new-item.ensures) evicts.calls evicts.holds.2,
       );
       runs = evicts.runs;
@@ -102,7 +79,7 @@ returns-clause-stays g c =
     let key = c.args.key in
     let lists = c.args.self.now.lists in
     let made = c.evict_to_capacity.new.self in
-    let found = subst (λ h. Finds (g.K.PartialEq.eq key) h lists found_nothing)
+    let found = subst (λ h. Finds (g.K.PartialEq.eq key) h lists Found.Nothing)
     c.requires.hash_is c.requires.found in
     let under = AreHashed-under (g.K.PartialEq.eq key) (rules.hash key) lists rules.hash
     (λ k same. sym (g.met.M.Policy.same_hash c.args.terms.now key k same))
@@ -112,7 +89,7 @@ returns-clause-stays g c =
     (AreHashed-under (g.K.PartialEq.eq key) c.args.hash c.args.self.now.lists
     (g.M.Policy.hashed c.args.terms.now)
     (λ k same. sym (c.requires.hash_is ∙ g.met.M.Policy.same_hash c.args.terms.now key k same))
-    c.requires.sound.hashed) found_nothing c.requires.found (λ token e. absurd (cc)) in
+    c.requires.sound.hashed) Found.Nothing c.requires.found (λ token e. absurd (cc)) in
     record {
       sound = new-sound ticket_of c.args.self.now made g.K.PartialEq.eq g.met.K.Eq.laws rules key
           c.args.weighed.value
@@ -121,7 +98,7 @@ returns-clause-stays g c =
           c.evict_to_capacity.ensures.stays.keys (number c.put.result) c.new-item.result
           c.put.new.self
           (subst (λ (h : ℕ). PutsLast {T = g.row.P-Touch.Denot} made.lists (number c.put.result) h
-          (item_variant c.new-item.result) c.put.new.self) c.requires.hash_is c.put.ensures.last)
+          (Entry.Item c.new-item.result) c.put.new.self) c.requires.hash_is c.put.ensures.last)
           (ap (λ (i : Item _ _). i.key) c.new-item.ensures)
           (omega (arith, ap (λ (i : Item _ _). i.mark) c.new-item.ensures))
           c.evict_to_capacity.ensures.stays.sound;

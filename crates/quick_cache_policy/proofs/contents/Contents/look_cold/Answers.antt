@@ -1,8 +1,7 @@
 use Rattle.std.proofs.Common.{◌∙◌, ap, sym, arith, [], ap₂}
 use Rattle.quick_cache_model.specs.CacheState.{Item, InCold}
-use Rattle.quick_cache_policy.specs.declared.evicting.cold.Search.TheVariants.{Marked, Victim, AllPassed}
-use Rattle.quick_cache_policy.proofs.FirstLemmas.{first-touched_same, first-touched_places}
-use Rattle.quick_cache_policy.proofs.FirstLemmas.{first-touched_sound, first-touched_item}
+use Rattle.quick_cache_policy.specs.declared.evicting.cold.Search.{Search}
+use Rattle.quick_cache_policy.proofs.FirstLemmas.{first-touched_same, first-touched_places, first-touched_sound, first-touched_item}
 use Rattle.quick_cache_policy.proofs.FirstLemmas.{first-touched_there, first-looked}
 use Rattle.quick_cache_policy.proofs.contents.Contents.look_cold.Goals as goal
 
@@ -26,7 +25,7 @@ returns-then-mark-gt0-clause-looks g c =
     let is = first-touched_item c.facts.ensures.apart c.in-Some.ensures c.take_touches.ensures
     c.facts-2.ensures.apart c.item-item.result c.item-item.ensures in
     first-looked c.facts.ensures.apart c.in-Some.ensures c.take_touches.ensures
-    (g.M.Policy.steady c.args.terms.now) (g.M.Policy.pinned c.args.terms.now) Marked
+    (g.M.Policy.steady c.args.terms.now) (g.M.Policy.pinned c.args.terms.now) Search.Marked
     (omega (arith, c.if-mark-gt0.true, c.mark.ensures, ap (λ (i : Item _ _). i.mark) is))
 
 pub returns-then-mark-gt0-clause-sound : goal.returns-then-mark-gt0-clause-sound
@@ -44,7 +43,7 @@ returns-then-not-is_pinned-clause-looks g c =
     let is = first-touched_item c.facts.ensures.apart c.in-Some.ensures c.take_touches.ensures
     c.facts-2.ensures.apart c.item-item.result c.item-item.ensures in
     first-looked c.facts.ensures.apart c.in-Some.ensures c.take_touches.ensures
-    (g.M.Policy.steady c.args.terms.now) (g.M.Policy.pinned c.args.terms.now) Victim (
+    (g.M.Policy.steady c.args.terms.now) (g.M.Policy.pinned c.args.terms.now) Search.Victim (
       omega (arith, c.if-mark-gt0.false, c.mark.ensures, ap (λ (i : Item _ _). i.mark) is),
       λ steady. ap (λ (i : Item _ _). g.M.Policy.pinned c.args.terms.now i.key i.value) (sym is)
           ∙ ap₂ (g.M.Policy.pinned c.args.terms.now) (sym c.key.ensures) (sym c.value.ensures)
@@ -66,7 +65,7 @@ returns-clause-looks g c =
     let is = first-touched_item c.facts.ensures.apart c.in-Some.ensures c.take_touches.ensures
     c.facts-2.ensures.apart c.item-item.result c.item-item.ensures in
     first-looked c.facts.ensures.apart c.in-Some.ensures c.take_touches.ensures
-    (g.M.Policy.steady c.args.terms.now) (g.M.Policy.pinned c.args.terms.now) AllPassed
+    (g.M.Policy.steady c.args.terms.now) (g.M.Policy.pinned c.args.terms.now) Search.AllPassed
     (record {
       unmarked =
           omega

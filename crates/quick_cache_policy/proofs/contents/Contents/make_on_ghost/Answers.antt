@@ -5,11 +5,10 @@ use Rattle.quick_cache_model.specs.Placeholders.{MakesPlaceholder, with_placehol
 use Rattle.quick_cache_model.specs.Lookups.{after_miss}
 use Rattle.quick_cache_model.proofs.EqualKeys.{keys_by-absent}
 use Rattle.quick_cache_model.specs.Touches.{counted_up}
-use Rattle.quick_cache_store.specs.declared.slots.entry.Entry.TheVariants.{Loading as loading_variant}
+use Rattle.quick_cache_store.specs.declared.slots.entry.Entry.{Entry}
 use Rattle.std.proofs.lemmas.List.{map-append}
 use Rattle.quick_cache_model.proofs.Valid.Edits.{without_ghost-valid}
 use Rattle.quick_cache_store.specs.declared.lists.found.Found.{Found}
-use Rattle.quick_cache_store.specs.declared.lists.found.Found.TheVariants.{Ghost as found_ghost, Nothing as found_nothing}
 use Rattle.quick_cache_store.specs.Lists.{Lists, HeldGhost, PutsLast}
 use Rattle.quick_cache_store.specs.Views.{hashes_of}
 use Rattle.quick_cache_store.proofs.lists.StandingLemmas.{ghost-hash}
@@ -18,13 +17,14 @@ use Rattle.quick_cache_policy.specs.Contents.{IsSound, state_of}
 use Rattle.quick_cache_policy.specs.Loading.{IsMade, MakesNone}
 use Rattle.quick_cache_policy.proofs.FindLemmas.{HasNoKey-state, Finds-nothing, IsGhostAt-stands}
 use Rattle.quick_cache_policy.proofs.LookupLemmas.{without_ghost}
-use Rattle.quick_cache_policy.proofs.MakeLemmas.{none-tickets, none-memory, provided-on_ghost, Makes-refused, made-state, made-sound, stands-exactly}
+use Rattle.quick_cache_policy.proofs.MakeLemmas.{none-tickets, none-memory, provided-on_ghost, Makes-refused, made-state, made-sound}
+use Rattle.quick_cache_policy.proofs.MakeLemmas.{stands-exactly}
 use Rattle.quick_cache_policy.proofs.KeptPlaces.{haunted-places}
 use Rattle.quick_cache_policy.specs.Places.{places_of}
 use Rattle.quick_cache_policy.proofs.contents.Contents.make_on_ghost.Goals as goal
 
 -- a ghost is something
-is-something : (token : _) → ◌≡◌ {A = Found} (found_ghost token) found_nothing → ⊥
+is-something : (token : _) → ◌≡◌ {A = Found} (Found.Ghost token) Found.Nothing → ⊥
 is-something token same = cc
 
 -- tickets are spent
@@ -57,7 +57,7 @@ returns-in_err-awaited-clause-makes g c =
     (none-memory stands_for gives c.args.hash state none
     (provided-on_ghost stands_for gives c.args.hash state (omega (arith, c.if-self.false))
     (λ nothing. is-something c.args.token
-    (Finds-nothing ticket_of stands_for c.args.hash contents (found_ghost c.args.token) there
+    (Finds-nothing ticket_of stands_for c.args.hash contents (Found.Ghost c.args.token) there
     nothing)))))
 
 -- it was made
@@ -83,9 +83,9 @@ returns-clause-makes g c =
     let hash_is = ghost-hash contents.lists apart t c.replace.ensures.hash c.replace.result
     c.replace.ensures.taken (record { token = t; hash = c.args.hash }) there.1 refl in
     let puts = subst (λ (h : ℕ). PutsLast {T = g.row.P-Touch.Denot} mid t h
-    (loading_variant awaited) c.replace.new.self) hash_is
+    (Entry.Loading awaited) c.replace.new.self) hash_is
     (subst (λ (l : Lists _ _ _). PutsLast {T = g.row.P-Touch.Denot} l t c.replace.ensures.hash
-    (loading_variant awaited) c.replace.new.self) gone c.replace.ensures.last) in
+    (Entry.Loading awaited) c.replace.new.self) gone c.replace.ensures.last) in
     let misses : c.count_made.new.self.misses ≡ counted_up 1 contents.misses =
     omega (arith, ap (λ (s : Contents _ _ _ _ _ _). s.misses) c.count_made.ensures) in
     let next : c.count_made.new.self.next_ticket ≡ contents.next_ticket + 1 =
@@ -113,7 +113,7 @@ returns-clause-makes g c =
       provided = provided-on_ghost stands_for gives c.args.hash state
           (omega (arith, c.if-self.false))
           (λ nothing. is-something c.args.token
-          (Finds-nothing ticket_of stands_for c.args.hash contents (found_ghost c.args.token) there
+          (Finds-nothing ticket_of stands_for c.args.hash contents (Found.Ghost c.args.token) there
           nothing));
       next = c.in_ok-awaited.ensures.ticket;
       key = awaited.key;
@@ -160,9 +160,9 @@ returns-clause-sound g c = λ hashed under sound.
     let hash_is = ghost-hash contents.lists apart t c.replace.ensures.hash c.replace.result
     c.replace.ensures.taken (record { token = t; hash = c.args.hash }) there.1 refl in
     let puts = subst (λ (h : ℕ). PutsLast {T = g.row.P-Touch.Denot} mid t h
-    (loading_variant awaited) c.replace.new.self) hash_is
+    (Entry.Loading awaited) c.replace.new.self) hash_is
     (subst (λ (l : Lists _ _ _). PutsLast {T = g.row.P-Touch.Denot} l t c.replace.ensures.hash
-    (loading_variant awaited) c.replace.new.self) gone c.replace.ensures.last) in
+    (Entry.Loading awaited) c.replace.new.self) gone c.replace.ensures.last) in
     let misses : c.count_made.new.self.misses ≡ counted_up 1 contents.misses =
     omega (arith, ap (λ (s : Contents _ _ _ _ _ _). s.misses) c.count_made.ensures) in
     let next : c.count_made.new.self.next_ticket ≡ contents.next_ticket + 1 =

@@ -2,26 +2,27 @@ use Rattle.std.proofs.Common.{◌≡◌, ◌+◌, ◌<◌, Ok, Err, Result, sym,
 use Rattle.std.specs.Int.NonZero.{non_zero_u32_get as number}
 use Rattle.quick_cache_model.specs.Placeholders.{MakesPlaceholder, with_placeholder}
 use Rattle.quick_cache_model.specs.Lookups.{after_miss}
-use Rattle.quick_cache_model.specs.declared.refusal.Refusal.TheVariants.{Memory, SlotsFull}
+use Rattle.quick_cache_model.specs.declared.refusal.Refusal.{Refusal}
 use Rattle.quick_cache_model.proofs.EqualKeys.{keys_by-absent}
 use Rattle.quick_cache_model.specs.Touches.{counted_up}
-use Rattle.quick_cache_store.specs.declared.slots.entry.Entry.TheVariants.{Loading as loading_variant}
+use Rattle.quick_cache_store.specs.declared.slots.entry.Entry.{Entry}
 use Rattle.quick_cache_store.specs.Lists.{Lists, PutsLast}
 use Rattle.quick_cache_policy.specs.declared.contents.Contents.{Contents}
 use Rattle.quick_cache_policy.specs.Contents.{IsSound, state_of}
 use Rattle.quick_cache_policy.specs.Loading.{IsMade, MakesNone}
 use Rattle.quick_cache_policy.proofs.EnterLemmas.{state_with}
 use Rattle.quick_cache_policy.proofs.FindLemmas.{HasNothing-state}
-use Rattle.quick_cache_policy.proofs.MakeLemmas.{none-tickets, none-slots, none-memory, provided-on_nothing, Makes-refused, full-slots, free-slot, made-state, made-sound, stands-exactly}
+use Rattle.quick_cache_policy.proofs.MakeLemmas.{none-tickets, none-slots, none-memory, provided-on_nothing, Makes-refused, full-slots}
+use Rattle.quick_cache_policy.proofs.MakeLemmas.{free-slot, made-state, made-sound, stands-exactly}
 use Rattle.quick_cache_policy.proofs.KeptPlaces.{awaited-places}
 use Rattle.quick_cache_policy.specs.Places.{places_of}
 use Rattle.quick_cache_policy.proofs.contents.Contents.make_on_nothing.Goals as goal
 
 -- a refusal for memory is none for slots, and what succeeded was not refused
-no-slots : (refusal : _) → refusal ≡ Memory
-    → ◌≡◌ {A = Result (Unit {0}) _} (Err refusal) (Err SlotsFull) → ⊥
+no-slots : (refusal : _) → refusal ≡ Refusal.Memory
+    → ◌≡◌ {A = Result (Unit {0}) _} (Err refusal) (Err Refusal.SlotsFull) → ⊥
 no-slots refusal memory same =
-    let clash : ◌≡◌ {A = Result (Unit {0}) _} (Err Memory) (Err SlotsFull) =
+    let clash : ◌≡◌ {A = Result (Unit {0}) _} (Err Refusal.Memory) (Err Refusal.SlotsFull) =
     ap (λ r. Err r) (sym memory) ∙ same in
     absurd (cc)
 
@@ -113,7 +114,7 @@ returns-clause-makes g c =
     let room = c.make_room.new.self.room in
     let mid : Lists _ _ _ = record contents.lists { room = room } in
     let puts = subst (λ (l : Lists _ _ _). PutsLast {T = g.row.P-Touch.Denot} l
-    (number c.put.result) c.args.hash (loading_variant awaited) c.put.new.self)
+    (number c.put.result) c.args.hash (Entry.Loading awaited) c.put.new.self)
     c.make_room.ensures.lists c.put.ensures.last in
     let now = record contents { lists = c.put.new.self } in
     let misses : c.count_made.new.self.misses ≡ counted_up 1 contents.misses =
@@ -168,7 +169,7 @@ returns-clause-sound g c = λ hashed under sound.
     let room = c.make_room.new.self.room in
     let mid : Lists _ _ _ = record contents.lists { room = room } in
     let puts = subst (λ (l : Lists _ _ _). PutsLast {T = g.row.P-Touch.Denot} l
-    (number c.put.result) c.args.hash (loading_variant awaited) c.put.new.self)
+    (number c.put.result) c.args.hash (Entry.Loading awaited) c.put.new.self)
     c.make_room.ensures.lists c.put.ensures.last in
     let now = record contents { lists = c.put.new.self } in
     let misses : c.count_made.new.self.misses ≡ counted_up 1 contents.misses =

@@ -1,4 +1,4 @@
-use Rattle.std.proofs.Common.{◌≡◌, ◌≤◌, [], ◌∷◌, refl, sym, ap, subst, ◌∙◌, arith}
+use Rattle.std.proofs.Common.{◌≡◌, ◌≤◌, [], ◌∷◌, refl, sym, ap, subst, ◌∙◌, arith, inl, inr}
 use Rattle.std.specs.Int.NonZero.{non_zero_u32_get as number}
 use Rattle.quick_cache_model.specs.declared.queue.Queue.{Queue}
 use Rattle.quick_cache_model.specs.CacheState.{Item}
@@ -9,14 +9,13 @@ use Rattle.quick_cache_model.proofs.HookLaws.{RunsHooks-append}
 use Rattle.quick_cache_model.proofs.Valid.Writes.{mark_after-le}
 use Rattle.quick_cache_model.specs.Removal.{pair_of}
 use Rattle.quick_cache_store.specs.Lists.{Finds, Rewrites, HasItemToken, IsItemOf}
-use Rattle.quick_cache_store.specs.declared.lists.found.Found.TheVariants.{Item as found_item}
+use Rattle.quick_cache_store.specs.declared.lists.found.Found.{Found}
 use Rattle.quick_cache_policy.specs.Contents.{state_of}
 use Rattle.quick_cache_policy.specs.Policies.{rules_by}
 use Rattle.quick_cache_policy.specs.Writing.{AreAdmittedCalls, IsReplacement, strategy_of}
 use Rattle.quick_cache_policy.proofs.RewriteLemmas.{over_item-same, over_item-writes, over_item-tells, over_item-sound, over_item-count}
 use Rattle.quick_cache_policy.proofs.EnterLemmas.{Rewrites-room}
 use Rattle.quick_cache_policy.proofs.BoundLemmas.{PaysFor-within}
-use Rattle.std.proofs.Common.{inl, inr}
 use Rattle.quick_cache_policy.proofs.WrittenPlaces.{rewritten-places, one-place, HasItem-place}
 use Rattle.quick_cache_policy.proofs.contents.Contents.overwrite.Goals as goal
 
@@ -44,7 +43,7 @@ evict_to_capacity-requires g c =
     let item = c.item-item.result in
     let touched = c.min-touched.result in
     let was = c.rewrite.result in
-    let found = subst (λ h. Finds (g.K.PartialEq.eq key) h lists (found_item c.args.token))
+    let found = subst (λ h. Finds (g.K.PartialEq.eq key) h lists (Found.Item c.args.token))
     c.requires.hash_is c.requires.found in
     let rewrites = subst (λ l. Rewrites l token c.new-item.result was c.rewrite.new.self)
     c.take_touch-touches.ensures.same c.rewrite.ensures in
@@ -77,7 +76,7 @@ returns-clause-writes g c =
     let item = c.item-item.result in
     let n = c.take_touch-touches.result in
     let was = c.rewrite.result in
-    let found = subst (λ h. Finds (g.K.PartialEq.eq key) h lists (found_item c.args.token))
+    let found = subst (λ h. Finds (g.K.PartialEq.eq key) h lists (Found.Item c.args.token))
     c.requires.hash_is c.requires.found in
     let rewrites = subst (λ l. Rewrites l token c.new-item.result was c.rewrite.new.self)
     c.take_touch-touches.ensures.same c.rewrite.ensures in
@@ -146,7 +145,7 @@ returns-clause-stays g c =
     let token = number c.args.token in
     let was = c.rewrite.result in
     let found = c.requires.found in
-    let finds = subst (λ h. Finds (g.K.PartialEq.eq key) h lists (found_item c.args.token))
+    let finds = subst (λ h. Finds (g.K.PartialEq.eq key) h lists (Found.Item c.args.token))
     c.requires.hash_is found in
     let rewrites = subst (λ l. Rewrites l token c.new-item.result was c.rewrite.new.self)
     c.take_touch-touches.ensures.same c.rewrite.ensures in

@@ -8,8 +8,7 @@ use Rattle.quick_cache_store.proofs.lists.StandingLemmas.{not-loading, not-ghost
 use Rattle.quick_cache_policy.specs.Contents.{IsSound, state_of}
 use Rattle.quick_cache_policy.proofs.EnterLemmas.{state_with}
 use Rattle.quick_cache_policy.proofs.FindLemmas.{HasNothing-state}
-use Rattle.quick_cache_policy.proofs.LookupLemmas.{removes-item, item-sound}
-use Rattle.quick_cache_policy.proofs.LookupLemmas.{removes-loading, loading-sound, removes-ghost, ghost-sound}
+use Rattle.quick_cache_policy.proofs.LookupLemmas.{removes-item, item-sound, removes-loading, loading-sound, removes-ghost, ghost-sound}
 use Rattle.std.specs.List.{Contains}
 use Rattle.quick_cache_policy.specs.Places.{places_of}
 use Rattle.quick_cache_policy.proofs.WrittenPlaces.{without-places}

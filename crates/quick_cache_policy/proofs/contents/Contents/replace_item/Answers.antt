@@ -1,6 +1,6 @@
 use Rattle.std.proofs.Common.{◌+◌, sym, ap, subst, ◌∙◌, arith, ◌==◌}
 use Rattle.std.specs.Int.NonZero.{non_zero_u32_get as number}
-use Rattle.quick_cache_model.specs.declared.refusal.Refusal.TheVariants.{TicketsSpent}
+use Rattle.quick_cache_model.specs.declared.refusal.Refusal.{Refusal}
 use Rattle.quick_cache_model.specs.Refusals.{IsProvided, MayRefuse, needs_of_replacement}
 use Rattle.quick_cache_policy.specs.declared.contents.Contents.{Contents}
 use Rattle.quick_cache_policy.specs.Contents.{state_of}
@@ -19,7 +19,7 @@ returns-then-self-clause-replaces g c =
     let acts = refused-acts (rules_by g.M.Policy g.P.Touch.Touches.may_count c.args.terms.now)
     (g.Q.Equivalent.equivalent c.args.query.now) state state
     (state_of g.P.SharedPlaceholder.ticket_of c.weigh_item.new.self) c.weigh_item.ensures.reweighs
-    TicketsSpent (MayRefuse.tickets_spent tt (omega (arith, c.if-self.true))) in
+    Refusal.TicketsSpent (MayRefuse.tickets_spent tt (omega (arith, c.if-self.true))) in
     (acts.item, acts.step)
 
 -- there is no memory for the placeholder

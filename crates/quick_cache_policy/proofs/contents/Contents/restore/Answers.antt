@@ -1,49 +1,36 @@
 use Rattle.std.proofs.Common.{◌≡◌, ◌∙◌, ℕ, Bool, true, min, inl, inr, refl, sym, ap, subst, arith, Some}
 use Rattle.std.specs.List.{Contains}
 use Rattle.std.specs.Int.NonZero.{non_zero_u32_get as number}
-use Rattle.quick_cache_model.specs.CacheState.{CacheState, Item, SameButOrder, keys_by}
-use Rattle.quick_cache_model.specs.CacheState.{entered as model_entered}
+use Rattle.quick_cache_model.specs.CacheState.{CacheState, Item, SameButOrder, keys_by, entered as model_entered}
 use Rattle.quick_cache_model.specs.Finding.{HasNothing}
-use Rattle.quick_cache_model.specs.Writes.{Insert, new_item}
-use Rattle.quick_cache_store.specs.declared.slots.entry.Entry.TheVariants.{Item as item_variant}
-use Rattle.quick_cache_store.specs.declared.lists.found.Found.TheVariants.{Nothing as found_nothing}
+use Rattle.quick_cache_model.specs.Writes.{new_item}
+use Rattle.quick_cache_store.specs.declared.slots.entry.Entry.{Entry}
+use Rattle.quick_cache_store.specs.declared.lists.found.Found.{Found}
 use Rattle.quick_cache_store.specs.Lists.{Finds, PutsLast}
 use Rattle.quick_cache_policy.specs.Contents.{state_of, AreHashed, IsSound}
-use Rattle.quick_cache_policy.specs.Finding.{IsPlanned, Provides, TakesSlot}
 use Rattle.quick_cache_policy.specs.Places.{places_of}
 use Rattle.quick_cache_policy.specs.Policies.{rules_by}
 use Rattle.quick_cache_policy.specs.declared.contents.Contents.{Contents}
-use Rattle.quick_cache_policy.specs.declared.writing.plan.Plan.{Plan}
-use Rattle.quick_cache_policy.specs.declared.writing.plan.Plan.TheVariants.{InsertNew as insert_new, OverGhost as over_ghost, OverLoading as over_loading, OverItem as over_item, GiveBack as give_back}
-use Rattle.quick_cache_policy.proofs.AnswerLemmas.{Provides-refused, entry_count-taken}
+use Rattle.quick_cache_policy.proofs.AnswerLemmas.{Provides-refused}
 use Rattle.quick_cache_policy.proofs.EnterLemmas.{state_with, AreHashed-room}
-use Rattle.quick_cache_policy.proofs.FindLemmas.{AreHashed-under, HasNothing-state}
+use Rattle.quick_cache_policy.proofs.FindLemmas.{AreHashed-under, Finds-nothing, HasNothing-state}
 use Rattle.quick_cache_policy.proofs.NewLemmas.{new-sound, put-state}
 use Rattle.quick_cache_policy.proofs.PlaceLemmas.{LosesOnly-same}
-use Rattle.quick_cache_policy.proofs.PlanLemmas.{IsPlanned-takes}
 use Rattle.quick_cache_policy.proofs.WrittenPlaces.{no-place, put-places, LosesOnly-keeps, WritesPlace-keeps}
 use Rattle.quick_cache_policy.proofs.contents.Contents.restore.Goals as goal
 
--- what takes a slot is new
-takes-new : (plan : Plan) → TakesSlot plan → plan ≡ insert_new
-takes-new insert_new takes = refl
-takes-new (over_ghost token) takes = absurd takes
-takes-new (over_loading token) takes = absurd takes
-takes-new (over_item token) takes = absurd takes
-takes-new give_back takes = absurd takes
-
--- what is planned as new is unknown
-planned-unknown : {K V P W A T : Type 0} (ticket_of : P → ℕ) (old : Contents K V W A T P)
+-- where nothing was found, the key is unknown
+found-unknown : {K V P W A T : Type 0} (ticket_of : P → ℕ) (old : Contents K V W A T P)
     (stands_for : K → Bool) (hashed : K → ℕ) (handed hash : ℕ)
     → ((k : K) → stands_for k ≡ true → hashed k ≡ hash) → handed ≡ hash
-    → AreHashed hashed old.lists → (plan : Plan)
-    → IsPlanned stands_for handed old.lists Insert plan → plan ≡ insert_new
+    → AreHashed hashed old.lists → (found : Found)
+    → Finds stands_for handed old.lists found → found ≡ Found.Nothing
     → HasNothing stands_for hash (state_of ticket_of old)
-planned-unknown ticket_of old stands_for hashed handed hash same is are plan planned new =
+found-unknown ticket_of old stands_for hashed handed hash same is are found finds nothing =
     HasNothing-state ticket_of stands_for hash old
     (AreHashed-under stands_for hash old.lists hashed same are)
-    (subst (λ (h : ℕ). Finds stands_for h old.lists found_nothing) is
-    (subst (λ (p : Plan). IsPlanned stands_for handed old.lists Insert p) new planned).1)
+    (subst (λ (h : ℕ). Finds stands_for h old.lists Found.Nothing) is
+    (subst (Finds stands_for handed old.lists) nothing finds))
 
 -- something is known of the key
 pub returns-in_default : goal.returns-in_default
@@ -51,17 +38,15 @@ returns-in_default g c =
     let ticket_of = g.P.SharedPlaceholder.ticket_of in
     let old = c.args.self.now in
     let equal_to = g.K.PartialEq.eq c.args.key in
-    let plan = c.plan_write-plan.result in
     record {
       answers = (
         refl,
         refl,
         refl,
-        λ can. c.in_default.not-InsertNew (takes-new plan
-            (IsPlanned-takes ticket_of equal_to c.args.hash old Insert plan
-            c.plan_write-plan.ensures refl
+        λ can. c.in_default.not-Nothing (Finds-nothing ticket_of equal_to c.args.hash old
+            c.find-found.result c.find-found.ensures
             (subst (λ (h : ℕ). HasNothing equal_to h (state_of ticket_of old))
-            (sym c.requires.hash_is) can))),
+            (sym c.requires.hash_is) can)),
       );
       asks = λ e. absurd (cc);
       sound = c.requires.sound;
@@ -72,30 +57,22 @@ returns-in_default g c =
     }
 
 -- there was no slot or no memory
-pub returns-in-Some-clause-answers : goal.returns-in-Some-clause-answers
-returns-in-Some-clause-answers g c =
+pub returns-in-Err-clause-answers : goal.returns-in-Err-clause-answers
+returns-in-Err-clause-answers g c =
     let ticket_of = g.P.SharedPlaceholder.ticket_of in
     let old = c.args.self.now in
     let equal_to = g.K.PartialEq.eq c.args.key in
-    let plan = c.plan_write-plan.result in
     let hash = g.M.Policy.hashed c.args.terms.now c.args.key in
-    let unknown = planned-unknown ticket_of old equal_to (g.M.Policy.hashed c.args.terms.now)
-    c.args.hash hash (λ k same. sym (g.met.M.Policy.same_hash c.args.terms.now c.args.key k same))
-    c.requires.hash_is c.requires.sound.hashed plan c.plan_write-plan.ensures c.in-InsertNew.is in (
-      refl,
-      refl,
-      ap (state_of ticket_of) c.provide.ensures.lists,
-      (
-        unknown,
-        Provides-refused equal_to hash (state_of ticket_of old) plan Insert
-            c.provide.new.self.lists.room (λ _. (refl, unknown)) c.in-Some.refusal
-            (subst (λ (n : ℕ). Provides plan n c.provide.new.self.lists.room
-            (Some c.in-Some.refusal)) (entry_count-taken ticket_of old) c.in-Some.ensures.provides),
-      ),
-    )
+    let refused = Provides-refused ticket_of equal_to hash old c.provide.new.self.lists.room
+    (AreHashed-under equal_to hash old.lists (g.M.Policy.hashed c.args.terms.now)
+    (λ k same. sym (g.met.M.Policy.same_hash c.args.terms.now c.args.key k same))
+    c.requires.sound.hashed) c.find-found.result
+    (subst (λ (h : ℕ). Finds equal_to h old.lists c.find-found.result) c.requires.hash_is
+    c.find-found.ensures) c.in-Err.refusal c.in-Err.ensures.provides in
+    (refl, refl, ap (state_of ticket_of) c.provide.ensures.lists, refused)
 
-pub returns-in-Some-clause-places : goal.returns-in-Some-clause-places
-returns-in-Some-clause-places g c =
+pub returns-in-Err-clause-places : goal.returns-in-Err-clause-places
+returns-in-Err-clause-places g c =
     LosesOnly-keeps g.P.SharedPlaceholder.ticket_of c.args.self.now g.K.PartialEq.eq
     g.met.K.Eq.laws c.requires.sound.valid _
     (LosesOnly-same _ _
@@ -109,10 +86,10 @@ returns-clause-answers g c =
     let key = c.args.key in
     let old = c.args.self.now in
     let made = c.provide.new.self in
-    let unknown = planned-unknown ticket_of old (g.K.PartialEq.eq key) rules.hash
+    let unknown = found-unknown ticket_of old (g.K.PartialEq.eq key) rules.hash
     c.args.hash (rules.hash key) (λ k same. sym (g.met.M.Policy.same_hash c.args.terms.now key k same))
-    c.requires.hash_is c.requires.sound.hashed c.plan_write-plan.result c.plan_write-plan.ensures
-    c.in-InsertNew.is in
+    c.requires.hash_is c.requires.sound.hashed c.find-found.result c.find-found.ensures
+    c.in-Nothing.is in
     let pair = new_item rules key c.args.value c.args.queue (min c.args.mark old.mark_cut) in
     let is : c.new-item.result ≡ pair =
     c.new-item.ensures ∙ (λ i. record {
@@ -127,7 +104,7 @@ returns-clause-answers g c =
     let put = put-state ticket_of old made g.K.PartialEq.eq g.met.K.Eq.laws rules key c.args.value
     unknown (λ test. omega (arith, ap (λ (r : Contents _ _ _ _ _ _). keys_by test (state_of ticket_of r)) c.provide.ensures.lists)) (number c.put.result) c.new-item.result c.put.new.self
     (subst (λ (h : ℕ). PutsLast {T = g.row.P-Touch.Denot} made.lists (number c.put.result) h
-    (item_variant c.new-item.result) c.put.new.self) c.requires.hash_is c.put.ensures.last) in (
+    (Entry.Item c.new-item.result) c.put.new.self) c.requires.hash_is c.put.ensures.last) in (
       unknown,
       record {
         ordered = model_entered pair (state_of ticket_of old);
@@ -147,16 +124,16 @@ returns-clause-sound g c =
     let old = c.args.self.now in
     let made = c.provide.new.self in
     new-sound ticket_of old made g.K.PartialEq.eq g.met.K.Eq.laws rules key c.args.value
-    (planned-unknown ticket_of old (g.K.PartialEq.eq key) rules.hash c.args.hash (rules.hash key)
+    (found-unknown ticket_of old (g.K.PartialEq.eq key) rules.hash c.args.hash (rules.hash key)
     (λ k same. sym (g.met.M.Policy.same_hash c.args.terms.now key k same)) c.requires.hash_is
-    c.requires.sound.hashed c.plan_write-plan.result c.plan_write-plan.ensures c.in-InsertNew.is)
+    c.requires.sound.hashed c.find-found.result c.find-found.ensures c.in-Nothing.is)
     (λ test. omega (
       arith,
       ap (λ (r : Contents _ _ _ _ _ _). keys_by test (state_of ticket_of r))
           c.provide.ensures.lists,
     )) (number c.put.result) c.new-item.result c.put.new.self
     (subst (λ (h : ℕ). PutsLast {T = g.row.P-Touch.Denot} made.lists (number c.put.result) h
-    (item_variant c.new-item.result) c.put.new.self) c.requires.hash_is c.put.ensures.last)
+    (Entry.Item c.new-item.result) c.put.new.self) c.requires.hash_is c.put.ensures.last)
     (ap (λ (i : Item _ _). i.key) c.new-item.ensures)
     (omega (arith, ap (λ (i : Item _ _). i.mark) c.new-item.ensures, c.min-mark.ensures))
     (subst (λ r. IsSound ticket_of g.K.PartialEq.eq rules.hash r) (sym c.provide.ensures.lists)
@@ -174,10 +151,10 @@ returns-clause-places g c =
     let ticket_of = g.P.SharedPlaceholder.ticket_of in
     let key = c.args.key in
     let old = c.args.self.now in
-    let unknown = planned-unknown ticket_of old (g.K.PartialEq.eq key) rules.hash
+    let unknown = found-unknown ticket_of old (g.K.PartialEq.eq key) rules.hash
     c.args.hash (rules.hash key) (λ k same. sym (g.met.M.Policy.same_hash c.args.terms.now key k same))
-    c.requires.hash_is c.requires.sound.hashed c.plan_write-plan.result c.plan_write-plan.ensures
-    c.in-InsertNew.is in
+    c.requires.hash_is c.requires.sound.hashed c.find-found.result c.find-found.ensures
+    c.in-Nothing.is in
     WritesPlace-keeps ticket_of old g.K.PartialEq.eq g.met.K.Eq.laws c.requires.sound.valid key _
     (λ place there. elim (put-places {T = g.row.P-Touch.Denot} c.provide.new.self.lists
     c.put.new.self (number c.put.result) c.args.hash c.new-item.result c.put.ensures.last place there) [

@@ -4,9 +4,8 @@ use Rattle.quick_cache_store.specs.Views.{items_of}
 use Rattle.quick_cache_policy.specs.declared.contents.Contents.{Contents}
 use Rattle.quick_cache_policy.specs.Advances.{LooksAt}
 use Rattle.quick_cache_policy.specs.Contents.{IsSound}
-use Rattle.quick_cache_policy.specs.declared.evicting.cold.Search.TheVariants.{AllPassed}
-use Rattle.quick_cache_policy.proofs.ColdLemmas.{HasPassed, HasPassed-none, HasPassed-more}
-use Rattle.quick_cache_policy.proofs.ColdLemmas.{HasPassed-found, LooksAt-length}
+use Rattle.quick_cache_policy.specs.declared.evicting.cold.Search.{Search}
+use Rattle.quick_cache_policy.proofs.ColdLemmas.{HasPassed, HasPassed-none, HasPassed-more, HasPassed-found, LooksAt-length}
 use Rattle.quick_cache_policy.proofs.ColdSoundLemmas.{IsSound-cold_turned, items_of-turned, items_of-length, length-turned}
 use Rattle.std.specs.List.{Contains}
 use Rattle.quick_cache_policy.specs.Places.{places_in}
@@ -83,7 +82,7 @@ loop-preserved g c =
           ))
           (subst (λ n. LooksAt (g.M.Policy.steady c.args.terms.now)
           (g.M.Policy.pinned c.args.terms.now) n g.P.Touch.Touches.may_count (items_of cold)
-          AllPassed (items_of seen.lists.cold))
+          Search.AllPassed (items_of seen.lists.cold))
           (ap (λ (r : Contents _ _ _ _ _ _). r.mark_cut) i.same) looks.looks));
       sound = subst (λ (l : Lists _ _ _). IsSound g.P.SharedPlaceholder.ticket_of g.K.PartialEq.eq
           (g.M.Policy.hashed c.args.terms.now) (record seen { lists = l })) (sym c.turn.ensures)

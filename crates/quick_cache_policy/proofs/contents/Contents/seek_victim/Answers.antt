@@ -1,5 +1,6 @@
 use Rattle.std.proofs.Common.{arith}
-use Rattle.quick_cache_policy.proofs.HotSeekLemmas.{SeeksVictim-begins, SeeksVictim-goes_on, SeeksVictim-stops, SeeksVictim-gives_up, advance_measure-seeks}
+use Rattle.quick_cache_policy.proofs.HotSeekLemmas.{SeeksVictim-begins, SeeksVictim-goes_on, SeeksVictim-stops, SeeksVictim-gives_up}
+use Rattle.quick_cache_policy.proofs.HotSeekLemmas.{advance_measure-seeks}
 use Rattle.quick_cache_policy.proofs.contents.Contents.seek_victim.Goals as goal
 
 pub loop-takes_touches-init : goal.loop-takes_touches-init

@@ -1,7 +1,7 @@
 use Rattle.std.proofs.Common.{List, ◌+◌, ◌∙◌, sym, ap, subst, arith}
 use Rattle.quick_cache_model.specs.Fates.{residents}
 use Rattle.quick_cache_model.specs.Leads.{Tells}
-use Rattle.quick_cache_model.specs.declared.queue.Queue.TheVariants.{Hot, Cold}
+use Rattle.quick_cache_model.specs.declared.queue.Queue.{Queue}
 use Rattle.quick_cache_model.specs.Capacity.{SetsCapacity}
 use Rattle.quick_cache_model.specs.Eviction.{EvictsToCapacity}
 use Rattle.quick_cache_model.proofs.OrderLaws.{UpToOrder-map}
@@ -63,17 +63,18 @@ returns-clause-work g c =
     let old = c.args.self.now in
     let ready = c.forget_ghosts.new.self in
     let same = c.forget_ghosts.ensures.same in
-    let n = ring_count Hot old + ring_count Cold old + 1 in
+    let n = ring_count Queue.Hot old + ring_count Queue.Cold old + 1 in
     let cut = old.mark_cut in
     subst (λ w. WorksWithin cut n w (work_of c.evict_to_capacity.new.self))
     (ap (λ (s : Contents _ _ _ _ _ _). work_of s) same)
     (subst (λ k. WorksWithin k n (work_of ready) (work_of c.evict_to_capacity.new.self))
     (ap (λ (s : Contents _ _ _ _ _ _). s.mark_cut) same)
-    (PaysFor-within ready.mark_cut n (ring_count Hot ready) (ring_count Cold ready) _ _ _ _
+    (PaysFor-within ready.mark_cut n (ring_count Queue.Hot ready) (ring_count Queue.Cold ready) _ _
+    _ _
     (omega (
       arith,
-      ap (λ (s : Contents _ _ _ _ _ _). ring_count Hot s) same,
-      ap (λ (s : Contents _ _ _ _ _ _). ring_count Cold s) same,
+      ap (λ (s : Contents _ _ _ _ _ _). ring_count Queue.Hot s) same,
+      ap (λ (s : Contents _ _ _ _ _ _). ring_count Queue.Cold s) same,
     ))
     c.evict_to_capacity.ensures.stays.work))
 

@@ -4,13 +4,12 @@ use Rattle.quick_cache_model.specs.declared.queue.Queue.{Queue}
 use Rattle.quick_cache_model.specs.CacheState.{Item}
 use Rattle.quick_cache_model.specs.Hooks.{RunsHooks, evicted}
 use Rattle.quick_cache_model.specs.Writes.{TakesOutItem, was_absent}
-use Rattle.quick_cache_store.specs.Lists.{Lists}
+use Rattle.quick_cache_store.specs.Lists.{Finds, Lists}
 use Rattle.quick_cache_policy.specs.Contents.{IsSound, state_of}
-use Rattle.quick_cache_policy.specs.Finding.{IsPlanned}
 use Rattle.quick_cache_policy.specs.Writing.{none, one}
-use Rattle.quick_cache_policy.proofs.PlanLemmas.{IsPlanned-no_item}
 use Rattle.quick_cache_policy.proofs.FindLemmas.{AreHashed-under}
-use Rattle.quick_cache_policy.proofs.AdmissionLemmas.{FindsItem-leaves, FindsItem-item, FindsItem-loading, FindsItem-ghost, LeavesItem-takes, LeavesItem-sound}
+use Rattle.quick_cache_policy.proofs.AdmissionLemmas.{FindsItem-leaves, FindsItem-item, FindsItem-loading, FindsItem-ghost}
+use Rattle.quick_cache_policy.proofs.AdmissionLemmas.{Finds-no_item, LeavesItem-takes, LeavesItem-sound}
 use Rattle.std.specs.List.{Contains}
 use Rattle.quick_cache_policy.specs.Places.{places_of}
 use Rattle.quick_cache_policy.proofs.WrittenPlaces.{without-places}
@@ -29,9 +28,8 @@ returns-in_default g c =
       takes = record {
         calls = [];
         holds = (
-          was_absent (IsPlanned-no_item ticket equal c.args.key.now c.args.hash c.args.self.now
-              c.requires.planned.0 c.requires.sound.valid under c.args.plan c.requires.planned.1
-              c.in_default.not-OverItem),
+          was_absent (Finds-no_item ticket equal c.args.key.now c.args.hash c.args.self.now
+              c.requires.sound.valid under c.args.found c.requires.found c.in_default.not-Item),
           none,
         );
         runs = refl;
@@ -46,28 +44,28 @@ returns-in_default g c =
 
 pub take-slot-requires : goal.take-slot-requires
 take-slot-requires g c =
-    let finds = subst (IsPlanned (g.K.PartialEq.eq c.args.key.now) c.args.hash
-    c.args.self.now.lists c.requires.planned.0) c.in-OverItem.is c.requires.planned.1 in
+    let finds = subst (Finds (g.K.PartialEq.eq c.args.key.now) c.args.hash
+    c.args.self.now.lists) c.in-Item.is c.requires.found in
     inl (
-      record { token = number c.in-OverItem.token; hash = c.args.hash; item = finds.item },
+      record { token = number c.in-Item.token; hash = c.args.hash; item = finds.item },
       finds.stands,
       refl,
     )
 
 pub unreachable-requires : goal.unreachable-requires
 unreachable-requires g c =
-    let finds = subst (IsPlanned (g.K.PartialEq.eq c.args.key.now) c.args.hash
-    c.args.self.now.lists c.requires.planned.0) c.in-OverItem.is c.requires.planned.1 in
+    let finds = subst (Finds (g.K.PartialEq.eq c.args.key.now) c.args.hash
+    c.args.self.now.lists) c.in-Item.is c.requires.found in
     FindsItem-loading g.P.SharedPlaceholder.ticket_of (g.K.PartialEq.eq c.args.key.now) c.args.hash
-    c.args.self.now c.facts.ensures.apart (number c.in-OverItem.token) finds c.take-slot.result.hash
+    c.args.self.now c.facts.ensures.apart (number c.in-Item.token) finds c.take-slot.result.hash
     c.take-slot.result.entry c.in-Loading.field-0 c.take-slot.ensures.taken c.in-Loading.is
 
 pub unreachable-requires-in-Ghost : goal.unreachable-requires-in-Ghost
 unreachable-requires-in-Ghost g c =
-    let finds = subst (IsPlanned (g.K.PartialEq.eq c.args.key.now) c.args.hash
-    c.args.self.now.lists c.requires.planned.0) c.in-OverItem.is c.requires.planned.1 in
+    let finds = subst (Finds (g.K.PartialEq.eq c.args.key.now) c.args.hash
+    c.args.self.now.lists) c.in-Item.is c.requires.found in
     FindsItem-ghost g.P.SharedPlaceholder.ticket_of (g.K.PartialEq.eq c.args.key.now) c.args.hash
-    c.args.self.now c.facts.ensures.apart (number c.in-OverItem.token) finds c.take-slot.result.hash
+    c.args.self.now c.facts.ensures.apart (number c.in-Item.token) finds c.take-slot.result.hash
     c.take-slot.result.entry c.take-slot.ensures.taken c.in-Ghost.is
 
 -- the item that was found is the one that is told
@@ -75,19 +73,19 @@ pub returns-clause-takes : goal.returns-clause-takes
 returns-clause-takes g c =
     let equal = g.K.PartialEq.eq in
     let ticket = g.P.SharedPlaceholder.ticket_of in
-    let t = number c.in-OverItem.token in
+    let t = number c.in-Item.token in
     let old = c.args.self.now in
-    let finds = subst (IsPlanned (equal c.args.key.now) c.args.hash old.lists c.requires.planned.0)
-    c.in-OverItem.is c.requires.planned.1 in
+    let finds = subst (Finds (equal c.args.key.now) c.args.hash old.lists) c.in-Item.is
+    c.requires.found in
     let item = finds.item in
     let is = FindsItem-item ticket (equal c.args.key.now) c.args.hash old c.facts.ensures.apart t
-    finds c.take-slot.result.hash c.take-slot.result.entry c.in-Item.item
-    c.take-slot.ensures.taken c.in-Item.is in
+    finds c.take-slot.result.hash c.take-slot.result.entry c.in-Item-entry.item
+    c.take-slot.ensures.taken c.in-Item-entry.is in
     let leaves = FindsItem-leaves ticket (equal c.args.key.now) c.args.hash old
     c.facts.ensures.apart t finds in
     let takes = LeavesItem-takes ticket equal c.args.key.now c.args.hash old c.requires.sound t item
     leaves in
-    let now = c.in-Item.item-is ∙ is in
+    let now = c.in-Item-entry.item-is ∙ is in
     let queue = c.queue-queue.ensures
     ∙ ap (λ (x : Item g.row.K.Denot g.row.V.Denot). x.queue) now in
     let pair = c.into_pair-old_key.ensures
@@ -114,10 +112,10 @@ pub returns-clause-stays : goal.returns-clause-stays
 returns-clause-stays g c =
     let equal = g.K.PartialEq.eq in
     let ticket = g.P.SharedPlaceholder.ticket_of in
-    let t = number c.in-OverItem.token in
+    let t = number c.in-Item.token in
     let old = c.args.self.now in
-    let finds = subst (IsPlanned (equal c.args.key.now) c.args.hash old.lists c.requires.planned.0)
-    c.in-OverItem.is c.requires.planned.1 in
+    let finds = subst (Finds (equal c.args.key.now) c.args.hash old.lists) c.in-Item.is
+    c.requires.found in
     record {
       sound = subst (λ lists. IsSound ticket equal (g.M.Policy.hashed c.args.terms.now)
           (record old { lists = lists })) (sym c.take-slot.ensures.rest)
@@ -125,7 +123,7 @@ returns-clause-stays g c =
           finds.item
           (FindsItem-leaves ticket (equal c.args.key.now) c.args.hash old c.facts.ensures.apart t
           finds));
-      places = λ place there. without-places (number c.in-OverItem.token) c.args.self.now.lists
+      places = λ place there. without-places (number c.in-Item.token) c.args.self.now.lists
           place
           (subst (λ l. Contains (places_of l) place) c.take-slot.ensures.rest there);
       room = omega (arith, ap (λ (l : Lists _ _ _). l.room) c.take-slot.ensures.rest);

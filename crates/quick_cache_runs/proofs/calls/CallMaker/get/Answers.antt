@@ -1,5 +1,5 @@
 use Rattle.std.proofs.Common.{Some}
-use Rattle.quick_cache_model.specs.declared.calls.call.Call.TheVariants.{Get}
+use Rattle.quick_cache_model.specs.declared.calls.call.Call.{Call}
 use Rattle.quick_cache_model.specs.CacheStep.{CacheStep}
 use Rattle.quick_cache_model.specs.Kinds.{IsLook}
 use Rattle.quick_cache_runs.proofs.CallSteps.{refused_copy}
@@ -15,5 +15,5 @@ returns-in-Ok-Some-clause-step g c = λ answers.
 pub returns-clause-step : goal.returns-clause-step
 returns-clause-step g c = λ answers.
     refused_copy _ g.K.PartialEq.eq g.K.Clone.is_clone g.V.Clone.is_clone answers
-    c.args.cache.now.state (Get c.args.key) c.args.key IsLook.get c.in-Err.refusal _
+    c.args.cache.now.state (Call.Get c.args.key) c.args.key IsLook.get c.in-Err.refusal _
     (rw c.in-Err.is at c.find.ensures.finds)

@@ -1,7 +1,7 @@
 use Rattle.std.proofs.Common.{rules, ◌≡◌, Some, None, sym, subst}
 use Rattle.quick_cache_model.specs.Lookups.{Sees}
-use Rattle.quick_cache_model.specs.declared.calls.call.Call.TheVariants.{Guarded}
-use Rattle.quick_cache_model.specs.declared.calls.reply.Reply.TheVariants.{Filled, Dropped}
+use Rattle.quick_cache_model.specs.declared.calls.call.Call.{Call}
+use Rattle.quick_cache_model.specs.declared.calls.reply.Reply.{Reply}
 use Rattle.quick_cache_shard.specs.Lifecycles.{hooks_by}
 use Rattle.quick_cache_shard.specs.Shard.{Shard}
 use Rattle.quick_cache_shard.specs.Steps.{goes_by, hooks_in, rules_in, steady_in}
@@ -9,8 +9,7 @@ use Rattle.quick_cache_unsync.specs.Loads.{FillsIfThere}
 use Rattle.quick_cache_unsync.specs.Touches.{no_touches}
 use Rattle.quick_cache_runs.specs.Made.{IsMadeBy}
 use Rattle.quick_cache_runs.proofs.CallSteps.{quietly}
-use Rattle.quick_cache_runs.proofs.LoadSteps.{sees-nothing}
-use Rattle.quick_cache_runs.proofs.LoadSteps.{guard-refuses, guard-drops, guard-fills}
+use Rattle.quick_cache_runs.proofs.LoadSteps.{sees-nothing, guard-refuses, guard-drops, guard-fills}
 use Rattle.quick_cache_runs.proofs.calls.CallMaker.guard_absent.Goals as goal
 
 -- no item is there, so none is found
@@ -42,7 +41,7 @@ returns-in-Some-clause-step g c = λ steady answers.
     c.insert_with_lifecycle.ensures.fills in
     rw c.in-Some.is
     (subst (λ (x : X). IsMadeBy {M = g.row.M.Denot} goes equal g.K.Clone.is_clone g.V.Clone.is_clone
-    answers old c.args.state.now (Guarded key (Some c.in-Some.value)) Filled x
+    answers old c.args.state.now (Call.Guarded key (Some c.in-Some.value)) Reply.Filled x
     c.insert_with_lifecycle.new.state) (sym same)
     (guard-fills (rules_in goes no_touches old) equal g.K.Clone.is_clone g.V.Clone.is_clone answers
     old.state key (g.K.Clone.is_clone key) guard.ticket guard.cache.now.state takes
@@ -65,9 +64,10 @@ returns-in-None-clause-step g c = λ steady answers.
     let same : final ≡ new = search rules in
     rw c.in-None.is
     (subst (λ (x : X). IsMadeBy {M = g.row.M.Denot} goes equal g.K.Clone.is_clone g.V.Clone.is_clone
-    answers old c.args.state.now (Guarded key None) Dropped x c.args.state.now) (sym same)
+    answers old c.args.state.now (Call.Guarded key None) Reply.Dropped x c.args.state.now)
+    (sym same)
     (quietly (rules_in goes no_touches old) equal g.K.Clone.is_clone g.V.Clone.is_clone answers
-    old.state (hooks_in goes old) c.args.state.now (Guarded key None) Dropped new.state
+    old.state (hooks_in goes old) c.args.state.now (Call.Guarded key None) Reply.Dropped new.state
     (guard-drops (rules_in goes no_touches old) equal g.K.Clone.is_clone g.V.Clone.is_clone answers
     old.state key (g.K.Clone.is_clone key) guard.ticket guard.cache.now.state takes
     new.state c.drop-guard.ensures.gives_up)))
@@ -78,7 +78,7 @@ returns-in-Err-clause-step g c = λ steady answers.
     let rests = rw c.in-Err.is at c.get_ref_or_guard.follows.holds-at-none in
     quietly _ g.K.PartialEq.eq g.K.Clone.is_clone g.V.Clone.is_clone answers
     c.args.cache.now.state (hooks_by g.L.Lifecycle c.args.cache.now.lifecycle) c.args.state.now
-    (Guarded c.args.key.now c.args.given) _ _
+    (Call.Guarded c.args.key.now c.args.given) _ _
     (guard-refuses _ g.K.PartialEq.eq g.K.Clone.is_clone g.V.Clone.is_clone answers
     c.args.cache.now.state c.args.key.now c.args.given (g.K.Clone.is_clone c.args.key.now)
     c.in-Err.refusal _ rests.0)

@@ -1,7 +1,7 @@
 use Rattle.std.proofs.Common.{◌≡◌, ◌∙◌, sym, ap, subst}
 use Rattle.quick_cache_model.specs.CacheState.{CacheState}
 use Rattle.quick_cache_model.specs.Finding.{HasNoItem}
-use Rattle.quick_cache_model.specs.declared.calls.call.Call.TheVariants.{Guarded}
+use Rattle.quick_cache_model.specs.declared.calls.call.Call.{Call}
 use Rattle.quick_cache_shard.specs.Lifecycles.{hooks_by}
 use Rattle.quick_cache_shard.specs.Shard.{Shard, KeepsTerms}
 use Rattle.quick_cache_shard.specs.Steps.{goes_by}
@@ -16,7 +16,8 @@ returns-in-Ok-Some-clause-step g c = λ steady answers.
     let old = c.args.cache.now in
     let finds = rw c.in-Ok-Some.field-0-is at c.in-Ok-Some.ensures.finds in
     quietly _ g.K.PartialEq.eq g.K.Clone.is_clone g.V.Clone.is_clone answers old.state
-    (hooks_by g.L.Lifecycle old.lifecycle) c.args.state.now (Guarded c.args.key.now c.args.given) _ _
+    (hooks_by g.L.Lifecycle old.lifecycle) c.args.state.now
+    (Call.Guarded c.args.key.now c.args.given) _ _
     (guard-finds _ g.K.PartialEq.eq g.K.Clone.is_clone g.V.Clone.is_clone answers old.state
     c.args.key.now c.args.given finds.value c.in-Ok-Some.copy _ finds.looks finds.cloned)
 
@@ -39,7 +40,7 @@ returns-in-Ok-None g c =
       step = subst (λ (x : X). MakesCall g.row.F.Denot
           (goes_by g.K.Hash.hash_input g.We.Weighter g.B.BuildHasher g.B.Hasher.Hasher
           g.L.Lifecycle) g.K.PartialEq.eq g.K.Clone.is_clone g.V.Clone.is_clone x c.args.state.now
-          (Guarded c.args.key.now c.args.given) c.guard_absent.result c.guard_absent.new.cache
+          (Call.Guarded c.args.key.now c.args.given) c.guard_absent.result c.guard_absent.new.cache
           c.guard_absent.new.state) same c.guard_absent.ensures.step;
       room = rw same at c.guard_absent.ensures.room;
       asks = λ key values. rw same at (c.guard_absent.ensures.asks key);
@@ -52,6 +53,7 @@ pub returns-in-Err-clause-step : goal.returns-in-Err-clause-step
 returns-in-Err-clause-step g c = λ steady answers.
     let old = c.args.cache.now in
     quietly _ g.K.PartialEq.eq g.K.Clone.is_clone g.V.Clone.is_clone answers old.state
-    (hooks_by g.L.Lifecycle old.lifecycle) c.args.state.now (Guarded c.args.key.now c.args.given) _ _
+    (hooks_by g.L.Lifecycle old.lifecycle) c.args.state.now
+    (Call.Guarded c.args.key.now c.args.given) _ _
     (guard-refuses-copy _ g.K.PartialEq.eq g.K.Clone.is_clone g.V.Clone.is_clone answers old.state
     c.args.key.now c.args.given c.in-Err.refusal _ (rw c.in-Err.is at c.find.ensures.finds))

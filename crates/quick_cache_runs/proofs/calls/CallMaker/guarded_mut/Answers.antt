@@ -1,8 +1,8 @@
 use Rattle.std.proofs.Common.{rules, ◌≡◌, Some, None, refl, sym, subst}
 use Rattle.quick_cache_model.specs.Hooks.{Rules}
-use Rattle.quick_cache_model.specs.declared.calls.call.Call.TheVariants.{Guarded, GuardedMut}
-use Rattle.quick_cache_model.specs.declared.calls.reply.Reply.TheVariants.{Found, Filled, Dropped, Refused}
-use Rattle.quick_cache_model.specs.declared.refusal.Refusal.TheVariants.{Memory}
+use Rattle.quick_cache_model.specs.declared.calls.call.Call.{Call}
+use Rattle.quick_cache_model.specs.declared.calls.reply.Reply.{Reply}
+use Rattle.quick_cache_model.specs.declared.refusal.Refusal.{Refusal}
 use Rattle.quick_cache_shard.specs.References.{with_value_under, ReweighsUnder}
 use Rattle.quick_cache_shard.specs.Lifecycles.{hooks_by}
 use Rattle.quick_cache_shard.specs.Shard.{Shard}
@@ -12,8 +12,7 @@ use Rattle.quick_cache_unsync.specs.Touches.{no_touches}
 use Rattle.quick_cache_unsync.proofs.ReferenceLemmas.{written}
 use Rattle.quick_cache_runs.specs.Made.{IsMadeBy}
 use Rattle.quick_cache_runs.proofs.CallSteps.{quietly}
-use Rattle.quick_cache_runs.proofs.LoadSteps.{sees-nothing, shows-nothing, guard-writes}
-use Rattle.quick_cache_runs.proofs.LoadSteps.{guard-refuses-clone, guard-refuses, guard-drops}
+use Rattle.quick_cache_runs.proofs.LoadSteps.{sees-nothing, shows-nothing, guard-writes, guard-refuses-clone, guard-refuses, guard-drops}
 use Rattle.quick_cache_runs.proofs.LoadSteps.{guard-fills, guarded_mut-made}
 use Rattle.quick_cache_runs.proofs.calls.CallMaker.guarded_mut.Goals as goal
 
@@ -26,9 +25,10 @@ returns-in_default-clause-step g c = λ steady answers.
     let fails = c.in_default.ensures.fails in
     guarded_mut-made _ equal g.K.Clone.is_clone g.V.Clone.is_clone answers old
     (hooks_by g.L.Lifecycle c.args.cache.now.lifecycle) key c.args.given c.args.left
-    (Refused Memory) _ _ _ (λ shown same. absurd cc)
+    (Reply.Refused Refusal.Memory) _ _ _ (λ shown same. absurd cc)
     (quietly _ equal g.K.Clone.is_clone g.V.Clone.is_clone answers old
-    (hooks_by g.L.Lifecycle c.args.cache.now.lifecycle) c.args.state.now (Guarded key c.args.given) _ _
+    (hooks_by g.L.Lifecycle c.args.cache.now.lifecycle) c.args.state.now
+    (Call.Guarded key c.args.given) _ _
     (guard-refuses-clone _ equal g.K.Clone.is_clone g.V.Clone.is_clone answers old key c.args.given
     fails.1 refl))
 
@@ -55,11 +55,12 @@ returns-in-Some-clause-step g c = λ steady answers.
     ReweighsUnder (equal x.0) x.1 (with_value_under (equal x.0) c.args.left r.cache.now.state)
     new.state) (λ i. (told.0 i, rules_in goes no_touches (same i))) c.drop-reference.ensures.reweighs) in
     subst (λ (x : X). IsMadeBy {M = g.row.M.Denot} goes equal g.K.Clone.is_clone g.V.Clone.is_clone
-    answers old c.args.state.now (GuardedMut key c.args.given c.args.left) (Found c.in-Some.copy) x
+    answers old c.args.state.now (Call.GuardedMut key c.args.given c.args.left)
+    (Reply.Found c.in-Some.copy) x
     c.args.state.now) (sym ends)
     (quietly (rules_in goes no_touches old) equal g.K.Clone.is_clone g.V.Clone.is_clone answers
     old.state (hooks_in goes old) c.args.state.now
-    (GuardedMut key c.args.given c.args.left) (Found c.in-Some.copy) new.state
+    (Call.GuardedMut key c.args.given c.args.left) (Reply.Found c.in-Some.copy) new.state
     (guard-writes (rules_in goes no_touches old) equal g.K.Clone.is_clone g.V.Clone.is_clone answers
     old.state key c.args.given c.args.left c.in-Some.copy shows.0 (c.in-Ok.ensures.sound.valid.one_entry_a_key key)
     shows.1 shows.2 told.1.0 r.cache.now.state new.state told.1.1 writes))
@@ -95,10 +96,12 @@ returns-in-Some-given-clause-step g c = λ steady answers.
     c.insert_with_lifecycle.ensures.fills in
     rw c.in-Some-given.is
     (subst (λ (x : X). IsMadeBy {M = g.row.M.Denot} goes equal g.K.Clone.is_clone g.V.Clone.is_clone
-    answers old c.args.state.now (GuardedMut key (Some c.in-Some-given.value) c.args.left) Filled x
+    answers old c.args.state.now (Call.GuardedMut key (Some c.in-Some-given.value) c.args.left)
+    Reply.Filled x
     c.insert_with_lifecycle.new.state) (sym same)
     (guarded_mut-made (rules_in goes no_touches old) equal g.K.Clone.is_clone
-    g.V.Clone.is_clone answers old.state (hooks_in goes old) key (Some c.in-Some-given.value) c.args.left Filled
+    g.V.Clone.is_clone answers old.state (hooks_in goes old) key (Some c.in-Some-given.value)
+    c.args.left Reply.Filled
     c.args.state.now new.state c.insert_with_lifecycle.new.state (λ shown same. absurd cc)
     (guard-fills (rules_in goes no_touches old) equal g.K.Clone.is_clone g.V.Clone.is_clone answers
     old.state key (g.K.Clone.is_clone key) guard.ticket guard.cache.now.state takes
@@ -121,13 +124,15 @@ returns-in-Ok-Err-clause-step g c = λ steady answers.
     let same : final ≡ new = search rules in
     rw c.in-None-given.is
     (subst (λ (x : X). IsMadeBy {M = g.row.M.Denot} goes equal g.K.Clone.is_clone g.V.Clone.is_clone
-    answers old c.args.state.now (GuardedMut key None c.args.left) Dropped x c.args.state.now)
+    answers old c.args.state.now (Call.GuardedMut key None c.args.left) Reply.Dropped x
+    c.args.state.now)
     (sym same)
     (guarded_mut-made (rules_in goes no_touches old) equal g.K.Clone.is_clone
-    g.V.Clone.is_clone answers old.state (hooks_in goes old) key None c.args.left Dropped c.args.state.now new.state
+    g.V.Clone.is_clone answers old.state (hooks_in goes old) key None c.args.left Reply.Dropped
+    c.args.state.now new.state
     c.args.state.now (λ shown same. absurd cc)
     (quietly (rules_in goes no_touches old) equal g.K.Clone.is_clone g.V.Clone.is_clone answers
-    old.state (hooks_in goes old) c.args.state.now (Guarded key None) Dropped new.state
+    old.state (hooks_in goes old) c.args.state.now (Call.Guarded key None) Reply.Dropped new.state
     (guard-drops (rules_in goes no_touches old) equal g.K.Clone.is_clone g.V.Clone.is_clone answers
     old.state key (g.K.Clone.is_clone key) guard.ticket guard.cache.now.state takes
     new.state c.drop-guard.ensures.gives_up))))
@@ -141,8 +146,9 @@ returns-clause-step g c = λ steady answers.
     let old = c.args.cache.now.state in
     guarded_mut-made _ equal g.K.Clone.is_clone g.V.Clone.is_clone answers old
     (hooks_by g.L.Lifecycle c.args.cache.now.lifecycle) key c.args.given c.args.left
-    (Refused c.in-Err.refusal) _ _ _ (λ shown same. absurd cc)
+    (Reply.Refused c.in-Err.refusal) _ _ _ (λ shown same. absurd cc)
     (quietly _ equal g.K.Clone.is_clone g.V.Clone.is_clone answers old
-    (hooks_by g.L.Lifecycle c.args.cache.now.lifecycle) c.args.state.now (Guarded key c.args.given) _ _
+    (hooks_by g.L.Lifecycle c.args.cache.now.lifecycle) c.args.state.now
+    (Call.Guarded key c.args.given) _ _
     (guard-refuses _ equal g.K.Clone.is_clone g.V.Clone.is_clone answers old key c.args.given
     (g.K.Clone.is_clone key) c.in-Err.refusal _ rests.0))

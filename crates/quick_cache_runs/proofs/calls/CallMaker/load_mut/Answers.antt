@@ -1,13 +1,12 @@
 use Rattle.std.proofs.Common.{subst}
 use Rattle.quick_cache_model.specs.CacheState.{UpToOrder}
-use Rattle.quick_cache_model.specs.declared.calls.call.Call.TheVariants.{LoadMut}
+use Rattle.quick_cache_model.specs.declared.calls.call.Call.{Call}
 use Rattle.quick_cache_model.specs.Kinds.{IsLoad}
 use Rattle.quick_cache_model.specs.References.{WritesItem}
 use Rattle.quick_cache_shard.specs.Shard.{Shard}
 use Rattle.quick_cache_shard.specs.Steps.{goes_by, rules_in}
 use Rattle.quick_cache_unsync.specs.Touches.{no_touches}
-use Rattle.quick_cache_runs.proofs.LoadSteps.{load_mut-filled, load_mut-dropped, found-written}
-use Rattle.quick_cache_runs.proofs.LoadSteps.{load_mut-other}
+use Rattle.quick_cache_runs.proofs.LoadSteps.{load_mut-filled, load_mut-dropped, found-written, load_mut-other}
 use Rattle.quick_cache_runs.proofs.calls.CallMaker.load_mut.Goals as goal
 
 -- a guard that was filled is a load, and its value is written over where it is resident
@@ -55,7 +54,7 @@ returns-in-Found-clause-step g c = λ steady answers.
     record {
       calls = made.calls;
       step = found-written _ equal g.K.Clone.is_clone g.V.Clone.is_clone answers
-          c.args.cache.now.state key c.args.left (LoadMut key c.args.given c.args.left)
+          c.args.cache.now.state key c.args.left (Call.LoadMut key c.args.given c.args.left)
           c.args.given (IsLoad.load_mut c.args.given c.args.left) c.in-Found.copy
           c.poke-in-Found.result made.calls mid.state _ made.step
           (subst (λ (x : X). UpToOrder (WritesItem (rules_in goes no_touches x) (equal key)

@@ -11,8 +11,7 @@ use Rattle.quick_cache_shard.specs.Steps.{goes_by, rules_in}
 use Rattle.quick_cache_unsync.specs.Touches.{no_touches}
 use Rattle.quick_cache_runs.specs.Asked.{IfAsks, IfLoads, IsAskedAs}
 use Rattle.quick_cache_runs.specs.Made.{IsMade, IsRunBy}
-use Rattle.quick_cache_runs.proofs.RunLemmas.{All-next, AreAnswered-push, AreAnswered-none}
-use Rattle.quick_cache_runs.proofs.RunLemmas.{AreInRoom-push, AreInRoom-none}
+use Rattle.quick_cache_runs.proofs.RunLemmas.{All-next, AreAnswered-push, AreAnswered-none, AreInRoom-push, AreInRoom-none}
 use Rattle.quick_cache_runs.proofs.calls.CallMaker.make_all.Goals as goal
 
 -- before the first call, and with room for all replies

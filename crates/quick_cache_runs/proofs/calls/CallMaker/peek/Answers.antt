@@ -1,5 +1,5 @@
 use Rattle.std.proofs.Common.{Some, None, refl}
-use Rattle.quick_cache_model.specs.declared.calls.call.Call.TheVariants.{Peek}
+use Rattle.quick_cache_model.specs.declared.calls.call.Call.{Call}
 use Rattle.quick_cache_model.specs.CacheStep.{CacheStep}
 use Rattle.quick_cache_model.specs.Kinds.{IsLook}
 use Rattle.quick_cache_runs.proofs.CallSteps.{refused_look}
@@ -20,5 +20,5 @@ returns-in-Ok-clause-step g c = λ answers.
 pub returns-clause-step : goal.returns-clause-step
 returns-clause-step g c = λ answers.
     refused_look _ g.K.PartialEq.eq g.K.Clone.is_clone g.V.Clone.is_clone answers
-    c.args.cache.now.state (λ item. item.value) (Peek c.args.key) c.args.key IsLook.peek
+    c.args.cache.now.state (λ item. item.value) (Call.Peek c.args.key) c.args.key IsLook.peek
     c.in-Some.ensures.sees refl

@@ -1,4 +1,4 @@
-use Rattle.quick_cache_model.specs.declared.calls.call.Call.TheVariants.{Iter}
+use Rattle.quick_cache_model.specs.declared.calls.call.Call.{Call}
 use Rattle.quick_cache_model.specs.CacheStep.{CacheStep}
 use Rattle.quick_cache_model.specs.Kinds.{MakesRoom}
 use Rattle.quick_cache_runs.proofs.CallSteps.{refused_room, refused_as_room}
@@ -8,7 +8,7 @@ use Rattle.quick_cache_runs.proofs.calls.CallMaker.walk.Goals as goal
 pub returns-in_default : goal.returns-in_default
 returns-in_default g c = record {
   step = λ answers. refused_room _ g.K.PartialEq.eq g.K.Clone.is_clone g.V.Clone.is_clone answers
-      c.args.cache.now.state Iter MakesRoom.iter;
+      c.args.cache.now.state Call.Iter MakesRoom.iter;
 }
 
 -- each resident is shown
@@ -22,5 +22,6 @@ returns-in-Ok-shown g c = record {
 pub returns-in-Err : goal.returns-in-Err
 returns-in-Err g c = record {
   step = λ answers. refused_as_room _ g.K.PartialEq.eq g.K.Clone.is_clone g.V.Clone.is_clone
-      answers c.args.cache.now.state Iter MakesRoom.iter c.in-Err.refusal c.in-Err.ensures.refused;
+      answers c.args.cache.now.state Call.Iter MakesRoom.iter c.in-Err.refusal
+      c.in-Err.ensures.refused;
 }

@@ -1,7 +1,7 @@
 use Rattle.std.proofs.Common.{rules, ◌≡◌, List, [], ◌∷◌, ◌++◌, ◌∙◌, ap, sym, subst, length, arith}
 use Rattle.std.proofs.lemmas.List.Sorted.{length_permutation}
 use Rattle.quick_cache_model.specs.Removal.{Drains}
-use Rattle.quick_cache_unsync.specs.CacheDrain.{DrainsInAll}
+use Rattle.quick_cache_unsync.specs.CacheDrain.{held, DrainsInAll}
 use Rattle.quick_cache_runs.proofs.DrainSteps.{rest-counted, drained-out, drained-room}
 use Rattle.quick_cache_runs.proofs.making.walks.given_out.Goals as goal
 
@@ -44,7 +44,7 @@ returns-clause-drains g c =
     subst (λ (pairs : List (g.row.K.Denot × g.row.V.Denot)).
     Drains c.args.cache.now.state pairs final.state) (sym c.loop-pair.invariant.items)
     (drained-out c.into_iter-pair-iterator.result c.args.cache.now begins
-    (subst DrainsInAll (sym first) c.drain-pair-items.ensures.gives) c.loop-pair.yielded
+    (subst (DrainsInAll held) (sym first) c.drain-pair-items.ensures.gives) c.loop-pair.yielded
     c.loop-pair.pair-iterator c.next.new.self c.loop-pair.yielded_by c.in-None.ensures.steps final
     (ended ∙ c.drop-pair-iterator.ensures))
 
@@ -55,6 +55,6 @@ returns-clause-room g c =
     let final = c.cache-1.given.0 in
     let ended : final ≡ c.drop-pair-iterator.new.self.0 = search rules in
     drained-room c.into_iter-pair-iterator.result c.args.cache.now begins
-    (subst DrainsInAll (sym first) c.drain-pair-items.ensures.gives) c.loop-pair.yielded
+    (subst (DrainsInAll held) (sym first) c.drain-pair-items.ensures.gives) c.loop-pair.yielded
     c.loop-pair.pair-iterator c.next.new.self c.loop-pair.yielded_by c.in-None.ensures.steps final
     (ended ∙ c.drop-pair-iterator.ensures)

@@ -4,7 +4,8 @@ use Rattle.std.specs.Int.NonZero.{non_zero_u32_get as number}
 use Rattle.quick_cache_policy.specs.Predicates.{Answers, MayBeAsked}
 use Rattle.quick_cache_shard.specs.PlaceWalks.{EndsAt}
 use Rattle.quick_cache_shard.specs.WalksFrom.{WalkFrom, ShowsNext, number_or_zero}
-use Rattle.quick_cache_shard.proofs.RetainSomeLemmas.{RetainsTo-none, RetainsTo-next, RetainsTo-ends, RetainsTo-asked, IdlesWithin-after, asked-there, token-taken}
+use Rattle.quick_cache_shard.proofs.RetainSomeLemmas.{RetainsTo-none, RetainsTo-next, RetainsTo-ends, RetainsTo-asked, IdlesWithin-after}
+use Rattle.quick_cache_shard.proofs.RetainSomeLemmas.{asked-there, token-taken}
 use Rattle.quick_cache_shard.proofs.shard.CacheShard.retain_some.Goals as goal
 
 -- nothing was passed

@@ -1,7 +1,8 @@
 use Rattle.std.proofs.Common.{◌≡◌, [], sym, subst, ◌∙◌, vec_len, vec_capacity, length-set, arith}
 use Rattle.std.proofs.lemmas.List.{length-reverse}
 use Rattle.quick_cache_store.specs.Pool.{next_token, IsParted}
-use Rattle.quick_cache_store.proofs.pool.StackLemmas.{length-slots_past, popped_here, first_or-last, no_tokens, noted_at, IsSound-reused, view-reused, IsSound-grown, view-grown, IsParted-stack, PlacesItem-from}
+use Rattle.quick_cache_store.proofs.pool.StackLemmas.{length-slots_past, popped_here, first_or-last, no_tokens, noted_at, IsSound-reused}
+use Rattle.quick_cache_store.proofs.pool.StackLemmas.{view-reused, IsSound-grown, view-grown, IsParted-stack, PlacesItem-from}
 use Rattle.quick_cache_store.proofs.pool.Pool.insert_reserved.Goals as goal
 
 -- ---- in the slot of a token that was free

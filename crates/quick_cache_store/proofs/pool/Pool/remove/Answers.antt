@@ -1,6 +1,7 @@
 use Rattle.std.proofs.Common.{sym, ap, ◌∙◌, vec_len, vec_capacity, length-set, Some, arith}
 use Rattle.std.specs.Int.NonZero.{non_zero_u32_get as number}
-use Rattle.quick_cache_store.proofs.pool.StackLemmas.{occupied_within, occupied_apart, occupied_item, free_few, free_fewer, IsSound-freed, view-freed, IsParted-stack}
+use Rattle.quick_cache_store.proofs.pool.StackLemmas.{occupied_within, occupied_apart, occupied_item, free_few, free_fewer, IsSound-freed}
+use Rattle.quick_cache_store.proofs.pool.StackLemmas.{view-freed, IsParted-stack}
 use Rattle.quick_cache_store.proofs.pool.Pool.remove.Goals as goal
 
 pub overflow_cast-len : goal.overflow_cast-len

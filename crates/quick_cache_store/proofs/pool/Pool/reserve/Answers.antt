@@ -1,7 +1,8 @@
 use Rattle.std.proofs.Common.{◌≤◌, ◌-◌, length, refl, vec_len, vec_capacity, arith}
 use Rattle.std.proofs.lemmas.List.{length-reverse}
 use Rattle.quick_cache_store.specs.Stack.{room_of}
-use Rattle.quick_cache_store.proofs.pool.StackLemmas.{length-slots_past, free_few, IsSound-roomier, IsParted-stack, wanted_room, room_at_most}
+use Rattle.quick_cache_store.proofs.pool.StackLemmas.{length-slots_past, free_few, IsSound-roomier, IsParted-stack, wanted_room}
+use Rattle.quick_cache_store.proofs.pool.StackLemmas.{room_at_most}
 use Rattle.quick_cache_store.proofs.pool.Pool.reserve.Goals as goal
 
 pub overflow_sub-tokens : goal.overflow_sub-tokens

@@ -1,6 +1,6 @@
 use Rattle.std.proofs.Common.{◌∷◌, [], ◌++◌, ◌∙◌, ap}
-use Rattle.quick_cache_model.specs.declared.calls.reply.Reply.TheVariants.{Value}
-use Rattle.quick_cache_traced.specs.declared.call.TraceCall.TheVariants.{Get}
+use Rattle.quick_cache_model.specs.declared.calls.reply.Reply.{Reply}
+use Rattle.quick_cache_traced.specs.declared.call.TraceCall.{TraceCall}
 use Rattle.quick_cache_traced.specs.Recorded.{Recorded}
 use Rattle.quick_cache_traced.proofs.StepLemmas.{LooksUp-seen, gets}
 use Rattle.quick_cache_traced.proofs.KeptLemmas.{goes_on}
@@ -22,9 +22,9 @@ invariant_of-self-2 g c =
     g.V.Clone.is_clone old c.self.invariant new new.state inside.cache.places inside.cache.room
     inside.cache.work
     c.get.follows.holds-at-none.1 c.note.new.entries.items c.note.new.calls.total
-    (Get c.in-Ok.kept, Value c.in_ok-answer.shown)
+    (TraceCall.Get c.in-Ok.kept, Reply.Value c.in_ok-answer.shown)
     (c.note.ensures.entries
-    ∙ ap (λ list. list ++ (Get c.in-Ok.kept, Value c.in_ok-answer.shown) ∷ [])
+    ∙ ap (λ list. list ++ (TraceCall.Get c.in-Ok.kept, Reply.Value c.in_ok-answer.shown) ∷ [])
     c.reserve.ensures.items)
     c.note.ensures.calls
     (gets _ g.K.PartialEq.eq g.K.Clone.is_clone g.V.Clone.is_clone
@@ -51,15 +51,15 @@ returns-clause-gets g c =
       records = sees.shows_other;
       is_key = c.in-Ok.ensures.cases;
       added = c.note.ensures.entries
-          ∙ ap (λ list. list ++ (Get c.in-Ok.kept, Value c.in_ok-answer.shown) ∷ [])
+          ∙ ap (λ list. list ++ (TraceCall.Get c.in-Ok.kept, Reply.Value c.in_ok-answer.shown) ∷ [])
           c.reserve.ensures.items;
     })
 
 pub returns-clause-counts : goal.returns-clause-counts
 returns-clause-counts g c = rw (← c.self.view_is) (record {
-  entry = (Get c.in-Ok.kept, Value c.in_ok-answer.shown);
+  entry = (TraceCall.Get c.in-Ok.kept, Reply.Value c.in_ok-answer.shown);
   added = c.note.ensures.entries
-      ∙ ap (λ list. list ++ (Get c.in-Ok.kept, Value c.in_ok-answer.shown) ∷ [])
+      ∙ ap (λ list. list ++ (TraceCall.Get c.in-Ok.kept, Reply.Value c.in_ok-answer.shown) ∷ [])
       c.reserve.ensures.items;
   counted = c.note.ensures.calls;
   at_seat = c.note.ensures.seat;

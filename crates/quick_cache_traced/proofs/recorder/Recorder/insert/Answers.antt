@@ -1,6 +1,6 @@
 use Rattle.std.proofs.Common.{◌∷◌, [], ◌++◌, ◌∙◌, ap}
-use Rattle.quick_cache_model.specs.declared.calls.reply.Reply.TheVariants.{Done}
-use Rattle.quick_cache_traced.specs.declared.call.TraceCall.TheVariants.{Insert}
+use Rattle.quick_cache_model.specs.declared.calls.reply.Reply.{Reply}
+use Rattle.quick_cache_traced.specs.declared.call.TraceCall.{TraceCall}
 use Rattle.quick_cache_traced.specs.Recorded.{Recorded}
 use Rattle.quick_cache_traced.proofs.StepLemmas.{inserts}
 use Rattle.quick_cache_traced.proofs.KeptLemmas.{goes_on, stays}
@@ -41,9 +41,9 @@ invariant_of-self-2 g c =
     g.V.Clone.is_clone old c.self.invariant new new.state new.places new.room new.work
     c.insert.ensures.same
     c.note.new.entries.items c.note.new.calls.total
-    (Insert c.in-Ok-Ok.kept c.in-Ok-Ok.copy, Done)
+    (TraceCall.Insert c.in-Ok-Ok.kept c.in-Ok-Ok.copy, Reply.Done)
     (c.note.ensures.entries
-    ∙ ap (λ list. list ++ (Insert c.in-Ok-Ok.kept c.in-Ok-Ok.copy, Done) ∷ [])
+    ∙ ap (λ list. list ++ (TraceCall.Insert c.in-Ok-Ok.kept c.in-Ok-Ok.copy, Reply.Done) ∷ [])
     c.reserve.ensures.items)
     c.note.ensures.calls
     (inserts _ g.K.PartialEq.eq g.K.Clone.is_clone g.V.Clone.is_clone
@@ -62,15 +62,15 @@ returns-clause-notes g c =
       is_key = rw c.in-Ok-Ok.is-0 at is_key;
       is_value = rw c.in-Ok-Ok.is-1 at is_value;
       added = c.note.ensures.entries
-          ∙ ap (λ list. list ++ (Insert c.in-Ok-Ok.kept c.in-Ok-Ok.copy, Done) ∷ [])
+          ∙ ap (λ list. list ++ (TraceCall.Insert c.in-Ok-Ok.kept c.in-Ok-Ok.copy, Reply.Done) ∷ [])
           c.reserve.ensures.items;
     })
 
 pub returns-clause-counts : goal.returns-clause-counts
 returns-clause-counts g c = rw (← c.self.view_is) (record {
-  entry = (Insert c.in-Ok-Ok.kept c.in-Ok-Ok.copy, Done);
+  entry = (TraceCall.Insert c.in-Ok-Ok.kept c.in-Ok-Ok.copy, Reply.Done);
   added = c.note.ensures.entries
-      ∙ ap (λ list. list ++ (Insert c.in-Ok-Ok.kept c.in-Ok-Ok.copy, Done) ∷ [])
+      ∙ ap (λ list. list ++ (TraceCall.Insert c.in-Ok-Ok.kept c.in-Ok-Ok.copy, Reply.Done) ∷ [])
       c.reserve.ensures.items;
   counted = c.note.ensures.calls;
   at_seat = c.note.ensures.seat;

@@ -1,6 +1,6 @@
 use Rattle.std.proofs.Common.{◌∷◌, [], ◌++◌, ◌∙◌, ap}
-use Rattle.quick_cache_model.specs.declared.calls.reply.Reply.TheVariants.{Pair}
-use Rattle.quick_cache_traced.specs.declared.call.TraceCall.TheVariants.{Remove}
+use Rattle.quick_cache_model.specs.declared.calls.reply.Reply.{Reply}
+use Rattle.quick_cache_traced.specs.declared.call.TraceCall.{TraceCall}
 use Rattle.quick_cache_traced.specs.Recorded.{Recorded}
 use Rattle.quick_cache_traced.proofs.StepLemmas.{removes, Removes-shown}
 use Rattle.quick_cache_traced.proofs.KeptLemmas.{goes_on}
@@ -21,9 +21,9 @@ invariant_of-self-2 g c =
     g.V.Clone.is_clone old c.self.invariant new new.state new.places new.room inside.cache.work
     c.remove-pair.ensures.same
     c.note.new.entries.items c.note.new.calls.total
-    (Remove c.in-Ok.kept, Pair c.remove-pair.result)
+    (TraceCall.Remove c.in-Ok.kept, Reply.Pair c.remove-pair.result)
     (c.note.ensures.entries
-    ∙ ap (λ list. list ++ (Remove c.in-Ok.kept, Pair c.remove-pair.result) ∷ [])
+    ∙ ap (λ list. list ++ (TraceCall.Remove c.in-Ok.kept, Reply.Pair c.remove-pair.result) ∷ [])
     c.reserve.ensures.items)
     c.note.ensures.calls
     (removes _ g.K.PartialEq.eq g.K.Clone.is_clone g.V.Clone.is_clone
@@ -43,15 +43,16 @@ returns-clause-removes g c =
           c.remove-pair.new.self.state c.in_ok-shown.ensures.sees c.remove-pair.ensures.removes;
       is_key = c.in-Ok.ensures.cases;
       added = c.note.ensures.entries
-          ∙ ap (λ list. list ++ (Remove c.in-Ok.kept, Pair c.remove-pair.result) ∷ [])
+          ∙ ap (λ list. list ++ (TraceCall.Remove c.in-Ok.kept, Reply.Pair c.remove-pair.result)
+          ∷ [])
           c.reserve.ensures.items;
     })
 
 pub returns-clause-counts : goal.returns-clause-counts
 returns-clause-counts g c = rw (← c.self.view_is) (record {
-  entry = (Remove c.in-Ok.kept, Pair c.remove-pair.result);
+  entry = (TraceCall.Remove c.in-Ok.kept, Reply.Pair c.remove-pair.result);
   added = c.note.ensures.entries
-      ∙ ap (λ list. list ++ (Remove c.in-Ok.kept, Pair c.remove-pair.result) ∷ [])
+      ∙ ap (λ list. list ++ (TraceCall.Remove c.in-Ok.kept, Reply.Pair c.remove-pair.result) ∷ [])
       c.reserve.ensures.items;
   counted = c.note.ensures.calls;
   at_seat = c.note.ensures.seat;

@@ -1,6 +1,6 @@
 use Rattle.std.proofs.Common.{◌≡◌, Some, ◌∷◌, [], ◌∙◌, ap, sym, ◌++◌, true, string_eq, option_to_list}
-use Rattle.quick_cache_model.specs.declared.calls.call.Call.TheVariants.{Get}
-use Rattle.quick_cache_model.specs.declared.calls.reply.Reply.TheVariants.{Value}
+use Rattle.quick_cache_model.specs.declared.calls.call.Call.{Call}
+use Rattle.quick_cache_model.specs.declared.calls.reply.Reply.{Reply}
 use Rattle.std.specs.Vec.Iter.{into_iter_items}
 use Rattle.test_unsync.proofs.ShownLemmas.{run-shows, one_look_asks}
 use Rattle.test_unsync.proofs.copying.texts.get_text.Goals as goal
@@ -8,9 +8,9 @@ use Rattle.test_unsync.proofs.copying.texts.get_text.Goals as goal
 -- the one reply is to the look-up
 pub returns-in-Some-Value : goal.returns-in-Some-Value
 returns-in-Some-Value c =
-    let one : c.push.new.self.items ≡ Get c.args.key ∷ [] =
-    c.in-Ok.ensures.items ∙ ap (λ xs. xs ++ Get c.args.key ∷ []) c.new-calls.ensures.items in
-    let told : c.next.result ≡ Some (Value c.in-Some-Value.text) = c.in-Some-Value.is
+    let one : c.push.new.self.items ≡ Call.Get c.args.key ∷ [] =
+    c.in-Ok.ensures.items ∙ ap (λ xs. xs ++ Call.Get c.args.key ∷ []) c.new-calls.ensures.items in
+    let told : c.next.result ≡ Some (Reply.Value c.in-Some-Value.text) = c.in-Some-Value.is
     ∙ ap Some c.in-Some-Value.field-0-is in
     run-shows _ string_eq _ _ _ c.args.cache.now.state
     (c.in-Ok-run.ensures.runs tt (λ asked key value. true)

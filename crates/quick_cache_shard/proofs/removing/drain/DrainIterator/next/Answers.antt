@@ -1,19 +1,14 @@
 use Rattle.std.proofs.Common.{refl, arith}
 use Rattle.std.proofs.lemmas.List.Sorted.{length_permutation}
-use Rattle.quick_cache_shard.proofs.DrainLemmas.{TakesItem-gives, TakesItem-keeps}
+use Rattle.quick_cache_shard.proofs.DrainLemmas.{DrainSteps-takes, TakesItem-gives}
+use Rattle.quick_cache_shard.specs.ShardDrain.{held}
 use Rattle.quick_cache_shard.proofs.removing.drain.DrainIterator.next.Goals as goal
 
 pub returns-clause-steps : goal.returns-clause-steps
 returns-clause-steps g c =
     let taken = c.in_ok-token.ensures in
-    let old = c.args.self.now.shard.now in (
-      TakesItem-gives old c.take_next.new.self c.in_ok-token.pair taken.takes,
-      record {
-        lender = refl;
-        shard = TakesItem-keeps old c.take_next.new.self c.in_ok-token.pair taken.takes
-            (omega (arith, taken.stays.room)) taken.stays.same;
-      },
-    )
+    DrainSteps-takes held _ _ c.in_ok-token.pair refl taken.takes
+    (omega (arith, taken.stays.room)) taken.stays.same
 
 pub returns-clause-goes : goal.returns-clause-goes
 returns-clause-goes g c =

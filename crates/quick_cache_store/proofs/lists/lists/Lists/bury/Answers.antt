@@ -2,7 +2,7 @@ use Rattle.std.proofs.Common.{◌≡◌, ◌∙◌, refl, sym, ap, false, Some, 
 use Rattle.std.specs.Int.NonZero.{non_zero_u32_get as number}
 use Rattle.quick_cache_store.specs.Pool.{item_at}
 use Rattle.quick_cache_store.specs.Rings.{Rings, LeavesRingOf, without_first}
-use Rattle.quick_cache_store.specs.declared.slots.entry.Entry.TheVariants.{Ghost as ghost_variant}
+use Rattle.quick_cache_store.specs.declared.slots.entry.Entry.{Entry}
 use Rattle.quick_cache_store.specs.declared.slots.entry.Slot.{Slot}
 use Rattle.quick_cache_store.specs.ListSlots.{with_entry, AmongCold, AmongGhosts, stand_of, stand_in, weight_in, weight_at}
 use Rattle.quick_cache_store.proofs.lists.ItemLemmas.{first_cold-item, slot_is, stand_of-first_cold}
@@ -22,7 +22,7 @@ bury_first-requires g c =
     let t = number c.args.token in
     let writes = c.bury-item.ensures.writes in
     let x = writes.slot in
-    let y = with_entry ghost_variant x in
+    let y = with_entry Entry.Ghost x in
     let old = c.bury-item.ensures.old in
     let was = ap (λ (s : Slot _ _ _ _). s.entry)
     (slot_is (item_at i.slots t) x old.0 c.bury-item.result old.1 writes.was) in
@@ -51,7 +51,7 @@ invariant_of-self g c =
     let t = number c.args.token in
     let writes = c.bury-item.ensures.writes in
     let x = writes.slot in
-    let y = with_entry ghost_variant x in
+    let y = with_entry Entry.Ghost x in
     let old = c.bury-item.ensures.old in
     let was = ap (λ (s : Slot _ _ _ _). s.entry)
     (slot_is (item_at i.slots t) x old.0 c.bury-item.result old.1 writes.was) in
@@ -76,7 +76,7 @@ returns g c =
     let t = number c.args.token in
     let writes = c.bury-item.ensures.writes in
     let x = writes.slot in
-    let y = with_entry ghost_variant x in
+    let y = with_entry Entry.Ghost x in
     let old = c.bury-item.ensures.old in
     let was = ap (λ (s : Slot _ _ _ _). s.entry)
     (slot_is (item_at i.slots t) x old.0 c.bury-item.result old.1 writes.was) in

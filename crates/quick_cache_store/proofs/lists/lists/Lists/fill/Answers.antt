@@ -2,7 +2,6 @@ use Rattle.std.proofs.Common.{◌≡◌, ◌∙◌, sym, ap, subst, Some, ℕ, �
 use Rattle.std.specs.Int.NonZero.{non_zero_u32_get as number}
 use Rattle.quick_cache_store.specs.Pool.{item_at, with_item}
 use Rattle.quick_cache_store.specs.declared.slots.entry.Entry.{Entry}
-use Rattle.quick_cache_store.specs.declared.slots.entry.Entry.TheVariants.{Item as item_variant, Loading as loading_variant}
 use Rattle.quick_cache_store.specs.Fills.{filled}
 use Rattle.quick_cache_store.specs.Lists.{PutsLast, without_entry}
 use Rattle.quick_cache_store.specs.ListSlots.{slot_filled, AmongLoading, stand_in, weight_in, loading_in, entry_filled, stand_by}
@@ -32,7 +31,7 @@ enter_item-requires g c =
     let change = filled c.args.queue c.args.mark c.args.weight c.args.value in
     let item = change has.0.key in
     let y = slot_filled change x in
-    let entry : y.entry ≡ item_variant item = ap (entry_filled change) has.1 in
+    let entry : y.entry ≡ Entry.Item item = ap (entry_filled change) has.1 in
     can_enter-moved i.slots i.index t false i.rings i.rings i.loading
     c.self.invariant x y at refl (omega (arith, sym (ap weight_in entry))) AmongLoading 0
     (sym (ap stand_in has.1)) (sym (ap weight_in has.1)) refl
@@ -49,7 +48,7 @@ overflow_sub-self g c =
     let change = filled c.args.queue c.args.mark c.args.weight c.args.value in
     let item = change has.0.key in
     let y = slot_filled change x in
-    let entry : y.entry ≡ item_variant item = ap (entry_filled change) has.1 in
+    let entry : y.entry ≡ Entry.Item item = ap (entry_filled change) has.1 in
     omega (
       arith,
       loading-kept i.slots i.index t false i.rings i.rings i.loading
@@ -69,8 +68,8 @@ invariant_of-self g c =
     let change = filled c.args.queue c.args.mark c.args.weight c.args.value in
     let item = change has.0.key in
     let y = slot_filled change x in
-    let entry : y.entry ≡ item_variant item = ap (entry_filled change) has.1 in
-    let now : y ≡ record { hash = x.hash; entry = item_variant item } =
+    let entry : y.entry ≡ Entry.Item item = ap (entry_filled change) has.1 in
+    let now : y ≡ record { hash = x.hash; entry = Entry.Item item } =
     λ i. record { hash = x.hash; entry = entry i } in
     let none : loading_in (stand_by c.args.weight c.args.queue) ≡ 0 =
     ap loading_in (sym (ap stand_in entry)) ∙ loading_in-slot y x.hash item now in
@@ -94,7 +93,7 @@ returns g c =
     let change = filled c.args.queue c.args.mark c.args.weight c.args.value in
     let item = change has.0.key in
     let y = slot_filled change x in
-    let entry : y.entry ≡ item_variant item = ap (entry_filled change) has.1 in
+    let entry : y.entry ≡ Entry.Item item = ap (entry_filled change) has.1 in
     let last = last-moved i.slots i.index t false i.rings i.rings i.loading
     c.self.invariant x y at refl (omega (arith, sym (ap weight_in entry))) AmongLoading 0
     (sym (ap stand_in has.1)) (sym (ap weight_in has.1)) refl
@@ -113,7 +112,7 @@ returns g c =
     let left = without_entry false t (lists_of i.slots i.index i.rings) in
     let new = lists_of (with_item i.slots t y) i.index c.enter_item.new.self in
     let puts = subst (λ (e : Entry _ _ _ _). PutsLast left t x.hash e new) entry last in
-    let here : item_at i.slots t ≡ Some (record { hash = x.hash; entry = loading_variant has.0 }) =
+    let here : item_at i.slots t ≡ Some (record { hash = x.hash; entry = Entry.Loading has.0 }) =
     at ∙ ap (λ (e : Entry _ _ _ _). Some (record x { entry = e })) has.1 in
     rw (← c.self.view_is) (record {
       hash = x.hash;

@@ -1,6 +1,7 @@
 use Rattle.std.proofs.Common.{◌∙◌, sym}
 use Rattle.std.specs.Int.NonZero.{non_zero_u32_get as number}
-use Rattle.quick_cache_store.proofs.lists.FindLemmas.{occupied_by_token, none_of_hash, HasNothing-from, FindsItemOfAnyHash-from, FindsByKey-from, PassesNoItem-start, PassesNoItem-has}
+use Rattle.quick_cache_store.proofs.lists.FindLemmas.{occupied_by_token, none_of_hash, HasNothing-from, FindsItemOfAnyHash-from}
+use Rattle.quick_cache_store.proofs.lists.FindLemmas.{FindsByKey-from, PassesNoItem-start, PassesNoItem-has}
 use Rattle.quick_cache_store.proofs.lists.lists.Lists.find_by_key.Goals as goal
 
 -- there is no candidate

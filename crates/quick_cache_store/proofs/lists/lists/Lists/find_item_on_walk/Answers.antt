@@ -1,7 +1,8 @@
 use Rattle.std.proofs.Common.{◌∙◌, sym, subst}
 use Rattle.std.specs.Int.NonZero.{non_zero_u32_get as number}
 use Rattle.quick_cache_store.specs.Sound.{PassesNoItem}
-use Rattle.quick_cache_store.proofs.lists.FindLemmas.{occupied_by_token, FindsItemOfAnyHash-from, HasNoItem-from, PassesNoItem-start, PassesNoItem-past, PassesNoItem-has, PassesNoItem-none}
+use Rattle.quick_cache_store.proofs.lists.FindLemmas.{occupied_by_token, FindsItemOfAnyHash-from, HasNoItem-from, PassesNoItem-start}
+use Rattle.quick_cache_store.proofs.lists.FindLemmas.{PassesNoItem-past, PassesNoItem-has, PassesNoItem-none}
 use Rattle.quick_cache_store.proofs.lists.lists.Lists.find_item_on_walk.Goals as goal
 
 pub loop-token-init : goal.loop-token-init

@@ -2,7 +2,9 @@ use Rattle.std.proofs.Common.{◌∙◌, sym, ap, subst, List, ℕ, Some, true�
 use Rattle.std.specs.Int.NonZero.{non_zero_u32_get as number}
 use Rattle.quick_cache_index.specs.Index.{AreCandidates}
 use Rattle.quick_cache_store.specs.ListSlots.{has_hash, is_under_at, is_item_at, is_ghost_at}
-use Rattle.quick_cache_store.proofs.lists.FindLemmas.{occupied_by_token, FindsItem-from, FindsLoading-from, StandsIn-found, HasNoKey-from, HasNothing-from, IsWalked-start, IsWalked-past, IsWalked-has, IsWalked-none, IsWalked-ghostless, IsWalked-noted}
+use Rattle.quick_cache_store.proofs.lists.FindLemmas.{occupied_by_token, FindsItem-from, FindsLoading-from, StandsIn-found, HasNoKey-from}
+use Rattle.quick_cache_store.proofs.lists.FindLemmas.{HasNothing-from, IsWalked-start, IsWalked-past, IsWalked-has, IsWalked-none}
+use Rattle.quick_cache_store.proofs.lists.FindLemmas.{IsWalked-ghostless, IsWalked-noted}
 use Rattle.quick_cache_store.proofs.lists.lists.Lists.find_on_walk.Goals as goal
 
 pub loop-token-init : goal.loop-token-init

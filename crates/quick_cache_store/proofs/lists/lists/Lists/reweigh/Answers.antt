@@ -2,7 +2,8 @@ use Rattle.std.proofs.Common.{refl, arith}
 use Rattle.std.specs.Int.NonZero.{non_zero_u32_get as number}
 use Rattle.quick_cache_store.specs.Lists.{with_weight}
 use Rattle.quick_cache_store.proofs.lists.ChangeLemmas.{written-by}
-use Rattle.quick_cache_store.proofs.lists.RewriteLemmas.{item_at-token, Reweighs-requeued, can_reweigh-seen, IsSound-written, Rewrites-written}
+use Rattle.quick_cache_store.proofs.lists.RewriteLemmas.{item_at-token, Reweighs-requeued, can_reweigh-seen, IsSound-written}
+use Rattle.quick_cache_store.proofs.lists.RewriteLemmas.{Rewrites-written}
 use Rattle.quick_cache_store.proofs.lists.lists.Lists.reweigh.Goals as goal
 
 pub returns-then-was-weight : goal.returns-then-was-weight

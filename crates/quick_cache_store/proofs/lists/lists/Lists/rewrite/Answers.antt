@@ -1,9 +1,10 @@
 use Rattle.std.proofs.Common.{inl, refl, arith}
 use Rattle.std.specs.Int.NonZero.{non_zero_u32_get as number}
 use Rattle.quick_cache_store.specs.Pool.{item_at}
-use Rattle.quick_cache_store.specs.declared.slots.entry.Entry.TheVariants.{Item as item_variant}
+use Rattle.quick_cache_store.specs.declared.slots.entry.Entry.{Entry}
 use Rattle.quick_cache_store.proofs.lists.ChangeLemmas.{written-by}
-use Rattle.quick_cache_store.proofs.lists.RewriteLemmas.{item_at-token, no_placeholder, no_ghost, Rewrites-replaced, was_seen, queue_seen, can_reweigh-seen, IsSound-written, Rewrites-written}
+use Rattle.quick_cache_store.proofs.lists.RewriteLemmas.{item_at-token, no_placeholder, no_ghost, Rewrites-replaced, was_seen, queue_seen}
+use Rattle.quick_cache_store.proofs.lists.RewriteLemmas.{can_reweigh-seen, IsSound-written, Rewrites-written}
 use Rattle.quick_cache_store.proofs.lists.lists.Lists.rewrite.Goals as goal
 
 pub replace-requires : goal.replace-requires
@@ -83,7 +84,7 @@ returns g c =
     c.item-item.result has c.args.resident.queue (rw (← c.self.view_is) at c.requires) in
     let was = c.rewrite-old.ensures.old in
     let old = was_seen (item_at i.slots t)
-    (record { hash = was.0; entry = item_variant c.rewrite-old.result }) has.0
+    (record { hash = was.0; entry = Entry.Item c.rewrite-old.result }) has.0
     c.item-item.result c.rewrite-old.result at was.1 refl in
     rw (← c.self.view_is, ← old, now) (Rewrites-written i.slots i.index i.rings i.loading
     c.self.invariant t c.item-item.result has c.weight-was.result

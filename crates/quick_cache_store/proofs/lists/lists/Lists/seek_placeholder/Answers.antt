@@ -1,6 +1,7 @@
 use Rattle.std.proofs.Common.{sym, ◌∙◌}
 use Rattle.std.specs.Int.NonZero.{non_zero_u32_get as number}
-use Rattle.quick_cache_store.proofs.lists.PlaceholderLemmas.{PassesNoneMeant-start, PassesNoneMeant-past, FindsPlaceholder-walk, HasNoPlaceholder-walk}
+use Rattle.quick_cache_store.proofs.lists.PlaceholderLemmas.{PassesNoneMeant-start, PassesNoneMeant-past, FindsPlaceholder-walk}
+use Rattle.quick_cache_store.proofs.lists.PlaceholderLemmas.{HasNoPlaceholder-walk}
 use Rattle.quick_cache_store.proofs.lists.lists.Lists.seek_placeholder.Goals as goal
 
 pub loop-token-init : goal.loop-token-init

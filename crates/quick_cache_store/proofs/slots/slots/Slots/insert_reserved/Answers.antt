@@ -1,7 +1,8 @@
 use Rattle.std.proofs.Common.{ℕ, ◌+◌, set, refl, sym, ap, ◌∙◌, arith}
 use Rattle.quick_cache_store.specs.Pool.{first_or}
 use Rattle.quick_cache_store.specs.Asides.{besides_of, room_of}
-use Rattle.quick_cache_store.proofs.slots.JoinedEdits.{IsParted-joined, length-joined_slots, placed-joined, beside-placed, last_token, keeps_old, keeps_last}
+use Rattle.quick_cache_store.proofs.slots.JoinedEdits.{IsParted-joined, length-joined_slots, placed-joined, beside-placed, last_token}
+use Rattle.quick_cache_store.proofs.slots.JoinedEdits.{keeps_old, keeps_last}
 use Rattle.quick_cache_store.proofs.slots.slots.Slots.insert_reserved.Goals as goal
 
 -- ---- in the place of an old thing

@@ -1,6 +1,6 @@
 use Rattle.std.proofs.Common.{refl, sym, subst}
 use Rattle.quick_cache_store.specs.Shown.{ShowsStored}
-use Rattle.quick_cache_store.specs.declared.slots.stored.StoredEntry.TheVariants.{Item as stored_item}
+use Rattle.quick_cache_store.specs.declared.slots.stored.StoredEntry.{StoredEntry}
 use Rattle.quick_cache_store.proofs.slots.stored.StoredEntry.show.Goals as goal
 
 -- the item that is stored was shown
@@ -8,7 +8,7 @@ pub returns : goal.returns
 returns g c =
     subst (λ stored. ShowsStored g.F.FnMut c.args.callback.now stored c.callback.result
     c.callback.new.self
-    (stored_item c.in-Item.field-0 (record c.in-Item.body { value = c.callback.new.arg3 })))
+    (StoredEntry.Item c.in-Item.field-0 (record c.in-Item.body { value = c.callback.new.arg3 })))
     (sym c.in-Item.is)
     (record {
       left = c.callback.new.arg3;

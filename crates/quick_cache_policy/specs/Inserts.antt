@@ -4,7 +4,7 @@ use Rattle.quick_cache_model.specs.declared.refusal.Refusal.{Refusal}
 use Rattle.quick_cache_model.specs.CacheState.{CacheState}
 use Rattle.quick_cache_model.specs.Hooks.{Rules, Hooks}
 use Rattle.quick_cache_model.specs.Writes.{Insert}
-use Rattle.quick_cache_shard.specs.Shard.{Wrote, RefusesWrite}
+use Rattle.quick_cache_policy.specs.Writing.{Wrote, RefusesWrite}
 
 -- what an insert of the pair answers, where the pair comes back with a refusal
 abbrev pub with_pair : {K V : Type 0} → K → V → Result (Unit {0}) Refusal

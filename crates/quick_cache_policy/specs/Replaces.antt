@@ -3,7 +3,7 @@ use Rattle.std.specs.Prelude.{Bool, Result, Ok, Err, Some, None}
 use Rattle.quick_cache_model.specs.CacheState.{CacheState}
 use Rattle.quick_cache_model.specs.Hooks.{Rules, Hooks}
 use Rattle.quick_cache_model.specs.Kinds.{replacement}
-use Rattle.quick_cache_shard.specs.Shard.{Wrote}
+use Rattle.quick_cache_policy.specs.Writing.{Wrote}
 
 module _ {K V S : Type 0} (steady : Type 0) (hooks : Hooks K V S) (rules : Rules K V)
     (equal : K → K → Bool) (old : CacheState K V) (soft : Bool) where
