@@ -12,7 +12,7 @@ use Rattle.quick_cache_store.specs.Views.{items_of}
 use Rattle.quick_cache_model.specs.Removal.{RemovesIf, pair_of}
 use Rattle.quick_cache_policy.specs.Contents.{state_of}
 use Rattle.quick_cache_policy.specs.Predicates.{RemovesAsked}
-use Rattle.quick_cache_policy.specs.Tokens.{HasValue, TakesItem, TakesToken}
+use Rattle.quick_cache_policy.specs.Tokens.{TakesItem, TakesToken}
 use Rattle.quick_cache_policy.specs.declared.contents.Contents.{Contents}
 use Rattle.quick_cache_policy.proofs.EnterLemmas.{split-state}
 use Rattle.quick_cache_policy.proofs.LookupLemmas.{without-at, without_item-state}

@@ -15,7 +15,7 @@ pub data AreFillCalls {K V : Type 0} (key : K) (value : V) : List (HookCall K V)
   turns_away : (left : V)
       → AreFillCalls key value (BeforeEvict key value left ∷ EvictCold key left ∷ [])
 
--- room was made behind a pair of that weight, whosever placeholder it came in for
+-- room was made after a fill brought in a pair of that weight; its ticket is of no account
 abbrev pub MakesRoomBehind : {K V : Type 0} → Rules K V → (weight : ℕ) → CacheState K V
     → List (HookCall K V) → CacheState K V → Type 0
 MakesRoomBehind rules weight mid = MakesRoomFor 0 mid rules weight mid
