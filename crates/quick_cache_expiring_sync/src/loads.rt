@@ -2,7 +2,7 @@
 ghost use Rattle.std.specs.Prelude.{◌≡◌, Ok, Err, IfOk, IfErr, IfSome};
 ghost use Rattle.quick_cache_guard.specs.Answers.{IsLoadRefusal};
 ghost use Rattle.quick_cache_locked.specs.Fitting.{ClonesFit};
-ghost use Rattle.quick_cache_locked.specs.Loads.{StandsForGiven};
+ghost use Rattle.quick_cache_model.specs.Hashing.{StandsForGiven};
 ghost use Rattle.quick_cache_expiring.specs.Lives.{end_of};
 ghost use Rattle.quick_cache_expiring.specs.Lastings.{ClonesLasting, lasting_of};
 ghost use Rattle.quick_cache_expiring_sync.specs.Loads.{GivesAt, ChoosesToLoad};

@@ -4,7 +4,7 @@ ghost use Rattle.quick_cache_model.specs.Hashing.{hash_of};
 ghost use Rattle.quick_cache_shard.specs.Shard.{Shard};
 ghost use Rattle.quick_cache_guard.specs.Answers.{IsLoadRefusal};
 ghost use Rattle.quick_cache_locked.specs.Fitting.{FitsQuery};
-ghost use Rattle.quick_cache_locked.specs.Loads.{StandsForGiven};
+ghost use Rattle.quick_cache_model.specs.Hashing.{StandsForGiven};
 ghost use Rattle.quick_cache_locked.specs.Locked.{FromSome};
 ghost use Rattle.quick_cache_sync.specs.Answers.{InsertsAloneBy, RemovesSo};
 ghost use Rattle.quick_cache_expiring.specs.Lives.{end_of};

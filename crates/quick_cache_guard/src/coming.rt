@@ -1,6 +1,7 @@
 //! One who comes to a shard for the value of a key: it waits, or is told at once.
 ghost use Rattle.std.specs.Prelude.{◌≡◌, ⊤, true, false, IfOk, IfErr, IfSome, IsErr};
 ghost use Rattle.std.specs.Arc.{arc_value};
+ghost use Rattle.quick_cache_model.specs.Hashing.{StandsForGiven};
 ghost use Rattle.quick_cache_loading.specs.Waiters.{IsTold};
 ghost use Rattle.quick_cache_loading.specs.Fitting.{FitsIfClonesDo};
 ghost use Rattle.quick_cache_guard.specs.Answers.{IsAnswered, answer_of, is_timeout, output_of};
@@ -82,8 +83,7 @@ pub fn come<
     query: &Q,
     is_over: bool,
 ) -> Result<Waiting<K, V, L, A>, Option<GuardResult<V, PlaceholderGuard<'a, K, V, L, S, R, A>>>>
-    requires stands { (key : K) → Q.to_key_gives query.now key
-        → Q.equivalent query.now key ≡ true }
+    requires stands { StandsForGiven (Q.to_key_gives query.now) (Q.equivalent query.now) }
     ensures keyed { IfOk result (λ waiting. Q.to_key_gives query.now waiting.key) }
     ensures answers { IfErr result (λ told. IfSome told (IsAnswered
         (FitsIfClonesDo L.fits V.is_clone (Q.equivalent query.now)) (Q.to_key_gives query.now))) }
@@ -131,8 +131,7 @@ pub fn come_and_wait<
     shard: &'a RwLock<S>,
     query: &Q,
 ) -> Option<GuardResult<V, PlaceholderGuard<'a, K, V, L, S, R, A>>>
-    requires stands { (key : K) → Q.to_key_gives query.now key
-        → Q.equivalent query.now key ≡ true }
+    requires stands { StandsForGiven (Q.to_key_gives query.now) (Q.equivalent query.now) }
     ensures answers { IfSome result (IsAnswered
         (FitsIfClonesDo L.fits V.is_clone (Q.equivalent query.now)) (Q.to_key_gives query.now)) }
     ensures timely { IfSome result (λ answer. is_timeout answer ≡ false) }

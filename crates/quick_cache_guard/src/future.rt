@@ -1,6 +1,7 @@
 //! A value, or the guard of a key that is absent, for a task, which waits without a thread.
 ghost use Rattle.std.specs.Prelude.{◌≡◌, true, false, Some, Err, IsSome, IfSome};
 ghost use Rattle.std.specs.Arc.{arc_value};
+ghost use Rattle.quick_cache_model.specs.Hashing.{StandsForGiven};
 ghost use Rattle.futures.specs.Poll.{IfReady};
 ghost use Rattle.quick_cache_guard.specs.Answers.{IsAnswered, IsRefusedAsLoad};
 ghost use Rattle.quick_cache_guard.specs.Futures.{AnswersOnce, GivesFor, IfWaits, IsSource, Registers, has_answered, source_of};
@@ -116,8 +117,7 @@ impl<
 > JoinFuture<'a, 'q, Q, K, V, L, S, R, A> {
     /// A future that has not begun. It takes no lock.
     pub fn new(rt: &'a R, shard: &'a RwLock<S>, query: &'q Q) -> Self
-        requires stands { (key : K) → Q.to_key_gives query.now key
-            → Q.equivalent query.now key ≡ true }
+        requires stands { StandsForGiven (Q.to_key_gives query.now) (Q.equivalent query.now) }
         ensures query { result.query ≡ query.now }
         ensures begins { result.is_finished ≡ false }
     {
@@ -136,8 +136,7 @@ impl<
         query: &'q Q,
         waiting: Waiting<K, V, L, A>,
     ) -> Self
-        requires stands { (key : K) → Q.to_key_gives query.now key
-            → Q.equivalent query.now key ≡ true }
+        requires stands { StandsForGiven (Q.to_key_gives query.now) (Q.equivalent query.now) }
         requires keyed { Q.to_key_gives query.now waiting.key }
         ensures query { result.query ≡ query.now }
         ensures begins { result.is_finished ≡ false }

@@ -1,5 +1,6 @@
 //! A value, or the guard of a key that is absent, for a thread that waits where another loads it.
 ghost use Rattle.std.specs.Prelude.{◌≡◌, true, false, None};
+ghost use Rattle.quick_cache_model.specs.Hashing.{StandsForGiven};
 ghost use Rattle.quick_cache_loading.specs.Fitting.{FitsIfClonesDo};
 ghost use Rattle.quick_cache_loading.specs.Turns.{IsLater, none_left};
 ghost use Rattle.quick_cache_guard.specs.Answers.{IfGiven, IsAnswered, IsRefusedAsLoad, is_timeout};
@@ -35,8 +36,7 @@ impl<
     ) -> GuardResult<V, Self>
     where
         R: Clock,
-        requires stands { (key : K) → Q.to_key_gives query.now key
-            → Q.equivalent query.now key ≡ true }
+        requires stands { StandsForGiven (Q.to_key_gives query.now) (Q.equivalent query.now) }
         // Whatever other threads do, the value fits a key that the query stands for, and the guard
         // is for a key that the query becomes. It is refused as a load is.
         ensures answers { IsAnswered (FitsIfClonesDo L.fits V.is_clone (Q.equivalent query.now))
@@ -56,8 +56,7 @@ impl<
     ) -> GuardResult<V, Self>
     where
         R: Clock,
-        requires stands { (key : K) → Q.to_key_gives query.now key
-            → Q.equivalent query.now key ≡ true }
+        requires stands { StandsForGiven (Q.to_key_gives query.now) (Q.equivalent query.now) }
         // Whatever other threads do, the value fits a key that the query stands for, and the guard
         // is for a key that the query becomes. It is refused as a load is.
         ensures answers { IsAnswered (FitsIfClonesDo L.fits V.is_clone (Q.equivalent query.now))
@@ -86,8 +85,7 @@ impl<
         shard: &'a RwLock<S>,
         query: &Q,
     ) -> Result<Result<V, Self>, Refusal>
-        requires stands { (key : K) → Q.to_key_gives query.now key
-            → Q.equivalent query.now key ≡ true }
+        requires stands { StandsForGiven (Q.to_key_gives query.now) (Q.equivalent query.now) }
         // Whatever other threads do, the value fits a key that the query stands for, and the guard
         // is for a key that the query becomes.
         ensures gives { IfGiven

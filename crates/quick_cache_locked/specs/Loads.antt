@@ -1,5 +1,5 @@
 -- Loads in a shard behind its lock: how they begin, and how they end.
-use Rattle.std.specs.Prelude.{◌≡◌, ℕ, Bool, true, false, Result, Ok, Err}
+use Rattle.std.specs.Prelude.{◌≡◌, ℕ, Bool, false, Result, Ok, Err}
 use Rattle.quick_cache_model.specs.declared.refusal.Refusal.{Refusal}
 use Rattle.quick_cache_model.specs.declared.terms.lifecycle.Lifecycle as lifecycle
 use Rattle.quick_cache_model.specs.CacheState.{CacheState}
@@ -11,10 +11,6 @@ use Rattle.quick_cache_loading.specs.declared.sharing.shard.Begun.{Begun}
 use Rattle.quick_cache_shard.specs.Shard.{Shard}
 use Rattle.quick_cache_shard.specs.Steps.{Goes, steady_in, hooks_in, rules_in}
 use Rattle.quick_cache_locked.specs.Locked.{FromSome}
-
--- the query stands for each key that it may give
-abbrev pub StandsForGiven : {K : Type 0} → (gives : K → Type 0) → (stands_for : K → Bool) → Type 0
-StandsForGiven {K} gives stands_for = (key : K) → gives key → stands_for key ≡ true
 
 module _ {K V P : Type 0} (own_ticket : P → ℕ) (stands_for : K → Bool) (gives : K → Type 0)
     (hash : ℕ) (is_clone : V → V → Type 0) (old : CacheState K V) where

@@ -9,8 +9,8 @@ use Rattle.quick_cache_index.specs.Index.{Index, HasToken, GainsToken, KeepsAllL
 use Rattle.quick_cache_store.specs.declared.slots.entry.Slot.{Slot}
 use Rattle.quick_cache_store.specs.Rings.{Ring, Rings}
 use Rattle.quick_cache_store.specs.Lists.{Lists, entry_count}
-use Rattle.quick_cache_store.specs.ListSlots.{is_under_at, is_item_under_at, is_ghost_at, weight_at, Stand, AmongHot, AmongCold, AmongStill}
-use Rattle.quick_cache_store.specs.ListSlots.{AmongLoading, AmongGhosts, stand_of, has_hash, item_of, still_of, loading_of, ghost_of}
+use Rattle.quick_cache_store.specs.ListSlots.{is_under_at, is_item_under_at, is_ghost_at, weight_at, Stand, AmongHot, AmongCold}
+use Rattle.quick_cache_store.specs.ListSlots.{AmongGhosts, stand_of, has_hash, item_of, still_of, loading_of, ghost_of}
 
 -- before the rest, what there is
 abbrev pub put : {Y : Type 0} → Option Y → List Y → List Y

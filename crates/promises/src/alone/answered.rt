@@ -1,5 +1,6 @@
 //! What a user relies on of calls that spare a step: a put, loads, and a guard's insert.
 ghost use Rattle.std.specs.Prelude.{◌≡◌, ◌≤◌, length, IfOk, OnErr, None, Ok, true, false};
+ghost use Rattle.quick_cache_model.specs.Hashing.{StandsForGiven};
 ghost use Rattle.quick_cache_model.specs.Finding.{HasNoItem, HasNoKey};
 ghost use Rattle.quick_cache_unsync.specs.Alone.{IsDoneAlone};
 ghost use Rattle.quick_cache_unsync.specs.Steps.{FillsIfThereBy};
@@ -45,8 +46,7 @@ pub fn load_absent<
     E,
     F: FnOnce() -> Result<V, E>,
 >(cache: &mut Cache<K, V, We, B, L>, query: &Q, loader: F) -> Result<V, LoadError<E>>
-    requires stands { (key : K) → Q.to_key_gives query.now key
-        → Q.equivalent query.now key ≡ true }
+    requires stands { StandsForGiven (Q.to_key_gives query.now) (Q.equivalent query.now) }
     requires loader { F.pre loader }
     requires absent { HasNoItem (Q.equivalent query.now) cache.old.state }
     ensures { IfOk result (λ value. F.post loader (Ok value)) }
@@ -65,8 +65,7 @@ pub fn load_or_miss<
     E,
     F: FnOnce() -> Result<V, E>,
 >(cache: &mut Cache<K, V, We, B, L>, query: &Q, loader: F) -> Result<Result<bool, E>, Refusal>
-    requires stands { (key : K) → Q.to_key_gives query.now key
-        → Q.equivalent query.now key ≡ true }
+    requires stands { StandsForGiven (Q.to_key_gives query.now) (Q.equivalent query.now) }
     requires loader { F.pre loader }
     ensures { IfOk result (λ ended. ended ≡ Ok false
         → HasNoItem (Q.equivalent query.now) cache.new.state) }
@@ -85,8 +84,7 @@ pub fn is_not_lent<
     E: Drop,
     F: FnOnce() -> Result<V, E>,
 >(cache: &mut Cache<K, V, We, B, L>, query: &Q, loader: F) -> bool
-    requires stands { (key : K) → Q.to_key_gives query.now key
-        → Q.equivalent query.now key ≡ true }
+    requires stands { StandsForGiven (Q.to_key_gives query.now) (Q.equivalent query.now) }
     requires loader { F.pre loader }
     ensures { result ≡ true → HasNoItem (Q.equivalent query.now) cache.new.state }
 {
@@ -109,8 +107,7 @@ pub fn is_not_lent_to_write<
     E: Drop,
     F: FnOnce() -> Result<V, E>,
 >(cache: &mut Cache<K, V, We, B, L>, query: &Q, loader: F) -> bool
-    requires stands { (key : K) → Q.to_key_gives query.now key
-        → Q.equivalent query.now key ≡ true }
+    requires stands { StandsForGiven (Q.to_key_gives query.now) (Q.equivalent query.now) }
     requires loader { F.pre loader }
     ensures { result ≡ true → HasNoItem (Q.equivalent query.now) cache.new.state }
 {
@@ -131,8 +128,7 @@ pub fn fail_to_load<
     L: Lifecycle<K, V>,
     Q: ToKey<K>,
 >(cache: &mut Cache<K, V, We, B, L>, query: &Q) -> Result<Result<bool, ()>, Refusal>
-    requires stands { (key : K) → Q.to_key_gives query.now key
-        → Q.equivalent query.now key ≡ true }
+    requires stands { StandsForGiven (Q.to_key_gives query.now) (Q.equivalent query.now) }
     requires absent { HasNoKey (Q.equivalent query.now) cache.old.state }
     ensures { length cache.new.state.loading ≤ length cache.old.state.loading }
 {

@@ -1,5 +1,6 @@
 //! How much room a cache makes.
-ghost use Rattle.std.specs.Prelude.{◌≡◌, ◌<◌, ◌≤◌, ◌+◌, ◌*◌, min, true, false, IfOk};
+ghost use Rattle.std.specs.Prelude.{◌≡◌, ◌<◌, ◌≤◌, ◌+◌, ◌*◌, min, false, IfOk};
+ghost use Rattle.quick_cache_model.specs.Hashing.{StandsForGiven};
 ghost use Rattle.quick_cache_model.specs.Refusals.{slots_taken, slot_count};
 
 use quick_cache_model::ToKey;
@@ -32,8 +33,7 @@ pub fn load_in_room<
     E: Drop,
     F: FnOnce() -> Result<V, E> + Drop,
 >(cache: &mut Cache<K, V, We, B, L>, query: &Q, loader: F) -> Result<bool, Refusal>
-    requires stands { (key : K) → Q.to_key_gives query.now key
-        → Q.equivalent query.now key ≡ true }
+    requires stands { StandsForGiven (Q.to_key_gives query.now) (Q.equivalent query.now) }
     requires loader { F.pre loader }
     requires key { Q.to_key_is_infallible query.now }
     requires slot { slots_taken cache.old.state < slot_count }

@@ -1,5 +1,6 @@
 //! What those rely on who load a key in the shared cache, or act on its entry.
 ghost use Rattle.std.specs.Prelude.{◌≡◌, IfErr, IfOk, OnErr, OnOk, true, false, vec_len};
+ghost use Rattle.quick_cache_model.specs.Hashing.{StandsForGiven};
 ghost use Rattle.quick_cache_loading.specs.Core.{waits};
 ghost use Rattle.quick_cache_loading.specs.Fitting.{ClonesFit};
 ghost use Rattle.quick_cache_guard.specs.Fills.{FilledAlone, FilledBy};
@@ -73,8 +74,7 @@ pub fn keep_what_is_there<
     R: Wait + Clock,
     Q: ToKey<K>,
 >(rt: &R, shard: &RwLock<S>, query: &Q) -> bool
-    requires stands { (key : K) → Q.to_key_gives query.now key
-        → Q.equivalent query.now key ≡ true }
+    requires stands { StandsForGiven (Q.to_key_gives query.now) (Q.equivalent query.now) }
 {
     let mut keeps = |_: &K, _: &mut V| -> EntryAction<()> { EntryAction::Retain(()) };
     match entry(rt, shard, query, &mut Turns::within(None), &mut keeps) {

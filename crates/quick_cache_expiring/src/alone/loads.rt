@@ -1,6 +1,6 @@
 //! Values that a loader gives where none serves.
-ghost use Rattle.std.specs.Prelude.{◌≡◌, true};
-ghost use Rattle.quick_cache_model.specs.Hashing.{hash_of};
+ghost use Rattle.std.specs.Prelude.{◌≡◌};
+ghost use Rattle.quick_cache_model.specs.Hashing.{hash_of, StandsForGiven};
 ghost use Rattle.quick_cache_expiring.specs.Lives.{end_of};
 ghost use Rattle.quick_cache_expiring.specs.Loads.{GivesWithEnd, LoadsAt, missed_after};
 
@@ -37,8 +37,7 @@ impl<
         life: u64,
         loader: F,
     ) -> Result<Result<bool, E>, Refusal>
-        requires stands { (key : K) → Q.to_key_gives query.now key
-            → Q.equivalent query.now key ≡ true }
+        requires stands { StandsForGiven (Q.to_key_gives query.now) (Q.equivalent query.now) }
         requires loader { F.pre loader }
         ensures loads { LoadsAt ⟦<Cache<K, Lasting<V>, ByValue<We>, B, L, A> as Going>⟧.goes
             L.RequestState.is_default (Q.equivalent query.now) (Q.to_key_gives query.now)

@@ -1,5 +1,6 @@
 //! The entry call.
-ghost use Rattle.std.specs.Prelude.{◌≡◌, ⊤, true, false, IfOk, IfSome, IfNone, IsSomeAnd};
+ghost use Rattle.std.specs.Prelude.{◌≡◌, ⊤, true, false, IfOk, IsSomeAnd};
+ghost use Rattle.quick_cache_model.specs.Hashing.{StandsForGiven};
 ghost use Rattle.quick_cache_loading.specs.Fitting.{FitsQuery};
 ghost use Rattle.quick_cache_loading.specs.Turns.{IsLater, none_left};
 ghost use Rattle.quick_cache_guard.specs.Acts.{LeavesFit, LeavesHeld, LeavesOnce, MayAct, MayTell};
@@ -43,8 +44,7 @@ pub fn entry<
     turns: &mut Turns,
     callback: F,
 ) -> EntryResult<T, K, V, PlaceholderGuard<'a, K, V, L, S, R, A>>
-    requires stands { (key : K) → Q.to_key_gives query.now key
-        → Q.equivalent query.now key ≡ true }
+    requires stands { StandsForGiven (Q.to_key_gives query.now) (Q.equivalent query.now) }
     // The callback is callable at values that fit, and has to be at no others; what it leaves fits.
     requires callable { MayAct F.FnOnce L.fits (Q.equivalent query.now) callback }
     requires leaves { LeavesFit (LeavesOnce F.FnOnce callback) L.fits }
@@ -107,8 +107,7 @@ pub fn come<
     Waiting<K, V, L, A>,
     Option<EntryResult<T, K, V, PlaceholderGuard<'a, K, V, L, S, R, A>>>,
 >
-    requires stands { (key : K) → Q.to_key_gives query.now key
-        → Q.equivalent query.now key ≡ true }
+    requires stands { StandsForGiven (Q.to_key_gives query.now) (Q.equivalent query.now) }
     requires callable { IsSomeAnd callback.old (MayAct F.FnOnce L.fits (Q.equivalent query.now)) }
     // What the callback leaves fits.
     requires leaves { LeavesFit (LeavesHeld F.FnOnce callback.old) L.fits }

@@ -1,5 +1,6 @@
 //! A shard, as entry calls use it while they hold its lock.
-ghost use Rattle.std.specs.Prelude.{◌≡◌, true, IfErr, IsSomeAnd};
+ghost use Rattle.std.specs.Prelude.{◌≡◌, IfErr, IsSomeAnd};
+ghost use Rattle.quick_cache_model.specs.Hashing.{StandsForGiven};
 ghost use Rattle.quick_cache_loading.specs.Fitting.{FitsQuery};
 ghost use Rattle.quick_cache_loading.specs.Waiters.{IsLoadRefusal};
 ghost use Rattle.quick_cache_guard.specs.Acts.{DoesAsChosen, IfAbsent, IfGone, IfKept, LeavesFit, LeavesHeld, MayAct, MayTell};
@@ -30,8 +31,7 @@ pub trait EntryShard<K: Eq + Hash + Drop, V: Clone, L: Lifecycle<K, V>, A: Alloc
         query: &Q,
         callback: &mut Option<F>,
     ) -> Result<EntryOrPlaceholder<K, V, SharedPlaceholder<K, V, L, A>, T>, Refusal>
-        requires stands { (key : K) → Q.to_key_gives query.now key
-            → Q.equivalent query.now key ≡ true }
+        requires stands { StandsForGiven (Q.to_key_gives query.now) (Q.equivalent query.now) }
         // The callback is callable at values that fit, and has to be at no others.
         requires callable { IsSomeAnd callback.old
             (MayAct F.FnOnce L.fits (Q.equivalent query.now)) }

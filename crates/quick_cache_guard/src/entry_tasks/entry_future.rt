@@ -1,5 +1,6 @@
 //! The entry call, for a task.
-ghost use Rattle.std.specs.Prelude.{◌≡◌, ⊤, true, false, Some, IfSome, IsSome, IsSomeAnd};
+ghost use Rattle.std.specs.Prelude.{◌≡◌, true, false, Some, IfSome, IsSome, IsSomeAnd};
+ghost use Rattle.quick_cache_model.specs.Hashing.{StandsForGiven};
 ghost use Rattle.futures.specs.Poll.{IfReady, OnPending};
 ghost use Rattle.quick_cache_loading.specs.Fitting.{FitsQuery};
 ghost use Rattle.quick_cache_guard.specs.Acts.{LeavesFit, LeavesHeld, MayAct};
@@ -95,8 +96,7 @@ impl<
 > EntryFuture<'a, 'q, Q, K, V, L, S, R, T, F, A> {
     /// A future that has not begun. It takes no lock.
     pub fn new(rt: &'a R, shard: &'a RwLock<S>, query: &'q Q, callback: F) -> Self
-        requires stands { (key : K) → Q.to_key_gives query.now key
-            → Q.equivalent query.now key ≡ true }
+        requires stands { StandsForGiven (Q.to_key_gives query.now) (Q.equivalent query.now) }
         ensures query { result.query ≡ query.now }
         ensures callback { result.callback ≡ Some callback }
         ensures begins { result.is_finished ≡ false }

@@ -1,5 +1,6 @@
 //! The value of a key, which one thread loads while others wait for it.
 ghost use Rattle.std.specs.Prelude.{◌≡◌, true, false, None, Ok, Err, IfOk, IfErr};
+ghost use Rattle.quick_cache_model.specs.Hashing.{StandsForGiven};
 ghost use Rattle.quick_cache_loading.specs.Fitting.{ClonesFit, FitsQuery};
 ghost use Rattle.quick_cache_guard.specs.Answers.{IfGuard, IfValue, RefusesAsLoad, is_timeout};
 ghost use Rattle.quick_cache_loading.specs.Waiters.{IsLoadRefusal};
@@ -34,8 +35,7 @@ pub fn get_value_or_guard<
     query: &Q,
     limit: Option<Duration>,
 ) -> GuardResult<V, PlaceholderGuard<'a, K, V, L, S, R, A>>
-    requires stands { (key : K) → Q.to_key_gives query.now key
-        → Q.equivalent query.now key ≡ true }
+    requires stands { StandsForGiven (Q.to_key_gives query.now) (Q.equivalent query.now) }
     // Whatever other threads do, the value fits a key that the query stands for.
     ensures fits { ClonesFit L.fits V.is_clone
         → IfValue result (λ value. FitsQuery L.fits (Q.equivalent query.now) value) }
@@ -71,8 +71,7 @@ pub fn get_or_insert_with<
     E: Drop,
     F: FnOnce() -> Result<V, E>,
 >(rt: &R, shard: &RwLock<S>, query: &Q, loader: F) -> Result<Result<V, E>, Refusal>
-    requires stands { (key : K) → Q.to_key_gives query.now key
-        → Q.equivalent query.now key ≡ true }
+    requires stands { StandsForGiven (Q.to_key_gives query.now) (Q.equivalent query.now) }
     requires loader { F.pre loader }
     // What it gives fits each key that the query becomes, and so do the clones of what fits.
     requires loads { (value : V) → F.post loader (Ok value)
@@ -103,8 +102,7 @@ pub fn get_or_insert_told<
     E: Drop,
     F: FnOnce() -> Result<V, E>,
 >(rt: &R, shard: &RwLock<S>, query: &Q, loader: F) -> Result<Result<Fetched<V>, E>, Refusal>
-    requires stands { (key : K) → Q.to_key_gives query.now key
-        → Q.equivalent query.now key ≡ true }
+    requires stands { StandsForGiven (Q.to_key_gives query.now) (Q.equivalent query.now) }
     requires loader { F.pre loader }
     // What it gives fits each key that the query becomes, and so do the clones of what fits.
     requires loads { (value : V) → F.post loader (Ok value)

@@ -1,5 +1,6 @@
 //! The value of a key, which a future of the caller's loads where there is none.
 ghost use Rattle.std.specs.Prelude.{◌≡◌, true, false, Ok, Err};
+ghost use Rattle.quick_cache_model.specs.Hashing.{StandsForGiven};
 ghost use Rattle.futures.specs.Poll.{IfReady, OnPending};
 ghost use Rattle.quick_cache_loading.specs.Fitting.{ClonesFit, FitsQuery};
 ghost use Rattle.quick_cache_guard.specs.Answers.{IsRefusedAsLoad};
@@ -107,8 +108,7 @@ impl<
 > GetOrInsert<'a, Q, K, V, L, S, R, F, E, A> {
     /// A future that has not begun. It takes no lock.
     pub fn new(rt: &'a R, shard: &'a RwLock<S>, query: &'a Q, loader: F) -> Self
-        requires stands { (key : K) → Q.to_key_gives query.now key
-            → Q.equivalent query.now key ≡ true }
+        requires stands { StandsForGiven (Q.to_key_gives query.now) (Q.equivalent query.now) }
         requires loader { F.can_poll loader }
         // What it gives fits each key that the query becomes, and so do the clones of what fits.
         requires loads { (value : V) → F.gives loader (Ok value) → (key : K)

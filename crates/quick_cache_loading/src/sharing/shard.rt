@@ -1,5 +1,6 @@
 //! A shard, as those who load its keys use it while they hold its lock.
-ghost use Rattle.std.specs.Prelude.{◌≡◌, ℕ, Bool, IfOk, IfErr, OnOk, OnErr, IfSome, true};
+ghost use Rattle.std.specs.Prelude.{◌≡◌, ℕ, Bool, IfOk, IfErr, OnOk, OnErr, IfSome};
+ghost use Rattle.quick_cache_model.specs.Hashing.{StandsForGiven};
 ghost use Rattle.quick_cache_loading.specs.Fitting.{ClonesFit, FitsQuery};
 ghost use Rattle.quick_cache_loading.specs.Begins.{IfFound};
 ghost use Rattle.quick_cache_loading.specs.Waiters.{IsLoadRefusal};
@@ -52,8 +53,7 @@ pub trait LoadingShard<K: Eq + Hash + Drop, V: Clone, L: Lifecycle<K, V>, A: All
         &mut self,
         query: &Q,
     ) -> Result<Begun<V, SharedPlaceholder<K, V, L, A>>, Refusal>
-        requires stands { (key : K) → Q.to_key_gives query.now key
-            → Q.equivalent query.now key ≡ true }
+        requires stands { StandsForGiven (Q.to_key_gives query.now) (Q.equivalent query.now) }
         // Where clones fit as their values do.
         ensures fits { ClonesFit L.fits V.is_clone → IfOk result
             (λ begun. IfFound begun

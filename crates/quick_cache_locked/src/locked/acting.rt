@@ -6,7 +6,7 @@ ghost use Rattle.quick_cache_shard.specs.Entering.{AnswersEntry};
 ghost use Rattle.quick_cache_shard.specs.Shard.{LosesOnly, KeepsWork};
 ghost use Rattle.quick_cache_locked.specs.Acting.{LeavesNow, MayActNow};
 ghost use Rattle.quick_cache_locked.specs.Fitting.{FitsQuery};
-ghost use Rattle.quick_cache_locked.specs.Loads.{StandsForGiven};
+ghost use Rattle.quick_cache_model.specs.Hashing.{StandsForGiven};
 ghost use Rattle.quick_cache_locked.specs.Locked.{IsKept};
 ghost use Rattle.quick_cache_locked.specs.Touches.{any_touches};
 ghost use Rattle.quick_cache_shard.specs.Steps.{rules_in};

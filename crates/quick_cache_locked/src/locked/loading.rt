@@ -1,10 +1,11 @@
 //! Keys that are being loaded in a shard behind its lock.
 ghost use Rattle.std.specs.Prelude.{◌≡◌, IfOk};
+ghost use Rattle.quick_cache_model.specs.Hashing.{StandsForGiven};
 ghost use Rattle.quick_cache_model.specs.Placeholders.{GivesUpPlaceholder};
 ghost use Rattle.quick_cache_shard.specs.Shard.{KeepsPlaces, UpToOrder};
 ghost use Rattle.quick_cache_loading.specs.Begins.{IfFound};
 ghost use Rattle.quick_cache_locked.specs.Fitting.{ClonesFit, FitsQuery};
-ghost use Rattle.quick_cache_locked.specs.Loads.{BeginsLoad, EndsLoadBy, EndsSomeLoad, StandsForGiven};
+ghost use Rattle.quick_cache_locked.specs.Loads.{BeginsLoad, EndsLoadBy, EndsSomeLoad};
 ghost use Rattle.quick_cache_locked.specs.Locked.{IsKept};
 ghost use Rattle.quick_cache_locked.specs.Touches.{any_touches};
 

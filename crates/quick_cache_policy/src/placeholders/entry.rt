@@ -1,6 +1,7 @@
 //! A call that shows an item to a callback of the caller's, and does what that chooses.
-ghost use Rattle.std.specs.Prelude.{◌≡◌, ◌==◌, ◌+◌, ◌≤◌, true, IfOk};
+ghost use Rattle.std.specs.Prelude.{◌≡◌, ◌==◌, ◌+◌, ◌≤◌, IfOk};
 ghost use Rattle.std.specs.Int.NonZero.{non_zero_u32_get as number};
+ghost use Rattle.quick_cache_model.specs.Hashing.{StandsForGiven};
 ghost use Rattle.quick_cache_store.specs.Lists.{FindsItem, HasItemToken};
 ghost use Rattle.quick_cache_store.specs.Rings.{restarts};
 ghost use Rattle.quick_cache_model.specs.Entries.{Retain as chosen_retain, Kept as came_kept};
@@ -248,8 +249,7 @@ impl<K: Eq + Hash + Drop, V: Drop, P: SharedPlaceholder<K>, A: Allocator> Conten
     ) -> Result<EntryOrPlaceholder<K, V, P, T>, Refusal>
         requires under { AreUnder (Q.equivalent query.now) hash self.old.lists }
         requires hashed { IsHashed (Q.equivalent query.now) (M.hashed terms.now) hash }
-        requires stands { (key : K) → Q.to_key_gives query.now key
-            → Q.equivalent query.now key ≡ true }
+        requires stands { StandsForGiven (Q.to_key_gives query.now) (Q.equivalent query.now) }
         requires sound { IsSound P.ticket_of K.eq (M.hashed terms.now) self.old }
         requires callable { MayBeShownUnder F.FnMut callback.old (Q.equivalent query.now)
             (state_of P.ticket_of self.old) }

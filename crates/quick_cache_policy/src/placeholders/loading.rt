@@ -1,6 +1,7 @@
 //! Placeholders that are made for keys, and met.
 ghost use Rattle.std.specs.Prelude.{◌≡◌, ℕ, ◌+◌, ◌≤◌, min, true, IfOk, IfErr, IsOk};
 ghost use Rattle.std.specs.Int.NonZero.{non_zero_u32_get as number};
+ghost use Rattle.quick_cache_model.specs.Hashing.{StandsForGiven};
 ghost use Rattle.quick_cache_store.specs.Lists.{Finds};
 ghost use Rattle.quick_cache_model.specs.CacheState.{UpToOrder};
 ghost use Rattle.quick_cache_model.specs.Placeholders.{MeetsPlaceholder};
@@ -68,8 +69,7 @@ impl<K: Eq + Hash + Drop, V: Drop, P: SharedPlaceholder<K>, A: Allocator> Conten
         query: &Q,
     ) -> Result<P, Refusal>
         requires under { AreUnder (Q.equivalent query.now) hash self.old.lists }
-        requires stands { (key : K) → Q.to_key_gives query.now key
-            → Q.equivalent query.now key ≡ true }
+        requires stands { StandsForGiven (Q.to_key_gives query.now) (Q.equivalent query.now) }
         requires found { Finds (Q.equivalent query.now) hash self.old.lists Found.Nothing }
         ensures makes { Makes P.ticket_of P.own_ticket (Q.equivalent query.now)
             (Q.to_key_gives query.now) hash self.old result self.new }
@@ -112,8 +112,7 @@ impl<K: Eq + Hash + Drop, V: Drop, P: SharedPlaceholder<K>, A: Allocator> Conten
         query: &Q,
     ) -> Result<P, Refusal>
         requires under { AreUnder (Q.equivalent query.now) hash self.old.lists }
-        requires stands { (key : K) → Q.to_key_gives query.now key
-            → Q.equivalent query.now key ≡ true }
+        requires stands { StandsForGiven (Q.to_key_gives query.now) (Q.equivalent query.now) }
         requires found { Finds (Q.equivalent query.now) hash self.old.lists (Found.Ghost token) }
         ensures makes { Makes P.ticket_of P.own_ticket (Q.equivalent query.now)
             (Q.to_key_gives query.now) hash self.old result self.new }
@@ -175,8 +174,7 @@ impl<K: Eq + Hash + Drop, V: Drop, P: SharedPlaceholder<K>, A: Allocator> Conten
         query: &Q,
     ) -> Result<Result<Token, (P, bool)>, Refusal>
         requires under { AreUnder (Q.equivalent query.now) hash self.old.lists }
-        requires stands { (key : K) → Q.to_key_gives query.now key
-            → Q.equivalent query.now key ≡ true }
+        requires stands { StandsForGiven (Q.to_key_gives query.now) (Q.equivalent query.now) }
         ensures answers { LooksUpOrMakes P.ticket_of P.own_ticket (Q.equivalent query.now)
             (Q.to_key_gives query.now) hash self.old result self.new }
         ensures hash { IsMadeUnder P.hash_of hash result }

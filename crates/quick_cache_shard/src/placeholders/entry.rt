@@ -1,5 +1,6 @@
 //! A call that shows an item to a callback of the caller's, and does what that chooses.
-ghost use Rattle.std.specs.Prelude.{◌≡◌, true};
+ghost use Rattle.std.specs.Prelude.{◌≡◌};
+ghost use Rattle.quick_cache_model.specs.Hashing.{StandsForGiven};
 ghost use Rattle.quick_cache_policy.specs.Entering.{AnswersEntry, IsNewUnder, MayBeShownUnder};
 ghost use Rattle.quick_cache_shard.specs.Shard.{LosesOnly};
 ghost use Rattle.quick_cache_shard.specs.Stays.{IdlesWithin};
@@ -48,8 +49,7 @@ impl<
         callback: &mut F,
     ) -> Result<EntryOrPlaceholder<K, V, P, T>, Refusal>
         requires hash_is { hash ≡ ⟦<Self as Keyed>⟧.hash self.old.builder (Q.hash_input query.now) }
-        requires stands { (key : K) → Q.to_key_gives query.now key
-            → Q.equivalent query.now key ≡ true }
+        requires stands { StandsForGiven (Q.to_key_gives query.now) (Q.equivalent query.now) }
         // The callback is callable at the item under the query, and has to be nowhere else.
         requires callable { MayBeShownUnder F.FnMut callback.old (Q.equivalent query.now)
             self.old.state }

@@ -1,5 +1,6 @@
 //! Placeholders: made or met by a look-up, filled, or given up.
 ghost use Rattle.std.specs.Prelude.{◌≡◌, ℕ, Bool, true, IfErr, MatchOption};
+ghost use Rattle.quick_cache_model.specs.Hashing.{StandsForGiven};
 ghost use Rattle.quick_cache_model.specs.Placeholders.{GivesUpPlaceholder, HasNoTicket};
 ghost use Rattle.quick_cache_policy.specs.Filling.{AwaitsKey};
 ghost use Rattle.quick_cache_shard.specs.Loading.{FindsToken, HasNoneWanted, IsMadeUnder, LooksUpOrMakes, MeansByTicket};
@@ -41,8 +42,7 @@ impl<
         query: &Q,
     ) -> Result<Result<Token, (P, bool)>, Refusal>
         requires hash_is { hash ≡ ⟦<Self as Keyed>⟧.hash self.old.builder (Q.hash_input query.now) }
-        requires stands { (key : K) → Q.to_key_gives query.now key
-            → Q.equivalent query.now key ≡ true }
+        requires stands { StandsForGiven (Q.to_key_gives query.now) (Q.equivalent query.now) }
         ensures answers { LooksUpOrMakes P.own_ticket (Q.equivalent query.now)
             (Q.to_key_gives query.now) hash self.old.state result self.new.state }
         ensures hash { IsMadeUnder P.hash_of hash result }

@@ -5,7 +5,7 @@ ghost use Rattle.quick_cache_guard.specs.Answers.{IfGuard, IfValue, IsLoadRefusa
 ghost use Rattle.quick_cache_guard.specs.Acts.{LeavesFit, LeavesOnce, MayAct, MayTell};
 ghost use Rattle.quick_cache_guard.specs.Entries.{AnswersAsChosen, IfGivenBack, IfGuarded, IfRetained, IsRefusedAsLoad, is_late};
 ghost use Rattle.quick_cache_locked.specs.Fitting.{ClonesFit, FitsQuery};
-ghost use Rattle.quick_cache_locked.specs.Loads.{StandsForGiven};
+ghost use Rattle.quick_cache_model.specs.Hashing.{StandsForGiven};
 
 use crate::cache::Cache;
 use quick_cache_guard::{

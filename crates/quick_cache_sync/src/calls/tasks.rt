@@ -1,7 +1,7 @@
 //! Calls of a cache for tasks, which wait without a thread.
 ghost use Rattle.std.specs.Prelude.{◌≡◌, false, Some, Ok};
 ghost use Rattle.quick_cache_locked.specs.Fitting.{ClonesFit};
-ghost use Rattle.quick_cache_locked.specs.Loads.{StandsForGiven};
+ghost use Rattle.quick_cache_model.specs.Hashing.{StandsForGiven};
 
 use crate::cache::Cache;
 use futures::Future;

@@ -1,5 +1,6 @@
 //! Values that are answered as clones, whether they were found or loaded.
-ghost use Rattle.std.specs.Prelude.{◌≡◌, ◌<◌, ◌+◌, ◌≤◌, IfErr, IfNone, IfSome, IsSome, true};
+ghost use Rattle.std.specs.Prelude.{◌≡◌, ◌<◌, ◌+◌, ◌≤◌, IfErr, IfNone, IfSome, IsSome};
+ghost use Rattle.quick_cache_model.specs.Hashing.{StandsForGiven};
 ghost use Rattle.quick_cache_shard.specs.References.{count_under};
 ghost use Rattle.quick_cache_shard.specs.Shard.{IsSoundShard, KeepsTerms};
 ghost use Rattle.quick_cache_shard.specs.Stays.{StaysWithin};
@@ -39,8 +40,7 @@ impl<
     ) -> Result<V, LoadError<E>>
     where
         V: Clone,
-        requires stands { (key : K) → Q.to_key_gives query.now key
-            → Q.equivalent query.now key ≡ true }
+        requires stands { StandsForGiven (Q.to_key_gives query.now) (Q.equivalent query.now) }
         requires loader { F.pre loader }
         // Where pinning is steady, a value fills the placeholder by a step of its definition.
         ensures fetches { FetchesBy ⟦<Self as Going>⟧.goes no_touches self.old
@@ -70,8 +70,7 @@ impl<
     where
         V: Clone,
         requires hash_is { hash ≡ ⟦<Self as Keyed>⟧.hash self.old.builder (Q.hash_input query.now) }
-        requires stands { (key : K) → Q.to_key_gives query.now key
-            → Q.equivalent query.now key ≡ true }
+        requires stands { StandsForGiven (Q.to_key_gives query.now) (Q.equivalent query.now) }
         requires loader { F.pre loader }
         ensures fetches { FetchesBy ⟦<Self as Going>⟧.goes no_touches self.old
             L.RequestState.is_default V.is_clone V.is_infallible (Q.equivalent query.now)

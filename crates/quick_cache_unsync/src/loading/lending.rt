@@ -1,6 +1,7 @@
 //! References to values that are there or that a loader makes, and guards of what is not there.
 ghost use Rattle.std.specs.Prelude.{◌≡◌, ◌≤◌, ◌+◌, IfOk, IfErr, Ok, true};
 ghost use Rattle.std.specs.Borrow.{sem, RestsIfErr};
+ghost use Rattle.quick_cache_model.specs.Hashing.{StandsForGiven};
 ghost use Rattle.quick_cache_shard.specs.Shard.{IsSoundShard, KeepsWork};
 ghost use Rattle.quick_cache_unsync.specs.Loads.{answer_of};
 ghost use Rattle.quick_cache_unsync.specs.Touches.{no_touches};
@@ -42,8 +43,7 @@ impl<
         query: &'a Q,
         loader: F,
     ) -> Result<Ref<'a, Q, K, V, We, B, L, A>, NotLoaded<E>>
-        requires stands { (key : K) → Q.to_key_gives query.now key
-            → Q.equivalent query.now key ≡ true }
+        requires stands { StandsForGiven (Q.to_key_gives query.now) (Q.equivalent query.now) }
         requires loader { F.pre loader }
         // Where pinning is steady, a value fills the placeholder by a step of its definition.
         ensures* rests { sem 𝓛 (RestsIfErr ⟦<Self as Rowed>⟧.lender_row self.entry reader result
@@ -92,8 +92,7 @@ impl<
         query: &'a Q,
         loader: F,
     ) -> Result<RefMut<'a, Q, K, V, We, B, L, A>, NotLoaded<E>>
-        requires stands { (key : K) → Q.to_key_gives query.now key
-            → Q.equivalent query.now key ≡ true }
+        requires stands { StandsForGiven (Q.to_key_gives query.now) (Q.equivalent query.now) }
         requires loader { F.pre loader }
         // Where pinning is steady, a value fills the placeholder by a step of its definition.
         ensures* rests { sem 𝓛 (RestsIfErr ⟦<Self as Rowed>⟧.lender_row self.entry lender result
@@ -138,8 +137,7 @@ impl<
         &'a mut self,
         query: &'a Q,
     ) -> Result<Result<Ref<'a, Q, K, V, We, B, L, A>, Guard<'a, K, V, We, B, L, A>>, Refusal>
-        requires stands { (key : K) → Q.to_key_gives query.now key
-            → Q.equivalent query.now key ≡ true }
+        requires stands { StandsForGiven (Q.to_key_gives query.now) (Q.equivalent query.now) }
         ensures* rests { sem 𝓛 (RestsIfErr ⟦<Self as Rowed>⟧.lender_row self.entry
             (lender_of reader) result (λ new. IfErr result (λ refusal. TakesNone
             (Q.equivalent query.now) (Q.to_key_gives query.now)
@@ -189,8 +187,7 @@ impl<
         &'a mut self,
         query: &'a Q,
     ) -> Result<Result<RefMut<'a, Q, K, V, We, B, L, A>, Guard<'a, K, V, We, B, L, A>>, Refusal>
-        requires stands { (key : K) → Q.to_key_gives query.now key
-            → Q.equivalent query.now key ≡ true }
+        requires stands { StandsForGiven (Q.to_key_gives query.now) (Q.equivalent query.now) }
         ensures* rests { sem 𝓛 (RestsIfErr ⟦<Self as Rowed>⟧.lender_row self.entry
             (lender_of lender) result (λ new. IfErr result (λ refusal. TakesNone
             (Q.equivalent query.now) (Q.to_key_gives query.now)

@@ -1,6 +1,6 @@
 //! Values that a loader makes where there is none.
 ghost use Rattle.std.specs.Prelude.{◌≡◌, ◌<◌, ◌+◌, ◌≤◌, true, IfErr};
-ghost use Rattle.quick_cache_model.specs.Hashing.{hash_of};
+ghost use Rattle.quick_cache_model.specs.Hashing.{hash_of, StandsForGiven};
 ghost use Rattle.quick_cache_shard.specs.References.{count_under};
 ghost use Rattle.quick_cache_shard.specs.Shard.{IsSoundShard, KeepsTerms};
 ghost use Rattle.quick_cache_shard.specs.Stays.{IdlesWithin, StaysWithin};
@@ -50,8 +50,7 @@ impl<
         query: &Q,
     ) -> Result<Result<Token, Placeholder>, Refusal>
         requires hash_is { hash ≡ ⟦<Self as Keyed>⟧.hash self.old.builder (Q.hash_input query.now) }
-        requires stands { (key : K) → Q.to_key_gives query.now key
-            → Q.equivalent query.now key ≡ true }
+        requires stands { StandsForGiven (Q.to_key_gives query.now) (Q.equivalent query.now) }
         ensures takes { LooksUpOrTakes (Q.equivalent query.now) (Q.to_key_gives query.now) hash
             self.old.state (λ placeholder. placeholder.ticket) result self.new.state }
         // Where a key is had without fail, it asks for memory only where there is no room.
@@ -105,8 +104,7 @@ impl<
         loader: F,
     ) -> (u32, Result<Result<bool, E>, Refusal>)
         requires hash_is { hash ≡ ⟦<Self as Keyed>⟧.hash self.old.builder (Q.hash_input query.now) }
-        requires stands { (key : K) → Q.to_key_gives query.now key
-            → Q.equivalent query.now key ≡ true }
+        requires stands { StandsForGiven (Q.to_key_gives query.now) (Q.equivalent query.now) }
         requires loader { F.pre loader }
         ensures loads { LoadsBy ⟦<Self as Going>⟧.goes no_touches self.old
             L.RequestState.is_default (Q.equivalent query.now) (Q.to_key_gives query.now)
@@ -141,8 +139,7 @@ impl<
         query: &Q,
         loader: F,
     ) -> Result<Result<bool, E>, Refusal>
-        requires stands { (key : K) → Q.to_key_gives query.now key
-            → Q.equivalent query.now key ≡ true }
+        requires stands { StandsForGiven (Q.to_key_gives query.now) (Q.equivalent query.now) }
         requires loader { F.pre loader }
         // Where pinning is steady, a value fills the placeholder by a step of its definition.
         ensures loads { LoadsBy ⟦<Self as Going>⟧.goes no_touches self.old
